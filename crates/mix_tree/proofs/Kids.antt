@@ -1,0 +1,29 @@
+-- What `get` reads of a list of trees is the first of the trees from that index on.
+use Rattle.std.proofs.Common.{◌≡◌, ◌<◌, ◌≤◌, ℕ, zero, suc, List, [], ◌∷◌, Option, Some, None, refl, ap, arith, length, get_or}
+use Rattle.std.specs.Option.{MatchOption}
+use Rattle.mix_tree.specs.Forest.{Forest, none, LabelledTree, forest_of, first_tree, from}
+
+-- from nothing on there is nothing
+pub from_none : (i : ℕ) → from i none ≡ none
+from_none zero = refl
+from_none (suc i) = from_none i
+
+-- behind the last tree there is none
+pub from_past : (ts : List LabelledTree) (i : ℕ) → length ts ≤ i → from i (forest_of ts) ≡ none
+from_past [] i h = from_none i
+from_past (t ∷ ts) zero h = absurd (omega arith)
+from_past (t ∷ ts) (suc i) h = from_past ts i (omega arith)
+
+from_within : (ts : List LabelledTree) (i : ℕ) (t : LabelledTree) → i < length ts → t ≡ get_or ts i t → Some t ≡ first_tree (from i (forest_of ts))
+from_within [] i t h e = absurd (omega arith)
+from_within (u ∷ ts) zero t h e = ap Some e
+from_within (u ∷ ts) (suc i) t h e = from_within ts i t (omega arith) e
+
+-- what `get` finds
+pub first_tree-get : (ts : List LabelledTree) (i : ℕ) (found : Option LabelledTree)
+    → MatchOption found (length ts ≤ i) (λ t. (i < length ts) × (t ≡ get_or ts i t)) → found ≡ first_tree (from i (forest_of ts))
+first_tree-get ts i None h = ap first_tree (sym (from_past ts i h))
+  where
+    sym : {x y : Forest} → x ≡ y → y ≡ x
+    sym e = Rattle.std.proofs.Common.sym e
+first_tree-get ts i (Some t) h = from_within ts i t h.0 h.1

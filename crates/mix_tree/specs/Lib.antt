@@ -1,0 +1,5 @@
+pub mod Codes
+pub mod Forest
+pub mod LabelText
+pub mod Place
+pub mod Weight

@@ -1,0 +1,12 @@
+//! Labels, trees and places: what every other crate speaks of.
+#![tactic(auto)]
+
+mod label;
+mod label_order;
+mod label_text;
+mod place;
+mod tree;
+
+pub use label::{Label, same_label};
+pub use place::Place;
+pub use tree::Tree;
