@@ -1,7 +1,7 @@
 -- Laws on places.
-use Rattle.std.proofs.Common.{◌≡◌, ◌+◌, ◌∙◌, ℕ, zero, suc, List, [], ◌∷◌, ◌++◌, Option, Some, None, refl, ap, sym, option_and_then}
-use Rattle.mix_tree.specs.Forest.{Forest, none, tree, LabelledTree, alone, first_tree, first_kids, behind, from}
-use Rattle.mix_tree.specs.Place.{trees_at, tree_at, child_place, next_place}
+use Rattle.std.proofs.Common.{◌≡◌, ◌∙◌, ℕ, List, [], ◌∷◌, ◌++◌, Option, Some, None, refl, ap, sym, option_and_then}
+use Rattle.mix_tree.specs.Forest.{Forest, none, tree, LabelledTree, first_tree, first_kids, from}
+use Rattle.mix_tree.specs.Place.{trees_at, tree_at, child_place}
 use Rattle.mix_tree.proofs.Kids.{from_none}
 
 -- nothing has no places below it

@@ -1,5 +1,5 @@
 -- The bytes of a label's text, in place or on the heap.
-use Rattle.std.specs.Prelude.{ℕ, ◌≤◌, List, length, take, string_bytes, IsUtf8}
+use Rattle.std.specs.Prelude.{ℕ, ◌≤◌, List, take, string_bytes, IsUtf8}
 use Rattle.mix_tree.specs.declared.label_text.LabelText.{LabelText}
 use Rattle.mix_tree.specs.declared.label_text.LabelText.TheVariants.{Short, Long}
 

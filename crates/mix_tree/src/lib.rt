@@ -5,8 +5,13 @@ mod label;
 mod label_order;
 mod label_text;
 mod place;
+mod spelling;
 mod tree;
 
 pub use label::{Label, same_label};
 pub use place::Place;
+pub use spelling::{push_label, push_quoted, write_label};
 pub use tree::Tree;
+
+#[cfg(test)]
+mod tests;

@@ -1,4 +1,4 @@
-use Rattle.std.proofs.Common.{◌≡◌, subst}
+use Rattle.std.proofs.Common.{subst}
 use Rattle.mix_tree.specs.LabelText.{IsText}
 use Rattle.mix_tree.proofs.label.Label.bytes.Goals as goal
 

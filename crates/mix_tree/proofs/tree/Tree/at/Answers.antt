@@ -1,6 +1,5 @@
-use Rattle.std.proofs.Common.{rules, ◌≡◌, ◌∙◌, sym, ap, option_copied, ℕ, ◌+◌, List, length, drop, get_or, Option, Some, None}
+use Rattle.std.proofs.Common.{◌≡◌, ◌∙◌, sym, ap, option_copied, ◌+◌, drop, get_or, Some, None}
 use Rattle.std.proofs.lemmas.List.{drop_more}
-use Rattle.mix_tree.specs.Forest.{LabelledTree, first_tree, from}
 use Rattle.mix_tree.specs.Place.{tree_at}
 use Rattle.mix_tree.proofs.Places.{tree_at-step}
 use Rattle.mix_tree.proofs.tree.Tree.at.Goals as goal
