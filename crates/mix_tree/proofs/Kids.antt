@@ -1,7 +1,8 @@
 -- What `get` reads of a list of trees is the first of the trees from that index on.
-use Rattle.std.proofs.Common.{◌≡◌, ◌<◌, ◌≤◌, ℕ, zero, suc, List, [], ◌∷◌, Option, Some, None, refl, ap, arith, length, get_or}
+use Rattle.std.proofs.Common.{◌≡◌, ◌<◌, ◌≤◌, ℕ, zero, suc, List, [], ◌∷◌, Option, Some, None, refl, ap, arith, length, get_or, is_some, nat_lt, true, false, ◌∙◌}
+use Rattle.std.proofs.lemmas.Bool.Decides.{nat_tests}
 use Rattle.std.specs.Option.{MatchOption}
-use Rattle.mix_tree.specs.Forest.{Forest, none, LabelledTree, forest_of, first_tree, from}
+use Rattle.mix_tree.specs.Forest.{Forest, none, LabelledTree, forest_of, first_label, first_tree, from}
 
 -- from nothing on there is nothing
 pub from_none : (i : ℕ) → from i none ≡ none
@@ -27,3 +28,18 @@ first_tree-get ts i None h = ap first_tree (sym (from_past ts i h))
     sym : {x y : Forest} → x ≡ y → y ≡ x
     sym e = Rattle.std.proofs.Common.sym e
 first_tree-get ts i (Some t) h = from_within ts i t h.0 h.1
+
+no_index : (i : ℕ) → false ≡ nat_lt i 0
+no_index i = grind (arith, nat_tests)
+
+first_index : (n : ℕ) → true ≡ nat_lt 0 (suc n)
+first_index n = grind (arith, nat_tests)
+
+later_index : (i n : ℕ) → nat_lt i n ≡ nat_lt (suc i) (suc n)
+later_index i n = grind (arith, nat_tests)
+
+-- there is a tree at an index exactly where the list is longer
+pub has_place-index : (ts : List LabelledTree) (i : ℕ) → is_some (first_label (from i (forest_of ts))) ≡ nat_lt i (length ts)
+has_place-index [] i = ap (λ f. is_some (first_label f)) (from_none i) ∙ no_index i
+has_place-index (t ∷ ts) zero = first_index (length ts)
+has_place-index (t ∷ ts) (suc i) = has_place-index ts i ∙ later_index i (length ts)

@@ -1,7 +1,7 @@
 -- Laws on places.
-use Rattle.std.proofs.Common.{◌≡◌, ◌∙◌, ℕ, List, [], ◌∷◌, ◌++◌, Option, Some, None, refl, ap, sym, option_and_then}
-use Rattle.mix_tree.specs.Forest.{Forest, none, tree, LabelledTree, first_tree, first_kids, from}
-use Rattle.mix_tree.specs.Place.{trees_at, tree_at, child_place}
+use Rattle.std.proofs.Common.{◌≡◌, ◌∙◌, ℕ, List, [], ◌∷◌, ◌++◌, Option, Some, None, refl, ap, sym, option_and_then, is_some, false}
+use Rattle.mix_tree.specs.Forest.{Forest, none, tree, LabelledTree, alone, first_label, first_tree, first_kids, from}
+use Rattle.mix_tree.specs.Place.{trees_at, has_place, tree_at, child_place}
 use Rattle.mix_tree.proofs.Kids.{from_none}
 
 -- nothing has no places below it
@@ -39,3 +39,27 @@ trees_at-append f (i ∷ place) more = trees_at-append (from i (first_kids f)) p
 -- the first child
 pub trees_at-child : (f : Forest) (place : List ℕ) → trees_at f (child_place place) ≡ first_kids (trees_at f place)
 trees_at-child f place = trees_at-append f place (0 ∷ [])
+
+-- a child of the node at a place is a child of the tree there
+pub has_place-below : (t u : LabelledTree) (place : List ℕ) (i : ℕ) → tree_at t place ≡ Some u → has_place (alone t) (place ++ i ∷ []) ≡ has_place (alone u) (i ∷ [])
+has_place-below t u place i e =
+    ap (λ f. is_some (first_label f)) (trees_at-append (alone t) place (i ∷ []))
+    ∙ ap (λ f. is_some (first_label (from i f))) (kids_of (trees_at (alone t) place) e)
+  where
+    kids_in : Option LabelledTree → Forest
+    kids_in None = none
+    kids_in (Some v) = v.kids
+
+    kids_of : (f : Forest) → first_tree f ≡ Some u → first_kids f ≡ u.kids
+    kids_of none h = cc
+    kids_of (tree label kids rest) h = ap kids_in h
+
+-- below a place that is not there, there is no place
+pub has_place-nowhere : (t : LabelledTree) (place : List ℕ) (i : ℕ) → tree_at t place ≡ None → has_place (alone t) (place ++ i ∷ []) ≡ false
+has_place-nowhere t place i e =
+    ap (λ f. is_some (first_label f)) (trees_at-append (alone t) place (i ∷ []))
+    ∙ below_none (trees_at (alone t) place) e
+  where
+    below_none : (f : Forest) → first_tree f ≡ None → is_some (first_label (from i (first_kids f))) ≡ false
+    below_none none h = ap (λ f. is_some (first_label f)) (from_none i)
+    below_none (tree label kids rest) h = cc

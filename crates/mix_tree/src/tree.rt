@@ -1,7 +1,7 @@
 // Labelled ordered trees.
-ghost use Rattle.std.specs.Prelude.{◌≡◌, option_copied};
-ghost use Rattle.mix_tree.specs.Forest.{forest_of, first_tree, from};
-ghost use Rattle.mix_tree.specs.Place.{tree_at};
+ghost use Rattle.std.specs.Prelude.{◌≡◌, ℕ, nat_lt, [], ◌∷◌, option_copied};
+ghost use Rattle.mix_tree.specs.Forest.{forest_of, alone, first_tree, from};
+ghost use Rattle.mix_tree.specs.Place.{has_place, tree_at};
 
 use crate::{Label, Place};
 use std::marker::Model;
@@ -60,14 +60,28 @@ impl Tree {
         self.kids.get(i as usize)
     }
 
+    /// How many subtrees there are.
+    pub fn count(&self) -> usize
+        ensures { (i : ℕ) → has_place (alone self.now) (i ∷ []) ≡ nat_lt i result }
+    {
+        self.kids.len()
+    }
+
+    /// The subtree that child indexes lead to; `None` where the tree has no such place.
+    pub fn below(&self, steps: &[u64]) -> Option<&Tree>
+        ensures { option_copied result ≡ tree_at self.now steps.now }
+    {
+        let mut found = self;
+        for step in steps {
+            found = found.kid(*step)?;
+        }
+        Some(found)
+    }
+
     /// The subtree at a place; `None` where the tree has no such place.
     pub fn at(&self, p: &Place) -> Option<&Tree>
         ensures { option_copied result ≡ tree_at self.now p.now }
     {
-        let mut found = self;
-        for step in p.steps() {
-            found = found.kid(*step)?;
-        }
-        Some(found)
+        self.below(p.steps())
     }
 }

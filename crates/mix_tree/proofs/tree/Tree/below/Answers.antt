@@ -2,11 +2,11 @@ use Rattle.std.proofs.Common.{◌≡◌, ◌∙◌, sym, ap, option_copied, ◌+
 use Rattle.std.proofs.lemmas.List.{drop_more}
 use Rattle.mix_tree.specs.Place.{tree_at}
 use Rattle.mix_tree.proofs.Places.{tree_at-step}
-use Rattle.mix_tree.proofs.tree.Tree.at.Goals as goal
+use Rattle.mix_tree.proofs.tree.Tree.below.Goals as goal
 
 pub returns-in_err-found : goal.returns-in_err-found
 returns-in_err-found c =
-    let steps = c.steps-step-items.result.now in
+    let steps = c.args.steps.now in
     let t = c.loop-step.found.now in
     let i = c.loop-step.step-index in
     let here : tree_at t (drop i steps) ≡ None =
@@ -15,7 +15,7 @@ returns-in_err-found c =
 
 pub loop-step-preserved : goal.loop-step-preserved
 loop-step-preserved c =
-    let steps = c.steps-step-items.result.now in
+    let steps = c.args.steps.now in
     let t = c.loop-step.found.now in
     let i = c.loop-step.step-index in
     sym (ap (tree_at t) (drop_more steps i 0 c.loop-step-test.true) ∙ tree_at-step t (get_or steps i 0) (drop (i + 1) steps) (Some c.in_ok-found.found.now) c.in_ok-found.ensures) ∙ c.loop-step.invariant
