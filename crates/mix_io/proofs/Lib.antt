@@ -1,0 +1,4 @@
+mod Calls
+mod Fronts
+pub mod Keeps
+mod Writes

@@ -1,0 +1,31 @@
+use Rattle.std.proofs.Common.{rules, ◌≡◌, ◌+◌, ◌∙◌, ◌++◌, arith, length, take, vec_len, IfSome, subst, sym, ap}
+use Rattle.std.proofs.lemmas.Grind.{common_steps}
+use Rattle.mix_base.proofs.Lists.{take_whole}
+use Rattle.mix_io.specs.Contents.{GivesFrom}
+use Rattle.mix_io.proofs.Fronts.{IsFront, front_more}
+use Rattle.mix_io.proofs.Keeps.{keeps_files_twice}
+use Rattle.mix_io.proofs.whole.read_whole.Goals as goal
+
+pub reads-preserved : goal.reads-preserved
+reads-preserved g c =
+    let held = c.reads.invariant in
+    let len = vec_len c.reads.bytes in
+    let count = c.in_ok-count.count in
+    let room = c.read_at.new.room in
+    let more = c.extend_from_slice.new.self in
+    let told = (g.F.Files.view c.args.files.now).told c.args.path.now in
+    let same = held.keeps.told c.args.path.now in
+    let given : IfSome told (λ contents. GivesFrom contents len count room) =
+    subst (λ t. IfSome t (λ contents. GivesFrom contents len count room)) same (grind (arith, common_steps)) in
+    let whole : length room ≡ c.reads.room.len = omega arith in
+    let grown : more.items ≡ c.reads.bytes.items ++ take count room =
+    c.in_ok-extend_from_slice.ensures.items
+    ∙ ap (λ r. c.reads.bytes.items ++ take count r) (c.deref.ensures.value ∙ take_whole _ _ _ whole) in
+    let longer : vec_len more ≡ len + count = search rules in
+    record {
+      keeps = keeps_files_twice _ _ _ held.keeps c.read_at.ensures.keeps;
+      steady = λ p. c.in_ok-count.ensures.steady p ∙ held.steady p;
+      front = subst (λ n. IfSome told (IsFront more.items n)) (sym longer) (front_more told _ _ _ _ _ held.front given grown);
+      short = search rules;
+      room = search rules;
+    }

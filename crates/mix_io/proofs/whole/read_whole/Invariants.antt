@@ -1,0 +1,18 @@
+use Rattle.std.proofs.Common.{◌≡◌, ◌-◌, ◌≤◌, ℕ, List, vec_len, IfSome}
+use Rattle.mix_io.specs.Views.{KeepsFiles}
+use Rattle.mix_io.proofs.Fronts.{IsFront}
+use Rattle.mix_io.proofs.whole.read_whole.Given as goal
+
+abbrev pub invariant-reads : goal.invariant-reads
+invariant-reads g l =
+    let view = g.F.Files.view in
+    record {
+      keeps : KeepsFiles (view l.files) (view l.fn.files);
+      steady : (p : List ℕ) → (view l.files).faults p ≡ (view l.fn.files).faults p;
+      front : IfSome ((view l.fn.files).told l.fn.path) (IsFront l.bytes.items (vec_len l.bytes));
+      short : vec_len l.bytes ≤ 67108864;
+      room : vec_len l.room ≡ 65536;
+    }
+
+abbrev pub decreases-reads : goal.decreases-reads
+decreases-reads g l = 67108865 - vec_len l.bytes

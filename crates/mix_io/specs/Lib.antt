@@ -1,0 +1,5 @@
+pub mod Contents
+pub mod Memory
+pub mod System
+pub mod Views
+pub mod Whole

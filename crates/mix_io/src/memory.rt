@@ -1,0 +1,153 @@
+// Files and a sink in memory, which fail at the calls that a list names.
+ghost use Rattle.std.specs.Prelude.{◌≡◌, ◌≤◌, ◌++◌, ◌/◌, [], length, take, Some, IfOk, OnOk, OnErr, option_copied};
+ghost use Rattle.mix_io.specs.Contents.{GivesFrom};
+ghost use Rattle.mix_io.specs.Memory.{contents_at, contents_at_call, mem_files_view, mem_sink_view};
+ghost use Rattle.mix_io.specs.Views.{unread};
+
+use crate::files::furthest_after;
+use crate::{Files, ReadAtFault, Sink, SinkFault};
+use std::alloc::{AllocError, Global};
+use std::collections::BTreeSet;
+
+/// A file in memory.
+#[derive(Debug, Drop)]
+pub struct MemFile {
+    pub path: String,
+    pub bytes: Vec<u8>,
+}
+
+/// Files in memory. Of two files of one path the first counts.
+/// A read fails where a list names it, counted from 1, and at a path without a file.
+#[derive(Debug, Drop)]
+pub struct MemFiles {
+    files: Vec<MemFile>,
+    failing: BTreeSet<u64>,
+    calls: u64,
+    faults: u64,
+    furthest: u64,
+}
+
+impl MemFiles {
+    /// Files that fail at the reads of these numbers, counted from 1.
+    pub fn new(
+        alloc: Global,
+        files: Vec<MemFile>,
+        failing: Vec<u64>,
+    ) -> Result<MemFiles, AllocError>
+        ensures { IfOk result (λ m. mem_files_view m ≡ unread (contents_at files.items)) }
+    {
+        Ok(MemFiles {
+            files,
+            failing: failing.into_iter().collect(alloc)?,
+            calls: 0,
+            faults: 0,
+            furthest: 0,
+        })
+    }
+
+    // What the call of a number reads: nothing where it is to fail, or no file has the path.
+    fn bytes_at_call(&self, call: u64, path: &str) -> Option<&[u8]>
+        ensures { option_copied result ≡ contents_at_call self.now call path.now }
+    {
+        if self.failing.contains(&call) {
+            return None;
+        }
+        bytes_at(&self.files, path)
+    }
+}
+
+// The bytes of the first file of a path.
+fn bytes_at<'a>(files: &'a [MemFile], path: &str) -> Option<&'a [u8]>
+    ensures { option_copied result ≡ contents_at files.now path.now }
+{
+    let file = files.iter().find(|file| file.path.as_str() == path)?;
+    Some(&file.bytes)
+}
+
+// Copies the bytes from an offset on, as many as there is room for.
+fn copy_from(bytes: &[u8], from: u64, room: &mut [u8]) -> usize
+    ensures bound { result ≤ length room.new }
+    ensures gives { GivesFrom bytes.now from result room.new }
+{
+    if from >= bytes.len() as u64 {
+        return 0;
+    }
+    let rest = &bytes[from as usize..];
+    let count = rest.len().min(room.len());
+    room[..count].copy_from_slice(&rest[..count]);
+    count
+}
+
+impl Files for MemFiles {
+    ghost view = { mem_files_view };
+
+    fn read_at(
+        &mut self,
+        _alloc: Global,
+        path: &str,
+        from: u64,
+        room: &mut [u8],
+    ) -> Result<usize, ReadAtFault> {
+        self.calls = self.calls.saturating_add(1);
+        let Some(bytes) = self.bytes_at_call(self.calls, path) else {
+            self.faults = self.faults.saturating_add(1);
+            return Err(ReadAtFault::Failed);
+        };
+        let count = copy_from(bytes, from, room);
+        self.furthest = furthest_after(self.furthest, from, count);
+        Ok(count)
+    }
+}
+
+/// Bytes in memory. A write that a list names, counted from 1, takes the first half of its piece and fails.
+#[derive(Debug, Drop)]
+pub struct MemSink {
+    bytes: Vec<u8>,
+    failing: Vec<u64>,
+    writes: u64,
+    faults: u64,
+}
+
+impl MemSink {
+    /// A sink that fails at the writes of these numbers, counted from 1.
+    pub fn new(alloc: Global, failing: Vec<u64>) -> MemSink
+        ensures { mem_sink_view result ≡ record { written = Some []; faults = 0 } }
+    {
+        MemSink {
+            bytes: Vec::new(alloc),
+            failing,
+            writes: 0,
+            faults: 0,
+        }
+    }
+
+    /// The bytes that were written.
+    pub fn bytes(&self) -> &[u8]
+        ensures { (mem_sink_view self.now).written ≡ Some result.now }
+    {
+        &self.bytes
+    }
+}
+
+// Appends the first half of a piece, rounded down.
+fn append_half(bytes: &mut Vec<u8>, piece: &[u8]) -> Result<(), AllocError>
+    ensures ok { OnOk result (bytes.new.items ≡ bytes.old.items ++ take (length piece.now / 2) piece.now) }
+    ensures err { OnErr result (bytes.new.items ≡ bytes.old.items) }
+{
+    bytes.extend_from_slice(&piece[..piece.len() / 2])
+}
+
+impl Sink for MemSink {
+    ghost view = { mem_sink_view };
+
+    fn write(&mut self, _alloc: Global, piece: &[u8]) -> Result<(), SinkFault> {
+        self.writes = self.writes.saturating_add(1);
+        if self.failing.contains(&self.writes) {
+            append_half(&mut self.bytes, piece)?;
+            self.faults = self.faults.saturating_add(1);
+            return Err(SinkFault::Failed);
+        }
+        self.bytes.extend_from_slice(piece)?;
+        Ok(())
+    }
+}

@@ -1,0 +1,37 @@
+// Where bytes are written.
+ghost use Rattle.std.specs.Prelude.{◌≡◌, ◌≤◌, OnOk, OnErr, IsErrOf};
+ghost use Rattle.mix_base.specs.Counts.{HasRisen};
+ghost use Rattle.mix_io.specs.Contents.{Appends, AppendsFront};
+ghost use Rattle.mix_io.specs.Views.{SinkView};
+ghost use Rattle.mix_io.specs.declared.sink.SinkFault.TheVariants.{OutOfMemory};
+
+use std::alloc::{AllocError, Global};
+
+/// Why a write was refused.
+#[derive(Clone, Copy, Debug, PartialEq, Eq)]
+pub enum SinkFault {
+    /// The sink took no more. This comes only where its count of faults rose.
+    Failed,
+    OutOfMemory,
+}
+
+impl From<AllocError> for SinkFault {
+    ghost from_gives = { λ _ e. e ≡ OutOfMemory };
+
+    fn from(_: AllocError) -> Self {
+        SinkFault::OutOfMemory
+    }
+}
+
+/// Where bytes are written, each piece behind those before.
+pub trait Sink {
+    /// What this state means.
+    ghost view: { Self → SinkView };
+
+    /// Writes a piece. After an error a front of it was written, perhaps the empty one.
+    fn write(&mut self, alloc: Global, piece: &[u8]) -> Result<(), SinkFault>
+        ensures ok { OnOk result (Appends (view self.old).written (view self.new).written piece.now) }
+        ensures err { OnErr result (AppendsFront (view self.old).written (view self.new).written piece.now) }
+        ensures count { (view self.old).faults ≤ (view self.new).faults }
+        ensures failed { IsErrOf result SinkFault.Failed → HasRisen (view self.old).faults (view self.new).faults };
+}
