@@ -1,0 +1,5 @@
+use Rattle.bracket_text.proofs.GivenTrees.{one_spelled}
+use Rattle.bracket_text.proofs.law.no_text_spells_two.Goals as goal
+
+pub returns : goal.returns
+returns c = one_spelled
