@@ -13,6 +13,7 @@ abbrev pub trees_of : Forest → List LabelledTree
 trees_of none = []
 trees_of (tree l k n) = record { label = l; kids = k } ∷ trees_of n
 
+-- those trees make the forest again
 pub forest_of-trees_of : (f : Forest) → forest_of (trees_of f) ≡ f
 forest_of-trees_of none = refl
 forest_of-trees_of (tree l k n) = ap (tree l k) (forest_of-trees_of n)
@@ -50,13 +51,16 @@ TreeBehind o t r = (m : Mode) × (r ≡ Some (at o m)) × (tree_in m ≡ Some t)
 abbrev pub ReadsTrees : (limit : ℕ) → Forest → List ℕ → Type 0
 ReadsTrees limit k x = (f : Frame) (o : List Frame) (m : Mode) → MayBegin m → length o + levels_of k < limit → Ends (Behind f o (trees_of k)) (run limit (at (f ∷ o) m) x)
 
+-- the label of a tree, where there is one
 abbrev label_in : Option LabelledTree → List ℕ
 label_in None = []
 label_in (Some t) = t.label
 
+-- a blank ends a label
 spelling_blank : (limit : ℕ) (o : List Frame) (l : List ℕ) (b : ℕ) → IsTrue (is_blank b) → step_in limit o (spelling l) b ≡ Some (at o (named l))
 spelling_blank limit o l b h = rw (blank_not_bare b h, h) refl
 
+-- a blank behind a label that has ended
 named_blank : (limit : ℕ) (o : List Frame) (l : List ℕ) (b : ℕ) → IsTrue (is_blank b) → step_in limit o (named l) b ≡ Some (at o (named l))
 named_blank limit o l b h = rw h refl
 
@@ -138,6 +142,7 @@ rest_read limit f o m t (tree l' k' n') x reads d (a, b, y, ha, hb, hy, e) h =
       },
     )
 
+-- text of trees is read as these trees
 pub trees_read : (limit : ℕ) (k : Forest) (x : List ℕ) → SpellsTrees k x → ReadsTrees limit k x
 trees_read limit none x h f o m b d = absurd h
 trees_read limit (tree l k n) x (y, z, hl, hk, hn, e) f o m b d =

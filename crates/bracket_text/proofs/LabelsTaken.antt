@@ -16,12 +16,14 @@ use Rattle.bracket_text.specs.declared.fault.BracketFault.TheVariants.{NotAccept
 use Rattle.bracket_text.proofs.Runs as runs
 use Rattle.bracket_text.proofs.Runs.{blank_not_bare, bare_not_blank, run_then, whole_label}
 
+-- where the reader lets a tree begin, so does the machine
 pub may : (m : Mode) → MayBegin m → runs.MayBegin (mode_of m)
 may Start h = tt
 may First h = tt
 may (Named l) h = absurd h
 may (Closed t) h = absurd h
 
+-- no label may begin that deep, whatever its first byte
 no_step : (o : List Frame) (m : machine.Mode) (b : ℕ) → runs.MayBegin m → 200 ≤ length o → IsTrue (is_bare b) → step_in 200 o m b ≡ None
 no_step o start b m k h = rw (bare_not_blank b h, h) (grind (arith, nat_tests))
 no_step o first b m k h = let c : b == 93 ≡ false = grind (arith, nat_tests) in rw (bare_not_blank b h, c, h) (grind (arith, nat_tests))
@@ -36,10 +38,12 @@ too_deep o m text i h k inside bare =
     ap (outcome (at o m)) (drop_more text i 0 inside)
     ∙ ap (λ r. option_and_then whole (option_and_then (λ s. run 200 s (drop (i + 1) text)) r)) (no_step o m (slice_index text i) h k bare)
 
+-- at the end of a text, a label has ended
 whole_same : (o : List Frame) (l : List ℕ) → whole_in o (spelling l) ≡ whole_in o (named l)
 whole_same [] l = refl
 whole_same (f ∷ o) l = refl
 
+-- what ends a label may as well stand behind one that has ended
 step_same : (o : List Frame) (l : List ℕ) (b : ℕ) → is_bare b ≡ false → step_in 200 o (spelling l) b ≡ step_in 200 o (named l) b
 step_same o l b h = rw h refl
 
@@ -48,12 +52,14 @@ label_ends : (o : List Frame) (l rest : List ℕ) → EndsBare rest → outcome 
 label_ends o l [] h = whole_same o l
 label_ends o l (b ∷ rest) h = ap (λ r. option_and_then whole (option_and_then (λ s. run 200 s rest) r)) (step_same o l b h)
 
+-- what is not more is less or the same
 same_or_less : (i j : ℕ) → i ≤ j → (i < j) ⊎ (i ≡ j)
 same_or_less zero zero h = inr refl
 same_or_less zero (suc j) h = inl (omega arith)
 same_or_less (suc i) zero h = absurd (omega arith)
 same_or_less (suc i) (suc j) h = elim (same_or_less i j (omega arith)) [ inl k ↦ inl (omega arith) | inr e ↦ inr (ap suc e) ]
 
+-- a part of a text, and what stands behind it
 parts : (text : List ℕ) (i j : ℕ) → i ≤ j → slice_range text i j ++ drop j text ≡ drop i text
 parts text i j h =
     let e : i + (j - i) ≡ j = omega arith in
@@ -61,6 +67,7 @@ parts text i j h =
     ∙ ap (λ r. slice_range text i j ++ r) (sym (drop-drop (j - i) i text))
     ∙ take-append-drop (j - i) (drop i text)
 
+-- no text goes on with a bare character and ends a label
 not_both : (b : ℕ) (rest xs : List ℕ) → xs ≡ b ∷ rest → IsTrue (is_bare b) → EndsBare xs → ⊥
 not_both b rest xs e bare ends = let no_bare : is_bare b ≡ false = subst EndsBare e ends in cc
 
@@ -86,15 +93,18 @@ pub label_steps : (o : List Frame) (l text : List ℕ) (j : ℕ) → j < length 
     → outcome (at o (named l)) (drop j text) ≡ option_and_then whole (option_and_then (λ s. run 200 s (drop (j + 1) text)) (after_label o l (slice_index text j)))
 label_steps o l text j h = ap (outcome (at o (named l))) (drop_more text j 0 h)
 
+-- the machine takes the byte behind a label
 pub then_goes : (o : List Frame) (l text : List ℕ) (j : ℕ) (s : State) (x : Option LabelledTree) → j < length text → x ≡ outcome (at o (named l)) (drop j text)
     → after_label o l (slice_index text j) ≡ Some s → x ≡ outcome s (drop (j + 1) text)
 then_goes o l text j s x h e g = e ∙ label_steps o l text j h ∙ ap (λ r. option_and_then whole (option_and_then (λ u. run 200 u (drop (j + 1) text)) r)) g
 
+-- the machine refuses the byte behind a label
 pub then_none : (o : List Frame) (l text : List ℕ) (j : ℕ) (fault : BracketFault) (x : Option LabelledTree) → j < length text → x ≡ outcome (at o (named l)) (drop j text)
     → GivesNone fault (after_label o l (slice_index text j)) → GivesNone fault x
 then_none o l text j NotAccepted x h e g = e ∙ label_steps o l text j h ∙ ap (λ r. option_and_then whole (option_and_then (λ u. run 200 u (drop (j + 1) text)) r)) g
 then_none o l text j OutOfMemory x h e g = tt
 
+-- no bare character stands behind a label that has ended
 refuses_after_label : (o : List Frame) (l : List ℕ) (b : ℕ) → IsTrue (is_bare b) → after_label o l b ≡ None
 refuses_after_label [] l b h = let e : b == 91 ≡ false = grind (arith, nat_tests) in rw (bare_not_blank b h, e) refl
 refuses_after_label (f ∷ o) l b h =
@@ -103,6 +113,7 @@ refuses_after_label (f ∷ o) l b h =
     let d : b == 93 ≡ false = grind (arith, nat_tests) in
     rw (bare_not_blank b h, e, c, d) refl
 
+-- no bare character stands behind a tree
 refuses_after_tree : (o : List Frame) (t : LabelledTree) (b : ℕ) → IsTrue (is_bare b) → after_tree o t b ≡ None
 refuses_after_tree [] t b h = rw (bare_not_blank b h) refl
 refuses_after_tree (f ∷ o) t b h =
@@ -110,6 +121,7 @@ refuses_after_tree (f ∷ o) t b h =
     let d : b == 93 ≡ false = grind (arith, nat_tests) in
     rw (bare_not_blank b h, c, d) refl
 
+-- so no label begins where no tree may
 refuses : (o : List Frame) (m : Mode) (b : ℕ) → ¬ MayBegin m → IsTrue (is_bare b) → step_in 200 o (mode_of m) b ≡ None
 refuses o Start b h k = absurd (h tt)
 refuses o First b h k = absurd (h tt)

@@ -8,6 +8,7 @@ use Rattle.bracket_text.specs.Grammar.{is_blank, is_bare, IsBlanks, IsBareLabel}
 use Rattle.bracket_text.specs.Machine.{Frame, Mode, start, first, spelling, named, closed, State, at, step_in, step, run, tree_in}
 use Rattle.bracket_text.proofs.BareBytes.{and_parts}
 
+-- a run over two parts, after a first step
 behind : (limit : ℕ) (x y : List ℕ) → ((t : State) → run limit t (x ++ y) ≡ option_and_then (λ u. run limit u y) (run limit t x)) → (o : Option State)
     → option_and_then (λ t. run limit t (x ++ y)) o ≡ option_and_then (λ t. run limit t y) (option_and_then (λ t. run limit t x) o)
 behind limit x y h None = refl
@@ -18,6 +19,7 @@ pub run_append : (limit : ℕ) (x y : List ℕ) (s : State) → run limit s (x +
 run_append limit [] y s = refl
 run_append limit (b ∷ x) y s = behind limit x y (λ t. run_append limit x y t) (step limit s b)
 
+-- a run over two parts, from where the first leads
 pub run_then : (limit : ℕ) (x y : List ℕ) (s t : State) → run limit s x ≡ Some t → run limit s (x ++ y) ≡ run limit t y
 run_then limit x y s t e = run_append limit x y s ∙ ap (option_and_then (λ u. run limit u y)) e
 
@@ -25,6 +27,7 @@ run_then limit x y s t e = run_append limit x y s ∙ ap (option_and_then (λ u.
 pub blank_not_bare : (b : ℕ) → IsTrue (is_blank b) → is_bare b ≡ false
 blank_not_bare b h = grind (arith, nat_tests)
 
+-- no bare character is a blank
 pub bare_not_blank : (b : ℕ) → IsTrue (is_bare b) → is_blank b ≡ false
 bare_not_blank b h = grind (arith, nat_tests)
 
@@ -35,6 +38,7 @@ start_blanks limit (b ∷ a) o h =
     let parts = and_parts (is_blank b) (list_all is_blank a) h in
     rw parts.0 (start_blanks limit a o parts.1)
 
+-- the same behind a bracket that opened
 pub first_blanks : (limit : ℕ) (a : List ℕ) (o : List Frame) → IsBlanks a → run limit (at o first) a ≡ Some (at o first)
 first_blanks limit [] o h = refl
 first_blanks limit (b ∷ a) o h =
@@ -49,6 +53,7 @@ tree_blank limit o (spelling l) t b e h = (named l, rw (blank_not_bare b h, h) r
 tree_blank limit o (named l) t b e h = (named l, rw h refl, e)
 tree_blank limit o (closed u) t b e h = (closed u, rw h refl, e)
 
+-- more of them
 pub tree_blanks : (limit : ℕ) (a : List ℕ) (o : List Frame) (m : Mode) (t : LabelledTree) → tree_in m ≡ Some t → IsBlanks a → (n : Mode) × (run limit (at o m) a ≡ Some (at o n)) × (tree_in n ≡ Some t)
 tree_blanks limit [] o m t e h = (m, refl, e)
 tree_blanks limit (b ∷ a) o m t e h =
@@ -65,6 +70,7 @@ tree_comma limit f o (spelling l) t e = cc
 tree_comma limit f o (named l) t e = cc
 tree_comma limit f o (closed u) t e = cc
 
+-- a closing bracket behind a tree closes the one round it
 pub tree_close : (limit : ℕ) (f : Frame) (o : List Frame) (m : Mode) (t : LabelledTree) → tree_in m ≡ Some t → step_in limit (f ∷ o) m 93 ≡ Some (at o (closed (record { label = f.label; kids = forest_of (f.kids ++ t ∷ []) })))
 tree_close limit f o start t e = cc
 tree_close limit f o first t e = cc
@@ -87,6 +93,7 @@ MayBegin (spelling l) = ⊥
 MayBegin (named l) = ⊥
 MayBegin (closed t) = ⊥
 
+-- a bare character begins a label where a tree may begin
 begins_label : (limit : ℕ) (o : List Frame) (m : Mode) (b : ℕ) → MayBegin m → length o < limit → IsTrue (is_bare b) → step_in limit o m b ≡ Some (at o (spelling (b ∷ [])))
 begins_label limit o start b m k h = rw (bare_not_blank b h, h) (grind (arith, nat_tests))
 begins_label limit o first b m k h = let c : b == 93 ≡ false = grind (arith, nat_tests) in rw (bare_not_blank b h, c, h) (grind (arith, nat_tests))
@@ -94,6 +101,7 @@ begins_label limit o (spelling l) b m k h = absurd m
 begins_label limit o (named l) b m k h = absurd m
 begins_label limit o (closed t) b m k h = absurd m
 
+-- a label is read where a tree may begin
 pub whole_label : (limit : ℕ) (o : List Frame) (m : Mode) (l : List ℕ) → MayBegin m → length o < limit → IsBareLabel l → run limit (at o m) l ≡ Some (at o (spelling l))
 whole_label limit o m [] b k h = absurd (omega arith)
 whole_label limit o m (x ∷ l) b k h =

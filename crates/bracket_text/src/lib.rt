@@ -10,3 +10,6 @@ mod reading;
 pub use fault::BracketFault;
 pub use law::no_text_spells_two;
 pub use reading::read_tree;
+
+#[cfg(test)]
+mod tests;
