@@ -1,22 +1,26 @@
 -- What files and a sink in memory mean.
-use Rattle.std.specs.Prelude.{ℕ, List, Option, Some, None, if◌then◌else◌, string_bytes}
+use Rattle.std.specs.Prelude.{ℕ, Bool, List, Option, Some, None, if◌then◌else◌, string_bytes}
 use Rattle.std.specs.List.{find}
 use Rattle.std.specs.Option.{option_map}
 use Rattle.std.specs.Str.{bytes_eq}
 use Rattle.std.specs.Ordering.{nat_cmp}
 use Rattle.std.specs.BTreeSet.{contains}
-use Rattle.mix_io.specs.declared.memory.MemFile.{MemFile}
-use Rattle.mix_io.specs.declared.memory.MemFiles.{MemFiles}
-use Rattle.mix_io.specs.declared.memory.MemSink.{MemSink}
+use Rattle.mix_io.specs.declared.mem_files.MemFile.{MemFile}
+use Rattle.mix_io.specs.declared.mem_files.MemFiles.{MemFiles}
+use Rattle.mix_io.specs.declared.mem_sink.MemSink.{MemSink}
 use Rattle.mix_io.specs.Views.{FilesView, SinkView}
 
 -- the contents at a path: those of the first file of that path
 abbrev pub contents_at : List MemFile → List ℕ → Option (List ℕ)
 contents_at files path = option_map (λ file. file.bytes.items) (find (λ file. bytes_eq (string_bytes file.path) path) files)
 
+-- whether the call of a number, counted from 1, is to fail
+abbrev pub fails_at : MemFiles → ℕ → Bool
+fails_at m call = contains nat_cmp m.failing call
+
 -- what the call of a number reads: nothing where it is to fail, else the contents at the path
 abbrev pub contents_at_call : MemFiles → ℕ → List ℕ → Option (List ℕ)
-contents_at_call m call path = if contains nat_cmp m.failing call then None else contents_at m.files.items path
+contents_at_call m call path = if fails_at m call then None else contents_at m.files.items path
 
 -- they tell their contents, and count for all paths together
 abbrev pub mem_files_view : MemFiles → FilesView

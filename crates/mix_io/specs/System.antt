@@ -1,7 +1,7 @@
 -- What the files of the system and standard output mean: they tell nothing.
 use Rattle.std.specs.Prelude.{None}
-use Rattle.mix_io.specs.declared.os.OsFiles.{OsFiles}
-use Rattle.mix_io.specs.declared.os.StdSink.{StdSink}
+use Rattle.mix_io.specs.declared.os_files.OsFiles.{OsFiles}
+use Rattle.mix_io.specs.declared.std_sink.StdSink.{StdSink}
 use Rattle.mix_io.specs.Views.{FilesView, SinkView}
 
 -- they tell no contents, and count for all paths together

@@ -2,15 +2,19 @@
 #![tactic(auto)]
 
 mod files;
-mod memory;
-mod os;
+mod mem_files;
+mod mem_sink;
+mod os_files;
 mod sink;
+mod std_sink;
 #[cfg(test)]
 mod tests;
 mod whole;
 
 pub use files::{Files, ReadAtFault};
-pub use memory::{MemFile, MemFiles, MemSink};
-pub use os::{OsFiles, StdSink};
+pub use mem_files::{MemFile, MemFiles};
+pub use mem_sink::MemSink;
+pub use os_files::OsFiles;
 pub use sink::{Sink, SinkFault};
+pub use std_sink::StdSink;
 pub use whole::{ReadWhole, WHOLE_LIMIT, read_whole};

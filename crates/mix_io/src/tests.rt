@@ -1,6 +1,6 @@
 // What no clause says: which calls fail, what a fault of the system becomes, and that calls succeed.
 use super::*;
-use crate::os::write_whole;
+use crate::std_sink::write_whole;
 use std::alloc::{AllocError, Global};
 use std::test::Fail;
 

@@ -1,6 +1,6 @@
 use Rattle.std.proofs.Common.{◌∙◌, sym, ap, None, if◌then◌else◌}
 use Rattle.mix_io.specs.Memory.{contents_at}
-use Rattle.mix_io.proofs.memory.MemFiles.bytes_at_call.Goals as goal
+use Rattle.mix_io.proofs.mem_files.MemFiles.bytes_at_call.Goals as goal
 
 pub returns-then-contains : goal.returns-then-contains
 returns-then-contains c =

@@ -1,11 +1,11 @@
-// Files and a sink in memory, which fail at the calls that a list names.
-ghost use Rattle.std.specs.Prelude.{◌≡◌, ◌≤◌, ◌++◌, ◌/◌, [], length, take, Some, IfOk, OnOk, OnErr, option_copied};
+// Files in memory, which fail at the reads that a list names.
+ghost use Rattle.std.specs.Prelude.{◌≡◌, ◌≤◌, ◌↔◌, ℕ, length, IsTrue, Contains, IfOk, option_copied};
 ghost use Rattle.mix_io.specs.Contents.{GivesFrom};
-ghost use Rattle.mix_io.specs.Memory.{contents_at, contents_at_call, mem_files_view, mem_sink_view};
+ghost use Rattle.mix_io.specs.Memory.{contents_at, contents_at_call, fails_at, mem_files_view};
 ghost use Rattle.mix_io.specs.Views.{unread};
 
 use crate::files::furthest_after;
-use crate::{Files, ReadAtFault, Sink, SinkFault};
+use crate::{Files, ReadAtFault};
 use std::alloc::{AllocError, Global};
 use std::collections::BTreeSet;
 
@@ -34,7 +34,8 @@ impl MemFiles {
         files: Vec<MemFile>,
         failing: Vec<u64>,
     ) -> Result<MemFiles, AllocError>
-        ensures { IfOk result (λ m. mem_files_view m ≡ unread (contents_at files.items)) }
+        ensures view { IfOk result (λ m. mem_files_view m ≡ unread (contents_at files.items)) }
+        ensures failing { IfOk result (λ m. (call : ℕ) → IsTrue (fails_at m call) ↔ Contains failing.items call) }
     {
         Ok(MemFiles {
             files,
@@ -96,58 +97,5 @@ impl Files for MemFiles {
         let count = copy_from(bytes, from, room);
         self.furthest = furthest_after(self.furthest, from, count);
         Ok(count)
-    }
-}
-
-/// Bytes in memory. A write that a list names, counted from 1, takes the first half of its piece and fails.
-#[derive(Debug, Drop)]
-pub struct MemSink {
-    bytes: Vec<u8>,
-    failing: Vec<u64>,
-    writes: u64,
-    faults: u64,
-}
-
-impl MemSink {
-    /// A sink that fails at the writes of these numbers, counted from 1.
-    pub fn new(alloc: Global, failing: Vec<u64>) -> MemSink
-        ensures { mem_sink_view result ≡ record { written = Some []; faults = 0 } }
-    {
-        MemSink {
-            bytes: Vec::new(alloc),
-            failing,
-            writes: 0,
-            faults: 0,
-        }
-    }
-
-    /// The bytes that were written.
-    pub fn bytes(&self) -> &[u8]
-        ensures { (mem_sink_view self.now).written ≡ Some result.now }
-    {
-        &self.bytes
-    }
-}
-
-// Appends the first half of a piece, rounded down.
-fn append_half(bytes: &mut Vec<u8>, piece: &[u8]) -> Result<(), AllocError>
-    ensures ok { OnOk result (bytes.new.items ≡ bytes.old.items ++ take (length piece.now / 2) piece.now) }
-    ensures err { OnErr result (bytes.new.items ≡ bytes.old.items) }
-{
-    bytes.extend_from_slice(&piece[..piece.len() / 2])
-}
-
-impl Sink for MemSink {
-    ghost view = { mem_sink_view };
-
-    fn write(&mut self, _alloc: Global, piece: &[u8]) -> Result<(), SinkFault> {
-        self.writes = self.writes.saturating_add(1);
-        if self.failing.contains(&self.writes) {
-            append_half(&mut self.bytes, piece)?;
-            self.faults = self.faults.saturating_add(1);
-            return Err(SinkFault::Failed);
-        }
-        self.bytes.extend_from_slice(piece)?;
-        Ok(())
     }
 }

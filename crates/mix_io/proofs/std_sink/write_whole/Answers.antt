@@ -2,7 +2,7 @@ use Rattle.std.proofs.Common.{rules, take, subst}
 use Rattle.std.proofs.lemmas.List.{take_rest}
 use Rattle.std.specs.Io.KnownBytes.{Appends}
 use Rattle.mix_io.proofs.Writes.{grown_more}
-use Rattle.mix_io.proofs.os.write_whole.Goals as goal
+use Rattle.mix_io.proofs.std_sink.write_whole.Goals as goal
 
 pub loop-done-preserved : goal.loop-done-preserved
 loop-done-preserved g c =

@@ -1,7 +1,7 @@
 use Rattle.std.proofs.Common.{IfSome, sym, subst}
 use Rattle.mix_io.specs.Contents.{GivesFrom}
 use Rattle.mix_io.proofs.Calls.{told_unless}
-use Rattle.mix_io.proofs.memory.MemFilesFiles.read_at.Goals as goal
+use Rattle.mix_io.proofs.mem_files.MemFilesFiles.read_at.Goals as goal
 
 pub returns-clause-bytes : goal.returns-clause-bytes
 returns-clause-bytes c =
