@@ -29,3 +29,7 @@ mem_files_view m = record { told = contents_at m.files.items; faults = λ _. m.f
 -- it tells what was written
 abbrev pub mem_sink_view : MemSink → SinkView
 mem_sink_view s = record { written = Some s.bytes.items; faults = s.faults }
+
+-- the numbers of the writes, counted from 1, that are to fail
+abbrev pub failing_writes : MemSink → List ℕ
+failing_writes s = s.failing.items

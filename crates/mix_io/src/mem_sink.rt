@@ -1,6 +1,6 @@
 // A sink in memory, which fails at the writes that a list names.
 ghost use Rattle.std.specs.Prelude.{◌≡◌, ◌++◌, ◌/◌, [], length, take, Some, OnOk, OnErr};
-ghost use Rattle.mix_io.specs.Memory.{mem_sink_view};
+ghost use Rattle.mix_io.specs.Memory.{failing_writes, mem_sink_view};
 
 use crate::{Sink, SinkFault};
 use std::alloc::{AllocError, Global};
@@ -17,7 +17,8 @@ pub struct MemSink {
 impl MemSink {
     /// A sink that fails at the writes of these numbers, counted from 1.
     pub fn new(alloc: Global, failing: Vec<u64>) -> MemSink
-        ensures { mem_sink_view result ≡ record { written = Some []; faults = 0 } }
+        ensures view { mem_sink_view result ≡ record { written = Some []; faults = 0 } }
+        ensures failing { failing_writes result ≡ failing.items }
     {
         MemSink {
             bytes: Vec::new(alloc),
