@@ -1,0 +1,49 @@
+-- Script names are ASCII.
+use Rattle.std.proofs.Common.{◌≡◌, ◌<◌, ◌≤◌, ℕ, zero, suc, Bool, true, false, ◌&&◌, IsTrue, List, [], ◌∷◌, refl, arith, get_or, drop, take, length, ◌-◌, ap, sym}
+use Rattle.std.proofs.lemmas.Bool.Decides.{nat_tests}
+use Rattle.std.proofs.lemmas.Str.{IsUtf8-from_ascii}
+use Rattle.std.specs.Str.{IsAscii, IsUtf8}
+use Rattle.std.specs.List.{list_all}
+use Rattle.mix_script.specs.Words.{is_name, is_letter, is_name_byte}
+
+-- both tests hold where their conjunction does
+and_parts : (a b : Bool) → IsTrue (a && b) → IsTrue a × IsTrue b
+and_parts true true h = (refl, refl)
+and_parts true false h = cc
+and_parts false b h = cc
+
+-- a letter is ASCII
+letter_ascii : (b : ℕ) → IsTrue (is_letter b) → b < 128
+letter_ascii b h = grind (arith, nat_tests)
+
+-- so is each byte of a name
+name_byte_ascii : (b : ℕ) → IsTrue (is_name_byte b) → b < 128
+name_byte_ascii b h = grind (arith, nat_tests)
+
+-- bytes of names are ASCII
+IsAscii-name_bytes : (xs : List ℕ) → IsTrue (list_all is_name_byte xs) → IsAscii xs
+IsAscii-name_bytes [] h i = omega arith
+IsAscii-name_bytes (x ∷ xs) h zero = name_byte_ascii x (and_parts (is_name_byte x) (list_all is_name_byte xs) h).0
+IsAscii-name_bytes (x ∷ xs) h (suc i) = IsAscii-name_bytes xs (and_parts (is_name_byte x) (list_all is_name_byte xs) h).1 i
+
+-- a name is ASCII
+IsAscii-name : (xs : List ℕ) → IsTrue (is_name xs) → IsAscii xs
+IsAscii-name [] h i = omega arith
+IsAscii-name (x ∷ xs) h zero = letter_ascii x (and_parts (is_letter x) (list_all is_name_byte xs) h).0
+IsAscii-name (x ∷ xs) h (suc i) = IsAscii-name_bytes xs (and_parts (is_letter x) (list_all is_name_byte xs) h).1 i
+
+-- a name is UTF-8
+pub IsUtf8-name : (xs : List ℕ) → IsTrue (is_name xs) → IsUtf8 xs
+IsUtf8-name xs h = IsUtf8-from_ascii xs (IsAscii-name xs h)
+
+-- a front as long as the list
+take_length : (n : ℕ) (xs : List ℕ) → n ≡ length xs → take n xs ≡ xs
+take_length zero [] e = refl
+take_length zero (x ∷ xs) e = absurd (omega arith)
+take_length (suc n) [] e = refl
+take_length (suc n) (x ∷ xs) e = ap (λ r. x ∷ r) (take_length n xs (omega arith))
+
+-- a name by its first byte and those behind it
+pub is_name-parts : (xs : List ℕ) → 1 ≤ length xs → is_name xs ≡ (is_letter (get_or xs 0 0) && list_all is_name_byte (take (length xs - 1) (drop 1 xs)))
+is_name-parts [] h = absurd (omega arith)
+is_name-parts (x ∷ xs) h = let e : length (x ∷ xs) - 1 ≡ length xs = omega arith in ap (λ r. is_letter x && list_all is_name_byte r) (sym (take_length _ xs e))

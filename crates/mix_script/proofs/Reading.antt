@@ -1,0 +1,45 @@
+-- The steps of a script, read from one line after another.
+use Rattle.std.proofs.Common.{◌≡◌, ◌<◌, ◌+◌, ◌∙◌, ℕ, List, [], ◌++◌, Option, Some, None, Result, Ok, Err, refl, sym, ap, length, drop, get_or, append_assoc}
+use Rattle.std.proofs.lemmas.List.{drop_more}
+use Rattle.std.specs.Result.{IsErrOf}
+use Rattle.mix_script.specs.declared.script.ScriptFault.{ScriptFault}
+use Rattle.mix_script.specs.declared.script.ScriptFault.TheVariants.{Line, OutOfMemory}
+use Rattle.mix_script.specs.declared.step.Step.{Step}
+use Rattle.mix_script.specs.Steps.{line_steps, with_line, steps_from}
+
+-- steps that were read, in front of those to come
+abbrev pub after_steps : List Step → Result (List Step) ℕ → Result (List Step) ℕ
+after_steps front (Ok steps) = Ok (front ++ steps)
+after_steps front (Err n) = Err n
+
+after_two : (front new : List Step) (n : ℕ) (rest : Result (List Step) ℕ) → after_steps (front ++ new) rest ≡ after_steps front (with_line (Some new) n rest)
+after_two front new n (Ok steps) = ap Ok (append_assoc front new steps)
+after_two front new n (Err m) = refl
+
+at_line : (lines : List (List ℕ)) (i n : ℕ) → i < length lines → steps_from n (drop i lines) ≡ with_line (line_steps (get_or lines i [])) n (steps_from (n + 1) (drop (i + 1) lines))
+at_line lines i n h = ap (steps_from n) (drop_more lines i [] h)
+
+-- the steps of one line more were read
+pub line_taken : (lines : List (List ℕ)) (i n : ℕ) (front new more : List Step) (whole : Result (List Step) ℕ) → i < length lines → line_steps (get_or lines i []) ≡ Some new → more ≡ front ++ new
+    → after_steps front (steps_from n (drop i lines)) ≡ whole → after_steps more (steps_from (n + 1) (drop (i + 1) lines)) ≡ whole
+line_taken lines i n front new more whole h a m e =
+    ap (λ steps. after_steps steps (steps_from (n + 1) (drop (i + 1) lines))) m ∙ after_two front new n (steps_from (n + 1) (drop (i + 1) lines))
+    ∙ ap (after_steps front) (ap (λ o. with_line o n (steps_from (n + 1) (drop (i + 1) lines))) (sym a) ∙ sym (at_line lines i n h)) ∙ e
+
+-- a line of no form refuses the script
+pub line_refused : (lines : List (List ℕ)) (i n : ℕ) (front : List Step) (whole : Result (List Step) ℕ) → i < length lines → line_steps (get_or lines i []) ≡ None
+    → after_steps front (steps_from n (drop i lines)) ≡ whole → whole ≡ Err n
+line_refused lines i n front whole h a e =
+    sym e ∙ ap (after_steps front) (at_line lines i n h ∙ ap (λ o. with_line o n (steps_from (n + 1) (drop (i + 1) lines))) a)
+
+abbrev fault_in : {T : Type 0} → Result T ScriptFault → ScriptFault
+fault_in (Ok x) = OutOfMemory
+fault_in (Err e) = e
+
+-- the fault of a line is that of the script
+pub line_fault : {T : Type 0} (e e' : ScriptFault) (number : ℕ) (new : Option (List Step)) (whole : Result (List Step) ℕ) → e' ≡ e
+    → ((n : ℕ) → IsErrOf {T = Unit {0}} (Err e) (Line n) → (new ≡ None) × (n ≡ number)) → (new ≡ None → whole ≡ Err number)
+    → (n : ℕ) → IsErrOf {T = T} (Err e') (Line n) → whole ≡ Err n
+line_fault e e' number new whole same given refused n is =
+    let known = given n (ap Err (sym same ∙ ap fault_in is)) in
+    refused known.0 ∙ ap Err (sym known.1)

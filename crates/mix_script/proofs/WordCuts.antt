@@ -1,0 +1,44 @@
+-- The words of a line, cut at one blank after another.
+use Rattle.std.proofs.Common.{◌≡◌, ◌<◌, ◌≤◌, ◌+◌, ◌∙◌, ℕ, true, false, List, [], ◌∷◌, ◌++◌, refl, ap, sym, length, drop, slice_index, slice_range, append_assoc}
+use Rattle.mix_script.specs.Words.{is_blank, words_of, with_first, unless_empty}
+use Rattle.mix_script.proofs.Pieces.{Free, cut_at, rest_whole}
+
+-- a byte that is followed by another of its word
+word_longer : (b c : ℕ) (bs : List ℕ) → is_blank b ≡ false → is_blank c ≡ false → words_of (b ∷ c ∷ bs) ≡ with_first b (words_of (c ∷ bs))
+word_longer b c bs h k = rw (h, k) refl
+
+-- a byte that is a word
+word_ends : (b c : ℕ) (bs : List ℕ) → is_blank b ≡ false → is_blank c ≡ true → words_of (b ∷ c ∷ bs) ≡ (b ∷ []) ∷ words_of bs
+word_ends b c bs h k = rw (h, k) refl
+
+blank_passed : (c : ℕ) (bs : List ℕ) → is_blank c ≡ true → words_of (c ∷ bs) ≡ words_of bs
+blank_passed c bs h = rw h refl
+
+-- a word in front of a blank
+words_at_blank : (word : List ℕ) (c : ℕ) (bs : List ℕ) → Free is_blank word → is_blank c ≡ true → words_of (word ++ c ∷ bs) ≡ unless_empty word ++ words_of bs
+words_at_blank [] c bs f h = blank_passed c bs h
+words_at_blank (b ∷ []) c bs f h = word_ends b c bs f.0 h
+words_at_blank (b ∷ d ∷ word) c bs f h = word_longer b d (word ++ c ∷ bs) f.0 f.1.0 ∙ ap (with_first b) (words_at_blank (d ∷ word) c bs f.1 h)
+
+last_byte : (b : ℕ) → is_blank b ≡ false → words_of (b ∷ []) ≡ (b ∷ []) ∷ []
+last_byte b h = rw h refl
+
+-- a word at the end of the line
+pub words_at_end : (word : List ℕ) → Free is_blank word → words_of word ≡ unless_empty word
+words_at_end [] f = refl
+words_at_end (b ∷ []) f = last_byte b f.0
+words_at_end (b ∷ d ∷ word) f = word_longer b d word f.0 f.1.0 ∙ ap (with_first b) (words_at_end (d ∷ word) f.1)
+
+-- one word more was cut
+pub word_cut : (line : List ℕ) (from at : ℕ) (front more whole : List (List ℕ)) → from ≤ at → at < length line → Free is_blank (slice_range line from at) → is_blank (slice_index line at) ≡ true
+    → more ≡ front ++ unless_empty (slice_range line from at) → front ++ words_of (drop from line) ≡ whole → more ++ words_of (drop (at + 1) line) ≡ whole
+word_cut line from at front more whole h k f s m e =
+    ap (λ ws. ws ++ words_of (drop (at + 1) line)) m
+    ∙ append_assoc front (unless_empty (slice_range line from at)) (words_of (drop (at + 1) line))
+    ∙ ap (λ ws. front ++ ws) (sym (ap words_of (cut_at line from at h k) ∙ words_at_blank (slice_range line from at) (slice_index line at) (drop (at + 1) line) f s)) ∙ e
+
+-- the last word was cut
+pub last_word : (line : List ℕ) (from : ℕ) (front more whole : List (List ℕ)) → Free is_blank (drop from line)
+    → more ≡ front ++ unless_empty (slice_range line from (length line)) → front ++ words_of (drop from line) ≡ whole → more ≡ whole
+last_word line from front more whole f m e = 
+    m ∙ ap (λ ws. front ++ ws) (ap unless_empty (rest_whole line from) ∙ sym (words_at_end (drop from line) f)) ∙ e

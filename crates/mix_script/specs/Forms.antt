@@ -1,0 +1,31 @@
+-- The forms of a script's lines, by their words.
+use Rattle.std.specs.Prelude.{ℕ, cond, ◌&&◌, List, [], ◌∷◌, Option, Some, None, codes}
+use Rattle.std.specs.Str.{bytes_eq}
+use Rattle.mix_script.specs.Words.{is_name}
+use Rattle.mix_script.specs.declared.step.Act.{Act}
+use Rattle.mix_script.specs.declared.step.Act.TheVariants.{Root, Down, Right, Fetch}
+
+-- the command of a word that stands before a name
+abbrev pub act_named : List ℕ → List ℕ → List ℕ → Option Act
+act_named x command y = cond (bytes_eq command (codes "down")) (Some (Down x y)) (cond (bytes_eq command (codes "right")) (Some (Right x y)) None)
+
+-- X = down Y, and X = right Y
+abbrev pub move_form : List ℕ → List ℕ → List ℕ → List ℕ → Option Act
+move_form x is command y = cond (is_name x && bytes_eq is (codes "=") && is_name y) (act_named x command y) None
+
+-- X = root
+abbrev pub root_form : List ℕ → List ℕ → List ℕ → Option Act
+root_form x is command = cond (is_name x && bytes_eq is (codes "=") && bytes_eq command (codes "root")) (Some (Root x)) None
+
+-- fetch Y
+abbrev pub fetch_form : List ℕ → List ℕ → Option Act
+fetch_form command y = cond (bytes_eq command (codes "fetch") && is_name y) (Some (Fetch y)) None
+
+-- what the words of a line ask for, where they are of a form
+abbrev pub act_of : List (List ℕ) → Option Act
+act_of [] = None
+act_of (w ∷ []) = None
+act_of (command ∷ y ∷ []) = fetch_form command y
+act_of (x ∷ is ∷ command ∷ []) = root_form x is command
+act_of (x ∷ is ∷ command ∷ y ∷ []) = move_form x is command y
+act_of (x ∷ is ∷ command ∷ y ∷ w ∷ words) = None

@@ -1,0 +1,23 @@
+-- What the names of each client hold.
+use Rattle.std.specs.Prelude.{ℕ, cond, ◌&&◌, List, Option, None, option_and_then}
+use Rattle.std.specs.Str.{bytes_eq}
+use Rattle.std.specs.Ordering.{nat_cmp}
+use Rattle.std.specs.Cmp.Lexicographic.{slice_cmp}
+use Rattle.std.specs.BTreeMap.{get}
+use Rattle.mix_script.specs.declared.names.Names.{Names}
+
+-- what is held, by client and name
+abbrev pub NamesOf : Type 0 → Type 0
+NamesOf V = List ℕ → List ℕ → Option V
+
+-- no name holds anything
+abbrev pub no_names : {V : Type 0} → NamesOf V
+no_names client name = None
+
+-- one name of one client holds this, and the others what they held
+abbrev pub with_name : {V : Type 0} → NamesOf V → List ℕ → List ℕ → Option V → NamesOf V
+with_name names client name value c n = cond (bytes_eq client c && bytes_eq name n) value (names c n)
+
+-- what a client's name holds
+abbrev pub held : {V : Type 0} → Names V → NamesOf V
+held names client name = option_and_then (λ own. get (slice_cmp nat_cmp) own name) (get (slice_cmp nat_cmp) names.clients client)

@@ -1,0 +1,105 @@
+-- The answers to steps on a finished tree, what names hold after them, and the lines that tell them.
+use Rattle.std.specs.Prelude.{ℕ, Bool, false, IsTrue, cond, List, [], ◌∷◌, ◌++◌, Option, Some, None, is_some, option_map, option_and_then}
+use Rattle.mix_tree.specs.Forest.{LabelledTree, alone}
+use Rattle.mix_tree.specs.Place.{has_place, tree_at, child_place, next_place}
+use Rattle.mix_script.specs.Names.{NamesOf, no_names, with_name}
+use Rattle.mix_script.specs.Answers.{line_of}
+use Rattle.mix_script.specs.declared.step.Act.{Act}
+use Rattle.mix_script.specs.declared.step.Act.TheVariants.{Root, Down, Right, Fetch}
+use Rattle.mix_script.specs.declared.step.Step.{Step}
+use Rattle.mix_script.specs.declared.answer.Answer.{Answer}
+use Rattle.mix_script.specs.declared.answer.Answer.TheVariants as answer
+
+-- the places that the clients' names hold
+abbrev pub Names : Type 0
+Names = NamesOf (List ℕ)
+
+-- the place that an act asks for: the root, or the first child or the next sibling of what its operand holds
+abbrev pub goal_of : Names → List ℕ → Act → Option (List ℕ)
+goal_of names client (Root name) = Some []
+goal_of names client (Down name from) = option_map child_place (names client from)
+goal_of names client (Right name from) = option_and_then next_place (names client from)
+goal_of names client (Fetch from) = None
+
+-- the answer where this place is asked for
+abbrev pub move_answer : LabelledTree → Option (List ℕ) → Answer
+move_answer t None = answer.None
+move_answer t (Some place) = cond (has_place (alone t) place) answer.Node answer.None
+
+-- the answer where the label of this tree is asked for
+abbrev pub label_answer : Option LabelledTree → Answer
+label_answer None = answer.NoNode
+label_answer (Some t) = answer.Label t.label
+
+-- no node where the operand's name holds no place, and else this answer
+abbrev pub if_held : Option (List ℕ) → Answer → Answer
+if_held None a = answer.NoNode
+if_held (Some place) a = a
+
+-- a fault of the marked source, and without a mark this answer
+abbrev pub unless_marked : Option ℕ → Answer → Answer
+unless_marked None a = a
+unless_marked (Some source) a = answer.Fault source
+
+-- the answer to a client's act; a fetch is never marked
+abbrev pub answer_of : LabelledTree → Names → Option ℕ → List ℕ → Act → Answer
+answer_of t names mark client (Root name) = unless_marked mark answer.Node
+answer_of t names mark client (Down name from) = if_held (names client from) (unless_marked mark (move_answer t (goal_of names client (Down name from))))
+answer_of t names mark client (Right name from) = if_held (names client from) (unless_marked mark (move_answer t (goal_of names client (Right name from))))
+answer_of t names mark client (Fetch from) = label_answer (option_and_then (tree_at t) (names client from))
+
+-- the names where the one that an act names, if any, holds this
+abbrev pub with_named : Names → List ℕ → Act → Option (List ℕ) → Names
+with_named names client (Root name) place = with_name names client name place
+with_named names client (Down name from) place = with_name names client name place
+with_named names client (Right name from) place = with_name names client name place
+with_named names client (Fetch from) place = names
+
+-- the names after an answer: the act's name holds the place that was found or none, or all hold what they held
+abbrev pub names_after : Names → List ℕ → Act → Answer → Names
+names_after names client act answer.Node = with_named names client act (goal_of names client act)
+names_after names client act answer.None = with_named names client act None
+names_after names client act (answer.Label l) = names
+names_after names client act answer.NoNode = names
+names_after names client act (answer.Fault source) = names
+
+-- the answer to a step, and the names after it
+abbrev pub answered : LabelledTree → Names → Option ℕ → Step → Answer × Names
+answered t names mark step = (answer_of t names mark step.client step.act, names_after names step.client step.act (answer_of t names mark step.client step.act))
+
+-- the mark of the first step; where the list of marks has ended there is none
+abbrev pub first_mark : List (Option ℕ) → Option ℕ
+first_mark [] = None
+first_mark (mark ∷ marks) = mark
+
+-- the marks of the steps behind it
+abbrev pub later_marks : List (Option ℕ) → List (Option ℕ)
+later_marks [] = []
+later_marks (mark ∷ marks) = marks
+
+-- the lines that answer steps, where names hold this before them
+abbrev pub lines_from : LabelledTree → List (List ℕ) → Names → List (Option ℕ) → List Step → List ℕ
+lines_from t sources names marks [] = []
+lines_from t sources names marks (step ∷ steps) =
+    line_of sources step.client (answered t names (first_mark marks) step).0 ++ lines_from t sources (answered t names (first_mark marks) step).1 (later_marks marks) steps
+
+-- the lines that answer a script
+abbrev pub transcript : LabelledTree → List (List ℕ) → List (Option ℕ) → List Step → List ℕ
+transcript t sources marks steps = lines_from t sources no_names marks steps
+
+-- whether an act may be marked: a move whose operand's name holds a place, and a root where roots may be
+abbrev pub may_mark : Bool → Names → List ℕ → Act → Bool
+may_mark roots names client (Root name) = roots
+may_mark roots names client (Down name from) = is_some (names client from)
+may_mark roots names client (Right name from) = is_some (names client from)
+may_mark roots names client (Fetch from) = false
+
+-- a mark that stands only where it may
+abbrev pub MayBeMarked : Bool → Names → Step → Option ℕ → Type 0
+MayBeMarked roots names step None = Unit {0}
+MayBeMarked roots names step (Some source) = IsTrue (may_mark roots names step.client step.act)
+
+-- marks that stand only at steps that may be marked
+abbrev pub AreMarks : Bool → LabelledTree → Names → List (Option ℕ) → List Step → Type 0
+AreMarks roots t names marks [] = Unit {0}
+AreMarks roots t names marks (step ∷ steps) = MayBeMarked roots names step (first_mark marks) × AreMarks roots t (answered t names (first_mark marks) step).1 (later_marks marks) steps

@@ -1,0 +1,70 @@
+// Answers, and the lines that tell them.
+ghost use Rattle.std.specs.Prelude.{◌≡◌, ◌++◌, IfOk, OnOk, length};
+ghost use Rattle.mix_script.specs.Answers.{line_of, answer_text, prefix_of, IsNamed};
+
+use crate::Step;
+use mix_tree::{Label, push_label};
+use std::alloc::{AllocError, Global};
+
+/// The answer to a command. A `Fault` has the number of the source that failed.
+#[derive(Drop)]
+pub enum Answer {
+    Node,
+    None,
+    Label(Label),
+    NoNode,
+    Fault(u32),
+}
+
+// Writes the client's name and `: ` where the client has a name.
+fn push_prefix(line: &mut Vec<u8>, client: &Label) -> Result<(), AllocError>
+    ensures { OnOk result (line.new.items ≡ line.old.items ++ prefix_of client.now) }
+{
+    if client.bytes().is_empty() {
+        return Ok(());
+    }
+    line.extend_from_slice(client.bytes())?;
+    line.extend_from_slice(b": ")?;
+    Ok(())
+}
+
+// Writes an answer's text.
+fn push_answer(
+    line: &mut Vec<u8>,
+    answer: &Answer,
+    sources: &[Label],
+) -> Result<(), AllocError>
+    requires { IsNamed (length sources.now) answer.now }
+    ensures { OnOk result (line.new.items ≡ line.old.items ++ answer_text sources.now answer.now) }
+{
+    match answer {
+        Answer::Node => line.extend_from_slice(b"node"),
+        Answer::None => line.extend_from_slice(b"none"),
+        Answer::Label(label) => {
+            line.extend_from_slice(b"label ")?;
+            push_label(line, label)
+        }
+        Answer::NoNode => line.extend_from_slice(b"no node"),
+        Answer::Fault(source) => {
+            line.extend_from_slice(b"fault ")?;
+            line.extend_from_slice(sources[*source as usize].bytes())
+        }
+    }
+}
+
+/// The line that tells a step's answer, with its LF. `sources` has the sources' names by their numbers.
+pub fn write_answer(
+    alloc: Global,
+    step: &Step,
+    answer: &Answer,
+    sources: &[Label],
+) -> Result<Vec<u8>, AllocError>
+    requires { IsNamed (length sources.now) answer.now }
+    ensures { IfOk result (λ line. line.items ≡ line_of sources.now step.now.client answer.now) }
+{
+    let mut line = Vec::new(alloc);
+    push_prefix(&mut line, &step.client)?;
+    push_answer(&mut line, answer, sources)?;
+    line.push(b'\n')?;
+    Ok(line)
+}

@@ -1,0 +1,18 @@
+//! Scripts: their steps, the lines that answer them, what the clients' names hold, and the transcript as a definition.
+#![tactic(auto)]
+
+pub mod lines;
+pub mod words;
+
+mod answer;
+mod names;
+mod script;
+mod step;
+
+pub use answer::{Answer, write_answer};
+pub use names::Names;
+pub use script::{ScriptFault, read_script};
+pub use step::{Act, Step};
+
+#[cfg(test)]
+mod tests;

@@ -1,0 +1,18 @@
+// What a line of a script asks for.
+use mix_tree::Label;
+
+/// One command of a client. The client of a line without a prefix has the empty name.
+#[derive(Drop)]
+pub struct Step {
+    pub client: Label,
+    pub act: Act,
+}
+
+/// A command: `name` is the name that the node found is given, `from` the name of the node to begin at.
+#[derive(Drop)]
+pub enum Act {
+    Root { name: Label },
+    Down { name: Label, from: Label },
+    Right { name: Label, from: Label },
+    Fetch { from: Label },
+}
