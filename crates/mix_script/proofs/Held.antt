@@ -35,7 +35,7 @@ module _ {V : Type 0} where
     where
       at : (c q : List ℕ) → all_held n c q ≡ with_name (all_held m) client name value c q
       at c q = ap (λ o. maybe_held o q) (u.0 c ∙ ap (λ b. cond b (Some own) (get (slice_cmp nat_cmp) m c)) (is_eq-slice_cmp key c ∙ ap (λ k. bytes_eq k c) e))
-        ∙ split (bytes_eq client c) (λ h. (bytes_eq-Decides client c).0 h)
+          ∙ split (bytes_eq client c) (λ h. (bytes_eq-Decides client c).0 h)
         where
           split : (b : Bool) → (b ≡ true → client ≡ c) → maybe_held (cond b (Some own) (get (slice_cmp nat_cmp) m c)) q ≡ cond (b && bytes_eq name q) value (all_held m c q)
           split true same = inner q ∙ ap (λ k. cond (bytes_eq name q) value (all_held m k q)) (same refl)
@@ -49,7 +49,7 @@ module _ {V : Type 0} where
     where
       at : (c q : List ℕ) → all_held n c q ≡ all_held m c q
       at c q = ap (λ o. maybe_held o q) (u.0 c ∙ ap (λ b. cond b (Some own) (get (slice_cmp nat_cmp) m c)) (is_eq-slice_cmp client c))
-        ∙ split (bytes_eq client c) (λ h. (bytes_eq-Decides client c).0 h)
+          ∙ split (bytes_eq client c) (λ h. (bytes_eq-Decides client c).0 h)
         where
           split : (b : Bool) → (b ≡ true → client ≡ c) → maybe_held (cond b (Some own) (get (slice_cmp nat_cmp) m c)) q ≡ all_held m c q
           split true same = inner q ∙ ap (λ k. all_held m k q) (same refl)
@@ -76,7 +76,7 @@ module _ {V : Type 0} where
   held_new m kept n empty own fresh client key name value unknown same nothing d e u w =
       held_after m n own fresh client name value d
       (λ q. own_after empty own key name value e u q
-          ∙ ap (cond (bytes_eq name q) value) (ap (lookup (λ k. is_eq (slice_cmp nat_cmp q k))) nothing ∙ ap (λ o. maybe_held o q) unknown))
+      ∙ ap (cond (bytes_eq name q) value) (ap (lookup (λ k. is_eq (slice_cmp nat_cmp q k))) nothing ∙ ap (λ o. maybe_held o q) unknown))
       (subst (λ (k : BTreeMap (List ℕ) (BTreeMap (List ℕ) V)). Updates (slice_cmp nat_cmp) k n fresh (Some own)) same w)
 
 -- a fact holds behind an error

@@ -40,5 +40,5 @@ word_cut line from at front more whole h k f s m e =
 -- the last word was cut
 pub last_word : (line : List ℕ) (from : ℕ) (front more whole : List (List ℕ)) → Free is_blank (drop from line)
     → more ≡ front ++ unless_empty (slice_range line from (length line)) → front ++ words_of (drop from line) ≡ whole → more ≡ whole
-last_word line from front more whole f m e = 
+last_word line from front more whole f m e =
     m ∙ ap (λ ws. front ++ ws) (ap unless_empty (rest_whole line from) ∙ sym (words_at_end (drop from line) f)) ∙ e

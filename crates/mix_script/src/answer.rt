@@ -6,7 +6,8 @@ use crate::Step;
 use mix_tree::{Label, push_label};
 use std::alloc::{AllocError, Global};
 
-/// The answer to a command. A `Fault` has the number of the source that failed.
+/// The answer to a command: a node was found, or none; a node's label; the name holds no node; or the source of this
+/// number failed.
 #[derive(Drop)]
 pub enum Answer {
     Node,
@@ -29,11 +30,7 @@ fn push_prefix(line: &mut Vec<u8>, client: &Label) -> Result<(), AllocError>
 }
 
 // Writes an answer's text.
-fn push_answer(
-    line: &mut Vec<u8>,
-    answer: &Answer,
-    sources: &[Label],
-) -> Result<(), AllocError>
+fn push_answer(line: &mut Vec<u8>, answer: &Answer, sources: &[Label]) -> Result<(), AllocError>
     requires { IsNamed (length sources.now) answer.now }
     ensures { OnOk result (line.new.items ≡ line.old.items ++ answer_text sources.now answer.now) }
 {

@@ -1,13 +1,12 @@
 //! Scripts: their steps, the lines that answer them, what the clients' names hold, and the transcript as a definition.
 #![tactic(auto)]
 
-pub mod lines;
-pub mod words;
-
 mod answer;
+pub mod lines;
 mod names;
 mod script;
 mod step;
+pub mod words;
 
 pub use answer::{Answer, write_answer};
 pub use names::Names;

@@ -67,6 +67,7 @@ fn read_command(
     Ok(Some(Act::Right { name, from }))
 }
 
+// `X = down Y` and `X = right Y`.
 fn read_move(
     alloc: Global,
     name: &[u8],
@@ -82,6 +83,7 @@ fn read_move(
     Ok(None)
 }
 
+// `X = root`.
 fn read_root(
     alloc: Global,
     name: &[u8],
@@ -98,6 +100,7 @@ fn read_root(
     Ok(None)
 }
 
+// `fetch Y`.
 fn read_fetch(alloc: Global, command: &[u8], from: &[u8]) -> Result<Option<Act>, AllocError>
     ensures { IfOk result (λ act. act ≡ fetch_form command.now from.now) }
 {

@@ -33,10 +33,7 @@ fn the_first_line_of_no_form_is_named(rt: HostRuntime) {
             b"r = root\n\nfetch r\r".as_slice(),
             Err(ScriptFault::Line(3)),
         ),
-        (
-            b"#\nx=right r\nfly\n".as_slice(),
-            Err(ScriptFault::Line(2)),
-        ),
+        (b"#\nx=right r\nfly\n".as_slice(), Err(ScriptFault::Line(2))),
         (b"1 = root".as_slice(), Err(ScriptFault::Line(1))),
         (b"fetch r #".as_slice(), Err(ScriptFault::Line(1))),
         (b"ann: r = root".as_slice(), Err(ScriptFault::Line(1))),
@@ -49,9 +46,15 @@ fn the_first_line_of_no_form_is_named(rt: HostRuntime) {
 #[test]
 fn lines_and_words_are_cut(rt: HostRuntime) -> Result<(), Fail> {
     let lines = cut_lines(rt.alloc(), b"a\r\r\n\n b c\td")?;
-    assert_eq!(rt; lines.as_slice(), [b"a\r".as_slice(), b"".as_slice(), b" b c\td".as_slice()].as_slice());
+    assert_eq!(rt;
+        lines.as_slice(),
+        [b"a\r".as_slice(), b"".as_slice(), b" b c\td".as_slice()].as_slice()
+    );
     let words = cut_words(rt.alloc(), b" b c\td ")?;
-    assert_eq!(rt; words.as_slice(), [b"b".as_slice(), b"c".as_slice(), b"d".as_slice()].as_slice());
+    assert_eq!(rt;
+        words.as_slice(),
+        [b"b".as_slice(), b"c".as_slice(), b"d".as_slice()].as_slice()
+    );
     assert!(rt; is_passed_over(b"\t# x"));
     assert!(rt; !is_passed_over(b"\tx #"));
     assert!(rt; is_script_name(b"a_9"));
@@ -80,12 +83,27 @@ fn told(
 fn answers_are_told(rt: HostRuntime) -> Result<(), Fail> {
     let alloc = rt.alloc();
     let sources = vec![in alloc; label(alloc, "homes")?, label(alloc, "schools")?]?;
-    assert_eq!(rt; told(alloc, "", &Answer::Node, &sources)?.as_slice(), b"node\n".as_slice());
-    assert_eq!(rt; told(alloc, "ann", &Answer::None, &sources)?.as_slice(), b"ann: none\n".as_slice());
-    assert_eq!(rt; told(alloc, "", &Answer::NoNode, &sources)?.as_slice(), b"no node\n".as_slice());
+    assert_eq!(rt;
+        told(alloc, "", &Answer::Node, &sources)?.as_slice(),
+        b"node\n".as_slice()
+    );
+    assert_eq!(rt;
+        told(alloc, "ann", &Answer::None, &sources)?.as_slice(),
+        b"ann: none\n".as_slice()
+    );
+    assert_eq!(rt;
+        told(alloc, "", &Answer::NoNode, &sources)?.as_slice(),
+        b"no node\n".as_slice()
+    );
     let label = Answer::Label(label(alloc, "La Jolla")?);
-    assert_eq!(rt; told(alloc, "", &label, &sources)?.as_slice(), b"label \"La Jolla\"\n".as_slice());
-    assert_eq!(rt; told(alloc, "bob", &Answer::Fault(1), &sources)?.as_slice(), b"bob: fault schools\n".as_slice());
+    assert_eq!(rt;
+        told(alloc, "", &label, &sources)?.as_slice(),
+        b"label \"La Jolla\"\n".as_slice()
+    );
+    assert_eq!(rt;
+        told(alloc, "bob", &Answer::Fault(1), &sources)?.as_slice(),
+        b"bob: fault schools\n".as_slice()
+    );
     Ok(())
 }
 

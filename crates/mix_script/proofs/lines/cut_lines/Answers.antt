@@ -32,6 +32,6 @@ returns c = elim c.if-from-text.branch [
   | then-from-text+in_ok-push-2 w ↦
       let pushed : map (λ (line : Bor (List ℕ)). line.now) w.push-then-from-text.new.self.items ≡ map (λ line. line.now) c.loop-at.lines.items ++ drop c.loop-at.from c.args.text.now ∷ [] = grind (arith, common_steps, map-append) in
       rw w.lines-is (last_line c.args.text.now c.loop-at.from _ _ _ w.if-from-text.true
-          (Free-rest is_lf c.args.text.now c.loop-at.from c.loop-at.at c.loop-at.invariant.inside (omega (arith, c.loop-at-test.false)) c.loop-at.invariant.free) pushed c.loop-at.invariant.cut)
+      (Free-rest is_lf c.args.text.now c.loop-at.from c.loop-at.at c.loop-at.invariant.inside (omega (arith, c.loop-at-test.false)) c.loop-at.invariant.free) pushed c.loop-at.invariant.cut)
   | else-from-text w ↦ rw w.lines-is (no_line_left c.args.text.now c.loop-at.from _ _ (omega (arith, w.if-from-text.false)) c.loop-at.invariant.cut)
 ]
