@@ -1,0 +1,7 @@
+//! Whole runs of the top call over files and a sink in memory, as tests.
+#![tactic(auto)]
+
+#[cfg(test)]
+mod run;
+#[cfg(test)]
+mod walks;

@@ -1,0 +1,42 @@
+// A run of the top call over files and a sink in memory.
+use mix_io::{MemFile, MemFiles, MemSink};
+use mix_top::mixq;
+use std::alloc::{AllocError, Global};
+
+/// What a run left: its status, and the bytes written.
+#[derive(Drop)]
+pub struct Outcome {
+    pub status: u8,
+    pub written: Vec<u8>,
+}
+
+// A file of this text.
+fn file(alloc: Global, path: &str, bytes: Vec<u8>) -> Result<MemFile, AllocError> {
+    Ok(MemFile {
+        path: String::from_str(alloc, path)?,
+        bytes,
+    })
+}
+
+/// Runs words over a document `doc` and a script `s`. The reads and the writes of these numbers, counted from 1, fail.
+pub fn run(
+    alloc: Global,
+    words: &[&str],
+    document: Vec<u8>,
+    script: &str,
+    failing: (&[u64], &[u64]),
+) -> Result<Outcome, AllocError> {
+    let mut owned = Vec::new(alloc);
+    for word in words {
+        owned.push(String::from_str(alloc, word)?)?;
+    }
+    let files = vec![in alloc;
+        file(alloc, "doc", document)?,
+        file(alloc, "s", script.as_bytes().to_vec(alloc)?)?,
+    ]?;
+    let mut files = MemFiles::new(alloc, files, failing.0.to_vec(alloc)?)?;
+    let mut out = MemSink::new(alloc, failing.1.to_vec(alloc)?);
+    let status = mixq(alloc, &owned, &mut files, &mut out);
+    let written = out.bytes().to_vec(alloc)?;
+    Ok(Outcome { status, written })
+}

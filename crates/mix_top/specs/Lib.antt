@@ -1,0 +1,8 @@
+pub mod Causes
+pub mod Commands
+pub mod Course
+pub mod Ends
+pub mod Places
+pub mod Stops
+pub mod Texts
+pub mod Words

@@ -1,0 +1,11 @@
+//! The top call: words in, lines and a status out.
+#![tactic(auto)]
+
+mod answers;
+mod command;
+mod load;
+mod refusal;
+mod top;
+mod walk;
+
+pub use top::mixq;

@@ -1,0 +1,58 @@
+// Files that a command reads whole and accepts, one after another.
+ghost use Rattle.std.specs.Prelude.{◌≡◌, List, ℕ, OnOk, IfOk, IfErr};
+ghost use Rattle.mix_io.specs.Views.{FilesView, KeepsFiles};
+ghost use Rattle.mix_top.specs.Causes.{IsRead};
+ghost use Rattle.mix_top.specs.Course.{IsDocument, IsScript};
+ghost use Rattle.mix_top.specs.Stops.{IsLoadStop};
+
+use crate::refusal::{FileFault, Stop, refused};
+use bracket_text::{BracketFault, read_tree};
+use mix_io::{Files, ReadWhole, read_whole};
+use mix_script::{ScriptFault, Step, read_script};
+use mix_tree::Tree;
+use std::alloc::Global;
+
+// The bytes of a file.
+fn load<F: Files>(alloc: Global, files: &mut F, path: &str) -> Result<Vec<u8>, Stop>
+    ensures keeps { KeepsFiles (F.view files.new) (F.view files.old) }
+    ensures steady { OnOk result ((p : List ℕ) → (F.view files.new).faults p ≡ (F.view files.old).faults p) }
+    ensures ok { IfOk result (λ bytes. IsRead (F.view files.old) path.now bytes.items) }
+    ensures err { IfErr result (IsLoadStop (F.view files.old) (F.view files.new) path.now) }
+{
+    match read_whole(alloc, files, path) {
+        Ok(bytes) => Ok(bytes),
+        Err(ReadWhole::Failed) => Err(refused(alloc, path, FileFault::Unread)),
+        Err(ReadWhole::TooLong) => Err(refused(alloc, path, FileFault::TooLong)),
+        Err(ReadWhole::OutOfMemory) => Err(Stop::OutOfMemory),
+    }
+}
+
+/// The tree that a file spells. An error names the file and why it is refused; only want of memory has no cause.
+pub fn load_tree<F: Files>(alloc: Global, files: &mut F, path: &str) -> Result<Tree, Stop>
+    ensures keeps { KeepsFiles (F.view files.new) (F.view files.old) }
+    ensures steady { OnOk result ((p : List ℕ) → (F.view files.new).faults p ≡ (F.view files.old).faults p) }
+    ensures ok { IfOk result (IsDocument (F.view files.old) path.now) }
+    ensures err { IfErr result (IsLoadStop (F.view files.old) (F.view files.new) path.now) }
+{
+    let bytes = load(alloc, files, path)?;
+    match read_tree(alloc, &bytes) {
+        Ok(tree) => Ok(tree),
+        Err(BracketFault::NotAccepted) => Err(refused(alloc, path, FileFault::NotAccepted)),
+        Err(BracketFault::OutOfMemory) => Err(Stop::OutOfMemory),
+    }
+}
+
+/// The steps of a file that is a script. An error is as with a tree.
+pub fn load_script<F: Files>(alloc: Global, files: &mut F, path: &str) -> Result<Vec<Step>, Stop>
+    ensures keeps { KeepsFiles (F.view files.new) (F.view files.old) }
+    ensures steady { OnOk result ((p : List ℕ) → (F.view files.new).faults p ≡ (F.view files.old).faults p) }
+    ensures ok { IfOk result (λ steps. IsScript (F.view files.old) path.now steps.items) }
+    ensures err { IfErr result (IsLoadStop (F.view files.old) (F.view files.new) path.now) }
+{
+    let bytes = load(alloc, files, path)?;
+    match read_script(alloc, &bytes) {
+        Ok(steps) => Ok(steps),
+        Err(ScriptFault::Line(line)) => Err(refused(alloc, path, FileFault::NoForm(line))),
+        Err(ScriptFault::OutOfMemory) => Err(Stop::OutOfMemory),
+    }
+}

@@ -1,0 +1,96 @@
+// Why a run stops before all was done, and what is said of it.
+ghost use Rattle.std.specs.Prelude.{◌≡◌, IfOk, string_bytes};
+ghost use Rattle.mix_top.specs.Causes.{status_of, refusal_line};
+ghost use Rattle.mix_top.specs.Stops.{IsStopFor};
+ghost use Rattle.mix_top.specs.declared.refusal.Stop.TheVariants.{OutOfMemory};
+
+use mix_io::SinkFault;
+use std::alloc::{AllocError, Global};
+
+/// Why a file is refused.
+#[derive(Clone, Copy, Debug, PartialEq, Eq)]
+pub enum FileFault {
+    /// It can't be read.
+    Unread,
+    /// It is longer than a file that is read whole may be.
+    TooLong,
+    /// It is no document.
+    NotAccepted,
+    /// It is no script: the line of this number, counted from 1, fits no form.
+    NoForm(usize),
+}
+
+/// A refusal: the status of the run, and the line that says why.
+#[derive(Drop)]
+pub struct Refusal {
+    pub status: u8,
+    pub line: String,
+}
+
+/// Why a run stops.
+#[derive(Drop)]
+pub enum Stop {
+    /// A file is refused, and its line is still to be written.
+    Refused(Refusal),
+    /// The sink failed.
+    SinkFailed,
+    /// Memory ran out.
+    OutOfMemory,
+}
+
+impl From<AllocError> for Stop {
+    ghost from_gives = { λ _ e. e ≡ OutOfMemory };
+
+    fn from(_: AllocError) -> Self {
+        Stop::OutOfMemory
+    }
+}
+
+impl From<SinkFault> for Stop {
+    ghost use Rattle.mix_top.specs.Stops.{stop_of};
+
+    ghost from_gives = { λ fault e. e ≡ stop_of fault };
+
+    fn from(fault: SinkFault) -> Self {
+        match fault {
+            SinkFault::Failed => Stop::SinkFailed,
+            SinkFault::OutOfMemory => Stop::OutOfMemory,
+        }
+    }
+}
+
+// What is said of a file.
+fn line_of(alloc: Global, path: &str, fault: FileFault) -> Result<String, AllocError>
+    ensures { IfOk result (λ line. string_bytes line ≡ refusal_line path.now fault) }
+{
+    match fault {
+        FileFault::Unread => format!(in alloc; "{path}: cannot be read\n"),
+        FileFault::TooLong => format!(in alloc; "{path}: longer than 67108864 bytes\n"),
+        FileFault::NotAccepted => format!(in alloc; "{path}: not accepted\n"),
+        FileFault::NoForm(line) => format!(in alloc; "{path}: no form fits line {line}\n"),
+    }
+}
+
+// The status that tells a fault.
+fn status_for(fault: FileFault) -> u8
+    ensures { result ≡ status_of fault }
+{
+    match fault {
+        FileFault::Unread => 4,
+        FileFault::TooLong => 7,
+        FileFault::NotAccepted | FileFault::NoForm(_) => 3,
+    }
+}
+
+/// The stop of a run by a file that is refused for this fault.
+pub fn refused(alloc: Global, path: &str, fault: FileFault) -> Stop
+    ensures { IsStopFor path.now fault result }
+{
+    match line_of(alloc, path, fault) {
+        Ok(line) => Stop::Refused(Refusal {
+            status: status_for(fault),
+            line,
+        }),
+        Err(_) => Stop::OutOfMemory,
+    }
+}

@@ -1,0 +1,30 @@
+//! The program `mixq`: the top call over the files of the system and standard output.
+#![tactic(auto)]
+
+use mix_io::{OsFiles, StdSink};
+use mix_top::mixq;
+use std::process::ExitCode;
+use std::{env, io};
+
+// The words behind the program's name.
+fn words(rt: &HostRuntime) -> io::Result<Vec<String>> {
+    let mut words = Vec::new(rt.alloc());
+    for word in env::args(rt)?.skip(1) {
+        words.push(word)?;
+    }
+    Ok(words)
+}
+
+// Where memory runs out before the top call, the status is 6. A word that is no text makes the words a form of none, as no
+// words at all do.
+fn main(rt: HostRuntime) -> ExitCode {
+    let words = match words(&rt) {
+        Ok(words) => words,
+        Err(error) if error.kind() == io::ErrorKind::OutOfMemory => return ExitCode::from(6),
+        Err(_) => Vec::new(rt.alloc()),
+    };
+    let alloc = rt.alloc();
+    let mut files = OsFiles::new(rt);
+    let mut out = StdSink::new(rt);
+    ExitCode::from(mixq(alloc, &words, &mut files, &mut out))
+}
