@@ -1,5 +1,5 @@
 -- The lines that are written and those to come.
-use Rattle.std.proofs.Common.{◌≡◌, ◌<◌, ◌≤◌, ◌+◌, ◌∙◌, ℕ, List, [], ◌∷◌, ◌++◌, Option, Some, None, Result, Ok, Err, refl, sym, ap, subst, length, take, drop, get_or, append_assoc}
+use Rattle.std.proofs.Common.{◌≡◌, ◌<◌, ◌≤◌, ◌+◌, ◌∙◌, ℕ, List, [], ◌∷◌, ◌++◌, Option, Some, None, Result, Err, refl, sym, ap, subst, length, take, drop, get_or, append_assoc}
 use Rattle.std.proofs.lemmas.List.{drop_more}
 use Rattle.mix_base.specs.Counts.{HasRisen}
 use Rattle.mix_base.proofs.Risen.{risen_before}
@@ -29,8 +29,7 @@ pub front_more : (before now after : Option (List ℕ)) (done line rest : List �
 front_more None now after done line rest h k = subst (λ (o : Option (List ℕ)). AppendsFront o after line) h k
 front_more (Some b) now after done line rest h k =
     let cut : (n : ℕ) × (after ≡ Some ((b ++ done) ++ take n line)) = subst (λ (o : Option (List ℕ)). AppendsFront o after line) h k in
-    let front = take_front cut.0 line rest in
-    (
+    let front = take_front cut.0 line rest in (
       length done + front.0,
       cut.1 ∙ ap Some (append_assoc b done (take cut.0 line) ∙ ap (λ r. b ++ r) (ap (λ r. done ++ r) front.1 ∙ sym (take_append done (line ++ rest) front.0))),
     )
@@ -85,14 +84,13 @@ pub line_done : (before now after : Option (List ℕ)) (done whole line : List �
     → i < length steps → step ≡ get_or steps i step → line ≡ line_of [] step.client (answered t names None step).0 → later ≡ (answered t names None step).1
     → Appends before now done → done ++ lines_from t [] names [] (drop i steps) ≡ whole → Appends now after line
     → (more : List ℕ) × Appends before after more × (more ++ lines_from t [] later [] (drop (i + 1) steps) ≡ whole)
-line_done before now after done whole line t names later steps i step h is l n a e k =
-    (
-      done ++ line,
-      one_more before now after done line a k,
-      append_assoc done line (lines_from t [] later [] (drop (i + 1) steps))
-          ∙ ap (λ r. done ++ r) (ap (λ r. r ++ lines_from t [] later [] (drop (i + 1) steps)) l ∙ ap (λ (m : Names). line_of [] step.client (answered t names None step).0 ++ lines_from t [] m [] (drop (i + 1) steps)) n ∙ sym (lines_at t names steps i step h is))
-          ∙ e,
-    )
+line_done before now after done whole line t names later steps i step h is l n a e k = (
+  done ++ line,
+  one_more before now after done line a k,
+  append_assoc done line (lines_from t [] later [] (drop (i + 1) steps))
+      ∙ ap (λ r. done ++ r) (ap (λ r. r ++ lines_from t [] later [] (drop (i + 1) steps)) l ∙ ap (λ (m : Names). line_of [] step.client (answered t names None step).0 ++ lines_from t [] m [] (drop (i + 1) steps)) n ∙ sym (lines_at t names steps i step h is))
+      ∙ e,
+)
 
 -- a line is cut short, and so are all lines
 pub line_cut : (before now after : Option (List ℕ)) (done whole line : List ℕ) (t : LabelledTree) (names : Names) (steps : List Step) (i : ℕ) (step : Step)

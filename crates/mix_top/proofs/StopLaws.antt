@@ -1,5 +1,5 @@
 -- How the stop of one call is that of the call around it.
-use Rattle.std.proofs.Common.{◌≡◌, ◌≤◌, ◌<◌, ◌⊎◌, inl, inr, ◌∙◌, ℕ, List, [], Option, IfSome, refl, sym, ap, subst, length, string_bytes}
+use Rattle.std.proofs.Common.{◌≡◌, ◌≤◌, ◌<◌, inl, inr, ◌∙◌, ℕ, List, [], Option, IfSome, refl, sym, subst, length, string_bytes}
 use Rattle.mix_base.specs.Counts.{HasRisen}
 use Rattle.mix_io.specs.Views.{FilesView, SinkView, KeepsFiles}
 use Rattle.mix_io.specs.Contents.{Appends, AppendsFront}
@@ -7,7 +7,7 @@ use Rattle.mix_top.specs.declared.refusal.FileFault.{FileFault}
 use Rattle.mix_top.specs.declared.refusal.FileFault.TheVariants.{Unread, TooLong, NotAccepted, NoForm}
 use Rattle.mix_top.specs.declared.refusal.Stop.{Stop}
 use Rattle.mix_top.specs.declared.refusal.Stop.TheVariants.{Refused, SinkFailed, OutOfMemory}
-use Rattle.mix_top.specs.Causes.{IsRead, IsTooLong, IsCause}
+use Rattle.mix_top.specs.Causes.{IsRead, IsCause}
 use Rattle.mix_base.proofs.Risen.{risen_before}
 use Rattle.mix_tree.specs.Forest.{LabelledTree}
 use Rattle.mix_script.specs.declared.step.Step.{Step}
@@ -88,7 +88,7 @@ pub refused_ends : (Course : ℕ → List ℕ → Type 0) (before mid after : Si
     → mid.written ≡ before.written → before.faults ≤ mid.faults → Ends (λ s l. (s ≡ status) × (l ≡ line)) mid after result → Ends Course before after result
 refused_ends Course before mid after status line result course same count ends =
     elim ends [
-      inl whole ↦ inl (record {
+      | inl whole ↦ inl (record {
         lines = whole.lines;
         course = subst (λ s. Course s whole.lines) (sym whole.course.0) (subst (Course status) (sym whole.course.1) course);
         written = subst (λ (o : Option (List ℕ)). Appends o after.written whole.lines) same whole.written;

@@ -104,7 +104,13 @@ pub fn answer(
 {
     let client = &step.client;
     match &step.act {
-        Act::Root { name } => go(alloc, names, client, name, Some(Place::new(Vec::new(alloc)))),
+        Act::Root { name } => go(
+            alloc,
+            names,
+            client,
+            name,
+            Some(Place::new(Vec::new(alloc))),
+        ),
         Act::Down { name, from } => {
             let Some(place) = names.get(client, from) else {
                 return Ok(Answer::NoNode);

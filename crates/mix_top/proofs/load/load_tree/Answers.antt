@@ -1,5 +1,5 @@
-use Rattle.std.proofs.Common.{◌≡◌, ◌≤◌, List, ℕ, Err, ap, subst}
-use Rattle.bracket_text.specs.Grammar.{Spells, levels}
+use Rattle.std.proofs.Common.{List, ℕ, Err, ap, subst}
+use Rattle.bracket_text.specs.Grammar.{Spells}
 use Rattle.mix_top.specs.Causes.{IsNoTree}
 use Rattle.mix_top.specs.declared.refusal.FileFault.TheVariants.{NotAccepted}
 use Rattle.mix_top.proofs.StopLaws.{load_stop}

@@ -1,4 +1,4 @@
-use Rattle.std.proofs.Common.{◌≡◌, ℕ, List, OnOk, IfErr, refl, subst}
+use Rattle.std.proofs.Common.{ℕ, List, OnOk, IfErr, refl, subst}
 use Rattle.std.proofs.lemmas.Result.{IfErr-weaker}
 use Rattle.mix_top.specs.Commands.{Command, help, version}
 use Rattle.mix_top.specs.Course.{IsCourse}

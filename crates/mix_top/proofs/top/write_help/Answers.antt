@@ -2,7 +2,6 @@ use Rattle.std.proofs.Common.{◌≡◌, ◌≤◌, ◌∙◌, ℕ, List, ◌++�
 use Rattle.std.proofs.lemmas.Result.{on_ok_weaker, IfErr-weaker, err_from_is_err_and}
 use Rattle.mix_io.specs.Contents.{Appends}
 use Rattle.mix_top.specs.Texts.{walk_help, help_help, version_help, help_text}
-use Rattle.mix_top.specs.declared.refusal.Stop.{Stop}
 use Rattle.mix_top.specs.Stops.{IsCut}
 use Rattle.mix_top.proofs.Lines.{one_more, cut_first, cut_later, cut_last}
 use Rattle.mix_top.proofs.top.write_help.Goals as goal

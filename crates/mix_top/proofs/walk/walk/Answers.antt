@@ -1,4 +1,4 @@
-use Rattle.std.proofs.Common.{rules, ◌≡◌, ◌≤◌, ℕ, List, [], IfErr, OnOk, subst}
+use Rattle.std.proofs.Common.{ℕ, List, [], IfErr, OnOk, subst}
 use Rattle.std.proofs.lemmas.Result.{on_ok_weaker, IfErr-weaker, err_from_is_err_and}
 use Rattle.mix_io.specs.Contents.{Appends}
 use Rattle.mix_script.specs.declared.step.Step.{Step}

@@ -1,9 +1,7 @@
-use Rattle.std.proofs.Common.{rules, ◌≡◌, ◌≤◌, ◌∙◌, ℕ, List, [], arith, IfErr}
+use Rattle.std.proofs.Common.{◌∙◌, arith}
 use Rattle.std.proofs.lemmas.Result.{err_from_is_err_and}
 use Rattle.mix_base.proofs.Risen.{risen_before}
 use Rattle.mix_script.specs.Names.{held}
-use Rattle.mix_script.specs.Transcript.{transcript}
-use Rattle.mix_top.specs.Stops.{IsCut}
 use Rattle.mix_top.proofs.Lines.{line_done, line_cut, lines_left, cut_by}
 use Rattle.mix_top.proofs.walk.write_answers.Goals as goal
 
