@@ -1,2 +1,5 @@
+pub mod Choices
 pub mod Lists
 pub mod Risen
+pub mod Slices
+pub mod Utf8

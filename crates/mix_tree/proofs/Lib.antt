@@ -1,2 +1,9 @@
 pub mod Kids
+pub mod LabelAnswers
+pub mod LabelCanonical
+pub mod LabelComplete
+pub mod LabelSeen
+pub mod LabelSound
+pub mod LabelTaken
 pub mod Places
+pub mod TableLaws

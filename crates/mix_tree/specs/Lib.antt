@@ -1,6 +1,10 @@
 pub mod Codes
 pub mod Forest
+pub mod LabelGrammar
+pub mod LabelMachine
+pub mod LabelReads
 pub mod LabelText
 pub mod Place
 pub mod Spelling
+pub mod Tables
 pub mod Weight

@@ -2,32 +2,11 @@
 ghost use Rattle.std.specs.Prelude.{◌≡◌, ◌++◌, OnOk, IfOk};
 ghost use Rattle.std.specs.List.{list_all};
 ghost use Rattle.mix_tree.specs.Spelling.{is_bare, is_bare_label, escaped, quoted, spelling};
+ghost use Rattle.mix_tree.specs.LabelGrammar.{SpellsLabel};
 
 use crate::Label;
+use crate::bare_table::is_bare_byte;
 use std::alloc::{AllocError, Global};
-
-// Whether a byte belongs to a bare character.
-fn is_bare_byte(byte: u8) -> bool
-    ensures { result ≡ is_bare byte }
-{
-    matches!(
-        byte,
-        b'a'..=b'z'
-            | b'A'..=b'Z'
-            | b'0'..=b'9'
-            | b'_'
-            | b'-'
-            | b'.'
-            | b':'
-            | b'/'
-            | b'@'
-            | b'#'
-            | b'+'
-            | b'$'
-            | b'%'
-            | 128..=255
-    )
-}
 
 // Whether all bytes of a text belong to bare characters.
 fn are_bare(text: &[u8]) -> bool
@@ -83,7 +62,8 @@ pub fn push_label(out: &mut Vec<u8>, label: &Label) -> Result<(), AllocError>
 /// The canonical spelling of a label: bare where it is a bare label, else between quotes with the four escapes
 /// (docs/FORMATS.md, "Labels").
 pub fn write_label(alloc: Global, label: &Label) -> Result<Vec<u8>, AllocError>
-    ensures { IfOk result (λ text. text.items ≡ spelling label.now) }
+    ensures canonical { IfOk result (λ text. text.items ≡ spelling label.now) }
+    ensures spells { IfOk result (λ text. SpellsLabel text.items label.now) }
 {
     let mut text = Vec::new(alloc);
     push_label(&mut text, label)?;

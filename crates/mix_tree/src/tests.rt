@@ -1,5 +1,7 @@
 // What the contracts leave to tests: that calls succeed, and values worked out by hand.
-use crate::{Label, Place, Tree, push_quoted, same_label, write_label};
+use crate::{
+    Label, LabelRead, Place, Tree, begins_label, push_quoted, read_label, same_label, write_label,
+};
 use std::alloc::{AllocError, Global};
 use std::test::Fail;
 
@@ -49,6 +51,63 @@ fn labels_are_spelled_bare_or_quoted(rt: HostRuntime) -> Result<(), Fail> {
     let mut out = Vec::new(alloc);
     push_quoted(&mut out, &label(alloc, "home")?)?;
     assert_eq!(rt; out.as_slice(), b"\"home\"".as_slice());
+    Ok(())
+}
+
+// The label that is spelled at a place of a text, and the place behind it.
+fn spelled(alloc: Global, text: &str, from: usize) -> Result<(Label, usize), Fail> {
+    match read_label(alloc, text.as_bytes(), from)? {
+        LabelRead::Got { label, end } => Ok((label, end)),
+        LabelRead::Unexpected(_) | LabelRead::Ends => Err("no label".into()),
+    }
+}
+
+#[test]
+fn labels_are_read_as_they_are_spelled(rt: HostRuntime) -> Result<(), Fail> {
+    let alloc = rt.alloc();
+    let rows = [
+        ("home", 0, "home", 4),
+        ("a[b]", 2, "b", 3),
+        ("été,", 0, "été", 5),
+        ("\"\"a", 0, "", 2),
+        ("\"La Jolla\"", 0, "La Jolla", 10),
+        ("\"é\\\"\\\\\\n\\té\" ", 0, "é\"\\\n\té", 14),
+    ];
+    for (text, from, label, end) in rows {
+        let read = spelled(alloc, text, from)?;
+        assert_eq!(rt; read.0.bytes(), label.as_bytes());
+        assert_eq!(rt; read.1, end);
+    }
+    assert!(rt; begins_label(b'a') && begins_label(b'"') && !begins_label(b'['));
+    Ok(())
+}
+
+// Where no label is spelled: the byte that does not fit, or none where the text ends.
+fn stop(alloc: Global, text: &str, from: usize) -> Result<Option<usize>, Fail> {
+    match read_label(alloc, text.as_bytes(), from)? {
+        LabelRead::Got { .. } => Err("a label".into()),
+        LabelRead::Unexpected(at) => Ok(Some(at)),
+        LabelRead::Ends => Ok(None),
+    }
+}
+
+#[test]
+fn other_texts_stop_where_no_label_goes_on(rt: HostRuntime) -> Result<(), Fail> {
+    let alloc = rt.alloc();
+    let rows = [
+        ("", 0, None),
+        ("a", 1, None),
+        ("\"a", 0, None),
+        ("\"a\\", 0, None),
+        (" a", 0, Some(0)),
+        ("a[b]", 1, Some(1)),
+        ("\"é\\é\"", 0, Some(4)),
+        ("\"\\n\\x\"", 0, Some(4)),
+        ("é", 1, Some(1)),
+    ];
+    for (text, from, at) in rows {
+        assert_eq!(rt; stop(alloc, text, from)?, at);
+    }
     Ok(())
 }
 

@@ -1,0 +1,79 @@
+-- What is seen of a text, from where it was seen.
+use Rattle.std.proofs.Common.{◌≡◌, ◌+◌, ◌∙◌, ℕ, List, [], ◌∷◌, ◌++◌, Option, Some, None, refl, ap, arith, length}
+use Rattle.mix_tree.specs.LabelMachine.{Spot, step, run, label_in, Seen, got, unexpected, ends, seen_at, seen_at_end, or_stop, seen_from}
+use Rattle.mix_tree.proofs.LabelComplete.{run_byte}
+
+-- a spelling does not go on from the spot with the text
+abbrev pub Stops : Spot → List ℕ → Type 0
+Stops t [] = Unit {0}
+Stops t (b ∷ y) = step t b ≡ None
+
+-- a label, and the text behind it, with which it does not go on
+pub record SawLabel (s : Spot) (i : ℕ) (x : List ℕ) (l : List ℕ) (j : ℕ) (y : List ℕ) : Type 0 where
+  pub spelled : List ℕ
+  pub spot : Spot
+  pub parts : x ≡ spelled ++ y
+  pub runs : run s spelled ≡ Some spot
+  pub label : label_in spot ≡ Some l
+  pub place : j ≡ i + length spelled
+  pub stops : Stops spot y
+
+-- a byte that does not fit
+pub record SawStop (s : Spot) (i : ℕ) (x : List ℕ) (j : ℕ) : Type 0 where
+  pub front : List ℕ
+  pub byte : ℕ
+  pub rest : List ℕ
+  pub spot : Spot
+  pub parts : x ≡ front ++ byte ∷ rest
+  pub runs : run s front ≡ Some spot
+  pub label : label_in spot ≡ None
+  pub place : j ≡ i + length front
+  pub stops : step spot byte ≡ None
+
+-- the end in a spelling
+abbrev pub SawEnd : Spot → List ℕ → Type 0
+SawEnd s x = (t : Spot) × (run s x ≡ Some t) × (label_in t ≡ None)
+
+-- what was seen
+abbrev pub Saw : Spot → ℕ → List ℕ → Seen → Type 0
+Saw s i x (got l j y) = SawLabel s i x l j y
+Saw s i x (unexpected j) = SawStop s i x j
+Saw s i x ends = SawEnd s x
+
+at_end : (s : Spot) (i : ℕ) (o : Option (List ℕ)) → label_in s ≡ o → Saw s i [] (seen_at_end i o)
+at_end s i None e = (s, refl, e)
+at_end s i (Some l) e = record { spelled = []; spot = s; parts = refl; runs = refl; label = e; place = omega arith; stops = tt }
+
+saw_more : (s t : Spot) (i b : ℕ) (x : List ℕ) (z : Seen) → step s b ≡ Some t → Saw t (i + 1) x z → Saw s i (b ∷ x) z
+saw_more s t i b x (got l j y) e h = record {
+  spelled = b ∷ h.spelled;
+  spot = h.spot;
+  parts = ap (λ r. b ∷ r) h.parts;
+  runs = run_byte b h.spelled s t e ∙ h.runs;
+  label = h.label;
+  place = omega (arith, h.place);
+  stops = h.stops;
+}
+saw_more s t i b x (unexpected j) e h = record {
+  front = b ∷ h.front;
+  byte = h.byte;
+  rest = h.rest;
+  spot = h.spot;
+  parts = ap (λ r. b ∷ r) h.parts;
+  runs = run_byte b h.front s t e ∙ h.runs;
+  label = h.label;
+  place = omega (arith, h.place);
+  stops = h.stops;
+}
+saw_more s t i b x ends e (u, r, l) = (u, run_byte b x s t e ∙ r, l)
+
+at_byte : (s : Spot) (i b : ℕ) (x : List ℕ) (o : Option Spot) (p : Option (List ℕ)) → step s b ≡ o → label_in s ≡ p → ((t : Spot) → Saw t (i + 1) x (seen_from t (i + 1) x))
+    → Saw s i (b ∷ x) (or_stop (λ t. seen_from t (i + 1) x) (seen_at i (b ∷ x) p) o)
+at_byte s i b x None None e f h = record { front = []; byte = b; rest = x; spot = s; parts = refl; runs = refl; label = f; place = omega arith; stops = e }
+at_byte s i b x None (Some l) e f h = record { spelled = []; spot = s; parts = refl; runs = refl; label = f; place = omega arith; stops = e }
+at_byte s i b x (Some t) p e f h = saw_more s t i b x (seen_from t (i + 1) x) e (h t)
+
+-- what is seen was seen
+pub saw : (x : List ℕ) (s : Spot) (i : ℕ) → Saw s i x (seen_from s i x)
+saw [] s i = at_end s i (label_in s) refl
+saw (b ∷ x) s i = at_byte s i b x (step s b) (label_in s) refl refl (λ t. saw x t (i + 1))
