@@ -1,8 +1,8 @@
-mod BareBytes
-mod BareLabels
-mod Complete
-mod GivenTrees
-mod LabelsTaken
-mod Runs
-mod Sound
-mod Tabulated
+pub mod Complete
+pub mod Fronts
+pub mod Levels
+pub mod Runs
+pub mod Sound
+pub mod Taken
+pub mod Verdicts
+pub mod Written

@@ -1,27 +1,16 @@
 -- Bracket text: which text spells which tree.
-use Rattle.std.specs.Prelude.{◌≡◌, ◌⊎◌, ℕ, ◌+◌, ◌<◌, max, Bool, ◌||◌, ◌&&◌, ◌==◌, nat_le, IsTrue, List, [], ◌∷◌, ◌++◌, length}
+use Rattle.std.specs.Prelude.{◌≡◌, ◌⊎◌, ℕ, ◌+◌, ◌≤◌, max, Bool, ◌||◌, ◌==◌, IsTrue, List, [], ◌∷◌, ◌++◌}
 use Rattle.std.specs.List.{list_all}
 use Rattle.mix_tree.specs.Forest.{Forest, none, tree, LabelledTree, alone}
+use Rattle.mix_tree.specs.LabelGrammar.{SpellsLabel}
 
 -- a space, a tab, LF or CR
 abbrev pub is_blank : ℕ → Bool
 is_blank b = b == 32 || b == 9 || b == 10 || b == 13
 
--- a byte of a range, both ends included
-abbrev pub is_between : ℕ → ℕ → ℕ → Bool
-is_between low high b = nat_le low b && nat_le b high
-
--- an ASCII letter, a digit, or one of _ - . : / @ # + $ %
-abbrev pub is_bare : ℕ → Bool
-is_bare b = is_between 97 122 b || is_between 65 90 b || is_between 48 57 b || b == 95 || b == 45 || b == 46 || b == 58 || b == 47 || b == 64 || b == 35 || b == 43 || b == 36 || b == 37
-
 -- none or more blanks
 abbrev pub IsBlanks : List ℕ → Type 0
 IsBlanks x = IsTrue (list_all is_blank x)
-
--- one or more bare characters
-abbrev pub IsBareLabel : List ℕ → Type 0
-IsBareLabel x = IsTrue (list_all is_bare x) × (0 < length x)
 
 -- what stands behind the label of a tree with these children: nothing or empty brackets where it has none, else brackets round their text
 abbrev pub SpellsBrackets : Forest → (List ℕ → Type 0) → List ℕ → Type 0
@@ -39,8 +28,8 @@ SpellsRest (tree label kids rest) SpellsOthers x =
 abbrev pub SpellsTrees : Forest → List ℕ → Type 0
 SpellsTrees none x = ⊥
 SpellsTrees (tree label kids rest) x =
-    (brackets others : List ℕ) × IsBareLabel label × SpellsBrackets kids (SpellsTrees kids) brackets × SpellsRest rest (SpellsTrees rest) others
-    × (x ≡ label ++ brackets ++ others)
+    (spelled brackets others : List ℕ) × SpellsLabel spelled label × SpellsBrackets kids (SpellsTrees kids) brackets × SpellsRest rest (SpellsTrees rest) others
+    × (x ≡ spelled ++ brackets ++ others)
 
 -- the text x spells the tree t, with blanks round it
 abbrev pub Spells : List ℕ → LabelledTree → Type 0
@@ -58,3 +47,7 @@ levels_of (tree label kids rest) = max (1 + levels_of kids) (levels_of rest)
 -- how many levels a tree has; a leaf has one
 abbrev pub levels : LabelledTree → ℕ
 levels t = 1 + levels_of t.kids
+
+-- the text x spells the tree t, which has at most 200 levels
+abbrev pub SpellsShallow : List ℕ → LabelledTree → Type 0
+SpellsShallow x t = Spells x t × (levels t ≤ 200)

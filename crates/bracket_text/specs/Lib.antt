@@ -1,5 +1,5 @@
+pub mod Canonical
 pub mod Grammar
 pub mod Machine
 pub mod ReaderState
 pub mod Results
-pub mod Tabulate

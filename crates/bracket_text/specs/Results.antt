@@ -1,25 +1,43 @@
--- What a result says of the tree that was to be read.
-use Rattle.std.specs.Prelude.{◌≡◌, Option, Some, None, Result, Ok, Err}
+-- What reading a tree answers.
+use Rattle.std.specs.Prelude.{◌≡◌, ℕ, ◌+◌, ◌<◌, ◌≤◌, List, length, take, Result, Ok, Err}
+use Rattle.std.specs.Str.{IsUtf8}
+use Rattle.std.specs.Str.Lossy.{utf8_valid_len}
+use Rattle.mix_base.specs.Reading.{IsFront, IsUnexpected, IsCut}
 use Rattle.mix_tree.specs.Forest.{LabelledTree}
+use Rattle.bracket_text.specs.Grammar.{Spells, SpellsShallow, levels}
 use Rattle.bracket_text.specs.declared.fault.BracketFault.{BracketFault}
-use Rattle.bracket_text.specs.declared.fault.BracketFault.TheVariants.{NotAccepted, OutOfMemory}
+use Rattle.bracket_text.specs.declared.fault.BracketFault.TheVariants.{NotUtf8, Unexpected, TooDeep, Ends, OutOfMemory}
+
+-- the first byte behind which each tree has more than 200 levels, though trees still go on: the label of the first one at level 201
+-- begins there
+pub record IsTooDeep (x : List ℕ) (at : ℕ) : Type 0 where
+  pub inside : at < length x
+  pub front : IsFront SpellsShallow (take at x)
+  pub goes_on : IsFront Spells (take (at + 1) x)
+  pub deep : IsFront SpellsShallow (take (at + 1) x) → ⊥
+
+-- the fault is that of the text
+abbrev pub Refuses : List ℕ → BracketFault → Type 0
+Refuses x (NotUtf8 at) = (¬ IsUtf8 x) × (at ≡ utf8_valid_len x)
+Refuses x (Unexpected at) = IsUtf8 x × IsFront SpellsShallow (take at x) × IsUnexpected Spells x at
+Refuses x (TooDeep at) = IsUtf8 x × IsTooDeep x at
+Refuses x Ends = IsUtf8 x × IsFront SpellsShallow x × IsCut Spells x
+Refuses x OutOfMemory = Unit {0}
+
+-- the tree that the text spells, or why there is none
+abbrev pub Answers : List ℕ → Result LabelledTree BracketFault → Type 0
+Answers x (Ok t) = IsUtf8 x × SpellsShallow x t
+Answers x (Err e) = Refuses x e
 
 -- memory ran out
 abbrev pub IsWantOfMemory : BracketFault → Type 0
-IsWantOfMemory NotAccepted = ⊥
+IsWantOfMemory (NotUtf8 at) = ⊥
+IsWantOfMemory (Unexpected at) = ⊥
+IsWantOfMemory (TooDeep at) = ⊥
+IsWantOfMemory Ends = ⊥
 IsWantOfMemory OutOfMemory = Unit {0}
 
 -- the result is this tree, unless memory ran out
 abbrev pub IsTree : Result LabelledTree BracketFault → LabelledTree → Type 0
 IsTree (Ok u) t = u ≡ t
 IsTree (Err e) t = IsWantOfMemory e
-
--- nothing was given, unless memory ran out
-abbrev pub GivesNone : {X : Type 0} → BracketFault → Option X → Type 0
-GivesNone NotAccepted given = given ≡ None
-GivesNone OutOfMemory given = Unit {0}
-
--- the result is the tree that was given, unless memory ran out
-abbrev pub GivesTree : Result LabelledTree BracketFault → Option LabelledTree → Type 0
-GivesTree (Ok t) given = given ≡ Some t
-GivesTree (Err e) given = GivesNone e given

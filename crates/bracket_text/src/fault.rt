@@ -4,11 +4,17 @@ ghost use Rattle.bracket_text.specs.declared.fault.BracketFault.TheVariants.{Out
 
 use std::alloc::{AllocError, AllocFailed};
 
-/// Why bracket text is not read.
+/// Why bracket text is not read. Places count bytes from the front of the text.
 #[derive(Clone, Copy, Debug, PartialEq, Eq)]
 pub enum BracketFault {
-    /// The text spells no tree of at most 200 levels.
-    NotAccepted,
+    /// The text is not UTF-8 from the place on.
+    NotUtf8(usize),
+    /// No tree goes on with the byte at the place.
+    Unexpected(usize),
+    /// The label of a tree at level 201 begins at the place. The root is level 1.
+    TooDeep(usize),
+    /// The text ends in a tree.
+    Ends,
     /// Memory ran out.
     OutOfMemory,
 }

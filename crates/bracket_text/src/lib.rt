@@ -1,15 +1,16 @@
 //! Bracket text: trees whose children stand in brackets behind their label, with commas between them.
 #![tactic(auto)]
 
-mod bare_table;
 mod fault;
 mod law;
 mod reader;
 mod reading;
+mod writing;
 
 pub use fault::BracketFault;
 pub use law::no_text_spells_two;
 pub use reading::read_tree;
+pub use writing::{push_tree, write_tree};
 
 #[cfg(test)]
 mod tests;

@@ -1,15 +1,13 @@
 // A reader of bracket text: the brackets that are open, and the tree at hand.
-ghost use Rattle.std.specs.Prelude.{◌≡◌, ◌<◌, ◌≤◌, [], ◌∷◌, ◌++◌, OnOk, IsErrOf, length, drop, slice_range, slice_index, ◌↔◌, false, IsTrue};
-ghost use Rattle.std.specs.List.{list_all};
-ghost use Rattle.bracket_text.specs.Grammar.{is_blank, is_bare};
-ghost use Rattle.bracket_text.specs.Machine.{close_empty, after_tree, after_label, step, whole};
-ghost use Rattle.bracket_text.specs.ReaderState.{Gives, Goes, MayBegin, EndsBare, open_of, state_of};
-ghost use Rattle.bracket_text.specs.Results.{GivesTree};
+ghost use Rattle.std.specs.Prelude.{◌≡◌, ◌<◌, ◌≤◌, [], ◌∷◌, ◌++◌, OnOk, OnErr, IsErrOf, length, drop, slice_index, ◌↔◌, false, IsTrue};
+ghost use Rattle.std.specs.Str.{IsUtf8, IsCharBoundary};
+ghost use Rattle.bracket_text.specs.Grammar.{is_blank};
+ghost use Rattle.bracket_text.specs.Machine.{begins, close_empty, after_tree, after_label, step, whole, at_end};
+ghost use Rattle.bracket_text.specs.ReaderState.{Gives, GivesVerdict, Goes, MayBegin, open_of, state_of};
 
 use crate::BracketFault;
-use crate::bare_table::is_bare_byte;
-use mix_tree::{Label, Tree};
-use std::alloc::Global;
+use mix_tree::{Label, LabelRead, Tree, begins_label, read_label};
+use std::alloc::{AllocError, Global};
 use std::mem;
 
 /// The most levels that a tree may have.
@@ -49,25 +47,9 @@ fn is_blank_byte(byte: u8) -> bool
     matches!(byte, b' ' | b'\t' | b'\n' | b'\r')
 }
 
-/// Where the bare characters end that begin at a place.
-pub fn bare_end(text: &[u8], from: usize) -> usize
-    requires { from ≤ length text.now }
-    ensures order { from ≤ result }
-    ensures inside { result ≤ length text.now }
-    ensures bare { IsTrue (list_all is_bare (slice_range text.now from result)) }
-    ensures ends { EndsBare (drop result text.now) }
-{
-    let mut end = from;
-    while end < text.len() && is_bare_byte(text[end]) {
-        end += 1;
-    }
-    end
-}
-
 // Adds a tree to a list, which often has no other.
-fn add_kid(kids: &mut Vec<Tree>, tree: Tree) -> Result<(), BracketFault>
-    ensures ok { OnOk result (kids.new.items ≡ kids.old.items ++ tree ∷ []) }
-    ensures err { IsErrOf result BracketFault.NotAccepted → ⊥ }
+fn add_kid(kids: &mut Vec<Tree>, tree: Tree) -> Result<(), AllocError>
+    ensures { OnOk result (kids.new.items ≡ kids.old.items ++ tree ∷ []) }
 {
     if kids.is_empty() {
         kids.reserve_exact(1)?;
@@ -88,16 +70,16 @@ impl Reader {
         }
     }
 
-    // A byte behind a whole tree.
-    fn close_tree(&mut self, tree: Tree, byte: u8) -> Result<(), BracketFault>
-        ensures { Gives result (state_of self.new) (after_tree (open_of self.old.open.items) tree byte) }
+    // Takes a byte behind a whole tree.
+    fn close_tree(&mut self, tree: Tree, at: usize, byte: u8) -> Result<(), BracketFault>
+        ensures { Gives result at (state_of self.new) (after_tree (open_of self.old.open.items) tree byte) }
     {
         if is_blank_byte(byte) {
             self.mode = Mode::Closed(tree);
             return Ok(());
         }
         let Some(mut frame) = self.open.pop() else {
-            return Err(BracketFault::NotAccepted);
+            return Err(BracketFault::Unexpected(at));
         };
         add_kid(&mut frame.kids, tree)?;
         match byte {
@@ -110,13 +92,19 @@ impl Reader {
                 self.mode = Mode::Closed(Tree::new(frame.label, frame.kids));
                 Ok(())
             }
-            _ => Err(BracketFault::NotAccepted),
+            _ => Err(BracketFault::Unexpected(at)),
         }
     }
 
-    // A byte behind a label.
-    fn close_label(&mut self, alloc: Global, label: Label, byte: u8) -> Result<(), BracketFault>
-        ensures { Gives result (state_of self.new) (after_label (open_of self.old.open.items) label byte) }
+    // Takes a byte behind a label.
+    fn close_label(
+        &mut self,
+        alloc: Global,
+        label: Label,
+        at: usize,
+        byte: u8,
+    ) -> Result<(), BracketFault>
+        ensures { Gives result at (state_of self.new) (after_label (open_of self.old.open.items) label byte) }
     {
         if is_blank_byte(byte) {
             self.mode = Mode::Named(label);
@@ -128,15 +116,15 @@ impl Reader {
             self.mode = Mode::First;
             return Ok(());
         }
-        self.close_tree(Tree::new(label, Vec::new(alloc)), byte)
+        self.close_tree(Tree::new(label, Vec::new(alloc)), at, byte)
     }
 
-    // A closing bracket right behind the opening one.
-    fn close_empty_brackets(&mut self) -> Result<(), BracketFault>
-        ensures { Gives result (state_of self.new) (close_empty (open_of self.old.open.items)) }
+    // Takes a closing bracket right behind the opening one.
+    fn close_empty_brackets(&mut self, at: usize) -> Result<(), BracketFault>
+        ensures { Gives result at (state_of self.new) (close_empty (open_of self.old.open.items)) }
     {
         let Some(frame) = self.open.pop() else {
-            return Err(BracketFault::NotAccepted);
+            return Err(BracketFault::Unexpected(at));
         };
         self.mode = Mode::Closed(Tree::new(frame.label, frame.kids));
         Ok(())
@@ -150,70 +138,77 @@ impl Reader {
     }
 
     // Takes a byte that begins no label.
-    fn take_byte(&mut self, alloc: Global, byte: u8) -> Result<(), BracketFault>
-        requires { is_bare byte ≡ false }
-        ensures { Gives result (state_of self.new) (step 200 (state_of self.old) byte) }
+    fn take_byte(&mut self, alloc: Global, at: usize, byte: u8) -> Result<(), BracketFault>
+        requires { begins byte ≡ false }
+        ensures { Gives result at (state_of self.new) (step (state_of self.old) byte) }
     {
         match mem::replace(&mut self.mode, Mode::Start) {
             Mode::Start if is_blank_byte(byte) => Ok(()),
-            Mode::Start => Err(BracketFault::NotAccepted),
+            Mode::Start => Err(BracketFault::Unexpected(at)),
             Mode::First if is_blank_byte(byte) => {
                 self.mode = Mode::First;
                 Ok(())
             }
-            Mode::First if byte == b']' => self.close_empty_brackets(),
-            Mode::First => Err(BracketFault::NotAccepted),
-            Mode::Named(label) => self.close_label(alloc, label, byte),
-            Mode::Closed(tree) => self.close_tree(tree, byte),
+            Mode::First if byte == b']' => self.close_empty_brackets(at),
+            Mode::First => Err(BracketFault::Unexpected(at)),
+            Mode::Named(label) => self.close_label(alloc, label, at, byte),
+            Mode::Closed(tree) => self.close_tree(tree, at, byte),
         }
     }
 
-    // Takes the label that begins at a place, as far as it goes.
+    // Takes the label that begins at a place, and the byte behind it.
     fn take_label(&mut self, alloc: Global, text: &[u8], at: usize) -> Result<usize, BracketFault>
         requires inside { at < length text.now }
-        requires begins { MayBegin self.old.mode }
-        requires bare { IsTrue (is_bare (slice_index text.now at)) }
+        requires utf8 { IsUtf8 text.now }
+        requires boundary { IsCharBoundary text.now at }
+        requires mode { MayBegin self.old.mode }
+        requires label { IsTrue (begins (slice_index text.now at)) }
         ensures { Goes text.now at result (state_of self.old) (state_of self.new) }
     {
         if self.open.len() >= LEVELS {
-            return Err(BracketFault::NotAccepted);
+            return Err(BracketFault::TooDeep(at));
         }
-        let end = bare_end(text, at);
-        let label = Label::of_text(alloc, &text[at..end])?;
+        let (label, end) = match read_label(alloc, text, at)? {
+            LabelRead::Got { label, end } => (label, end),
+            LabelRead::Unexpected(at) => return Err(BracketFault::Unexpected(at)),
+            LabelRead::Ends => return Err(BracketFault::Ends),
+        };
         if end == text.len() {
             self.mode = Mode::Named(label);
             return Ok(end);
         }
-        self.close_label(alloc, label, text[end])?;
+        self.close_label(alloc, label, end, text[end])?;
         Ok(end + 1)
     }
 
     /// Takes a label or a byte at a place, and answers the place behind.
     pub fn take(&mut self, alloc: Global, text: &[u8], at: usize) -> Result<usize, BracketFault>
-        requires { at < length text.now }
+        requires inside { at < length text.now }
+        requires utf8 { IsUtf8 text.now }
+        requires boundary { IsCharBoundary text.now at }
         ensures { Goes text.now at result (state_of self.old) (state_of self.new) }
     {
         let byte = text[at];
-        if !is_bare_byte(byte) {
-            self.take_byte(alloc, byte)?;
+        if !begins_label(byte) {
+            self.take_byte(alloc, at, byte)?;
             return Ok(at + 1);
         }
         if self.may_begin() {
             return self.take_label(alloc, text, at);
         }
-        Err(BracketFault::NotAccepted)
+        Err(BracketFault::Unexpected(at))
     }
 
     /// The tree that has been read, at the end of the text.
     pub fn finish(self, alloc: Global) -> Result<Tree, BracketFault>
-        ensures { GivesTree result (whole (state_of self)) }
+        ensures { GivesVerdict result (at_end (whole (state_of self))) }
     {
         let Reader { open, mode } = self;
         if !open.is_empty() {
-            return Err(BracketFault::NotAccepted);
+            return Err(BracketFault::Ends);
         }
         match mode {
-            Mode::Start | Mode::First => Err(BracketFault::NotAccepted),
+            Mode::Start | Mode::First => Err(BracketFault::Ends),
             Mode::Named(label) => Ok(Tree::new(label, Vec::new(alloc))),
             Mode::Closed(tree) => Ok(tree),
         }

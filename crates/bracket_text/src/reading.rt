@@ -1,18 +1,22 @@
 // Reading the tree that a text spells.
-ghost use Rattle.std.specs.Prelude.{◌≤◌, IfOk, IsErrOf};
+ghost use Rattle.std.specs.Prelude.{◌≤◌};
+ghost use Rattle.std.specs.Str.{IsUtf8};
 ghost use Rattle.mix_tree.specs.Forest.{LabelledTree};
-ghost use Rattle.bracket_text.specs.Grammar.{Spells, levels};
-ghost use Rattle.bracket_text.specs.Machine.{tree_of};
-ghost use Rattle.bracket_text.specs.Results.{GivesTree, IsTree};
+ghost use Rattle.bracket_text.specs.Grammar.{SpellsShallow};
+ghost use Rattle.bracket_text.specs.Machine.{empty, verdict};
+ghost use Rattle.bracket_text.specs.ReaderState.{GivesVerdict};
+ghost use Rattle.bracket_text.specs.Results.{Answers, IsTree};
 
 use crate::BracketFault;
 use crate::reader::Reader;
 use mix_tree::Tree;
 use std::alloc::Global;
+use std::str;
 
-// The tree that the machine reads.
+// What the machine says of a text.
 fn read(alloc: Global, text: &[u8]) -> Result<Tree, BracketFault>
-    ensures { GivesTree result (tree_of 200 text.now) }
+    requires { IsUtf8 text.now }
+    ensures { GivesVerdict result (verdict empty 0 text.now) }
 {
     let mut reader = Reader::new(alloc);
     let mut at = 0;
@@ -26,16 +30,23 @@ fn read(alloc: Global, text: &[u8]) -> Result<Tree, BracketFault>
 ///
 /// # Errors
 ///
-/// `NotAccepted` where the text spells no tree of at most 200 levels, and `OutOfMemory` where memory runs out.
+/// Places count bytes from the front of the text. Of the causes that a text has, the first of these is answered:
+///
+/// - `NotUtf8` with the length of the longest front that is UTF-8.
+/// - The one with the smaller place of `Unexpected`, with the first byte with which no tree's text goes on, and `TooDeep`, with
+///   the first byte of the label of the first tree at level 201, where the root is level 1.
+/// - `Ends` where a tree's text goes on from the end.
+///
+/// `OutOfMemory` can come with any text.
 pub fn read_tree(alloc: Global, text: &[u8]) -> Result<Tree, BracketFault>
-    // What is read is spelled so, and lies within the limit of levels.
-    ensures spelled { IfOk result (λ t. Spells text.now t × (levels t ≤ 200)) }
+    // The answer is that of the text: the tree that it spells, or why there is none.
+    ensures answers { Answers text.now result }
 
-    // What is spelled so is read, unless memory runs out.
-    ensures only { (t : LabelledTree) → Spells text.now t → levels t ≤ 200 → IsTree result t }
-
-    // A refusal means that no tree within the limit is spelled so.
-    ensures refused { IsErrOf result BracketFault.NotAccepted → (t : LabelledTree) → Spells text.now t → levels t ≤ 200 → ⊥ }
+    // What is spelled is read, unless memory runs out.
+    ensures only { (t : LabelledTree) → IsUtf8 text.now → SpellsShallow text.now t → IsTree result t }
 {
-    read(alloc, text)
+    match str::from_utf8(text) {
+        Ok(_) => read(alloc, text),
+        Err(error) => Err(BracketFault::NotUtf8(error.valid_up_to())),
+    }
 }

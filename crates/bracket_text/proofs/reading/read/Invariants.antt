@@ -1,12 +1,14 @@
 use Rattle.std.proofs.Common.{◌≡◌, ◌≤◌, ◌-◌, length, drop}
-use Rattle.bracket_text.specs.Machine.{tree_of}
-use Rattle.bracket_text.specs.ReaderState.{outcome, state_of}
+use Rattle.std.specs.Str.{IsCharBoundary}
+use Rattle.bracket_text.specs.Machine.{empty, verdict}
+use Rattle.bracket_text.specs.ReaderState.{state_of}
 use Rattle.bracket_text.proofs.reading.read.Given as goal
 
 abbrev pub invariant-loop-at : goal.invariant-loop-at
 invariant-loop-at l = record {
   inside : l.at ≤ length l.text;
-  rest : outcome (state_of l.reader) (drop l.at l.text) ≡ tree_of 200 l.text;
+  boundary : IsCharBoundary l.text l.at;
+  rest : verdict (state_of l.reader) l.at (drop l.at l.text) ≡ verdict empty 0 l.text;
 }
 
 abbrev pub decreases-loop-at : goal.decreases-loop-at

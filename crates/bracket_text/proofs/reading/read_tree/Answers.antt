@@ -1,11 +1,12 @@
-use Rattle.bracket_text.proofs.GivenTrees.{spelled_if_ok, only_this, none_spelled}
+use Rattle.std.proofs.Common.{rules}
+use Rattle.std.specs.Str.{IsUtf8}
+use Rattle.bracket_text.proofs.Verdicts.{answers, only_tree}
 use Rattle.bracket_text.proofs.reading.read_tree.Goals as goal
 
-pub returns-clause-spelled : goal.returns-clause-spelled
-returns-clause-spelled c = spelled_if_ok c.read.result c.args.text.now c.read.ensures
+pub returns-in-Ok-clause-answers : goal.returns-in-Ok-clause-answers
+returns-in-Ok-clause-answers c = let u : IsUtf8 c.args.text.now = search rules in answers c.args.text.now c.read.result u c.read.ensures
 
-pub returns-clause-only : goal.returns-clause-only
-returns-clause-only c = λ t s d. only_this c.read.result c.args.text.now t c.read.ensures s d
-
-pub returns-clause-refused : goal.returns-clause-refused
-returns-clause-refused c = λ e t s d. none_spelled c.read.result c.args.text.now t c.read.ensures e s d
+pub returns-in-Ok-clause-only : goal.returns-in-Ok-clause-only
+returns-in-Ok-clause-only c =
+    let u : IsUtf8 c.args.text.now = search rules in
+    λ t v s. only_tree c.args.text.now c.read.result t (answers c.args.text.now c.read.result u c.read.ensures) v s
