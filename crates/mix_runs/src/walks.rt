@@ -15,30 +15,70 @@ fn steps_are_answered_on_the_document(rt: HostRuntime) -> Result<(), Fail> {
             STEPS,
             "node\nnode\nnode\nlabel c\nnone\nlabel b\nno node\n",
         ),
-        ("a", "r = root; fetch r", "s: no form fits line 1\n"),
-        ("a", "r = root\nfetch r\n", "node\nlabel a\n"),
+        (
+            "\"\"",
+            "r = root\nfetch r\nx = down r",
+            "node\nlabel \"\"\nnone\n",
+        ),
+        (
+            "\"La Jolla\"",
+            "r = root\nfetch r\n",
+            "node\nlabel \"La Jolla\"\n",
+        ),
         (
             "a",
             "# a comment\n\n  r = root\r\nx = right r\nfetch x",
             "node\nnone\nno node\n",
         ),
-        ("l[a,b,a]", "r=root", "s: no form fits line 1\n"),
         (
             "l[a[b],c]",
-            "x = root\nx = down x\ny = down x\nfetch y\nx = right x\nfetch x\ny = right y\nfetch y",
-            "node\nnode\nnode\nlabel b\nnode\nlabel c\nnone\nno node\n",
+            "x = root\nx = down x\ny = down x\nx = right x\nfetch x\nfetch y",
+            "node\nnode\nnode\nnode\nlabel c\nlabel b\n",
         ),
+        ("a", "r = root\nfly", "s: no form fits line 2\n"),
         ("a", "", ""),
     ];
     for (document, script, lines) in rows {
-        let ended = run(
-            alloc,
-            &WALK,
-            document.as_bytes().to_vec(alloc)?,
-            script,
-            (&[], &[]),
-        )?;
-        assert_eq!(rt; ended.written.as_slice(), lines.as_bytes(), "of {document}");
+        let document = document.as_bytes().to_vec(alloc)?;
+        let ended = run(alloc, &WALK, document, script, (&[], &[]))?;
+        assert_eq!(rt; ended.written.as_slice(), lines.as_bytes());
+    }
+    Ok(())
+}
+
+#[test]
+fn a_document_is_refused_at_its_place(rt: HostRuntime) -> Result<(), Fail> {
+    let alloc = rt.alloc();
+    let rows: [(&[u8], &str); 6] = [
+        (b"a[b", "doc: ends too early\n"),
+        (b"", "doc: ends too early\n"),
+        (b"a]", "doc: unexpected at 1\n"),
+        (b"a[b] c", "doc: unexpected at 5\n"),
+        (b"a[b,\"c\\d\"]", "doc: unexpected at 7\n"),
+        (b"a[\xff]", "doc: not UTF-8 at 2\n"),
+    ];
+    for (document, line) in rows {
+        let ended = run(alloc, &WALK, document.to_vec(alloc)?, "fly", (&[], &[]))?;
+        assert_eq!(rt; ended.status, 3);
+        assert_eq!(rt; ended.written.as_slice(), line.as_bytes());
+    }
+    Ok(())
+}
+
+#[test]
+fn the_level_beyond_the_last_is_refused(rt: HostRuntime) -> Result<(), Fail> {
+    let alloc = rt.alloc();
+    for (levels, line) in [(199, "node\n"), (200, "doc: too deep at 400\n")] {
+        let mut document = Vec::new(alloc);
+        for _ in 0..levels {
+            document.extend_from_slice(b"a[")?;
+        }
+        document.push(b'a')?;
+        for _ in 0..levels {
+            document.push(b']')?;
+        }
+        let ended = run(alloc, &WALK, document, "r = root", (&[], &[]))?;
+        assert_eq!(rt; ended.written.as_slice(), line.as_bytes());
     }
     Ok(())
 }
@@ -46,100 +86,53 @@ fn steps_are_answered_on_the_document(rt: HostRuntime) -> Result<(), Fail> {
 #[test]
 fn each_end_has_its_status_and_line(rt: HostRuntime) -> Result<(), Fail> {
     let alloc = rt.alloc();
-    let rows: [(&[&str], &str, &str, (&[u64], &[u64]), u8, &str); 14] = [
-        (&WALK, "a", "r = root", (&[], &[]), 0, "node\n"),
-        (
-            &WALK,
-            "a[b",
-            "r = root",
-            (&[], &[]),
-            3,
-            "doc: not accepted\n",
-        ),
-        (&WALK, "a", "fly", (&[], &[]), 3, "s: no form fits line 1\n"),
-        (&WALK, "a[b", "fly", (&[], &[]), 3, "doc: not accepted\n"),
+    let all = "node\nnode\nnode\nlabel c\nnone\nlabel b\nno node\n";
+    let rows: [(&[&str], (&[u64], &[u64]), u8, &str); 11] = [
+        (&WALK, (&[], &[]), 0, all),
         (
             &["walk", "gone", "s"],
-            "a",
-            "fly",
             (&[], &[]),
             4,
             "gone: cannot be read\n",
         ),
         (
             &["walk", "doc", "gone"],
-            "a",
-            "fly",
             (&[], &[]),
             4,
             "gone: cannot be read\n",
         ),
-        (
-            &WALK,
-            "a",
-            "r = root",
-            (&[1], &[]),
-            4,
-            "doc: cannot be read\n",
-        ),
-        (
-            &WALK,
-            "a",
-            "r = root",
-            (&[3], &[]),
-            4,
-            "s: cannot be read\n",
-        ),
-        (
-            &WALK,
-            "a[b[d,e],c]",
-            STEPS,
-            (&[], &[3]),
-            5,
-            "node\nnode\nno",
-        ),
-        (&WALK, "a[b", "fly", (&[], &[1]), 5, "doc: not "),
-        (&[], "a", "fly", (&[], &[]), 2, "mixq: unknown words\n"),
-        (&["fly"], "a", "fly", (&[], &[]), 2, "mixq: unknown words\n"),
+        (&WALK, (&[1], &[]), 4, "doc: cannot be read\n"),
+        (&WALK, (&[3], &[]), 4, "s: cannot be read\n"),
+        (&WALK, (&[], &[3]), 5, "node\nnode\nno"),
+        (&["walk", "s", "s"], (&[], &[1]), 5, "s: unexpe"),
+        (&[], (&[], &[]), 2, "mixq: unknown words\n"),
+        (&["fly"], (&[], &[]), 2, "mixq: unknown words\n"),
         (
             &["walk", "a", "b", "c"],
-            "a",
-            "fly",
             (&[], &[]),
             2,
             "mixq: unknown words\n",
         ),
-        (&["--version"], "a", "fly", (&[], &[]), 0, "mixq 0.1.0\n"),
+        (&["--version"], (&[], &[]), 0, "mixq 0.1.0\n"),
     ];
-    for (words, document, script, failing, status, lines) in rows {
-        let ended = run(
-            alloc,
-            words,
-            document.as_bytes().to_vec(alloc)?,
-            script,
-            failing,
-        )?;
-        assert_eq!(rt; ended.status, status, "with {lines}");
-        assert_eq!(rt;
-            ended.written.as_slice(),
-            lines.as_bytes(),
-            "at status {status}"
-        );
+    for (words, failing, status, lines) in rows {
+        let document = b"a[b[d,e],c]".to_vec(alloc)?;
+        let ended = run(alloc, words, document, STEPS, failing)?;
+        assert_eq!(rt; ended.status, status);
+        assert_eq!(rt; ended.written.as_slice(), lines.as_bytes());
     }
     Ok(())
 }
 
 #[test]
 fn help_tells_each_form(rt: HostRuntime) -> Result<(), Fail> {
-    let ended = run(
-        rt.alloc(),
-        &["--help"],
-        Vec::new(rt.alloc()),
-        "",
-        (&[], &[]),
-    )?;
+    let alloc = rt.alloc();
+    let ended = run(alloc, &["--help"], Vec::new(alloc), "", (&[], &[]))?;
     assert_eq!(rt; ended.status, 0);
-    assert_eq!(rt; ended.written.split(|byte| *byte == b'\n').count(), 4);
+    assert_eq!(rt;
+        ended.written.iter().filter(|byte| **byte == b'\n').count(),
+        3
+    );
     Ok(())
 }
 

@@ -1,50 +1,71 @@
 -- How the stop of one call is that of the call around it.
-use Rattle.std.proofs.Common.{◌≡◌, ◌≤◌, ◌<◌, inl, inr, ◌∙◌, ℕ, List, [], Option, IfSome, refl, sym, subst, length, string_bytes}
+use Rattle.std.proofs.Common.{◌≡◌, ◌<◌, inl, inr, ◌∙◌, ℕ, List, [], Option, IfSome, refl, subst, length, string_bytes}
 use Rattle.mix_base.specs.Counts.{HasRisen}
 use Rattle.mix_io.specs.Views.{FilesView, SinkView, KeepsFiles}
-use Rattle.mix_io.specs.Contents.{Appends, AppendsFront}
 use Rattle.mix_top.specs.declared.refusal.FileFault.{FileFault}
-use Rattle.mix_top.specs.declared.refusal.FileFault.TheVariants.{Unread, TooLong, NotAccepted, NoForm}
+use Rattle.mix_top.specs.declared.refusal.FileFault.TheVariants.{Unread, TooLong, NotUtf8, Unexpected, TooDeep, EndsEarly, NoForm}
 use Rattle.mix_top.specs.declared.refusal.Stop.{Stop}
 use Rattle.mix_top.specs.declared.refusal.Stop.TheVariants.{Refused, SinkFailed, OutOfMemory}
-use Rattle.mix_top.specs.Causes.{IsRead, IsCause}
-use Rattle.mix_base.proofs.Risen.{risen_before}
+use Rattle.mix_top.specs.Causes.{IsRead, IsNotAccepted, IsNoBytes, IsNoDocument, IsNoScript, IsCause}
 use Rattle.mix_tree.specs.Forest.{LabelledTree}
 use Rattle.mix_script.specs.declared.step.Step.{Step}
 use Rattle.mix_script.specs.Transcript.{transcript}
 use Rattle.mix_top.specs.Course.{IsRefused, IsDocument, IsScript, Walks}
-use Rattle.mix_top.specs.Ends.{TookFront, Ends}
 use Rattle.mix_top.specs.Stops.{IsStopFor, IsLoadStop, IsCut, IsStop}
 
 -- a file that is refused for a cause was not loaded
-pub load_stop : (old new : FilesView) (path : List ℕ) (fault : FileFault) (stop : Stop) → IsStopFor path fault stop → IsCause old new path fault
-    → IsLoadStop old new path stop
-load_stop old new path fault (Refused r) h cause = record { fault = fault; cause = cause; status_is = h.0; line_is = h.1 }
-load_stop old new path fault SinkFailed h cause = h
-load_stop old new path fault OutOfMemory h cause = h
+pub load_stop : (IsNone : List ℕ → FileFault → Type 0) (old new : FilesView) (path : List ℕ) (fault : FileFault) (stop : Stop) → IsStopFor path fault stop
+    → IsCause IsNone old new path fault → IsLoadStop IsNone old new path stop
+load_stop IsNone old new path fault (Refused r) h cause = record { fault = fault; cause = cause; status_is = h.0; line_is = h.1 }
+load_stop IsNone old new path fault SinkFailed h cause = h
+load_stop IsNone old new path fault OutOfMemory h cause = h
+
+-- a file that could not be read, or is too long, is refused whatever its kind
+pub load_stop_unread : (IsNone : List ℕ → FileFault → Type 0) (old new : FilesView) (path : List ℕ) (stop : Stop) → IsLoadStop IsNoBytes old new path stop
+    → IsLoadStop IsNone old new path stop
+load_stop_unread IsNone old new path (Refused r) h =
+    record { fault = h.fault; cause = cause h.fault h.cause; status_is = h.status_is; line_is = h.line_is }
+  where
+    cause : (fault : FileFault) → IsCause IsNoBytes old new path fault → IsCause IsNone old new path fault
+    cause Unread k = k
+    cause TooLong k = k
+    cause (NotUtf8 at) k = absurd k.2
+    cause (Unexpected at) k = absurd k.2
+    cause (TooDeep at) k = absurd k.2
+    cause EndsEarly k = absurd k.2
+    cause (NoForm n) k = absurd k.2
+load_stop_unread IsNone old new path SinkFailed h = h
+load_stop_unread IsNone old new path OutOfMemory h = h
 
 -- what was read of a file later was there before
 read_before : (old mid : FilesView) (path text : List ℕ) → mid.told path ≡ old.told path → IsRead mid path text → IsRead old path text
 read_before old mid path text told h = record { all = subst (λ (o : Option (List ℕ)). IfSome o (λ contents. contents ≡ text)) told h.all; short = h.short }
 
+not_accepted_before : (IsNone : List ℕ → FileFault → Type 0) (old mid : FilesView) (path : List ℕ) (fault : FileFault) → mid.told path ≡ old.told path
+    → IsNotAccepted IsNone mid path fault → IsNotAccepted IsNone old path fault
+not_accepted_before IsNone old mid path fault told h = (h.0, read_before old mid path h.0 told h.1, h.2)
+
 -- a cause that stands from a later moment on stands from an earlier one on, where no read failed between them
-cause_before : (old mid new : FilesView) (path : List ℕ) (fault : FileFault) → mid.told path ≡ old.told path → mid.faults path ≡ old.faults path
-    → IsCause mid new path fault → IsCause old new path fault
-cause_before old mid new path Unread told steady h = subst (λ n. HasRisen n (new.faults path)) steady h
-cause_before old mid new path TooLong told steady h =
+cause_before : (IsNone : List ℕ → FileFault → Type 0) (old mid new : FilesView) (path : List ℕ) (fault : FileFault) → mid.told path ≡ old.told path
+    → mid.faults path ≡ old.faults path → IsCause IsNone mid new path fault → IsCause IsNone old new path fault
+cause_before IsNone old mid new path Unread told steady h = subst (λ n. HasRisen n (new.faults path)) steady h
+cause_before IsNone old mid new path TooLong told steady h =
     record {
       unfailed = h.unfailed ∙ steady;
       long = subst (λ (o : Option (List ℕ)). IfSome o (λ contents. 67108864 < length contents)) told h.long;
       far = h.far;
     }
-cause_before old mid new path NotAccepted told steady h = (h.0, read_before old mid path h.0 told h.1, h.2)
-cause_before old mid new path (NoForm n) told steady h = (h.0, read_before old mid path h.0 told h.1, h.2)
+cause_before IsNone old mid new path (NotUtf8 at) told steady h = not_accepted_before IsNone old mid path (NotUtf8 at) told h
+cause_before IsNone old mid new path (Unexpected at) told steady h = not_accepted_before IsNone old mid path (Unexpected at) told h
+cause_before IsNone old mid new path (TooDeep at) told steady h = not_accepted_before IsNone old mid path (TooDeep at) told h
+cause_before IsNone old mid new path EndsEarly told steady h = not_accepted_before IsNone old mid path EndsEarly told h
+cause_before IsNone old mid new path (NoForm n) told steady h = not_accepted_before IsNone old mid path (NoForm n) told h
 
 -- a refusal from a later moment on is one from an earlier one on, where no read failed between them
-pub refused_before : (old mid new : FilesView) (path : List ℕ) (status : ℕ) (line : List ℕ) → KeepsFiles mid old → ((p : List ℕ) → mid.faults p ≡ old.faults p)
-    → IsRefused mid new path status line → IsRefused old new path status line
-refused_before old mid new path status line keeps steady h =
-    record { fault = h.fault; cause = cause_before old mid new path h.fault (keeps.told path) (steady path) h.cause; status_is = h.status_is; line_is = h.line_is }
+pub refused_before : (IsNone : List ℕ → FileFault → Type 0) (old mid new : FilesView) (path : List ℕ) (status : ℕ) (line : List ℕ) → KeepsFiles mid old
+    → ((p : List ℕ) → mid.faults p ≡ old.faults p) → IsRefused IsNone mid new path status line → IsRefused IsNone old new path status line
+refused_before IsNone old mid new path status line keeps steady h =
+    record { fault = h.fault; cause = cause_before IsNone old mid new path h.fault (keeps.told path) (steady path) h.cause; status_is = h.status_is; line_is = h.line_is }
 
 -- lines of a course that were cut short stop it
 pub cut_stops : (Course : ℕ → List ℕ → Type 0) (before after : SinkView) (status : ℕ) (lines : List ℕ) (stop : Stop) → Course status lines
@@ -54,7 +75,7 @@ cut_stops Course before after status lines SinkFailed course h = (h.0, (status, 
 cut_stops Course before after status lines OutOfMemory course h = inr (status, lines, course, h)
 
 -- a document that was not loaded stops a walk before it writes
-pub document_stops : (old new : FilesView) (before : SinkView) (file script : List ℕ) (stop : Stop) → IsLoadStop old new file stop
+pub document_stops : (old new : FilesView) (before : SinkView) (file script : List ℕ) (stop : Stop) → IsLoadStop IsNoDocument old new file stop
     → IsStop (Walks old new file script) before before stop
 document_stops old new before file script (Refused r) h = (inl h, refl)
 document_stops old new before file script SinkFailed h = absurd h
@@ -62,9 +83,9 @@ document_stops old new before file script OutOfMemory h = inl refl
 
 -- a script that was not loaded, behind a document that was, stops a walk before it writes
 pub script_stops : (old mid new : FilesView) (before : SinkView) (file script : List ℕ) (t : LabelledTree) (stop : Stop) → KeepsFiles mid old
-    → ((p : List ℕ) → mid.faults p ≡ old.faults p) → IsDocument old file t → IsLoadStop mid new script stop → IsStop (Walks old new file script) before before stop
+    → ((p : List ℕ) → mid.faults p ≡ old.faults p) → IsDocument old file t → IsLoadStop IsNoScript mid new script stop → IsStop (Walks old new file script) before before stop
 script_stops old mid new before file script t (Refused r) keeps steady document h =
-    (inr (t, document, inl (refused_before old mid new script r.status (string_bytes r.line) keeps steady h)), refl)
+    (inr (t, document, inl (refused_before IsNoScript old mid new script r.status (string_bytes r.line) keeps steady h)), refl)
 script_stops old mid new before file script t SinkFailed keeps steady document h = absurd h
 script_stops old mid new before file script t OutOfMemory keeps steady document h = inl refl
 
@@ -81,29 +102,4 @@ walk_course old mid new file script t steps keeps document s =
         refl,
         refl,
       ),
-    )
-
--- a refusal whose line was asked to be written ends the run
-pub refused_ends : (Course : ℕ → List ℕ → Type 0) (before mid after : SinkView) (status : ℕ) (line : List ℕ) (result : ℕ) → Course status line
-    → mid.written ≡ before.written → before.faults ≤ mid.faults → Ends (λ s l. (s ≡ status) × (l ≡ line)) mid after result → Ends Course before after result
-refused_ends Course before mid after status line result course same count ends =
-    elim ends [
-      | inl whole ↦ inl (record {
-        lines = whole.lines;
-        course = subst (λ s. Course s whole.lines) (sym whole.course.0) (subst (Course status) (sym whole.course.1) course);
-        written = subst (λ (o : Option (List ℕ)). Appends o after.written whole.lines) same whole.written;
-      })
-      | inr (inl cut) ↦ inr (inl (record { five = cut.five; cause = risen_before before.faults mid.faults after.faults count cut.cause; front = front_of cut.front }))
-      | inr (inr cut) ↦ inr (inr (record {
-        six = cut.six;
-        front = elim cut.front [ inl untouched ↦ inl (untouched ∙ same) | inr front ↦ inr (front_of front) ];
-      }))
-    ]
-  where
-    front_of : TookFront (λ s l. (s ≡ status) × (l ≡ line)) mid after → TookFront Course before after
-    front_of (s, l, is, front) = (
-      s,
-      l,
-      subst (λ s. Course s l) (sym is.0) (subst (Course status) (sym is.1) course),
-      subst (λ (o : Option (List ℕ)). AppendsFront o after.written l) same front,
     )

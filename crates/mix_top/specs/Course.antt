@@ -1,13 +1,14 @@
 -- The course of a run: what its words, its files and their faults let it write, and its status then.
-use Rattle.std.specs.Prelude.{◌≡◌, ◌⊎◌, ℕ, ◌≤◌, List, [], Ok}
+use Rattle.std.specs.Prelude.{◌≡◌, ◌⊎◌, ℕ, List, [], Ok}
+use Rattle.std.specs.Str.{IsUtf8}
 use Rattle.mix_tree.specs.Forest.{LabelledTree}
 use Rattle.mix_io.specs.Views.{FilesView}
-use Rattle.bracket_text.specs.Grammar.{Spells, levels}
+use Rattle.bracket_text.specs.Grammar.{SpellsShallow}
 use Rattle.mix_script.specs.declared.step.Step.{Step}
 use Rattle.mix_script.specs.Steps.{steps_of}
 use Rattle.mix_script.specs.Transcript.{transcript}
 use Rattle.mix_top.specs.declared.refusal.FileFault.{FileFault}
-use Rattle.mix_top.specs.Causes.{IsRead, IsCause, status_of, refusal_line}
+use Rattle.mix_top.specs.Causes.{IsRead, IsCause, IsNoDocument, IsNoScript, status_of, refusal_line}
 use Rattle.mix_top.specs.Commands.{Command, help, version, walk, unknown}
 use Rattle.mix_top.specs.Texts.{help_text, version_text, unknown_text}
 
@@ -15,8 +16,8 @@ use Rattle.mix_top.specs.Texts.{help_text, version_text, unknown_text}
 pub record IsDocument (files : FilesView) (path : List ℕ) (t : LabelledTree) : Type 0 where
   pub text : List ℕ
   pub read : IsRead files path text
-  pub spelled : Spells text t
-  pub shallow : levels t ≤ 200
+  pub utf8 : IsUtf8 text
+  pub spelled : SpellsShallow text t
 
 -- a file is a script of these steps
 pub record IsScript (files : FilesView) (path : List ℕ) (steps : List Step) : Type 0 where
@@ -24,22 +25,22 @@ pub record IsScript (files : FilesView) (path : List ℕ) (steps : List Step) : 
   pub read : IsRead files path text
   pub accepted : steps_of text ≡ Ok steps
 
--- a file is refused, with this status and line
-pub record IsRefused (old new : FilesView) (path : List ℕ) (status : ℕ) (line : List ℕ) : Type 0 where
+-- a file of a kind is refused, with this status and line
+pub record IsRefused (IsNone : List ℕ → FileFault → Type 0) (old new : FilesView) (path : List ℕ) (status : ℕ) (line : List ℕ) : Type 0 where
   pub fault : FileFault
-  pub cause : IsCause old new path fault
+  pub cause : IsCause IsNone old new path fault
   pub status_is : status ≡ status_of fault
   pub line_is : line ≡ refusal_line path fault
 
 -- a walk whose document was read: the script is refused, or the lines are those that answer it on the tree of the document
 abbrev pub WalksOn : FilesView → FilesView → List ℕ → LabelledTree → ℕ → List ℕ → Type 0
 WalksOn old new script t status lines =
-    IsRefused old new script status lines ⊎ ((steps : List Step) × IsScript old script steps × (status ≡ 0) × (lines ≡ transcript t [] [] steps))
+    IsRefused IsNoScript old new script status lines ⊎ ((steps : List Step) × IsScript old script steps × (status ≡ 0) × (lines ≡ transcript t [] [] steps))
 
 -- a walk: the document is refused, or what follows on its tree
 abbrev pub Walks : FilesView → FilesView → List ℕ → List ℕ → ℕ → List ℕ → Type 0
 Walks old new file script status lines =
-    IsRefused old new file status lines ⊎ ((t : LabelledTree) × IsDocument old file t × WalksOn old new script t status lines)
+    IsRefused IsNoDocument old new file status lines ⊎ ((t : LabelledTree) × IsDocument old file t × WalksOn old new script t status lines)
 
 -- the lines that a command writes where nothing cuts it short, and its status then
 abbrev pub IsCourse : FilesView → FilesView → Command → ℕ → List ℕ → Type 0

@@ -29,11 +29,11 @@ IsWordsStop status line (Refused r) = (r.status ≡ status) × (string_bytes r.l
 IsWordsStop status line SinkFailed = ⊥
 IsWordsStop status line OutOfMemory = Unit {0}
 
--- a file was not loaded: it is refused, or memory ran out
-abbrev pub IsLoadStop : FilesView → FilesView → List ℕ → Stop → Type 0
-IsLoadStop old new path (Refused r) = IsRefused old new path r.status (string_bytes r.line)
-IsLoadStop old new path SinkFailed = ⊥
-IsLoadStop old new path OutOfMemory = Unit {0}
+-- a file of a kind was not loaded: it is refused, or memory ran out
+abbrev pub IsLoadStop : (List ℕ → FileFault → Type 0) → FilesView → FilesView → List ℕ → Stop → Type 0
+IsLoadStop IsNone old new path (Refused r) = IsRefused IsNone old new path r.status (string_bytes r.line)
+IsLoadStop IsNone old new path SinkFailed = ⊥
+IsLoadStop IsNone old new path OutOfMemory = Unit {0}
 
 -- lines were cut short: a front of them was written, and the sink failed or memory ran out
 abbrev pub IsCut : SinkView → SinkView → List ℕ → Stop → Type 0

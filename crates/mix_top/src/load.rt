@@ -1,7 +1,7 @@
 // Files that a command reads whole and accepts, one after another.
 ghost use Rattle.std.specs.Prelude.{◌≡◌, List, ℕ, OnOk, IfOk, IfErr};
 ghost use Rattle.mix_io.specs.Views.{FilesView, KeepsFiles};
-ghost use Rattle.mix_top.specs.Causes.{IsRead};
+ghost use Rattle.mix_top.specs.Causes.{IsRead, IsNoBytes, IsNoDocument, IsNoScript};
 ghost use Rattle.mix_top.specs.Course.{IsDocument, IsScript};
 ghost use Rattle.mix_top.specs.Stops.{IsLoadStop};
 
@@ -17,7 +17,7 @@ fn load<F: Files>(alloc: Global, files: &mut F, path: &str) -> Result<Vec<u8>, S
     ensures keeps { KeepsFiles (F.view files.new) (F.view files.old) }
     ensures steady { OnOk result ((p : List ℕ) → (F.view files.new).faults p ≡ (F.view files.old).faults p) }
     ensures ok { IfOk result (λ bytes. IsRead (F.view files.old) path.now bytes.items) }
-    ensures err { IfErr result (IsLoadStop (F.view files.old) (F.view files.new) path.now) }
+    ensures err { IfErr result (IsLoadStop IsNoBytes (F.view files.old) (F.view files.new) path.now) }
 {
     match read_whole(alloc, files, path) {
         Ok(bytes) => Ok(bytes),
@@ -32,12 +32,15 @@ pub fn load_tree<F: Files>(alloc: Global, files: &mut F, path: &str) -> Result<T
     ensures keeps { KeepsFiles (F.view files.new) (F.view files.old) }
     ensures steady { OnOk result ((p : List ℕ) → (F.view files.new).faults p ≡ (F.view files.old).faults p) }
     ensures ok { IfOk result (IsDocument (F.view files.old) path.now) }
-    ensures err { IfErr result (IsLoadStop (F.view files.old) (F.view files.new) path.now) }
+    ensures err { IfErr result (IsLoadStop IsNoDocument (F.view files.old) (F.view files.new) path.now) }
 {
     let bytes = load(alloc, files, path)?;
     match read_tree(alloc, &bytes) {
         Ok(tree) => Ok(tree),
-        Err(BracketFault::NotAccepted) => Err(refused(alloc, path, FileFault::NotAccepted)),
+        Err(BracketFault::NotUtf8(at)) => Err(refused(alloc, path, FileFault::NotUtf8(at))),
+        Err(BracketFault::Unexpected(at)) => Err(refused(alloc, path, FileFault::Unexpected(at))),
+        Err(BracketFault::TooDeep(at)) => Err(refused(alloc, path, FileFault::TooDeep(at))),
+        Err(BracketFault::Ends) => Err(refused(alloc, path, FileFault::EndsEarly)),
         Err(BracketFault::OutOfMemory) => Err(Stop::OutOfMemory),
     }
 }
@@ -47,7 +50,7 @@ pub fn load_script<F: Files>(alloc: Global, files: &mut F, path: &str) -> Result
     ensures keeps { KeepsFiles (F.view files.new) (F.view files.old) }
     ensures steady { OnOk result ((p : List ℕ) → (F.view files.new).faults p ≡ (F.view files.old).faults p) }
     ensures ok { IfOk result (λ steps. IsScript (F.view files.old) path.now steps.items) }
-    ensures err { IfErr result (IsLoadStop (F.view files.old) (F.view files.new) path.now) }
+    ensures err { IfErr result (IsLoadStop IsNoScript (F.view files.old) (F.view files.new) path.now) }
 {
     let bytes = load(alloc, files, path)?;
     match read_script(alloc, &bytes) {

@@ -14,8 +14,14 @@ pub enum FileFault {
     Unread,
     /// It is longer than a file that is read whole may be.
     TooLong,
-    /// It is no document.
-    NotAccepted,
+    /// Its text is not UTF-8 from the byte at this place on, counted from 0.
+    NotUtf8(usize),
+    /// The byte at this place can't go on.
+    Unexpected(usize),
+    /// A level too many begins at this place.
+    TooDeep(usize),
+    /// Its text ends too early.
+    EndsEarly,
     /// It is no script: the line of this number, counted from 1, fits no form.
     NoForm(usize),
 }
@@ -66,7 +72,10 @@ fn line_of(alloc: Global, path: &str, fault: FileFault) -> Result<String, AllocE
     match fault {
         FileFault::Unread => format!(in alloc; "{path}: cannot be read\n"),
         FileFault::TooLong => format!(in alloc; "{path}: longer than 67108864 bytes\n"),
-        FileFault::NotAccepted => format!(in alloc; "{path}: not accepted\n"),
+        FileFault::NotUtf8(at) => format!(in alloc; "{path}: not UTF-8 at {at}\n"),
+        FileFault::Unexpected(at) => format!(in alloc; "{path}: unexpected at {at}\n"),
+        FileFault::TooDeep(at) => format!(in alloc; "{path}: too deep at {at}\n"),
+        FileFault::EndsEarly => format!(in alloc; "{path}: ends too early\n"),
         FileFault::NoForm(line) => format!(in alloc; "{path}: no form fits line {line}\n"),
     }
 }
@@ -78,7 +87,11 @@ fn status_for(fault: FileFault) -> u8
     match fault {
         FileFault::Unread => 4,
         FileFault::TooLong => 7,
-        FileFault::NotAccepted | FileFault::NoForm(_) => 3,
+        FileFault::NotUtf8(_)
+        | FileFault::Unexpected(_)
+        | FileFault::TooDeep(_)
+        | FileFault::EndsEarly
+        | FileFault::NoForm(_) => 3,
     }
 }
 
