@@ -1,11 +1,11 @@
 -- The machine reads each text of the grammar as the tree that it spells.
-use Rattle.std.proofs.Common.{◌≡◌, inl, inr, ◌∙◌, ℕ, IsTrue, List, [], ◌∷◌, ◌++◌, Option, Some, None, refl, sym, ap, append_assoc, option_and_then}
+use Rattle.std.proofs.Common.{◌≡◌, inl, inr, ◌∙◌, ℕ, IsTrue, List, [], ◌∷◌, ◌++◌, Option, Some, refl, sym, ap, append_assoc, option_and_then}
 use Rattle.std.specs.List.{list_all}
 use Rattle.mix_base.proofs.Lists.{append_nil}
 use Rattle.mix_base.proofs.Choices.{and_parts, some_is}
 use Rattle.mix_tree.specs.Forest.{Forest, none, tree, LabelledTree, forest_of}
 use Rattle.bracket_text.specs.Grammar.{is_blank, IsBlanks, SpellsBrackets, SpellsRest, SpellsTrees, Spells, SpellsAtMostOne}
-use Rattle.bracket_text.specs.Machine.{Frame, Mode, start, first, spelling, named, closed, State, at, leaf, after_label, step_in, run, tree_in, whole, empty, tree_of}
+use Rattle.bracket_text.specs.Machine.{Frame, Mode, start, first, named, closed, State, at, leaf, after_label, run, tree_in, whole, empty, tree_of}
 use Rattle.bracket_text.proofs.Runs.{blank_not_bare, run_then, run_byte, start_blanks, first_blanks, IsNamed, named_by, named_hand, tree_blanks, tree_comma, tree_close, MayBegin, NamedBehind, whole_label}
 
 -- the trees of a forest in a list

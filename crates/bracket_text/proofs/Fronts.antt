@@ -1,19 +1,19 @@
 -- What a run has read goes on to a text of the grammar; where it stops, no text goes on.
-use Rattle.std.proofs.Common.{◌≡◌, ◌<◌, ◌≤◌, ◌+◌, ◌∙◌, ℕ, List, [], ◌∷◌, ◌++◌, Option, Some, None, refl, sym, ap, subst, arith, append_assoc, option_and_then}
+use Rattle.std.proofs.Common.{◌≡◌, ◌<◌, ◌≤◌, ◌∙◌, ℕ, List, [], ◌∷◌, ◌++◌, Option, Some, None, refl, sym, ap, subst, arith, append_assoc, option_and_then}
 use Rattle.std.specs.Str.{IsUtf8}
 use Rattle.std.proofs.lemmas.Str.{IsUtf8-nil, IsUtf8-append}
 use Rattle.mix_base.specs.Reading.{IsFront}
 use Rattle.mix_base.proofs.Utf8.{one_utf8}
-use Rattle.mix_base.proofs.Choices.{none_some, some_is}
+use Rattle.mix_base.proofs.Choices.{none_some}
 use Rattle.mix_tree.specs.Forest.{LabelledTree, forest_of}
 use Rattle.mix_tree.specs.LabelMachine as spelled
 use Rattle.mix_tree.proofs.LabelAnswers as labels
 use Rattle.bracket_text.specs.Grammar.{Spells, SpellsShallow, levels}
-use Rattle.bracket_text.specs.Machine.{Frame, Mode, start, first, spelling, named, closed, State, at, leaf, step_in, step, run, tree_in, whole, empty, tree_of}
+use Rattle.bracket_text.specs.Machine.{Frame, Mode, start, first, spelling, named, closed, State, at, leaf, step, run, tree_in, whole, empty}
 use Rattle.bracket_text.proofs.Runs.{run_append, run_then, run_byte, label_run, named_hand, tree_close}
 use Rattle.bracket_text.proofs.Sound.{read_spelled}
 use Rattle.bracket_text.proofs.Complete.{spelled_read}
-use Rattle.bracket_text.proofs.Levels.{reached, close_levels, hand_levels, run_levels, whole_levels, stepped}
+use Rattle.bracket_text.proofs.Levels.{reached, close_levels, hand_levels, run_levels, whole_levels}
 
 -- ASCII bytes lead from a state to a whole tree, with no more than 200 levels where it had no more
 pub record GoesOn (s : State) : Type 0 where

@@ -1,12 +1,12 @@
 -- How deep the trees are that the machine has read.
-use Rattle.std.proofs.Common.{◌≡◌, ◌<◌, ◌≤◌, ◌+◌, ◌∙◌, ◌==◌, ◌&&◌, max, ℕ, Bool, true, false, cond, IsTrue, List, [], ◌∷◌, ◌++◌, Option, Some, None, refl, sym, ap, subst, arith, length, option_and_then, option_map, nat_le}
+use Rattle.std.proofs.Common.{◌≡◌, ◌<◌, ◌≤◌, ◌+◌, ◌∙◌, ◌==◌, ◌&&◌, max, ℕ, Bool, true, false, IsTrue, List, [], ◌∷◌, ◌++◌, Option, Some, None, refl, sym, ap, subst, arith, length, option_and_then, option_map, nat_le}
 use Rattle.std.proofs.lemmas.Bool.Decides.{nat_tests}
-use Rattle.mix_base.proofs.Choices.{and_parts, and_both, some_is, none_some, Gives, either}
+use Rattle.mix_base.proofs.Choices.{some_is, none_some, Gives, either}
 use Rattle.mix_tree.specs.Forest.{LabelledTree, forest_of}
 use Rattle.mix_tree.specs.LabelMachine as spelled
 use Rattle.bracket_text.specs.Grammar.{is_blank, levels_of, levels}
-use Rattle.bracket_text.specs.Machine.{Frame, Mode, start, first, spelling, named, closed, State, at, leaf, after_tree, after_tree_in, after_label, or_other, begin, behind, close_empty, begins, is_deep_in, is_deep, step_in, step, run, tree_in, whole_in, whole}
-use Rattle.bracket_text.proofs.Runs.{begins_not_blank, begins_not_close, spelling_begins}
+use Rattle.bracket_text.specs.Machine.{Frame, Mode, start, first, spelling, named, closed, State, at, leaf, after_tree, after_tree_in, after_label, or_other, begin, behind, close_empty, begins, is_deep_in, step_in, step, run, tree_in, whole_in, whole}
+use Rattle.bracket_text.proofs.Runs.{spelling_begins}
 
 -- the levels of the trees that are open
 abbrev pub open_levels : List Frame → ℕ

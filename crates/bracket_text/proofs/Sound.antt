@@ -1,13 +1,13 @@
 -- What the machine has read is a front of a text of the grammar.
-use Rattle.std.proofs.Common.{◌≡◌, ◌⊎◌, inl, inr, ◌∙◌, ◌==◌, ℕ, Bool, true, false, cond, IsTrue, List, [], ◌∷◌, ◌++◌, Option, Some, None, refl, sym, ap, subst, append_assoc, option_and_then, option_map}
+use Rattle.std.proofs.Common.{◌≡◌, inl, inr, ◌∙◌, ◌==◌, ℕ, IsTrue, List, [], ◌∷◌, ◌++◌, Option, Some, None, refl, sym, ap, subst, append_assoc, option_and_then, option_map}
 use Rattle.mix_base.proofs.Lists.{append_nil}
 use Rattle.mix_base.proofs.Choices.{list_all-push, number_is, some_is, none_some, Gives, either}
-use Rattle.mix_tree.specs.Forest.{none, tree, LabelledTree, alone, forest_of}
+use Rattle.mix_tree.specs.Forest.{LabelledTree, alone, forest_of}
 use Rattle.mix_tree.specs.LabelGrammar.{SpellsLabel}
 use Rattle.mix_tree.specs.LabelMachine as spelled
 use Rattle.mix_tree.proofs.LabelSound as labels
 use Rattle.bracket_text.specs.Grammar.{is_blank, IsBlanks, SpellsBrackets, SpellsTrees, Spells}
-use Rattle.bracket_text.specs.Machine.{Frame, Mode, start, first, spelling, named, closed, State, at, leaf, after_tree, after_tree_in, after_label, or_other, begin, behind, close_empty, step_in, step, run, tree_in, whole_in, whole, empty, tree_of}
+use Rattle.bracket_text.specs.Machine.{Frame, Mode, start, first, spelling, named, closed, State, leaf, after_tree, after_tree_in, after_label, or_other, begin, behind, close_empty, step_in, step, run, tree_in, whole_in, whole, empty, tree_of}
 
 -- the text of one tree
 abbrev pub SpellsOne : LabelledTree → List ℕ → Type 0

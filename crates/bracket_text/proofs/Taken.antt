@@ -1,14 +1,12 @@
 -- What a reader does with a label at once, and with other bytes.
-use Rattle.std.proofs.Common.{◌≡◌, ◌<◌, ◌≤◌, ◌+◌, ◌∙◌, ◌==◌, ◌&&◌, ℕ, Bool, true, false, cond, IsTrue, List, [], ◌∷◌, ◌++◌, Option, Some, None, refl, sym, ap, subst, arith, length, drop, slice_index, option_map, nat_le}
+use Rattle.std.proofs.Common.{◌≡◌, ◌<◌, ◌+◌, ◌∙◌, ◌==◌, ◌&&◌, ℕ, Bool, true, false, cond, IsTrue, List, [], ◌∷◌, Option, Some, None, refl, sym, ap, arith, length, drop, slice_index, option_map, nat_le}
 use Rattle.std.proofs.lemmas.Bool.Decides.{nat_tests}
 use Rattle.std.proofs.lemmas.List.{drop_more}
-use Rattle.mix_base.proofs.Choices.{number_is, some_is, none_some, Gives, either}
+use Rattle.mix_base.proofs.Choices.{number_is, none_some, Gives, either}
 use Rattle.mix_tree.specs.Forest.{LabelledTree}
 use Rattle.mix_tree.specs.LabelMachine as spelled
-use Rattle.mix_tree.specs.LabelReads.{seen_of}
-use Rattle.mix_tree.specs.declared.label_read.LabelRead.{LabelRead}
 use Rattle.bracket_text.specs.Grammar.{is_blank}
-use Rattle.bracket_text.specs.Machine.{Frame, Mode, start, first, spelling, named, closed, State, at, leaf, after_tree, after_tree_in, after_label, or_other, begin, behind, begins, is_deep_in, is_deep, step_in, step, whole_in, Verdict, reads, unexpected, too_deep, ends, at_end, or_stop, verdict}
+use Rattle.bracket_text.specs.Machine.{Frame, Mode, start, first, spelling, named, closed, State, at, leaf, after_tree, after_tree_in, after_label, or_other, behind, begins, is_deep_in, is_deep, step, whole_in, Verdict, unexpected, too_deep, ends, at_end, or_stop, verdict}
 use Rattle.bracket_text.specs.ReaderState as reader
 use Rattle.bracket_text.specs.ReaderState.{GivesStop, GivesFault, mode_of}
 use Rattle.bracket_text.specs.declared.reader.Mode as declared
@@ -56,10 +54,6 @@ few_not_deep : (o : List Frame) (c : Bool) → length o < 200 → (c && nat_le 2
 few_not_deep o false h = refl
 few_not_deep o true h = grind (arith, nat_tests)
 
-many_deep : (o : List Frame) (c : Bool) → IsTrue c → 200 ≤ length o → (c && nat_le 200 (length o)) ≡ true
-many_deep o false k h = cc
-many_deep o true k h = grind (arith, nat_tests)
-
 -- a label that begins is read as it is seen
 begin_verdict : (o : List Frame) (m : Mode) (i b : ℕ) (x : List ℕ) → MayBegin m → length o < 200 → IsTrue (begins b) → verdict (at o m) i (b ∷ x) ≡ behind_label o (spelled.seen_from spelled.start i (b ∷ x))
 begin_verdict o m i b x h few k =
@@ -81,13 +75,6 @@ label_at o m text i z h few inside k e =
     let here = drop_more text i 0 inside in
     ap (verdict (at o m) i) here ∙ begin_verdict o m i (slice_index text i) (drop (i + 1) text) h few k
     ∙ ap (λ r. behind_label o (spelled.seen_from spelled.start i r)) (sym here) ∙ ap (behind_label o) e
-
--- a label of a text lies too deep
-pub deep_at : (o : List Frame) (m : Mode) (text : List ℕ) (i : ℕ) → MayBegin m → 200 ≤ length o → i < length text → IsTrue (begins (slice_index text i)) → verdict (at o m) i (drop i text) ≡ too_deep i
-deep_at o m text i h many inside k =
-    let rest = or_stop (λ t. verdict t (i + 1) (drop (i + 1) text)) (unexpected i) (step_in o m (slice_index text i)) in
-    ap (verdict (at o m) i) (drop_more text i 0 inside)
-    ∙ ap (λ c. cond c (too_deep i) rest) (deep_test o m (slice_index text i) h ∙ many_deep o (begins (slice_index text i)) k many)
 
 -- a byte of a text is taken
 pub step_goes : (s t : State) (text : List ℕ) (i : ℕ) → i < length text → is_deep s (slice_index text i) ≡ false → step s (slice_index text i) ≡ Some t → verdict s i (drop i text) ≡ verdict t (i + 1) (drop (i + 1) text)

@@ -1,10 +1,10 @@
 -- What the machine says of a text, in terms of the grammar.
-use Rattle.std.proofs.Common.{◌≡◌, ◌⊎◌, inl, inr, ◌<◌, ◌≤◌, ◌+◌, ◌∙◌, ◌==◌, ◌||◌, ◌&&◌, ℕ, Bool, true, false, cond, IsTrue, List, [], ◌∷◌, ◌++◌, Option, Some, None, Result, Ok, Err, refl, sym, ap, subst, arith, length, append_assoc, option_and_then, take, drop, length-append, take-append-drop, nat_le}
+use Rattle.std.proofs.Common.{◌≡◌, ◌⊎◌, inl, inr, ◌<◌, ◌≤◌, ◌+◌, ◌∙◌, ◌==◌, ◌||◌, ℕ, Bool, true, false, cond, IsTrue, List, [], ◌∷◌, ◌++◌, Option, Some, None, Result, Ok, Err, refl, sym, ap, subst, arith, length, append_assoc, option_and_then, take, drop, length-append, take-append-drop, nat_le}
 use Rattle.std.proofs.lemmas.Bool.Decides.{nat_tests}
 use Rattle.std.specs.List.{list_all}
 use Rattle.std.specs.Str.{IsUtf8}
 use Rattle.std.proofs.lemmas.Str.{IsUtf8-nil}
-use Rattle.mix_base.specs.Reading.{IsFront, IsUnexpected, IsCut}
+use Rattle.mix_base.specs.Reading.{IsFront}
 use Rattle.mix_base.proofs.Lists.{append_nil, front_is, front_with}
 use Rattle.mix_base.proofs.Choices.{and_parts, and_both, number_is, some_is, none_some, Gives, either}
 use Rattle.mix_base.proofs.Utf8.{utf8_split, utf8_push}
@@ -13,9 +13,9 @@ use Rattle.mix_tree.specs.Spelling.{is_bare}
 use Rattle.mix_tree.specs.LabelGrammar.{is_escape}
 use Rattle.mix_tree.specs.LabelMachine as spelled
 use Rattle.mix_tree.proofs.LabelComplete.{bare_goes_on}
-use Rattle.bracket_text.specs.Grammar.{is_blank, Spells, SpellsShallow, levels}
-use Rattle.bracket_text.specs.Machine.{Frame, Mode, start, first, spelling, named, closed, State, at, after_tree, after_tree_in, after_label, or_other, begin, behind, close_empty, begins, is_deep_in, is_deep, step_in, step, run, whole, empty, Verdict, reads, unexpected, too_deep, ends, at_end, or_stop, verdict}
-use Rattle.bracket_text.specs.Results.{IsTooDeep, Refuses, Answers, IsTree}
+use Rattle.bracket_text.specs.Grammar.{is_blank, Spells, SpellsShallow}
+use Rattle.bracket_text.specs.Machine.{Frame, Mode, start, first, spelling, named, closed, State, at, after_tree, after_tree_in, after_label, or_other, begin, behind, begins, is_deep_in, is_deep, step_in, step, run, whole, empty, Verdict, reads, unexpected, too_deep, ends, at_end, or_stop, verdict}
+use Rattle.bracket_text.specs.Results.{Refuses, Answers, IsTree}
 use Rattle.bracket_text.specs.ReaderState.{GivesFault, GivesVerdict}
 use Rattle.bracket_text.specs.declared.fault.BracketFault.{BracketFault}
 use Rattle.bracket_text.specs.declared.fault.BracketFault.TheVariants.{NotUtf8, Unexpected, TooDeep, Ends, OutOfMemory}

@@ -1,10 +1,10 @@
 -- What reading a tree answers.
-use Rattle.std.specs.Prelude.{◌≡◌, ℕ, ◌+◌, ◌<◌, ◌≤◌, List, length, take, Result, Ok, Err}
+use Rattle.std.specs.Prelude.{◌≡◌, ℕ, ◌+◌, ◌<◌, List, length, take, Result, Ok, Err}
 use Rattle.std.specs.Str.{IsUtf8}
 use Rattle.std.specs.Str.Lossy.{utf8_valid_len}
 use Rattle.mix_base.specs.Reading.{IsFront, IsUnexpected, IsCut}
 use Rattle.mix_tree.specs.Forest.{LabelledTree}
-use Rattle.bracket_text.specs.Grammar.{Spells, SpellsShallow, levels}
+use Rattle.bracket_text.specs.Grammar.{Spells, SpellsShallow}
 use Rattle.bracket_text.specs.declared.fault.BracketFault.{BracketFault}
 use Rattle.bracket_text.specs.declared.fault.BracketFault.TheVariants.{NotUtf8, Unexpected, TooDeep, Ends, OutOfMemory}
 

@@ -1,21 +1,21 @@
 -- What is seen at a place of a text, in terms of the grammar.
-use Rattle.std.proofs.Common.{◌≡◌, ◌⊎◌, inl, inr, ◌<◌, ◌≤◌, ◌+◌, ◌-◌, ◌∙◌, ◌==◌, ℕ, zero, suc, Bool, true, false, cond, IsTrue, List, [], ◌∷◌, ◌++◌, Option, Some, None, refl, sym, ap, subst, arith, length, append_assoc, option_and_then, take, drop, slice_range, slice_index, length-append, length-drop, Result, Ok, Err, IfOk}
+use Rattle.std.proofs.Common.{◌≡◌, inl, inr, ◌<◌, ◌≤◌, ◌+◌, ◌-◌, ◌∙◌, ◌==◌, ℕ, zero, suc, Bool, true, false, cond, List, [], ◌∷◌, ◌++◌, Option, Some, None, refl, sym, ap, subst, arith, length, append_assoc, option_and_then, take, drop, slice_range, slice_index, length-append, length-drop, Result, Ok, Err, IfOk}
 use Rattle.std.proofs.lemmas.Bool.Decides.{nat_tests}
 use Rattle.std.proofs.lemmas.List.{drop_more}
-use Rattle.std.proofs.lemmas.Str.{IsUtf8-nil, IsUtf8-drop, IsUtf8-append, IsUtf8-between, IsCharBoundary-start, IsCharBoundary-end, IsCharBoundary-from_drop}
+use Rattle.std.proofs.lemmas.Str.{IsUtf8-nil, IsUtf8-drop, IsUtf8-append, IsUtf8-between, IsCharBoundary-start, IsCharBoundary-from_drop}
 use Rattle.std.specs.Str.{IsUtf8, IsCharBoundary}
-use Rattle.mix_base.specs.Reading.{IsFront, IsUnexpected}
+use Rattle.mix_base.specs.Reading.{IsFront}
 use Rattle.mix_base.proofs.Lists.{append_nil, take_whole, take_append, front_cases, front_is, front_with}
 use Rattle.mix_base.proofs.Choices.{some_is, none_some, Gives}
-use Rattle.mix_base.proofs.Utf8.{utf8_split, one_utf8, utf8_from, utf8_behind}
+use Rattle.mix_base.proofs.Utf8.{one_utf8, utf8_from, utf8_behind}
 use Rattle.mix_tree.specs.Spelling.{is_bare}
-use Rattle.mix_tree.specs.LabelGrammar.{is_escape, SpellsLabel, inside_quotes}
-use Rattle.mix_tree.specs.LabelMachine.{Spot, start, in_bare, in_quotes, in_escape, behind_quote, step, run, label_in, Seen, got, unexpected, ends, seen_from}
+use Rattle.mix_tree.specs.LabelGrammar.{SpellsLabel, inside_quotes}
+use Rattle.mix_tree.specs.LabelMachine.{Spot, start, in_bare, in_quotes, in_escape, behind_quote, step, run, label_in, seen_from}
 use Rattle.mix_tree.specs.LabelReads.{SpellsNowhere, IsLongest, IsNoLabel, IsCutLabel, ReadsLabel, seen_of}
 use Rattle.mix_tree.specs.declared.label_read.LabelRead.{LabelRead}
 use Rattle.mix_tree.specs.declared.label_read.LabelRead.TheVariants.{Got, Unexpected, Ends}
 use Rattle.mix_tree.proofs.LabelSound.{Writes, run_writes, label_spelled}
-use Rattle.mix_tree.proofs.LabelComplete.{run_append, run_then, run_byte, spelled_reads, MayEnd, run_may_end}
+use Rattle.mix_tree.proofs.LabelComplete.{run_then, run_byte, spelled_reads, run_may_end}
 use Rattle.mix_tree.proofs.LabelSeen.{Stops, SawLabel, SawStop, SawEnd, Saw, saw}
 
 -- ASCII bytes lead from a spot to the end of a label

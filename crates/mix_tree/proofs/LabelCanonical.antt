@@ -1,11 +1,9 @@
 -- The canonical spelling of a label spells it.
-use Rattle.std.proofs.Common.{◌≡◌, ◌⊎◌, inl, inr, ◌∙◌, ◌==◌, ℕ, Bool, true, false, cond, IsTrue, List, [], ◌∷◌, ◌++◌, Option, Some, None, refl, sym, ap}
+use Rattle.std.proofs.Common.{◌≡◌, inl, inr, ◌∙◌, ◌==◌, ℕ, Bool, true, false, cond, IsTrue, List, [], ◌∷◌, ◌++◌, refl, sym, ap}
 use Rattle.std.specs.List.{list_all, flat_map}
-use Rattle.mix_base.proofs.Choices.{and_both, number_is, some_is}
-use Rattle.mix_tree.specs.Spelling.{is_bare, is_bare_label, escaped, quoted, spelling}
+use Rattle.mix_base.proofs.Choices.{and_both, number_is}
+use Rattle.mix_tree.specs.Spelling.{is_bare_label, escaped, quoted, spelling}
 use Rattle.mix_tree.specs.LabelGrammar.{Piece, plain, escape, is_piece, ArePieces, inside_quotes, meaning, SpellsLabel}
-use Rattle.mix_tree.specs.LabelMachine.{Spot, label_in}
-use Rattle.mix_tree.proofs.LabelComplete.{spelled_reads}
 
 -- a byte as a piece: the four escapes wherever they apply
 abbrev piece_of : ℕ → Piece

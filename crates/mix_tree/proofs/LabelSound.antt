@@ -1,6 +1,5 @@
 -- What is read as a label is spelled so.
-use Rattle.std.proofs.Common.{◌≡◌, ◌⊎◌, inl, inr, ◌∙◌, ◌==◌, ℕ, Bool, true, false, cond, IsTrue, List, [], ◌∷◌, ◌++◌, Option, Some, None, refl, sym, ap, subst, append_assoc, option_and_then}
-use Rattle.std.specs.List.{list_all}
+use Rattle.std.proofs.Common.{◌≡◌, inl, inr, ◌∙◌, ◌==◌, ℕ, true, false, IsTrue, List, [], ◌∷◌, ◌++◌, Option, Some, None, refl, sym, ap, subst, append_assoc, option_and_then}
 use Rattle.mix_base.proofs.Lists.{append_nil}
 use Rattle.mix_base.proofs.Choices.{and_both, list_all-push, number_is, some_is, none_some, Gives, either}
 use Rattle.mix_tree.specs.Spelling.{is_bare, is_bare_label}

@@ -1,5 +1,5 @@
 -- What is seen of a label that is taken in pieces.
-use Rattle.std.proofs.Common.{◌≡◌, ◌⊎◌, inl, inr, ◌<◌, ◌≤◌, ◌+◌, ◌-◌, ◌∙◌, ◌==◌, ℕ, Bool, true, false, cond, IsTrue, List, [], ◌∷◌, ◌++◌, Option, Some, None, refl, sym, ap, subst, arith, length, append_assoc, drop, slice_range, slice_index, length-drop}
+use Rattle.std.proofs.Common.{◌≡◌, ◌⊎◌, inl, inr, ◌<◌, ◌≤◌, ◌+◌, ◌∙◌, ◌==◌, ℕ, Bool, true, false, cond, IsTrue, List, [], ◌∷◌, ◌++◌, Some, None, refl, sym, ap, subst, arith, length, append_assoc, drop, slice_range, slice_index, length-drop}
 use Rattle.std.proofs.lemmas.Bool.Decides.{nat_tests}
 use Rattle.std.proofs.lemmas.List.{drop_more}
 use Rattle.std.proofs.lemmas.Str.{IsCharBoundary-end, IsCharBoundary-before_ascii}
@@ -10,7 +10,7 @@ use Rattle.mix_base.proofs.Choices.{and_parts, none_some, some_is}
 use Rattle.mix_base.proofs.Slices.{slice_then, slice_length, drop_end}
 use Rattle.mix_tree.specs.Spelling.{is_bare}
 use Rattle.mix_tree.specs.LabelGrammar.{is_plain, is_escape, escaped_byte}
-use Rattle.mix_tree.specs.LabelMachine.{Spot, start, in_bare, in_quotes, in_escape, behind_quote, step, Seen, got, unexpected, ends, seen_at, or_stop, seen_from}
+use Rattle.mix_tree.specs.LabelMachine.{Spot, start, in_bare, in_quotes, in_escape, behind_quote, step, got, unexpected, ends, or_stop, seen_from}
 use Rattle.mix_tree.specs.LabelReads.{escape_of}
 use Rattle.mix_tree.proofs.LabelComplete.{plain_step}
 

@@ -1,5 +1,5 @@
 -- What reading a label at a place of a text answers.
-use Rattle.std.specs.Prelude.{◌≡◌, ℕ, ◌+◌, ◌-◌, ◌≤◌, ◌<◌, cond, Option, Some, None, List, [], length, take, drop, slice_range}
+use Rattle.std.specs.Prelude.{◌≡◌, ℕ, ◌-◌, ◌≤◌, ◌<◌, cond, Option, Some, None, List, length, take, drop, slice_range}
 use Rattle.std.specs.Str.{IsUtf8, IsCharBoundary}
 use Rattle.mix_base.specs.Reading.{IsFront, IsUnexpected}
 use Rattle.mix_tree.specs.LabelGrammar.{is_escape, escaped_byte, SpellsLabel}

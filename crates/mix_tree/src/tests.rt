@@ -54,9 +54,17 @@ fn labels_are_spelled_bare_or_quoted(rt: HostRuntime) -> Result<(), Fail> {
     Ok(())
 }
 
+// What stands at a place of a text.
+fn read(alloc: Global, text: &str, from: usize) -> Result<LabelRead, Fail> {
+    if from > text.len() {
+        return Err("no such place".into());
+    }
+    Ok(read_label(alloc, text.as_bytes(), from)?)
+}
+
 // The label that is spelled at a place of a text, and the place behind it.
 fn spelled(alloc: Global, text: &str, from: usize) -> Result<(Label, usize), Fail> {
-    match read_label(alloc, text.as_bytes(), from)? {
+    match read(alloc, text, from)? {
         LabelRead::Got { label, end } => Ok((label, end)),
         LabelRead::Unexpected(_) | LabelRead::Ends => Err("no label".into()),
     }
@@ -84,7 +92,7 @@ fn labels_are_read_as_they_are_spelled(rt: HostRuntime) -> Result<(), Fail> {
 
 // Where no label is spelled: the byte that does not fit, or none where the text ends.
 fn stop(alloc: Global, text: &str, from: usize) -> Result<Option<usize>, Fail> {
-    match read_label(alloc, text.as_bytes(), from)? {
+    match read(alloc, text, from)? {
         LabelRead::Got { .. } => Err("a label".into()),
         LabelRead::Unexpected(at) => Ok(Some(at)),
         LabelRead::Ends => Ok(None),

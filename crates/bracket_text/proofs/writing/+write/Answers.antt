@@ -1,4 +1,4 @@
-use Rattle.std.proofs.Common.{rules, ◌≡◌, ◌<◌, ◌++◌, ◌∷◌, [], ◌∙◌, ap, length}
+use Rattle.std.proofs.Common.{rules, ◌<◌, ◌++◌, ◌∷◌, [], ◌∙◌, ap, length}
 use Rattle.mix_tree.specs.Forest.{LabelledTree, forest_of}
 use Rattle.bracket_text.specs.Canonical.{canon, canon_trees}
 use Rattle.bracket_text.proofs.Written.{bracketed}

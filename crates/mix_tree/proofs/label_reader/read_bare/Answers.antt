@@ -1,5 +1,4 @@
-use Rattle.std.proofs.Common.{rules, ◌≡◌, ◌⊎◌, inl, inr, ◌<◌, ◌≤◌, ◌∷◌, ◌==◌, ◌∙◌, [], false, length, drop, slice_range, slice_index, Some, None, IfOk, IsTrue, ℕ, ◌+◌, ◌-◌, List, ◌++◌, sym, ap, subst, arith, refl}
-use Rattle.std.specs.Str.{IsUtf8, IsCharBoundary}
+use Rattle.std.proofs.Common.{◌∙◌, drop, sym, ap}
 use Rattle.std.proofs.lemmas.Str.{IsUtf8-between}
 use Rattle.mix_tree.proofs.LabelTaken.{bare_label_seen, scan_boundary, not_bare_ascii}
 use Rattle.mix_tree.specs.LabelMachine.{got}

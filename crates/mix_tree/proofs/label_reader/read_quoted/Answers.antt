@@ -1,5 +1,4 @@
-use Rattle.std.proofs.Common.{rules, ◌≡◌, ◌⊎◌, inl, inr, ◌<◌, ◌≤◌, ◌∷◌, ◌==◌, ◌∙◌, [], false, length, drop, slice_range, slice_index, Some, None, IfOk, IsTrue, ℕ, ◌+◌, ◌-◌, List, ◌++◌, sym, ap, subst, arith, refl}
-use Rattle.std.specs.Str.{IsUtf8, IsCharBoundary}
+use Rattle.std.proofs.Common.{rules, ◌≡◌, ◌<◌, ◌∙◌, [], length, drop, slice_range, slice_index, ◌+◌, sym, ap}
 use Rattle.std.proofs.lemmas.Str.{IsUtf8-between}
 use Rattle.mix_tree.specs.LabelMachine.{got}
 use Rattle.mix_tree.proofs.LabelTaken.{quotes_seen, quote_seen, not_plain_ascii, scan_boundary}

@@ -1,4 +1,4 @@
-use Rattle.std.proofs.Common.{rules, ◌≡◌, ◌⊎◌, inl, inr, ◌<◌, ◌≤◌, ◌∷◌, ◌==◌, ◌∙◌, [], false, length, drop, slice_range, slice_index, Some, None, IfOk, IsTrue, ℕ, ◌+◌, ◌-◌, List, ◌++◌, sym, ap, subst, arith, refl}
+use Rattle.std.proofs.Common.{rules, ◌≡◌, ◌<◌, ◌≤◌, ◌∷◌, ◌∙◌, [], length, drop, slice_range, slice_index, Some, None, ◌+◌, ◌++◌, sym, ap, subst, arith}
 use Rattle.std.specs.Str.{IsUtf8, IsCharBoundary}
 use Rattle.std.proofs.lemmas.Str.{IsUtf8-between, IsUtf8-append, IsCharBoundary-after_ascii}
 use Rattle.std.proofs.lemmas.Bool.Decides.{nat_tests}

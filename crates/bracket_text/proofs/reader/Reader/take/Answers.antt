@@ -1,7 +1,7 @@
 use Rattle.std.proofs.Common.{rules, ◌≡◌, ◌<◌, ◌+◌, false, IsTrue, slice_index, arith}
 use Rattle.std.proofs.lemmas.Str.{IsCharBoundary-after_ascii}
 use Rattle.bracket_text.specs.Machine.{begins}
-use Rattle.bracket_text.specs.ReaderState.{open_of, mode_of, state_of}
+use Rattle.bracket_text.specs.ReaderState.{open_of, state_of}
 use Rattle.bracket_text.proofs.Taken.{step_goes, no_label, other_ascii, other_not_deep}
 use Rattle.bracket_text.proofs.reader.Reader.take.Goals as goal
 

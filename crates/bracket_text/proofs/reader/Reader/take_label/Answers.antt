@@ -1,12 +1,11 @@
-use Rattle.std.proofs.Common.{rules, ◌≡◌, ◌<◌, ◌≤◌, ◌+◌, ◌∙◌, length, drop, slice_index, refl, subst, ap, arith, map}
-use Rattle.std.specs.Str.{IsUtf8, IsCharBoundary}
+use Rattle.std.proofs.Common.{◌<◌, ◌∙◌, length, slice_index, refl, subst, ap, arith, map}
 use Rattle.std.proofs.lemmas.List.{length-map, length-reverse}
 use Rattle.std.proofs.lemmas.Result.{err_from_is_err_and}
 use Rattle.std.proofs.lemmas.Str.{IsCharBoundary-after_ascii}
 use Rattle.mix_tree.specs.LabelReads.{IsLongest, ReadsLabel, seen_of}
-use Rattle.bracket_text.specs.Machine.{at, named, verdict}
+use Rattle.bracket_text.specs.Machine.{at, named}
 use Rattle.bracket_text.specs.ReaderState.{frame_of, open_of, mode_of, state_of}
-use Rattle.bracket_text.proofs.Taken.{may, label_at, deep_at, behind_label, step_goes, fault_stops, ascii_behind}
+use Rattle.bracket_text.proofs.Taken.{may, label_at, step_goes, fault_stops, ascii_behind}
 use Rattle.bracket_text.proofs.reader.Reader.take_label.Goals as goal
 
 pub returns-in-Unexpected : goal.returns-in-Unexpected
