@@ -43,6 +43,7 @@ TreeBehind o t r = (m : Mode) × (r ≡ Some (at o m)) × (tree_in m ≡ Some t)
 abbrev pub ReadsTrees : Forest → List ℕ → Type 0
 ReadsTrees k x = (f : Frame) (o : List Frame) (m : Mode) → MayBegin m → Ends (Behind f o (trees_of k)) (run (at (f ∷ o) m) x)
 
+-- a blank behind a label
 blank_label : (o : List Frame) (l : List ℕ) (b : ℕ) → IsTrue (is_blank b) → after_label o l b ≡ Some (at o (named l))
 blank_label o l b h = rw h refl
 

@@ -23,6 +23,7 @@ pub record GoesOn (s : State) : Type 0 where
   pub read : option_and_then whole (run s bytes) ≡ Some tree
   pub shallow : reached s ≤ 200 → levels tree ≤ 200
 
+-- some bytes, and then as the state behind them goes on
 text_on : (x : List ℕ) (s t : State) → IsUtf8 x → run s x ≡ Some t → (reached s ≤ 200 → reached t ≤ 200) → GoesOn t → GoesOn s
 text_on x s t u e k h = record {
   bytes = x ++ h.bytes;
@@ -32,6 +33,7 @@ text_on x s t u e k h = record {
   shallow = λ d. h.shallow (k d);
 }
 
+-- the same of one byte
 byte_on : (b : ℕ) (s t : State) → b < 128 → step s b ≡ Some t → (reached s ≤ 200 → reached t ≤ 200) → GoesOn t → GoesOn s
 byte_on b s t low e k h = text_on (b ∷ []) s t (one_utf8 b low) (run_byte b [] s t e) k h
 
@@ -43,6 +45,7 @@ hand_on (f ∷ o) m t e =
     byte_on 93 (at (f ∷ o) m) (at o (closed shut)) (omega arith) (tree_close f o m t e) (λ d. omega (arith, close_levels f o t, hand_levels (f ∷ o) m t e))
     (hand_on o (closed shut) shut refl)
 
+-- a label goes on to its end, and the open brackets are closed
 label_on : (o : List Frame) (s : spelled.Spot) → GoesOn (at o (spelling s))
 label_on o s =
     let h = labels.goes_on s in
@@ -77,6 +80,7 @@ pub stopped_front : (x : List ℕ) → run empty x ≡ None → IsFront Spells x
 stopped_front x e (y, t, u, h) =
     none_some t (sym (ap (option_and_then whole) (run_append x y empty ∙ ap (option_and_then (λ s. run s y)) e)) ∙ spelled_read (x ++ y) t h)
 
+-- a tree read from a state on has at least its levels
 deep_tree : (r : Option State) (s : State) (t : LabelledTree) → option_and_then whole r ≡ Some t → ((u : State) → r ≡ Some u → reached s ≤ reached u) → reached s ≤ levels t
 deep_tree None s t e k = none_some t e
 deep_tree (Some u) s t e k = omega (arith, k u refl, whole_levels u t e)

@@ -21,6 +21,7 @@ mode_levels o (spelling s) = length o + 1
 mode_levels o (named l) = length o + 1
 mode_levels o (closed t) = length o + levels t
 
+-- the levels of the open trees and of the tree at hand
 abbrev pub levels_in : List Frame → Mode → ℕ
 levels_in o m = max (open_levels o) (mode_levels o m)
 
@@ -37,36 +38,45 @@ levels_push (u ∷ us) t = omega (arith, levels_push us t)
 abbrev pub Has : ℕ → State → Type 0
 Has n s = reached s ≡ n
 
+-- a comma adds no levels
 comma_levels : (f : Frame) (o : List Frame) (t : LabelledTree) → reached (at (record { label = f.label; kids = f.kids ++ t ∷ [] } ∷ o) start) ≡ levels_in (f ∷ o) (closed t)
 comma_levels f o t = omega (arith, levels_push f.kids t)
 
+-- a closing bracket adds none
 pub close_levels : (f : Frame) (o : List Frame) (t : LabelledTree) → reached (at o (closed (record { label = f.label; kids = forest_of (f.kids ++ t ∷ []) }))) ≡ levels_in (f ∷ o) (closed t)
 close_levels f o t = omega (arith, levels_push f.kids t)
 
+-- nor does either of them behind a tree
 tree_in_levels : (o : List Frame) (t : LabelledTree) (b : ℕ) → Gives (Has (levels_in o (closed t))) (after_tree_in o t b)
 tree_in_levels [] t b = tt
 tree_in_levels (f ∷ o) t b = either _ (b == 44) _ _ (λ e. comma_levels f o t) (λ n. either _ (b == 93) _ _ (λ e. close_levels f o t) (λ k. tt))
 
+-- nor does any byte behind a tree
 tree_levels : (o : List Frame) (t : LabelledTree) (b : ℕ) → Gives (Has (levels_in o (closed t))) (after_tree o t b)
 tree_levels o t b = either _ (is_blank b) _ _ (λ h. refl) (λ n. tree_in_levels o t b)
 
+-- an opening bracket adds none
 open_one : (o : List Frame) (l : List ℕ) → reached (at (record { label = l; kids = [] } ∷ o) first) ≡ levels_in o (named l)
 open_one o l = omega arith
 
+-- nor does any byte behind a label
 label_levels : (o : List Frame) (l : List ℕ) (b : ℕ) → Gives (Has (levels_in o (named l))) (after_label o l b)
 label_levels o l b =
     let same : levels_in o (closed (leaf l)) ≡ levels_in o (named l) = omega arith in
     either _ (is_blank b) _ _ (λ h. refl)
     (λ n. either _ (b == 91) _ _ (λ e. open_one o l) (λ k. subst (λ i. Gives (Has i) (after_tree o (leaf l) b)) same (tree_levels o (leaf l) b)))
 
+-- nor does a byte that ends a label
 behind_levels : (o : List Frame) (l : Option (List ℕ)) (b : ℕ) → Gives (Has (max (open_levels o) (length o + 1))) (behind o l b)
 behind_levels o None b = tt
 behind_levels o (Some l) b = label_levels o l b
 
+-- nor does a byte of a label
 spelling_levels : (o : List Frame) (r : Option spelled.Spot) (other : Option State) → Gives (Has (max (open_levels o) (length o + 1))) other → Gives (Has (max (open_levels o) (length o + 1))) (or_other o other r)
 spelling_levels o None other h = h
 spelling_levels o (Some s) other h = refl
 
+-- nor do empty brackets
 empty_levels : (o : List Frame) → Gives (Has (levels_in o first)) (close_empty o)
 empty_levels [] = tt
 empty_levels (f ∷ o) = omega arith
@@ -77,6 +87,7 @@ pub record Stepped (o : List Frame) (m : Mode) (b : ℕ) (t : State) : Type 0 wh
   pub shallow : is_deep_in o m b ≡ false → levels_in o m ≤ 200 → reached t ≤ 200
   pub deep : is_deep_in o m b ≡ true → 200 < reached t
 
+-- a byte that begins no label adds none
 same_levels : (o : List Frame) (m : Mode) (b : ℕ) (r : Option State) → is_deep_in o m b ≡ false → Gives (Has (levels_in o m)) r → Gives (Stepped o m b) r
 same_levels o m b None n h = tt
 same_levels o m b (Some t) n h = record { more = omega (arith, h); shallow = λ k d. omega (arith, h); deep = λ k. absurd_test (is_deep_in o m b) n k }
@@ -85,13 +96,16 @@ same_levels o m b (Some t) n h = record { more = omega (arith, h); shallow = λ 
     absurd_test true p q = cc
     absurd_test false p q = cc
 
+-- a test that fails on its first side
 not_deep : (c d : Bool) → c ≡ false → (c && d) ≡ false
 not_deep true d h = cc
 not_deep false d h = refl
 
+-- no label begins with a blank
 blank_begins : (b : ℕ) → IsTrue (is_blank b) → begins b ≡ false
 blank_begins b h = grind (arith, nat_tests)
 
+-- a label that begins adds its level at most
 begun_levels : (o : List Frame) (m : Mode) (b : ℕ) → is_deep_in o m b ≡ (begins b && nat_le 200 (length o)) → levels_in o m ≤ max (open_levels o) (length o + 1) → IsTrue (begins b) → (s : spelled.Spot)
     → Stepped o m b (at o (spelling s))
 begun_levels o m b e low h s = record {
@@ -110,6 +124,7 @@ begun_levels o m b e low h s = record {
     by_other true false q r = cc
     by_other true true q r = grind (arith, nat_tests)
 
+-- the same of the byte with which one may begin
 begin_levels : (o : List Frame) (m : Mode) (b : ℕ) → is_deep_in o m b ≡ (begins b && nat_le 200 (length o)) → levels_in o m ≤ max (open_levels o) (length o + 1) → Gives (Stepped o m b) (begin o b)
 begin_levels o m b e low = by_spot (spelled.step spelled.start b) refl
   where
@@ -117,6 +132,7 @@ begin_levels o m b e low = by_spot (spelled.step spelled.start b) refl
     by_spot None f = tt
     by_spot (Some s) f = begun_levels o m b e low (spelling_begins b s f) s
 
+-- no label begins with a closing bracket
 close_begins : (b : ℕ) → (b == 93) ≡ true → begins b ≡ false
 close_begins b h = grind (arith, nat_tests)
 
@@ -141,6 +157,7 @@ stepped s t b e = by_step (step s b) e (step_levels s.open' s.mode b)
     by_step None f h = none_some t f
     by_step (Some u) f h = subst (Stepped s.open' s.mode b) (some_is u t f) h
 
+-- the levels over a first byte and the rest
 run_more : (x : List ℕ) (s t : State) (b : ℕ) (r : Option State) → step s b ≡ r → option_and_then (λ u. run u x) r ≡ Some t → ((u : State) → run u x ≡ Some t → reached u ≤ reached t) → reached s ≤ reached t
 run_more x s t b None f e k = none_some t e
 run_more x s t b (Some u) f e k = omega (arith, (stepped s u b f).more, k u e)
@@ -162,6 +179,7 @@ hand_levels o (spelling s) t e = by_label (spelled.label_in s) e
 hand_levels o (named l) t e = let same : levels (leaf l) ≡ levels t = ap levels (some_is (leaf l) t e) in omega (arith, same)
 hand_levels o (closed u) t e = let same : levels u ≡ levels t = ap levels (some_is u t e) in omega (arith, same)
 
+-- the tree that was read has all levels
 whole_in_levels : (o : List Frame) (m : Mode) (t : LabelledTree) → whole_in o m ≡ Some t → levels t ≡ levels_in o m
 whole_in_levels [] m t e = omega (arith, hand_levels [] m t e)
 whole_in_levels (f ∷ o) m t e = none_some t e

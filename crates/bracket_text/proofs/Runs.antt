@@ -11,6 +11,7 @@ use Rattle.mix_tree.proofs.LabelComplete as labels
 use Rattle.bracket_text.specs.Grammar.{is_blank, IsBlanks}
 use Rattle.bracket_text.specs.Machine.{Frame, Mode, start, first, spelling, named, closed, State, at, leaf, after_label, after_tree_in, or_other, begin, behind, begins, step_in, step, run, tree_in}
 
+-- a run over two parts, behind a first byte
 behind_run : (x y : List ℕ) → ((t : State) → run t (x ++ y) ≡ option_and_then (λ u. run u y) (run t x)) → (o : Option State)
     → option_and_then (λ t. run t (x ++ y)) o ≡ option_and_then (λ t. run t y) (option_and_then (λ t. run t x) o)
 behind_run x y h None = refl
@@ -57,6 +58,7 @@ start_blanks (b ∷ a) o h =
     let parts = and_parts (is_blank b) (list_all is_blank a) h in
     rw parts.0 (start_blanks a o parts.1)
 
+-- the same right behind an opening bracket
 pub first_blanks : (a : List ℕ) (o : List Frame) → IsBlanks a → run (at o first) a ≡ Some (at o first)
 first_blanks [] o h = refl
 first_blanks (b ∷ a) o h =
@@ -128,12 +130,14 @@ tree_comma f o m t e = hand_cases m t e
     (λ l is same. named_by (f ∷ o) m l 44 is refl ∙ ap (λ u. after_tree_in (f ∷ o) u 44) same)
     (λ same. ap (λ k. step_in (f ∷ o) k 44) same)
 
+-- the same of a closing bracket
 pub tree_close : (f : Frame) (o : List Frame) (m : Mode) (t : LabelledTree) → tree_in m ≡ Some t
     → step_in (f ∷ o) m 93 ≡ Some (at o (closed (record { label = f.label; kids = forest_of (f.kids ++ t ∷ []) })))
 tree_close f o m t e = hand_cases m t e
     (λ l is same. named_by (f ∷ o) m l 93 is refl ∙ ap (λ u. after_tree_in (f ∷ o) u 93) same)
     (λ same. ap (λ k. step_in (f ∷ o) k 93) same)
 
+-- a label's bytes behind its first
 label_more : (o : List Frame) (s t : spelled.Spot) (b : ℕ) (x : List ℕ) (r : Option spelled.Spot) → spelled.step s b ≡ r → option_and_then (λ u. spelled.run u x) r ≡ Some t
     → ((u : spelled.Spot) → spelled.run u x ≡ Some t → run (at o (spelling u)) x ≡ Some (at o (spelling t))) → run (at o (spelling s)) (b ∷ x) ≡ Some (at o (spelling t))
 label_more o s t b x None f e k = none_some t e
@@ -164,6 +168,7 @@ begin_step o (closed t) b m h = absurd m
 abbrev pub NamedBehind : List Frame → List ℕ → Option State → Type 0
 NamedBehind o l r = (m : Mode) × (r ≡ Some (at o m)) × IsNamed m l
 
+-- a label from its first byte on
 first_byte : (o : List Frame) (m : Mode) (l x : List ℕ) (b : ℕ) (s : spelled.Spot) (r : Option spelled.Spot) → MayBegin m → spelled.step spelled.start b ≡ r → option_and_then (λ u. spelled.run u x) r ≡ Some s
     → spelled.label_in s ≡ Some l → NamedBehind o l (run (at o m) (b ∷ x))
 first_byte o m l x b s None h f e k = none_some s e

@@ -134,6 +134,7 @@ pub record Within (f : Frame) (o : List Frame) (t : LabelledTree) (p : List ℕ)
   pub is_tail : IsBlanks tail
   pub text : p ≡ before ++ (label ++ ((gap ++ 91 ∷ lead) ++ (trees ++ tail)))
 
+-- the parts of such a text
 within : (f : Frame) (o : List Frame) (t : LabelledTree) (p : List ℕ) → HandText (f ∷ o) t p → Within f o t p
 within f o t p (q, x, a, (q0, l, a0, b0, m, ho, hl, ha0, hb0, hm, e0), hx, ha, e) = record {
   before = q0;
@@ -272,6 +273,7 @@ step_text o (spelling s) p b h = spelling_step o s p b h
 step_text o (named l) p b h = name_step o l p b h
 step_text o (closed t) p b h = hand_step o t p b h
 
+-- the text of a run behind a first byte
 after_step : (x y : List ℕ) (b : ℕ) (s : Option State) → Gives (StateText (x ++ b ∷ [])) s → ((t : State) → StateText (x ++ b ∷ []) t → Gives (StateText ((x ++ b ∷ []) ++ y)) (run t y))
     → Gives (StateText (x ++ b ∷ y)) (option_and_then (λ t. run t y) s)
 after_step x y b None h k = tt
@@ -299,6 +301,7 @@ whole_text : (o : List Frame) (m : Mode) (x : List ℕ) (t : LabelledTree) → M
 whole_text [] m x t h e = let (q, y, a, hq, hy, ha, f) = hand_in_mode m x t h e in (q, y, a, hq, ha, hy, f ∙ sym (append_assoc q y a))
 whole_text (f ∷ o) m x t h e = none_some t e
 
+-- the same at the end of a run
 run_whole : (x : List ℕ) (t : LabelledTree) (r : Option State) → Gives (StateText x) r → option_and_then whole r ≡ Some t → Spells x t
 run_whole x t None h e = none_some t e
 run_whole x t (Some s) h e = whole_text s.open' s.mode x t h e

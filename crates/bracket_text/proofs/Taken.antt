@@ -21,12 +21,14 @@ behind_label o (spelled.got l j y) = verdict (at o (named l)) j y
 behind_label o (spelled.unexpected j) = unexpected j
 behind_label o spelled.ends = ends
 
+-- at the end of the text, a label is read as it is seen
 end_same : (o : List Frame) (s : spelled.Spot) (i : ℕ) (l : Option (List ℕ)) → spelled.label_in s ≡ l → at_end (whole_in o (spelling s)) ≡ behind_label o (spelled.seen_at_end i l)
 end_same [] s i None e = ap (λ k. at_end (option_map leaf k)) e
 end_same [] s i (Some l) e = ap (λ k. at_end (option_map leaf k)) e
 end_same (f ∷ o) s i None e = refl
 end_same (f ∷ o) s i (Some l) e = refl
 
+-- at a byte, a label is read as it is seen, if it is behind that byte
 byte_same : (o : List Frame) (i b : ℕ) (x : List ℕ) (r : Option spelled.Spot) (l : Option (List ℕ)) → ((t : spelled.Spot) → verdict (at o (spelling t)) (i + 1) x ≡ behind_label o (spelled.seen_from t (i + 1) x))
     → or_stop (λ t. verdict t (i + 1) x) (unexpected i) (or_other o (behind o l b) r)
     ≡ behind_label o (spelled.or_stop (λ t. spelled.seen_from t (i + 1) x) (spelled.seen_at i (b ∷ x) l) r)
@@ -43,6 +45,7 @@ label_verdict (b ∷ x) o s i = byte_same o i b x (spelled.step s b) (spelled.la
 not_too_deep : (s : State) (i b : ℕ) (x : List ℕ) → is_deep s b ≡ false → verdict s i (b ∷ x) ≡ or_stop (λ t. verdict t (i + 1) x) (unexpected i) (step s b)
 not_too_deep s i b x n = ap (λ c. cond c (too_deep i) (or_stop (λ t. verdict t (i + 1) x) (unexpected i) (step s b))) n
 
+-- where a label may begin, it is too deep below 200 open trees
 deep_test : (o : List Frame) (m : Mode) (b : ℕ) → MayBegin m → is_deep_in o m b ≡ (begins b && nat_le 200 (length o))
 deep_test o start b h = refl
 deep_test o first b h = refl
@@ -50,6 +53,7 @@ deep_test o (spelling s) b h = absurd h
 deep_test o (named l) b h = absurd h
 deep_test o (closed t) b h = absurd h
 
+-- below fewer it is not
 few_not_deep : (o : List Frame) (c : Bool) → length o < 200 → (c && nat_le 200 (length o)) ≡ false
 few_not_deep o false h = refl
 few_not_deep o true h = grind (arith, nat_tests)
@@ -105,6 +109,7 @@ other_not_deep o (spelling s) b h = refl
 other_not_deep o (named l) b h = refl
 other_not_deep o (closed t) b h = refl
 
+-- no label stands behind a tree in brackets
 tree_in_refuses : (o : List Frame) (t : LabelledTree) (b : ℕ) → IsTrue (begins b) → after_tree_in o t b ≡ None
 tree_in_refuses [] t b h = refl
 tree_in_refuses (f ∷ o) t b h =
@@ -112,9 +117,11 @@ tree_in_refuses (f ∷ o) t b h =
     let d : (b == 93) ≡ false = grind (arith, nat_tests) in
     rw (c, d) refl
 
+-- nor behind any tree
 tree_refuses : (o : List Frame) (t : LabelledTree) (b : ℕ) → IsTrue (begins b) → after_tree o t b ≡ None
 tree_refuses o t b h = rw (begins_not_blank b h) (tree_in_refuses o t b h)
 
+-- nor behind a label
 label_refuses : (o : List Frame) (l : List ℕ) (b : ℕ) → IsTrue (begins b) → after_label o l b ≡ None
 label_refuses o l b h =
     let c : (b == 91) ≡ false = grind (arith, nat_tests) in
@@ -131,16 +138,20 @@ no_label o (Closed t) text i h inside k = step_stops (at o (closed t)) text i in
 pub other_ascii : (b : ℕ) → begins b ≡ false → b < 128
 other_ascii b h = grind (arith, nat_tests)
 
+-- a blank is ASCII
 blank_ascii : (b : ℕ) → IsTrue (is_blank b) → b < 128
 blank_ascii b h = grind (arith, nat_tests)
 
+-- a byte that is an ASCII one is ASCII
 same_ascii : (b c : ℕ) → c < 128 → (b == c) ≡ true → b < 128
 same_ascii b c low e = omega (arith, number_is b c e)
 
+-- what fits behind a tree in brackets is ASCII
 tree_in_ascii : (o : List Frame) (t : LabelledTree) (b : ℕ) → Gives (λ s. b < 128) (after_tree_in o t b)
 tree_in_ascii [] t b = tt
 tree_in_ascii (f ∷ o) t b = either _ (b == 44) _ _ (λ e. same_ascii b 44 (omega arith) e) (λ n. either _ (b == 93) _ _ (λ e. same_ascii b 93 (omega arith) e) (λ k. tt))
 
+-- what fits behind a label is ASCII
 label_ascii : (o : List Frame) (l : List ℕ) (b : ℕ) → Gives (λ s. b < 128) (after_label o l b)
 label_ascii o l b =
     either _ (is_blank b) _ _ (λ h. blank_ascii b h)

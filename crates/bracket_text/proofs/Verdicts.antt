@@ -33,6 +33,7 @@ SpotHigh (spelled.in_quotes l) = Unit {0}
 SpotHigh (spelled.in_escape l) = ⊥
 SpotHigh (spelled.behind_quote l) = ⊥
 
+-- the same of a mode
 abbrev ModeHigh : Mode → Type 0
 ModeHigh start = ⊥
 ModeHigh first = ⊥
@@ -40,15 +41,19 @@ ModeHigh (spelling s) = SpotHigh s
 ModeHigh (named l) = ⊥
 ModeHigh (closed t) = ⊥
 
+-- the same of a state
 abbrev StateHigh : State → Type 0
 StateHigh s = ModeHigh s.mode
 
+-- no such byte is an ASCII one
 not_high : {Q : Type 0} (b c : ℕ) → c < 128 → 128 ≤ b → (b == c) ≡ true → Q
 not_high b c low high e = absurd (omega (arith, number_is b c e))
 
+-- nor a blank
 high_blank : {Q : Type 0} (b : ℕ) → 128 ≤ b → IsTrue (is_blank b) → Q
 high_blank b high h = let no : ⊥ = grind (arith, nat_tests) in absurd no
 
+-- behind such a byte of a label, another goes on
 spot_high_step : (s : spelled.Spot) (b : ℕ) → 128 ≤ b → Gives SpotHigh (spelled.step s b)
 spot_high_step spelled.start b h = either _ (is_bare b) _ _ (λ k. tt) (λ n. either _ (b == 34) _ _ (λ e. tt) (λ k. tt))
 spot_high_step (spelled.in_bare l) b h = either _ (is_bare b) _ _ (λ k. tt) (λ n. tt)
@@ -57,27 +62,34 @@ spot_high_step (spelled.in_quotes l) b h =
 spot_high_step (spelled.in_escape l) b h = either _ (is_escape b) _ _ (λ k. tt) (λ n. tt)
 spot_high_step (spelled.behind_quote l) b h = tt
 
+-- the same where a label goes on or something else follows
 label_high : (o : List Frame) (r : Option spelled.Spot) (other : Option State) → Gives SpotHigh r → Gives StateHigh other → Gives StateHigh (or_other o other r)
 label_high o None other h k = k
 label_high o (Some s) other h k = h
 
+-- no such byte fits behind a tree in brackets
 tree_in_high : (o : List Frame) (t : LabelledTree) (b : ℕ) → 128 ≤ b → Gives StateHigh (after_tree_in o t b)
 tree_in_high [] t b h = tt
 tree_in_high (f ∷ o) t b h = either _ (b == 44) _ _ (λ e. not_high b 44 (omega arith) h e) (λ n. either _ (b == 93) _ _ (λ e. not_high b 93 (omega arith) h e) (λ k. tt))
 
+-- nor behind any tree
 tree_high : (o : List Frame) (t : LabelledTree) (b : ℕ) → 128 ≤ b → Gives StateHigh (after_tree o t b)
 tree_high o t b h = either _ (is_blank b) _ _ (λ k. high_blank b h k) (λ n. tree_in_high o t b h)
 
+-- nor behind a label
 pub label_after_high : (o : List Frame) (l : List ℕ) (b : ℕ) → 128 ≤ b → Gives StateHigh (after_label o l b)
 label_after_high o l b h = either _ (is_blank b) _ _ (λ k. high_blank b h k) (λ n. either _ (b == 91) _ _ (λ e. not_high b 91 (omega arith) h e) (λ k. tree_high o _ b h))
 
+-- nor where a label has ended
 behind_high : (o : List Frame) (l : Option (List ℕ)) (b : ℕ) → 128 ≤ b → Gives StateHigh (behind o l b)
 behind_high o None b h = tt
 behind_high o (Some l) b h = label_after_high o l b h
 
+-- such a byte begins a bare label
 begin_high : (o : List Frame) (b : ℕ) → 128 ≤ b → Gives StateHigh (begin o b)
 begin_high o b h = label_high o (spelled.step spelled.start b) None (spot_high_step spelled.start b h) tt
 
+-- behind such a byte, another goes on
 mode_high_step : (o : List Frame) (m : Mode) (b : ℕ) → 128 ≤ b → Gives StateHigh (step_in o m b)
 mode_high_step o start b h = either _ (is_blank b) _ _ (λ k. high_blank b h k) (λ n. begin_high o b h)
 mode_high_step o first b h = either _ (is_blank b) _ _ (λ k. high_blank b h k) (λ n. either _ (b == 93) _ _ (λ e. not_high b 93 (omega arith) h e) (λ k. begin_high o b h))
@@ -85,6 +97,7 @@ mode_high_step o (spelling s) b h = label_high o (spelled.step s b) (behind o (s
 mode_high_step o (named l) b h = label_after_high o l b h
 mode_high_step o (closed t) b h = tree_high o t b h
 
+-- such a byte is one of a bare character
 high_bare : (b : ℕ) → 128 ≤ b → is_bare b ≡ true
 high_bare b h = grind (arith, nat_tests)
 
@@ -105,6 +118,7 @@ spot_goes (spelled.in_quotes l) b h k e = by_tests (b == 34) (b == 92) _ _ _ e
 spot_goes (spelled.in_escape l) b h k e = absurd h
 spot_goes (spelled.behind_quote l) b h k e = absurd h
 
+-- the same of a mode
 mode_goes : (o : List Frame) (m : Mode) (b : ℕ) → ModeHigh m → 128 ≤ b → step_in o m b ≡ None → ⊥
 mode_goes o start b h k e = absurd h
 mode_goes o first b h k e = absurd h
@@ -124,6 +138,7 @@ mode_not_deep o (spelling s) b h e = cc
 mode_not_deep o (named l) b h e = absurd h
 mode_not_deep o (closed t) b h e = absurd h
 
+-- a byte is ASCII or not
 low_or_high : (b : ℕ) → (b < 128) ⊎ (128 ≤ b)
 low_or_high b = grind arith
 
@@ -143,6 +158,7 @@ before_stop x p y s i b h stops = elim (low_or_high b) [
   | inr high ↦ elim h.bound [ inl u ↦ u | inr k ↦ absurd (stops k high) ]
 ]
 
+-- behind one more byte, the text is whole characters, or the next byte of the character goes on
 bound_more : (x p y : List ℕ) (s t : State) (i b : ℕ) → Read x p (b ∷ y) s i → step s b ≡ Some t → IsUtf8 (p ++ b ∷ []) ⊎ StateHigh t
 bound_more x p y s t i b h e = elim (low_or_high b) [
   | inl low ↦ inl (utf8_push p b low (utf8_split p y b low (subst IsUtf8 h.parts h.utf8)).0)
@@ -164,12 +180,15 @@ read_more x p y s t i b h e n = record {
   bound = bound_more x p y s t i b h e;
 }
 
+-- the place lies in the text
 inside_of : (x p y : List ℕ) (s : State) (i b : ℕ) → Read x p (b ∷ y) s i → i < length x
 inside_of x p y s i b h = omega (arith, h.place, ap length h.parts, length-append p (b ∷ y))
 
+-- the front of the text up to the place
 up_to : (x p y : List ℕ) (s : State) (i b : ℕ) → Read x p (b ∷ y) s i → take i x ≡ p
 up_to x p y s i b h = ap (take i) h.parts ∙ front_is p y b i h.place
 
+-- and with the byte there
 up_with : (x p y : List ℕ) (s : State) (i b : ℕ) → Read x p (b ∷ y) s i → take (i + 1) x ≡ p ++ b ∷ []
 up_with x p y s i b h = ap (take (i + 1)) h.parts ∙ front_with p y b i h.place
 
@@ -180,6 +199,7 @@ Says x (unexpected i) = Refuses x (Unexpected i)
 Says x (too_deep i) = Refuses x (TooDeep i)
 Says x ends = Refuses x Ends
 
+-- what is said at the end of the text
 said_at_end : (x p : List ℕ) (s : State) (i : ℕ) (r : Option LabelledTree) → Read x p [] s i → whole s ≡ r → Says x (at_end r)
 said_at_end x p s i r h e =
     let all : x ≡ p = h.parts ∙ append_nil p in
@@ -193,6 +213,7 @@ said_at_end x p s i r h e =
     )
     by_whole (Some t) f g = (h.utf8, (read_spelled x t (ap (option_and_then whole) f ∙ g), omega (arith, whole_levels s t g, h.levels)))
 
+-- what is said at a byte that does not fit
 said_unexpected : (x p y : List ℕ) (s : State) (i b : ℕ) → Read x p (b ∷ y) s i → step s b ≡ None → Refuses x (Unexpected i)
 said_unexpected x p y s i b h e =
     let u : IsUtf8 p = before_stop x p y s i b h (λ k high. mode_goes s.open' s.mode b k high e) in
@@ -211,6 +232,7 @@ abbrev LowFirst : List ℕ → Type 0
 LowFirst [] = Unit {0}
 LowFirst (c ∷ y) = c < 128
 
+-- a text as bytes of characters that are not ASCII, and the rest
 record HighFirst (y : List ℕ) : Type 0 where
   high : List ℕ
   rest : List ℕ
@@ -218,6 +240,7 @@ record HighFirst (y : List ℕ) : Type 0 where
   bare : IsTrue (list_all is_bare high)
   low : LowFirst rest
 
+-- the same with one byte more before it
 high_more : (c : ℕ) (y : List ℕ) → HighFirst y → (c < 128) ⊎ (128 ≤ c) → HighFirst (c ∷ y)
 high_more c y h (inl k) = record { high = []; rest = c ∷ y; parts = refl; bare = refl; low = k }
 high_more c y h (inr k) = record {
@@ -228,10 +251,12 @@ high_more c y h (inr k) = record {
   low = h.low;
 }
 
+-- each text is so
 high_first : (y : List ℕ) → HighFirst y
 high_first [] = record { high = []; rest = []; parts = refl; bare = refl; low = tt }
 high_first (c ∷ y) = high_more c y (high_first y) (low_or_high c)
 
+-- a text is whole characters up to an ASCII byte
 before_low : (p y : List ℕ) → LowFirst y → IsUtf8 (p ++ y) → IsUtf8 p
 before_low p [] h u = subst IsUtf8 (append_nil p) u
 before_low p (c ∷ y) h u = (utf8_split p y c h u).0
@@ -242,6 +267,7 @@ record Begun (o : List Frame) (m : Mode) (b : ℕ) : Type 0 where
   is : step_in o m b ≡ Some (at o (spelling spot))
   bare : 128 ≤ b → spot ≡ spelled.in_bare (b ∷ [])
 
+-- a label begins where one may, with a byte that begins one
 begun_in : (o : List Frame) (m : Mode) (b : ℕ) → MayBegin m → IsTrue (begins b) → Begun o m b
 begun_in o m b h k = by_tests (is_bare b) (b == 34) refl refl k
   where
@@ -254,6 +280,7 @@ begun_in o m b h k = by_tests (is_bare b) (b == 34) refl refl k
         record { spot = spelled.in_quotes []; is = begin_step o m b h k ∙ ap (or_other o None) one; bare = λ high. not_high b 34 (omega arith) high f }
     by_tests false false e f g = cc
 
+-- a label that lies too deep begins
 begun : (o : List Frame) (m : Mode) (b : ℕ) → is_deep_in o m b ≡ true → Begun o m b
 begun o start b e = begun_in o start b tt (and_parts (begins b) (nat_le 200 (length o)) e).0
 begun o first b e = begun_in o first b tt (and_parts (begins b) (nat_le 200 (length o)) e).0
@@ -261,6 +288,7 @@ begun o (spelling s) b e = cc
 begun o (named l) b e = cc
 begun o (closed t) b e = cc
 
+-- a tree goes on from a label's first byte that is not ASCII
 high_on : (x p y : List ℕ) (s : State) (i b : ℕ) → Read x p (b ∷ y) s i → (k : Begun s.open' s.mode b) → 128 ≤ b → IsFront Spells (p ++ b ∷ [])
 high_on x p y s i b h k high =
     let r = high_first y in
@@ -274,11 +302,13 @@ high_on x p y s i b h k high =
     let more : run first_spot r.high ≡ Some last_spot = label_run r.high s.open' (spelled.in_bare (b ∷ [])) (spelled.in_bare (b ∷ r.high)) (bare_goes_on (b ∷ []) r.high r.bare) in
     shorter_front (p ++ b ∷ []) r.high (run_front z last_spot u (run_then (p ++ b ∷ []) r.high empty first_spot one ∙ more))
 
+-- a tree goes on from a label's first byte that is ASCII
 low_on : (x p y : List ℕ) (s : State) (i b : ℕ) → Read x p (b ∷ y) s i → (k : Begun s.open' s.mode b) → b < 128 → IsFront Spells (p ++ b ∷ [])
 low_on x p y s i b h k low =
     let u : IsUtf8 p = (utf8_split p y b low (subst IsUtf8 h.parts h.utf8)).0 in
     run_front (p ++ b ∷ []) (at s.open' (spelling k.spot)) (utf8_push p b low u) (run_then p (b ∷ []) empty s h.runs ∙ run_byte b [] s (at s.open' (spelling k.spot)) k.is)
 
+-- what is said at a label that lies too deep
 said_too_deep : (x p y : List ℕ) (s : State) (i b : ℕ) → Read x p (b ∷ y) s i → is_deep s b ≡ true → Refuses x (TooDeep i)
 said_too_deep x p y s i b h e =
     let u : IsUtf8 p = before_stop x p y s i b h (λ k high. mode_not_deep s.open' s.mode b k e) in
@@ -295,6 +325,7 @@ said_too_deep x p y s i b h e =
       },
     )
 
+-- what is said at a byte
 said_byte : (x p y : List ℕ) (s : State) (i b : ℕ) (c : Bool) (r : Option State) → Read x p (b ∷ y) s i → is_deep s b ≡ c → step s b ≡ r
     → ((t : State) → step s b ≡ Some t → is_deep s b ≡ false → Says x (verdict t (i + 1) y)) → Says x (cond c (too_deep i) (or_stop (λ t. verdict t (i + 1) y) (unexpected i) r))
 said_byte x p y s i b true r h e f k = said_too_deep x p y s i b h e
@@ -306,9 +337,11 @@ said : (y x p : List ℕ) (s : State) (i : ℕ) → Read x p y s i → Says x (v
 said [] x p s i h = said_at_end x p s i (whole s) h refl
 said (b ∷ y) x p s i h = said_byte x p y s i b (is_deep s b) (step s b) h refl refl (λ t e n. said y x (p ++ b ∷ []) t (i + 1) (read_more x p y s t i b h e n))
 
+-- what is said of a text from its front on
 said_of : (x : List ℕ) → IsUtf8 x → Says x (verdict empty 0 x)
 said_of x u = said x x [] empty 0 (record { utf8 = u; parts = refl; place = refl; runs = refl; levels = omega arith; bound = inl IsUtf8-nil })
 
+-- a fault that is what the machine says is that of the text
 fault_refuses : (x : List ℕ) (e : BracketFault) (v : Verdict) → GivesFault e v → Says x v → Refuses x e
 fault_refuses x (NotUtf8 i) v h s = absurd h
 fault_refuses x (Unexpected i) v h s = subst (Says x) h s
@@ -321,11 +354,13 @@ pub answers : (x : List ℕ) (r : Result LabelledTree BracketFault) → IsUtf8 x
 answers x (Ok t) u h = subst (Says x) h (said_of x u)
 answers x (Err e) u h = fault_refuses x e (verdict empty 0 x) h (said_of x u)
 
+-- each front of a text of the grammar is one
 whole_front : (x : List ℕ) (n : ℕ) (t : LabelledTree) → IsUtf8 x → Spells x t → IsFront Spells (take n x)
 whole_front x n t u h =
     let all = take-append-drop n x in
     (drop n x, t, subst IsUtf8 (sym all) u, subst (λ z. Spells z t) (sym all) h)
 
+-- the same of a tree that is not too deep
 shallow_whole : (x : List ℕ) (n : ℕ) (t : LabelledTree) → IsUtf8 x → SpellsShallow x t → IsFront SpellsShallow (take n x)
 shallow_whole x n t u h =
     let all = take-append-drop n x in

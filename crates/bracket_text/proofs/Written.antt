@@ -12,16 +12,19 @@ abbrev AreSpelled : Forest → Type 0
 AreSpelled none = Unit {0}
 AreSpelled (tree label kids rest) = SpellsTrees (tree label kids rest) (canon_trees (tree label kids rest))
 
+-- the brackets round children are spelled so
 brackets_spell : (k : Forest) → AreSpelled k → SpellsBrackets k (SpellsTrees k) (canon_brackets k (canon_trees k))
 brackets_spell none h = inl refl
 brackets_spell (tree l k n) h =
     let x = canon_trees (tree l k n) in
     ([], [], x, [], refl, refl, refl, h, ap (λ r. 91 ∷ r ++ 93 ∷ []) (sym (append_nil x)))
 
+-- and the trees behind a tree
 rest_spells : (n : Forest) → AreSpelled n → SpellsRest n (SpellsTrees n) (canon_rest n (canon_trees n))
 rest_spells none h = refl
 rest_spells (tree l k n) h = ([], [], canon_trees (tree l k n), refl, refl, h, refl)
 
+-- and all trees of a list
 trees_spell : (f : Forest) → AreSpelled f
 trees_spell none = tt
 trees_spell (tree l k n) =

@@ -94,7 +94,9 @@ fn each_proper_front_ends_too_early(rt: HostRuntime) -> Result<(), Fail> {
     let alloc = rt.alloc();
     let text = b" a [ b , \"c\\\"\\n\" [ ] , d[e,f] ]";
     for end in 0..text.len() {
-        assert!(rt; is_refused(alloc, &text[..end], BracketFault::Ends) || end == 2 || end == 3);
+        // Its first label alone is a text too.
+        let is_text = end == 2 || end == 3;
+        assert!(rt; is_text || is_refused(alloc, &text[..end], BracketFault::Ends));
     }
     assert!(rt; read_tree(alloc, text).is_ok());
     Ok(())

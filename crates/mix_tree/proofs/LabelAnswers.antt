@@ -16,6 +16,7 @@ use Rattle.mix_tree.specs.declared.label_read.LabelRead.{LabelRead}
 use Rattle.mix_tree.specs.declared.label_read.LabelRead.TheVariants.{Got, Unexpected, Ends}
 use Rattle.mix_tree.proofs.LabelSound.{Writes, run_writes, label_spelled}
 use Rattle.mix_tree.proofs.LabelComplete.{run_then, run_byte, spelled_reads, run_may_end}
+use Rattle.mix_tree.proofs.LabelTaken.{not_bare_ascii}
 use Rattle.mix_tree.proofs.LabelSeen.{Stops, SawLabel, SawStop, SawEnd, Saw, saw}
 
 -- ASCII bytes lead from a spot to the end of a label
@@ -27,6 +28,7 @@ pub record GoesOn (s : Spot) : Type 0 where
   pub runs : run s bytes ≡ Some spot
   pub ends : label_in spot ≡ Some label
 
+-- a byte, and then as the spot behind it goes on
 byte_on : (s t : Spot) (b : ℕ) → b < 128 → step s b ≡ Some t → GoesOn t → GoesOn s
 byte_on s t b low e h = record {
   bytes = b ∷ h.bytes;
@@ -37,9 +39,11 @@ byte_on s t b low e h = record {
   ends = h.ends;
 }
 
+-- a label that has ended goes on by nothing
 ended : (s : Spot) (l : List ℕ) → label_in s ≡ Some l → GoesOn s
 ended s l e = record { bytes = []; utf8 = IsUtf8-nil; spot = s; label = l; runs = refl; ends = e }
 
+-- between quotes, the closing one ends the label
 quotes_on : (l : List ℕ) → GoesOn (in_quotes l)
 quotes_on l = byte_on (in_quotes l) (behind_quote l) 34 (omega arith) refl (ended (behind_quote l) l refl)
 
@@ -70,15 +74,18 @@ front_of w s u r =
 stopped : (x l : List ℕ) → run start x ≡ None → SpellsLabel x l → ⊥
 stopped x l e s = let r = spelled_reads x l s in none_some r.0 (sym e ∙ r.1)
 
+-- a run stops at a byte that does not go on
 stops_run : (w y : List ℕ) (b : ℕ) (t : Spot) → run start w ≡ Some t → step t b ≡ None → run start (w ++ b ∷ y) ≡ None
 stops_run w y b t r e = run_then w (b ∷ y) start t r ∙ ap (option_and_then (λ u. run u y)) e
 
+-- what leads to no label's end spells none
 unlabelled : (w l : List ℕ) (t : Spot) → run start w ≡ Some t → label_in t ≡ None → SpellsLabel w l → ⊥
 unlabelled w l t r n s =
     let k = spelled_reads w l s in
     let same : k.0 ≡ t = some_is k.0 t (sym k.1 ∙ r) in
     none_some l (sym n ∙ ap label_in (sym same) ∙ k.2)
 
+-- nor does a front of it
 within : (w z v l : List ℕ) (t : Spot) → run start w ≡ Some t → label_in t ≡ None → w ≡ z ++ v → SpellsLabel z l → ⊥
 within w z v l t r n e s =
     let k = spelled_reads z l s in
@@ -86,6 +93,7 @@ within w z v l t r n e s =
     let m = run_may_end v k.0 t (l, k.2) more in
     none_some m.0 (sym n ∙ m.1)
 
+-- nor does more of the text, where the run stops
 beyond : (w y l : List ℕ) (t : Spot) (m : ℕ) → run start w ≡ Some t → label_in t ≡ None → Stops t y → SpellsLabel (w ++ take m y) l → ⊥
 beyond w [] l t zero r n h s = unlabelled w l t r n (subst (λ z. SpellsLabel z l) (append_nil w) s)
 beyond w [] l t (suc m) r n h s = unlabelled w l t r n (subst (λ z. SpellsLabel z l) (append_nil w) s)
@@ -104,9 +112,6 @@ no_longer : (w y l : List ℕ) (t : Spot) (m : ℕ) → 0 < m → 0 < length y �
 no_longer w [] l t m p q r h s = absurd (omega arith)
 no_longer w (b ∷ y) l t zero p q r h s = absurd (omega arith)
 no_longer w (b ∷ y) l t (suc m) p q r h s = stopped (w ++ b ∷ take m y) l (stops_run w (take m y) b t r h) s
-
-not_bare_ascii : (b : ℕ) → is_bare b ≡ false → b < 128
-not_bare_ascii b h = grind (arith, nat_tests)
 
 -- behind a label a character begins
 behind_utf8 : (w y l : List ℕ) (t : Spot) → IsUtf8 (w ++ y) → Writes w t → label_in t ≡ Some l → Stops t y → IsUtf8 y
@@ -136,6 +141,7 @@ before_utf8 w y b (in_escape k) u (ps, are, e, m) f s =
     subst IsUtf8 (sym e) (utf8_behind (34 ∷ inside_quotes ps) (b ∷ y) 92 (omega arith) (subst (λ r. IsUtf8 (r ++ b ∷ y)) e u)).0
 before_utf8 w y b (behind_quote k) u h e s = none_some k (sym e)
 
+-- a label that has ended has bytes
 not_empty : (w l : List ℕ) (t : Spot) → run start w ≡ Some t → label_in t ≡ Some l → 0 < length w
 not_empty [] l t r e = none_some l (ap label_in (some_is start t r) ∙ e)
 not_empty (b ∷ w) l t r e = omega arith
@@ -144,6 +150,7 @@ not_empty (b ∷ w) l t r e = omega arith
 rest_length : (x w y : List ℕ) (from : ℕ) → from ≤ length x → drop from x ≡ w ++ y → length w + length y ≡ length x - from
 rest_length x w y from h e = sym (length-append w y) ∙ ap length (sym e) ∙ length-drop from x
 
+-- a label that was seen is the longest
 longest : (x l : List ℕ) (from end : ℕ) → IsUtf8 x → from ≤ length x → IsCharBoundary x from → SawLabel start from (drop from x) l end (drop end x) → IsLongest x from l end
 longest x l from end u inside boundary h =
     let w = h.spelled in
@@ -168,6 +175,7 @@ longest x l from end u inside boundary h =
           no_longer w y other h.spot (n - end) (omega arith) (omega (arith, h.place, both)) h.runs h.stops (subst (λ z. SpellsLabel z other) longer s);
     }
 
+-- a byte that does not fit, where no label has ended
 no_label : (x : List ℕ) (from at : ℕ) → IsUtf8 x → from ≤ length x → IsCharBoundary x from → SawStop start from (drop from x) at → IsNoLabel x from at
 no_label x from at u inside boundary h =
     let w = h.front in
@@ -187,6 +195,7 @@ no_label x from at u inside boundary h =
       nowhere = nowhere (drop from x) w (h.byte ∷ h.rest) h.spot h.parts h.runs h.label h.stops;
     }
 
+-- the end of the text in a label
 cut_label : (x : List ℕ) (from : ℕ) → IsUtf8 x → IsCharBoundary x from → SawEnd start (drop from x) → IsCutLabel x from
 cut_label x from u boundary (t, r, e) = record {
   front = front_of (drop from x) t (IsUtf8-drop x from u boundary) r;

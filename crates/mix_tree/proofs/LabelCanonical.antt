@@ -9,6 +9,7 @@ use Rattle.mix_tree.specs.LabelGrammar.{Piece, plain, escape, is_piece, ArePiece
 abbrev piece_of : ℕ → Piece
 piece_of b = cond (b == 34) (escape 34) (cond (b == 92) (escape 92) (cond (b == 10) (escape 110) (cond (b == 9) (escape 116) (plain b))))
 
+-- the bytes of a label as pieces
 abbrev pieces_of : List ℕ → List Piece
 pieces_of [] = []
 pieces_of (b ∷ l) = piece_of b ∷ pieces_of l
@@ -19,6 +20,7 @@ record IsPieceOf (b : ℕ) (p : Piece) : Type 0 where
   pub written : (ps : List Piece) → inside_quotes (p ∷ ps) ≡ escaped b ++ inside_quotes ps
   pub means : (ps : List Piece) → meaning (p ∷ ps) ≡ b ∷ meaning ps
 
+-- all that holds of a byte's piece
 piece_is : (b : ℕ) → IsPieceOf b (piece_of b)
 piece_is b = by_cases (b == 34) (b == 92) (b == 10) (b == 9) refl refl refl refl
   where
@@ -30,14 +32,17 @@ piece_is b = by_cases (b == 34) (b == 92) (b == 10) (b == 9) refl refl refl refl
     by_cases false false false true p q r s = record { is = refl; written = λ ps. rw (p, q, r, s) refl; means = λ ps. ap (λ k. k ∷ meaning ps) (number_is b 9 s) }
     by_cases false false false false p q r s = record { is = rw (p, q) refl; written = λ ps. rw (p, q, r, s) refl; means = λ ps. refl }
 
+-- they are pieces of the grammar
 pieces_are : (l : List ℕ) → ArePieces (pieces_of l)
 pieces_are [] = refl
 pieces_are (b ∷ l) = and_both (is_piece (piece_of b)) (list_all is_piece (pieces_of l)) (piece_is b).is (pieces_are l)
 
+-- they are written with the four escapes
 pieces_written : (l : List ℕ) → inside_quotes (pieces_of l) ≡ flat_map escaped l
 pieces_written [] = refl
 pieces_written (b ∷ l) = (piece_is b).written (pieces_of l) ∙ ap (λ r. escaped b ++ r) (pieces_written l)
 
+-- they mean the label
 pieces_mean : (l : List ℕ) → meaning (pieces_of l) ≡ l
 pieces_mean [] = refl
 pieces_mean (b ∷ l) = (piece_is b).means (pieces_of l) ∙ ap (λ r. b ∷ r) (pieces_mean l)

@@ -7,6 +7,7 @@ use Rattle.mix_tree.specs.Spelling.{is_bare, is_bare_label}
 use Rattle.mix_tree.specs.LabelGrammar.{Piece, plain, escape, is_plain, is_escape, is_piece, ArePieces, inside_quotes, escaped_byte, meaning, SpellsLabel}
 use Rattle.mix_tree.specs.LabelMachine.{Spot, start, in_bare, in_quotes, in_escape, behind_quote, step, run, label_in}
 
+-- a run over two parts, behind a first byte
 behind : (x y : List ℕ) → ((t : Spot) → run t (x ++ y) ≡ option_and_then (λ u. run u y) (run t x)) → (o : Option Spot)
     → option_and_then (λ t. run t (x ++ y)) o ≡ option_and_then (λ t. run t y) (option_and_then (λ t. run t x) o)
 behind x y h None = refl
@@ -32,6 +33,7 @@ bare_goes_on l (b ∷ x) h =
     let parts = and_parts (is_bare b) (list_all is_bare x) h in
     rw parts.0 (bare_goes_on (l ++ b ∷ []) x parts.1 ∙ ap (λ r. Some (in_bare r)) (append_assoc l (b ∷ []) x))
 
+-- a bare label is read
 reads_bare : (l : List ℕ) → IsTrue (is_bare_label l) → run start l ≡ Some (in_bare l)
 reads_bare [] h = cc
 reads_bare (b ∷ l) h =
@@ -51,6 +53,7 @@ plain_step b l h = by_cases (b == 34) (b == 92) _ _ _ h
 pub escape_step : (b : ℕ) (l : List ℕ) → IsTrue (is_escape b) → step (in_escape l) b ≡ Some (in_quotes (l ++ escaped_byte b ∷ []))
 escape_step b l h = rw h refl
 
+-- pieces between quotes are read as what they mean
 quotes_go_on : (l : List ℕ) (ps : List Piece) → ArePieces ps → run (in_quotes l) (inside_quotes ps) ≡ Some (in_quotes (l ++ meaning ps))
 quotes_go_on l [] h = ap (λ r. Some (in_quotes r)) (sym (append_nil l))
 quotes_go_on l (plain b ∷ ps) h =
@@ -91,6 +94,7 @@ step_may_end (in_quotes k) t b l e h = none_some l e
 step_may_end (in_escape k) t b l e h = none_some l e
 step_may_end (behind_quote k) t b l e h = none_some t h
 
+-- what may end stays so behind a first byte
 more_may_end : (x : List ℕ) (t : Spot) (o : Option Spot) → ((u : Spot) → o ≡ Some u → MayEnd u) → ((u : Spot) → MayEnd u → run u x ≡ Some t → MayEnd t)
     → option_and_then (λ u. run u x) o ≡ Some t → MayEnd t
 more_may_end x t None h k e = none_some t e

@@ -40,10 +40,12 @@ Saw s i x (got l j y) = SawLabel s i x l j y
 Saw s i x (unexpected j) = SawStop s i x j
 Saw s i x ends = SawEnd s x
 
+-- at the end of the text
 at_end : (s : Spot) (i : ℕ) (o : Option (List ℕ)) → label_in s ≡ o → Saw s i [] (seen_at_end i o)
 at_end s i None e = (s, refl, e)
 at_end s i (Some l) e = record { spelled = []; spot = s; parts = refl; runs = refl; label = e; place = omega arith; stops = tt }
 
+-- what was seen behind a first byte was seen from it on
 saw_more : (s t : Spot) (i b : ℕ) (x : List ℕ) (z : Seen) → step s b ≡ Some t → Saw t (i + 1) x z → Saw s i (b ∷ x) z
 saw_more s t i b x (got l j y) e h = record {
   spelled = b ∷ h.spelled;
@@ -67,6 +69,7 @@ saw_more s t i b x (unexpected j) e h = record {
 }
 saw_more s t i b x ends e (u, r, l) = (u, run_byte b x s t e ∙ r, l)
 
+-- at a byte
 at_byte : (s : Spot) (i b : ℕ) (x : List ℕ) (o : Option Spot) (p : Option (List ℕ)) → step s b ≡ o → label_in s ≡ p → ((t : Spot) → Saw t (i + 1) x (seen_from t (i + 1) x))
     → Saw s i (b ∷ x) (or_stop (λ t. seen_from t (i + 1) x) (seen_at i (b ∷ x) p) o)
 at_byte s i b x None None e f h = record { front = []; byte = b; rest = x; spot = s; parts = refl; runs = refl; label = f; place = omega arith; stops = e }

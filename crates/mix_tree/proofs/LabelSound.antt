@@ -18,19 +18,23 @@ Writes x (in_quotes l) = WritesPieces x l []
 Writes x (in_escape l) = WritesPieces x l (92 ∷ [])
 Writes x (behind_quote l) = WritesPieces x l (34 ∷ [])
 
+-- one piece more, as it is written
 pub inside-push : (ps : List Piece) (q : Piece) → inside_quotes (ps ++ q ∷ []) ≡ inside_quotes ps ++ inside_quotes (q ∷ [])
 inside-push [] q = refl
 inside-push (plain b ∷ ps) q = ap (λ r. b ∷ r) (inside-push ps q)
 inside-push (escape b ∷ ps) q = ap (λ r. 92 ∷ b ∷ r) (inside-push ps q)
 
+-- and as it is meant
 pub meaning-push : (ps : List Piece) (q : Piece) → meaning (ps ++ q ∷ []) ≡ meaning ps ++ meaning (q ∷ [])
 meaning-push [] q = refl
 meaning-push (plain b ∷ ps) q = ap (λ r. b ∷ r) (meaning-push ps q)
 meaning-push (escape b ∷ ps) q = ap (λ r. escaped_byte b ∷ r) (meaning-push ps q)
 
+-- a byte that is no quote and no backslash stands for itself
 plain_of : (b : ℕ) → (b == 34) ≡ false → (b == 92) ≡ false → is_plain b ≡ true
 plain_of b h k = rw (h, k) refl
 
+-- one bare character more
 bare-push : (l : List ℕ) (b : ℕ) → IsTrue (is_bare_label l) → IsTrue (is_bare b) → IsTrue (is_bare_label (l ++ b ∷ []))
 bare-push [] b h k = cc
 bare-push (c ∷ l) b h k = list_all-push is_bare (c ∷ l) b h k
@@ -39,6 +43,7 @@ bare-push (c ∷ l) b h k = list_all-push is_bare (c ∷ l) b h k
 text_more : (x : List ℕ) (ps : List Piece) (b c : ℕ) → c ≡ b → x ≡ 34 ∷ inside_quotes ps ++ [] → x ++ b ∷ [] ≡ 34 ∷ inside_quotes ps ++ c ∷ []
 text_more x ps b c same e = ap (λ r. r ++ b ∷ []) e ∙ ap (λ r. 34 ∷ r ++ b ∷ []) (append_nil (inside_quotes ps)) ∙ ap (λ d. 34 ∷ inside_quotes ps ++ d ∷ []) (sym same)
 
+-- one byte more that stands for itself
 plain_more : (x l : List ℕ) (b : ℕ) → IsTrue (is_plain b) → WritesPieces x l [] → WritesPieces (x ++ b ∷ []) (l ++ b ∷ []) []
 plain_more x l b h (ps, are, e, m) = (
   ps ++ plain b ∷ [],
@@ -47,6 +52,7 @@ plain_more x l b h (ps, are, e, m) = (
   meaning-push ps (plain b) ∙ ap (λ r. r ++ b ∷ []) m,
 )
 
+-- one escape more
 escape_more : (x l : List ℕ) (b : ℕ) → IsTrue (is_escape b) → WritesPieces x l (92 ∷ []) → WritesPieces (x ++ b ∷ []) (l ++ escaped_byte b ∷ []) []
 escape_more x l b h (ps, are, e, m) = (
   ps ++ escape b ∷ [],
@@ -55,9 +61,11 @@ escape_more x l b h (ps, are, e, m) = (
   meaning-push ps (escape b) ∙ ap (λ r. r ++ escaped_byte b ∷ []) m,
 )
 
+-- a quote or a backslash behind the pieces
 byte_more : (x l : List ℕ) (b c : ℕ) → c ≡ b → WritesPieces x l [] → WritesPieces (x ++ b ∷ []) l (c ∷ [])
 byte_more x l b c same (ps, are, e, m) = (ps, are, text_more x ps b c same e, m)
 
+-- the first byte
 begin_writes : (x : List ℕ) (b : ℕ) → x ≡ [] → Gives (Writes (x ++ b ∷ [])) (step start b)
 begin_writes x b e =
     either _ (is_bare b) _ _ (λ h. (and_both (is_bare b) true h refl, ap (λ r. r ++ b ∷ []) e))
@@ -73,6 +81,7 @@ step_writes x (in_quotes l) b h =
 step_writes x (in_escape l) b h = either _ (is_escape b) _ _ (λ k. escape_more x l b k h) (λ n. tt)
 step_writes x (behind_quote l) b h = tt
 
+-- the text of a run behind a first byte
 after_step : (x y : List ℕ) (b : ℕ) (s : Option Spot) → Gives (Writes (x ++ b ∷ [])) s → ((t : Spot) → Writes (x ++ b ∷ []) t → Gives (Writes ((x ++ b ∷ []) ++ y)) (run t y))
     → Gives (Writes (x ++ b ∷ y)) (option_and_then (λ t. run t y) s)
 after_step x y b None h k = tt

@@ -41,6 +41,7 @@ quotes_seen x l at end order inside h =
 pub cut_seen : (x l : List ℕ) (end : ℕ) → length x ≤ end → seen_from (in_quotes l) end (drop end x) ≡ ends
 cut_seen x l end h = ap (seen_from (in_quotes l) end) (drop_end x end h)
 
+-- behind the closing quote the label has ended
 closed_seen : (l y : List ℕ) (i : ℕ) → seen_from (behind_quote l) i y ≡ got l i y
 closed_seen l [] i = refl
 closed_seen l (b ∷ y) i = refl
@@ -61,6 +62,7 @@ backslash_seen x l end inside e = byte_seen x (in_quotes l) (in_escape l) end in
 pub escape_cut : (x l : List ℕ) (end : ℕ) → end < length x → slice_index x end ≡ 92 → length x ≤ end + 1 → seen_from (in_quotes l) end (drop end x) ≡ ends
 escape_cut x l end inside e h = backslash_seen x l end inside e ∙ ap (seen_from (in_escape l) (end + 1)) (drop_end x (end + 1) h)
 
+-- a byte that is no escape does not go on behind a backslash
 no_escape : (l : List ℕ) (b : ℕ) → escape_of b ≡ None → step (in_escape l) b ≡ None
 no_escape l b e = by_case (is_escape b) e
   where
@@ -68,6 +70,7 @@ no_escape l b e = by_case (is_escape b) e
     by_case true f = none_some (escaped_byte b) (sym f)
     by_case false f = refl
 
+-- an escape does
 some_escape : (l : List ℕ) (b m : ℕ) → escape_of b ≡ Some m → step (in_escape l) b ≡ Some (in_quotes (l ++ m ∷ []))
 some_escape l b m e = by_case (is_escape b) e
   where
@@ -150,6 +153,7 @@ label_seen (b ∷ x) y i some h k =
     let goes : step start b ≡ Some (in_bare (b ∷ [])) = rw parts.0 refl in
     seen_byte start (in_bare (b ∷ [])) i b (x ++ y) goes ∙ bare_seen x y (b ∷ []) (i + 1) parts.1 k ∙ ap (λ n. got (b ∷ x) n y) one
 
+-- where a scan ends, no bare character goes on
 no_bare : (x : List ℕ) (end : ℕ) → (end < length x → is_bare (slice_index x end) ≡ false) → end ≤ length x → NoBare (drop end x)
 no_bare x end h inside = by_rest (drop end x) refl
   where
