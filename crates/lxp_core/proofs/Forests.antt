@@ -1,0 +1,13 @@
+-- Lists of trees, one behind another.
+use Rattle.std.proofs.Common.{◌≡◌, refl, ap}
+use Rattle.mix_tree.specs.Forest.{Forest, none, tree, followed}
+
+-- nothing behind a list changes nothing
+pub followed-none : (f : Forest) → followed f none ≡ f
+followed-none none = refl
+followed-none (tree label kids rest) = ap (tree label kids) (followed-none rest)
+
+-- of three lists, the first two or the last two may be joined first
+pub followed_assoc : (f g h : Forest) → followed (followed f g) h ≡ followed f (followed g h)
+followed_assoc none g h = refl
+followed_assoc (tree label kids rest) g h = ap (tree label kids) (followed_assoc rest g h)
