@@ -51,8 +51,8 @@ fn is_blank_byte(byte: u8) -> bool
 fn add_kid(kids: &mut Vec<Tree>, tree: Tree) -> Result<(), AllocError>
     ensures { OnOk result (kids.new.items ≡ kids.old.items ++ tree ∷ []) }
 {
-    if kids.is_empty() {
-        kids.reserve_exact(1)?;
+    if kids.len() == kids.capacity() {
+        kids.reserve_exact(kids.len().max(1))?;
     }
     kids.push(tree)?;
     Ok(())
