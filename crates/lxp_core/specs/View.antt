@@ -19,7 +19,7 @@ pub record View : Type 0 where
   pub weight : ℕ → HoleId → ℕ
   -- whether no list that a fill of a source answers begins with a hole
   pub forward : ℕ → Bool
-  -- how many fills were answered
+  -- how many fills were answered or failed
   pub fills : ℕ
   -- how often a source failed
   pub faults : ℕ → ℕ

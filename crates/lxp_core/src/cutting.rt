@@ -14,7 +14,8 @@ use std::alloc::{AllocError, Global};
 
 // Puts a hole behind a list, where one is wanted.
 fn push_hole_if(list: &mut Vec<OpenTree>, wanted: bool, span: Span) -> Result<(), AllocError>
-    ensures { OnOk result ((rest : Open) → put_all list.new.items rest ≡ put_all list.old.items (hole_if wanted span rest)) }
+    ensures { OnOk result ((rest : Open) →
+        put_all list.new.items rest ≡ put_all list.old.items (hole_if wanted span rest)) }
 {
     if wanted {
         list.push(OpenTree::Hole(span.hole()))?;
@@ -82,7 +83,8 @@ impl Document {
         count: usize,
     ) -> Result<(), AllocError>
         requires { first + count ≤ length self.now.nodes.items }
-        ensures { OnOk result ((rest : Open) → put_all list.new.items rest ≡ put_all list.old.items (children self.now.nodes.items choice first count rest)) }
+        ensures { OnOk result ((rest : Open) → put_all list.new.items rest
+            ≡ put_all list.old.items (children self.now.nodes.items choice first count rest)) }
     {
         for i in first..first + count {
             let kids = self.kids(alloc, choice, i)?;

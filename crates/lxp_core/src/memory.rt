@@ -14,10 +14,11 @@ use std::alloc::{AllocError, Global};
 /// Documents in memory. They come in pieces that bytes choose, and fail at the fills that a list names.
 ///
 /// A hole stands for a range of the children of a node; the root's is a range of one, below the document node. Each fill
-/// that is answered takes the next byte of the choices, in a circle. An empty range gives an empty list. Else the list
-/// may begin with a hole for the first children, at most all but one of them, and never where the sources are forward.
-/// Then come some children. Then comes a hole for those that are left, where some are or where the byte wants it. A
-/// child is given whole, or with one hole below it, where it has children or the byte wants it.
+/// that is answered takes the next byte of the choices, in a circle. An empty range gives an empty list. Else there come
+/// a hole for the first children, where bit 0 is set and the sources are not forward, for as many as bits 6 and 7 say
+/// but never for all; then one child and as many more as bits 3 to 5 say, or as there are; then a hole for those that
+/// are left, where some are or bit 1 is set. With bit 2 a child is a whole subtree. Without it a child has one hole below
+/// it, where it has children or bit 1 is set.
 #[derive(Drop)]
 pub struct MemSources {
     docs: Vec<Document>,
