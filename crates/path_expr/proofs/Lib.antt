@@ -1,0 +1,12 @@
+pub mod Again
+pub mod CanonUtf8
+pub mod Complete
+pub mod Count
+pub mod Deep
+pub mod Fronts
+pub mod Images
+pub mod RoundTrip
+pub mod Shapes
+pub mod Sound
+pub mod Utf8
+pub mod Verdicts

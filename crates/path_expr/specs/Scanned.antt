@@ -1,0 +1,66 @@
+-- What a scan keeps of the machine's state: how many parentheses are open, and the place.
+use Rattle.std.specs.Prelude.{ℕ, zero, suc, ◌+◌, Bool, true, false, cond, ◌==◌, ◌&&◌, length, Option, Some, None}
+use Rattle.mix_tree.specs.LabelGrammar.{is_escape}
+use Rattle.path_expr.specs.Names.{is_name_byte}
+use Rattle.path_expr.specs.Grammar.{is_mark}
+use Rattle.path_expr.specs.Machine.{Mode, start, naming, quoting, escaping, behind_atom, behind_repeat, State}
+use Rattle.path_expr.specs.declared.scan.Stage.{Stage}
+use Rattle.path_expr.specs.declared.scan.Stage.TheVariants.{Start, Naming, Quoting, Escaping, BehindAtom, BehindRepeat}
+use Rattle.path_expr.specs.declared.scan.Scan.{Scan}
+
+-- what a scan keeps
+abbrev pub shape : ℕ → Stage → Scan
+shape n p = record { depth = n; stage = p }
+
+-- what stands before the next byte
+abbrev pub stage_of : Mode → Stage
+stage_of start = Start
+stage_of (naming l) = Naming
+stage_of (quoting ps) = Quoting
+stage_of (escaping ps) = Escaping
+stage_of (behind_atom p) = BehindAtom
+stage_of (behind_repeat p) = BehindRepeat
+
+-- what a scan keeps of a state
+abbrev pub shape_of : State → Scan
+shape_of s = shape (length s.outer) (stage_of s.mode)
+
+-- what it keeps behind a closing parenthesis
+abbrev pub shape_close : ℕ → Option Scan
+shape_close zero = None
+shape_close (suc n) = Some (shape n BehindAtom)
+
+-- what it keeps behind a byte that ends a member
+abbrev pub shape_behind : ℕ → ℕ → Option Scan
+shape_behind n b = cond (b == 46) (Some (shape n Start)) (cond (b == 124) (Some (shape n Start)) (cond (b == 41) (shape_close n) None))
+
+-- what it keeps behind a byte that marks an atom or ends it
+abbrev pub shape_atom : ℕ → ℕ → Option Scan
+shape_atom n b = cond (is_mark b) (Some (shape n BehindRepeat)) (shape_behind n b)
+
+-- what it keeps behind one more byte
+abbrev pub shape_in : ℕ → Stage → ℕ → Option Scan
+shape_in n Start b =
+    cond (is_name_byte b) (Some (shape n Naming)) (cond (b == 34) (Some (shape n Quoting)) (cond (b == 40) (Some (shape (n + 1) Start)) None))
+shape_in n Naming b = cond (is_name_byte b) (Some (shape n Naming)) (shape_atom n b)
+shape_in n Quoting b = cond (b == 34) (Some (shape n BehindAtom)) (cond (b == 92) (Some (shape n Escaping)) (Some (shape n Quoting)))
+shape_in n Escaping b = cond (is_escape b) (Some (shape n Quoting)) None
+shape_in n BehindAtom b = shape_atom n b
+shape_in n BehindRepeat b = shape_behind n b
+
+-- the same, of a scan
+abbrev pub shape_step : Scan → ℕ → Option Scan
+shape_step s b = shape_in s.depth s.stage b
+
+-- a member may end there
+abbrev pub may_end : Stage → Bool
+may_end Start = false
+may_end Naming = true
+may_end Quoting = false
+may_end Escaping = false
+may_end BehindAtom = true
+may_end BehindRepeat = true
+
+-- the scan may end here
+abbrev pub is_whole : Scan → Bool
+is_whole s = may_end s.stage && s.depth == 0

@@ -1,0 +1,21 @@
+//! Path expressions: read from their text, written as text, and which lists of labels they describe.
+#![tactic(auto)]
+
+mod build;
+mod depth;
+mod fault;
+mod law;
+mod path;
+mod positions;
+mod reading;
+mod scan;
+mod writing;
+
+pub use fault::PathFault;
+pub use law::no_text_spells_two_paths;
+pub use path::{Node, Path};
+pub use reading::read_path;
+pub use writing::{push_path, write_path};
+
+#[cfg(test)]
+mod tests;

@@ -1,0 +1,125 @@
+// Whether a text is one of the grammar, and where it stops to be.
+ghost use Rattle.std.specs.Prelude.{◌≡◌, ◌<◌, ◌≤◌, ◌+◌, ◌^◌, length, IfSome, IsUtf8};
+ghost use Rattle.mix_tree.specs.LabelGrammar.{is_escape};
+ghost use Rattle.path_expr.specs.Names.{is_name_byte};
+ghost use Rattle.path_expr.specs.Grammar.{is_mark};
+ghost use Rattle.path_expr.specs.Scanned.{shape_step, shape_behind, is_whole};
+ghost use Rattle.path_expr.specs.Results.{Scans};
+
+use crate::PathFault;
+
+// What stands before a byte.
+#[derive(Clone, Copy)]
+enum Stage {
+    Start,
+    Naming,
+    Quoting,
+    Escaping,
+    BehindAtom,
+    BehindRepeat,
+}
+
+// What a scan keeps: how many parentheses are open, and what stands before the next byte.
+#[derive(Clone, Copy)]
+struct Scan {
+    depth: usize,
+    stage: Stage,
+}
+
+/// Whether a name may have the byte.
+pub fn is_name(byte: u8) -> bool
+    ensures { result ≡ is_name_byte byte }
+{
+    matches!(byte, b'a'..=b'z' | b'A'..=b'Z' | b'0'..=b'9' | b'_' | b'-')
+}
+
+/// Whether the byte may stand behind a backslash.
+pub fn is_escaped(byte: u8) -> bool
+    ensures { result ≡ is_escape byte }
+{
+    matches!(byte, b'"' | b'\\' | b'n' | b't')
+}
+
+/// Whether the byte is a mark: `*`, `+` or `?`.
+pub fn is_mark_byte(byte: u8) -> bool
+    ensures { result ≡ is_mark byte }
+{
+    matches!(byte, b'*' | b'+' | b'?')
+}
+
+// The scan behind one more byte, where a text goes on so.
+fn scan_byte(scan: Scan, byte: u8) -> Option<Scan>
+    requires { scan.depth + 1 < 2 ^ 64 }
+    ensures step { result ≡ shape_step scan byte }
+    ensures depth { IfSome result (λ next. next.depth ≤ scan.depth + 1) }
+{
+    let depth = scan.depth;
+    let stage = match scan.stage {
+        Stage::Start if is_name(byte) => Stage::Naming,
+        Stage::Start if byte == b'"' => Stage::Quoting,
+        Stage::Start if byte == b'(' => {
+            return Some(Scan {
+                depth: depth + 1,
+                stage: Stage::Start,
+            });
+        }
+        Stage::Start => return None,
+        Stage::Quoting if byte == b'"' => Stage::BehindAtom,
+        Stage::Quoting if byte == b'\\' => Stage::Escaping,
+        Stage::Quoting => Stage::Quoting,
+        Stage::Escaping if is_escaped(byte) => Stage::Quoting,
+        Stage::Escaping => return None,
+        Stage::Naming if is_name(byte) => Stage::Naming,
+        Stage::Naming | Stage::BehindAtom if is_mark_byte(byte) => Stage::BehindRepeat,
+        Stage::Naming | Stage::BehindAtom | Stage::BehindRepeat => return scan_behind(depth, byte),
+    };
+    Some(Scan { depth, stage })
+}
+
+// The scan behind one more byte, which ends a member.
+fn scan_behind(depth: usize, byte: u8) -> Option<Scan>
+    ensures { result ≡ shape_behind depth byte }
+{
+    match byte {
+        b'.' | b'|' => Some(Scan {
+            depth,
+            stage: Stage::Start,
+        }),
+        b')' if depth > 0 => Some(Scan {
+            depth: depth - 1,
+            stage: Stage::BehindAtom,
+        }),
+        _ => None,
+    }
+}
+
+// Whether a text may end there.
+fn may_end_scan(scan: Scan) -> bool
+    ensures { result ≡ is_whole scan }
+{
+    matches!(
+        scan.stage,
+        Stage::Naming | Stage::BehindAtom | Stage::BehindRepeat
+    ) && scan.depth == 0
+}
+
+/// Passes over a text of the grammar. The error says where it stops to be one.
+pub fn scan_path(text: &[u8]) -> Result<(), PathFault>
+    requires { IsUtf8 text.now }
+    ensures { Scans text.now result }
+{
+    let mut scan = Scan {
+        depth: 0,
+        stage: Stage::Start,
+    };
+    for at in 0..text.len() {
+        let Some(next) = scan_byte(scan, text[at]) else {
+            return Err(PathFault::Unexpected(at));
+        };
+        scan = next;
+    }
+    if may_end_scan(scan) {
+        return Ok(());
+    }
+    Err(PathFault::Ends)
+}

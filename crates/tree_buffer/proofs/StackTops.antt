@@ -1,0 +1,45 @@
+-- The stacks of trees that fills change.
+use Rattle.std.proofs.Common.{◌≡◌, ℕ, suc, ◌-◌, Some, List, [], ◌∷◌, ◌++◌, length, drop, refl, ap, ◌∙◌, arith, append_assoc, false}
+use Rattle.std.specs.Prelude.{reverse, remove, slice_get}
+use Rattle.std.proofs.lemmas.List.{take_at}
+use Rattle.lxp_core.specs.declared.open_tree.HoleId.{HoleId}
+use Rattle.lxp_core.specs.declared.open_tree.OpenTree.{OpenTree}
+use Rattle.lxp_core.specs.declared.open_tree.OpenTree.TheVariants.{Hole, Node}
+use Rattle.lxp_core.specs.Open.{nil, hole, open_followed, begins_with_hole}
+use Rattle.lxp_core.specs.Plain.{put, stacked, plain}
+use Rattle.lxp_core.proofs.Plains.{put-hole, put-node, put_all-open_followed, stacked-append, stacked-reverse}
+
+-- the last of a stack is the first of the list
+pub stacked-top : (front : List OpenTree) (t : OpenTree) → stacked (front ++ t ∷ []) nil ≡ put t (stacked front nil)
+stacked-top front t = stacked-append front (t ∷ []) nil
+
+-- a hole at the top of a stack stands at the front of the list
+pub stacked-hole : (front : List OpenTree) (h : HoleId) → stacked (front ++ Hole h ∷ []) nil ≡ hole h (stacked front nil)
+stacked-hole front h = stacked-top front (Hole h) ∙ put-hole h (stacked front nil)
+
+-- a list put behind a stack's top, of which the old top is then removed
+pub stacked-refilled : (front list : List OpenTree) (t : OpenTree) → stacked (remove ((front ++ t ∷ []) ++ reverse list) (length front)) nil ≡ open_followed (plain list) (stacked front nil)
+stacked-refilled front list t =
+    let parts : (front ++ t ∷ []) ++ reverse list ≡ front ++ (t ∷ reverse list) = append_assoc front (t ∷ []) (reverse list) in
+    let whole : remove ((front ++ t ∷ []) ++ reverse list) (length front) ≡ front ++ reverse list =
+    rw (parts, take_at front (t ∷ reverse list) (length front) refl) (ap (λ xs. front ++ xs) (dropped front t (reverse list))) in
+    ap (λ xs. stacked xs nil) whole ∙ stacked-append front (reverse list) nil ∙ stacked-reverse list (stacked front nil) ∙ put_all-open_followed list (stacked front nil)
+  where
+    dropped : (front : List OpenTree) (t : OpenTree) (rest : List OpenTree) → drop (suc (length front)) (front ++ (t ∷ rest)) ≡ rest
+    dropped [] t rest = refl
+    dropped (x ∷ front) t rest = dropped front t rest
+
+-- the last of a list behind the others
+pub last_split : (xs : List OpenTree) (t : OpenTree) → Some t ≡ slice_get xs (length xs - 1) → (front : List OpenTree) × (xs ≡ front ++ t ∷ [])
+last_split [] t e = cc
+last_split (x ∷ []) t e = ([], cc)
+last_split (x ∷ y ∷ xs) t e =
+    let shorter : length (x ∷ y ∷ xs) - 1 ≡ suc (length (y ∷ xs) - 1) = omega arith in
+    let r = last_split (y ∷ xs) t (e ∙ ap (slice_get (x ∷ y ∷ xs)) shorter) in
+    (x ∷ r.0, ap (λ zs. x ∷ zs) r.1)
+
+-- a node at the top of a stack is no hole at the front of the list
+pub no_hole_at_top : (xs : List OpenTree) (t : OpenTree) (l : List ℕ) (ks : _) → Some t ≡ slice_get xs (length xs - 1) → t ≡ Node l ks → begins_with_hole (stacked xs nil) ≡ false
+no_hole_at_top xs t l ks e is =
+    let r = last_split xs t e in
+    ap (λ ys. begins_with_hole (stacked ys nil)) r.1 ∙ ap begins_with_hole (stacked-top r.0 t ∙ ap (λ u. put u (stacked r.0 nil)) is ∙ put-node l ks (stacked r.0 nil))

@@ -1,0 +1,128 @@
+use Rattle.std.proofs.Common.{◌≡◌, ◌⊎◌, inl, inr, List, ◌+◌, ◌<◌, [], length, get_or, set, refl, subst, sym, ap, ◌∙◌, arith}
+use Rattle.std.proofs.lemmas.Bool.{cases_eq}
+use Rattle.std.proofs.lemmas.List.{length-map}
+use Rattle.lxp_core.specs.Open.{nil, node, weight_of}
+use Rattle.lxp_core.specs.Plain.{stacked}
+use Rattle.lxp_core.specs.View.{View}
+use Rattle.tree_buffer.specs.Nodes.{Nodes, IsChild, IsLinked, IsLast}
+use Rattle.tree_buffer.specs.Sourced.{Sourced, Moved}
+use Rattle.tree_buffer.specs.Entries.{nodes, list_of, entry_label}
+use Rattle.tree_buffer.specs.declared.entry.Entry.{Entry}
+use Rattle.tree_buffer.proofs.Columns.{column}
+use Rattle.tree_buffer.proofs.Entries.{length-links, nodes-handed}
+use Rattle.tree_buffer.proofs.Handed.{handed, linked_handed, child_new}
+use Rattle.tree_buffer.proofs.HandedLists.{moved_handed, sourced_handed, labels_front}
+use Rattle.tree_buffer.proofs.Refine.{moved_same}
+use Rattle.tree_buffer.proofs.buffer.Buffer.hand_out.Goals.{After-index_mut-last}
+use Rattle.tree_buffer.proofs.buffer.Buffer.hand_out.Goals as goal
+
+within : (es : _) (q : _) → q < length (nodes es).links → q < length es
+within es q h = omega (arith, h, length-links es)
+
+pub returns-in_err-reserve-clause-goes : goal.returns-in_err-reserve-clause-goes
+returns-in_err-reserve-clause-goes c = λ v s. record { number = refl; moved = rw c.reserve.ensures.items (moved_same (weight_of (v.weight c.args.self.now.number)) (nodes c.args.self.now.entries.items)) }
+
+module _ (c : After-index_mut-last) where
+  in_es : c.args.q < length c.reserve.new.self.items
+  in_es = rw c.reserve.ensures.items (within c.args.self.now.entries.items c.args.q c.requires.spot)
+
+  new_is : c.len-new.result ≡ length c.reserve.new.self.items
+  new_is = omega (arith, c.len-new.ensures, c.reserve.new.self.ok.0)
+
+  count_is : get_or (nodes c.reserve.new.self.items).counts c.args.q 0 ≡ c.index_mut-entry.result.now.count
+  count_is = column (λ (e : Entry). e.count) c.reserve.new.self.items c.args.q c.index_mut-entry.result.now 0 in_es c.index_mut-entry.ensures.value
+
+  first_is : get_or (nodes c.reserve.new.self.items).firsts c.args.q 0 ≡ c.index_mut-entry.result.now.first
+  first_is = column (λ (e : Entry). e.first) c.reserve.new.self.items c.args.q c.index_mut-entry.result.now 0 in_es c.index_mut-entry.ensures.value
+
+  list : get_or (nodes c.reserve.new.self.items).rests c.args.q nil ≡ node c.pop_tree-label.result.0 (stacked c.pop_tree-label.result.1.items nil) (stacked c.pop_tree-label.new.stack.items nil)
+  list =
+      column list_of c.reserve.new.self.items c.args.q c.index_mut-entry.result.now nil in_es c.index_mut-entry.ensures.value ∙ c.pop_tree-label.ensures
+
+  last_is : 0 < c.index_mut-entry.result.now.count → IsLast (nodes c.reserve.new.self.items) c.args.q c.new_or-before.result
+  last_is some =
+      let asked = rw (← c.reserve.ensures.items) at c.requires.before in
+      subst (IsLast (nodes c.reserve.new.self.items) c.args.q) (sym (c.new_or-before.ensures.later some)) (asked (omega (arith, count_is, some)))
+
+  before_in : c.new_or-before.result < length c.reserve.new.self.items + 1
+  before_in = cases (cases_eq c.index_mut-entry.result.now.count 0)
+    where
+      cases : (c.index_mut-entry.result.now.count ≡ 0) ⊎ (c.index_mut-entry.result.now.count ≡ 0 → ⊥) → c.new_or-before.result < length c.reserve.new.self.items + 1
+      cases (inl z) = omega (arith, c.new_or-before.ensures.first z, new_is)
+      cases (inr nz) = omega (arith, (last_is (omega arith)).child.known, length-links c.reserve.new.self.items)
+
+  in_nodes : c.args.q < length (nodes c.reserve.new.self.items).links
+  in_nodes = omega (arith, in_es, length-links c.reserve.new.self.items)
+
+  linked : IsLinked (nodes c.reserve.new.self.items).links (nodes c.reserve.new.self.items).counts (nodes c.reserve.new.self.items).firsts (nodes c.reserve.new.self.items).nexts
+  linked = subst (λ (xs : List Entry). IsLinked (nodes xs).links (nodes xs).counts (nodes xs).firsts (nodes xs).nexts) (sym c.reserve.ensures.items) c.args.self.now.linked
+
+  after : Nodes
+  after = handed (nodes c.reserve.new.self.items) c.args.q c.new_or-first.result c.new_or-before.result c.pop_tree-label.result.0 (stacked c.pop_tree-label.result.1.items nil) (stacked c.pop_tree-label.new.stack.items nil)
+
+  made : nodes (set c.push.new.self.items c.new_or-before.result (record c.index_mut-last.result.now { next = c.len-new.result })) ≡ after
+  unfolding after
+  made =
+      let whole = c.in-Ok.ensures.items in
+      let read = rw whole at c.index_mut-last.ensures.value in
+      ap (λ xs. nodes (set xs c.new_or-before.result (record c.index_mut-last.result.now { next = c.len-new.result }))) whole
+      ∙ nodes-handed c.reserve.new.self.items c.args.q c.index_mut-entry.result.now _ _ c.new_or-before.result c.index_mut-last.result.now _ in_es c.index_mut-entry.ensures.value
+      refl refl refl refl refl refl refl refl refl refl before_in read refl refl refl refl refl refl new_is
+
+  linked_after : IsLinked after.links after.counts after.firsts after.nexts
+  unfolding after
+  linked_after =
+      linked_handed (nodes c.reserve.new.self.items) linked c.args.q c.new_or-first.result c.new_or-before.result c.pop_tree-label.result.0 (stacked c.pop_tree-label.result.1.items nil) (stacked c.pop_tree-label.new.stack.items nil) in_nodes
+      (λ z. omega (arith, c.new_or-first.ensures.first (sym count_is ∙ z), new_is, length-links c.reserve.new.self.items))
+      (λ some. c.new_or-first.ensures.later (omega (arith, some, count_is)) ∙ sym first_is)
+      (λ z. omega (arith, c.new_or-before.ensures.first (sym count_is ∙ z), new_is, length-links c.reserve.new.self.items))
+      (λ some. let l = last_is (omega (arith, some, count_is)) in (l.child, l.last))
+
+  sourced_after : (v : View) → Sourced v c.args.self.now.number (nodes c.args.self.now.entries.items) → Sourced v c.args.self.now.number after
+  unfolding after
+  sourced_after v s =
+      sourced_handed (nodes c.reserve.new.self.items) linked c.args.q c.new_or-first.result c.new_or-before.result c.pop_tree-label.result.0 (stacked c.pop_tree-label.result.1.items nil) (stacked c.pop_tree-label.new.stack.items nil) in_nodes
+      v c.args.self.now.number (subst (λ (xs : List Entry). Sourced v c.args.self.now.number (nodes xs)) (sym c.reserve.ensures.items) s) list
+
+  moved_after : (v : View) → Sourced v c.args.self.now.number (nodes c.args.self.now.entries.items)
+      → Moved (weight_of (v.weight c.args.self.now.number)) (nodes c.args.self.now.entries.items) (weight_of (v.weight c.args.self.now.number)) after
+  unfolding after
+  moved_after v s =
+      let s' = subst (λ (xs : List Entry). Sourced v c.args.self.now.number (nodes xs)) (sym c.reserve.ensures.items) s in
+      subst (λ (xs : List Entry). Moved (weight_of (v.weight c.args.self.now.number)) (nodes xs) (weight_of (v.weight c.args.self.now.number)) after) c.reserve.ensures.items
+      (moved_handed (nodes c.reserve.new.self.items) linked c.args.q c.new_or-first.result c.new_or-before.result c.pop_tree-label.result.0 (stacked c.pop_tree-label.result.1.items nil) (stacked c.pop_tree-label.new.stack.items nil) in_nodes
+      (v.weight c.args.self.now.number) s'.rests s'.labels list)
+
+  bare_after : get_or after.labels 0 [] ≡ []
+  unfolding after
+  bare_after =
+      labels_front (nodes c.reserve.new.self.items) c.pop_tree-label.result.0
+      (omega (arith, length-map c.reserve.new.self.items entry_label, in_es))
+      (subst (λ (xs : List Entry). get_or (nodes xs).labels 0 [] ≡ []) (sym c.reserve.ensures.items) c.args.self.now.bare)
+
+  child_after : IsChild after.links c.args.q (get_or (nodes c.args.self.now.entries.items).counts c.args.q 0) c.len-new.result
+  unfolding after
+  child_after =
+      let new : c.len-new.result ≡ length (nodes c.reserve.new.self.items).links = omega (arith, new_is, length-links c.reserve.new.self.items) in
+      rw (new, ← c.reserve.ensures.items)
+      (child_new (nodes c.reserve.new.self.items) linked c.args.q c.new_or-first.result c.new_or-before.result c.pop_tree-label.result.0 (stacked c.pop_tree-label.result.1.items nil) (stacked c.pop_tree-label.new.stack.items nil) in_nodes)
+
+pub invariant_of-self-2 : goal.invariant_of-self-2
+invariant_of-self-2 c =
+    let d = (goal.at.invariant_of-self-2 c).After-index_mut-last in
+    record { linked = subst (λ (m : Nodes). IsLinked m.links m.counts m.firsts m.nexts) (sym (made d)) (linked_after d); bare = subst (λ (m : Nodes). get_or m.labels 0 [] ≡ []) (sym (made d)) (bare_after d) }
+
+pub returns-clause-sources : goal.returns-clause-sources
+returns-clause-sources c = λ v s.
+    let d = (goal.at.returns-clause-sources c).After-index_mut-last in
+    record { sourced = subst (Sourced v c.args.self.now.number) (sym (made d)) (sourced_after d v s.sourced) }
+
+pub returns-clause-goes : goal.returns-clause-goes
+returns-clause-goes c = λ v s.
+    let d = (goal.at.returns-clause-goes c).After-index_mut-last in
+    record { number = refl; moved = subst (Moved (weight_of (v.weight c.args.self.now.number)) (nodes c.args.self.now.entries.items) (weight_of (v.weight c.args.self.now.number))) (sym (made d)) (moved_after d v s.sourced) }
+
+pub returns-clause-child : goal.returns-clause-child
+returns-clause-child c =
+    let d = (goal.at.returns-clause-child c).After-index_mut-last in
+    subst (λ (m : Nodes). IsChild m.links c.args.q (get_or (nodes c.args.self.now.entries.items).counts c.args.q 0) c.len-new.result) (sym (made d)) (child_after d)

@@ -1,0 +1,193 @@
+use Rattle.std.proofs.Common.{◌≡◌, ℕ, ◌+◌, ◌<◌, ◌≤◌, ◌∷◌, [], ◌++◌, Some, length, get_or, sym, ap, ◌∙◌, arith}
+use Rattle.mix_tree.specs.Place.{next_place}
+use Rattle.lxp_core.specs.View.{Keeps}
+use Rattle.lxp_core.specs.Open.{nil, begins_with_hole}
+use Rattle.tree_buffer.specs.declared.spot.Spot.{Spot}
+use Rattle.tree_buffer.specs.Nodes.{place, IsChild}
+use Rattle.tree_buffer.specs.Buffer.{nodes_of, weigh, below, after as after_spot, IsSpot, place_of, IsSourcesOf, Goes, IsChildSpot, IsNextSpot}
+use Rattle.tree_buffer.proofs.Entries.{length-links}
+use Rattle.tree_buffer.proofs.Spots.{is_some_from, if_some_from, child_place, child_lighter, child_told, next_child, count_read, up, next_is, right_is, after_is, index_in, is_last, link_read, child_at, child_counted}
+use Rattle.tree_buffer.proofs.Calls.{ran_same, goes_twice}
+use Rattle.tree_buffer.proofs.Exact.{exact_child, exact_none, less_child}
+use Rattle.tree_buffer.proofs.buffer.Buffer.right.Goals.{Else-p-eq0, Then-entry-index, Else-entry-index, In_ok-hand_out}
+use Rattle.tree_buffer.proofs.buffer.Buffer.right.Goals as goal
+
+some : (p : ℕ) → (p ≡ 0 → ⊥) → 0 < p
+some p h = omega arith
+
+pub overflow_add-entry : goal.overflow_add-entry
+overflow_add-entry g c =
+    omega (
+      arith,
+      c.args.self.now.entries.ok.0,
+      c.args.self.now.entries.ok.1,
+      c.args.self.now.entries.small,
+      index_in c.args.self.now.entries.items c.args.p.now.number c.index-entry.result.now c.args.self.now.linked (some _ c.if-p-eq0.false) c.requires.spot c.index-entry.ensures,
+    )
+
+pub index-requires : goal.index-requires
+index-requires g c =
+    omega (
+      arith,
+      c.args.self.now.entries.ok.0,
+      length-links c.args.self.now.entries.items,
+      up c.args.self.now.entries.items c.args.p.now.number c.index-entry.result.now c.args.self.now.linked (some _ c.if-p-eq0.false) c.requires.spot c.index-entry.ensures,
+    )
+
+next : (g : _) (c : Then-entry-index g) → IsChild (nodes_of c.args.self.now).links c.index-entry.result.now.parent (c.index-entry.result.now.index + 1) c.index-entry.result.now.next
+next g c =
+    next_child c.args.self.now.entries.items c.args.p.now.number c.index-entry.result.now c.index.result.now c.args.self.now.linked (some _ c.if-p-eq0.false) c.requires.spot c.index-entry.ensures c.index.ensures c.if-entry-index.true
+
+pub returns-then-entry-index-clause-next : goal.returns-then-entry-index-clause-next
+returns-then-entry-index-clause-next g c =
+    record {
+      spot = (next g c).known;
+      place = ap Some (child_place (nodes_of c.args.self.now) c.args.self.now.linked _ _ _ (next g c))
+          ∙ sym (next_is c.args.self.now.entries.items c.args.p.now.number c.index-entry.result.now c.args.self.now.linked (some _ c.if-p-eq0.false) c.requires.spot c.index-entry.ensures);
+    }
+
+pub returns-then-entry-index-clause-exact : goal.returns-then-entry-index-clause-exact
+returns-then-entry-index-clause-exact g c = λ told.
+    sym (right_is c.args.self.now.entries.items c.args.p.now.number c.index-entry.result.now c.args.self.now.linked (some _ c.if-p-eq0.false) c.requires.spot c.index-entry.ensures _
+    ∙ child_told (nodes_of c.args.self.now) c.args.self.now.linked _ _ _ _ _ c.requires.sources.sourced told (next g c))
+
+pub returns-then-entry-index-clause-smaller : goal.returns-then-entry-index-clause-smaller
+returns-then-entry-index-clause-smaller g c =
+    let w = weigh (g.S.Sources.view c.args.s.now) c.args.self.now in
+    omega (
+      arith,
+      child_lighter (nodes_of c.args.self.now) c.args.self.now.linked w _ _ _ c.requires.sources.sourced.rests (next g c),
+      after_is c.args.self.now.entries.items c.args.p.now.number c.index-entry.result.now c.args.self.now.linked (some _ c.if-p-eq0.false) c.requires.spot c.index-entry.ensures w,
+    )
+
+pub settle_at-requires-clause-spot : goal.settle_at-requires-clause-spot
+settle_at-requires-clause-spot g c =
+    up c.args.self.now.entries.items c.args.p.now.number c.index-entry.result.now c.args.self.now.linked (some _ c.if-p-eq0.false) c.requires.spot c.index-entry.ensures
+
+pub hand_out-requires-clause-spot : goal.hand_out-requires-clause-spot
+hand_out-requires-clause-spot g c =
+    rw c.settle_at.ensures.links (up c.args.self.now.entries.items c.args.p.now.number c.index-entry.result.now c.args.self.now.linked (some _ c.if-p-eq0.false) c.requires.spot c.index-entry.ensures)
+
+pub hand_out-requires-clause-before : goal.hand_out-requires-clause-before
+hand_out-requires-clause-before g c = λ more.
+    let last = is_last c.args.self.now.entries.items c.args.p.now.number c.index-entry.result.now c.args.self.now.linked (some _ c.if-p-eq0.false) c.requires.spot c.index-entry.ensures c.index.result.now c.index.ensures c.if-entry-index.false in
+    record {
+      child = rw c.settle_at.ensures.links last.child;
+      last = rw (c.settle_at.ensures.links, c.settle_at.ensures.counts) last.last;
+    }
+
+pub returns-in_err-hand_out-clause-ran : goal.returns-in_err-hand_out-clause-ran
+returns-in_err-hand_out-clause-ran g c =
+    record {
+      came = c.settle_at.ensures.ran.came;
+      sources = c.hand_out.ensures.sources _ c.settle_at.ensures.ran.sources;
+      goes = goes_twice c.settle_at.ensures.ran.goes (c.hand_out.ensures.goes _ c.settle_at.ensures.ran.sources);
+    }
+
+module _ (g : _) (c : In_ok-hand_out g) where
+  came : Keeps (g.S.Sources.view c.settle_at.new.s) (g.S.Sources.view c.args.s.now)
+  came = g.met.S.Sources.keeps _ _ c.settle_at.ensures.ran.came
+
+  parent_in : c.index-entry.result.now.parent < length (nodes_of c.args.self.now).links
+  parent_in = up c.args.self.now.entries.items c.args.p.now.number c.index-entry.result.now c.args.self.now.linked (some _ c.if-p-eq0.false) c.requires.spot c.index-entry.ensures
+
+  so_far : get_or (nodes_of c.settle_at.new.self).counts c.index-entry.result.now.parent 0 ≡ c.index-entry.result.now.index + 1
+  so_far =
+      let last = is_last c.args.self.now.entries.items c.args.p.now.number c.index-entry.result.now c.args.self.now.linked (some _ c.if-p-eq0.false) c.requires.spot c.index-entry.ensures c.index.result.now c.index.ensures c.if-entry-index.false in
+      ap (λ cs. get_or cs c.index-entry.result.now.parent 0) c.settle_at.ensures.counts
+      ∙ omega (arith, last.last, (link_read c.args.self.now.entries.items c.args.p.now.number c.index-entry.result.now c.requires.spot c.index-entry.ensures).1)
+
+  after : IsSourcesOf (g.S.Sources.view c.settle_at.new.s) c.hand_out.new.self
+  after = c.hand_out.ensures.sources _ c.settle_at.ensures.ran.sources
+
+  both : Goes (g.S.Sources.view c.args.s.now) c.args.self.now (g.S.Sources.view c.settle_at.new.s) c.hand_out.new.self
+  both = goes_twice c.settle_at.ensures.ran.goes (c.hand_out.ensures.goes _ c.settle_at.ensures.ran.sources)
+
+pub returns-clause-ran : goal.returns-clause-ran
+returns-clause-ran g c = record { came = c.settle_at.ensures.ran.came; sources = after g c; goes = both g c }
+
+pub returns-clause-next : goal.returns-clause-next
+returns-clause-next g c =
+    if_some_from c.in_ok-hand_out.field-0 _ _ (IsNextSpot c.hand_out.new.self c.args.p.now) c.in_ok-hand_out.ensures.child (λ x h.
+    record {
+      spot = h.known;
+      place =
+          ap Some (child_place (nodes_of c.hand_out.new.self) c.hand_out.new.self.linked _ _ _ h
+          ∙ ap (λ k. place (nodes_of c.hand_out.new.self).links c.index-entry.result.now.parent ++ k ∷ []) (so_far g c)
+          ∙ ap (λ r. r ++ (c.index-entry.result.now.index + 1) ∷ []) ((both g c).moved.places c.index-entry.result.now.parent (parent_in g c)))
+          ∙ sym (next_is c.args.self.now.entries.items c.args.p.now.number c.index-entry.result.now c.args.self.now.linked (some _ c.if-p-eq0.false) c.requires.spot c.index-entry.ensures)
+          ∙ ap next_place (sym ((both g c).moved.places c.args.p.now.number c.requires.spot));
+    })
+
+pub returns-clause-exact : goal.returns-clause-exact
+returns-clause-exact g c = λ told.
+    is_some_from _ _ _ _ c.in_ok-hand_out.ensures.child
+    (λ empty. exact_none (came g c) c.requires.sources c.settle_at.ensures.ran.sources c.settle_at.ensures.ran.goes c.index-entry.result.now.parent _ (parent_in g c) (so_far g c) empty told)
+    (λ x h. exact_child (came g c) c.requires.sources (after g c) (both g c) c.index-entry.result.now.parent _ (parent_in g c) x.number (rw (so_far g c) at h) told)
+    ∙ sym (right_is c.args.self.now.entries.items c.args.p.now.number c.index-entry.result.now c.args.self.now.linked (some _ c.if-p-eq0.false) c.requires.spot c.index-entry.ensures _)
+
+pub returns-clause-smaller : goal.returns-clause-smaller
+returns-clause-smaller g c =
+    let v = g.S.Sources.view c.args.s.now in
+    let v' = g.S.Sources.view c.settle_at.new.s in
+    let b = c.args.self.now in
+    let b' = c.hand_out.new.self in
+    if_some_from c.in_ok-hand_out.field-0 _ _ (λ q. 1 + below v' b' q + after_spot v' b' q ≤ after_spot v b c.args.p.now) c.in_ok-hand_out.ensures.child (λ x h.
+    omega (
+      arith,
+      less_child (came g c) c.requires.sources (after g c) (both g c) c.index-entry.result.now.parent (c.index-entry.result.now.index + 1) (parent_in g c) x (rw (so_far g c) at h),
+      after_is b.entries.items c.args.p.now.number c.index-entry.result.now b.linked (some _ c.if-p-eq0.false) c.requires.spot c.index-entry.ensures (weigh v b),
+    ))
+
+pub returns-then-entry-index-clause-ran : goal.returns-then-entry-index-clause-ran
+returns-then-entry-index-clause-ran g c = ran_same g.met.S.Sources.same _ _ c.requires.sources
+
+-- a next sibling that was handed out is found
+not_known : (g : _) (c : Else-entry-index g) (x : Spot) → IsNextSpot c.args.self.now c.args.p.now x → ⊥
+not_known g c x h =
+    let m = nodes_of c.args.self.now in
+    let es = c.args.self.now.entries.items in
+    let e = c.index-entry.result.now in
+    let pos = some _ c.if-p-eq0.false in
+    let here : Some (place_of c.args.self.now x) ≡ Some (place m.links e.parent ++ (e.index + 1) ∷ []) =
+    h.place ∙ next_is es c.args.p.now.number e c.args.self.now.linked pos c.requires.spot c.index-entry.ensures in
+    let at : place_of c.args.self.now x ≡ place m.links e.parent ++ (e.index + 1) ∷ [] = cc in
+    let inside = up es c.args.p.now.number e c.args.self.now.linked pos c.requires.spot c.index-entry.ensures in
+    let child = child_at m c.args.self.now.linked e.parent (e.index + 1) x.number inside h.spot at in
+    omega (
+      arith,
+      child_counted m c.args.self.now.linked _ _ _ child,
+      count_read es e.parent c.index.result.now inside c.index.ensures,
+      c.if-entry-index.false,
+    )
+
+-- the parent of a node is the one whose child it is
+parent_is : (g : _) (c : Else-entry-index g) (q : Spot) (k : ℕ) → IsSpot c.args.self.now q → IsChildSpot c.args.self.now q k c.args.p.now → c.index-entry.result.now.parent ≡ q.number
+parent_is g c q k spot h =
+    let m = nodes_of c.args.self.now in
+    let child = child_at m c.args.self.now.linked q.number k c.args.p.now.number spot c.requires.spot h.place in
+    sym (link_read c.args.self.now.entries.items c.args.p.now.number c.index-entry.result.now c.requires.spot c.index-entry.ensures).0 ∙ child.parent
+
+pub returns-in_err-settle_at-clause-known : goal.returns-in_err-settle_at-clause-known
+returns-in_err-settle_at-clause-known g c = λ x h. let d = (goal.at.returns-in_err-settle_at-clause-known g c).Else-entry-index in absurd (not_known g d x h)
+
+pub returns-in_err-settle_at-clause-whole : goal.returns-in_err-settle_at-clause-whole
+returns-in_err-settle_at-clause-whole g c = λ x k spot h e.
+    let d = (goal.at.returns-in_err-settle_at-clause-whole g c).Else-entry-index in
+    c.settle_at.ensures.whole (ap (λ i. begins_with_hole (get_or (nodes_of c.args.self.now).rests i nil)) (parent_is g d x k spot h) ∙ e)
+
+pub returns-in_err-hand_out-clause-known : goal.returns-in_err-hand_out-clause-known
+returns-in_err-hand_out-clause-known g c = λ x h. let d = (goal.at.returns-in_err-hand_out-clause-known g c).Else-entry-index in absurd (not_known g d x h)
+
+pub returns-in_err-hand_out-clause-whole : goal.returns-in_err-hand_out-clause-whole
+returns-in_err-hand_out-clause-whole g c = λ x k spot h e.
+    let d = (goal.at.returns-in_err-hand_out-clause-whole g c).Else-entry-index in
+    c.settle_at.ensures.whole (ap (λ i. begins_with_hole (get_or (nodes_of c.args.self.now).rests i nil)) (parent_is g d x k spot h) ∙ e)
+
+pub returns-clause-known : goal.returns-clause-known
+returns-clause-known g c = λ x h. let d = (goal.at.returns-clause-known g c).Else-entry-index in absurd (not_known g d x h)
+
+pub returns-clause-whole : goal.returns-clause-whole
+returns-clause-whole g c = λ x k spot h e.
+    let d = (goal.at.returns-clause-whole g c).Else-entry-index in
+    c.settle_at.ensures.whole (ap (λ i. begins_with_hole (get_or (nodes_of c.args.self.now).rests i nil)) (parent_is g d x k spot h) ∙ e)

@@ -1,0 +1,15 @@
+use Rattle.std.proofs.Common.{ap, sym, ◌∙◌}
+use Rattle.lxp_core.specs.Open.{nil, begins_with_hole}
+use Rattle.lxp_core.specs.Plain.{stacked}
+use Rattle.tree_buffer.proofs.StackTops.{stacked-top}
+use Rattle.tree_buffer.proofs.stacks.pop_tree.Goals as goal
+
+pub parts_of-requires : goal.parts_of-requires
+parts_of-requires c = (
+  stacked c.pop.new.self.items nil,
+  ap begins_with_hole (sym (ap (λ xs. stacked xs nil) c.in-Some.ensures.items ∙ stacked-top c.pop.new.self.items c.in-Some.tree)) ∙ c.requires.top,
+)
+
+pub returns : goal.returns
+returns c =
+    ap (λ xs. stacked xs nil) c.in-Some.ensures.items ∙ stacked-top c.pop.new.self.items c.in-Some.tree ∙ c.parts_of.ensures (stacked c.pop.new.self.items nil)

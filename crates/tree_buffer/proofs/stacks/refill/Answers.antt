@@ -1,0 +1,72 @@
+use Rattle.std.proofs.Common.{◌≡◌, ◌++◌, ◌∷◌, [], refl, ap, subst, ◌∙◌, arith, length, ◌-◌, length-append}
+use Rattle.std.specs.Prelude.{reverse, remove}
+use Rattle.lxp_core.specs.declared.open_tree.OpenTree.TheVariants.{Hole}
+use Rattle.lxp_core.specs.Open.{Open, nil, hole, AllHoles, IsApart, open_followed}
+use Rattle.lxp_core.specs.Plain.{stacked, plain}
+use Rattle.lxp_core.specs.View.{Keeps}
+use Rattle.tree_buffer.proofs.Fills.{stays, filled, falls, lazily}
+use Rattle.tree_buffer.proofs.StackTops.{stacked-hole, stacked-refilled}
+use Rattle.tree_buffer.proofs.stacks.refill.Goals as goal
+
+pub returns-in-Err-Failed-clause-refined : goal.returns-in-Err-Failed-clause-refined
+returns-in-Err-Failed-clause-refined g c =
+    stays _ _ _ _ (g.met.S.Sources.keeps _ _ c.fill.ensures.came) c.requires.known c.requires.apart
+
+pub returns-in-Err-OutOfMemory-clause-refined : goal.returns-in-Err-OutOfMemory-clause-refined
+returns-in-Err-OutOfMemory-clause-refined g c =
+    stays _ _ _ _ (g.met.S.Sources.keeps _ _ c.fill.ensures.came) c.requires.known c.requires.apart
+
+pub unreachable-requires : goal.unreachable-requires
+unreachable-requires g c =
+    let e = ap (λ xs. stacked xs nil) c.requires.top.1 ∙ stacked-hole c.requires.top.0 c.args.hole in
+    let known = subst (AllHoles ((g.S.Sources.view c.args.s.now).knows c.args.number)) e c.requires.known in
+    let k = known.0 in
+    let u = rw c.in-Err-UnknownHole.field-0-is at c.in-Err-UnknownHole.ensures.unknown in
+    cc (k, u refl)
+
+pub returns-in_err-append-clause-refined : goal.returns-in_err-append-clause-refined
+returns-in_err-append-clause-refined g c =
+    rw c.in_err-append.ensures.items (stays _ _ _ _ (g.met.S.Sources.keeps _ _ c.fill.ensures.came) c.requires.known c.requires.apart)
+
+module _ (g : _) (c : goal.After-drop-list-2 g) where
+  tail : Open
+  tail = stacked c.requires.top.0 nil
+
+  was : stacked c.args.stack.now.items nil ≡ hole c.args.hole tail
+  unfolding tail
+  was = ap (λ xs. stacked xs nil) c.requires.top.1 ∙ stacked-hole c.requires.top.0 c.args.hole
+
+  is : stacked c.remove.new.self.items nil ≡ open_followed (plain c.in-Ok.list.items) tail
+  unfolding tail
+  is =
+      let front = c.requires.top.0 in
+      let at_is : c.len-at.result - 1 ≡ length front =
+      omega (arith, c.len-at.ensures, c.args.stack.now.ok.0, ap length c.requires.top.1, length-append front (Hole c.args.hole ∷ [])) in
+      let whole : c.append.new.self.items ≡ (front ++ Hole c.args.hole ∷ []) ++ reverse c.in-Ok.list.items =
+      rw (c.in_ok-append.ensures.items, c.reverse.ensures.items, c.requires.top.1) refl in
+      ap (λ xs. stacked xs nil) (c.remove.ensures.items ∙ ap (λ xs. remove xs (c.len-at.result - 1)) whole ∙ ap (remove ((front ++ Hole c.args.hole ∷ []) ++ reverse c.in-Ok.list.items)) at_is)
+      ∙ stacked-refilled front c.in-Ok.list.items (Hole c.args.hole)
+
+  known : AllHoles ((g.S.Sources.view c.args.s.now).knows c.args.number) (hole c.args.hole tail)
+  known = subst (AllHoles ((g.S.Sources.view c.args.s.now).knows c.args.number)) was c.requires.known
+
+  apart : IsApart (hole c.args.hole tail)
+  apart = subst IsApart was c.requires.apart
+
+  keeps : Keeps (g.S.Sources.view c.fill.new.self) (g.S.Sources.view c.args.s.now)
+  keeps = g.met.S.Sources.keeps _ _ c.fill.ensures.came
+
+pub returns-clause-refined : goal.returns-clause-refined
+returns-clause-refined g c =
+    let e = c.in-Ok.ensures in
+    rw (was g c, is g c) (filled _ _ _ _ _ _ (keeps g c) (known g c) (apart g c) e.progress e.known e.lighter e.closes)
+
+pub returns-clause-lazy : goal.returns-clause-lazy
+returns-clause-lazy g c =
+    let e = c.in-Ok.ensures in
+    rw (was g c, is g c) (lazily _ _ _ _ _ _ (keeps g c) (known g c) (apart g c) e.progress e.known e.lighter e.forward e.at_most_one)
+
+pub returns-clause-falls : goal.returns-clause-falls
+returns-clause-falls g c =
+    let e = c.in-Ok.ensures in
+    rw (was g c, is g c) (falls _ _ _ _ _ _ (keeps g c) (known g c) (apart g c) e.progress e.known e.lighter)

@@ -1,0 +1,36 @@
+-- What fills make of a list with holes.
+use Rattle.std.specs.Prelude.{◌≡◌, ℕ, ◌+◌, ◌≤◌, true, cond}
+use Rattle.lxp_core.specs.declared.open_tree.HoleId.{HoleId}
+use Rattle.lxp_core.specs.Open.{Open, nil, node, hole, closed, weight_of, AllHoles, IsApart, begins_with_hole}
+use Rattle.lxp_core.specs.View.{View, Keeps}
+
+-- 1 where a list begins with a hole
+abbrev pub hole_first : Open → ℕ
+hole_first o = cond (begins_with_hole o) 1 0
+
+-- the weights of the holes of a list
+abbrev pub holes_weight : (HoleId → ℕ) → Open → ℕ
+holes_weight weight nil = 0
+holes_weight weight (node label kids rest) = holes_weight weight kids + holes_weight weight rest
+holes_weight weight (hole id rest) = weight id + holes_weight weight rest
+
+-- a number that falls with each fill of the hole at the front
+abbrev pub fills_left : (HoleId → ℕ) → Open → ℕ
+fills_left weight o = holes_weight weight o + holes_weight weight o + hole_first o
+
+-- the list `now`, under the new view, stands for what `was` stood for under the old one, and weighs no more
+pub record IsRefined (old new : View) (n : ℕ) (was now : Open) : Type 0 where
+  pub known : AllHoles (new.knows n) now
+  pub apart : IsApart now
+  pub lighter : weight_of (new.weight n) now ≤ weight_of (old.weight n) was
+  pub closes : old.told n ≡ true → closed (new.forest n) now ≡ closed (old.forest n) was
+
+-- over a forward source each fill takes a hole from the front
+abbrev pub IsLazy : View → View → ℕ → Open → Open → Type 0
+IsLazy old new n was now = old.forward n ≡ true → new.fills + hole_first now ≤ old.fills + hole_first was
+
+-- what fills of holes at the front come to
+pub record IsSettling (old new : View) (n : ℕ) (was now : Open) : Type 0 where
+  pub keeps : Keeps new old
+  pub refined : IsRefined old new n was now
+  pub lazy : IsLazy old new n was now

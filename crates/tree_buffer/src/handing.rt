@@ -1,0 +1,89 @@
+// How a buffer comes to one node more.
+ghost use Rattle.std.specs.Prelude.{◌≡◌, ◌+◌, ◌<◌, ◌≤◌, true, false, OnOk, IfOk, MatchOption, IsErrOf, length};
+
+use crate::BufferFault;
+use crate::buffer::Buffer;
+use crate::entry::Entry;
+use crate::spot::Spot;
+use crate::stacks::{pop_tree, settle};
+use lxp_core::Sources;
+use std::alloc::{AllocError, Global};
+
+impl Buffer {
+    ghost use Rattle.std.proofs.Common.{get_or};
+    ghost use Rattle.mix_base.specs.Counts.{HasRisen};
+    ghost use Rattle.lxp_core.specs.Open.{nil, begins_with_hole};
+    ghost use Rattle.lxp_core.specs.View.{View};
+    ghost use Rattle.tree_buffer.specs.Nodes.{IsChild, IsLast};
+    ghost use Rattle.tree_buffer.specs.Buffer.{nodes_of, IsSourcesOf, Goes, Ran};
+
+    // Asks fills until no hole stands at the front of a node's list.
+    pub(crate) fn settle_at<S: Sources>(
+        &mut self,
+        alloc: Global,
+        s: &mut S,
+        q: usize,
+    ) -> Result<(), BufferFault>
+        requires spot { q < length (nodes_of self.old).links }
+        requires sources { IsSourcesOf (S.view s.old) self.old }
+        ensures ran { Ran S.view S.came_from s.old self.old s.new self.new }
+        ensures links { (nodes_of self.new).links ≡ (nodes_of self.old).links }
+        ensures counts { (nodes_of self.new).counts ≡ (nodes_of self.old).counts }
+        ensures settled { OnOk result (begins_with_hole (get_or (nodes_of self.new).rests q nil) ≡ false) }
+        ensures lazy { (S.view s.old).forward self.old.number ≡ true → (S.view s.new).fills ≤ (S.view s.old).fills + 1 }
+        ensures whole { begins_with_hole (get_or (nodes_of self.old).rests q nil) ≡ false → s.new ≡ s.old }
+        ensures failed { IsErrOf result BufferFault.Failed → HasRisen ((S.view s.old).faults self.old.number) ((S.view s.new).faults self.old.number) }
+    {
+        let number = self.number;
+        let entry = &mut self.entries[q];
+        settle(alloc, s, number, &mut entry.rest)
+    }
+
+    // Hands out the next child of a node, whose list begins with no hole. `before` is the last one before it.
+    pub(crate) fn hand_out(&mut self, q: usize, before: usize) -> Result<Option<Spot>, AllocError>
+        requires spot { q < length (nodes_of self.old).links }
+        requires top { begins_with_hole (get_or (nodes_of self.old).rests q nil) ≡ false }
+        requires before { 0 < get_or (nodes_of self.old).counts q 0 → IsLast (nodes_of self.old) q before }
+        ensures sources { (v : View) → IsSourcesOf v self.old → IsSourcesOf v self.new }
+        ensures goes { (v : View) → IsSourcesOf v self.old → Goes v self.old v self.new }
+        ensures child { IfOk result (λ r. MatchOption r (get_or (nodes_of self.old).rests q nil ≡ nil)
+            (λ c. IsChild (nodes_of self.new).links q (get_or (nodes_of self.old).counts q 0) c.number)) }
+    {
+        if self.entries[q].rest.is_empty() {
+            return Ok(None);
+        }
+        self.entries.reserve(1)?;
+        let new = self.entries.len();
+        let entry = &mut self.entries[q];
+        let index = entry.count;
+        let first = new_or(index, new, entry.first);
+        let before = new_or(index, new, before);
+        let (label, rest) = pop_tree(&mut entry.rest);
+        entry.count = index + 1;
+        entry.first = first;
+        let child = Entry {
+            label,
+            parent: q,
+            index,
+            count: 0,
+            first: 0,
+            next: 0,
+            rest,
+        };
+        match self.entries.push(child) {
+            Ok(()) => {}
+            Err(_) => unreachable!(),
+        }
+        let last = &mut self.entries[before];
+        last.next = new;
+        Ok(Some(Spot { number: new }))
+    }
+}
+
+// The new node where it is the first child, else the old one.
+fn new_or(index: usize, new: usize, old: usize) -> usize
+    ensures first { index ≡ 0 → result ≡ new }
+    ensures later { 0 < index → result ≡ old }
+{
+    if index == 0 { new } else { old }
+}

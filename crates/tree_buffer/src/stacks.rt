@@ -1,0 +1,111 @@
+// Stacks of trees with holes, of which the last is the first of the list.
+ghost use Rattle.std.specs.Prelude.{◌≡◌, ◌+◌, ◌<◌, ◌≤◌, ◌++◌, ◌∷◌, [], List, true, false, MatchOption, OnOk, IsErrOf, length};
+ghost use Rattle.mix_base.specs.Counts.{HasRisen};
+ghost use Rattle.lxp_core.specs.declared.open_tree.OpenTree.{OpenTree};
+ghost use Rattle.lxp_core.specs.declared.open_tree.OpenTree.TheVariants.{Hole};
+ghost use Rattle.lxp_core.specs.Open.{Open, nil, node, AllHoles, IsApart, begins_with_hole};
+ghost use Rattle.lxp_core.specs.Plain.{put, stacked};
+ghost use Rattle.lxp_core.specs.View.{Keeps};
+ghost use Rattle.tree_buffer.specs.Fills.{IsRefined, IsLazy, fills_left};
+
+use crate::BufferFault;
+use lxp_core::{HoleId, OpenTree, SourceFault, Sources};
+use mix_tree::Label;
+use std::alloc::Global;
+
+// The hole at the top, where one stands there.
+fn top_hole(stack: &Vec<OpenTree>) -> Option<HoleId>
+    ensures { MatchOption result (begins_with_hole (stacked stack.now.items nil) ≡ false)
+        (λ h. (front : List OpenTree) × (stack.now.items ≡ front ++ Hole h ∷ [])) }
+{
+    match stack.last() {
+        Some(OpenTree::Hole(h)) => Some(*h),
+        Some(OpenTree::Node { .. }) => None,
+        None => None,
+    }
+}
+
+// One fill of the hole at the top.
+fn refill<S: Sources>(
+    alloc: Global,
+    s: &mut S,
+    number: u32,
+    hole: HoleId,
+    stack: &mut Vec<OpenTree>,
+) -> Result<(), BufferFault>
+    requires number { number < (S.view s.old).count }
+    requires top { (front : List OpenTree) × (stack.old.items ≡ front ++ Hole hole ∷ []) }
+    requires known { AllHoles ((S.view s.old).knows number) (stacked stack.old.items nil) }
+    requires apart { IsApart (stacked stack.old.items nil) }
+    ensures came { S.came_from s.new s.old }
+    ensures keeps { Keeps (S.view s.new) (S.view s.old) }
+    ensures refined { IsRefined (S.view s.old) (S.view s.new) number (stacked stack.old.items nil) (stacked stack.new.items nil) }
+    ensures lazy { OnOk result (IsLazy (S.view s.old) (S.view s.new) number (stacked stack.old.items nil) (stacked stack.new.items nil)) }
+    ensures at_most_one { (S.view s.new).fills ≤ (S.view s.old).fills + 1 }
+    ensures falls { OnOk result (fills_left ((S.view s.new).weight number) (stacked stack.new.items nil)
+        < fills_left ((S.view s.old).weight number) (stacked stack.old.items nil)) }
+    ensures failed { IsErrOf result BufferFault.Failed → HasRisen ((S.view s.old).faults number) ((S.view s.new).faults number) }
+{
+    let mut list = match s.fill(alloc, number, hole) {
+        Ok(list) => list,
+        Err(SourceFault::Failed) => return Err(BufferFault::Failed),
+        Err(SourceFault::OutOfMemory) => return Err(BufferFault::OutOfMemory),
+        Err(SourceFault::UnknownHole) => unreachable!(),
+    };
+    list.reverse();
+    let at = stack.len() - 1;
+    stack.append(&mut list)?;
+    let _ = stack.remove(at);
+    Ok(())
+}
+
+// Asks fills until no hole stands at the top.
+pub(crate) fn settle<S: Sources>(
+    alloc: Global,
+    s: &mut S,
+    number: u32,
+    stack: &mut Vec<OpenTree>,
+) -> Result<(), BufferFault>
+    requires number { number < (S.view s.old).count }
+    requires known { AllHoles ((S.view s.old).knows number) (stacked stack.old.items nil) }
+    requires apart { IsApart (stacked stack.old.items nil) }
+    ensures came { S.came_from s.new s.old }
+    ensures keeps { Keeps (S.view s.new) (S.view s.old) }
+    ensures refined { IsRefined (S.view s.old) (S.view s.new) number (stacked stack.old.items nil) (stacked stack.new.items nil) }
+    ensures settled { OnOk result (begins_with_hole (stacked stack.new.items nil) ≡ false) }
+    ensures lazy { (S.view s.old).forward number ≡ true → (S.view s.new).fills ≤ (S.view s.old).fills + 1 }
+    ensures whole { begins_with_hole (stacked stack.old.items nil) ≡ false → s.new ≡ s.old }
+    ensures failed { IsErrOf result BufferFault.Failed → HasRisen ((S.view s.old).faults number) ((S.view s.new).faults number) }
+{
+    while let Some(hole) = top_hole(stack) {
+        refill(alloc, s, number, hole, stack)?;
+    }
+    Ok(())
+}
+
+// A tree's label, and the stack of its children.
+fn parts_of(tree: OpenTree) -> (Label, Vec<OpenTree>)
+    requires { (rest : Open) × (begins_with_hole (put tree rest) ≡ false) }
+    ensures { (rest : Open) → put tree rest ≡ node result.0 (stacked result.1.items nil) rest }
+{
+    match tree {
+        OpenTree::Node { label, kids } => {
+            let mut stack = kids;
+            stack.reverse();
+            (label, stack)
+        }
+        OpenTree::Hole(_) => unreachable!(),
+    }
+}
+
+// Takes the tree at the top: its label, and the stack of its children.
+pub(crate) fn pop_tree(stack: &mut Vec<OpenTree>) -> (Label, Vec<OpenTree>)
+    requires some { 0 < length stack.old.items }
+    requires top { begins_with_hole (stacked stack.old.items nil) ≡ false }
+    ensures { stacked stack.old.items nil ≡ node result.0 (stacked result.1.items nil) (stacked stack.new.items nil) }
+{
+    match stack.pop() {
+        Some(tree) => parts_of(tree),
+        None => unreachable!(),
+    }
+}

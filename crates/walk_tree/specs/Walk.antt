@@ -1,0 +1,22 @@
+-- What a walk writes, and what is left of it.
+use Rattle.std.specs.Prelude.{ℕ, ◌+◌, List, [], ◌∷◌, Option, Some, None}
+use Rattle.mix_tree.specs.Forest.{Forest, none, tree, labels_of}
+use Rattle.lxp_core.specs.View.{View}
+use Rattle.tree_buffer.specs.declared.buffer.Buffer.{Buffer}
+use Rattle.tree_buffer.specs.declared.spot.Spot.{Spot}
+use Rattle.tree_buffer.specs.Document.{document_node}
+use Rattle.tree_buffer.specs.Buffer.{number_of, below, after, trees_from}
+
+-- the labels of the first tree in document order
+abbrev pub first_labels : Forest → List (List ℕ)
+first_labels none = []
+first_labels (tree label kids rest) = label ∷ labels_of kids
+
+-- the labels of the tree at an answer, and of those behind it
+abbrev pub labels_from : View → Buffer → Option Spot → List (List ℕ)
+labels_from v b r = labels_of (trees_from (document_node v (number_of b)) b r)
+
+-- how many nodes there are from an answer on, at most
+abbrev pub left : View → Buffer → Option Spot → ℕ
+left v b None = 0
+left v b (Some x) = 1 + below v b x + after v b x
