@@ -10,7 +10,7 @@ use Rattle.lxp_core.specs.declared.choice.Choice.{Choice}
 use Rattle.lxp_core.specs.Open.{Open, nil, closed, AllHoles, IsApart, IsProgress, weight_of, begins_with_hole, without_holes}
 use Rattle.lxp_core.specs.Nodes.{first_of, count_of, label_of, run, AreWithin}
 use Rattle.lxp_core.specs.Span.{hole_span, has_span, span_trees}
-use Rattle.lxp_core.specs.Choice.{wants_hole, choice_of}
+use Rattle.lxp_core.specs.Choice.{IsChoice, wants_hole, choice_of}
 use Rattle.lxp_core.specs.Cut.{hole_if, kids_of, children, shown_from, shown_to, cut}
 use Rattle.lxp_core.proofs.Forests.{followed-none}
 use Rattle.lxp_core.proofs.Opens.{nodes_of-closed}
@@ -96,11 +96,6 @@ has_children ns p e = record { node = grind (arith, nat_tests); order = grind (a
 
 has_span-of : (ns : List DocNode) (p : Span) → HasChildren ns p → has_span ns p ≡ true
 has_span-of ns p h = let a = h.node in let b = h.order in let c = h.count in grind (arith, nat_tests)
-
--- what each choice has: room for a child, and no child is skipped without a hole for it
-pub record IsChoice (choice : Choice) : Type 0 where
-  pub some : 0 < choice.most
-  pub held : choice.leads ≡ false → choice.skipped ≡ 0
 
 -- three runs, one behind another, are one
 three_runs : (ns : List DocNode) (f a m e b : ℕ) → a ≤ m → m ≤ e → e ≤ b

@@ -5,17 +5,12 @@ use Rattle.lxp_core.specs.declared.document.Document.{Document}
 use Rattle.lxp_core.specs.declared.open_tree.HoleId.{HoleId}
 use Rattle.lxp_core.specs.declared.span.Span.{Span}
 use Rattle.lxp_core.specs.declared.memory.MemSources.{MemSources}
-use Rattle.lxp_core.specs.Nodes.{first_of, run, AreWithin}
-use Rattle.lxp_core.specs.Span.{span_trees, hole_span, has_span}
+use Rattle.lxp_core.specs.Nodes.{AreWithin}
+use Rattle.lxp_core.specs.Span.{root_span, span_trees, hole_span, has_span}
 use Rattle.lxp_core.specs.Choice.{choice_of}
 use Rattle.lxp_core.specs.Documents.{document_at, root_of, nodes_at}
-use Rattle.lxp_core.specs.Memory.{root_span, choices_of, turn_of, next_list}
+use Rattle.lxp_core.specs.Memory.{choices_of, turn_of, next_list}
 use Rattle.lxp_core.proofs.CutLaws.{IsAnswer, answer-cut, is_choice}
-
-root_of_trees : (d : Document) → span_trees d.nodes.items root_span ≡ root_of d
-root_of_trees d =
-    let e : first_of d.nodes.items 0 + 0 ≡ first_of d.nodes.items 0 = omega arith in
-    ap (λ i. run d.nodes.items i 1) e
 
 first_of_list : List Forest → Forest
 first_of_list [] = none
@@ -30,7 +25,7 @@ pub documents_at : (docs : List Document) (trees : List LabelledTree) → map ro
 documents_at [] [] e s = refl
 documents_at [] (t ∷ trees) e s = cc
 documents_at (d ∷ docs) [] e s = cc
-documents_at (d ∷ docs) (t ∷ trees) e zero = root_of_trees d ∙ (cc)
+documents_at (d ∷ docs) (t ∷ trees) e zero = cc
 documents_at (d ∷ docs) (t ∷ trees) e (suc s) = documents_at docs trees (cc) s
 
 -- the nodes of a source are those of its document

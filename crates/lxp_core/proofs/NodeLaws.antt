@@ -6,6 +6,7 @@ use Rattle.mix_tree.specs.Forest.{Forest, none, tree, LabelledTree, forest_of, a
 use Rattle.mix_tree.specs.Weight.{nodes_of}
 use Rattle.lxp_core.specs.declared.document.DocNode.{DocNode}
 use Rattle.lxp_core.specs.Nodes.{with_node, trees_before, first_of, count_of, label_of, run, AreWithin, IsPlaced}
+use Rattle.lxp_core.specs.Span.{root_span, span_trees}
 use Rattle.lxp_core.proofs.Opens.{nodes_of-followed}
 
 -- there is a tree for each node and each further tree
@@ -107,16 +108,18 @@ rooted (n ∷ ns) root e h =
     sym (length-take-le n.count (drop n.ahead (trees_before ns [])) room) ∙ one_tree _ root.label root.kids kids
 
 -- and this child is the root
-root_first : (ns : List DocNode) (root : LabelledTree) → first_tree (forest_of (trees_before ns [])) ≡ Some (record { label = []; kids = alone root }) → AreWithin ns 0 → run ns (first_of ns 0) 1 ≡ alone root
+root_first : (ns : List DocNode) (root : LabelledTree) → first_tree (forest_of (trees_before ns [])) ≡ Some (record { label = []; kids = alone root }) → AreWithin ns 0 → span_trees ns root_span ≡ alone root
 root_first [] root e h = cc
 root_first (n ∷ ns) root e h =
-    ap (λ c. forest_of (take c (drop n.ahead (trees_before ns [])))) (sym (rooted (n ∷ ns) root e h)) ∙ ap kids_in e
+    let start : first_of (n ∷ ns) 0 + 0 ≡ first_of (n ∷ ns) 0 = omega arith in
+    ap (λ i. run (n ∷ ns) i 1) start
+    ∙ ap (λ c. forest_of (take c (drop n.ahead (trees_before ns [])))) (sym (rooted (n ∷ ns) root e h)) ∙ ap kids_in e
 
 -- the nodes are those of a document with a root
 pub record IsAllPlaced (ns : List DocNode) (root : LabelledTree) : Type 0 where
   pub within : AreWithin ns 0
   pub rooted : count_of ns 0 ≡ 1
-  pub document : run ns (first_of ns 0) 1 ≡ alone root
+  pub document : span_trees ns root_span ≡ alone root
 
 -- where no tree is left to be placed
 pub all_placed : (ns : List DocNode) (queue : List LabelledTree) (root : LabelledTree) → queue ≡ drop 1 queue → first_tree (forest_of (trees_before ns queue)) ≡ Some (record { label = []; kids = alone root }) → AreWithin ns (length queue)

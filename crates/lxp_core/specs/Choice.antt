@@ -1,6 +1,11 @@
 -- What a byte says of how a list is cut.
-use Rattle.std.specs.Prelude.{ℕ, ◌+◌, ◌/◌, ◌%◌, Bool, false, ◌==◌, ◌||◌, nat_lt, if◌then◌else◌}
+use Rattle.std.specs.Prelude.{◌≡◌, ℕ, ◌<◌, ◌+◌, ◌/◌, ◌%◌, Bool, false, ◌==◌, ◌||◌, nat_lt, if◌then◌else◌}
 use Rattle.lxp_core.specs.declared.choice.Choice.{Choice}
+
+-- a list may be cut so: there is room for a child, and no child is skipped without a hole for it
+pub record IsChoice (choice : Choice) : Type 0 where
+  pub some : 0 < choice.most
+  pub held : choice.leads ≡ false → choice.skipped ≡ 0
 
 -- whether a list begins with a hole: by bit 0, and never where the source is forward
 abbrev pub leads_of : ℕ → Bool → Bool

@@ -1,5 +1,6 @@
 pub mod Choice
 pub mod Cut
+pub mod DocumentHoles
 pub mod Documents
 pub mod Memory
 pub mod MemoryLaws

@@ -3,18 +3,13 @@ use Rattle.std.specs.Prelude.{◌≡◌, ℕ, ◌+◌, ◌-◌, ◌^◌, ◌<◌
 use Rattle.std.specs.List.{list_any}
 use Rattle.mix_tree.specs.Weight.{nodes_of}
 use Rattle.lxp_core.specs.declared.open_tree.HoleId.{HoleId}
-use Rattle.lxp_core.specs.declared.span.Span.{Span}
 use Rattle.lxp_core.specs.declared.memory.MemSources.{MemSources}
 use Rattle.lxp_core.specs.View.{View}
 use Rattle.lxp_core.specs.Open.{Open}
-use Rattle.lxp_core.specs.Span.{span_hole, hole_span, has_span, span_trees}
+use Rattle.lxp_core.specs.Span.{span_hole, hole_span, root_span, has_span, span_trees}
 use Rattle.lxp_core.specs.Choice.{choice_of}
 use Rattle.lxp_core.specs.Cut.{cut}
 use Rattle.lxp_core.specs.Documents.{nodes_at}
-
--- the root of a document as a range of one child of the document node
-abbrev pub root_span : Span
-root_span = record { node = 0; from = 0; to = 1 }
 
 -- every document is told; a hole weighs the nodes that it stands for
 abbrev pub memory_view : MemSources → View

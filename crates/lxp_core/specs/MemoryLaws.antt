@@ -2,16 +2,14 @@
 use Rattle.std.specs.Prelude.{◌≡◌, ℕ, zero, suc, ◌<◌, true, ◌==◌, List, [], ◌∷◌, length, refl}
 use Rattle.std.specs.List.{list_any}
 use Rattle.std.proofs.Common.{ap, ◌∙◌, arith}
-use Rattle.std.proofs.lemmas.Bool.Decides.{nat_tests}
 use Rattle.mix_tree.specs.Weight.{nodes_of}
-use Rattle.lxp_core.specs.declared.document.DocNode.{DocNode}
 use Rattle.lxp_core.specs.declared.document.Document.{Document}
 use Rattle.lxp_core.specs.declared.memory.MemSources.{MemSources}
 use Rattle.lxp_core.specs.View.{Keeps}
-use Rattle.lxp_core.specs.Nodes.{count_of}
-use Rattle.lxp_core.specs.Span.{hole_span, has_span, span_trees}
+use Rattle.lxp_core.specs.DocumentHoles.{root_hole_known}
+use Rattle.lxp_core.specs.Span.{hole_span, root_span, has_span, span_trees}
 use Rattle.lxp_core.specs.Documents.{nodes_at}
-use Rattle.lxp_core.specs.Memory.{root_span, memory_view, CameFrom}
+use Rattle.lxp_core.specs.Memory.{memory_view, CameFrom}
 
 -- a state came from itself
 pub came_same : (a : MemSources) → CameFrom a a
@@ -55,11 +53,7 @@ came_keeps a b x = record {
 
 root_in : (docs : List Document) (s : ℕ) → s < length docs → has_span (nodes_at docs s) root_span ≡ true
 root_in [] s h = absurd (omega arith)
-root_in (d ∷ docs) zero h = go d.nodes.items d.rooted
-  where
-    go : (ns : List DocNode) → count_of ns 0 ≡ 1 → has_span ns root_span ≡ true
-    go [] e = absurd (omega arith)
-    go (n ∷ ns) e = grind (arith, nat_tests)
+root_in (d ∷ docs) zero h = root_hole_known d
 root_in (d ∷ docs) (suc s) h = root_in docs s (omega arith)
 
 -- the hole of a whole document is known

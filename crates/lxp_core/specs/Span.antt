@@ -6,6 +6,10 @@ use Rattle.lxp_core.specs.declared.document.DocNode.{DocNode}
 use Rattle.lxp_core.specs.declared.span.Span.{Span}
 use Rattle.lxp_core.specs.Nodes.{first_of, count_of, run}
 
+-- the root of a document, as a range of one child of the document node
+abbrev pub root_span : Span
+root_span = record { node = 0; from = 0; to = 1 }
+
 -- the hole that stands for some children of a node
 abbrev pub span_hole : Span → HoleId
 span_hole p = record { words = p.node ∷ p.from ∷ p.to ∷ [] }

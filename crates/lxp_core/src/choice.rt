@@ -20,7 +20,7 @@ pub struct Choice {
 impl Choice {
     /// What a byte says, from its lowest bit on: whether the list leads with a hole, unless the source is forward,
     /// whether it trails with one, whether subtrees are whole, how many children more than one, how many to skip.
-    pub fn new(byte: u8, forward: bool) -> Choice
+    pub(crate) fn new(byte: u8, forward: bool) -> Choice
         ensures { result ≡ choice_of byte forward }
     {
         let leads = !forward && byte % 2 == 1;
@@ -34,7 +34,7 @@ impl Choice {
     }
 
     /// Whether a hole is to stand for so many children.
-    pub fn wants_hole(&self, count: usize) -> bool
+    pub(crate) fn wants_hole(&self, count: usize) -> bool
         ensures { result ≡ wants_hole self.now count }
     {
         self.trails || count > 0

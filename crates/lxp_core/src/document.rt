@@ -1,7 +1,7 @@
 // How a document lies in memory.
 ghost use Rattle.std.specs.Prelude.{◌≡◌, ◌≤◌, ◌+◌, ◌<◌, ◌++◌, ◌∷◌, [], length, true, false, nat_lt, nat_le, ◌&&◌, IfOk, OnOk, MatchOption};
 ghost use Rattle.mix_tree.specs.Forest.{forest_of, alone};
-ghost use Rattle.lxp_core.specs.Span.{hole_span, has_span};
+ghost use Rattle.lxp_core.specs.Span.{hole_span, span_hole, root_span, has_span, span_trees};
 ghost use Rattle.lxp_core.specs.Nodes.{AreWithin, IsPlaced, count_of, first_of, run};
 
 use crate::HoleId;
@@ -22,7 +22,7 @@ pub struct DocNode {
 /// the document node, whose only child is the root.
 #[derive(Drop)]
 pub struct Document {
-    pub nodes: Vec<DocNode>,
+    pub(crate) nodes: Vec<DocNode>,
     ghost within: { AreWithin nodes.items 0 },
     ghost rooted: { count_of nodes.items 0 ≡ 1 },
 }
@@ -54,7 +54,7 @@ fn place(nodes: &mut Vec<DocNode>, queue: &mut VecDeque<Tree>, tree: Tree) -> Re
 impl Document {
     /// The document with a root.
     pub fn new(alloc: Global, root: Tree) -> Result<Document, AllocError>
-        ensures { IfOk result (λ d. run d.nodes.items (first_of d.nodes.items 0) 1 ≡ alone root) }
+        ensures { IfOk result (λ d. span_trees d.nodes.items root_span ≡ alone root) }
     {
         let mut nodes = Vec::new(alloc);
         let mut queue = VecDeque::new(alloc);
@@ -62,11 +62,24 @@ impl Document {
         while let Some(tree) = queue.pop_front() {
             place(&mut nodes, &mut queue, tree)?;
         }
+        nodes.shrink_to_fit();
         Ok(Document { nodes })
     }
 
+    /// The hole that stands for the root.
+    pub fn root_hole(&self) -> HoleId
+        ensures { result ≡ span_hole root_span }
+    {
+        let root = Span {
+            node: 0,
+            from: 0,
+            to: 1,
+        };
+        root.hole()
+    }
+
     /// The number of a node's first child.
-    pub fn first(&self, node: usize) -> usize
+    pub(crate) fn first(&self, node: usize) -> usize
         requires { node < length self.now.nodes.items }
         ensures first { result ≡ first_of self.now.nodes.items node }
         ensures behind { node < result }
@@ -86,7 +99,7 @@ impl Document {
     }
 
     /// The children that a hole stands for; `None` where the document has no such children.
-    pub fn span(&self, hole: HoleId) -> Option<Span>
+    pub(crate) fn span(&self, hole: HoleId) -> Option<Span>
         ensures { MatchOption result (has_span self.now.nodes.items (hole_span hole) ≡ false)
             (λ span. (span ≡ hole_span hole) × (has_span self.now.nodes.items span ≡ true)) }
     {

@@ -11,6 +11,8 @@ mod open_tree;
 mod sources;
 mod span;
 
+pub use choice::Choice;
+pub use document::Document;
 pub use fault::SourceFault;
 pub use memory::MemSources;
 pub use open_tree::{HoleId, OpenTree};

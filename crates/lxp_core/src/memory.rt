@@ -6,7 +6,6 @@ ghost use Rattle.lxp_core.specs.Documents.{root_of};
 use crate::choice::Choice;
 use crate::circle::Circle;
 use crate::document::Document;
-use crate::span::Span;
 use crate::{HoleId, OpenTree, SourceFault, Sources};
 use mix_tree::Tree;
 use std::alloc::{AllocError, Global};
@@ -127,13 +126,8 @@ impl Sources for MemSources {
         self.docs.len() as u32
     }
 
-    fn get_root(&self, _s: u32) -> HoleId {
-        let root = Span {
-            node: 0,
-            from: 0,
-            to: 1,
-        };
-        root.hole()
+    fn get_root(&self, s: u32) -> HoleId {
+        self.docs[s as usize].root_hole()
     }
 
     fn fill(&mut self, alloc: Global, s: u32, hole: HoleId) -> Result<Vec<OpenTree>, SourceFault>

@@ -2,7 +2,8 @@ use Rattle.std.proofs.Common.{◌≡◌, ◌∷◌, length, ap, arith, subst, sy
 use Rattle.mix_tree.specs.Forest.{first_tree, forest_of}
 use Rattle.mix_tree.specs.Weight.{nodes_of}
 use Rattle.lxp_core.specs.Nodes.{AreWithin, trees_before}
-use Rattle.lxp_core.proofs.NodeLaws.{fewer-placed, first_tree-placed, within-placed, all_placed}
+use Rattle.lxp_core.specs.Span.{root_span, span_trees}
+use Rattle.lxp_core.proofs.NodeLaws.{fewer-placed, first_tree-placed, within-placed, IsAllPlaced, all_placed}
 use Rattle.lxp_core.proofs.document.Document.new.Goals as goal
 
 pub loop-tree-smaller : goal.loop-tree-smaller
@@ -27,11 +28,12 @@ pub invariant_of-result : goal.invariant_of-result
 invariant_of-result c =
     let loop = c.loop-tree in
     let ended = c.in_default.ensures.items ∙ c.in_default.ensures.rest in
-    let placed = all_placed loop.nodes.items loop.queue.items c.args.root ended loop.invariant.first loop.invariant.within in
+    let placed = subst (λ ns. IsAllPlaced ns c.args.root) (sym c.shrink_to_fit.ensures.items) (all_placed loop.nodes.items loop.queue.items c.args.root ended loop.invariant.first loop.invariant.within) in
     record { within = placed.within; rooted = placed.rooted }
 
 pub returns : goal.returns
 returns c =
     let loop = c.loop-tree in
     let ended = c.in_default.ensures.items ∙ c.in_default.ensures.rest in
-    (all_placed loop.nodes.items loop.queue.items c.args.root ended loop.invariant.first loop.invariant.within).document
+    ap (λ ns. span_trees ns root_span) c.shrink_to_fit.ensures.items
+    ∙ (all_placed loop.nodes.items loop.queue.items c.args.root ended loop.invariant.first loop.invariant.within).document

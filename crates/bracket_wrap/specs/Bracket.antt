@@ -1,0 +1,41 @@
+-- What a bracket document and its holes mean.
+use Rattle.std.specs.Prelude.{ℕ, Bool, false}
+use Rattle.mix_tree.specs.Forest.{Forest}
+use Rattle.lxp_core.specs.declared.open_tree.HoleId.{HoleId}
+use Rattle.lxp_core.specs.declared.choice.Choice.{Choice}
+use Rattle.lxp_core.specs.Open.{Open}
+use Rattle.lxp_core.specs.DocumentHoles.{document_knows, document_forest, document_weight, document_list, root_hole}
+use Rattle.bracket_wrap.specs.declared.bracket.BracketDoc.{BracketDoc}
+
+-- how many children a list has at most
+abbrev pub chunk_of : BracketDoc → ℕ
+chunk_of d = d.chunk
+
+-- whether the children are whole subtrees
+abbrev pub deep_of : BracketDoc → Bool
+deep_of d = d.deep
+
+-- whether a document knows a hole
+abbrev pub knows : BracketDoc → HoleId → Bool
+knows d = document_knows d.document
+
+-- the trees that a hole stands for
+abbrev pub forest : BracketDoc → HoleId → Forest
+forest d = document_forest d.document
+
+-- the weight of a hole: the number of nodes that it stands for
+abbrev pub weight : BracketDoc → HoleId → ℕ
+weight d = document_weight d.document
+
+-- the whole document
+abbrev pub document : BracketDoc → Forest
+document d = forest d root_hole
+
+-- lists of so many children at most, whole or with one hole below each that has children, and a hole behind them
+-- exactly where more remain
+abbrev pub in_chunks : ℕ → Bool → Choice
+in_chunks chunk deep = record { leads = false; skipped = 0; most = chunk; trails = false; whole = deep }
+
+-- the list of a hole: the next children, cut so
+abbrev pub given : BracketDoc → HoleId → Open
+given d = document_list d.document (in_chunks d.chunk d.deep)

@@ -1,0 +1,80 @@
+// Bracket documents, given so many children at a time.
+ghost use Rattle.std.specs.Prelude.{◌≤◌};
+
+use lxp_core::{Choice, Document, HoleId, OpenTree, SourceFault};
+use mix_tree::Tree;
+use std::alloc::{AllocError, Global};
+
+/// A document that is given so many children at a time.
+///
+/// A hole stands for children of a node that stand side by side. Its list has the first of them, at most a chunk, and
+/// behind these one hole exactly where more remain. A child is given whole where the document is deep. Else it has one
+/// hole below it where it has children, and nothing where it is a leaf. The root's hole stands for the root alone.
+#[derive(Drop)]
+pub struct BracketDoc {
+    document: Document,
+    chunk: u32,
+    deep: bool,
+    ghost some: { 1 ≤ chunk },
+}
+
+impl BracketDoc {
+    ghost use Rattle.std.specs.Prelude.{◌≡◌, ◌≤◌, false, IfOk, IsErrOf};
+    ghost use Rattle.mix_tree.specs.Forest.{alone};
+    ghost use Rattle.lxp_core.specs.Open.{closed, weight_of, AllHoles, IsProgress, begins_with_hole};
+    ghost use Rattle.lxp_core.specs.Plain.{plain};
+    ghost use Rattle.lxp_core.specs.DocumentHoles.{root_hole};
+    ghost use Rattle.bracket_wrap.specs.Bracket.{chunk_of, deep_of, knows, forest, weight, document, in_chunks, given};
+
+    /// The document of a tree, to be given `chunk` children at a time, `deep` or not. A chunk is 1 to 1,000.
+    pub fn open(alloc: Global, doc: Tree, chunk: u32, deep: bool) -> Result<BracketDoc, AllocError>
+        requires some { 1 ≤ chunk }
+        requires few { chunk ≤ 1000 }
+        ensures document { IfOk result (λ d. document d ≡ alone doc) }
+        ensures chunk { IfOk result (λ d. chunk_of d ≡ chunk) }
+        ensures deep { IfOk result (λ d. deep_of d ≡ deep) }
+    {
+        Ok(BracketDoc {
+            document: Document::new(alloc, doc)?,
+            chunk,
+            deep,
+        })
+    }
+
+    /// The hole that stands for the root.
+    pub fn root_hole(&self) -> HoleId
+        ensures { result ≡ root_hole }
+    {
+        self.document.root_hole()
+    }
+
+    // How lists are cut.
+    fn choice(&self) -> Choice
+        ensures { result ≡ in_chunks (chunk_of self.now) (deep_of self.now) }
+    {
+        Choice {
+            leads: false,
+            skipped: 0,
+            most: self.chunk as usize,
+            trails: false,
+            whole: self.deep,
+        }
+    }
+
+    /// The list of a hole. `UnknownHole`: the document doesn't know the hole. It never answers `Failed`.
+    pub fn fill(&self, alloc: Global, hole: HoleId) -> Result<Vec<OpenTree>, SourceFault>
+        ensures list { IfOk result (λ list. plain list.items ≡ given self.now hole) }
+        // What the answer promises.
+        ensures closes { IfOk result (λ list. closed (forest self.now) (plain list.items) ≡ forest self.now hole) }
+        ensures progress { IfOk result (λ list. IsProgress (plain list.items)) }
+        ensures known { IfOk result (λ list. AllHoles (knows self.now) (plain list.items)) }
+        ensures lighter { IfOk result (λ list. weight_of (weight self.now) (plain list.items) ≤ weight self.now hole) }
+        ensures forward { IfOk result (λ list. begins_with_hole (plain list.items) ≡ false) }
+        // The causes.
+        ensures never_failed { ¬ IsErrOf result SourceFault.Failed }
+        ensures unknown { IsErrOf result SourceFault.UnknownHole → knows self.now hole ≡ false }
+        ensures only_unknown { knows self.now hole ≡ false → IsErrOf result SourceFault.UnknownHole }
+    {
+        self.document.fill(alloc, self.choice(), hole)
+    }
+}
