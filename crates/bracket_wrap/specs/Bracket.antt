@@ -1,10 +1,9 @@
 -- What a bracket document and its holes mean.
-use Rattle.std.specs.Prelude.{ℕ, Bool, false}
+use Rattle.std.specs.Prelude.{◌≡◌, ℕ, Bool, true}
 use Rattle.mix_tree.specs.Forest.{Forest}
 use Rattle.lxp_core.specs.declared.open_tree.HoleId.{HoleId}
-use Rattle.lxp_core.specs.declared.choice.Choice.{Choice}
 use Rattle.lxp_core.specs.Open.{Open}
-use Rattle.lxp_core.specs.DocumentHoles.{document_knows, document_forest, document_weight, document_list, root_hole}
+use Rattle.lxp_core.specs.DocumentHoles.{document_knows, document_forest, document_weight, document_list, root_hole, root_hole_known}
 use Rattle.bracket_wrap.specs.declared.bracket.BracketDoc.{BracketDoc}
 
 -- how many children a list has at most
@@ -31,11 +30,11 @@ weight d = document_weight d.document
 abbrev pub document : BracketDoc → Forest
 document d = forest d root_hole
 
--- lists of so many children at most, whole or with one hole below each that has children, and a hole behind them
+-- the list of a hole: the next children, at most a chunk, whole where the document is deep, and a hole behind them
 -- exactly where more remain
-abbrev pub in_chunks : ℕ → Bool → Choice
-in_chunks chunk deep = record { leads = false; skipped = 0; most = chunk; trails = false; whole = deep }
-
--- the list of a hole: the next children, cut so
 abbrev pub given : BracketDoc → HoleId → Open
-given d = document_list d.document (in_chunks d.chunk d.deep)
+given d = document_list d.document d.chunk d.deep
+
+-- the hole of the root is known
+pub root_known : (d : BracketDoc) → knows d root_hole ≡ true
+root_known d = root_hole_known d.document

@@ -2,10 +2,10 @@
 use Rattle.std.specs.Prelude.{◌≡◌, ℕ, ◌<◌, ◌≤◌, true, refl}
 use Rattle.std.proofs.Common.{ap, ◌∙◌, arith}
 use Rattle.lxp_core.specs.View.{View, Keeps}
-use Rattle.lxp_core.specs.DocumentHoles.{root_hole, root_hole_known}
+use Rattle.lxp_core.specs.DocumentHoles.{root_hole}
 use Rattle.bracket_wrap.specs.declared.bracket.BracketDoc.{BracketDoc}
 use Rattle.bracket_wrap.specs.declared.one_document.OneDocument.{OneDocument}
-use Rattle.bracket_wrap.specs.Bracket.{knows, forest, weight}
+use Rattle.bracket_wrap.specs.Bracket.{knows, forest, weight, root_known}
 
 -- one source, which is told and forward and never fails
 abbrev pub one_view : OneDocument → View
@@ -50,4 +50,4 @@ came_keeps a b x = record {
 
 -- the hole of the whole document is known
 pub one_root_known : (a : OneDocument) (s : ℕ) → s < (one_view a).count → (one_view a).knows s ((one_view a).root s) ≡ true
-one_root_known a s h = root_hole_known a.doc.document
+one_root_known a s h = root_known a.doc

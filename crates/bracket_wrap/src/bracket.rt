@@ -1,15 +1,16 @@
 // Bracket documents, given so many children at a time.
 ghost use Rattle.std.specs.Prelude.{◌≤◌};
 
-use lxp_core::{Choice, Document, HoleId, OpenTree, SourceFault};
+use lxp_core::{Document, HoleId, OpenTree, SourceFault};
 use mix_tree::Tree;
 use std::alloc::{AllocError, Global};
 
 /// A document that is given so many children at a time.
 ///
-/// A hole stands for children of a node that stand side by side. Its list has the first of them, at most a chunk, and
-/// behind these one hole exactly where more remain. A child is given whole where the document is deep. Else it has one
-/// hole below it where it has children, and nothing where it is a leaf. The root's hole stands for the root alone.
+/// A hole stands for the children of a node from an index on. Its list has the next of them, at most a chunk, and behind
+/// these one hole exactly where more remain. A child is given whole where the document is deep. Else it has one hole below
+/// it where it has children, and nothing where it is a leaf. The root's hole stands for the root, which is given in the
+/// same two ways. No list begins with a hole.
 #[derive(Drop)]
 pub struct BracketDoc {
     document: Document,
@@ -24,7 +25,7 @@ impl BracketDoc {
     ghost use Rattle.lxp_core.specs.Open.{closed, weight_of, AllHoles, IsProgress, begins_with_hole};
     ghost use Rattle.lxp_core.specs.Plain.{plain};
     ghost use Rattle.lxp_core.specs.DocumentHoles.{root_hole};
-    ghost use Rattle.bracket_wrap.specs.Bracket.{chunk_of, deep_of, knows, forest, weight, document, in_chunks, given};
+    ghost use Rattle.bracket_wrap.specs.Bracket.{chunk_of, deep_of, knows, forest, weight, document, given};
 
     /// The document of a tree, to be given `chunk` children at a time, `deep` or not. A chunk is 1 to 1,000.
     pub fn open(alloc: Global, doc: Tree, chunk: u32, deep: bool) -> Result<BracketDoc, AllocError>
@@ -48,19 +49,6 @@ impl BracketDoc {
         self.document.root_hole()
     }
 
-    // How lists are cut.
-    fn choice(&self) -> Choice
-        ensures { result ≡ in_chunks (chunk_of self.now) (deep_of self.now) }
-    {
-        Choice {
-            leads: false,
-            skipped: 0,
-            most: self.chunk as usize,
-            trails: false,
-            whole: self.deep,
-        }
-    }
-
     /// The list of a hole. `UnknownHole`: the document doesn't know the hole. It never answers `Failed`.
     pub fn fill(&self, alloc: Global, hole: HoleId) -> Result<Vec<OpenTree>, SourceFault>
         ensures list { IfOk result (λ list. plain list.items ≡ given self.now hole) }
@@ -75,6 +63,6 @@ impl BracketDoc {
         ensures unknown { IsErrOf result SourceFault.UnknownHole → knows self.now hole ≡ false }
         ensures only_unknown { knows self.now hole ≡ false → IsErrOf result SourceFault.UnknownHole }
     {
-        self.document.fill(alloc, self.choice(), hole)
+        self.document.fill(alloc, self.chunk, self.deep, hole)
     }
 }

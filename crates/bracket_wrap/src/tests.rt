@@ -120,7 +120,14 @@ fn a_root_alone_has_no_hole(rt: HostRuntime) -> Result<(), Fail> {
 fn unknown_holes_are_refused(rt: HostRuntime) -> Result<(), Fail> {
     let alloc = rt.alloc();
     let doc = BracketDoc::open(alloc, document(alloc)?, 1, false)?;
-    let unknown = [[0, 0, 2], [1, 2, 3], [1, 2, 1], [9, 0, 0], [u64::MAX, 0, 0]];
+    let unknown = [
+        [0, 0, 2],
+        [1, 0, 1],
+        [1, 2, 3],
+        [1, 3, 2],
+        [9, 0, 0],
+        [u64::MAX, 0, 0],
+    ];
     for words in unknown {
         let answer = doc.fill(alloc, HoleId { words });
         assert!(rt;

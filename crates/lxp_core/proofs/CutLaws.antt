@@ -32,7 +32,7 @@ closed-without_holes forest (tree label kids rest) =
     ∙ ap (tree label kids) (closed-without_holes forest rest)
 
 -- and its holes pass any test
-AllHoles-without_holes : (test : HoleId → Bool) (f : Forest) → AllHoles test (without_holes f)
+pub AllHoles-without_holes : (test : HoleId → Bool) (f : Forest) → AllHoles test (without_holes f)
 AllHoles-without_holes test none = tt
 AllHoles-without_holes test (tree label kids rest) = (AllHoles-without_holes test kids, AllHoles-without_holes test rest)
 

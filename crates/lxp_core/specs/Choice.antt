@@ -21,6 +21,10 @@ choice_of byte forward = record {
   whole = byte / 4 % 2 == 1;
 }
 
+-- lists of at most so many children, whole or not, with a hole behind them where more remain
+abbrev pub in_chunks : ℕ → Bool → Choice
+in_chunks most whole = record { leads = false; skipped = 0; most = most; trails = false; whole = whole }
+
 -- whether a hole is to stand for so many children: where there are some, or the choice has one also for none
 abbrev pub wants_hole : Choice → ℕ → Bool
 wants_hole choice count = choice.trails || nat_lt 0 count

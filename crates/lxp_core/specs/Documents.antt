@@ -3,7 +3,7 @@ use Rattle.std.specs.Prelude.{ℕ, zero, suc, List, [], ◌∷◌}
 use Rattle.mix_tree.specs.Forest.{Forest, none, LabelledTree, alone}
 use Rattle.lxp_core.specs.declared.document.DocNode.{DocNode}
 use Rattle.lxp_core.specs.declared.document.Document.{Document}
-use Rattle.lxp_core.specs.Span.{root_span, span_trees}
+use Rattle.lxp_core.specs.DocumentHoles.{document_forest, root_hole}
 
 -- the document of a source among trees: a tree alone, or nothing where there are not so many
 abbrev pub document_at : List LabelledTree → ℕ → Forest
@@ -13,7 +13,7 @@ document_at (t ∷ ts) (suc s) = document_at ts s
 
 -- the root of a document in memory
 abbrev pub root_of : Document → Forest
-root_of d = span_trees d.nodes.items root_span
+root_of d = document_forest d root_hole
 
 -- the nodes of a source
 abbrev pub nodes_at : List Document → ℕ → List DocNode

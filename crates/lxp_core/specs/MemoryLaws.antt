@@ -6,7 +6,7 @@ use Rattle.mix_tree.specs.Weight.{nodes_of}
 use Rattle.lxp_core.specs.declared.document.Document.{Document}
 use Rattle.lxp_core.specs.declared.memory.MemSources.{MemSources}
 use Rattle.lxp_core.specs.View.{Keeps}
-use Rattle.lxp_core.specs.DocumentHoles.{root_hole_known}
+use Rattle.lxp_core.specs.DocumentHoles.{rest_is_there, root_hole_known}
 use Rattle.lxp_core.specs.Span.{hole_span, root_span, has_span, span_trees}
 use Rattle.lxp_core.specs.Documents.{nodes_at}
 use Rattle.lxp_core.specs.Memory.{memory_view, CameFrom}
@@ -53,7 +53,7 @@ came_keeps a b x = record {
 
 root_in : (docs : List Document) (s : ℕ) → s < length docs → has_span (nodes_at docs s) root_span ≡ true
 root_in [] s h = absurd (omega arith)
-root_in (d ∷ docs) zero h = root_hole_known d
+root_in (d ∷ docs) zero h = rest_is_there d.nodes.items root_span (root_hole_known d)
 root_in (d ∷ docs) (suc s) h = root_in docs s (omega arith)
 
 -- the hole of a whole document is known

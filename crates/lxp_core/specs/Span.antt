@@ -1,5 +1,5 @@
 -- What the holes of a document in memory stand for.
-use Rattle.std.specs.Prelude.{◌+◌, ◌-◌, Bool, ◌&&◌, nat_lt, nat_le, List, [], ◌∷◌, length, slice_index}
+use Rattle.std.specs.Prelude.{◌+◌, ◌-◌, Bool, ◌&&◌, ◌==◌, nat_lt, nat_le, List, [], ◌∷◌, length, slice_index}
 use Rattle.mix_tree.specs.Forest.{Forest}
 use Rattle.lxp_core.specs.declared.open_tree.HoleId.{HoleId}
 use Rattle.lxp_core.specs.declared.document.DocNode.{DocNode}
@@ -21,6 +21,10 @@ hole_span h = record { node = slice_index h.words 0; from = slice_index h.words 
 -- whether a document has these children
 abbrev pub has_span : List DocNode → Span → Bool
 has_span ns p = nat_le p.from p.to && (nat_lt p.node (length ns) && nat_le p.to (count_of ns p.node))
+
+-- whether these are the children of a node from an index on
+abbrev pub has_rest : List DocNode → Span → Bool
+has_rest ns p = has_span ns p && (p.to == count_of ns p.node)
 
 -- the trees of these children
 abbrev pub span_trees : List DocNode → Span → Forest

@@ -1,6 +1,6 @@
 // How the list of a hole is cut.
 ghost use Rattle.std.specs.Prelude.{◌≡◌};
-ghost use Rattle.lxp_core.specs.Choice.{choice_of, wants_hole};
+ghost use Rattle.lxp_core.specs.Choice.{choice_of, in_chunks, wants_hole};
 
 /// How the list of a hole is cut.
 #[derive(Clone, Copy)]
@@ -20,7 +20,7 @@ pub struct Choice {
 impl Choice {
     /// What a byte says, from its lowest bit on: whether the list leads with a hole, unless the source is forward,
     /// whether it trails with one, whether subtrees are whole, how many children more than one, how many to skip.
-    pub(crate) fn new(byte: u8, forward: bool) -> Choice
+    pub fn new(byte: u8, forward: bool) -> Choice
         ensures { result ≡ choice_of byte forward }
     {
         let leads = !forward && byte % 2 == 1;
@@ -33,8 +33,21 @@ impl Choice {
         }
     }
 
+    /// Lists of at most so many children, with a hole behind them where more remain.
+    pub fn in_chunks(most: usize, whole: bool) -> Choice
+        ensures { result ≡ in_chunks most whole }
+    {
+        Choice {
+            leads: false,
+            skipped: 0,
+            most,
+            trails: false,
+            whole,
+        }
+    }
+
     /// Whether a hole is to stand for so many children.
-    pub(crate) fn wants_hole(&self, count: usize) -> bool
+    pub fn wants_hole(&self, count: usize) -> bool
         ensures { result ≡ wants_hole self.now count }
     {
         self.trails || count > 0

@@ -1,17 +1,15 @@
 // The lists with which a document in memory answers.
-ghost use Rattle.std.specs.Prelude.{◌≡◌, ◌≤◌, ◌+◌, ◌<◌, length, true, false, IfOk, OnOk, IsErrOf};
-ghost use Rattle.lxp_core.specs.Open.{Open, node, closed, weight_of, AllHoles, IsProgress, begins_with_hole, without_holes};
+ghost use Rattle.std.specs.Prelude.{◌≡◌, ◌≤◌, ◌+◌, ◌<◌, length, true, IfOk, OnOk};
+ghost use Rattle.lxp_core.specs.Open.{Open, node, without_holes};
 ghost use Rattle.lxp_core.specs.Plain.{plain, put_all};
 ghost use Rattle.lxp_core.specs.Nodes.{label_of, run};
 ghost use Rattle.lxp_core.specs.Span.{has_span};
-ghost use Rattle.lxp_core.specs.Choice.{IsChoice};
 ghost use Rattle.lxp_core.specs.Cut.{hole_if, kids_of, children, cut};
-ghost use Rattle.lxp_core.specs.DocumentHoles.{document_knows, document_forest, document_weight, document_list};
 
+use crate::OpenTree;
 use crate::choice::Choice;
 use crate::document::Document;
 use crate::span::Span;
-use crate::{HoleId, OpenTree, SourceFault};
 use std::alloc::{AllocError, Global};
 
 // Puts a hole behind a list, where one is wanted.
@@ -125,34 +123,5 @@ impl Document {
             Span { from: to, ..span },
         )?;
         Ok(list)
-    }
-
-    /// The trees that a hole stands for, cut by a choice. `UnknownHole`: the document doesn't know the hole. It never
-    /// fails.
-    pub fn fill(
-        &self,
-        alloc: Global,
-        choice: Choice,
-        hole: HoleId,
-    ) -> Result<Vec<OpenTree>, SourceFault>
-        requires { IsChoice choice }
-        ensures list { IfOk result (λ list. plain list.items ≡ document_list self.now choice hole) }
-        // What the answer promises.
-        ensures closes { IfOk result (λ list.
-            closed (document_forest self.now) (plain list.items) ≡ document_forest self.now hole) }
-        ensures progress { IfOk result (λ list. IsProgress (plain list.items)) }
-        ensures known { IfOk result (λ list. AllHoles (document_knows self.now) (plain list.items)) }
-        ensures lighter { IfOk result (λ list.
-            weight_of (document_weight self.now) (plain list.items) ≤ document_weight self.now hole) }
-        ensures forward { IfOk result (λ list. choice.leads ≡ false → begins_with_hole (plain list.items) ≡ false) }
-        // The causes.
-        ensures never_failed { ¬ IsErrOf result SourceFault.Failed }
-        ensures unknown { IsErrOf result SourceFault.UnknownHole → document_knows self.now hole ≡ false }
-        ensures only_unknown { document_knows self.now hole ≡ false → IsErrOf result SourceFault.UnknownHole }
-    {
-        let Some(span) = self.span(hole) else {
-            return Err(SourceFault::UnknownHole);
-        };
-        Ok(self.cut(alloc, choice, span)?)
     }
 }

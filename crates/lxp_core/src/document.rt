@@ -1,7 +1,7 @@
 // How a document lies in memory.
 ghost use Rattle.std.specs.Prelude.{◌≡◌, ◌≤◌, ◌+◌, ◌<◌, ◌++◌, ◌∷◌, [], length, true, false, nat_lt, nat_le, ◌&&◌, IfOk, OnOk, MatchOption};
 ghost use Rattle.mix_tree.specs.Forest.{forest_of, alone};
-ghost use Rattle.lxp_core.specs.Span.{hole_span, span_hole, root_span, has_span, span_trees};
+ghost use Rattle.lxp_core.specs.Span.{hole_span, has_span};
 ghost use Rattle.lxp_core.specs.Nodes.{AreWithin, IsPlaced, count_of, first_of, run};
 
 use crate::HoleId;
@@ -52,9 +52,11 @@ fn place(nodes: &mut Vec<DocNode>, queue: &mut VecDeque<Tree>, tree: Tree) -> Re
 }
 
 impl Document {
+    ghost use Rattle.lxp_core.specs.DocumentHoles.{document_forest, root_hole};
+
     /// The document with a root.
     pub fn new(alloc: Global, root: Tree) -> Result<Document, AllocError>
-        ensures { IfOk result (λ d. span_trees d.nodes.items root_span ≡ alone root) }
+        ensures { IfOk result (λ d. document_forest d root_hole ≡ alone root) }
     {
         let mut nodes = Vec::new(alloc);
         let mut queue = VecDeque::new(alloc);
@@ -68,7 +70,7 @@ impl Document {
 
     /// The hole that stands for the root.
     pub fn root_hole(&self) -> HoleId
-        ensures { result ≡ span_hole root_span }
+        ensures { result ≡ root_hole }
     {
         let root = Span {
             node: 0,

@@ -2,6 +2,7 @@
 #![tactic(auto)]
 
 mod choice;
+mod chunks;
 mod circle;
 mod cutting;
 mod document;
@@ -11,7 +12,6 @@ mod open_tree;
 mod sources;
 mod span;
 
-pub use choice::Choice;
 pub use document::Document;
 pub use fault::SourceFault;
 pub use memory::MemSources;
