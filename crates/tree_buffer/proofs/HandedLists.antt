@@ -15,7 +15,6 @@ use Rattle.tree_buffer.proofs.Documents.{from-more, trees_at-push}
 use Rattle.tree_buffer.proofs.Held.{held-le, held-push, held-set, in_from-push}
 use Rattle.tree_buffer.proofs.Refine.{set_relates}
 use Rattle.tree_buffer.proofs.Places.{place-old, place-new, places-push, length-places}
-
 use Rattle.tree_buffer.proofs.Handed.{handed, split, links_old, old_place, new_place, counts_own, counts_old, counts_new, longer}
 
 module _ (m : Nodes) (linked : IsLinked m.links m.counts m.firsts m.nexts) (q first before : ℕ) (l : List ℕ) (ks o : Open) (within : q < length m.links) where

@@ -13,18 +13,20 @@ fn tree(alloc: Global, label: &str, kids: Vec<Tree>) -> Result<Tree, AllocError>
 }
 
 // The document a[b[d,e],c], cut by these choices.
-fn source(
-    alloc: Global,
-    choices: &[u8],
-    failing: &[u64],
-) -> Result<MemSources, AllocError>
+fn source(alloc: Global, choices: &[u8], failing: &[u64]) -> Result<MemSources, AllocError>
     ensures { IfOk result (λ m. (memory_view m).count ≡ 1) }
 {
     let leaf = |label| tree(alloc, label, Vec::new(alloc));
     let b = tree(alloc, "b", vec![in alloc; leaf("d")?, leaf("e")?]?)?;
     let a = tree(alloc, "a", vec![in alloc; b, leaf("c")?]?)?;
     let docs = vec![in alloc; a]?;
-    MemSources::new(alloc, docs, choices.to_vec(alloc)?, failing.to_vec(alloc)?, false)
+    MemSources::new(
+        alloc,
+        docs,
+        choices.to_vec(alloc)?,
+        failing.to_vec(alloc)?,
+        false,
+    )
 }
 
 #[test]
