@@ -1,7 +1,7 @@
 -- The forms of a script's lines, by their words.
 use Rattle.std.specs.Prelude.{ℕ, cond, ◌&&◌, List, [], ◌∷◌, Option, Some, None, codes}
 use Rattle.std.specs.Str.{bytes_eq}
-use Rattle.mix_script.specs.Words.{is_name}
+use Rattle.mix_words.specs.Words.{is_name}
 use Rattle.mix_script.specs.declared.step.Act.{Act}
 use Rattle.mix_script.specs.declared.step.Act.TheVariants.{Root, Down, Right, Fetch}
 

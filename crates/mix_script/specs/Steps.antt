@@ -1,7 +1,7 @@
 -- The steps of a script.
 use Rattle.std.specs.Prelude.{ℕ, ◌+◌, cond, List, [], ◌∷◌, ◌++◌, option_map, Option, Some, None, Result, Ok, Err}
-use Rattle.mix_script.specs.Words.{words_of}
-use Rattle.mix_script.specs.Lines.{lines_of, is_passed}
+use Rattle.mix_words.specs.Words.{words_of}
+use Rattle.mix_words.specs.Lines.{lines_of, is_passed}
 use Rattle.mix_script.specs.Forms.{act_of}
 use Rattle.mix_script.specs.declared.step.Act.{Act}
 use Rattle.mix_script.specs.declared.step.Step.{Step}

@@ -2,11 +2,9 @@
 #![tactic(auto)]
 
 mod answer;
-pub mod lines;
 mod names;
 mod script;
 mod step;
-pub mod words;
 
 pub use answer::{Answer, write_answer};
 pub use names::Names;

@@ -2,14 +2,14 @@
 ghost use Rattle.std.specs.Prelude.{◌≡◌, ◌++◌, ℕ, List, Ok, Err, Some, None, IfOk, OnOk, IsErrOf, map, IsTrue};
 ghost use Rattle.mix_script.specs.declared.script.ScriptFault.TheVariants.{OutOfMemory};
 ghost use Rattle.mix_script.specs.declared.step.Step.{Step};
-ghost use Rattle.mix_script.specs.Words.{is_name};
+ghost use Rattle.mix_words.specs.Words.{is_name};
 ghost use Rattle.mix_script.specs.Forms.{act_of, fetch_form, root_form, move_form, act_named};
 ghost use Rattle.mix_script.specs.Steps.{line_steps, steps_of};
 
-use crate::lines::{cut_lines, is_passed_over};
-use crate::words::{cut_words, is_script_name};
 use crate::{Act, Step};
 use mix_tree::Label;
+use mix_words::lines::{cut_lines, is_passed_over};
+use mix_words::words::{cut_words, is_script_name};
 use std::alloc::{AllocError, AllocFailed, Global};
 
 /// Why a script was not read.

@@ -2,8 +2,6 @@
 ghost use Rattle.std.specs.Prelude.{length};
 ghost use Rattle.mix_script.specs.Answers.{IsNamed};
 
-use crate::lines::{cut_lines, is_passed_over};
-use crate::words::{cut_words, is_script_name};
 use crate::{Act, Answer, Names, ScriptFault, Step, read_script, write_answer};
 use mix_tree::Label;
 use std::alloc::{AllocError, Global};
@@ -41,24 +39,6 @@ fn the_first_line_of_no_form_is_named(rt: HostRuntime) {
     for (text, want) in scripts {
         assert_eq!(rt; count(rt.alloc(), text), want);
     }
-}
-
-#[test]
-fn lines_and_words_are_cut(rt: HostRuntime) -> Result<(), Fail> {
-    let lines = cut_lines(rt.alloc(), b"a\r\r\n\n b c\td")?;
-    assert_eq!(rt;
-        lines.as_slice(),
-        [b"a\r".as_slice(), b"".as_slice(), b" b c\td".as_slice()].as_slice()
-    );
-    let words = cut_words(rt.alloc(), b" b c\td ")?;
-    assert_eq!(rt;
-        words.as_slice(),
-        [b"b".as_slice(), b"c".as_slice(), b"d".as_slice()].as_slice()
-    );
-    assert!(rt; is_passed_over(b"\t# x"));
-    assert!(rt; !is_passed_over(b"\tx #"));
-    assert!(rt; is_script_name(b"a_9"));
-    Ok(())
 }
 
 // The line of an answer.

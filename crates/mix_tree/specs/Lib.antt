@@ -4,6 +4,7 @@ pub mod LabelGrammar
 pub mod LabelMachine
 pub mod LabelReads
 pub mod LabelText
+pub mod Names
 pub mod Place
 pub mod Spelling
 pub mod Tables

@@ -6,7 +6,7 @@ use Rattle.mix_base.proofs.Lists.{append_nil}
 use Rattle.mix_tree.specs.Spelling.{quoted}
 use Rattle.mix_tree.specs.LabelGrammar.{Piece, SpellsQuoted, SpellsLabel}
 use Rattle.mix_tree.proofs.LabelCanonical.{quoted_spells}
-use Rattle.path_expr.specs.Names.{is_name_byte, IsName}
+use Rattle.mix_tree.specs.Names.{is_name_byte, IsName}
 use Rattle.path_expr.specs.Grammar.{Spelled, word, quote, group, marked, dot, bar, Kind, a_path, a_sequence, a_repeat, an_atom, is_mark, Is, text_of, Writes}
 use Rattle.path_expr.specs.Form as form
 use Rattle.path_expr.specs.Values as valued

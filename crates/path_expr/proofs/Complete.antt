@@ -3,7 +3,7 @@ use Rattle.std.proofs.Common.{◌≡◌, ◌∙◌, ◌==◌, ℕ, Bool, true, f
 use Rattle.std.proofs.lemmas.Bool.Decides.{nat_tests}
 use Rattle.std.specs.List.{list_all}
 use Rattle.mix_tree.specs.LabelGrammar.{Piece, plain, escape, is_escape, is_plain, is_piece, ArePieces, inside_quotes}
-use Rattle.path_expr.specs.Names.{is_name_byte, IsName}
+use Rattle.mix_tree.specs.Names.{is_name_byte, IsName}
 use Rattle.path_expr.specs.Grammar.{Spelled, word, quote, group, marked, dot, bar, Kind, a_path, a_sequence, a_repeat, an_atom, is_mark, Is, text_of, Writes}
 use Rattle.path_expr.specs.Machine.{Frame, Mode, start, naming, quoting, escaping, behind_atom, behind_repeat, State, at, empty, seq_with, path_in, after_repeat, step_in, step, run, repeat_in, whole_in, whole, read_of}
 use Rattle.mix_base.proofs.Choices.{some_is, none_some, and_parts}

@@ -5,7 +5,7 @@ use Rattle.std.specs.List.{list_all}
 use Rattle.mix_base.proofs.Choices.{and_parts, none_some}
 use Rattle.mix_base.proofs.Lists.{append_nil}
 use Rattle.mix_tree.specs.LabelGrammar.{Piece, plain, escape, is_plain, is_escape, is_piece, ArePieces, inside_quotes}
-use Rattle.path_expr.specs.Names.{is_name_byte}
+use Rattle.mix_tree.specs.Names.{is_name_byte}
 use Rattle.path_expr.specs.Grammar.{Spelled, word, quote, group, marked, dot, bar, Kind, a_path, a_sequence, a_repeat, an_atom, is_mark, Is, text_of, Writes}
 use Rattle.path_expr.specs.Depth.{nesting, first_of, deep_from, deep_at}
 use Rattle.path_expr.specs.Parentheses.{or_here, opens_deep}

@@ -9,7 +9,7 @@ use Rattle.path_expr.proofs.Sound.{read_writes}
 use Rattle.path_expr.proofs.Complete.{run_append, writes_read}
 use Rattle.path_expr.proofs.Fronts.{run_front, stopped_front}
 use Rattle.mix_tree.specs.LabelGrammar.{is_escape}
-use Rattle.path_expr.specs.Names.{is_name_byte}
+use Rattle.mix_tree.specs.Names.{is_name_byte}
 use Rattle.path_expr.specs.Grammar.{Spelled, word, is_mark, Writes}
 use Rattle.path_expr.specs.Results.{Spells}
 use Rattle.mix_base.specs.Reading.{IsFront, IsUnexpected, IsCut}

@@ -1,7 +1,7 @@
 -- What the machine has read is what its state writes.
 use Rattle.std.proofs.Common.{◌≡◌, ◌<◌, ◌∙◌, ◌==◌, ℕ, true, false, IfSome, List, [], ◌∷◌, ◌++◌, Option, Some, None, refl, sym, ap, subst, arith, length, append_assoc, option_and_then}
 use Rattle.mix_tree.specs.LabelGrammar.{Piece, plain, escape, is_escape, is_plain, is_piece, ArePieces, inside_quotes}
-use Rattle.path_expr.specs.Names.{is_name_byte, IsName}
+use Rattle.mix_tree.specs.Names.{is_name_byte, IsName}
 use Rattle.path_expr.specs.Grammar.{Spelled, word, quote, group, marked, dot, bar, Kind, a_path, a_sequence, a_repeat, an_atom, is_mark, Is, text_of, Writes}
 use Rattle.path_expr.specs.Machine.{Frame, Mode, start, naming, quoting, escaping, behind_atom, behind_repeat, State, empty, seq_with, path_with, path_in, close, after_repeat, after_atom, begin, in_quotes, step_in, step, run, repeat_in, whole_in, whole, first, read_of}
 use Rattle.mix_base.proofs.Choices.{Gives, either, number_is, list_all-push, some_is, none_some, and_both}

@@ -5,7 +5,7 @@ use Rattle.std.proofs.lemmas.Str.{IsUtf8-append, IsUtf8-from_ascii}
 use Rattle.std.specs.Str.{IsUtf8, IsAscii}
 use Rattle.std.specs.List.{list_all}
 use Rattle.mix_tree.specs.LabelGrammar.{Piece, plain, escape, is_escape, escaped_byte, is_piece, ArePieces, inside_quotes, meaning}
-use Rattle.path_expr.specs.Names.{is_name_byte}
+use Rattle.mix_tree.specs.Names.{is_name_byte}
 use Rattle.mix_base.proofs.Choices.{and_parts}
 use Rattle.mix_base.proofs.Utf8.{utf8_split, one_ascii}
 

@@ -1,7 +1,7 @@
 -- Reading paths byte by byte with what has been read as values.
 use Rattle.std.specs.Prelude.{ℕ, cond, ◌==◌, List, [], ◌∷◌, ◌++◌, Option, Some, None}
 use Rattle.mix_tree.specs.LabelGrammar.{meaning, escaped_byte, is_escape}
-use Rattle.path_expr.specs.Names.{is_name_byte}
+use Rattle.mix_tree.specs.Names.{is_name_byte}
 use Rattle.path_expr.specs.Grammar.{Spelled, is_mark}
 use Rattle.path_expr.specs.Form.{seq, alt, Form, joined, repeated}
 use Rattle.path_expr.specs.Values.{named, word_form, mark_head, read, value_of}

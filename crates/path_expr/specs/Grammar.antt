@@ -1,7 +1,7 @@
 -- How paths are spelled.
 use Rattle.std.specs.Prelude.{◌≡◌, ℕ, Bool, ◌||◌, ◌==◌, IsTrue, List, [], ◌∷◌, ◌++◌}
 use Rattle.mix_tree.specs.LabelGrammar.{Piece, ArePieces, inside_quotes}
-use Rattle.path_expr.specs.Names.{IsName}
+use Rattle.mix_tree.specs.Names.{IsName}
 
 -- a path as it is written: a name or _, a quoted label, a path in parentheses, one with a mark behind it, two with a dot or a bar between
 pub data Spelled : Type 0 where

@@ -7,7 +7,6 @@ pub mod Description
 pub mod Form
 pub mod Grammar
 pub mod Machine
-pub mod Names
 pub mod Node
 pub mod Parentheses
 pub mod Results

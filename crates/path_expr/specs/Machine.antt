@@ -1,7 +1,7 @@
 -- Reading paths byte by byte.
 use Rattle.std.specs.Prelude.{ℕ, cond, ◌==◌, List, [], ◌∷◌, ◌++◌, Option, Some, None, option_and_then}
 use Rattle.mix_tree.specs.LabelGrammar.{Piece, plain, escape, is_escape}
-use Rattle.path_expr.specs.Names.{is_name_byte}
+use Rattle.mix_tree.specs.Names.{is_name_byte}
 use Rattle.path_expr.specs.Grammar.{Spelled, word, quote, group, marked, dot, bar, is_mark}
 
 -- what stands before the last | of the path at hand, and from there before the last dot

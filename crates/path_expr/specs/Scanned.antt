@@ -1,7 +1,7 @@
 -- What a scan keeps of the machine's state: how many parentheses are open, and the place.
 use Rattle.std.specs.Prelude.{ℕ, zero, suc, ◌+◌, Bool, true, false, cond, ◌==◌, ◌&&◌, length, Option, Some, None}
 use Rattle.mix_tree.specs.LabelGrammar.{is_escape}
-use Rattle.path_expr.specs.Names.{is_name_byte}
+use Rattle.mix_tree.specs.Names.{is_name_byte}
 use Rattle.path_expr.specs.Grammar.{is_mark}
 use Rattle.path_expr.specs.Machine.{Mode, start, naming, quoting, escaping, behind_atom, behind_repeat, State}
 use Rattle.path_expr.specs.declared.scan.Stage.{Stage}

@@ -1,7 +1,7 @@
 // Whether a text is one of the grammar, and where it stops to be.
 ghost use Rattle.std.specs.Prelude.{◌≡◌, ◌<◌, ◌≤◌, ◌+◌, ◌^◌, length, IfSome, IsUtf8};
 ghost use Rattle.mix_tree.specs.LabelGrammar.{is_escape};
-ghost use Rattle.path_expr.specs.Names.{is_name_byte};
+ghost use Rattle.mix_tree.specs.Names.{is_name_byte};
 ghost use Rattle.path_expr.specs.Grammar.{is_mark};
 ghost use Rattle.path_expr.specs.Scanned.{shape_step, shape_behind, is_whole};
 ghost use Rattle.path_expr.specs.Results.{Scans};

@@ -1,7 +1,7 @@
 // Writing a path's canonical text.
 ghost use Rattle.std.specs.Prelude.{◌≡◌, ◌∷◌, ◌++◌, [], ℕ, List, IfOk, OnOk, IsUtf8};
 ghost use Rattle.std.specs.List.{list_all};
-ghost use Rattle.path_expr.specs.Names.{is_name_byte};
+ghost use Rattle.mix_tree.specs.Names.{is_name_byte};
 ghost use Rattle.path_expr.specs.Form.{paths_of};
 ghost use Rattle.path_expr.specs.Results.{Spells, SpellsWithin};
 ghost use Rattle.path_expr.specs.Canonical as canonical;

@@ -1,4 +1,4 @@
-use Rattle.mix_script.proofs.NameBytes.{IsUtf8-name}
+use Rattle.mix_words.proofs.NameBytes.{IsUtf8-name}
 use Rattle.mix_script.proofs.script.name_label.Goals as goal
 
 pub of_text-requires : goal.of_text-requires

@@ -1,9 +1,9 @@
 -- The lines of a text, cut at one LF after another.
 use Rattle.std.proofs.Common.{◌≡◌, ◌<◌, ◌≤◌, ◌+◌, ◌∙◌, ℕ, Bool, true, false, cond, ◌&&◌, ◌==◌, List, [], ◌∷◌, ◌++◌, refl, ap, sym, length, drop, slice_index, slice_range, append_assoc, arith, zero, suc, length-drop}
 use Rattle.mix_base.proofs.Lists.{append_nil}
-use Rattle.mix_script.specs.Words.{with_first}
-use Rattle.mix_script.specs.Lines.{lines_of, without_cr, begins_with_lf}
-use Rattle.mix_script.proofs.Pieces.{Free, cut_at}
+use Rattle.mix_words.specs.Words.{with_first}
+use Rattle.mix_words.specs.Lines.{lines_of, without_cr, begins_with_lf}
+use Rattle.mix_words.proofs.Pieces.{Free, cut_at}
 
 -- whether a byte is LF
 abbrev pub is_lf : ℕ → Bool

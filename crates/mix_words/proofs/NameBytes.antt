@@ -4,7 +4,7 @@ use Rattle.std.proofs.lemmas.Bool.Decides.{nat_tests}
 use Rattle.std.proofs.lemmas.Str.{IsUtf8-from_ascii}
 use Rattle.std.specs.Str.{IsAscii, IsUtf8}
 use Rattle.std.specs.List.{list_all}
-use Rattle.mix_script.specs.Words.{is_name, is_letter, is_name_byte}
+use Rattle.mix_words.specs.Words.{is_name, is_letter, is_name_byte}
 
 -- both tests hold where their conjunction does
 and_parts : (a b : Bool) → IsTrue (a && b) → IsTrue a × IsTrue b

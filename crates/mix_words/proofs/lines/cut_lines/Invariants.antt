@@ -1,8 +1,8 @@
 use Rattle.std.proofs.Common.{◌≡◌, ◌≤◌, ◌++◌, drop, map, slice_range}
-use Rattle.mix_script.specs.Lines.{lines_of}
-use Rattle.mix_script.proofs.Pieces.{Free}
-use Rattle.mix_script.proofs.LineCuts.{is_lf}
-use Rattle.mix_script.proofs.lines.cut_lines.Given as goal
+use Rattle.mix_words.specs.Lines.{lines_of}
+use Rattle.mix_words.proofs.Pieces.{Free}
+use Rattle.mix_words.proofs.LineCuts.{is_lf}
+use Rattle.mix_words.proofs.lines.cut_lines.Given as goal
 
 abbrev pub invariant-loop-at : goal.invariant-loop-at
 invariant-loop-at l = record {

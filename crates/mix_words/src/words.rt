@@ -1,7 +1,7 @@
 // The words of a line, and which words are names.
 ghost use Rattle.std.specs.Prelude.{◌≡◌, ◌++◌, IfOk, OnOk, map};
 ghost use Rattle.std.specs.List.{list_all};
-ghost use Rattle.mix_script.specs.Words.{words_of, unless_empty, is_blank, is_name, is_letter, is_name_byte};
+ghost use Rattle.mix_words.specs.Words.{words_of, unless_empty, is_blank, is_name, is_letter, is_name_byte};
 
 use std::alloc::{AllocError, Global};
 

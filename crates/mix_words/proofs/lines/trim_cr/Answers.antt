@@ -1,6 +1,6 @@
 use Rattle.std.proofs.Common.{rules, arith}
-use Rattle.mix_script.proofs.Trims.{cr_trimmed, cr_kept}
-use Rattle.mix_script.proofs.lines.trim_cr.Goals as goal
+use Rattle.mix_words.proofs.Trims.{cr_trimmed, cr_kept}
+use Rattle.mix_words.proofs.lines.trim_cr.Goals as goal
 
 pub returns-in-13 : goal.returns-in-13
 returns-in-13 c = cr_trimmed c.args.line.now (omega arith) (search rules)

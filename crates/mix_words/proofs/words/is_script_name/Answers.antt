@@ -1,8 +1,8 @@
 use Rattle.std.proofs.Common.{◌∙◌, ap, sym, ◌&&◌, drop, take, length, ◌-◌}
 use Rattle.std.specs.List.{list_all}
-use Rattle.mix_script.specs.Words.{is_name_byte}
-use Rattle.mix_script.proofs.NameBytes.{is_name-parts}
-use Rattle.mix_script.proofs.words.is_script_name.Goals as goal
+use Rattle.mix_words.specs.Words.{is_name_byte}
+use Rattle.mix_words.proofs.NameBytes.{is_name-parts}
+use Rattle.mix_words.proofs.words.is_script_name.Goals as goal
 
 pub returns-then-is_letter_byte : goal.returns-then-is_letter_byte
 returns-then-is_letter_byte c =

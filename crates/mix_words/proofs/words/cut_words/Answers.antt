@@ -1,9 +1,9 @@
 use Rattle.std.proofs.Common.{◌+◌, ◌∙◌, sym, arith}
-use Rattle.mix_script.specs.Words.{is_blank}
-use Rattle.mix_script.proofs.Pieces.{Free-grown, Free-empty, Free-rest}
-use Rattle.mix_script.proofs.WordCuts.{word_cut, last_word}
-use Rattle.mix_script.proofs.words.cut_words.Goals as goal
-use Rattle.mix_script.proofs.words.cut_words.Goals.{then-is_blank_byte+in_ok-push_word, else-is_blank_byte}
+use Rattle.mix_words.specs.Words.{is_blank}
+use Rattle.mix_words.proofs.Pieces.{Free-grown, Free-empty, Free-rest}
+use Rattle.mix_words.proofs.WordCuts.{word_cut, last_word}
+use Rattle.mix_words.proofs.words.cut_words.Goals as goal
+use Rattle.mix_words.proofs.words.cut_words.Goals.{then-is_blank_byte+in_ok-push_word, else-is_blank_byte}
 
 pub loop-at-preserved : goal.loop-at-preserved
 loop-at-preserved c = elim c.if-is_blank_byte.branch [

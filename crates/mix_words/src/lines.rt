@@ -1,6 +1,6 @@
 // The lines of a text that is read line by line, as a script.
 ghost use Rattle.std.specs.Prelude.{◌≡◌, IfOk, map};
-ghost use Rattle.mix_script.specs.Lines.{lines_of, is_passed, without_cr};
+ghost use Rattle.mix_words.specs.Lines.{lines_of, is_passed, without_cr};
 
 use crate::words::is_blank_byte;
 use std::alloc::{AllocError, Global};

@@ -1,6 +1,6 @@
 -- A CR at the end of a line.
 use Rattle.std.proofs.Common.{◌≡◌, ◌≢◌, ◌≤◌, ◌-◌, ◌∙◌, ℕ, suc, false, ◌==◌, List, [], ◌∷◌, refl, sym, ap, arith, length, take, get_or}
-use Rattle.mix_script.specs.Lines.{without_cr}
+use Rattle.mix_words.specs.Lines.{without_cr}
 
 -- the last byte of a longer list
 last_behind : (b c : ℕ) (xs : List ℕ) → get_or (b ∷ c ∷ xs) (length (b ∷ c ∷ xs) - 1) 0 ≡ get_or (c ∷ xs) (length (c ∷ xs) - 1) 0

@@ -1,6 +1,6 @@
 -- The lines of a text, and which of them are passed over.
 use Rattle.std.specs.Prelude.{ℕ, Bool, true, false, cond, ◌&&◌, ◌==◌, List, [], ◌∷◌}
-use Rattle.mix_script.specs.Words.{is_blank, with_first}
+use Rattle.mix_words.specs.Words.{is_blank, with_first}
 
 -- whether a text begins with LF
 abbrev pub begins_with_lf : List ℕ → Bool

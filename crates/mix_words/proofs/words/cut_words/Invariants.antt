@@ -1,7 +1,7 @@
 use Rattle.std.proofs.Common.{◌≡◌, ◌≤◌, ◌++◌, drop, map, slice_range}
-use Rattle.mix_script.specs.Words.{is_blank, words_of}
-use Rattle.mix_script.proofs.Pieces.{Free}
-use Rattle.mix_script.proofs.words.cut_words.Given as goal
+use Rattle.mix_words.specs.Words.{is_blank, words_of}
+use Rattle.mix_words.proofs.Pieces.{Free}
+use Rattle.mix_words.proofs.words.cut_words.Given as goal
 
 abbrev pub invariant-loop-at : goal.invariant-loop-at
 invariant-loop-at l = record {

@@ -1,7 +1,7 @@
 -- The words of a line, cut at one blank after another.
 use Rattle.std.proofs.Common.{◌≡◌, ◌<◌, ◌≤◌, ◌+◌, ◌∙◌, ℕ, true, false, List, [], ◌∷◌, ◌++◌, refl, ap, sym, length, drop, slice_index, slice_range, append_assoc}
-use Rattle.mix_script.specs.Words.{is_blank, words_of, with_first, unless_empty}
-use Rattle.mix_script.proofs.Pieces.{Free, cut_at, rest_whole}
+use Rattle.mix_words.specs.Words.{is_blank, words_of, with_first, unless_empty}
+use Rattle.mix_words.proofs.Pieces.{Free, cut_at, rest_whole}
 
 -- a byte that is followed by another of its word
 word_longer : (b c : ℕ) (bs : List ℕ) → is_blank b ≡ false → is_blank c ≡ false → words_of (b ∷ c ∷ bs) ≡ with_first b (words_of (c ∷ bs))

@@ -2,11 +2,11 @@ use Rattle.std.proofs.Common.{◌≡◌, ◌+◌, ◌++◌, ◌∷◌, false, []
 use Rattle.std.proofs.lemmas.Grind.{common_steps}
 use Rattle.std.proofs.lemmas.List.{map-append}
 use Rattle.std.proofs.lemmas.Bool.{eq-eqb}
-use Rattle.mix_script.specs.Lines.{without_cr}
-use Rattle.mix_script.proofs.Pieces.{Free-grown, Free-empty, Free-rest}
-use Rattle.mix_script.proofs.LineCuts.{is_lf, line_cut, last_line, no_line_left}
-use Rattle.mix_script.proofs.lines.cut_lines.Goals as goal
-use Rattle.mix_script.proofs.lines.cut_lines.Goals.{then-byte-eq10+in_ok-push, else-byte-eq10, then-from-text+in_ok-push-2, else-from-text}
+use Rattle.mix_words.specs.Lines.{without_cr}
+use Rattle.mix_words.proofs.Pieces.{Free-grown, Free-empty, Free-rest}
+use Rattle.mix_words.proofs.LineCuts.{is_lf, line_cut, last_line, no_line_left}
+use Rattle.mix_words.proofs.lines.cut_lines.Goals as goal
+use Rattle.mix_words.proofs.lines.cut_lines.Goals.{then-byte-eq10+in_ok-push, else-byte-eq10, then-from-text+in_ok-push-2, else-from-text}
 
 pub loop-at-preserved : goal.loop-at-preserved
 loop-at-preserved c = elim c.if-byte-eq10.branch [

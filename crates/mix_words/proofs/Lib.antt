@@ -1,0 +1,5 @@
+pub mod LineCuts
+pub mod NameBytes
+pub mod Pieces
+pub mod Trims
+pub mod WordCuts

@@ -1,0 +1,7 @@
+//! The lines and words of a text that is read line by line, as a script or a catalog.
+#![tactic(auto)]
+
+pub mod lines;
+#[cfg(test)]
+mod tests;
+pub mod words;
