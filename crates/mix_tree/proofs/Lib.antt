@@ -2,8 +2,10 @@ pub mod Kids
 pub mod LabelAnswers
 pub mod LabelCanonical
 pub mod LabelComplete
+pub mod LabelOrders
 pub mod LabelSeen
 pub mod LabelSound
 pub mod LabelTaken
+pub mod Numerals
 pub mod Places
 pub mod TableLaws

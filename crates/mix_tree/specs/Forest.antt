@@ -54,3 +54,8 @@ followed (tree label kids rest) g = tree label kids (followed rest g)
 abbrev pub labels_of : Forest → List (List ℕ)
 labels_of none = []
 labels_of (tree label kids rest) = label ∷ (labels_of kids ++ labels_of rest)
+
+-- the trees that f gives for each member, one after another
+abbrev pub joined : {X : Type 0} → (X → Forest) → List X → Forest
+joined f [] = none
+joined f (x ∷ xs) = followed (f x) (joined f xs)

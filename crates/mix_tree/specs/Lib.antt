@@ -1,10 +1,13 @@
 pub mod Codes
 pub mod Forest
+pub mod Keys
 pub mod LabelGrammar
 pub mod LabelMachine
+pub mod LabelOrder
 pub mod LabelReads
 pub mod LabelText
 pub mod Names
+pub mod Nodes
 pub mod Place
 pub mod Spelling
 pub mod Tables

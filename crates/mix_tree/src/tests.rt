@@ -1,6 +1,7 @@
 // What the contracts leave to tests: that calls succeed, and values worked out by hand.
 use crate::{
-    Label, LabelRead, Place, Tree, begins_label, push_quoted, read_label, same_label, write_label,
+    Key, Label, LabelRead, Place, TestOp, Tree, Var, begins_label, item_collects, key_stands,
+    keys_in_force, label_cmp, push_quoted, read_label, same_label, write_label,
 };
 use std::alloc::{AllocError, Global};
 use std::test::Fail;
@@ -135,5 +136,48 @@ fn a_place_leads_to_a_subtree(rt: HostRuntime) -> Result<(), Fail> {
     assert!(rt; found.kids().is_empty());
     assert!(rt; tree.at(&Place::new(vec![in alloc; 1, 0]?)).is_none());
     assert!(rt; tree.kid(2).is_none());
+    Ok(())
+}
+
+#[test]
+fn numerals_stand_before_other_labels(rt: HostRuntime) -> Result<(), Fail> {
+    let alloc = rt.alloc();
+    let ascending = [
+        "-999999999999999999",
+        "-3",
+        "-0",
+        "0",
+        "9",
+        "010",
+        "10",
+        "999999999999999999",
+        "",
+        "+1",
+        "-",
+        "1000000000000000000",
+        "x",
+    ];
+    for (i, text) in ascending.iter().enumerate() {
+        for (j, other) in ascending.iter().enumerate() {
+            let (a, b) = (label(alloc, text)?, label(alloc, other)?);
+            assert_eq!(rt; label_cmp(&a, &b), i.cmp(&j));
+            assert_eq!(rt; TestOp::Ge.holds(&a, &b), i >= j);
+            assert_eq!(rt; TestOp::Ne.holds(&a, &b), i != j);
+        }
+    }
+    Ok(())
+}
+
+#[test]
+fn a_node_in_force_gives_its_label(rt: HostRuntime) -> Result<(), Fail> {
+    let (x, y) = (Var::new(0), Var::new(1));
+    let own = [Key::LabelOf(x), Key::Node(y), Key::Node(x)];
+    let force = keys_in_force(rt.alloc(), &[Key::Node(x)], &own)?;
+    assert_eq!(rt; force.len(), 3);
+    assert!(rt; key_stands(&force, &Key::LabelOf(y)));
+    assert!(rt; !key_stands(&[Key::LabelOf(x)], &Key::Node(x)));
+    assert!(rt; item_collects(&[Key::Node(x)], &own));
+    assert!(rt; !item_collects(&force, &own));
+    assert_eq!(rt; x.number(), 0);
     Ok(())
 }
