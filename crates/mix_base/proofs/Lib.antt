@@ -1,3 +1,4 @@
+pub mod Ascents
 pub mod Choices
 pub mod Lists
 pub mod Risen

@@ -3,8 +3,8 @@ use Rattle.std.specs.Prelude.{ℕ, Bool, true, false, cond, List, [], ◌∷◌,
 use Rattle.std.specs.List.{list_any, list_all}
 use Rattle.std.specs.Str.{bytes_eq}
 use Rattle.mix_tree.specs.Nodes.{Documents, Node, same_node, label_at}
-pub use Rattle.mix_tree.specs.declared.var.Key.{Key}
-pub use Rattle.mix_tree.specs.declared.var.Key.TheVariants.{Node as node_key, LabelOf as label_key}
+use Rattle.mix_tree.specs.declared.var.Key.{Key}
+use Rattle.mix_tree.specs.declared.var.Key.TheVariants.{Node as node_key, LabelOf as label_key}
 
 -- the variable of a key
 abbrev pub key_var : Key → ℕ

@@ -7,6 +7,7 @@ pub mod Description
 pub mod Form
 pub mod Grammar
 pub mod Machine
+pub mod Matches
 pub mod Node
 pub mod Parentheses
 pub mod Results

@@ -1,0 +1,9 @@
+pub mod Bindings
+pub mod Codes
+pub mod Conditions
+pub mod Items
+pub mod Made
+pub mod Meaning
+pub mod RuleMade
+pub mod Rules
+pub mod Weight
