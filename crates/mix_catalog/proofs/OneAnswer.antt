@@ -1,0 +1,207 @@
+-- A text has one answer, but for want of memory.
+use Rattle.std.proofs.Common.{◌≡◌, ◌⊎◌, inl, inr, ◌<◌, ◌≤◌, ◌+◌, ◌∙◌, ℕ, zero, suc, true, false, List, [], ◌∷◌, ◌++◌, Option, Some, None, IsSome, is_some, Result, Ok, Err, refl, sym, ap, subst, arith, length, take, get_or}
+use Rattle.std.proofs.lemmas.Bool.{cases_order}
+use Rattle.std.proofs.lemmas.List.{get_or-take, length-take-le}
+use Rattle.mix_words.specs.Lines.{lines_of, is_passed}
+use Rattle.mix_catalog.specs.declared.source.SourceSpec.{SourceSpec}
+use Rattle.mix_catalog.specs.declared.fault.CatalogFault.{CatalogFault}
+use Rattle.mix_catalog.specs.declared.fault.CatalogFault.TheVariants.{Line, Chunk, NameTwice, TooMany, OutOfMemory}
+use Rattle.mix_catalog.specs.Grammar.{Spells}
+use Rattle.mix_catalog.specs.Sources.{source_named, IsChunk, IsTakenBy, Adds, Accepts, IsCatalog, RefusesSource, IsNotTaken, IsFault, IsFirstFault, Refuses, Answers, IsWantOfMemory, SameAnswer}
+use Rattle.mix_catalog.proofs.Spelled.{one_source}
+
+-- no line is passed over and not
+passed_once : {P : Type 0} (line : List ℕ) → is_passed line ≡ true → is_passed line ≡ false → P
+passed_once line h k = cc
+
+-- no name is found and not
+found_once : {P : Type 0} (o : Option ℕ) → IsSome o → o ≡ None → P
+found_once o h e = let none : is_some o ≡ false = ap is_some e in let some : is_some o ≡ true = h in cc
+
+-- a line adds one way
+Adds-one : (before : List SourceSpec) (line : List ℕ) (a b : List SourceSpec) → Adds before line a → Adds before line b → a ≡ b
+Adds-one before line a b (inl (p, e)) (inl (q, f)) = e ∙ sym f
+Adds-one before line a b (inl (p, e)) (inr (q, s, h, t, f)) = passed_once line p q
+Adds-one before line a b (inr (p, s, h, t, e)) (inl (q, f)) = passed_once line q p
+Adds-one before line a b (inr (p, s, h, t, e)) (inr (q, r, k, u, f)) = e ∙ ap (λ x. before ++ x ∷ []) (one_source line s r h k) ∙ sym f
+
+-- so do lines
+Accepts-one : (lines : List (List ℕ)) (before a b : List SourceSpec) → Accepts before lines a → Accepts before lines b → a ≡ b
+Accepts-one [] before a b e f = e ∙ sym f
+Accepts-one (line ∷ lines) before a b (n, h, k) (m, i, j) = Accepts-one lines m a b (subst (λ x. Accepts x lines a) (Adds-one before line n m h i) k) j
+
+-- the sources before and behind the line at a place
+pub record AddsAt (before : List SourceSpec) (lines : List (List ℕ)) (i : ℕ) : Type 0 where
+  pub middle : List SourceSpec
+  pub next : List SourceSpec
+  pub accepted : Accepts before (take i lines) middle
+  pub adds : Adds middle (get_or lines i []) next
+
+-- accepted lines have accepted fronts
+Accepts-front : (lines : List (List ℕ)) (before sources : List SourceSpec) (i : ℕ) → i < length lines → Accepts before lines sources → AddsAt before lines i
+Accepts-front [] before sources i inside h = absurd (omega arith)
+Accepts-front (line ∷ lines) before sources zero inside (next, adds, rest) = record { middle = before; next = next; accepted = refl; adds = adds }
+Accepts-front (line ∷ lines) before sources (suc i) inside (next, adds, rest) =
+    let behind = Accepts-front lines next sources i (omega arith) rest in
+    record { middle = behind.middle; next = behind.next; accepted = (next, adds, behind.accepted); adds = behind.adds }
+
+-- a source that is taken is not refused
+taken_or_refused : (before : List SourceSpec) (s : SourceSpec) (number : ℕ) (e : CatalogFault) → IsTakenBy before s → RefusesSource before s number e → IsWantOfMemory e
+taken_or_refused before s number (Line n) t r = r
+taken_or_refused before s number (Chunk n) t r = r.1 t.chunk
+taken_or_refused before s number (NameTwice n) t r = found_once (source_named before s.name) r.2 t.name
+taken_or_refused before s number (TooMany n) t r = let room : length before < 32 = t.room in let full : 32 ≤ length before = r.3 in absurd (omega arith)
+taken_or_refused before s number OutOfMemory t r = tt
+
+-- a line that adds spells no source that is refused
+adds_or_not_taken : (before : List SourceSpec) (line : List ℕ) (number : ℕ) (e : CatalogFault) (next : List SourceSpec) → Adds before line next → IsNotTaken before line number e → IsWantOfMemory e
+adds_or_not_taken before line number e next (inl (p, f)) (q, s, h, r) = passed_once line p q
+adds_or_not_taken before line number e next (inr (p, t, k, taken, f)) (q, s, h, r) =
+    taken_or_refused before s number e (subst (IsTakenBy before) (one_source line t s k h) taken) r
+
+-- a line that adds fits a form
+adds_or_fits_none : {P : Type 0} (before : List SourceSpec) (line : List ℕ) (next : List SourceSpec) → Adds before line next → is_passed line ≡ false → ((s : SourceSpec) → Spells line s → ⊥) → P
+adds_or_fits_none before line next (inl (p, f)) q none = passed_once line p q
+adds_or_fits_none before line next (inr (p, s, h, taken, f)) q none = absurd (none s h)
+
+-- a line that adds has no fault
+adds_or_fault : (before : List SourceSpec) (line : List ℕ) (number : ℕ) (e : CatalogFault) (next : List SourceSpec) → Adds before line next → IsFault before line number e → IsWantOfMemory e
+adds_or_fault before line number (Line n) next h fault = adds_or_fits_none before line next h fault.1 fault.2
+adds_or_fault before line number (Chunk n) next h fault = adds_or_not_taken before line number (Chunk n) next h fault
+adds_or_fault before line number (NameTwice n) next h fault = adds_or_not_taken before line number (NameTwice n) next h fault
+adds_or_fault before line number (TooMany n) next h fault = adds_or_not_taken before line number (TooMany n) next h fault
+adds_or_fault before line number OutOfMemory next h fault = tt
+
+-- accepted lines have no fault
+accepted_or_fault : (lines : List (List ℕ)) (sources : List SourceSpec) (e : CatalogFault) → Accepts [] lines sources → IsFirstFault lines e → IsWantOfMemory e
+accepted_or_fault lines sources e h f =
+    let at = Accepts-front lines [] sources f.place f.inside h in
+    let same = Accepts-one (take f.place lines) [] at.middle f.before at.accepted f.accepted in
+    adds_or_fault f.before (get_or lines f.place []) (f.place + 1) e at.next (subst (λ x. Adds x (get_or lines f.place []) at.next) same at.adds) f.fault
+
+-- the faults are the same, or want of memory is one of them
+abbrev SameFault : CatalogFault → CatalogFault → Type 0
+SameFault e f = (e ≡ f) ⊎ (IsWantOfMemory e ⊎ IsWantOfMemory f)
+
+-- a source is refused for one cause
+refused_once : (before : List SourceSpec) (s : SourceSpec) (number : ℕ) (e f : CatalogFault) → RefusesSource before s number e → RefusesSource before s number f → SameFault e f
+refused_once before s number (Line n) f h k = absurd h
+refused_once before s number OutOfMemory f h k = inr (inl tt)
+refused_once before s number (Chunk n) (Line m) h k = absurd k
+refused_once before s number (Chunk n) OutOfMemory h k = inr (inr tt)
+refused_once before s number (Chunk n) (Chunk m) h k = inl (ap Chunk (h.0 ∙ sym k.0))
+refused_once before s number (Chunk n) (NameTwice m) h k = absurd (h.1 k.1)
+refused_once before s number (Chunk n) (TooMany m) h k = absurd (h.1 k.1)
+refused_once before s number (NameTwice n) (Line m) h k = absurd k
+refused_once before s number (NameTwice n) OutOfMemory h k = inr (inr tt)
+refused_once before s number (NameTwice n) (Chunk m) h k = absurd (k.1 h.1)
+refused_once before s number (NameTwice n) (NameTwice m) h k = inl (ap NameTwice (h.0 ∙ sym k.0))
+refused_once before s number (NameTwice n) (TooMany m) h k = found_once (source_named before s.name) h.2 k.2
+refused_once before s number (TooMany n) (Line m) h k = absurd k
+refused_once before s number (TooMany n) OutOfMemory h k = inr (inr tt)
+refused_once before s number (TooMany n) (Chunk m) h k = absurd (k.1 h.1)
+refused_once before s number (TooMany n) (NameTwice m) h k = found_once (source_named before s.name) k.2 h.2
+refused_once before s number (TooMany n) (TooMany m) h k = inl (ap TooMany (h.0 ∙ sym k.0))
+
+-- a line's source is refused for one cause
+not_taken_once : (before : List SourceSpec) (line : List ℕ) (number : ℕ) (e f : CatalogFault) → IsNotTaken before line number e → IsNotTaken before line number f → SameFault e f
+not_taken_once before line number e f (p, s, h, r) (q, t, k, u) = refused_once before s number e f r (subst (λ x. RefusesSource before x number f) (one_source line t s k h) u)
+
+-- a line that fits no form has no other fault
+fits_none_once : {P : Type 0} (before : List SourceSpec) (line : List ℕ) (number : ℕ) (f : CatalogFault) → ((s : SourceSpec) → Spells line s → ⊥) → IsNotTaken before line number f → P
+fits_none_once before line number f none (q, t, k, u) = absurd (none t k)
+
+-- a line has one fault
+fault_once : (before : List SourceSpec) (line : List ℕ) (number : ℕ) (e f : CatalogFault) → IsFault before line number e → IsFault before line number f → SameFault e f
+fault_once before line number OutOfMemory f h k = inr (inl tt)
+fault_once before line number (Line n) (Line m) h k = inl (ap Line (h.0 ∙ sym k.0))
+fault_once before line number (Line n) (Chunk m) h k = fits_none_once before line number (Chunk m) h.2 k
+fault_once before line number (Line n) (NameTwice m) h k = fits_none_once before line number (NameTwice m) h.2 k
+fault_once before line number (Line n) (TooMany m) h k = fits_none_once before line number (TooMany m) h.2 k
+fault_once before line number (Line n) OutOfMemory h k = inr (inr tt)
+fault_once before line number (Chunk n) (Line m) h k = fits_none_once before line number (Chunk n) k.2 h
+fault_once before line number (Chunk n) (Chunk m) h k = not_taken_once before line number (Chunk n) (Chunk m) h k
+fault_once before line number (Chunk n) (NameTwice m) h k = not_taken_once before line number (Chunk n) (NameTwice m) h k
+fault_once before line number (Chunk n) (TooMany m) h k = not_taken_once before line number (Chunk n) (TooMany m) h k
+fault_once before line number (Chunk n) OutOfMemory h k = inr (inr tt)
+fault_once before line number (NameTwice n) (Line m) h k = fits_none_once before line number (NameTwice n) k.2 h
+fault_once before line number (NameTwice n) (Chunk m) h k = not_taken_once before line number (NameTwice n) (Chunk m) h k
+fault_once before line number (NameTwice n) (NameTwice m) h k = not_taken_once before line number (NameTwice n) (NameTwice m) h k
+fault_once before line number (NameTwice n) (TooMany m) h k = not_taken_once before line number (NameTwice n) (TooMany m) h k
+fault_once before line number (NameTwice n) OutOfMemory h k = inr (inr tt)
+fault_once before line number (TooMany n) (Line m) h k = fits_none_once before line number (TooMany n) k.2 h
+fault_once before line number (TooMany n) (Chunk m) h k = not_taken_once before line number (TooMany n) (Chunk m) h k
+fault_once before line number (TooMany n) (NameTwice m) h k = not_taken_once before line number (TooMany n) (NameTwice m) h k
+fault_once before line number (TooMany n) (TooMany m) h k = not_taken_once before line number (TooMany n) (TooMany m) h k
+fault_once before line number (TooMany n) OutOfMemory h k = inr (inr tt)
+
+-- a front of a front
+take_twice : {X : Type 0} (xs : List X) (i j : ℕ) → i ≤ j → take i (take j xs) ≡ take i xs
+take_twice xs zero j h = refl
+take_twice [] (suc i) zero h = refl
+take_twice [] (suc i) (suc j) h = refl
+take_twice (x ∷ xs) (suc i) zero h = absurd (omega arith)
+take_twice (x ∷ xs) (suc i) (suc j) h = ap (λ r. x ∷ r) (take_twice xs i j (omega arith))
+
+-- a fault before another line's is none
+earlier_fault : (lines : List (List ℕ)) (e f : CatalogFault) (h : IsFirstFault lines e) (k : IsFirstFault lines f) → h.place < k.place → IsWantOfMemory e
+earlier_fault lines e f h k before =
+    let same : get_or (take k.place lines) h.place [] ≡ get_or lines h.place [] = get_or-take k.place lines h.place [] before in
+    let fronts : take h.place (take k.place lines) ≡ take h.place lines = take_twice lines h.place k.place (omega arith) in
+    let inside : h.place < length (take k.place lines) = (let n : k.place ≤ length lines = (let i : k.place < length lines = k.inside in omega arith) in omega (arith, length-take-le k.place lines n)) in
+    accepted_or_fault (take k.place lines) k.before e k.accepted (record {
+      place = h.place;
+      before = h.before;
+      inside = inside;
+      accepted = subst (λ x. Accepts [] x h.before) (sym fronts) h.accepted;
+      fault = subst (λ x. IsFault h.before x (h.place + 1) e) (sym same) h.fault;
+    })
+
+-- faults at one place
+same_place : (lines : List (List ℕ)) (e f : CatalogFault) (h : IsFirstFault lines e) (k : IsFirstFault lines f) → h.place ≡ k.place → SameFault e f
+same_place lines e f h k at =
+    let there : Accepts [] (take h.place lines) k.before = subst (λ i. Accepts [] (take i lines) k.before) (sym at) k.accepted in
+    let same = Accepts-one (take h.place lines) [] k.before h.before there h.accepted in
+    let fault : IsFault k.before (get_or lines h.place []) (h.place + 1) f = subst (λ i. IsFault k.before (get_or lines i []) (i + 1) f) (sym at) k.fault in
+    fault_once h.before (get_or lines h.place []) (h.place + 1) e f h.fault (subst (λ x. IsFault x (get_or lines h.place []) (h.place + 1) f) same fault)
+
+-- lines have one first fault
+first_fault_once : (lines : List (List ℕ)) (e f : CatalogFault) → IsFirstFault lines e → IsFirstFault lines f → SameFault e f
+first_fault_once lines e f h k = by_order (cases_order h.place k.place)
+  where
+    by_order : (h.place ≡ k.place) ⊎ ((h.place < k.place) ⊎ (k.place < h.place)) → SameFault e f
+    by_order (inl at) = same_place lines e f h k at
+    by_order (inr (inl before)) = inr (inl (earlier_fault lines e f h k before))
+    by_order (inr (inr before)) = inr (inr (earlier_fault lines f e k h before))
+
+-- a text is refused for its first fault
+refused_fault : (text : List ℕ) (e : CatalogFault) → Refuses text e → IsFirstFault (lines_of text) e ⊎ IsWantOfMemory e
+refused_fault text (Line n) h = inl h
+refused_fault text (Chunk n) h = inl h
+refused_fault text (NameTwice n) h = inl h
+refused_fault text (TooMany n) h = inl h
+refused_fault text OutOfMemory h = inr tt
+
+-- a catalog is not refused
+catalog_or_refused : (text : List ℕ) (sources : List SourceSpec) (e : CatalogFault) → IsCatalog text sources → Refuses text e → IsWantOfMemory e
+catalog_or_refused text sources e h k = by_case (refused_fault text e k)
+  where
+    by_case : IsFirstFault (lines_of text) e ⊎ IsWantOfMemory e → IsWantOfMemory e
+    by_case (inl f) = accepted_or_fault (lines_of text) sources e h f
+    by_case (inr m) = m
+
+-- a text is refused for one cause
+refused_for_one : (text : List ℕ) (e f : CatalogFault) → Refuses text e → Refuses text f → SameFault e f
+refused_for_one text e f h k = by_cases (refused_fault text e h) (refused_fault text f k)
+  where
+    by_cases : IsFirstFault (lines_of text) e ⊎ IsWantOfMemory e → IsFirstFault (lines_of text) f ⊎ IsWantOfMemory f → SameFault e f
+    by_cases (inl i) (inl j) = first_fault_once (lines_of text) e f i j
+    by_cases (inl i) (inr m) = inr (inr m)
+    by_cases (inr m) j = inr (inl m)
+
+-- a text has one answer
+pub one_answer : (text : List ℕ) (r other : Result (List SourceSpec) CatalogFault) → Answers text r → Answers text other → SameAnswer r other
+one_answer text (Ok sources) (Ok others) h k = Accepts-one (lines_of text) [] sources others h k
+one_answer text (Ok sources) (Err f) h k = catalog_or_refused text sources f h k
+one_answer text (Err e) (Ok others) h k = catalog_or_refused text others e k h
+one_answer text (Err e) (Err f) h k = refused_for_one text e f h k

@@ -1,0 +1,116 @@
+-- Where words begin, and how many there are before a place.
+use Rattle.std.proofs.Common.{◌≡◌, ◌<◌, ◌≤◌, ◌+◌, ◌-◌, ◌∙◌, ℕ, zero, suc, Bool, true, false, cond, ◌&&◌, not, IsTrue, List, [], ◌∷◌, ◌++◌, Option, Some, None, refl, ap, sym, subst, arith, length, drop, take, get_or}
+use Rattle.std.proofs.lemmas.List.{take_more, drop_more}
+use Rattle.std.proofs.lemmas.Bool.Decides.{nat_tests}
+use Rattle.std.proofs.lemmas.Str.{IsCharBoundary-start, IsCharBoundary-after_ascii}
+use Rattle.std.specs.Str.{IsUtf8, IsCharBoundary}
+use Rattle.mix_words.specs.Words.{is_blank, words_of, with_first, ends_word}
+use Rattle.mix_catalog.specs.Places.{blank_behind, word_from, place_of_word}
+
+-- one byte more
+pub blank_behind-push : (p : Bool) (xs : List ℕ) (b : ℕ) → blank_behind p (xs ++ b ∷ []) ≡ is_blank b
+blank_behind-push p [] b = refl
+blank_behind-push p (x ∷ xs) b = blank_behind-push (is_blank x) xs b
+
+-- whether a blank stands before a place
+pub blank_before : (line : List ℕ) (i : ℕ) → i < length line → blank_behind true (take (i + 1) line) ≡ is_blank (get_or line i 0)
+blank_before line i h = ap (blank_behind true) (take_more line i 0 h) ∙ blank_behind-push true (take i line) (get_or line i 0)
+
+-- a blank is ASCII
+blank_ascii : (b : ℕ) → is_blank b ≡ true → b < 128
+blank_ascii b h = grind (arith, nat_tests)
+
+-- a character begins behind a blank
+pub boundary_behind_blank : (line : List ℕ) (at : ℕ) → IsUtf8 line → at ≤ length line → blank_behind true (take at line) ≡ true → IsCharBoundary line at
+boundary_behind_blank line zero utf8 inside blank = IsCharBoundary-start line utf8
+boundary_behind_blank line (suc i) utf8 inside blank =
+    let e : i + 1 ≡ suc i = omega arith in
+    let low : get_or line i 0 < 128 = blank_ascii (get_or line i 0) (sym (blank_before line i (omega arith)) ∙ ap (λ n. blank_behind true (take n line)) e ∙ blank) in
+    subst (IsCharBoundary line) e (IsCharBoundary-after_ascii line i utf8 (omega arith) low)
+
+-- how many words begin in a text; p where one may begin at its front
+abbrev begun : Bool → List ℕ → ℕ
+begun p [] = 0
+begun p (b ∷ bs) = cond (p && not (is_blank b)) 1 0 + begun (is_blank b) bs
+
+-- a word that is begun goes on to the first of the next ones
+length-with_first : (b : ℕ) (words : List (List ℕ)) → 0 < length words → length (with_first b words) ≡ length words
+length-with_first b [] h = absurd (omega arith)
+length-with_first b (w ∷ words) h = refl
+
+-- the words of a text are those that begin in it
+pub length-words_of : (xs : List ℕ) → length (words_of xs) ≡ begun true xs
+length-words_of [] = refl
+length-words_of (b ∷ bs) = by_case (is_blank b) refl (length-words_of bs)
+  where
+    -- behind a byte of a word
+    inside : (bs : List ℕ) (b : ℕ) → length (words_of bs) ≡ begun true bs → length (cond (ends_word bs) ((b ∷ []) ∷ words_of bs) (with_first b (words_of bs))) ≡ 1 + begun false bs
+    inside [] b h = refl
+    inside (c ∷ cs) b h = at_next (is_blank c) refl
+      where
+        at_next : (t : Bool) → is_blank c ≡ t
+            → length (cond (is_blank c) ((b ∷ []) ∷ words_of (c ∷ cs)) (with_first b (words_of (c ∷ cs)))) ≡ 1 + begun false (c ∷ cs)
+        at_next true e = rw e (omega (arith, rw e at h))
+        at_next false e =
+            let some : length (words_of (c ∷ cs)) ≡ 1 + begun false cs = h ∙ ap (λ t. cond (true && not t) 1 0 + begun t cs) e in
+            let same = length-with_first b (words_of (c ∷ cs)) (omega (arith, some)) in
+            ap (λ t. length (cond t ((b ∷ []) ∷ words_of (c ∷ cs)) (with_first b (words_of (c ∷ cs))))) e ∙ same ∙ some
+            ∙ sym (ap (λ t. 1 + (0 + begun t cs)) e ∙ omega arith)
+
+    by_case : (t : Bool) → is_blank b ≡ t → length (words_of bs) ≡ begun true bs → length (words_of (b ∷ bs)) ≡ begun true (b ∷ bs)
+    by_case true e h = rw e (h ∙ omega arith)
+    by_case false e h =
+        ap (λ t. length (cond t (words_of bs) (cond (ends_word bs) ((b ∷ []) ∷ words_of bs) (with_first b (words_of bs))))) e ∙ inside bs b h
+        ∙ sym (ap (λ t. cond (true && not t) 1 0 + begun t bs) e)
+
+-- the place behind one byte more is that of the word, where it is so behind that byte
+place_behind : (p : Bool) (n m at b place : ℕ) (xs : List ℕ) (t : Bool) → (p && not (is_blank b)) ≡ t → cond t 1 0 + m ≡ n → word_from (is_blank b) m (at + 1) xs ≡ Some place → word_from p n at (b ∷ xs) ≡ Some place
+place_behind p zero m at b place xs true e many h = absurd (omega arith)
+place_behind p (suc n) m at b place xs true e many h = let same : n ≡ m = omega arith in rw (e, same) h
+place_behind p zero m at b place xs false e many h = let same : zero ≡ m = omega arith in rw (e, same) h
+place_behind p (suc n) m at b place xs false e many h = let same : suc n ≡ m = omega arith in rw (e, same) h
+
+-- the word behind those that begin in a text begins behind it, where it ends in a blank
+pub word_from-found : (front : List ℕ) (p : Bool) (n at c : ℕ) (rest : List ℕ) → begun p front ≡ n → blank_behind p front ≡ true → is_blank c ≡ false
+    → word_from p n at (front ++ c ∷ rest) ≡ Some (at + length front)
+word_from-found [] p zero at c rest many blank other = rw (blank, other) (ap Some (omega arith))
+word_from-found [] p (suc n) at c rest many blank other = absurd (omega (arith, many))
+word_from-found (b ∷ front) p n at c rest many blank other =
+    place_behind p n (begun (is_blank b) front) at b (at + length (b ∷ front)) (front ++ c ∷ rest) (p && not (is_blank b)) refl many
+    (word_from-found front (is_blank b) (begun (is_blank b) front) (at + 1) c rest refl blank other ∙ ap Some (omega arith))
+
+-- the place of the word behind so many
+pub place_found : (front : List ℕ) (n c : ℕ) (rest : List ℕ) → length (words_of front) ≡ n → blank_behind true front ≡ true → is_blank c ≡ false
+    → place_of_word n (front ++ c ∷ rest) ≡ Some (length front)
+place_found front n c rest many blank other = word_from-found front true n 0 c rest (sym (length-words_of front) ∙ many) blank other ∙ ap Some (omega arith)
+
+-- one byte was looked at, at which no word begins
+pub word_from-other : (p : Bool) (n at b : ℕ) (bs : List ℕ) → (p && not (is_blank b)) ≡ false → word_from p n at (b ∷ bs) ≡ word_from (is_blank b) n (at + 1) bs
+word_from-other p zero at b bs e = rw e refl
+word_from-other p (suc n) at b bs e = rw e refl
+
+-- one byte was looked at, at which a word begins that has others before it
+pub word_from-next : (p : Bool) (n at b : ℕ) (bs : List ℕ) → (p && not (is_blank b)) ≡ true → 0 < n → word_from p n at (b ∷ bs) ≡ word_from (is_blank b) (n - 1) (at + 1) bs
+word_from-next p zero at b bs e h = absurd (omega arith)
+word_from-next p (suc n) at b bs e h = let same : suc n - 1 ≡ n = omega arith in rw (e, same) refl
+
+-- one byte was looked at, at which the word begins
+pub word_from-here : (p : Bool) (n at b : ℕ) (bs : List ℕ) → (p && not (is_blank b)) ≡ true → n ≡ 0 → word_from p n at (b ∷ bs) ≡ Some at
+word_from-here p zero at b bs e h = rw e refl
+word_from-here p (suc n) at b bs e h = absurd (omega arith)
+
+-- the search behind a byte at which a word begins that has others before it
+pub looked_next : (line : List ℕ) (at left : ℕ) (p t : Bool) (whole : Option ℕ) → at < length line → t ≡ is_blank (get_or line at 0) → (p && not t) ≡ true → 0 < left
+    → word_from p left at (drop at line) ≡ whole → word_from t (left - 1) (at + 1) (drop (at + 1) line) ≡ whole
+looked_next line at left p t whole inside blank begins some h =
+    ap (λ u. word_from u (left - 1) (at + 1) (drop (at + 1) line)) blank
+    ∙ sym (word_from-next p left at (get_or line at 0) (drop (at + 1) line) (ap (λ u. p && not u) (sym blank) ∙ begins) some)
+    ∙ sym (ap (word_from p left at) (drop_more line at 0 inside)) ∙ h
+
+-- and behind another byte
+pub looked_other : (line : List ℕ) (at left : ℕ) (p t : Bool) (whole : Option ℕ) → at < length line → t ≡ is_blank (get_or line at 0) → (p && not t) ≡ false
+    → word_from p left at (drop at line) ≡ whole → word_from t left (at + 1) (drop (at + 1) line) ≡ whole
+looked_other line at left p t whole inside blank begins h =
+    ap (λ u. word_from u left (at + 1) (drop (at + 1) line)) blank
+    ∙ sym (word_from-other p left at (get_or line at 0) (drop (at + 1) line) (ap (λ u. p && not u) (sym blank) ∙ begins))
+    ∙ sym (ap (word_from p left at) (drop_more line at 0 inside)) ∙ h

@@ -1,0 +1,5 @@
+pub mod Forms
+pub mod Grammar
+pub mod Places
+pub mod Seen
+pub mod Sources

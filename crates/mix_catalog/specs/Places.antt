@@ -1,0 +1,18 @@
+-- Where the words of a line begin.
+use Rattle.std.specs.Prelude.{ℕ, zero, suc, ◌+◌, Bool, true, false, cond, ◌&&◌, not, List, [], ◌∷◌, Option, Some, None}
+use Rattle.mix_words.specs.Words.{is_blank}
+
+-- whether a blank stands last in a text; p where the text is empty
+abbrev pub blank_behind : Bool → List ℕ → Bool
+blank_behind p [] = p
+blank_behind p (b ∷ bs) = blank_behind (is_blank b) bs
+
+-- where the word begins that has n words before it, in a text that stands at a place; p where a word may begin there
+abbrev pub word_from : Bool → ℕ → ℕ → List ℕ → Option ℕ
+word_from p n at [] = None
+word_from p zero at (b ∷ bs) = cond (p && not (is_blank b)) (Some at) (word_from (is_blank b) zero (at + 1) bs)
+word_from p (suc n) at (b ∷ bs) = cond (p && not (is_blank b)) (word_from (is_blank b) n (at + 1) bs) (word_from (is_blank b) (suc n) (at + 1) bs)
+
+-- where the word of a line begins that has n words before it
+abbrev pub place_of_word : ℕ → List ℕ → Option ℕ
+place_of_word n line = word_from true n 0 line

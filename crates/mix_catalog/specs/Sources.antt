@@ -1,0 +1,92 @@
+-- The sources of a catalog, line by line.
+use Rattle.std.specs.Prelude.{◌≡◌, ◌⊎◌, ◌<◌, ◌≤◌, ◌+◌, ℕ, Bool, false, true, IsTrue, IsSome, List, [], ◌∷◌, ◌++◌, length, take, get_or, position, Option, None, Result, Ok, Err}
+use Rattle.std.specs.Str.{bytes_eq}
+use Rattle.mix_words.specs.Lines.{lines_of, is_passed}
+use Rattle.mix_catalog.specs.declared.source.SourceSpec.{SourceSpec}
+use Rattle.mix_catalog.specs.declared.fault.CatalogFault.{CatalogFault}
+use Rattle.mix_catalog.specs.declared.fault.CatalogFault.TheVariants.{Line, Chunk, NameTwice, TooMany, OutOfMemory}
+use Rattle.mix_catalog.specs.Grammar.{Spells, SpellsNone}
+
+-- the number of the source of a name: its place in the list, from 0
+abbrev pub source_named : List SourceSpec → List ℕ → Option ℕ
+source_named sources name = position (λ s. bytes_eq name s.name) sources
+
+-- a chunk from 1 to 1000
+abbrev pub IsChunk : ℕ → Type 0
+IsChunk n = (1 ≤ n) × (n ≤ 1000)
+
+-- a source that may stand behind these: its chunk lies in the range, its name is new, and there are fewer than 32
+pub record IsTakenBy (before : List SourceSpec) (s : SourceSpec) : Type 0 where
+  pub chunk : IsChunk s.chunk
+  pub name : source_named before s.name ≡ None
+  pub room : length before < 32
+
+-- the sources behind a line: those before it where it is passed over, and else one more
+abbrev pub Adds : List SourceSpec → List ℕ → List SourceSpec → Type 0
+Adds before line after =
+    (IsTrue (is_passed line) × (after ≡ before)) ⊎ ((is_passed line ≡ false) × (s : SourceSpec) × Spells line s × IsTakenBy before s × (after ≡ before ++ s ∷ []))
+
+-- lines behind these sources are accepted, and these are the sources in the end
+abbrev pub Accepts : List SourceSpec → List (List ℕ) → List SourceSpec → Type 0
+Accepts before [] sources = sources ≡ before
+Accepts before (line ∷ lines) sources = (after : List SourceSpec) × Adds before line after × Accepts after lines sources
+
+-- the text is a catalog of these sources
+abbrev pub IsCatalog : List ℕ → List SourceSpec → Type 0
+IsCatalog text sources = Accepts [] (lines_of text) sources
+
+-- the source is spelled in the line of this number but not taken, the fault being the first that stands
+abbrev pub RefusesSource : List SourceSpec → SourceSpec → ℕ → CatalogFault → Type 0
+RefusesSource before s number (Line n) = ⊥
+RefusesSource before s number (Chunk n) = (n ≡ number) × (IsChunk s.chunk → ⊥)
+RefusesSource before s number (NameTwice n) = (n ≡ number) × IsChunk s.chunk × IsSome (source_named before s.name)
+RefusesSource before s number (TooMany n) = (n ≡ number) × IsChunk s.chunk × (source_named before s.name ≡ None) × (32 ≤ length before)
+RefusesSource before s number OutOfMemory = Unit {0}
+
+-- the line of this number, which isn't passed over, spells a source that isn't taken
+abbrev pub IsNotTaken : List SourceSpec → List ℕ → ℕ → CatalogFault → Type 0
+IsNotTaken before line number e = (is_passed line ≡ false) × (s : SourceSpec) × Spells line s × RefusesSource before s number e
+
+-- the fault of the line of this number behind these sources
+abbrev pub IsFault : List SourceSpec → List ℕ → ℕ → CatalogFault → Type 0
+IsFault before line number (Line n) = (n ≡ number) × (is_passed line ≡ false) × SpellsNone line
+IsFault before line number (Chunk n) = IsNotTaken before line number (Chunk n)
+IsFault before line number (NameTwice n) = IsNotTaken before line number (NameTwice n)
+IsFault before line number (TooMany n) = IsNotTaken before line number (TooMany n)
+IsFault before line number OutOfMemory = Unit {0}
+
+-- the lines before the one at the place are accepted, and it has this fault; lines are numbered from 1
+pub record IsFirstFault (lines : List (List ℕ)) (e : CatalogFault) : Type 0 where
+  pub place : ℕ
+  pub before : List SourceSpec
+  pub inside : place < length lines
+  pub accepted : Accepts [] (take place lines) before
+  pub fault : IsFault before (get_or lines place []) (place + 1) e
+
+-- why the text is no catalog
+abbrev pub Refuses : List ℕ → CatalogFault → Type 0
+Refuses text (Line n) = IsFirstFault (lines_of text) (Line n)
+Refuses text (Chunk n) = IsFirstFault (lines_of text) (Chunk n)
+Refuses text (NameTwice n) = IsFirstFault (lines_of text) (NameTwice n)
+Refuses text (TooMany n) = IsFirstFault (lines_of text) (TooMany n)
+Refuses text OutOfMemory = Unit {0}
+
+-- the sources of the text, or why it is no catalog
+abbrev pub Answers : List ℕ → Result (List SourceSpec) CatalogFault → Type 0
+Answers text (Ok sources) = IsCatalog text sources
+Answers text (Err e) = Refuses text e
+
+-- memory ran out
+abbrev pub IsWantOfMemory : CatalogFault → Type 0
+IsWantOfMemory (Line n) = ⊥
+IsWantOfMemory (Chunk n) = ⊥
+IsWantOfMemory (NameTwice n) = ⊥
+IsWantOfMemory (TooMany n) = ⊥
+IsWantOfMemory OutOfMemory = Unit {0}
+
+-- the answers are the same, or want of memory is one of them
+abbrev pub SameAnswer : Result (List SourceSpec) CatalogFault → Result (List SourceSpec) CatalogFault → Type 0
+SameAnswer (Ok sources) (Ok others) = sources ≡ others
+SameAnswer (Ok sources) (Err f) = IsWantOfMemory f
+SameAnswer (Err e) (Ok others) = IsWantOfMemory e
+SameAnswer (Err e) (Err f) = (e ≡ f) ⊎ (IsWantOfMemory e ⊎ IsWantOfMemory f)

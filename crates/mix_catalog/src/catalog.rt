@@ -1,0 +1,73 @@
+// A catalog: its sources in order, found by their names.
+ghost use Rattle.std.specs.Prelude.{◌≡◌, ◌<◌, ◌++◌, ◌∷◌, [], length, Some, None, OnOk, OnErr, slice_get};
+ghost use Rattle.mix_catalog.specs.Sources.{source_named};
+
+use crate::SourceSpec;
+use indexmap::IndexMap;
+use mix_tree::Label;
+use std::alloc::{AllocError, Global};
+use std::marker::Model;
+
+/// Sources in order, seen as the list of what is said of each. A source's number is its place in it, from 0.
+#[derive(Drop)]
+pub struct Catalog {
+    // Each source by the bytes of its name.
+    sources: IndexMap<Vec<u8>, SourceSpec>,
+}
+
+impl Model for Catalog {
+    ghost use Rattle.std.specs.Prelude.{◌≡◌, ◌≤◌, List, map, length};
+    ghost use Rattle.mix_catalog.specs.declared.source.SourceSpec.{SourceSpec};
+
+    ghost Value = { List SourceSpec };
+
+    ghost view = { λ c. map (λ e. e.1) c.sources.entries };
+
+    ghost invariant = { λ c. (map (λ e. e.0.items) c.sources.entries ≡ map (λ e. e.1.name) c.sources.entries) × (length c.sources.entries ≤ 32) };
+}
+
+impl Catalog {
+    /// A catalog of no sources.
+    pub(crate) fn new(alloc: Global) -> Catalog
+        ensures { result ≡ [] }
+    {
+        Catalog {
+            sources: IndexMap::new(alloc),
+        }
+    }
+
+    /// How many sources there are, at most 32.
+    pub fn len(&self) -> u32
+        ensures { result ≡ length self.now }
+    {
+        self.sources.len() as u32
+    }
+
+    /// What is said of the source of a number.
+    pub fn spec(&self, s: u32) -> &SourceSpec
+        requires { s < length self.now }
+        ensures { slice_get self.now s ≡ Some result.now }
+    {
+        &self.sources[s as usize]
+    }
+
+    /// The number of the source of a name; `None` where no source has it.
+    pub fn find(&self, name: &Label) -> Option<u32>
+        ensures { result ≡ source_named self.now name.now }
+    {
+        let at = self.sources.get_index_of(name.bytes())?;
+        Some(at as u32)
+    }
+
+    /// Adds a source behind the others. An error leaves the catalog as it was.
+    pub(crate) fn add(&mut self, alloc: Global, spec: SourceSpec) -> Result<(), AllocError>
+        requires new { source_named self.old spec.name ≡ None }
+        requires room { length self.old < 32 }
+        ensures ok { OnOk result (self.new ≡ self.old ++ spec ∷ []) }
+        ensures err { OnErr result (self.new ≡ self.old) }
+    {
+        let name = Vec::from_slice(alloc, spec.name.bytes())?;
+        self.sources.insert(name, spec)?;
+        Ok(())
+    }
+}

@@ -1,0 +1,18 @@
+//! Catalogs: which sources there are, by the lines of a text.
+#![tactic(auto)]
+
+mod catalog;
+mod fault;
+mod form;
+mod line;
+mod place;
+mod reading;
+mod source;
+
+pub use catalog::Catalog;
+pub use fault::CatalogFault;
+pub use reading::read_catalog;
+pub use source::{SourceKind, SourceSpec};
+
+#[cfg(test)]
+mod tests;

@@ -1,0 +1,79 @@
+// Catalogs are read line by line; a line that is not passed over spells a source.
+ghost use Rattle.std.specs.Prelude.{◌≡◌, ◌++◌, ◌∷◌, [], List, Result, IfErr, OnOk};
+ghost use Rattle.mix_catalog.specs.declared.source.SourceSpec.{SourceSpec};
+ghost use Rattle.mix_catalog.specs.declared.fault.CatalogFault.{CatalogFault};
+ghost use Rattle.mix_catalog.specs.Sources.{IsTakenBy, RefusesSource, Adds, IsFault, Answers, SameAnswer};
+
+use crate::line::read_source;
+use crate::{Catalog, CatalogFault, SourceSpec};
+use mix_words::lines::{cut_lines, is_passed_over};
+use std::alloc::Global;
+
+// The most sources that a catalog may have.
+const SOURCES: u32 = 32;
+
+// The most children that a fill may be asked to give.
+const CHUNK: u32 = 1000;
+
+// Adds the source of a line, where the catalog takes it.
+fn add_source(
+    alloc: Global,
+    catalog: &mut Catalog,
+    source: SourceSpec,
+    number: usize,
+) -> Result<(), CatalogFault>
+    ensures ok { OnOk result (IsTakenBy catalog.old source × (catalog.new ≡ catalog.old ++ source ∷ [])) }
+    ensures err { IfErr result (RefusesSource catalog.old source number) }
+{
+    if source.chunk < 1 || source.chunk > CHUNK {
+        return Err(CatalogFault::Chunk(number));
+    }
+    if catalog.find(&source.name).is_some() {
+        return Err(CatalogFault::NameTwice(number));
+    }
+    if catalog.len() >= SOURCES {
+        return Err(CatalogFault::TooMany(number));
+    }
+    catalog.add(alloc, source)?;
+    Ok(())
+}
+
+// Adds the source of a line, unless the line is passed over.
+fn add_line(
+    alloc: Global,
+    catalog: &mut Catalog,
+    line: &[u8],
+    number: usize,
+) -> Result<(), CatalogFault>
+    ensures ok { OnOk result (Adds catalog.old line.now catalog.new) }
+    ensures err { IfErr result (IsFault catalog.old line.now number) }
+{
+    if is_passed_over(line) {
+        return Ok(());
+    }
+    let Some(source) = read_source(alloc, line)? else {
+        return Err(CatalogFault::Line(number));
+    };
+    add_source(alloc, catalog, source, number)
+}
+
+/// The catalog that a text spells (docs/FORMATS.md, "Catalogs").
+///
+/// # Errors
+///
+/// The first line that is not accepted decides, and of the causes that it has, the first of these: `Line`, `Chunk`,
+/// `NameTwice`, `TooMany`, each with the line's number. `OutOfMemory` can come with any text.
+pub fn read_catalog(alloc: Global, text: &[u8]) -> Result<Catalog, CatalogFault>
+    // The answer is that of the text: its sources, or why it is no catalog.
+    ensures answers { Answers text.now result }
+
+    // No other answer is that of the text, but for want of memory.
+    ensures only { (other : Result (List SourceSpec) CatalogFault) → Answers text.now other → SameAnswer result other }
+{
+    let lines = cut_lines(alloc, text)?;
+    let mut catalog = Catalog::new(alloc);
+    for (before, line) in lines.iter().enumerate() {
+        add_line(alloc, &mut catalog, line, before + 1)?;
+    }
+    Ok(catalog)
+}
