@@ -1,13 +1,16 @@
 -- Sources found by the bytes of their names.
-use Rattle.std.proofs.Common.{◌≡◌, ◌+◌, ◌∙◌, ℕ, List, [], ◌∷◌, ◌++◌, Option, None, Bool, true, false, length, map, refl, sym, ap, position, Vec, Global}
+use Rattle.std.proofs.Common.{◌≡◌, ◌+◌, ◌∙◌, ℕ, List, [], ◌∷◌, ◌++◌, Option, None, Bool, true, false, length, map, refl, sym, ap, position, Vec, Global, ◌<◌, ◌≤◌, arith, subst}
 use Rattle.std.specs.List.{position_or_len}
 use Rattle.std.specs.Str.{bytes_eq}
 use Rattle.std.specs.Map.{keys_of}
-use Rattle.std.proofs.lemmas.List.{length-map, map-append}
+use Rattle.std.proofs.lemmas.List.{length-map, map-append, length-append}
 use Rattle.indexmap.specs.IndexMap.{insert_entry}
 use Rattle.indexmap.proofs.MapLemmas.{Missing-position, insert_entry-absent}
 use Rattle.mix_catalog.specs.declared.source.SourceSpec.{SourceSpec}
-use Rattle.mix_catalog.specs.Sources.{source_named}
+use Rattle.mix_catalog.specs.Sources.{source_named, AreNumbered}
+use Rattle.mix_catalog.specs.Kept.{AreNamed, IsKept}
+use Rattle.mix_catalog.proofs.Numbered.{AreNumbered-push}
+use Rattle.mix_tree.specs.Names.{IsName}
 
 -- the first place among what f makes of a list, or its length
 position_or_len-map : {X Y : Type 0} (p : Y → Bool) (f : X → Y) (xs : List X) → position_or_len p (map f xs) ≡ position_or_len (λ x. p (f x)) xs
@@ -21,10 +24,6 @@ position_or_len-map p f (x ∷ xs) = by_case (p (f x)) refl (position_or_len-map
 -- the first place among what f makes of a list
 position-map : {X Y : Type 0} (p : Y → Bool) (f : X → Y) (xs : List X) → position p (map f xs) ≡ position (λ x. p (f x)) xs
 position-map p f xs = rw (position_or_len-map p f xs, length-map xs f) refl
-
--- the key of each entry is the name of its source
-abbrev pub AreNamed : List (Vec ℕ Global × SourceSpec) → Type 0
-AreNamed es = map (λ e. e.0.items) es ≡ map (λ e. e.1.name) es
 
 -- the source of a name is that of the key
 pub found_by_name : (es : List (Vec ℕ Global × SourceSpec)) (name : List ℕ) → AreNamed es
@@ -48,3 +47,14 @@ pub AreNamed-push : (es : List (Vec ℕ Global × SourceSpec)) (key : Vec ℕ Gl
 AreNamed-push es key s named same =
     map-append (λ e. e.0.items) es ((key, s) ∷ []) ∙ ap (λ xs. xs ++ key.items ∷ []) named ∙ ap (λ n. map (λ e. e.1.name) es ++ n ∷ []) same
     ∙ sym (map-append (λ e. e.1.name) es ((key, s) ∷ []))
+
+-- entries are kept with a source of a new name behind them
+pub IsKept-push : (es new : List (Vec ℕ Global × SourceSpec)) (key : Vec ℕ Global) (s : SourceSpec) → new ≡ es ++ (key, s) ∷ [] → key.items ≡ s.name → IsKept es → length es < 32 → IsName s.name
+    → source_named (map (λ e. e.1) es) s.name ≡ None → IsKept new
+IsKept-push es new key s parts same kept few named none =
+    let pushed : IsKept (es ++ (key, s) ∷ []) = record {
+      keys = AreNamed-push es key s kept.keys same;
+      few = omega (arith, length-append es ((key, s) ∷ []));
+      numbered = subst AreNumbered (sym (map-append (λ e. e.1) es ((key, s) ∷ []))) (AreNumbered-push (map (λ e. e.1) es) s kept.numbered named none);
+    } in
+    subst IsKept (sym parts) pushed

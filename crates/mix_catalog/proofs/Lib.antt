@@ -2,6 +2,7 @@ pub mod Accepted
 pub mod Digits
 pub mod Finds
 pub mod NameText
+pub mod Numbered
 pub mod OneAnswer
 pub mod Seens
 pub mod Spelled

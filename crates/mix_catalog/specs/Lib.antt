@@ -1,5 +1,6 @@
 pub mod Forms
 pub mod Grammar
+pub mod Kept
 pub mod Places
 pub mod Seen
 pub mod Sources

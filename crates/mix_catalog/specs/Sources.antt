@@ -1,6 +1,7 @@
 -- The sources of a catalog, line by line.
-use Rattle.std.specs.Prelude.{◌≡◌, ◌⊎◌, ◌<◌, ◌≤◌, ◌+◌, ℕ, Bool, false, true, IsTrue, IsSome, List, [], ◌∷◌, ◌++◌, length, take, get_or, position, Option, None, Result, Ok, Err}
+use Rattle.std.specs.Prelude.{◌≡◌, ◌⊎◌, ◌<◌, ◌≤◌, ◌+◌, ℕ, Bool, false, true, IsTrue, IsSome, List, [], ◌∷◌, ◌++◌, length, take, get_or, position, slice_get, Option, Some, None, Result, Ok, Err}
 use Rattle.std.specs.Str.{bytes_eq}
+use Rattle.mix_tree.specs.Names.{IsName}
 use Rattle.mix_words.specs.Lines.{lines_of, is_passed}
 use Rattle.mix_catalog.specs.declared.source.SourceSpec.{SourceSpec}
 use Rattle.mix_catalog.specs.declared.fault.CatalogFault.{CatalogFault}
@@ -10,6 +11,10 @@ use Rattle.mix_catalog.specs.Grammar.{Spells, SpellsNone}
 -- the number of the source of a name: its place in the list, from 0
 abbrev pub source_named : List SourceSpec → List ℕ → Option ℕ
 source_named sources name = position (λ s. bytes_eq name s.name) sources
+
+-- each source has a name, and is found by it at its own place
+abbrev pub AreNumbered : List SourceSpec → Type 0
+AreNumbered sources = (i : ℕ) (s : SourceSpec) → slice_get sources i ≡ Some s → IsName s.name × (source_named sources s.name ≡ Some i)
 
 -- a chunk from 1 to 1000
 abbrev pub IsChunk : ℕ → Type 0

@@ -1,5 +1,6 @@
 // A catalog: its sources in order, found by their names.
-ghost use Rattle.std.specs.Prelude.{◌≡◌, ◌<◌, ◌++◌, ◌∷◌, [], length, Some, None, OnOk, OnErr, slice_get};
+ghost use Rattle.std.specs.Prelude.{◌≡◌, ◌<◌, ◌≤◌, ◌++◌, ◌∷◌, [], length, Some, None, OnOk, OnErr, slice_get};
+ghost use Rattle.mix_tree.specs.Names.{IsName};
 ghost use Rattle.mix_catalog.specs.Sources.{source_named};
 
 use crate::SourceSpec;
@@ -16,14 +17,16 @@ pub struct Catalog {
 }
 
 impl Model for Catalog {
-    ghost use Rattle.std.specs.Prelude.{◌≡◌, ◌≤◌, List, map, length};
+    ghost use Rattle.std.specs.Prelude.{List, map};
     ghost use Rattle.mix_catalog.specs.declared.source.SourceSpec.{SourceSpec};
 
     ghost Value = { List SourceSpec };
 
     ghost view = { λ c. map (λ e. e.1) c.sources.entries };
 
-    ghost invariant = { λ c. (map (λ e. e.0.items) c.sources.entries ≡ map (λ e. e.1.name) c.sources.entries) × (length c.sources.entries ≤ 32) };
+    ghost use Rattle.mix_catalog.specs.Kept.{IsKept};
+
+    ghost invariant = { λ c. IsKept c.sources.entries };
 }
 
 impl Catalog {
@@ -38,7 +41,8 @@ impl Catalog {
 
     /// How many sources there are, at most 32.
     pub fn len(&self) -> u32
-        ensures { result ≡ length self.now }
+        ensures len { result ≡ length self.now }
+        ensures few { result ≤ 32 }
     {
         self.sources.len() as u32
     }
@@ -46,7 +50,11 @@ impl Catalog {
     /// What is said of the source of a number.
     pub fn spec(&self, s: u32) -> &SourceSpec
         requires { s < length self.now }
-        ensures { slice_get self.now s ≡ Some result.now }
+        ensures spec { slice_get self.now s ≡ Some result.now }
+
+        // The source has a name, and is found by it.
+        ensures named { IsName result.now.name }
+        ensures found { source_named self.now result.now.name ≡ Some s }
     {
         &self.sources[s as usize]
     }
@@ -61,6 +69,7 @@ impl Catalog {
 
     /// Adds a source behind the others. An error leaves the catalog as it was.
     pub(crate) fn add(&mut self, alloc: Global, spec: SourceSpec) -> Result<(), AllocError>
+        requires named { IsName spec.name }
         requires new { source_named self.old spec.name ≡ None }
         requires room { length self.old < 32 }
         ensures ok { OnOk result (self.new ≡ self.old ++ spec ∷ []) }

@@ -2,6 +2,7 @@
 ghost use Rattle.std.specs.Prelude.{◌≡◌, ◌++◌, ◌∷◌, [], List, Result, IfErr, OnOk};
 ghost use Rattle.mix_catalog.specs.declared.source.SourceSpec.{SourceSpec};
 ghost use Rattle.mix_catalog.specs.declared.fault.CatalogFault.{CatalogFault};
+ghost use Rattle.mix_tree.specs.Names.{IsName};
 ghost use Rattle.mix_catalog.specs.Sources.{IsTakenBy, RefusesSource, Adds, IsFault, Answers, SameAnswer};
 
 use crate::line::read_source;
@@ -22,6 +23,7 @@ fn add_source(
     source: SourceSpec,
     number: usize,
 ) -> Result<(), CatalogFault>
+    requires { IsName source.name }
     ensures ok { OnOk result (IsTakenBy catalog.old source × (catalog.new ≡ catalog.old ++ source ∷ [])) }
     ensures err { IfErr result (RefusesSource catalog.old source number) }
 {

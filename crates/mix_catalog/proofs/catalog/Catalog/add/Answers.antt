@@ -2,7 +2,7 @@ use Rattle.std.proofs.Common.{◌≡◌, ◌≤◌, ◌<◌, ◌+◌, ◌∙◌,
 use Rattle.std.proofs.lemmas.List.{map-append, length-append, length-map}
 use Rattle.mix_catalog.specs.declared.source.SourceSpec.{SourceSpec}
 use Rattle.mix_catalog.specs.Sources.{source_named}
-use Rattle.mix_catalog.proofs.Finds.{AreNamed, AreNamed-push, new_last}
+use Rattle.mix_catalog.proofs.Finds.{IsKept-push, new_last}
 use Rattle.mix_catalog.proofs.catalog.Catalog.add.Goals as goal
 
 -- the entries behind the call
@@ -11,14 +11,15 @@ entries c =
     let same : c.in_ok-name.name.items ≡ c.args.spec.name = c.in_ok-name.ensures.items ∙ c.bytes.ensures.bytes in
     let new : source_named (map (λ (e : Vec ℕ Global × SourceSpec). e.1) c.self.inside.sources.entries) c.args.spec.name ≡ None =
     ap (λ sources. source_named sources c.args.spec.name) c.self.view_is ∙ c.requires.new in
-    c.in_ok-insert.ensures.entries ∙ new_last c.self.inside.sources.entries c.in_ok-name.name c.args.spec c.self.invariant.0 same new
+    c.in_ok-insert.ensures.entries ∙ new_last c.self.inside.sources.entries c.in_ok-name.name c.args.spec c.self.invariant.keys same new
 
 pub invariant_of-self-2 : goal.invariant_of-self-2
 invariant_of-self-2 c =
     let es = c.self.inside.sources.entries in
     let same : c.in_ok-name.name.items ≡ c.args.spec.name = c.in_ok-name.ensures.items ∙ c.bytes.ensures.bytes in
     let few : length es < 32 = omega (arith, c.requires.room, ap length c.self.view_is, length-map es (λ (e : Vec ℕ Global × SourceSpec). e.1)) in
-    rw (entries c) (AreNamed-push es c.in_ok-name.name c.args.spec c.self.invariant.0 same, omega (arith, few, length-append es ((c.in_ok-name.name, c.args.spec) ∷ [])))
+    let new : source_named (map (λ (e : Vec ℕ Global × SourceSpec). e.1) es) c.args.spec.name ≡ None = ap (λ sources. source_named sources c.args.spec.name) c.self.view_is ∙ c.requires.new in
+    IsKept-push es c.insert.new.self.entries c.in_ok-name.name c.args.spec (entries c) same c.self.invariant few c.requires.named new
 
 pub returns-clause-ok : goal.returns-clause-ok
 returns-clause-ok c =
