@@ -1,5 +1,5 @@
 -- The sources of lines, one line after another.
-use Rattle.std.proofs.Common.{◌≡◌, ◌<◌, ◌+◌, ◌∙◌, ℕ, List, [], ◌∷◌, ◌++◌, Result, Ok, Err, refl, sym, ap, subst, length, take, get_or}
+use Rattle.std.proofs.Common.{◌≡◌, ◌<◌, ◌+◌, ◌∙◌, ℕ, List, [], ◌∷◌, ◌++◌, refl, sym, ap, subst, length, take, get_or}
 use Rattle.std.proofs.lemmas.List.{take_more}
 use Rattle.mix_words.specs.Lines.{lines_of}
 use Rattle.mix_catalog.specs.declared.source.SourceSpec.{SourceSpec}

@@ -1,5 +1,5 @@
 -- Sources found by the bytes of their names.
-use Rattle.std.proofs.Common.{◌≡◌, ◌+◌, ◌∙◌, ℕ, List, [], ◌∷◌, ◌++◌, Option, None, Bool, true, false, length, map, refl, sym, ap, position, Vec, Global, ◌<◌, ◌≤◌, arith, subst}
+use Rattle.std.proofs.Common.{◌≡◌, ◌∙◌, ℕ, List, [], ◌∷◌, ◌++◌, None, Bool, true, false, length, map, refl, sym, ap, position, Vec, Global, ◌<◌, arith, subst}
 use Rattle.std.specs.List.{position_or_len}
 use Rattle.std.specs.Str.{bytes_eq}
 use Rattle.std.specs.Map.{keys_of}

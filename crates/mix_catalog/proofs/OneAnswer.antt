@@ -1,5 +1,5 @@
 -- A text has one answer, but for want of memory.
-use Rattle.std.proofs.Common.{◌≡◌, ◌⊎◌, inl, inr, ◌<◌, ◌≤◌, ◌+◌, ◌∙◌, ℕ, zero, suc, true, false, List, [], ◌∷◌, ◌++◌, Option, Some, None, IsSome, is_some, Result, Ok, Err, refl, sym, ap, subst, arith, length, take, get_or}
+use Rattle.std.proofs.Common.{◌≡◌, ◌⊎◌, inl, inr, ◌<◌, ◌≤◌, ◌+◌, ◌∙◌, ℕ, zero, suc, true, false, List, [], ◌∷◌, ◌++◌, Option, None, IsSome, is_some, Result, Ok, Err, refl, sym, ap, subst, arith, length, take, get_or}
 use Rattle.std.proofs.lemmas.Bool.{cases_order}
 use Rattle.std.proofs.lemmas.List.{get_or-take, length-take-le}
 use Rattle.mix_words.specs.Lines.{lines_of, is_passed}
@@ -7,7 +7,7 @@ use Rattle.mix_catalog.specs.declared.source.SourceSpec.{SourceSpec}
 use Rattle.mix_catalog.specs.declared.fault.CatalogFault.{CatalogFault}
 use Rattle.mix_catalog.specs.declared.fault.CatalogFault.TheVariants.{Line, Chunk, NameTwice, TooMany, OutOfMemory}
 use Rattle.mix_catalog.specs.Grammar.{Spells}
-use Rattle.mix_catalog.specs.Sources.{source_named, IsChunk, IsTakenBy, Adds, Accepts, IsCatalog, RefusesSource, IsNotTaken, IsFault, IsFirstFault, Refuses, Answers, IsWantOfMemory, SameAnswer}
+use Rattle.mix_catalog.specs.Sources.{source_named, IsTakenBy, Adds, Accepts, IsCatalog, RefusesSource, IsNotTaken, IsFault, IsFirstFault, Refuses, Answers, IsWantOfMemory, SameAnswer}
 use Rattle.mix_catalog.proofs.Spelled.{one_source}
 
 -- no line is passed over and not

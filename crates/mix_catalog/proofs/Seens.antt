@@ -1,11 +1,11 @@
 -- What is seen of a spelling that blanks or the end follow.
-use Rattle.std.proofs.Common.{◌≡◌, ◌+◌, ◌∙◌, ℕ, Bool, true, false, cond, IsTrue, List, [], ◌∷◌, ◌++◌, Option, Some, None, refl, sym, ap, arith, length, option_and_then, inl, inr}
+use Rattle.std.proofs.Common.{◌≡◌, ◌+◌, ◌∙◌, ℕ, true, false, IsTrue, List, [], ◌∷◌, ◌++◌, Option, Some, None, refl, ap, arith, length, option_and_then, inl, inr}
 use Rattle.std.proofs.lemmas.Bool.Decides.{nat_tests}
 use Rattle.mix_base.proofs.Choices.{and_parts, some_is, none_some}
 use Rattle.std.specs.List.{list_all}
 use Rattle.mix_tree.specs.Spelling.{is_bare, is_bare_label}
 use Rattle.mix_tree.specs.LabelGrammar.{SpellsLabel}
-use Rattle.mix_tree.specs.LabelMachine.{Spot, start, in_bare, in_quotes, in_escape, behind_quote, step, run, label_in, Seen, got, seen_at, seen_at_end, or_stop, seen_from}
+use Rattle.mix_tree.specs.LabelMachine.{Spot, start, in_bare, in_quotes, in_escape, behind_quote, step, run, label_in, got, seen_at, seen_at_end, or_stop, seen_from}
 use Rattle.mix_tree.proofs.LabelComplete.{spelled_reads}
 use Rattle.mix_tree.proofs.LabelTaken.{seen_byte}
 use Rattle.mix_words.specs.Words.{is_blank, ends_word}

@@ -1,12 +1,11 @@
 -- A line's source as it is found, and as it is spelled.
-use Rattle.std.proofs.Common.{◌≡◌, ◌<◌, ◌≤◌, ◌+◌, ◌∙◌, ℕ, Bool, true, false, cond, ◌&&◌, IsTrue, List, [], ◌∷◌, ◌++◌, Option, Some, None, option_map, option_and_then, refl, sym, ap, subst, arith, length, take, drop, nat_le, codes, MatchOption}
+use Rattle.std.proofs.Common.{◌≡◌, ◌≤◌, ◌+◌, ◌∙◌, ℕ, Bool, true, false, cond, ◌&&◌, IsTrue, List, [], ◌∷◌, ◌++◌, Option, Some, None, option_map, option_and_then, refl, sym, ap, subst, arith, length, take, drop, nat_le, codes, MatchOption}
 use Rattle.std.proofs.lemmas.Bool.Decides.{nat_tests}
 use Rattle.std.proofs.lemmas.List.{take_at, drop_at, take-append-drop}
 use Rattle.std.proofs.lemmas.Slice.Eq.{bytes_eq-Decides}
 use Rattle.std.specs.Str.{IsUtf8, bytes_eq}
-use Rattle.mix_base.proofs.Choices.{and_parts, and_both, some_is, none_some}
+use Rattle.mix_base.proofs.Choices.{and_parts, some_is, none_some}
 use Rattle.mix_tree.specs.Names.{IsName}
-use Rattle.mix_tree.specs.LabelGrammar.{SpellsLabel}
 use Rattle.mix_tree.specs.LabelMachine.{Seen, got, unexpected, ends, start, seen_from}
 use Rattle.mix_tree.specs.LabelReads.{seen_of}
 use Rattle.mix_tree.specs.declared.label_read.LabelRead.{LabelRead}
@@ -19,10 +18,11 @@ use Rattle.mix_catalog.specs.declared.form.Cutting.{Cutting}
 use Rattle.mix_catalog.specs.declared.source.SourceSpec.{SourceSpec}
 use Rattle.mix_catalog.specs.declared.source.SourceKind.{SourceKind}
 use Rattle.mix_catalog.specs.declared.source.SourceKind.TheVariants.{Bracket}
-use Rattle.mix_catalog.specs.Forms.{is_source_name, name_form, name_of, number_behind, number_of, chunk_form, cutting_of, cutting_behind}
+use Rattle.mix_catalog.specs.Forms.{is_source_name, name_of, number_behind, number_of, chunk_form, cutting_of, cutting_behind}
 use Rattle.mix_catalog.specs.Places.{blank_behind, place_of_word}
 use Rattle.mix_catalog.specs.Seen.{bracket, source_seen, source_at, bracket_source}
 use Rattle.mix_catalog.specs.Grammar.{IsNumber, words_behind, SpellsBracket, SpellsKind, Spells, SpellsNone}
+use Rattle.mix_catalog.proofs.Digits.{number_behind-found, number_behind-given}
 use Rattle.mix_catalog.proofs.NameText.{name_tested, name_passes}
 use Rattle.mix_catalog.proofs.WordPlaces.{place_found}
 use Rattle.mix_catalog.proofs.Seens.{spelling_begins, spelling_seen}
@@ -69,7 +69,8 @@ number_of-found digits n e = by_case (nat_le 1 (length digits) && nat_le (length
         let parts = and_parts (nat_le 1 (length digits)) (nat_le (length digits) 9) h in
         let some : nat_le 1 (length digits) ≡ true = parts.0 in
         let short : nat_le (length digits) 9 ≡ true = parts.1 in
-        record { some = grind (arith, nat_tests); short = grind (arith, nat_tests); means = f }
+        let written = number_behind-found digits 0 n f in
+        record { digits = written.0; some = grind (arith, nat_tests); short = grind (arith, nat_tests); means = written.1 }
     by_case false h f = none_some n f
 
 -- are read as their number
@@ -77,7 +78,7 @@ number_of-given : (digits : List ℕ) (n : ℕ) → IsNumber digits n → number
 number_of-given digits n h =
     let some : nat_le 1 (length digits) ≡ true = (let k : 1 ≤ length digits = h.some in grind (arith, nat_tests)) in
     let short : nat_le (length digits) 9 ≡ true = (let k : length digits ≤ 9 = h.short in grind (arith, nat_tests)) in
-    rw (some, short) h.means
+    rw (some, short) (number_behind-given digits 0 h.digits ∙ ap Some h.means)
 
 -- the words behind FILE, where they give a cutting
 pub record BehindIs (words : List (List ℕ)) (cutting : Cutting) : Type 0 where

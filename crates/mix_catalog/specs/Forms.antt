@@ -2,7 +2,7 @@
 use Rattle.std.specs.Prelude.{ℕ, ◌+◌, ◌-◌, ◌*◌, Bool, true, false, cond, ◌&&◌, nat_le, List, [], ◌∷◌, length, Option, Some, None, option_map, option_and_then, codes}
 use Rattle.std.specs.Str.{bytes_eq}
 use Rattle.std.specs.List.{list_all}
-use Rattle.mix_tree.specs.Spelling.{is_between}
+use Rattle.mix_tree.specs.LabelOrder.{is_digit}
 use Rattle.mix_tree.specs.Names.{is_name_byte}
 use Rattle.mix_words.specs.Words.{words_of, ends_word}
 use Rattle.mix_catalog.specs.declared.form.Cutting.{Cutting}
@@ -25,7 +25,7 @@ name_of (a ∷ b ∷ c ∷ d ∷ words) = None
 
 -- the number that a digit means
 abbrev pub digit_of : ℕ → Option ℕ
-digit_of b = cond (is_between 48 57 b) (Some (b - 48)) None
+digit_of b = cond (is_digit b) (Some (b - 48)) None
 
 -- the number that digits mean behind those that mean n
 abbrev pub number_behind : ℕ → List ℕ → Option ℕ

@@ -1,19 +1,22 @@
 -- Which line spells which source.
-use Rattle.std.specs.Prelude.{◌≡◌, ◌≤◌, ℕ, Bool, true, cond, IsTrue, List, [], ◌∷◌, ◌++◌, length, Some, codes, IsUtf8}
+use Rattle.std.specs.Prelude.{◌≡◌, ◌≤◌, ℕ, Bool, true, cond, IsTrue, List, [], ◌∷◌, ◌++◌, length, codes, IsUtf8}
+use Rattle.std.specs.List.{list_all}
+use Rattle.std.specs.Str.Parse.{digits_value}
 use Rattle.mix_tree.specs.Names.{IsName}
+use Rattle.mix_tree.specs.LabelOrder.{is_digit}
 use Rattle.mix_tree.specs.LabelGrammar.{SpellsLabel}
 use Rattle.mix_words.specs.Words.{words_of, ends_word}
 use Rattle.mix_catalog.specs.declared.source.SourceSpec.{SourceSpec}
 use Rattle.mix_catalog.specs.declared.source.SourceKind.{SourceKind}
 use Rattle.mix_catalog.specs.declared.source.SourceKind.TheVariants.{Bracket}
-use Rattle.mix_catalog.specs.Forms.{number_behind}
 use Rattle.mix_catalog.specs.Places.{blank_behind}
 
--- 1 to 9 digits mean the number; they may begin with zeros
-pub record IsNumber (digits : List ℕ) (n : ℕ) : Type 0 where
-  pub some : 1 ≤ length digits
-  pub short : length digits ≤ 9
-  pub means : number_behind 0 digits ≡ Some n
+-- 1 to 9 digits write the number; they may begin with zeros
+pub record IsNumber (word : List ℕ) (n : ℕ) : Type 0 where
+  pub digits : IsTrue (list_all is_digit word)
+  pub some : 1 ≤ length word
+  pub short : length word ≤ 9
+  pub means : digits_value 10 word ≡ n
 
 -- the words behind FILE
 abbrev pub words_behind : List ℕ → Bool → List (List ℕ)

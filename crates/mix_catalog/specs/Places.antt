@@ -1,5 +1,5 @@
 -- Where the words of a line begin.
-use Rattle.std.specs.Prelude.{ℕ, zero, suc, ◌+◌, Bool, true, false, cond, ◌&&◌, not, List, [], ◌∷◌, Option, Some, None}
+use Rattle.std.specs.Prelude.{ℕ, zero, suc, ◌+◌, Bool, true, cond, ◌&&◌, not, List, [], ◌∷◌, Option, Some, None}
 use Rattle.mix_words.specs.Words.{is_blank}
 
 -- whether a blank stands last in a text; p where the text is empty

@@ -1,5 +1,5 @@
 -- The sources of a catalog, line by line.
-use Rattle.std.specs.Prelude.{◌≡◌, ◌⊎◌, ◌<◌, ◌≤◌, ◌+◌, ℕ, Bool, false, true, IsTrue, IsSome, List, [], ◌∷◌, ◌++◌, length, take, get_or, position, slice_get, Option, Some, None, Result, Ok, Err}
+use Rattle.std.specs.Prelude.{◌≡◌, ◌⊎◌, ◌<◌, ◌≤◌, ◌+◌, ℕ, false, IsTrue, IsSome, List, [], ◌∷◌, ◌++◌, length, take, get_or, position, slice_get, Option, Some, None, Result, Ok, Err}
 use Rattle.std.specs.Str.{bytes_eq}
 use Rattle.mix_tree.specs.Names.{IsName}
 use Rattle.mix_words.specs.Lines.{lines_of, is_passed}

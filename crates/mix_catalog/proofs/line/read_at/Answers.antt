@@ -1,8 +1,7 @@
-use Rattle.std.proofs.Common.{◌≡◌, ◌∙◌, ◌-◌, Some, ap, sym, arith, take, drop, length}
+use Rattle.std.proofs.Common.{◌∙◌, ◌-◌, ap, sym, arith, drop, length}
 use Rattle.std.proofs.lemmas.List.{take_all, length-drop}
 use Rattle.mix_tree.specs.LabelReads.{seen_of}
-use Rattle.mix_words.specs.Words.{words_of}
-use Rattle.mix_catalog.specs.Forms.{name_of, cutting_behind}
+use Rattle.mix_catalog.specs.Forms.{cutting_behind}
 use Rattle.mix_catalog.proofs.WordPlaces.{boundary_behind_blank}
 use Rattle.mix_catalog.proofs.Spelled.{unread_is_none, read_is_found}
 use Rattle.mix_catalog.proofs.line.read_at.Goals as goal

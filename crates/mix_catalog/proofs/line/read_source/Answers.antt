@@ -1,4 +1,4 @@
-use Rattle.std.proofs.Common.{rules, IfOk}
+use Rattle.std.proofs.Common.{rules}
 use Rattle.std.specs.Str.{IsUtf8}
 use Rattle.std.proofs.lemmas.Result.{IfOk-weaker}
 use Rattle.mix_catalog.proofs.Spelled.{no_place, found_decides}

@@ -1,5 +1,5 @@
-use Rattle.std.proofs.Common.{◌≡◌, ◌≤◌, ◌<◌, ◌+◌, ◌∙◌, ◌++◌, ◌∷◌, [], List, ℕ, None, sym, ap, subst, arith, map, length, Vec, Global}
-use Rattle.std.proofs.lemmas.List.{map-append, length-append, length-map}
+use Rattle.std.proofs.Common.{◌≡◌, ◌<◌, ◌∙◌, ◌++◌, ◌∷◌, [], ℕ, None, ap, arith, map, length, Vec, Global}
+use Rattle.std.proofs.lemmas.List.{map-append, length-map}
 use Rattle.mix_catalog.specs.declared.source.SourceSpec.{SourceSpec}
 use Rattle.mix_catalog.specs.Sources.{source_named}
 use Rattle.mix_catalog.proofs.Finds.{IsKept-push, new_last}

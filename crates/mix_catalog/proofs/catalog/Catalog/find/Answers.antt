@@ -1,4 +1,4 @@
-use Rattle.std.proofs.Common.{◌∙◌, sym, ap, position, Vec, Global, ℕ}
+use Rattle.std.proofs.Common.{◌∙◌, ap, position, Vec, Global, ℕ}
 use Rattle.std.specs.Str.{bytes_eq}
 use Rattle.std.specs.Map.{keys_of}
 use Rattle.mix_catalog.specs.Sources.{source_named}
