@@ -3,7 +3,7 @@ use Rattle.std.proofs.Common.{◌≡◌, ◌<◌, inl, inr, ◌∙◌, ℕ, List
 use Rattle.mix_base.specs.Counts.{HasRisen}
 use Rattle.mix_io.specs.Views.{FilesView, SinkView, KeepsFiles}
 use Rattle.mix_top.specs.declared.refusal.FileFault.{FileFault}
-use Rattle.mix_top.specs.declared.refusal.FileFault.TheVariants.{Unread, TooLong, NotUtf8, Unexpected, TooDeep, EndsEarly, NoForm}
+use Rattle.mix_top.specs.declared.refusal.FileFault.TheVariants.{Unread, TooLong, NotUtf8, Unexpected, TooDeep, EndsEarly, NoForm, ChunkOutOfRange, NameTwice, TooManySources}
 use Rattle.mix_top.specs.declared.refusal.Stop.{Stop}
 use Rattle.mix_top.specs.declared.refusal.Stop.TheVariants.{Refused, SinkFailed, OutOfMemory}
 use Rattle.mix_top.specs.Causes.{IsRead, IsNotAccepted, IsNoBytes, IsNoDocument, IsNoScript, IsCause}
@@ -34,6 +34,9 @@ load_stop_unread IsNone old new path (Refused r) h =
     cause (TooDeep at) k = absurd k.2
     cause EndsEarly k = absurd k.2
     cause (NoForm n) k = absurd k.2
+    cause (ChunkOutOfRange n) k = absurd k.2
+    cause (NameTwice n) k = absurd k.2
+    cause (TooManySources n) k = absurd k.2
 load_stop_unread IsNone old new path SinkFailed h = h
 load_stop_unread IsNone old new path OutOfMemory h = h
 
@@ -60,6 +63,9 @@ cause_before IsNone old mid new path (Unexpected at) told steady h = not_accepte
 cause_before IsNone old mid new path (TooDeep at) told steady h = not_accepted_before IsNone old mid path (TooDeep at) told h
 cause_before IsNone old mid new path EndsEarly told steady h = not_accepted_before IsNone old mid path EndsEarly told h
 cause_before IsNone old mid new path (NoForm n) told steady h = not_accepted_before IsNone old mid path (NoForm n) told h
+cause_before IsNone old mid new path (ChunkOutOfRange n) told steady h = not_accepted_before IsNone old mid path (ChunkOutOfRange n) told h
+cause_before IsNone old mid new path (NameTwice n) told steady h = not_accepted_before IsNone old mid path (NameTwice n) told h
+cause_before IsNone old mid new path (TooManySources n) told steady h = not_accepted_before IsNone old mid path (TooManySources n) told h
 
 -- a refusal from a later moment on is one from an earlier one on, where no read failed between them
 pub refused_before : (IsNone : List ℕ → FileFault → Type 0) (old mid new : FilesView) (path : List ℕ) (status : ℕ) (line : List ℕ) → KeepsFiles mid old

@@ -6,8 +6,10 @@ use Rattle.mix_io.specs.Views.{FilesView}
 use Rattle.bracket_text.specs.Results.{Refuses}
 use Rattle.bracket_text.specs.declared.fault.BracketFault.TheVariants as bracket
 use Rattle.mix_script.specs.Steps.{steps_of}
+use Rattle.mix_catalog.specs.Sources.{Refuses as RefusesCatalog}
+use Rattle.mix_catalog.specs.declared.fault.CatalogFault.TheVariants as catalog
 use Rattle.mix_top.specs.declared.refusal.FileFault.{FileFault}
-use Rattle.mix_top.specs.declared.refusal.FileFault.TheVariants.{Unread, TooLong, NotUtf8, Unexpected, TooDeep, EndsEarly, NoForm}
+use Rattle.mix_top.specs.declared.refusal.FileFault.TheVariants.{Unread, TooLong, NotUtf8, Unexpected, TooDeep, EndsEarly, NoForm, ChunkOutOfRange, NameTwice, TooManySources}
 
 -- the text was read of a file: all of it, and it is no longer than the limit
 pub record IsRead (files : FilesView) (path text : List ℕ) : Type 0 where
@@ -27,6 +29,9 @@ IsNoDocument text (Unexpected at) = Refuses text (bracket.Unexpected at)
 IsNoDocument text (TooDeep at) = Refuses text (bracket.TooDeep at)
 IsNoDocument text EndsEarly = Refuses text bracket.Ends
 IsNoDocument text (NoForm n) = ⊥
+IsNoDocument text (ChunkOutOfRange n) = ⊥
+IsNoDocument text (NameTwice n) = ⊥
+IsNoDocument text (TooManySources n) = ⊥
 
 -- why a text is no script
 abbrev pub IsNoScript : List ℕ → FileFault → Type 0
@@ -37,6 +42,22 @@ IsNoScript text (Unexpected at) = ⊥
 IsNoScript text (TooDeep at) = ⊥
 IsNoScript text EndsEarly = ⊥
 IsNoScript text (NoForm n) = steps_of text ≡ Err n
+IsNoScript text (ChunkOutOfRange n) = ⊥
+IsNoScript text (NameTwice n) = ⊥
+IsNoScript text (TooManySources n) = ⊥
+
+-- why a text is no catalog
+abbrev pub IsNoCatalog : List ℕ → FileFault → Type 0
+IsNoCatalog text Unread = ⊥
+IsNoCatalog text TooLong = ⊥
+IsNoCatalog text (NotUtf8 at) = ⊥
+IsNoCatalog text (Unexpected at) = ⊥
+IsNoCatalog text (TooDeep at) = ⊥
+IsNoCatalog text EndsEarly = ⊥
+IsNoCatalog text (NoForm n) = RefusesCatalog text (catalog.Line n)
+IsNoCatalog text (ChunkOutOfRange n) = RefusesCatalog text (catalog.Chunk n)
+IsNoCatalog text (NameTwice n) = RefusesCatalog text (catalog.NameTwice n)
+IsNoCatalog text (TooManySources n) = RefusesCatalog text (catalog.TooMany n)
 
 -- no read of the file failed, and it is longer than the limit
 pub record IsTooLong (old new : FilesView) (path : List ℕ) : Type 0 where
@@ -57,6 +78,9 @@ IsCause IsNone old new path (Unexpected at) = IsNotAccepted IsNone old path (Une
 IsCause IsNone old new path (TooDeep at) = IsNotAccepted IsNone old path (TooDeep at)
 IsCause IsNone old new path EndsEarly = IsNotAccepted IsNone old path EndsEarly
 IsCause IsNone old new path (NoForm n) = IsNotAccepted IsNone old path (NoForm n)
+IsCause IsNone old new path (ChunkOutOfRange n) = IsNotAccepted IsNone old path (ChunkOutOfRange n)
+IsCause IsNone old new path (NameTwice n) = IsNotAccepted IsNone old path (NameTwice n)
+IsCause IsNone old new path (TooManySources n) = IsNotAccepted IsNone old path (TooManySources n)
 
 -- the status of a refusal
 abbrev pub status_of : FileFault → ℕ
@@ -67,6 +91,9 @@ status_of (Unexpected at) = 3
 status_of (TooDeep at) = 3
 status_of EndsEarly = 3
 status_of (NoForm n) = 3
+status_of (ChunkOutOfRange n) = 3
+status_of (NameTwice n) = 3
+status_of (TooManySources n) = 3
 
 -- the line of a refusal: the file's path, and why
 abbrev pub refusal_line : List ℕ → FileFault → List ℕ
@@ -77,3 +104,6 @@ refusal_line path (Unexpected at) = path ++ codes ": unexpected at " ++ decimal 
 refusal_line path (TooDeep at) = path ++ codes ": too deep at " ++ decimal at ++ codes "\n"
 refusal_line path EndsEarly = path ++ codes ": ends too early\n"
 refusal_line path (NoForm n) = path ++ codes ": no form fits line " ++ decimal n ++ codes "\n"
+refusal_line path (ChunkOutOfRange n) = path ++ codes ": chunk out of range in line " ++ decimal n ++ codes "\n"
+refusal_line path (NameTwice n) = path ++ codes ": name twice in line " ++ decimal n ++ codes "\n"
+refusal_line path (TooManySources n) = path ++ codes ": too many sources in line " ++ decimal n ++ codes "\n"

@@ -6,6 +6,8 @@ use Rattle.mix_io.specs.Views.{FilesView}
 use Rattle.bracket_text.specs.Grammar.{SpellsShallow}
 use Rattle.mix_script.specs.declared.step.Step.{Step}
 use Rattle.mix_script.specs.Steps.{steps_of}
+use Rattle.mix_catalog.specs.declared.source.SourceSpec.{SourceSpec}
+use Rattle.mix_catalog.specs.Sources.{IsCatalog}
 use Rattle.mix_script.specs.Transcript.{transcript}
 use Rattle.mix_top.specs.declared.refusal.FileFault.{FileFault}
 use Rattle.mix_top.specs.Causes.{IsRead, IsCause, IsNoDocument, IsNoScript, status_of, refusal_line}
@@ -24,6 +26,12 @@ pub record IsScript (files : FilesView) (path : List ℕ) (steps : List Step) : 
   pub text : List ℕ
   pub read : IsRead files path text
   pub accepted : steps_of text ≡ Ok steps
+
+-- a file is a catalog of these sources
+pub record IsCatalogFile (files : FilesView) (path : List ℕ) (sources : List SourceSpec) : Type 0 where
+  pub text : List ℕ
+  pub read : IsRead files path text
+  pub accepted : IsCatalog text sources
 
 -- a file of a kind is refused, with this status and line
 pub record IsRefused (IsNone : List ℕ → FileFault → Type 0) (old new : FilesView) (path : List ℕ) (status : ℕ) (line : List ℕ) : Type 0 where

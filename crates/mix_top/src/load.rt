@@ -1,12 +1,13 @@
 // Files that a command reads whole and accepts, one after another.
 ghost use Rattle.std.specs.Prelude.{◌≡◌, List, ℕ, OnOk, IfOk, IfErr};
 ghost use Rattle.mix_io.specs.Views.{FilesView, KeepsFiles};
-ghost use Rattle.mix_top.specs.Causes.{IsRead, IsNoBytes, IsNoDocument, IsNoScript};
-ghost use Rattle.mix_top.specs.Course.{IsDocument, IsScript};
+ghost use Rattle.mix_top.specs.Causes.{IsRead, IsNoBytes, IsNoCatalog, IsNoDocument, IsNoScript};
+ghost use Rattle.mix_top.specs.Course.{IsCatalogFile, IsDocument, IsScript};
 ghost use Rattle.mix_top.specs.Stops.{IsLoadStop};
 
 use crate::refusal::{FileFault, Stop, refused};
 use bracket_text::{BracketFault, read_tree};
+use mix_catalog::{Catalog, CatalogFault, read_catalog};
 use mix_io::{Files, ReadWhole, read_whole};
 use mix_script::{ScriptFault, Step, read_script};
 use mix_tree::Tree;
@@ -57,5 +58,29 @@ pub fn load_script<F: Files>(alloc: Global, files: &mut F, path: &str) -> Result
         Ok(steps) => Ok(steps),
         Err(ScriptFault::Line(line)) => Err(refused(alloc, path, FileFault::NoForm(line))),
         Err(ScriptFault::OutOfMemory) => Err(Stop::OutOfMemory),
+    }
+}
+
+/// The catalog that a file spells. An error is as with a tree.
+pub fn load_catalog<F: Files>(alloc: Global, files: &mut F, path: &str) -> Result<Catalog, Stop>
+    ensures keeps { KeepsFiles (F.view files.new) (F.view files.old) }
+    ensures steady { OnOk result ((p : List ℕ) → (F.view files.new).faults p ≡ (F.view files.old).faults p) }
+    ensures ok { IfOk result (IsCatalogFile (F.view files.old) path.now) }
+    ensures err { IfErr result (IsLoadStop IsNoCatalog (F.view files.old) (F.view files.new) path.now) }
+{
+    let bytes = load(alloc, files, path)?;
+    match read_catalog(alloc, &bytes) {
+        Ok(catalog) => Ok(catalog),
+        Err(CatalogFault::Line(line)) => Err(refused(alloc, path, FileFault::NoForm(line))),
+        Err(CatalogFault::Chunk(line)) => {
+            Err(refused(alloc, path, FileFault::ChunkOutOfRange(line)))
+        }
+        Err(CatalogFault::NameTwice(line)) => Err(refused(alloc, path, FileFault::NameTwice(line))),
+        Err(CatalogFault::TooMany(line)) => Err(refused(
+            alloc,
+            path,
+            FileFault::TooManySources(line),
+        )),
+        Err(CatalogFault::OutOfMemory) => Err(Stop::OutOfMemory),
     }
 }

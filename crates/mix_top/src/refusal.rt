@@ -22,8 +22,14 @@ pub enum FileFault {
     TooDeep(usize),
     /// Its text ends too early.
     EndsEarly,
-    /// It is no script: the line of this number, counted from 1, fits no form.
+    /// The line of this number, counted from 1, fits no form of a script or a catalog.
     NoForm(usize),
+    /// The chunk in the line of this number is out of range.
+    ChunkOutOfRange(usize),
+    /// The name in the line of this number is that of an earlier line.
+    NameTwice(usize),
+    /// The line of this number has one source too many.
+    TooManySources(usize),
 }
 
 /// A refusal: the status of the run, and the line that says why.
@@ -77,6 +83,13 @@ fn line_of(alloc: Global, path: &str, fault: FileFault) -> Result<String, AllocE
         FileFault::TooDeep(at) => format!(in alloc; "{path}: too deep at {at}\n"),
         FileFault::EndsEarly => format!(in alloc; "{path}: ends too early\n"),
         FileFault::NoForm(line) => format!(in alloc; "{path}: no form fits line {line}\n"),
+        FileFault::ChunkOutOfRange(line) => {
+            format!(in alloc; "{path}: chunk out of range in line {line}\n")
+        }
+        FileFault::NameTwice(line) => format!(in alloc; "{path}: name twice in line {line}\n"),
+        FileFault::TooManySources(line) => {
+            format!(in alloc; "{path}: too many sources in line {line}\n")
+        }
     }
 }
 
@@ -91,7 +104,10 @@ fn status_for(fault: FileFault) -> u8
         | FileFault::Unexpected(_)
         | FileFault::TooDeep(_)
         | FileFault::EndsEarly
-        | FileFault::NoForm(_) => 3,
+        | FileFault::NoForm(_)
+        | FileFault::ChunkOutOfRange(_)
+        | FileFault::NameTwice(_)
+        | FileFault::TooManySources(_) => 3,
     }
 }
 
