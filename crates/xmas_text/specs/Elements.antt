@@ -1,0 +1,17 @@
+-- The items of the code as values.
+use Rattle.std.specs.Prelude.{List, [], ◌∷◌}
+use Rattle.xmas_text.specs.Contents.{Leaf, node, label_of, text, Contents, nothing, element, leaf, tags_of}
+use Rattle.xmas_text.specs.declared.element.ItemText.{ItemText}
+use Rattle.xmas_text.specs.declared.element.ItemText.TheVariants as item
+
+-- an item before others
+abbrev pub item_before : ItemText → Contents → Contents
+item_before (item.Element e) after = element (tags_of e) e.contents after
+item_before (item.Node s) after = leaf (node s) after
+item_before (item.LabelOf s) after = leaf (label_of s) after
+item_before (item.Text l) after = leaf (text l) after
+
+-- the items of a list
+abbrev pub contents_of : List ItemText → Contents
+contents_of [] = nothing
+contents_of (i ∷ is) = item_before i (contents_of is)

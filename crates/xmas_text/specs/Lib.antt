@@ -1,0 +1,11 @@
+pub mod Contents
+pub mod ElementCodes
+pub mod ElementFalls
+pub mod ElementSizes
+pub mod Elements
+pub mod Grammar
+pub mod Groups
+pub mod Levels
+pub mod Lexical
+pub mod Parsed
+pub mod Results

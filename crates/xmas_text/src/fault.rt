@@ -1,0 +1,36 @@
+// Why a rule is not read.
+ghost use Rattle.std.specs.Prelude.{◌≡◌};
+ghost use Rattle.xmas_text.specs.declared.fault.TextFault.TheVariants.{OutOfMemory};
+
+use std::alloc::{AllocError, AllocFailed};
+
+/// Why a rule is not read. Places count bytes from the front of the text.
+#[derive(Clone, Copy, Debug, PartialEq, Eq)]
+pub enum TextFault {
+    /// The text is not UTF-8 from the place on.
+    NotUtf8(usize),
+    /// No rule goes on with the byte at the place.
+    Unexpected(usize),
+    /// The text ends in a rule.
+    EndsEarly,
+    /// An element stands inside 20 others.
+    TooDeep,
+    /// Memory ran out.
+    OutOfMemory,
+}
+
+impl From<AllocError> for TextFault {
+    ghost from_gives = { λ _ e. e ≡ OutOfMemory };
+
+    fn from(_: AllocError) -> Self {
+        TextFault::OutOfMemory
+    }
+}
+
+impl<T: Drop> From<AllocFailed<T>> for TextFault {
+    ghost from_gives = { λ _ e. e ≡ OutOfMemory };
+
+    fn from(_: AllocFailed<T>) -> Self {
+        TextFault::OutOfMemory
+    }
+}

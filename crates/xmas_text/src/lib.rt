@@ -1,0 +1,16 @@
+//! Rules as text: their grammar, and their reader, which keeps the place of each part.
+#![tactic(auto)]
+
+mod cond;
+mod element;
+mod fault;
+mod reading;
+mod rule;
+mod var;
+
+pub use cond::{CondText, OperandText, PathLimit, PathText, TestOp};
+pub use element::{ElementText, ItemText};
+pub use fault::TextFault;
+pub use reading::parse_rule;
+pub use rule::{OrderText, RuleText};
+pub use var::{GroupText, KeyText, ShownText, VarText};
