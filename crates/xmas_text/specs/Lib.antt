@@ -6,6 +6,11 @@ pub mod Elements
 pub mod Grammar
 pub mod Groups
 pub mod Levels
+pub mod Lexer
 pub mod Lexical
+pub mod Machine
 pub mod Parsed
 pub mod Results
+pub mod Spots
+pub mod Stages
+pub mod Tokens

@@ -6,6 +6,8 @@ mod element;
 mod fault;
 mod reading;
 mod rule;
+mod stage;
+mod token;
 mod var;
 
 pub use cond::{CondText, OperandText, PathLimit, PathText, TestOp};

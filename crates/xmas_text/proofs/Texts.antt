@@ -1,0 +1,179 @@
+-- What a spot and a token write.
+use Rattle.std.proofs.Common.{◌≡◌, ◌∙◌, ℕ, Bool, true, false, ◌||◌, IsTrue, List, [], ◌∷◌, ◌++◌, refl, sym, ap, append_assoc}
+use Rattle.mix_base.proofs.Choices.{and_parts, and_both, list_all-push, some_is, none_some, Gives, either, number_is}
+use Rattle.mix_base.proofs.Lists.{append_nil}
+use Rattle.mix_tree.specs.LabelGrammar.{Piece, ArePieces, inside_quotes}
+use Rattle.path_expr.specs.Names.{IsName}
+use Rattle.xmas_text.specs.Grammar.{quoted_text, Key, node, label, Keys, none, first, more, Group, absent, braced, Items, nothing, variable, literal, element, key_text, keys_text, group_text, items_text, IsKey, HasKeys, AreKeys, IsGroup, IsItemGap, AreItems, Operand, a_variable, a_text, op_text, operand_text, IsOperand, Cond, source, walk, compare, Conds, one, also, Order, unordered, ordered, descending, ordered_text, order_text, IsOrder, cond_text, conds_text, IsCond, AreConds, IsNothing, IsTemplate, construct_text, where_text}
+use Rattle.xmas_text.specs.Lexer.{Lex, between, marking, angle, opening, slash, closing, naming, dollar, varying, quoting, escaping, pathing, ready, comparing}
+use Rattle.xmas_text.specs.Lexical.{IsBlanks, IsGap, IsVar}
+use Rattle.xmas_text.specs.Spots.{Frame, Head, Place, at_first, at_more, Before, first_cond, also_cond, Start, by_name, by_var, Spot, beginning, items, labelled, keys, key_comma, key_label, cond_start, cond_from, cond_path, cond_done, compared, ordering, ordering_by, sorted, may_group}
+use Rattle.xmas_text.specs.Tokens.{Token, fixed, open_tag, close_tag, word, var, quoted, path, comparison, kind_of, mark_first, mark_rest, sign_byte, token_text}
+use Rattle.xmas_text.specs.declared.cond.TestOp.{TestOp}
+use Rattle.xmas_text.specs.declared.token.Kind.{Kind}
+use Rattle.xmas_text.specs.declared.token.Mark.{Mark}
+use Rattle.xmas_text.specs.declared.token.Sign.{Sign}
+use Rattle.xmas_text.specs.declared.cond.TestOp.TheVariants as op
+use Rattle.xmas_text.specs.declared.token.Mark.TheVariants as mark
+use Rattle.xmas_text.specs.declared.token.Sign.TheVariants as sign
+use Rattle.xmas_text.specs.declared.token.Kind.TheVariants as kind
+use Rattle.path_expr.specs.Grammar as paths
+use Rattle.path_expr.specs.Machine as pathing
+use Rattle.path_expr.proofs.Sound as path_sound
+
+abbrev pub frame_text : Frame → List ℕ
+frame_text f = items_text f.before ++ (f.gap ++ 60 ∷ (f.name ++ 62 ∷ []))
+
+abbrev pub outer_text : List Frame → List ℕ
+outer_text [] = []
+outer_text (f ∷ o) = outer_text o ++ frame_text f
+
+abbrev pub base : List ℕ → List Frame → Items → List ℕ
+base lead o xs = lead ++ (construct_text ++ (outer_text o ++ items_text xs))
+
+abbrev pub head_text : Head → List ℕ
+head_text r = r.lead ++ (construct_text ++ (items_text r.template ++ (r.gap ++ where_text)))
+
+abbrev pub label_text : List ℕ
+label_text = 108 ∷ 97 ∷ 98 ∷ 101 ∷ 108 ∷ []
+
+abbrev pub place_text : Place → List ℕ
+place_text at_first = []
+place_text (at_more h) = h ++ 44 ∷ []
+
+abbrev pub before_text : Before → List ℕ
+before_text first_cond = []
+before_text (also_cond cs g) = conds_text cs ++ (g ++ 65 ∷ 78 ∷ 68 ∷ [])
+
+abbrev pub start_text : Start → List ℕ
+start_text (by_name n) = n
+start_text (by_var v) = 36 ∷ v
+
+abbrev pub spot_text : Spot → List ℕ
+spot_text beginning = []
+spot_text (items lead o xs) = base lead o xs
+spot_text (labelled lead o xs g) = base lead o xs ++ (g ++ label_text)
+spot_text (keys lead o xs g ks) = base lead o xs ++ (g ++ 123 ∷ keys_text ks)
+spot_text (key_comma lead o xs g ks h) = base lead o xs ++ (g ++ 123 ∷ (keys_text ks ++ (h ++ 44 ∷ [])))
+spot_text (key_label lead o xs g ks p h) = base lead o xs ++ (g ++ 123 ∷ (keys_text ks ++ (place_text p ++ (h ++ label_text))))
+spot_text (cond_start r b) = head_text r ++ before_text b
+spot_text (cond_from r b g s) = head_text r ++ (before_text b ++ (g ++ start_text s))
+spot_text (cond_path r b g s h p) = head_text r ++ (before_text b ++ (g ++ (start_text s ++ (h ++ paths.text_of p))))
+spot_text (cond_done r cs) = head_text r ++ conds_text cs
+spot_text (compared r b g v h o) = head_text r ++ (before_text b ++ (g ++ 36 ∷ (v ++ (h ++ op_text o))))
+spot_text (ordering r cs g) = head_text r ++ (conds_text cs ++ (g ++ 79 ∷ 82 ∷ 68 ∷ 69 ∷ 82 ∷ []))
+spot_text (ordering_by r cs g h) = head_text r ++ (conds_text cs ++ (g ++ 79 ∷ 82 ∷ 68 ∷ 69 ∷ 82 ∷ (h ++ 66 ∷ 89 ∷ [])))
+spot_text (sorted r cs o) = head_text r ++ (conds_text cs ++ order_text o)
+
+abbrev pub IsToken : Token → Type 0
+IsToken (fixed m) = Unit {0}
+IsToken (open_tag l) = IsName l
+IsToken (close_tag l) = IsName l
+IsToken (word l) = IsName l
+IsToken (var v) = IsVar v
+IsToken (quoted ps) = ArePieces ps
+IsToken (path p) = paths.Is p paths.a_path
+IsToken (comparison o) = Unit {0}
+
+-- the element at hand, in those around it; the outermost one is the template
+abbrev pub IsTop : Items → Type 0
+IsTop nothing = Unit {0}
+IsTop (variable before g k e) = ⊥
+IsTop (literal before g ps) = ⊥
+IsTop (element before g n i h c e) = IsTemplate (element before g n i h c e)
+
+abbrev pub Begins : List Frame → Items → List ℕ → Type 0
+Begins [] before g = IsNothing before × IsGap g
+Begins (f ∷ o) before g = IsItemGap before g
+
+abbrev pub Level : List Frame → Items → Type 0
+Level [] xs = IsTop xs
+Level (f ∷ o) xs = AreItems xs × IsName f.name × Begins o f.before f.gap × Level o f.before
+
+abbrev pub Inside : List Frame → Type 0
+Inside [] = ⊥
+Inside (f ∷ o) = Unit {0}
+
+abbrev pub IsHead : Head → Type 0
+IsHead r = IsBlanks r.lead × IsTemplate r.template × IsGap r.gap
+
+abbrev pub IsPlace : Keys → Place → Type 0
+IsPlace none at_first = Unit {0}
+IsPlace (first g k) at_first = ⊥
+IsPlace (more ks g h k) at_first = ⊥
+IsPlace none (at_more h) = ⊥
+IsPlace (first g k) (at_more h) = IsBlanks h
+IsPlace (more ks g e k) (at_more h) = IsBlanks h
+
+abbrev pub IsBefore : Before → Type 0
+IsBefore first_cond = Unit {0}
+IsBefore (also_cond cs g) = AreConds cs × IsGap g
+
+abbrev pub IsStart : Start → Type 0
+IsStart (by_name n) = IsName n
+IsStart (by_var v) = IsVar v
+
+abbrev pub IsSpot : Spot → Type 0
+IsSpot beginning = Unit {0}
+IsSpot (items lead o xs) = IsBlanks lead × Level o xs
+IsSpot (labelled lead o xs g) = IsBlanks lead × Level o xs × Inside o × IsItemGap xs g
+IsSpot (keys lead o xs g ks) = IsBlanks lead × Level o xs × IsTrue (may_group xs) × IsBlanks g × AreKeys ks
+IsSpot (key_comma lead o xs g ks h) = IsBlanks lead × Level o xs × IsTrue (may_group xs) × IsBlanks g × AreKeys ks × HasKeys ks × IsBlanks h
+IsSpot (key_label lead o xs g ks p h) = IsBlanks lead × Level o xs × IsTrue (may_group xs) × IsBlanks g × AreKeys ks × IsPlace ks p × IsBlanks h
+IsSpot (cond_start r b) = IsHead r × IsBefore b
+IsSpot (cond_from r b g s) = IsHead r × IsBefore b × IsGap g × IsStart s
+IsSpot (cond_path r b g s h p) = IsHead r × IsBefore b × IsGap g × IsStart s × IsGap h × paths.Is p paths.a_path
+IsSpot (cond_done r cs) = IsHead r × AreConds cs
+IsSpot (compared r b g v h o) = IsHead r × IsBefore b × IsGap g × IsVar v × IsBlanks h
+IsSpot (ordering r cs g) = IsHead r × AreConds cs × IsGap g
+IsSpot (ordering_by r cs g h) = IsHead r × AreConds cs × IsGap g × IsGap h
+IsSpot (sorted r cs o) = IsHead r × AreConds cs × IsOrder o
+
+abbrev pub lex_text : Lex → List ℕ
+lex_text between = []
+lex_text (marking m done rest) = done
+lex_text (angle o c) = 60 ∷ []
+lex_text (opening l) = 60 ∷ l
+lex_text slash = 60 ∷ 47 ∷ []
+lex_text (closing l) = 60 ∷ 47 ∷ l
+lex_text (naming l) = l
+lex_text dollar = 36 ∷ []
+lex_text (varying l) = 36 ∷ l
+lex_text (quoting ps) = 34 ∷ inside_quotes ps
+lex_text (escaping ps) = 34 ∷ (inside_quotes ps ++ 92 ∷ [])
+lex_text (pathing s) = path_sound.outer_text s.outer ++ (path_sound.frame_text s.here ++ path_sound.mode_text s.mode)
+lex_text (ready t) = token_text t
+lex_text (comparing k) = sign_byte k ∷ []
+
+abbrev pub IsLex : Lex → Type 0
+IsLex between = Unit {0}
+IsLex (marking m done rest) = done ++ rest ≡ mark_first m ∷ mark_rest m
+IsLex (angle o c) = Unit {0}
+IsLex (opening l) = IsName l
+IsLex slash = Unit {0}
+IsLex (closing l) = IsName l
+IsLex (naming l) = IsName l
+IsLex dollar = Unit {0}
+IsLex (varying l) = IsVar l
+IsLex (quoting ps) = ArePieces ps
+IsLex (escaping ps) = ArePieces ps
+IsLex (pathing s) = path_sound.StandsAt (lex_text (pathing s)) s
+IsLex (ready t) = IsToken t
+IsLex (comparing k) = Unit {0}
+
+-- the tokens that it may become may come
+abbrev pub Offered : (Kind → Bool) → Lex → Type 0
+Offered may between = Unit {0}
+Offered may (marking m done rest) = IsTrue (may (kind.Fixed m))
+Offered may (angle o c) = (IsTrue o → IsTrue (may kind.OpenTag)) × (IsTrue c → IsTrue (may kind.CloseTag)) × IsTrue (o || c)
+Offered may (opening l) = IsTrue (may kind.OpenTag)
+Offered may slash = IsTrue (may kind.CloseTag)
+Offered may (closing l) = IsTrue (may kind.CloseTag)
+Offered may (naming l) = IsTrue (may kind.Name)
+Offered may dollar = IsTrue (may kind.Var)
+Offered may (varying l) = IsTrue (may kind.Var)
+Offered may (quoting ps) = IsTrue (may kind.Quoted)
+Offered may (escaping ps) = IsTrue (may kind.Quoted)
+Offered may (pathing s) = IsTrue (may kind.Path)
+Offered may (ready t) = IsTrue (may (kind_of t))
+Offered may (comparing k) = IsTrue (may kind.Operator)

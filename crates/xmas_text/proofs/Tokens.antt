@@ -1,0 +1,161 @@
+-- Behind a spot, the machine reads each token that may come, and stands behind the next spot.
+use Rattle.std.proofs.Common.{◌≡◌, ◌∙◌, ◌==◌, ◌<◌, ℕ, Bool, true, false, cond, ◌&&◌, ◌||◌, IsTrue, List, [], ◌∷◌, ◌++◌, Option, Some, None, option_and_then, refl, sym, ap, subst, append_assoc, arith, length}
+use Rattle.std.proofs.lemmas.Bool.Decides.{nat_tests}
+use Rattle.std.specs.List.{list_all}
+use Rattle.mix_base.proofs.Choices.{and_parts, and_both, list_all-push, some_is, none_some, Gives, either, number_is}
+use Rattle.mix_base.proofs.Lists.{append_nil}
+use Rattle.mix_tree.specs.LabelGrammar.{Piece, ArePieces, inside_quotes}
+use Rattle.path_expr.specs.Names.{is_name_byte, IsName}
+use Rattle.xmas_text.specs.Grammar.{Items, Keys, Conds, Rule}
+use Rattle.xmas_text.specs.Lexer.{Lex, between, marking, angle, opening, slash, closing, naming, dollar, varying, quoting, escaping, pathing, ready, comparing, map_path, lex_step, token_in, begin}
+use Rattle.xmas_text.specs.Lexical.{is_blank, is_letter, is_word_byte, IsBlanks, IsGap, IsVar}
+use Rattle.xmas_text.specs.Machine.{State, at, with_lex, next, behind, or_behind, step_in, step, run, rule_at, rule_behind, whole_in, whole}
+use Rattle.xmas_text.specs.Spots.{Frame, Head, Place, Before, Start, Spot, beginning, items, labelled, keys, key_comma, key_label, cond_start, cond_from, cond_path, cond_done, compared, ordering, ordering_by, sorted, has_blank, item_gap, may_group, is_nothing, is_none, takes, shift}
+use Rattle.xmas_text.specs.Stages.{not}
+use Rattle.xmas_text.specs.Tokens.{Token, fixed, open_tag, close_tag, word, var, quoted, path, comparison, kind_of, mark_first, mark_rest, token_text}
+use Rattle.xmas_text.specs.declared.token.Kind.{Kind}
+use Rattle.xmas_text.specs.declared.token.Mark.{Mark}
+use Rattle.xmas_text.specs.declared.cond.TestOp.TheVariants as op
+use Rattle.xmas_text.specs.declared.token.Mark.TheVariants as mark
+use Rattle.xmas_text.specs.declared.token.Sign.TheVariants as sign
+use Rattle.xmas_text.specs.declared.token.Kind.TheVariants as kind
+use Rattle.path_expr.specs.Grammar as paths
+use Rattle.path_expr.specs.Machine as pathing_
+use Rattle.path_expr.proofs.Complete as path_complete
+use Rattle.xmas_text.proofs.Texts.{IsToken}
+use Rattle.xmas_text.proofs.Lexes.{run_append, run_then, run_byte, open_read, close_read, name_read, var_read, quote_read, mark_read, path_run}
+
+-- a byte that ends a name, a variable and a path
+abbrev pub is_apart : ℕ → Bool
+is_apart b = is_blank b || b == 123 || b == 125 || b == 36 || b == 34 || b == 44 || b == 60 || b == 61 || b == 33 || b == 62
+
+-- a spot behind which a token may come at once, since the last one has ended
+abbrev pub is_fixed : Spot → Bool
+is_fixed beginning = true
+is_fixed (items lead o xs) = is_nothing xs
+is_fixed (labelled lead o xs g) = false
+is_fixed (keys lead o xs g ks) = is_none ks
+is_fixed (key_comma lead o xs g ks h) = true
+is_fixed (key_label lead o xs g ks p h) = false
+is_fixed (cond_start r b) = false
+is_fixed (cond_from r b g s) = false
+is_fixed (cond_path r b g s h p) = false
+is_fixed (cond_done r cs) = false
+is_fixed (compared r b g v h o) = false
+is_fixed (ordering r cs g) = false
+is_fixed (ordering_by r cs g h) = false
+is_fixed (sorted r cs o) = false
+
+-- behind < and > a = would go on
+abbrev pub no_equal : Spot → ℕ → Bool
+no_equal (compared r e g v h o) b = not (b == 61)
+no_equal s b = true
+
+abbrev pub follows : Spot → ℕ → Bool
+follows s b = is_fixed s || (is_apart b && no_equal s b)
+
+-- the state goes on as one between tokens, at this spot
+pub record IsAt (s : Spot) (t : State) : Type 0 where
+  pub steps : (b : ℕ) → IsTrue (follows s b) → step t b ≡ next s [] b
+  pub ends : whole t ≡ rule_at s []
+
+pub at_start : (s : Spot) → IsAt s (at s [] between)
+at_start s = record { steps = λ b h. refl; ends = refl }
+
+-- how a token is read
+pub record Reading (s : Spot) (h : List ℕ) (t : Token) : Type 0 where
+  pub first : ℕ
+  pub rest : List ℕ
+  pub text : token_text t ≡ first ∷ rest
+  pub solid : is_blank first ≡ false
+  pub may : h ≡ [] → IsTrue (follows s first)
+  pub lex : Lex
+  pub begins : begin (takes s h) first ≡ Some lex
+  pub last : Lex
+  pub reads : run (at s h lex) rest ≡ Some (at s h last)
+  pub ends : token_in last ≡ Some t
+  pub quiet : (b : ℕ) → IsTrue (follows (shift s h t) b) → lex_step last b ≡ None
+
+pub last_step : (s : Spot) (h : List ℕ) (l : Lex) (t : Token) (b : ℕ) → token_in l ≡ Some t → lex_step l b ≡ None → step_in s h l b ≡ next (shift s h t) [] b
+last_step s h between t b e n = none_some t e
+last_step s h (marking m done rest) t b e n = ap (or_behind s h (marking m done rest) b) n ∙ ap (λ o. behind s h o b) e
+last_step s h (angle p q) t b e n = none_some t e
+last_step s h (opening l) t b e n = none_some t e
+last_step s h slash t b e n = none_some t e
+last_step s h (closing l) t b e n = none_some t e
+last_step s h (naming l) t b e n = ap (or_behind s h (naming l) b) n ∙ ap (λ o. behind s h o b) e
+last_step s h dollar t b e n = none_some t e
+last_step s h (varying l) t b e n = ap (or_behind s h (varying l) b) n ∙ ap (λ o. behind s h o b) e
+last_step s h (quoting ps) t b e n = none_some t e
+last_step s h (escaping ps) t b e n = none_some t e
+last_step s h (pathing p) t b e n = ap (or_behind s h (pathing p) b) n ∙ ap (λ o. behind s h o b) e
+last_step s h (comparing k) t b e n = ap (or_behind s h (comparing k) b) n ∙ ap (λ o. behind s h o b) e
+last_step s h (ready u) t b e n = ap (λ o. behind s h o b) e
+
+pub last_whole : (s : Spot) (h : List ℕ) (l : Lex) (t : Token) → token_in l ≡ Some t → whole_in s h l ≡ rule_at (shift s h t) []
+last_whole s h between t e = none_some t e
+last_whole s h (marking m done rest) t e = ap (rule_behind s h) e
+last_whole s h (angle p q) t e = none_some t e
+last_whole s h (opening l) t e = none_some t e
+last_whole s h slash t e = none_some t e
+last_whole s h (closing l) t e = none_some t e
+last_whole s h (naming l) t e = ap (rule_behind s h) e
+last_whole s h dollar t e = none_some t e
+last_whole s h (varying l) t e = ap (rule_behind s h) e
+last_whole s h (quoting ps) t e = none_some t e
+last_whole s h (escaping ps) t e = none_some t e
+last_whole s h (pathing p) t e = ap (rule_behind s h) e
+last_whole s h (comparing k) t e = ap (rule_behind s h) e
+last_whole s h (ready u) t e = ap (rule_behind s h) e
+
+-- blanks between tokens
+pub gap_step : (s : Spot) (g : List ℕ) (b : ℕ) → IsTrue (is_blank b) → next s g b ≡ Some (at s (g ++ b ∷ []) between)
+gap_step s g b h = rw h refl
+
+pub gap_run : (s : Spot) (g x : List ℕ) → IsBlanks x → run (at s g between) x ≡ Some (at s (g ++ x) between)
+gap_run s g [] h = ap (λ r. Some (at s r between)) (sym (append_nil g))
+gap_run s g (b ∷ x) h =
+    let parts = and_parts (is_blank b) (list_all is_blank x) h in
+    run_byte b x (at s g between) (at s (g ++ b ∷ []) between) (gap_step s g b parts.0) ∙ gap_run s (g ++ b ∷ []) x parts.1
+    ∙ ap (λ r. Some (at s r between)) (append_assoc g (b ∷ []) x)
+
+pub token_step : (s : Spot) (g : List ℕ) (b : ℕ) (l : Lex) → is_blank b ≡ false → begin (takes s g) b ≡ Some l → next s g b ≡ Some (at s g l)
+token_step s g b l n e = rw n (ap (with_lex s g) e)
+
+blank_no_equal : (s : Spot) (b : ℕ) → IsTrue (is_blank b) → IsTrue (no_equal s b)
+blank_no_equal (compared r e g v i o) b h = let n : (b == 61) ≡ false = grind (arith, nat_tests) in rw n refl
+blank_no_equal s b h = refl
+
+pub blank_follows : (s : Spot) (b : ℕ) → IsTrue (is_blank b) → IsTrue (follows s b)
+blank_follows s b h = let n : is_apart b ≡ true = rw h refl in or_both (is_fixed s) (is_apart b) (no_equal s b) n (blank_no_equal s b h)
+  where
+    or_both : (a c d : Bool) → IsTrue c → IsTrue d → IsTrue (a || (c && d))
+    or_both true c d h k = refl
+    or_both false true d h k = k
+    or_both false false d h k = cc
+
+-- a gap and the first byte of a token
+first_read : (s : Spot) (st : State) (h : List ℕ) (b : ℕ) (y : List ℕ) (l : Lex) → IsAt s st → IsBlanks h → (h ≡ [] → IsTrue (follows s b)) → is_blank b ≡ false → begin (takes s h) b ≡ Some l
+    → run st (h ++ b ∷ y) ≡ run (at s h l) y
+first_read s st [] b y l a g f n e = run_byte b y st (at s [] l) (a.steps b (f refl) ∙ token_step s [] b l n e)
+first_read s st (c ∷ h) b y l a g f n e =
+    let parts = and_parts (is_blank c) (list_all is_blank h) g in
+    run_byte c (h ++ b ∷ y) st (at s (c ∷ []) between) (a.steps c (blank_follows s c parts.0) ∙ gap_step s [] c parts.0)
+    ∙ run_then h (b ∷ y) (at s (c ∷ []) between) (at s (c ∷ h) between) (gap_run s (c ∷ []) h parts.1)
+    ∙ run_byte b y (at s (c ∷ h) between) (at s (c ∷ h) l) (token_step s (c ∷ h) b l n e)
+
+-- the state behind a token
+pub record Behind (s : Spot) (x : List ℕ) (t : State) : Type 0 where
+  pub state : State
+  pub runs : run t x ≡ Some state
+  pub is : IsAt s state
+
+pub reading : (s : Spot) (st : State) (h : List ℕ) (t : Token) → IsAt s st → IsBlanks h → Reading s h t → Behind (shift s h t) (h ++ token_text t) st
+reading s st h t a g r = record {
+  state = at s h r.last;
+  runs = ap (λ y. run st (h ++ y)) r.text ∙ first_read s st h r.first r.rest r.lex a g r.may r.solid r.begins ∙ r.reads;
+  is = record {
+    steps = λ b f. last_step s h r.last t b r.ends (r.quiet b f);
+    ends = last_whole s h r.last t r.ends;
+  };
+}

@@ -1,0 +1,94 @@
+-- Tokens as they are written.
+use Rattle.std.specs.Prelude.{ℕ, List, [], ◌∷◌, ◌++◌, Option, Some, None}
+use Rattle.mix_tree.specs.LabelGrammar.{Piece}
+use Rattle.path_expr.specs.Grammar.{Spelled, text_of}
+use Rattle.xmas_text.specs.declared.cond.TestOp.{TestOp}
+use Rattle.xmas_text.specs.declared.cond.TestOp.TheVariants as op
+use Rattle.xmas_text.specs.declared.token.Mark.{Mark}
+use Rattle.xmas_text.specs.declared.token.Mark.TheVariants as mark
+use Rattle.xmas_text.specs.declared.token.Sign.{Sign}
+use Rattle.xmas_text.specs.declared.token.Sign.TheVariants as sign
+use Rattle.xmas_text.specs.declared.token.Kind.{Kind}
+use Rattle.xmas_text.specs.declared.token.Kind.TheVariants as kind
+use Rattle.xmas_text.specs.Grammar.{quoted_text, op_text}
+
+-- a token
+pub data Token : Type 0 where
+  fixed : Mark → Token
+  open_tag : List ℕ → Token
+  close_tag : List ℕ → Token
+  word : List ℕ → Token
+  var : List ℕ → Token
+  quoted : List Piece → Token
+  path : Spelled → Token
+  comparison : TestOp → Token
+
+-- its kind
+abbrev pub kind_of : Token → Kind
+kind_of (fixed m) = kind.Fixed m
+kind_of (open_tag l) = kind.OpenTag
+kind_of (close_tag l) = kind.CloseTag
+kind_of (word l) = kind.Name
+kind_of (var v) = kind.Var
+kind_of (quoted ps) = kind.Quoted
+kind_of (path p) = kind.Path
+kind_of (comparison o) = kind.Operator
+
+-- the first byte of a token that is always the same
+abbrev pub mark_first : Mark → ℕ
+mark_first mark.Construct = 67
+mark_first mark.Where = 87
+mark_first mark.And = 65
+mark_first mark.LabelWord = 108
+mark_first mark.OpenBrace = 123
+mark_first mark.CloseBrace = 125
+mark_first mark.Comma = 44
+mark_first mark.Order = 79
+mark_first mark.By = 66
+mark_first mark.Desc = 68
+
+-- the bytes behind it
+abbrev pub mark_rest : Mark → List ℕ
+mark_rest mark.Construct = 79 ∷ 78 ∷ 83 ∷ 84 ∷ 82 ∷ 85 ∷ 67 ∷ 84 ∷ []
+mark_rest mark.Where = 72 ∷ 69 ∷ 82 ∷ 69 ∷ []
+mark_rest mark.And = 78 ∷ 68 ∷ []
+mark_rest mark.LabelWord = 97 ∷ 98 ∷ 101 ∷ 108 ∷ []
+mark_rest mark.OpenBrace = []
+mark_rest mark.CloseBrace = []
+mark_rest mark.Comma = []
+mark_rest mark.Order = 82 ∷ 68 ∷ 69 ∷ 82 ∷ []
+mark_rest mark.By = 89 ∷ []
+mark_rest mark.Desc = 69 ∷ 83 ∷ 67 ∷ []
+
+-- the whole of it
+abbrev pub mark_text : Mark → List ℕ
+mark_text m = mark_first m ∷ mark_rest m
+
+-- the byte of a sign
+abbrev pub sign_byte : Sign → ℕ
+sign_byte sign.Bang = 33
+sign_byte sign.Less = 60
+sign_byte sign.Greater = 62
+
+-- the operator of a sign with = behind it
+abbrev pub with_equal : Sign → TestOp
+with_equal sign.Bang = op.Ne
+with_equal sign.Less = op.Le
+with_equal sign.Greater = op.Ge
+
+-- the operator of a sign alone, where it is one
+abbrev pub by_sign : Sign → Option Token
+by_sign sign.Bang = None
+by_sign sign.Less = Some (comparison op.Lt)
+by_sign sign.Greater = Some (comparison op.Gt)
+
+-- the text of a token
+abbrev pub token_text : Token → List ℕ
+token_text (fixed m) = mark_text m
+token_text (open_tag l) = 60 ∷ (l ++ 62 ∷ [])
+token_text (close_tag l) = 60 ∷ 47 ∷ (l ++ 62 ∷ [])
+token_text (word l) = l
+token_text (var v) = 36 ∷ v
+token_text (quoted ps) = quoted_text ps
+token_text (path p) = text_of p
+token_text (comparison o) = op_text o
