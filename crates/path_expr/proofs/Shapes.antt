@@ -171,7 +171,7 @@ scan_unexpected x i s u h e n = record {
 }
 
 -- a state ends where its scan may
-whole_shape : (f : Frame) (o : List Frame) (m : Mode) → is_whole (shape_of (at f o m)) ≡ is_some (whole (at f o m))
+pub whole_shape : (f : Frame) (o : List Frame) (m : Mode) → is_whole (shape_of (at f o m)) ≡ is_some (whole (at f o m))
 whole_shape f [] start = refl
 whole_shape f [] (naming l) = refl
 whole_shape f [] (quoting ps) = refl

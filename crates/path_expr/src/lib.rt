@@ -15,6 +15,7 @@ pub use fault::PathFault;
 pub use law::no_text_spells_two_paths;
 pub use path::{Node, Path};
 pub use reading::read_path;
+pub use scan::{Scan, is_escaped, is_name, may_end_scan, scan_byte};
 pub use writing::{push_path, write_path};
 
 #[cfg(test)]

@@ -3,7 +3,8 @@ ghost use Rattle.std.specs.Prelude.{◌≡◌, ◌<◌, ◌≤◌, ◌+◌, ◌^
 ghost use Rattle.mix_tree.specs.LabelGrammar.{is_escape};
 ghost use Rattle.mix_tree.specs.Names.{is_name_byte};
 ghost use Rattle.path_expr.specs.Grammar.{is_mark};
-ghost use Rattle.path_expr.specs.Scanned.{shape_step, shape_behind, is_whole};
+ghost use Rattle.path_expr.specs.Machine.{first};
+ghost use Rattle.path_expr.specs.Scanned.{shape_of, shape_step, shape_behind, is_whole};
 ghost use Rattle.path_expr.specs.Results.{Scans};
 
 use crate::PathFault;
@@ -19,11 +20,23 @@ enum Stage {
     BehindRepeat,
 }
 
-// What a scan keeps: how many parentheses are open, and what stands before the next byte.
+/// What a scan of a path keeps: how many parentheses are open, and what stands before the next byte.
 #[derive(Clone, Copy)]
-struct Scan {
+pub struct Scan {
     depth: usize,
     stage: Stage,
+}
+
+impl Scan {
+    /// The scan before a path.
+    pub fn new() -> Scan
+        ensures { result ≡ shape_of first }
+    {
+        Scan {
+            depth: 0,
+            stage: Stage::Start,
+        }
+    }
 }
 
 /// Whether a name may have the byte.
@@ -47,8 +60,8 @@ pub fn is_mark_byte(byte: u8) -> bool
     matches!(byte, b'*' | b'+' | b'?')
 }
 
-// The scan behind one more byte, where a text goes on so.
-fn scan_byte(scan: Scan, byte: u8) -> Option<Scan>
+/// The scan behind one more byte; `None` where no path's text goes on so.
+pub fn scan_byte(scan: Scan, byte: u8) -> Option<Scan>
     requires { scan.depth + 1 < 2 ^ 64 }
     ensures step { result ≡ shape_step scan byte }
     ensures depth { IfSome result (λ next. next.depth ≤ scan.depth + 1) }
@@ -93,8 +106,8 @@ fn scan_behind(depth: usize, byte: u8) -> Option<Scan>
     }
 }
 
-// Whether a text may end there.
-fn may_end_scan(scan: Scan) -> bool
+/// Whether a path's text may end there.
+pub fn may_end_scan(scan: Scan) -> bool
     ensures { result ≡ is_whole scan }
 {
     matches!(
@@ -108,10 +121,7 @@ pub fn scan_path(text: &[u8]) -> Result<(), PathFault>
     requires { IsUtf8 text.now }
     ensures { Scans text.now result }
 {
-    let mut scan = Scan {
-        depth: 0,
-        stage: Stage::Start,
-    };
+    let mut scan = Scan::new();
     for at in 0..text.len() {
         let Some(next) = scan_byte(scan, text[at]) else {
             return Err(PathFault::Unexpected(at));

@@ -94,7 +94,7 @@ begin_mark_goes may m b other h =
 
 pub begin_goes : (may : Kind → Bool) (b : ℕ) → Gives (Goes may (b ∷ [])) (begin may b)
 begin_goes may b =
-    begin_mark_goes may mark.Construct b _ (begin_mark_goes may mark.Where b _ (begin_mark_goes may mark.And b _ (begin_mark_goes may mark.LabelWord b _ (begin_mark_goes may mark.OpenBrace b _ (begin_mark_goes may mark.CloseBrace b _ (begin_mark_goes may mark.Comma b _ (begin_mark_goes may mark.Order b _ (begin_mark_goes may mark.By b _ (begin_mark_goes may mark.Desc b _
+    begin_mark_goes may mark.Construct b _ (begin_mark_goes may mark.Where b _ (begin_mark_goes may mark.And b _ (begin_mark_goes may mark.Order b _ (begin_mark_goes may mark.By b _ (begin_mark_goes may mark.Desc b _ (begin_mark_goes may mark.LabelWord b _ (begin_mark_goes may mark.OpenBrace b _ (begin_mark_goes may mark.CloseBrace b _ (begin_mark_goes may mark.Comma b _
     (either _ (b == 60 && (may kind.OpenTag || may kind.CloseTag)) _ _
       (λ e. let parts = and_parts (b == 60) (may kind.OpenTag || may kind.CloseTag) e in goes may (b ∷ []) (angle (may kind.OpenTag) (may kind.CloseTag)) tt (λ h. h, λ h. h, parts.1) (ap (λ d. d ∷ []) (number_is b 60 parts.0)))
     (λ n. either _ (b == 36 && may kind.Var) _ _

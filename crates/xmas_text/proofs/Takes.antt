@@ -238,7 +238,7 @@ var_not_name b h = grind (arith, nat_tests)
 
 start_word : (r : Head) (c : Before) (h : List ℕ) (b : ℕ) → IsTrue (has_blank h) → IsTrue (is_name_byte b) → begin (takes (cond_start r c) h) b ≡ Some (naming (b ∷ []))
 start_word r c h b k n =
-    skip (b == 67) _ _ ∙ skip (b == 87) _ _ ∙ skip (b == 65) _ _ ∙ skip (b == 108) _ _ ∙ skip (b == 123) _ _ ∙ skip (b == 125) _ _ ∙ skip (b == 44) _ _ ∙ skip (b == 79) _ _ ∙ skip (b == 66) _ _ ∙ skip (b == 68) _ _ ∙ skip (b == 60) _ _
+    skip (b == 67) _ _ ∙ skip (b == 87) _ _ ∙ skip (b == 65) _ _ ∙ skip (b == 79) _ _ ∙ skip (b == 66) _ _ ∙ skip (b == 68) _ _ ∙ skip (b == 108) _ _ ∙ skip (b == 123) _ _ ∙ skip (b == 125) _ _ ∙ skip (b == 44) _ _ ∙ skip (b == 60) _ _
     ∙ rw (var_not_name b n) (skip (b == 34) _ _ ∙ skip (b == 61) _ _ ∙ skip (b == 33) _ _ ∙ skip (b == 60) _ _ ∙ skip (b == 62) _ _ ∙ rw (n, k) refl)
 
 no_path : (b c : ℕ) (q : Bool) (u : pathing_.State) → (b == c) ≡ q → pathing_.step pathing_.first c ≡ None → pathing_.step pathing_.first b ≡ Some u → (b == c) ≡ false
@@ -251,7 +251,7 @@ from_path r c e a h b u k m =
     let o : (b == 33) ≡ false = no_path b 33 (b == 33) u refl refl m in
     let p : (b == 60) ≡ false = no_path b 60 (b == 60) u refl refl m in
     let q : (b == 62) ≡ false = no_path b 62 (b == 62) u refl refl m in
-    skip (b == 67) _ _ ∙ skip (b == 87) _ _ ∙ skip (b == 65) _ _ ∙ skip (b == 108) _ _ ∙ skip (b == 123) _ _ ∙ skip (b == 125) _ _ ∙ skip (b == 44) _ _ ∙ skip (b == 79) _ _ ∙ skip (b == 66) _ _ ∙ skip (b == 68) _ _ ∙ skip (b == 60) _ _
+    skip (b == 67) _ _ ∙ skip (b == 87) _ _ ∙ skip (b == 65) _ _ ∙ skip (b == 79) _ _ ∙ skip (b == 66) _ _ ∙ skip (b == 68) _ _ ∙ skip (b == 108) _ _ ∙ skip (b == 123) _ _ ∙ skip (b == 125) _ _ ∙ skip (b == 44) _ _ ∙ skip (b == 60) _ _
     ∙ skip (b == 36) _ _ ∙ skip (b == 34) _ _ ∙ rw (n, o, p, q) (skip (is_name_byte b) _ _ ∙ rw k (ap map_path m))
 
 no_equal_quiet : (k : Sign) (b : ℕ) → IsTrue (is_apart b && not (b == 61)) → lex_step (comparing k) b ≡ None

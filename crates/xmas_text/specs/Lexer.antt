@@ -104,12 +104,12 @@ begin may b =
     begin_mark mark.Construct may b
     (begin_mark mark.Where may b
      (begin_mark mark.And may b
-      (begin_mark mark.LabelWord may b
-       (begin_mark mark.OpenBrace may b
-        (begin_mark mark.CloseBrace may b
-         (begin_mark mark.Comma may b
-          (begin_mark mark.Order may b
-           (begin_mark mark.By may b
-            (begin_mark mark.Desc may b
+      (begin_mark mark.Order may b
+       (begin_mark mark.By may b
+        (begin_mark mark.Desc may b
+         (begin_mark mark.LabelWord may b
+          (begin_mark mark.OpenBrace may b
+           (begin_mark mark.CloseBrace may b
+            (begin_mark mark.Comma may b
              (cond (b == 60 && (may kind.OpenTag || may kind.CloseTag)) (Some (angle (may kind.OpenTag) (may kind.CloseTag)))
               (cond (b == 36 && may kind.Var) (Some dollar) (cond (b == 34 && may kind.Quoted) (Some (quoting [])) (begin_word may b)))))))))))))

@@ -10,7 +10,9 @@ pub mod Lexer
 pub mod Lexical
 pub mod Machine
 pub mod Parsed
+pub mod Parts
 pub mod Results
+pub mod Scans
 pub mod Spots
 pub mod Stages
 pub mod Tokens

@@ -4,8 +4,10 @@
 mod cond;
 mod element;
 mod fault;
+mod lexer;
 mod reading;
 mod rule;
+mod scan;
 mod stage;
 mod token;
 mod var;
