@@ -91,19 +91,19 @@ shape_none None e = refl
 shape_none (Some t) e = none_some _ (sym e)
 
 -- what a byte that is not ASCII is not
-record IsHigh (b : ℕ) : Type 0 where
-  name : is_name_byte b ≡ false
-  quote : (b == 34) ≡ false
-  slash : (b == 92) ≡ false
-  group : (b == 40) ≡ false
-  close : (b == 41) ≡ false
-  dot : (b == 46) ≡ false
-  bar : (b == 124) ≡ false
-  mark : is_mark b ≡ false
-  escape : is_escape b ≡ false
+pub record IsHigh (b : ℕ) : Type 0 where
+  pub name : is_name_byte b ≡ false
+  pub quote : (b == 34) ≡ false
+  pub slash : (b == 92) ≡ false
+  pub group : (b == 40) ≡ false
+  pub close : (b == 41) ≡ false
+  pub dot : (b == 46) ≡ false
+  pub bar : (b == 124) ≡ false
+  pub mark : is_mark b ≡ false
+  pub escape : is_escape b ≡ false
 
 -- each byte from 128 on is such
-is_high : (b : ℕ) → 128 ≤ b → IsHigh b
+pub is_high : (b : ℕ) → 128 ≤ b → IsHigh b
 is_high b h = record {
   name = grind (arith, nat_tests);
   quote = grind (arith, nat_tests);
@@ -117,7 +117,7 @@ is_high b h = record {
 }
 
 -- it goes on only inside quotes
-high_stage : (n b : ℕ) (p : Stage) → IsHigh b → Gives (λ t. t.stage ≡ Quoting) (shape_in n p b)
+pub high_stage : (n b : ℕ) (p : Stage) → IsHigh b → Gives (λ t. t.stage ≡ Quoting) (shape_in n p b)
 high_stage n b Start h = rw (h.name, h.quote, h.group) tt
 high_stage n b Naming h = rw (h.name, h.mark, h.dot, h.bar, h.close) tt
 high_stage n b Quoting h = rw (h.quote, h.slash) refl
@@ -126,7 +126,7 @@ high_stage n b BehindAtom h = rw (h.mark, h.dot, h.bar, h.close) tt
 high_stage n b BehindRepeat h = rw (h.dot, h.bar, h.close) tt
 
 -- inside quotes each byte goes on
-quoting_goes_on : (n b : ℕ) → shape_in n Quoting b ≡ None → ⊥
+pub quoting_goes_on : (n b : ℕ) → shape_in n Quoting b ≡ None → ⊥
 quoting_goes_on n b e = by_cases (b == 34) (b == 92) e
   where
     by_cases : (c d : Bool) → cond c (Some (shape n BehindAtom)) (cond d (Some (shape n Escaping)) (Some (shape n Quoting))) ≡ None → ⊥

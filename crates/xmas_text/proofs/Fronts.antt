@@ -47,11 +47,11 @@ pub record On (s : Spot) : Type 0 where
   pub reads : Reads s text goal
 
 -- the byte is ASCII
-abbrev is_low : ℕ → Bool
+abbrev pub is_low : ℕ → Bool
 is_low b = nat_lt b 128
 
 -- the byte is ASCII, as a number
-low_byte : (b : ℕ) → IsTrue (is_low b) → b < 128
+pub low_byte : (b : ℕ) → IsTrue (is_low b) → b < 128
 low_byte b h = grind (arith, nat_tests)
 
 -- ASCII bytes alone
@@ -252,7 +252,7 @@ path_goes : (s : Spot) (g : List ℕ) (p : pathing_.State) → IsTrue (takes s g
 path_goes s g p h = let on = path_fronts.mode_on p.here p.outer p.mode in path_end s g on.bytes p (pathing_.run p on.bytes) on.spelled on.utf8 h refl on.read
 
 -- each such token is ASCII
-mark_low : (m : Mark) → IsTrue (list_all is_low (mark_text m))
+pub mark_low : (m : Mark) → IsTrue (list_all is_low (mark_text m))
 mark_low mark.Construct = refl
 mark_low mark.Where = refl
 mark_low mark.And = refl

@@ -3,6 +3,7 @@ pub mod ElementCodes
 pub mod ElementFalls
 pub mod ElementSizes
 pub mod Elements
+pub mod Ends
 pub mod Grammar
 pub mod Groups
 pub mod Levels

@@ -1,5 +1,5 @@
 -- What reading a rule answers.
-use Rattle.std.specs.Prelude.{◌≡◌, ◌<◌, ◌≤◌, ℕ, Bool, true, false, List, [], ◌∷◌, Result, Ok, Err}
+use Rattle.std.specs.Prelude.{◌≡◌, ◌<◌, ◌≤◌, ℕ, List, [], ◌∷◌, Result, Ok, Err}
 use Rattle.std.specs.Str.{IsUtf8}
 use Rattle.std.specs.Str.Lossy.{utf8_valid_len}
 use Rattle.mix_base.specs.Reading.{IsUnexpected, IsCut}
@@ -59,15 +59,6 @@ IsWantOfMemory OutOfMemory = Unit {0}
 abbrev pub IsTree : Result RuleText TextFault → RuleForm → Type 0
 IsTree (Ok t) v = form_of t ≡ v
 IsTree (Err e) v = IsWantOfMemory e
-
--- the fault says that the rule is too deep, where it is
-abbrev pub IsWithin : {X : Type 0} → Bool → Result X TextFault → Type 0
-IsWithin deep (Ok u) = deep ≡ false
-IsWithin deep (Err (NotUtf8 at)) = ⊥
-IsWithin deep (Err (Unexpected at)) = ⊥
-IsWithin deep (Err EndsEarly) = ⊥
-IsWithin deep (Err TooDeep) = deep ≡ true
-IsWithin deep (Err OutOfMemory) = ⊥
 
 -- the text is a rule's, with at most 20 levels of elements, or the fault says why not
 abbrev pub Scans : {X : Type 0} → List ℕ → Result X TextFault → Type 0

@@ -2,7 +2,8 @@
 ghost use Rattle.std.specs.Prelude.{◌≡◌, ◌<◌, ◌≤◌, ◌+◌, ◌^◌, IfSome, IsUtf8, option_map};
 ghost use Rattle.xmas_text.specs.Machine.{start};
 ghost use Rattle.xmas_text.specs.Parts.{part_depth, first_keyword, first_item, first_path, first_word, first_part};
-ghost use Rattle.xmas_text.specs.Results.{Scans, IsWithin};
+ghost use Rattle.xmas_text.specs.Results.{Scans};
+ghost use Rattle.xmas_text.specs.Ends.{EndsSo};
 ghost use Rattle.xmas_text.specs.Scans as scans;
 ghost use Rattle.xmas_text.specs.Stages as stages;
 
@@ -205,11 +206,18 @@ fn may_end_at(stage: Stage) -> bool
     matches!(stage, Stage::CondDone | Stage::Sorted(_))
 }
 
-// Whether a rule that has been read whole has at most 20 levels of elements.
-fn within_levels(scan: Scan) -> Result<(), TextFault>
-    ensures { IsWithin scan.deep result }
+// What is said of a text at whose end the scan stands so.
+fn end_scan(scan: Scan) -> Result<(), TextFault>
+    requires { scan.depth + 1 < 2 ^ 64 }
+    ensures { EndsSo (scans.settled scan) result }
 {
-    if scan.deep {
+    let Some(behind) = settle(scan) else {
+        return Err(TextFault::EndsEarly);
+    };
+    if !may_end_at(behind.stage) {
+        return Err(TextFault::EndsEarly);
+    }
+    if behind.deep {
         return Err(TextFault::TooDeep);
     }
     Ok(())
@@ -227,8 +235,5 @@ pub fn scan_rule(text: &[u8]) -> Result<(), TextFault>
         };
         scan = next;
     }
-    match settle(scan) {
-        Some(behind) if may_end_at(behind.stage) => within_levels(behind),
-        _ => Err(TextFault::EndsEarly),
-    }
+    end_scan(scan)
 }
