@@ -1,4 +1,5 @@
 pub mod Contents
+pub mod Drafts
 pub mod ElementCodes
 pub mod ElementFalls
 pub mod ElementSizes
@@ -14,6 +15,7 @@ pub mod Parsed
 pub mod Parts
 pub mod Results
 pub mod Scans
+pub mod Shifted
 pub mod Spots
 pub mod Stages
 pub mod Tokens

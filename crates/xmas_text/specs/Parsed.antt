@@ -44,24 +44,24 @@ group_at at absent = None
 group_at at (braced g ks h) = Some (record { at = at + length g; keys = keys_at (at + length g + 1) ks })
 
 -- an item that shows a variable or its label, from a place on
-abbrev pub shown_at : ℕ → Key → Group → ItemText
-shown_at at (node v) e = item.Node (record { at = at; var = var_at at v; group = group_at (at + length (key_text (node v))) e })
-shown_at at (label g v) e = item.LabelOf (record { at = at; var = var_at (at + 5 + length g) v; group = group_at (at + length (key_text (label g v))) e })
+abbrev pub shown_at : ℕ → Key → Option GroupForm → ItemText
+shown_at at (node v) e = item.Node (record { at = at; var = var_at at v; group = e })
+shown_at at (label g v) e = item.LabelOf (record { at = at; var = var_at (at + 5 + length g) v; group = e })
 
 -- where the closing tag of an element begins, from the place of its opening tag
 abbrev pub close_place : ℕ → List ℕ → Items → List ℕ → ℕ
 close_place at name inside h = at + 1 + length name + 1 + length (items_text inside) + length h
 
--- items that begin at a place
+-- items that begin at a place; a group label stands behind its item
 abbrev pub items_at : ℕ → Items → List ItemText
 items_at at nothing = []
-items_at at (variable before g k e) = items_at at before ++ shown_at (at + length (items_text before) + length g) k e ∷ []
+items_at at (variable before g k e) =
+    items_at at before ++ shown_at (at + length (items_text before) + length g) k (group_at (at + length (items_text (variable before g k absent))) e) ∷ []
 items_at at (literal before g ps) = items_at at before ++ item.Text (meaning ps) ∷ []
 items_at at (element before g name inside h close e) =
     let here = at + length (items_text before) + length g in
-    let shut = close_place here name inside h in
     items_at at before
-    ++ item.Element (record { at = here; name = name; contents = contents_of (items_at (here + 1 + length name + 1) inside); close_at = shut; close_name = close; group = group_at (shut + 2 + length close + 1) e })
+    ++ item.Element (record { at = here; name = name; contents = contents_of (items_at (here + 1 + length name + 1) inside); close_at = close_place here name inside h; close_name = close; group = group_at (at + length (items_text (element before g name inside h close absent))) e })
     ∷ []
 
 -- a path, or what it has too much of: more than 100 parentheses open at once before more than 120 label positions

@@ -2,6 +2,7 @@
 #![tactic(auto)]
 
 mod cond;
+mod draft;
 mod element;
 mod fault;
 mod lexer;
