@@ -1,4 +1,5 @@
 pub mod Contents
+pub mod Drafted
 pub mod Drafts
 pub mod ElementCodes
 pub mod ElementFalls
