@@ -19,7 +19,8 @@ use Rattle.xmas_text.specs.declared.token.Mark.TheVariants as mark
 use Rattle.xmas_text.specs.declared.token.Sign.TheVariants as sign
 use Rattle.xmas_text.specs.declared.token.Kind.TheVariants as kind
 use Rattle.path_expr.specs.Grammar as paths
-use Rattle.xmas_text.proofs.Texts.{IsToken, label_text, start_text, IsStart}
+use Rattle.xmas_text.proofs.Texts.{label_text, start_text, IsStart}
+use Rattle.xmas_text.specs.Tokens.{IsToken}
 use Rattle.xmas_text.proofs.Lexes.{run_append, run_then, run_byte}
 use Rattle.xmas_text.proofs.Tokens.{IsAt, at_start, Behind, reading, gap_run, gap_step, blank_follows}
 use Rattle.xmas_text.proofs.Takes.{taken_reading}

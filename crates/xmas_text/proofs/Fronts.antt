@@ -29,7 +29,8 @@ use Rattle.path_expr.specs.Grammar as paths
 use Rattle.path_expr.specs.Machine as pathing_
 use Rattle.path_expr.proofs.Fronts as path_fronts
 use Rattle.path_expr.proofs.Complete as path_complete
-use Rattle.xmas_text.proofs.Texts.{IsToken, IsLex, Offered}
+use Rattle.xmas_text.proofs.Texts.{IsLex, Offered}
+use Rattle.xmas_text.specs.Tokens.{IsToken}
 use Rattle.xmas_text.proofs.Lexes.{run_append, run_then, run_byte, lexes, mark_read, open_read, close_read, path_run}
 use Rattle.xmas_text.proofs.Tokens.{is_apart, is_fixed, no_equal, follows, IsAt, at_start, Behind, reading, gap_run, last_step, last_whole}
 use Rattle.xmas_text.proofs.Takes.{taken_reading, unfixed, varying_quiet, naming_quiet, push_unfixed, repeat_quiet, apart_not_name, apart_marks}

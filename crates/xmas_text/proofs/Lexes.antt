@@ -21,7 +21,7 @@ use Rattle.xmas_text.specs.declared.token.Kind.TheVariants as kind
 use Rattle.path_expr.specs.Grammar as paths
 use Rattle.path_expr.specs.Machine as pathing_
 use Rattle.path_expr.proofs.Complete as path_complete
-use Rattle.xmas_text.proofs.Texts.{IsToken}
+use Rattle.xmas_text.specs.Tokens.{IsToken}
 
 behind_ : (x y : List ℕ) → ((t : State) → run t (x ++ y) ≡ option_and_then (λ u. run u y) (run t x)) → (o : Option State)
     → option_and_then (λ t. run t (x ++ y)) o ≡ option_and_then (λ t. run t y) (option_and_then (λ t. run t x) o)

@@ -18,7 +18,8 @@ use Rattle.xmas_text.specs.declared.token.Mark.TheVariants as mark
 use Rattle.xmas_text.specs.declared.token.Sign.TheVariants as sign
 use Rattle.xmas_text.specs.declared.token.Kind.TheVariants as kind
 use Rattle.path_expr.specs.Grammar as paths
-use Rattle.xmas_text.proofs.Texts.{frame_text, outer_text, base, head_text, label_text, place_text, before_text, start_text, spot_text, IsToken, IsTop, Begins, Level, Inside, IsHead, IsPlace, IsBefore, IsStart, IsSpot}
+use Rattle.xmas_text.proofs.Texts.{frame_text, outer_text, base, head_text, label_text, place_text, before_text, start_text, spot_text, IsTop, Begins, Level, Inside, IsHead, IsPlace, IsBefore, IsStart, IsSpot}
+use Rattle.xmas_text.specs.Tokens.{IsToken}
 
 pub record Shifts (s : Spot) (g : List ℕ) (t : Token) : Type 0 where
   pub is : IsSpot (shift s g t)

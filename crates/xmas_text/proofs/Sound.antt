@@ -21,7 +21,8 @@ use Rattle.xmas_text.specs.declared.token.Kind.TheVariants as kind
 use Rattle.path_expr.specs.Grammar as paths
 use Rattle.path_expr.specs.Machine as pathing_
 use Rattle.path_expr.proofs.Sound as path_sound
-use Rattle.xmas_text.proofs.Texts.{head_text, spot_text, IsToken, IsSpot, lex_text, IsLex, Offered}
+use Rattle.xmas_text.proofs.Texts.{head_text, spot_text, IsSpot, lex_text, IsLex, Offered}
+use Rattle.xmas_text.specs.Tokens.{IsToken}
 use Rattle.xmas_text.proofs.Shifts.{shifts}
 
 -- a token goes on by a byte

@@ -24,7 +24,7 @@ use Rattle.xmas_text.specs.declared.token.Kind.TheVariants as kind
 use Rattle.path_expr.specs.Grammar as paths
 use Rattle.path_expr.specs.Machine as pathing_
 use Rattle.path_expr.proofs.Complete as path_complete
-use Rattle.xmas_text.proofs.Texts.{IsToken}
+use Rattle.xmas_text.specs.Tokens.{IsToken}
 use Rattle.xmas_text.proofs.Lexes.{open_read, close_read, name_read, var_read, quote_read, mark_read, path_run}
 use Rattle.xmas_text.proofs.Tokens.{is_apart, is_fixed, no_equal, follows, Reading}
 

@@ -8,7 +8,7 @@ use Rattle.xmas_text.specs.Grammar.{quoted_text, Key, node, label, Keys, none, f
 use Rattle.xmas_text.specs.Lexer.{Lex, between, marking, angle, opening, slash, closing, naming, dollar, varying, quoting, escaping, pathing, ready, comparing}
 use Rattle.xmas_text.specs.Lexical.{IsBlanks, IsGap, IsVar}
 use Rattle.xmas_text.specs.Spots.{Frame, Head, Place, at_first, at_more, Before, first_cond, also_cond, Start, by_name, by_var, Spot, beginning, items, labelled, keys, key_comma, key_label, cond_start, cond_from, cond_path, cond_done, compared, ordering, ordering_by, sorted, may_group}
-use Rattle.xmas_text.specs.Tokens.{Token, fixed, open_tag, close_tag, word, var, quoted, path, comparison, kind_of, mark_first, mark_rest, sign_byte, token_text}
+use Rattle.xmas_text.specs.Tokens.{Token, fixed, open_tag, close_tag, word, var, quoted, path, comparison, kind_of, mark_first, mark_rest, sign_byte, token_text, IsToken}
 use Rattle.xmas_text.specs.declared.cond.TestOp.{TestOp}
 use Rattle.xmas_text.specs.declared.token.Kind.{Kind}
 use Rattle.xmas_text.specs.declared.token.Mark.{Mark}
@@ -64,16 +64,6 @@ spot_text (compared r b g v h o) = head_text r ++ (before_text b ++ (g ++ 36 ∷
 spot_text (ordering r cs g) = head_text r ++ (conds_text cs ++ (g ++ 79 ∷ 82 ∷ 68 ∷ 69 ∷ 82 ∷ []))
 spot_text (ordering_by r cs g h) = head_text r ++ (conds_text cs ++ (g ++ 79 ∷ 82 ∷ 68 ∷ 69 ∷ 82 ∷ (h ++ 66 ∷ 89 ∷ [])))
 spot_text (sorted r cs o) = head_text r ++ (conds_text cs ++ order_text o)
-
-abbrev pub IsToken : Token → Type 0
-IsToken (fixed m) = Unit {0}
-IsToken (open_tag l) = IsName l
-IsToken (close_tag l) = IsName l
-IsToken (word l) = IsName l
-IsToken (var v) = IsVar v
-IsToken (quoted ps) = ArePieces ps
-IsToken (path p) = paths.Is p paths.a_path
-IsToken (comparison o) = Unit {0}
 
 -- the element at hand, in those around it; the outermost one is the template
 abbrev pub IsTop : Items → Type 0

@@ -22,7 +22,7 @@ use Rattle.xmas_text.specs.declared.token.Kind.TheVariants as kind
 use Rattle.path_expr.specs.Grammar as paths
 use Rattle.path_expr.specs.Machine as pathing_
 use Rattle.path_expr.proofs.Complete as path_complete
-use Rattle.xmas_text.proofs.Texts.{IsToken}
+use Rattle.xmas_text.specs.Tokens.{IsToken}
 use Rattle.xmas_text.proofs.Lexes.{run_append, run_then, run_byte, open_read, close_read, name_read, var_read, quote_read, mark_read, path_run}
 
 -- a byte that ends a name, a variable and a path

@@ -9,6 +9,7 @@ pub mod Ends
 pub mod Grammar
 pub mod Groups
 pub mod Levels
+pub mod Lexemes
 pub mod Lexer
 pub mod Lexical
 pub mod Machine

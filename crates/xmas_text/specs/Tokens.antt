@@ -1,7 +1,9 @@
 -- Tokens as they are written.
 use Rattle.std.specs.Prelude.{ℕ, List, [], ◌∷◌, ◌++◌, Option, Some, None}
-use Rattle.mix_tree.specs.LabelGrammar.{Piece}
-use Rattle.path_expr.specs.Grammar.{Spelled, text_of}
+use Rattle.mix_tree.specs.LabelGrammar.{Piece, ArePieces}
+use Rattle.path_expr.specs.Grammar.{Spelled, text_of, Is, a_path}
+use Rattle.path_expr.specs.Names.{IsName}
+use Rattle.xmas_text.specs.Lexical.{IsVar}
 use Rattle.xmas_text.specs.declared.cond.TestOp.{TestOp}
 use Rattle.xmas_text.specs.declared.cond.TestOp.TheVariants as op
 use Rattle.xmas_text.specs.declared.token.Mark.{Mark}
@@ -92,3 +94,14 @@ token_text (var v) = 36 ∷ v
 token_text (quoted ps) = quoted_text ps
 token_text (path p) = text_of p
 token_text (comparison o) = op_text o
+
+-- a token as the grammar has it
+abbrev pub IsToken : Token → Type 0
+IsToken (fixed m) = Unit {0}
+IsToken (open_tag l) = IsName l
+IsToken (close_tag l) = IsName l
+IsToken (word l) = IsName l
+IsToken (var v) = IsVar v
+IsToken (quoted ps) = ArePieces ps
+IsToken (path p) = Is p a_path
+IsToken (comparison o) = Unit {0}

@@ -5,6 +5,7 @@ mod cond;
 mod draft;
 mod element;
 mod fault;
+mod lexeme;
 mod lexer;
 mod reading;
 mod rule;
