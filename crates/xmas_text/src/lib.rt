@@ -1,6 +1,7 @@
 //! Rules as text: their grammar, and their reader, which keeps the place of each part.
 #![tactic(auto)]
 
+mod build;
 mod cond;
 mod draft;
 mod element;

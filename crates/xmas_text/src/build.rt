@@ -1,0 +1,99 @@
+// Building the tree of a rule whose text is known to be one.
+ghost use Rattle.std.specs.Prelude.{◌≡◌, ◌<◌, ◌≤◌, ◌+◌, ◌^◌, length, slice_range, IfOk, IsUtf8};
+ghost use Rattle.xmas_text.specs.Building.{build_in, IsEnded, EndsToken, place_behind, CanBuild, Builds, IsOneElement, tree_of};
+ghost use Rattle.xmas_text.specs.Drafts.{draft_in};
+ghost use Rattle.xmas_text.specs.Grammar.{Rule, Writes};
+ghost use Rattle.xmas_text.specs.Results.{Spells, form_of};
+
+use crate::draft::{Built, Draft, shift};
+use crate::element::ItemText;
+use crate::lexeme::read_lexeme;
+use crate::lexer::{Part, ended_kind, next_part};
+use crate::rule::RuleText;
+use crate::scan::{Scan, scan_byte};
+use std::alloc::{AllocError, Global};
+
+/// What is kept of the text behind a place.
+#[derive(Drop)]
+pub struct Build {
+    /// The scan.
+    pub scan: Scan,
+    /// Where the token at hand begins; between tokens the place itself.
+    pub from: usize,
+    /// The rule before that token.
+    pub draft: Draft,
+}
+
+// The draft behind the token that ends, where one does, which begins at a place.
+fn end_token(alloc: Global, draft: Draft, part: Part, from: usize, text: &[u8]) -> Result<Draft, AllocError>
+    requires utf8 { IsUtf8 text.now }
+    requires ended { IsEnded part text.now }
+    ensures { IfOk result (λ d. EndsToken part text.now from (draft_in draft) (draft_in d)) }
+{
+    let Some(kind) = ended_kind(part) else {
+        return Ok(draft);
+    };
+    let token = read_lexeme(alloc, kind, text)?;
+    shift(alloc, draft, from, token)
+}
+
+// Where the token at hand begins, behind a byte that did not go on with one.
+fn begins_at(at: usize, part: Part) -> usize
+    requires { at + 1 < 2 ^ 64 }
+    ensures { result ≡ place_behind at part }
+{
+    match part {
+        Part::Between => at + 1,
+        _ => at,
+    }
+}
+
+// One more byte.
+fn build_byte(alloc: Global, build: Build, text: &[u8], at: usize) -> Result<Build, AllocError>
+    requires { CanBuild text.now at (build_in build) }
+    ensures { IfOk result (λ b. Builds text.now at (build_in build) (build_in b)) }
+{
+    let Build { scan, from, draft } = build;
+    let byte = text[at];
+    let Some(next) = scan_byte(scan, byte) else {
+        unreachable!()
+    };
+    if let Some(_) = next_part(scan.part, byte) {
+        return Ok(Build { scan: next, from, draft });
+    }
+    let draft = end_token(alloc, draft, scan.part, from, &text[from..at])?;
+    let from = begins_at(at, next.part);
+    Ok(Build { scan: next, from, draft })
+}
+
+// The rule of a draft whose items are its template.
+fn finish(draft: Draft) -> RuleText
+    requires { IsOneElement (draft_in draft).built.items }
+    ensures { form_of result ≡ tree_of (draft_in draft) }
+{
+    let Draft { built, pending: _ } = draft;
+    let Built { open: _, mut items, conds, order } = built;
+    let Some(ItemText::Element(template)) = items.pop() else {
+        unreachable!()
+    };
+    RuleText { template, conds, order }
+}
+
+/// Builds the tree that a text spells.
+pub fn build_rule(alloc: Global, text: &[u8]) -> Result<RuleText, AllocError>
+    requires utf8 { IsUtf8 text.now }
+    requires rule { (r : Rule) × Writes text.now r }
+    ensures { IfOk result (λ t. Spells text.now (form_of t)) }
+{
+    let mut build = Build {
+        scan: Scan::new(),
+        from: 0,
+        draft: Draft::new(alloc),
+    };
+    for at in 0..text.len() {
+        build = build_byte(alloc, build, text, at)?;
+    }
+    let Build { scan, from, draft } = build;
+    let draft = end_token(alloc, draft, scan.part, from, &text[from..text.len()])?;
+    Ok(finish(draft))
+}
