@@ -69,15 +69,15 @@ key_reads : (lead : List ℕ) (o : List Frame) (xs : Items) (e : List ℕ) (g : 
 key_reads lead o xs e g (node v) b i = token (keys lead o xs e none) g (var v) b i refl
 key_reads lead o xs e g (label f v) b i =
     as_text _ _ _ _ (append_assoc g label_text (f ++ 36 ∷ v))
-      (then (keys lead o xs e none) (key_label lead o xs e none at_first g) (keys lead o xs e (first g (label f v))) (g ++ label_text) (f ++ 36 ∷ v)
-        (token (keys lead o xs e none) g (fixed mark.LabelWord) b tt refl) (token (key_label lead o xs e none at_first g) f (var v) (blanks_of f i.0) i.1 (has_gap f i.0)))
+    (then (keys lead o xs e none) (key_label lead o xs e none at_first g) (keys lead o xs e (first g (label f v))) (g ++ label_text) (f ++ 36 ∷ v)
+    (token (keys lead o xs e none) g (fixed mark.LabelWord) b tt refl) (token (key_label lead o xs e none at_first g) f (var v) (blanks_of f i.0) i.1 (has_gap f i.0)))
 
 more_reads : (lead : List ℕ) (o : List Frame) (xs : Items) (e : List ℕ) (ks : Keys) (h g : List ℕ) (k : Key) → IsBlanks g → IsKey k → Reads (key_comma lead o xs e ks h) (g ++ key_text k) (keys lead o xs e (more ks h g k))
 more_reads lead o xs e ks h g (node v) b i = token (key_comma lead o xs e ks h) g (var v) b i refl
 more_reads lead o xs e ks h g (label f v) b i =
     as_text _ _ _ _ (append_assoc g label_text (f ++ 36 ∷ v))
-      (then (key_comma lead o xs e ks h) (key_label lead o xs e ks (at_more h) g) (keys lead o xs e (more ks h g (label f v))) (g ++ label_text) (f ++ 36 ∷ v)
-        (token (key_comma lead o xs e ks h) g (fixed mark.LabelWord) b tt refl) (token (key_label lead o xs e ks (at_more h) g) f (var v) (blanks_of f i.0) i.1 (has_gap f i.0)))
+    (then (key_comma lead o xs e ks h) (key_label lead o xs e ks (at_more h) g) (keys lead o xs e (more ks h g (label f v))) (g ++ label_text) (f ++ 36 ∷ v)
+    (token (key_comma lead o xs e ks h) g (fixed mark.LabelWord) b tt refl) (token (key_label lead o xs e ks (at_more h) g) f (var v) (blanks_of f i.0) i.1 (has_gap f i.0)))
 
 not_none : (ks : Keys) → HasKeys ks → IsTrue (not (is_none ks))
 not_none none h = absurd h
@@ -89,9 +89,9 @@ keys_reads none lead o xs e i = stays (keys lead o xs e none)
 keys_reads (first g k) lead o xs e i = key_reads lead o xs e g k i.0 i.1
 keys_reads (more ks h g k) lead o xs e i =
     then (keys lead o xs e none) (keys lead o xs e ks) (keys lead o xs e (more ks h g k)) (keys_text ks) (h ++ 44 ∷ (g ++ key_text k)) (keys_reads ks lead o xs e i.1)
-      (as_text _ _ _ _ (append_assoc h (44 ∷ []) (g ++ key_text k))
-        (then (keys lead o xs e ks) (key_comma lead o xs e ks h) (keys lead o xs e (more ks h g k)) (h ++ 44 ∷ []) (g ++ key_text k)
-          (token (keys lead o xs e ks) h (fixed mark.Comma) i.2 tt (not_none ks i.0)) (more_reads lead o xs e ks h g k i.3 i.4)))
+    (as_text _ _ _ _ (append_assoc h (44 ∷ []) (g ++ key_text k))
+    (then (keys lead o xs e ks) (key_comma lead o xs e ks h) (keys lead o xs e (more ks h g k)) (h ++ 44 ∷ []) (g ++ key_text k)
+    (token (keys lead o xs e ks) h (fixed mark.Comma) i.2 tt (not_none ks i.0)) (more_reads lead o xs e ks h g k i.3 i.4)))
 
 -- a group label
 absent_again : (xs : Items) → IsTrue (may_group xs) → with_group xs absent ≡ xs
@@ -110,18 +110,18 @@ group_reads : (lead : List ℕ) (o : List Frame) (xs : Items) (e : Group) → Is
 group_reads lead o xs absent m i = subst (λ y. Reads (items lead o xs) [] (items lead o y)) (sym (absent_again xs m)) (stays (items lead o xs))
 group_reads lead o xs (braced g ks h) m i =
     as_text _ _ _ _ (append_assoc g (123 ∷ []) (keys_text ks ++ (h ++ 125 ∷ [])))
-      (then (items lead o xs) (keys lead o xs g none) (items lead o (with_group xs (braced g ks h))) (g ++ 123 ∷ []) (keys_text ks ++ (h ++ 125 ∷ []))
-        (token (items lead o xs) g (fixed mark.OpenBrace) i.0 tt (may_left lead o xs g m))
-        (then (keys lead o xs g none) (keys lead o xs g ks) (items lead o (with_group xs (braced g ks h))) (keys_text ks) (h ++ 125 ∷ []) (keys_reads ks lead o xs g i.1)
-          (token (keys lead o xs g ks) h (fixed mark.CloseBrace) i.2 tt refl)))
+    (then (items lead o xs) (keys lead o xs g none) (items lead o (with_group xs (braced g ks h))) (g ++ 123 ∷ []) (keys_text ks ++ (h ++ 125 ∷ []))
+    (token (items lead o xs) g (fixed mark.OpenBrace) i.0 tt (may_left lead o xs g m))
+    (then (keys lead o xs g none) (keys lead o xs g ks) (items lead o (with_group xs (braced g ks h))) (keys_text ks) (h ++ 125 ∷ []) (keys_reads ks lead o xs g i.1)
+    (token (keys lead o xs g ks) h (fixed mark.CloseBrace) i.2 tt refl)))
 
 -- an item's variable
 variable_reads : (lead : List ℕ) (f : Frame) (o : List Frame) (xs : Items) (g : List ℕ) (k : Key) → IsItemGap xs g → IsKey k → Reads (items lead (f ∷ o) xs) (g ++ key_text k) (items lead (f ∷ o) (variable xs g k absent))
 variable_reads lead f o xs g (node v) b i = token (items lead (f ∷ o) xs) g (var v) (item_blanks xs g b) i (item_gaps xs g b)
 variable_reads lead f o xs g (label h v) b i =
     as_text _ _ _ _ (append_assoc g label_text (h ++ 36 ∷ v))
-      (then (items lead (f ∷ o) xs) (labelled lead (f ∷ o) xs g) (items lead (f ∷ o) (variable xs g (label h v) absent)) (g ++ label_text) (h ++ 36 ∷ v)
-        (token (items lead (f ∷ o) xs) g (fixed mark.LabelWord) (item_blanks xs g b) tt (item_gaps xs g b)) (token (labelled lead (f ∷ o) xs g) h (var v) (blanks_of h i.0) i.1 (has_gap h i.0)))
+    (then (items lead (f ∷ o) xs) (labelled lead (f ∷ o) xs g) (items lead (f ∷ o) (variable xs g (label h v) absent)) (g ++ label_text) (h ++ 36 ∷ v)
+    (token (items lead (f ∷ o) xs) g (fixed mark.LabelWord) (item_blanks xs g b) tt (item_gaps xs g b)) (token (labelled lead (f ∷ o) xs g) h (var v) (blanks_of h i.0) i.1 (has_gap h i.0)))
 
 token_open : (lead : List ℕ) (o : List Frame) (xs : Items) (g n : List ℕ) → IsBlanks g → IsTrue (takes (items lead o xs) g kind.OpenTag) → IsName n → Reads (items lead o xs) (g ++ 60 ∷ (n ++ 62 ∷ [])) (items lead (record { before = xs; gap = g; name = n } ∷ o) nothing)
 token_open lead [] xs g n b t i = token (items lead [] xs) g (open_tag n) b i t
@@ -140,33 +140,33 @@ element_reads : (lead : List ℕ) (o : List Frame) (xs : Items) (g n : List ℕ)
 element_reads lead o xs g n inside h c e b t i r bh ic ie =
     let f : Frame = record { before = xs; gap = g; name = n } in
     as_text _ _ _ _ (sym (element_text g n (items_text inside) h c (group_text e)))
-      (then (items lead o xs) (items lead (f ∷ o) nothing) (items lead o (element xs g n inside h c e)) (g ++ 60 ∷ (n ++ 62 ∷ [])) (items_text inside ++ ((h ++ 60 ∷ 47 ∷ (c ++ 62 ∷ [])) ++ group_text e))
-        (token_open lead o xs g n b t i)
-        (then (items lead (f ∷ o) nothing) (items lead (f ∷ o) inside) (items lead o (element xs g n inside h c e)) (items_text inside) ((h ++ 60 ∷ 47 ∷ (c ++ 62 ∷ [])) ++ group_text e) (r f)
-          (then (items lead (f ∷ o) inside) (items lead o (element xs g n inside h c absent)) (items lead o (element xs g n inside h c e)) (h ++ 60 ∷ 47 ∷ (c ++ 62 ∷ [])) (group_text e)
-            (token (items lead (f ∷ o) inside) h (close_tag c) bh ic refl) (group_reads lead o (element xs g n inside h c absent) e refl ie))))
+    (then (items lead o xs) (items lead (f ∷ o) nothing) (items lead o (element xs g n inside h c e)) (g ++ 60 ∷ (n ++ 62 ∷ [])) (items_text inside ++ ((h ++ 60 ∷ 47 ∷ (c ++ 62 ∷ [])) ++ group_text e))
+    (token_open lead o xs g n b t i)
+    (then (items lead (f ∷ o) nothing) (items lead (f ∷ o) inside) (items lead o (element xs g n inside h c e)) (items_text inside) ((h ++ 60 ∷ 47 ∷ (c ++ 62 ∷ [])) ++ group_text e) (r f)
+    (then (items lead (f ∷ o) inside) (items lead o (element xs g n inside h c absent)) (items lead o (element xs g n inside h c e)) (h ++ 60 ∷ 47 ∷ (c ++ 62 ∷ [])) (group_text e)
+    (token (items lead (f ∷ o) inside) h (close_tag c) bh ic refl) (group_reads lead o (element xs g n inside h c absent) e refl ie))))
 
 -- the items inside an element
 pub items_reads : (xs : Items) (lead : List ℕ) (f : Frame) (o : List Frame) → AreItems xs → Reads (items lead (f ∷ o) nothing) (items_text xs) (items lead (f ∷ o) xs)
 items_reads nothing lead f o i = stays (items lead (f ∷ o) nothing)
 items_reads (variable before g k e) lead f o i =
     then (items lead (f ∷ o) nothing) (items lead (f ∷ o) before) (items lead (f ∷ o) (variable before g k e)) (items_text before) (g ++ (key_text k ++ group_text e)) (items_reads before lead f o i.0)
-      (as_text _ _ _ _ (append_assoc g (key_text k) (group_text e))
-        (then (items lead (f ∷ o) before) (items lead (f ∷ o) (variable before g k absent)) (items lead (f ∷ o) (variable before g k e)) (g ++ key_text k) (group_text e)
-          (variable_reads lead f o before g k i.1 i.2) (group_reads lead (f ∷ o) (variable before g k absent) e refl i.3)))
+    (as_text _ _ _ _ (append_assoc g (key_text k) (group_text e))
+    (then (items lead (f ∷ o) before) (items lead (f ∷ o) (variable before g k absent)) (items lead (f ∷ o) (variable before g k e)) (g ++ key_text k) (group_text e)
+    (variable_reads lead f o before g k i.1 i.2) (group_reads lead (f ∷ o) (variable before g k absent) e refl i.3)))
 items_reads (literal before g ps) lead f o i =
     then (items lead (f ∷ o) nothing) (items lead (f ∷ o) before) (items lead (f ∷ o) (literal before g ps)) (items_text before) (g ++ quoted_text ps) (items_reads before lead f o i.0)
-      (token (items lead (f ∷ o) before) g (quoted ps) (item_blanks before g i.1) i.2 (item_gaps before g i.1))
+    (token (items lead (f ∷ o) before) g (quoted ps) (item_blanks before g i.1) i.2 (item_gaps before g i.1))
 items_reads (element before g n inside h c e) lead f o i =
     then (items lead (f ∷ o) nothing) (items lead (f ∷ o) before) (items lead (f ∷ o) (element before g n inside h c e)) (items_text before) _ (items_reads before lead f o i.0)
-      (element_reads lead (f ∷ o) before g n inside h c e (item_blanks before g i.1) (item_gaps before g i.1) i.2 (λ k. items_reads inside lead k (f ∷ o) i.3) i.4 i.5 i.6)
+    (element_reads lead (f ∷ o) before g n inside h c e (item_blanks before g i.1) (item_gaps before g i.1) i.2 (λ k. items_reads inside lead k (f ∷ o) i.3) i.4 i.5 i.6)
 
 -- conditions
 path_part : (r : Head) (b : Before) (g : List ℕ) (s : Start) (e : List ℕ) (p : paths.Spelled) (h v : List ℕ) → IsGap e → paths.Is p paths.a_path → IsGap h → IsVar v
     → Reads (cond_from r b g s) ((e ++ paths.text_of p) ++ (h ++ 36 ∷ v)) (cond_done r (push_cond b g (cond_of s e p h v)))
 path_part r b g s e p h v ie ip ih iv =
     then (cond_from r b g s) (cond_path r b g s e p) (cond_done r (push_cond b g (cond_of s e p h v))) (e ++ paths.text_of p) (h ++ 36 ∷ v)
-      (token (cond_from r b g s) e (path p) (blanks_of e ie) ip (has_gap e ie)) (token (cond_path r b g s e p) h (var v) (blanks_of h ih) iv (has_gap h ih))
+    (token (cond_from r b g s) e (path p) (blanks_of e ie) ip (has_gap e ie)) (token (cond_path r b g s e p) h (var v) (blanks_of h ih) iv (has_gap h ih))
 
 cond_text_parts : (g n e p t : List ℕ) → (g ++ n) ++ ((e ++ p) ++ t) ≡ g ++ (n ++ (e ++ (p ++ t)))
 cond_text_parts g n e p t = simp append_assoc
@@ -178,27 +178,26 @@ operand_reads r b g v e o h (a_text ps) ih i = token (compared r b g v e o) h (q
 cond_reads : (r : Head) (b : Before) (g : List ℕ) (c : Cond) → IsGap g → IsCond c → Reads (cond_start r b) (g ++ cond_text c) (cond_done r (push_cond b g c))
 cond_reads r b g (source n e p h v) ig i =
     as_text _ _ _ _ (cond_text_parts g n e (paths.text_of p) (h ++ 36 ∷ v))
-      (then (cond_start r b) (cond_from r b g (by_name n)) (cond_done r (push_cond b g (source n e p h v))) (g ++ n) ((e ++ paths.text_of p) ++ (h ++ 36 ∷ v))
-        (token (cond_start r b) g (word n) (blanks_of g ig) i.0 (has_gap g ig)) (path_part r b g (by_name n) e p h v i.1 i.2 i.3 i.4))
+    (then (cond_start r b) (cond_from r b g (by_name n)) (cond_done r (push_cond b g (source n e p h v))) (g ++ n) ((e ++ paths.text_of p) ++ (h ++ 36 ∷ v))
+    (token (cond_start r b) g (word n) (blanks_of g ig) i.0 (has_gap g ig)) (path_part r b g (by_name n) e p h v i.1 i.2 i.3 i.4))
 cond_reads r b g (walk u e p h v) ig i =
     as_text _ _ _ _ (cond_text_parts g (36 ∷ u) e (paths.text_of p) (h ++ 36 ∷ v))
-      (then (cond_start r b) (cond_from r b g (by_var u)) (cond_done r (push_cond b g (walk u e p h v))) (g ++ 36 ∷ u) ((e ++ paths.text_of p) ++ (h ++ 36 ∷ v))
-        (token (cond_start r b) g (var u) (blanks_of g ig) i.0 (has_gap g ig)) (path_part r b g (by_var u) e p h v i.1 i.2 i.3 i.4))
-
+    (then (cond_start r b) (cond_from r b g (by_var u)) (cond_done r (push_cond b g (walk u e p h v))) (g ++ 36 ∷ u) ((e ++ paths.text_of p) ++ (h ++ 36 ∷ v))
+    (token (cond_start r b) g (var u) (blanks_of g ig) i.0 (has_gap g ig)) (path_part r b g (by_var u) e p h v i.1 i.2 i.3 i.4))
 cond_reads r b g (compare v e o h a) ig i =
     as_text _ _ _ _ (cond_text_parts g (36 ∷ v) e (op_text o) (h ++ operand_text a))
-      (then (cond_start r b) (cond_from r b g (by_var v)) (cond_done r (push_cond b g (compare v e o h a))) (g ++ 36 ∷ v) ((e ++ op_text o) ++ (h ++ operand_text a))
-        (token (cond_start r b) g (var v) (blanks_of g ig) i.0 (has_gap g ig))
-        (then (cond_from r b g (by_var v)) (compared r b g v e o) (cond_done r (push_cond b g (compare v e o h a))) (e ++ op_text o) (h ++ operand_text a)
-          (token (cond_from r b g (by_var v)) e (comparison o) i.1 tt refl) (operand_reads r b g v e o h a i.2 i.3)))
+    (then (cond_start r b) (cond_from r b g (by_var v)) (cond_done r (push_cond b g (compare v e o h a))) (g ++ 36 ∷ v) ((e ++ op_text o) ++ (h ++ operand_text a))
+    (token (cond_start r b) g (var v) (blanks_of g ig) i.0 (has_gap g ig))
+    (then (cond_from r b g (by_var v)) (compared r b g v e o) (cond_done r (push_cond b g (compare v e o h a))) (e ++ op_text o) (h ++ operand_text a)
+    (token (cond_from r b g (by_var v)) e (comparison o) i.1 tt refl) (operand_reads r b g v e o h a i.2 i.3)))
 
 conds_reads : (cs : Conds) (r : Head) → AreConds cs → Reads (cond_start r first_cond) (conds_text cs) (cond_done r cs)
 conds_reads (one g c) r i = cond_reads r first_cond g c i.0 i.1
 conds_reads (also cs g h c) r i =
     then (cond_start r first_cond) (cond_done r cs) (cond_done r (also cs g h c)) (conds_text cs) (g ++ 65 ∷ 78 ∷ 68 ∷ (h ++ cond_text c)) (conds_reads cs r i.0)
-      (as_text _ _ _ _ (append_assoc g (65 ∷ 78 ∷ 68 ∷ []) (h ++ cond_text c))
-        (then (cond_done r cs) (cond_start r (also_cond cs g)) (cond_done r (also cs g h c)) (g ++ 65 ∷ 78 ∷ 68 ∷ []) (h ++ cond_text c)
-          (token (cond_done r cs) g (fixed mark.And) (blanks_of g i.1) tt (has_gap g i.1)) (cond_reads r (also_cond cs g) h c i.2 i.3)))
+    (as_text _ _ _ _ (append_assoc g (65 ∷ 78 ∷ 68 ∷ []) (h ++ cond_text c))
+    (then (cond_done r cs) (cond_start r (also_cond cs g)) (cond_done r (also cs g h c)) (g ++ 65 ∷ 78 ∷ 68 ∷ []) (h ++ cond_text c)
+    (token (cond_done r cs) g (fixed mark.And) (blanks_of g i.1) tt (has_gap g i.1)) (cond_reads r (also_cond cs g) h c i.2 i.3)))
 
 -- the template
 both : (a b : Bool) → IsTrue a → IsTrue b → IsTrue (a && b)
@@ -241,16 +240,16 @@ ordered_parts g o h b i v = simp append_assoc
 ordered_reads : (r : Head) (cs : Conds) (g h i v : List ℕ) → IsOrder (ordered g h i v) → Reads (cond_done r cs) (ordered_text g h i v) (sorted r cs (ordered g h i v))
 ordered_reads r cs g h i v is =
     as_text _ _ _ _ (ordered_parts g order_bytes h by_bytes i (36 ∷ v))
-      (then (cond_done r cs) (ordering r cs g) (sorted r cs (ordered g h i v)) (g ++ order_bytes) ((h ++ by_bytes) ++ (i ++ 36 ∷ v)) (token (cond_done r cs) g (fixed mark.Order) (blanks_of g is.0) tt (has_gap g is.0))
-        (then (ordering r cs g) (ordering_by r cs g h) (sorted r cs (ordered g h i v)) (h ++ by_bytes) (i ++ 36 ∷ v) (token (ordering r cs g) h (fixed mark.By) (blanks_of h is.1) tt (has_gap h is.1))
-          (token (ordering_by r cs g h) i (var v) (blanks_of i is.2) is.3 (has_gap i is.2))))
+    (then (cond_done r cs) (ordering r cs g) (sorted r cs (ordered g h i v)) (g ++ order_bytes) ((h ++ by_bytes) ++ (i ++ 36 ∷ v)) (token (cond_done r cs) g (fixed mark.Order) (blanks_of g is.0) tt (has_gap g is.0))
+    (then (ordering r cs g) (ordering_by r cs g h) (sorted r cs (ordered g h i v)) (h ++ by_bytes) (i ++ 36 ∷ v) (token (ordering r cs g) h (fixed mark.By) (blanks_of h is.1) tt (has_gap h is.1))
+    (token (ordering_by r cs g h) i (var v) (blanks_of i is.2) is.3 (has_gap i is.2))))
 
 order_reads : (r : Head) (cs : Conds) (o : Order) → IsOrder o → Reads (cond_done r cs) (order_text o) (end_spot r cs o)
 order_reads r cs unordered is = stays (cond_done r cs)
 order_reads r cs (ordered g h i v) is = ordered_reads r cs g h i v is
 order_reads r cs (descending g h i v j) is =
     then (cond_done r cs) (sorted r cs (ordered g h i v)) (sorted r cs (descending g h i v j)) (ordered_text g h i v) (j ++ 68 ∷ 69 ∷ 83 ∷ 67 ∷ []) (ordered_reads r cs g h i v (is.0, is.1, is.2, is.3))
-      (token (sorted r cs (ordered g h i v)) j (fixed mark.Desc) (blanks_of j is.4) tt (has_gap j is.4))
+    (token (sorted r cs (ordered g h i v)) j (fixed mark.Desc) (blanks_of j is.4) tt (has_gap j is.4))
 
 end_rule : (r : Head) (cs : Conds) (o : Order) (g : List ℕ) → rule_at (end_spot r cs o) g ≡ Some (record { lead = r.lead; template = r.template; gap = r.gap; conds = cs; order = o; tail = g })
 end_rule r cs unordered g = refl
@@ -261,10 +260,10 @@ rule_reads : (r : Rule) → IsRule r → Reads beginning ((r.lead ++ construct_t
 rule_reads r i =
     let e : Spot = end_spot (rule_head r) r.conds r.order in
     then beginning (items r.lead [] nothing) e (r.lead ++ construct_text) _ (token beginning r.lead (fixed mark.Construct) i.lead tt refl)
-      (then (items r.lead [] nothing) (items r.lead [] r.template) e (items_text r.template) _ (template_reads r.template r.lead i.template)
-        (then (items r.lead [] r.template) (cond_start (rule_head r) first_cond) e (r.gap ++ where_text) (conds_text r.conds ++ order_text r.order)
-          (token (items r.lead [] r.template) r.gap (fixed mark.Where) (blanks_of r.gap i.gap) tt (where_takes r.template r.lead r.gap i.template i.gap))
-          (then (cond_start (rule_head r) first_cond) (cond_done (rule_head r) r.conds) e (conds_text r.conds) (order_text r.order) (conds_reads r.conds (rule_head r) i.conds) (order_reads (rule_head r) r.conds r.order i.order))))
+    (then (items r.lead [] nothing) (items r.lead [] r.template) e (items_text r.template) _ (template_reads r.template r.lead i.template)
+    (then (items r.lead [] r.template) (cond_start (rule_head r) first_cond) e (r.gap ++ where_text) (conds_text r.conds ++ order_text r.order)
+    (token (items r.lead [] r.template) r.gap (fixed mark.Where) (blanks_of r.gap i.gap) tt (where_takes r.template r.lead r.gap i.template i.gap))
+    (then (cond_start (rule_head r) first_cond) (cond_done (rule_head r) r.conds) e (conds_text r.conds) (order_text r.order) (conds_reads r.conds (rule_head r) i.conds) (order_reads (rule_head r) r.conds r.order i.order))))
 
 -- blanks behind the last token
 pub tail_whole : (s : Spot) (t : State) (g : List ℕ) → IsAt s t → IsBlanks g → option_and_then whole (run t g) ≡ rule_at s g

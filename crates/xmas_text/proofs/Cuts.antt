@@ -137,7 +137,7 @@ no_token may b l h k =
     ap (λ x. or_else x (or_else (first_item may b) (first_word may b)))
     (no_mark mark.Construct may b _ l (no_mark mark.Where may b _ l (no_mark mark.And may b _ l (no_mark mark.Order may b _ l (no_mark mark.By may b _ l (no_mark mark.Desc may b None l refl))))))
     ∙ ap (λ x. or_else x (first_word may b))
-      (no_mark mark.LabelWord may b _ l (no_mark mark.OpenBrace may b _ l (no_mark mark.CloseBrace may b _ l (no_mark mark.Comma may b _ l (rw (k.less, k.dollar, h.quote) refl)))))
+    (no_mark mark.LabelWord may b _ l (no_mark mark.OpenBrace may b _ l (no_mark mark.CloseBrace may b _ l (no_mark mark.Comma may b _ l (rw (k.less, k.dollar, h.quote) refl)))))
     ∙ rw (k.equal, k.bang, k.less, k.greater, h.name, h.quote, h.group) (none_both (may kind.Path))
 
 -- a byte between tokens

@@ -105,7 +105,7 @@ element_on lead b f n i h c e = on_token (items lead [] (element b f n i h c e))
 top_on : (lead : List ℕ) (xs : Items) → On (items lead [] xs)
 top_on lead nothing =
     on_token (items lead [] nothing) gap (open_tag one_name) refl name_is refl refl
-      (on_token (items lead (record { before = nothing; gap = gap; name = one_name } ∷ []) nothing) [] (close_tag one_name) refl name_is refl refl (element_on lead nothing gap one_name nothing [] one_name absent))
+    (on_token (items lead (record { before = nothing; gap = gap; name = one_name } ∷ []) nothing) [] (close_tag one_name) refl name_is refl refl (element_on lead nothing gap one_name nothing [] one_name absent))
 top_on lead (variable b g k e) = on_token (items lead [] (variable b g k e)) gap (fixed mark.Where) refl tt refl refl (start_on _ _)
 top_on lead (literal b g ps) = on_token (items lead [] (literal b g ps)) gap (fixed mark.Where) refl tt refl refl (start_on _ _)
 top_on lead (element b f n i h c e) = element_on lead b f n i h c e
@@ -243,7 +243,7 @@ whole_quiet f (g ∷ o) m r q b e w h = none_some q w
 path_last : (s : Spot) (g : List ℕ) (t : pathing_.State) (q : paths.Spelled) → IsTrue (takes s g kind.Path) → pathing_.whole t ≡ Some q → GoesOn (at s g (pathing t))
 path_last s g t q h w =
     last_on s g (pathing t) (path q) (ap as_path w)
-      (λ b f. ap map_path (whole_quiet t.here t.outer t.mode (pathing_.repeat_in t.mode) q b refl w (unfixed (is_fixed (shift s g (path q))) (is_apart b) (no_equal (shift s g (path q)) b) (path_unfixed s g q h) f)))
+    (λ b f. ap map_path (whole_quiet t.here t.outer t.mode (pathing_.repeat_in t.mode) q b refl w (unfixed (is_fixed (shift s g (path q))) (is_apart b) (no_equal (shift s g (path q)) b) (path_unfixed s g q h) f)))
 
 path_end : (s : Spot) (g y : List ℕ) (p : pathing_.State) (o : Option pathing_.State) (q : paths.Spelled) → IsUtf8 y → IsTrue (takes s g kind.Path) → pathing_.run p y ≡ o → option_and_then pathing_.whole o ≡ Some q → GoesOn (at s g (pathing p))
 path_end s g y p None q l h r w = none_some q w
@@ -298,8 +298,8 @@ gap_on : (s : Spot) (g : List ℕ) (t : Token) → IsBlanks g → IsBlanks (g ++
 gap_on s g t b c i k l =
     let n = token s (g ++ gap) t c i k (at s [] between) (at_start s) in
     text_on (gap ++ token_text t) (at s g between) n.state (low_utf8 (gap ++ token_text t) l)
-      (sym (run_then g (gap ++ token_text t) (at s [] between) (at s g between) (gap_run s [] g b)) ∙ ap (run (at s [] between)) (sym (append_assoc g gap (token_text t))) ∙ n.runs)
-      (at_on (shift s (g ++ gap) t) n.state n.is)
+    (sym (run_then g (gap ++ token_text t) (at s [] between) (at s g between) (gap_run s [] g b)) ∙ ap (run (at s [] between)) (sym (append_assoc g gap (token_text t))) ∙ n.runs)
+    (at_on (shift s (g ++ gap) t) n.state n.is)
 
 has_gap : (g : List ℕ) → IsTrue (has_blank (g ++ gap))
 has_gap [] = refl
@@ -342,7 +342,7 @@ state_on x s g (pathing p) h = path_goes s g p h.offered
 state_on x s g (comparing k) h = byte_on 61 (at s g (comparing k)) (at s g (ready (comparison (with_equal k)))) refl refl (ready_on s g (comparison (with_equal k)))
 state_on x s g (ready t) h = ready_on s g t
 
-stood_at : (x : List ℕ) (o : Option State) (t : State) → Gives (Stands x) o → o ≡ Some t → Stands x t
+pub stood_at : (x : List ℕ) (o : Option State) (t : State) → Gives (Stands x) o → o ≡ Some t → Stands x t
 stood_at x None t h e = none_some t e
 stood_at x (Some s) t h e = subst (Stands x) (some_is _ _ e) h
 

@@ -32,7 +32,7 @@ use Rattle.xmas_text.specs.Parsed.{path_form}
 use Rattle.xmas_text.specs.Lexemes.{IsWritten, IsLexeme, IsQuotedText, Quotes, IsPathText, SpellsPath}
 
 -- the part between a front and an end of a text
-between_is : (a l z : List ℕ) (from to : ℕ) → from ≡ length a → to ≡ length a + length l → slice_range (a ++ (l ++ z)) from to ≡ l
+pub between_is : (a l z : List ℕ) (from to : ℕ) → from ≡ length a → to ≡ length a + length l → slice_range (a ++ (l ++ z)) from to ≡ l
 between_is [] l z from to e f =
     ap (λ n. take (to - n) (drop n (l ++ z))) e ∙ take_whole l z (to - 0) (omega arith)
 between_is (b ∷ a) l z from to e f =
@@ -100,7 +100,7 @@ name_of_var_utf8 k x (word l, i, e, t) f = cc
 name_of_var_utf8 k x (var v, i, e, t) f =
     let n : length x ≡ 1 + length v = omega (arith, sym (ap length t)) in
     let s : slice_range x 1 (length x) ≡ v =
-        ap (λ y. slice_range y 1 (length x)) (sym t ∙ ap (λ y. 36 ∷ y) (sym (append_nil v))) ∙ between_is (36 ∷ []) v [] 1 (length x) refl n in
+    ap (λ y. slice_range y 1 (length x)) (sym t ∙ ap (λ y. 36 ∷ y) (sym (append_nil v))) ∙ between_is (36 ∷ []) v [] 1 (length x) refl n in
     subst IsUtf8 (sym s) (var_utf8 v i)
 name_of_var_utf8 k x (quoted ps, i, e, t) f = cc
 name_of_var_utf8 k x (path p, i, e, t) f = cc

@@ -130,28 +130,28 @@ word_begun : (may : Kind → Bool) (b : ℕ) → option_map part_of (begin_word 
 word_begun may b =
     either (b == 61 && may kind.Operator) _ _ _ _ refl
     (either (b == 33 && may kind.Operator) _ _ _ _ refl
-     (either (b == 60 && may kind.Operator) _ _ _ _ refl
-      (either (b == 62 && may kind.Operator) _ _ _ _ refl
-       (either (is_name_byte b && may kind.Name) _ _ _ _ refl (path_begun (may kind.Path) b)))))
+    (either (b == 60 && may kind.Operator) _ _ _ _ refl
+    (either (b == 62 && may kind.Operator) _ _ _ _ refl
+    (either (is_name_byte b && may kind.Name) _ _ _ _ refl (path_begun (may kind.Path) b)))))
 
 -- the first byte of a tag, of an item or of a part of a group label, before an operator, a name or a path
 item_begun : (may : Kind → Bool) (b : ℕ) →
     option_map part_of (begin_mark mark.LabelWord may b (begin_mark mark.OpenBrace may b (begin_mark mark.CloseBrace may b (begin_mark mark.Comma may b
-        (cond (b == 60 && (may kind.OpenTag || may kind.CloseTag)) (Some (angle (may kind.OpenTag) (may kind.CloseTag)))
-          (cond (b == 36 && may kind.Var) (Some dollar) (cond (b == 34 && may kind.Quoted) (Some (quoting [])) (begin_word may b))))))))
+    (cond (b == 60 && (may kind.OpenTag || may kind.CloseTag)) (Some (angle (may kind.OpenTag) (may kind.CloseTag)))
+    (cond (b == 36 && may kind.Var) (Some dollar) (cond (b == 34 && may kind.Quoted) (Some (quoting [])) (begin_word may b))))))))
     ≡ or_else (first_item may b) (first_word may b)
 item_begun may b =
     mark_before mark.LabelWord may b _ _ _
     (mark_before mark.OpenBrace may b _ _ _
-     (mark_before mark.CloseBrace may b _ _ _
-      (mark_before mark.Comma may b _ _ _
-       (before_others (b == 60 && (may kind.OpenTag || may kind.CloseTag)) _ _ _ _ _ refl
-        (before_others (b == 36 && may kind.Var) _ _ _ _ _ refl (before_others (b == 34 && may kind.Quoted) _ _ _ None _ refl (word_begun may b)))))))
+    (mark_before mark.CloseBrace may b _ _ _
+    (mark_before mark.Comma may b _ _ _
+    (before_others (b == 60 && (may kind.OpenTag || may kind.CloseTag)) _ _ _ _ _ refl
+    (before_others (b == 36 && may kind.Var) _ _ _ _ _ refl (before_others (b == 34 && may kind.Quoted) _ _ _ None _ refl (word_begun may b)))))))
 
 -- the first byte of any token
 pub begin_part : (may : Kind → Bool) (b : ℕ) → option_map part_of (begin may b) ≡ first_part may b
 begin_part may b =
     mark_before mark.Construct may b _ _ _
     (mark_before mark.Where may b _ _ _
-     (mark_before mark.And may b _ _ _
-      (mark_before mark.Order may b _ _ _ (mark_before mark.By may b _ _ _ (mark_before mark.Desc may b _ None _ (item_begun may b))))))
+    (mark_before mark.And may b _ _ _
+    (mark_before mark.Order may b _ _ _ (mark_before mark.By may b _ _ _ (mark_before mark.Desc may b _ None _ (item_begun may b))))))

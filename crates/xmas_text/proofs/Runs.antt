@@ -82,14 +82,14 @@ with_lex_stands x s g b (Some l) h k e i = record {
 pub next_stands : (x : List ℕ) (s : Spot) (g : List ℕ) (b : ℕ) → IsSpot s → IsBlanks g → spot_text s ++ g ≡ x → Gives (Stands (x ++ b ∷ [])) (next s g b)
 next_stands x s g b h k e =
     either _ (is_blank b) _ _
-      (λ p. record {
-        spot = h;
-        gap = list_all-push is_blank g b k p;
-        lex = tt;
-        offered = tt;
-        text = ap (λ r. spot_text s ++ r) (append_nil (g ++ b ∷ [])) ∙ sym (append_assoc (spot_text s) g (b ∷ [])) ∙ ap (λ r. r ++ b ∷ []) e;
-      })
-      (λ n. with_lex_stands x s g b (begin (takes s g) b) h k e (begin_goes (takes s g) b))
+    (λ p. record {
+      spot = h;
+      gap = list_all-push is_blank g b k p;
+      lex = tt;
+      offered = tt;
+      text = ap (λ r. spot_text s ++ r) (append_nil (g ++ b ∷ [])) ∙ sym (append_assoc (spot_text s) g (b ∷ [])) ∙ ap (λ r. r ++ b ∷ []) e;
+    })
+    (λ n. with_lex_stands x s g b (begin (takes s g) b) h k e (begin_goes (takes s g) b))
 
 behind_stands : (x : List ℕ) (s : Spot) (g : List ℕ) (l : Lex) (o : Option Token) (b : ℕ) → token_in l ≡ o → Stands x (at s g l) → Gives (Stands (x ++ b ∷ [])) (behind s g o b)
 behind_stands x s g l None b e h = tt
@@ -150,13 +150,15 @@ sorted_regrouped lead c x g w cs o t = simp append_assoc
 
 at_writes : (x : List ℕ) (s : Spot) (g : List ℕ) (r : Rule) → IsSpot s → IsBlanks g → spot_text s ++ g ≡ x → rule_at s g ≡ Some r → Writes x r
 at_writes x (cond_done h cs) g r i b t e =
-    subst (Writes x) (some_is _ _ e)
-      (record { lead = i.0.0; template = i.0.1; gap = i.0.2; conds = i.1; order = tt; tail = b },
-      rule_regrouped h.lead construct_text (items_text h.template) h.gap where_text (conds_text cs) g ∙ t)
+    subst (Writes x) (some_is _ _ e) (
+      record { lead = i.0.0; template = i.0.1; gap = i.0.2; conds = i.1; order = tt; tail = b },
+      rule_regrouped h.lead construct_text (items_text h.template) h.gap where_text (conds_text cs) g ∙ t,
+    )
 at_writes x (sorted h cs o) g r i b t e =
-    subst (Writes x) (some_is _ _ e)
-      (record { lead = i.0.0; template = i.0.1; gap = i.0.2; conds = i.1; order = i.2; tail = b },
-      sorted_regrouped h.lead construct_text (items_text h.template) h.gap where_text (conds_text cs) (order_text o) g ∙ t)
+    subst (Writes x) (some_is _ _ e) (
+      record { lead = i.0.0; template = i.0.1; gap = i.0.2; conds = i.1; order = i.2; tail = b },
+      sorted_regrouped h.lead construct_text (items_text h.template) h.gap where_text (conds_text cs) (order_text o) g ∙ t,
+    )
 at_writes x s g r i b t e = none_some r e
 
 behind_writes : (x : List ℕ) (s : Spot) (g : List ℕ) (l : Lex) (o : Option Token) (r : Rule) → token_in l ≡ o → Stands x (at s g l) → rule_behind s g o ≡ Some r → Writes x r

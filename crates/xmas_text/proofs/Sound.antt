@@ -80,9 +80,9 @@ lex_goes may (quoting ps) b h o =
     (λ m. goes may (34 ∷ (inside_quotes ps ++ b ∷ [])) (quoting (ps ++ plain b ∷ [])) (list_all-push is_piece ps (plain b) h (path_sound.plain_of b n m)) o (ap (λ r. 34 ∷ r) (path_sound.inside-push ps (plain b)))))
 lex_goes may (escaping ps) b h o =
     either _ (is_escape b) _ _
-      (λ e. goes may (34 ∷ ((inside_quotes ps ++ 92 ∷ []) ++ b ∷ [])) (quoting (ps ++ escape b ∷ [])) (list_all-push is_piece ps (escape b) h e) o
-        (ap (λ r. 34 ∷ r) (path_sound.inside-push ps (escape b) ∙ sym (append_assoc (inside_quotes ps) (92 ∷ []) (b ∷ [])))))
-      (λ m. tt)
+    (λ e. goes may (34 ∷ ((inside_quotes ps ++ 92 ∷ []) ++ b ∷ [])) (quoting (ps ++ escape b ∷ [])) (list_all-push is_piece ps (escape b) h e) o
+    (ap (λ r. 34 ∷ r) (path_sound.inside-push ps (escape b) ∙ sym (append_assoc (inside_quotes ps) (92 ∷ []) (b ∷ [])))))
+    (λ m. tt)
 lex_goes may (pathing s) b h o = path_goes_at may (lex_text (pathing s) ++ b ∷ []) (pathing_.step s b) (path_sound.step_stands (lex_text (pathing s)) s.here s.outer s.mode b h) o
 lex_goes may (ready t) b h o = tt
 lex_goes may (comparing k) b h o = either _ (b == 61) _ _ (λ e. goes may (sign_byte k ∷ b ∷ []) (ready (comparison (with_equal k))) tt o (sign_text k b (number_is b 61 e))) (λ m. tt)
@@ -90,28 +90,28 @@ lex_goes may (comparing k) b h o = either _ (b == 61) _ _ (λ e. goes may (sign_
 begin_mark_goes : (may : Kind → Bool) (m : Mark) (b : ℕ) (other : Option Lex) → Gives (Goes may (b ∷ [])) other → Gives (Goes may (b ∷ [])) (begin_mark m may b other)
 begin_mark_goes may m b other h =
     either _ (b == mark_first m && may (kind.Fixed m)) _ _
-      (λ e. let parts = and_parts (b == mark_first m) (may (kind.Fixed m)) e in goes may (b ∷ []) (marking m (mark_first m ∷ []) (mark_rest m)) refl parts.1 (ap (λ d. d ∷ []) (number_is b (mark_first m) parts.0)))
-      (λ n. h)
+    (λ e. let parts = and_parts (b == mark_first m) (may (kind.Fixed m)) e in goes may (b ∷ []) (marking m (mark_first m ∷ []) (mark_rest m)) refl parts.1 (ap (λ d. d ∷ []) (number_is b (mark_first m) parts.0)))
+    (λ n. h)
 
 pub begin_goes : (may : Kind → Bool) (b : ℕ) → Gives (Goes may (b ∷ [])) (begin may b)
 begin_goes may b =
     begin_mark_goes may mark.Construct b _ (begin_mark_goes may mark.Where b _ (begin_mark_goes may mark.And b _ (begin_mark_goes may mark.Order b _ (begin_mark_goes may mark.By b _ (begin_mark_goes may mark.Desc b _ (begin_mark_goes may mark.LabelWord b _ (begin_mark_goes may mark.OpenBrace b _ (begin_mark_goes may mark.CloseBrace b _ (begin_mark_goes may mark.Comma b _
     (either _ (b == 60 && (may kind.OpenTag || may kind.CloseTag)) _ _
-      (λ e. let parts = and_parts (b == 60) (may kind.OpenTag || may kind.CloseTag) e in goes may (b ∷ []) (angle (may kind.OpenTag) (may kind.CloseTag)) tt (λ h. h, λ h. h, parts.1) (ap (λ d. d ∷ []) (number_is b 60 parts.0)))
+    (λ e. let parts = and_parts (b == 60) (may kind.OpenTag || may kind.CloseTag) e in goes may (b ∷ []) (angle (may kind.OpenTag) (may kind.CloseTag)) tt (λ h. h, λ h. h, parts.1) (ap (λ d. d ∷ []) (number_is b 60 parts.0)))
     (λ n. either _ (b == 36 && may kind.Var) _ _
-      (λ e. let parts = and_parts (b == 36) (may kind.Var) e in goes may (b ∷ []) dollar tt parts.1 (ap (λ d. d ∷ []) (number_is b 36 parts.0)))
+    (λ e. let parts = and_parts (b == 36) (may kind.Var) e in goes may (b ∷ []) dollar tt parts.1 (ap (λ d. d ∷ []) (number_is b 36 parts.0)))
     (λ n. either _ (b == 34 && may kind.Quoted) _ _
-      (λ e. let parts = and_parts (b == 34) (may kind.Quoted) e in goes may (b ∷ []) (quoting []) refl parts.1 (ap (λ d. d ∷ []) (number_is b 34 parts.0)))
+    (λ e. let parts = and_parts (b == 34) (may kind.Quoted) e in goes may (b ∷ []) (quoting []) refl parts.1 (ap (λ d. d ∷ []) (number_is b 34 parts.0)))
     (λ n. either _ (b == 61 && may kind.Operator) _ _
-      (λ e. let parts = and_parts (b == 61) (may kind.Operator) e in goes may (b ∷ []) (ready (comparison op.Eq)) tt parts.1 (ap (λ d. d ∷ []) (number_is b 61 parts.0)))
+    (λ e. let parts = and_parts (b == 61) (may kind.Operator) e in goes may (b ∷ []) (ready (comparison op.Eq)) tt parts.1 (ap (λ d. d ∷ []) (number_is b 61 parts.0)))
     (λ n. either _ (b == 33 && may kind.Operator) _ _
-      (λ e. let parts = and_parts (b == 33) (may kind.Operator) e in goes may (b ∷ []) (comparing sign.Bang) tt parts.1 (ap (λ d. d ∷ []) (number_is b 33 parts.0)))
+    (λ e. let parts = and_parts (b == 33) (may kind.Operator) e in goes may (b ∷ []) (comparing sign.Bang) tt parts.1 (ap (λ d. d ∷ []) (number_is b 33 parts.0)))
     (λ n. either _ (b == 60 && may kind.Operator) _ _
-      (λ e. let parts = and_parts (b == 60) (may kind.Operator) e in goes may (b ∷ []) (comparing sign.Less) tt parts.1 (ap (λ d. d ∷ []) (number_is b 60 parts.0)))
+    (λ e. let parts = and_parts (b == 60) (may kind.Operator) e in goes may (b ∷ []) (comparing sign.Less) tt parts.1 (ap (λ d. d ∷ []) (number_is b 60 parts.0)))
     (λ n. either _ (b == 62 && may kind.Operator) _ _
-      (λ e. let parts = and_parts (b == 62) (may kind.Operator) e in goes may (b ∷ []) (comparing sign.Greater) tt parts.1 (ap (λ d. d ∷ []) (number_is b 62 parts.0)))
+    (λ e. let parts = and_parts (b == 62) (may kind.Operator) e in goes may (b ∷ []) (comparing sign.Greater) tt parts.1 (ap (λ d. d ∷ []) (number_is b 62 parts.0)))
     (λ n. either _ (is_name_byte b && may kind.Name) _ _
-      (λ e. let parts = and_parts (is_name_byte b) (may kind.Name) e in goes may (b ∷ []) (naming (b ∷ [])) (name_one b parts.0) parts.1 refl)
+    (λ e. let parts = and_parts (is_name_byte b) (may kind.Name) e in goes may (b ∷ []) (naming (b ∷ [])) (name_one b parts.0) parts.1 refl)
     (λ n. either _ (may kind.Path) _ _
-      (λ e. path_goes_at may (b ∷ []) (pathing_.step pathing_.first b) (path_sound.step_stands [] pathing_.empty [] pathing_.start b path_sound.first_stands) e)
+    (λ e. path_goes_at may (b ∷ []) (pathing_.step pathing_.first b) (path_sound.step_stands [] pathing_.empty [] pathing_.start b path_sound.first_stands) e)
     (λ n. tt)))))))))))))))))))

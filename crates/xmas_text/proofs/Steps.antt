@@ -52,8 +52,8 @@ pub next_scan : (s : Spot) (g : List ℕ) (b : ℕ) → option_map scan_of (next
 next_scan s g b =
     either (is_blank b) _ _ _ _ (blank_scan s g b)
     (with_lex_scan s g (begin (takes s g) b)
-     ∙ ap (option_map (with_part (scan_of (at s g between))))
-       (begin_part (takes s g) b ∙ ap (λ i. first_part (λ k. may_come (stage_of s) i (has_blank g) k) b) (inside_count (frames_of s))))
+    ∙ ap (option_map (with_part (scan_of (at s g between))))
+    (begin_part (takes s g) b ∙ ap (λ i. first_part (λ k. may_come (stage_of s) i (has_blank g) k) b) (inside_count (frames_of s))))
 
 -- the state between tokens that a token ends in, where one may end; between tokens the state itself
 abbrev pub rest_by : Spot → List ℕ → Option Token → Option State

@@ -53,7 +53,7 @@ rule_rest s g None = refl
 rule_rest s g (Some t) = refl
 
 -- a rule ends where the token at hand does
-whole_rest : (s : Spot) (g : List ℕ) (l : Lex) → whole_in s g l ≡ option_and_then (λ u. rule_at u.spot u.gap) (rest_in s g l)
+pub whole_rest : (s : Spot) (g : List ℕ) (l : Lex) → whole_in s g l ≡ option_and_then (λ u. rule_at u.spot u.gap) (rest_in s g l)
 whole_rest s g between = refl
 whole_rest s g (marking m done r) = rule_rest s g (token_in (marking m done r))
 whole_rest s g (angle o c) = refl

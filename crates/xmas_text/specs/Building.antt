@@ -56,7 +56,7 @@ pub record CanBuild (text : List ℕ) (at : ℕ) (b : BuildForm) : Type 0 where
   pub order : b.from ≤ at
   pub depth : b.scan.depth ≤ at
   pub part : part_depth b.scan.part ≤ at
-  pub short : length text < 2 ^ 63
+  pub short : length text < 2 ^ 64
   pub goes_on : (next : Scan) × (scan_step b.scan (slice_index text at) ≡ Some next)
   pub utf8 : part_step b.scan.part (slice_index text at) ≡ None → IsUtf8 (slice_range text b.from at)
   pub ended : part_step b.scan.part (slice_index text at) ≡ None → IsEnded b.scan.part (slice_range text b.from at)

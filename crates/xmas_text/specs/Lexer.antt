@@ -94,22 +94,22 @@ abbrev pub begin_word : (Kind → Bool) → ℕ → Option Lex
 begin_word may b =
     cond (b == 61 && may kind.Operator) (Some (ready (comparison op.Eq)))
     (cond (b == 33 && may kind.Operator) (Some (comparing sign.Bang))
-     (cond (b == 60 && may kind.Operator) (Some (comparing sign.Less))
-      (cond (b == 62 && may kind.Operator) (Some (comparing sign.Greater))
-       (cond (is_name_byte b && may kind.Name) (Some (naming (b ∷ []))) (cond (may kind.Path) (map_path (paths.step paths.first b)) None)))))
+    (cond (b == 60 && may kind.Operator) (Some (comparing sign.Less))
+    (cond (b == 62 && may kind.Operator) (Some (comparing sign.Greater))
+    (cond (is_name_byte b && may kind.Name) (Some (naming (b ∷ []))) (cond (may kind.Path) (map_path (paths.step paths.first b)) None)))))
 
 -- the first byte of any token, of those that may come
 abbrev pub begin : (Kind → Bool) → ℕ → Option Lex
 begin may b =
     begin_mark mark.Construct may b
     (begin_mark mark.Where may b
-     (begin_mark mark.And may b
-      (begin_mark mark.Order may b
-       (begin_mark mark.By may b
-        (begin_mark mark.Desc may b
-         (begin_mark mark.LabelWord may b
-          (begin_mark mark.OpenBrace may b
-           (begin_mark mark.CloseBrace may b
-            (begin_mark mark.Comma may b
-             (cond (b == 60 && (may kind.OpenTag || may kind.CloseTag)) (Some (angle (may kind.OpenTag) (may kind.CloseTag)))
-              (cond (b == 36 && may kind.Var) (Some dollar) (cond (b == 34 && may kind.Quoted) (Some (quoting [])) (begin_word may b)))))))))))))
+    (begin_mark mark.And may b
+    (begin_mark mark.Order may b
+    (begin_mark mark.By may b
+    (begin_mark mark.Desc may b
+    (begin_mark mark.LabelWord may b
+    (begin_mark mark.OpenBrace may b
+    (begin_mark mark.CloseBrace may b
+    (begin_mark mark.Comma may b
+    (cond (b == 60 && (may kind.OpenTag || may kind.CloseTag)) (Some (angle (may kind.OpenTag) (may kind.CloseTag)))
+    (cond (b == 36 && may kind.Var) (Some dollar) (cond (b == 34 && may kind.Quoted) (Some (quoting [])) (begin_word may b)))))))))))))

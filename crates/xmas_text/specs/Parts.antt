@@ -108,17 +108,17 @@ abbrev pub first_keyword : (Kind → Bool) → ℕ → Option Part
 first_keyword may b =
     first_mark mark.Construct may b
     (first_mark mark.Where may b
-     (first_mark mark.And may b (first_mark mark.Order may b (first_mark mark.By may b (first_mark mark.Desc may b None)))))
+    (first_mark mark.And may b (first_mark mark.Order may b (first_mark mark.By may b (first_mark mark.Desc may b None)))))
 
 -- the first byte of a tag, of an item or of a part of a group label, of those that may come
 abbrev pub first_item : (Kind → Bool) → ℕ → Option Part
 first_item may b =
     first_mark mark.LabelWord may b
     (first_mark mark.OpenBrace may b
-     (first_mark mark.CloseBrace may b
-      (first_mark mark.Comma may b
-       (cond (b == 60 && (may kind.OpenTag || may kind.CloseTag)) (Some (part.Angle (may kind.OpenTag) (may kind.CloseTag)))
-        (cond (b == 36 && may kind.Var) (Some part.Dollar) (cond (b == 34 && may kind.Quoted) (Some part.Quoting) None))))))
+    (first_mark mark.CloseBrace may b
+    (first_mark mark.Comma may b
+    (cond (b == 60 && (may kind.OpenTag || may kind.CloseTag)) (Some (part.Angle (may kind.OpenTag) (may kind.CloseTag)))
+    (cond (b == 36 && may kind.Var) (Some part.Dollar) (cond (b == 34 && may kind.Quoted) (Some part.Quoting) None))))))
 
 -- the first byte of a path, where one may come
 abbrev pub first_path : Bool → ℕ → Option Part
@@ -129,9 +129,9 @@ abbrev pub first_word : (Kind → Bool) → ℕ → Option Part
 first_word may b =
     cond (b == 61 && may kind.Operator) (Some (part.Ready kind.Operator))
     (cond (b == 33 && may kind.Operator) (Some (part.Comparing sign.Bang))
-     (cond (b == 60 && may kind.Operator) (Some (part.Comparing sign.Less))
-      (cond (b == 62 && may kind.Operator) (Some (part.Comparing sign.Greater))
-       (cond (is_name_byte b && may kind.Name) (Some part.Naming) (first_path (may kind.Path) b)))))
+    (cond (b == 60 && may kind.Operator) (Some (part.Comparing sign.Less))
+    (cond (b == 62 && may kind.Operator) (Some (part.Comparing sign.Greater))
+    (cond (is_name_byte b && may kind.Name) (Some part.Naming) (first_path (may kind.Path) b)))))
 
 -- the first byte of any token, of those that may come
 abbrev pub first_part : (Kind → Bool) → ℕ → Option Part

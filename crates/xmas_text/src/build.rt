@@ -25,7 +25,13 @@ pub struct Build {
 }
 
 // The draft behind the token that ends, where one does, which begins at a place.
-fn end_token(alloc: Global, draft: Draft, part: Part, from: usize, text: &[u8]) -> Result<Draft, AllocError>
+fn end_token(
+    alloc: Global,
+    draft: Draft,
+    part: Part,
+    from: usize,
+    text: &[u8],
+) -> Result<Draft, AllocError>
     requires utf8 { IsUtf8 text.now }
     requires ended { IsEnded part text.now }
     ensures { IfOk result (λ d. EndsToken part text.now from (draft_in draft) (draft_in d)) }
@@ -59,11 +65,30 @@ fn build_byte(alloc: Global, build: Build, text: &[u8], at: usize) -> Result<Bui
         unreachable!()
     };
     if let Some(_) = next_part(scan.part, byte) {
-        return Ok(Build { scan: next, from, draft });
+        return Ok(Build {
+            scan: next,
+            from,
+            draft,
+        });
     }
     let draft = end_token(alloc, draft, scan.part, from, &text[from..at])?;
     let from = begins_at(at, next.part);
-    Ok(Build { scan: next, from, draft })
+    Ok(Build {
+        scan: next,
+        from,
+        draft,
+    })
+}
+
+// The draft behind the end of the text.
+fn end_build(alloc: Global, build: Build, text: &[u8]) -> Result<Draft, AllocError>
+    requires order { build.from ≤ length text.now }
+    requires utf8 { IsUtf8 (slice_range text.now build.from (length text.now)) }
+    requires ended { IsEnded build.scan.part (slice_range text.now build.from (length text.now)) }
+    ensures { IfOk result (λ d. EndsToken build.scan.part (slice_range text.now build.from (length text.now)) build.from (draft_in build.draft) (draft_in d)) }
+{
+    let Build { scan, from, draft } = build;
+    end_token(alloc, draft, scan.part, from, &text[from..text.len()])
 }
 
 // The rule of a draft whose items are its template.
@@ -72,11 +97,20 @@ fn finish(draft: Draft) -> RuleText
     ensures { form_of result ≡ tree_of (draft_in draft) }
 {
     let Draft { built, pending: _ } = draft;
-    let Built { open: _, mut items, conds, order } = built;
+    let Built {
+        open: _,
+        mut items,
+        conds,
+        order,
+    } = built;
     let Some(ItemText::Element(template)) = items.pop() else {
         unreachable!()
     };
-    RuleText { template, conds, order }
+    RuleText {
+        template,
+        conds,
+        order,
+    }
 }
 
 /// Builds the tree that a text spells.
@@ -93,7 +127,6 @@ pub fn build_rule(alloc: Global, text: &[u8]) -> Result<RuleText, AllocError>
     for at in 0..text.len() {
         build = build_byte(alloc, build, text, at)?;
     }
-    let Build { scan, from, draft } = build;
-    let draft = end_token(alloc, draft, scan.part, from, &text[from..text.len()])?;
+    let draft = end_build(alloc, build, text)?;
     Ok(finish(draft))
 }

@@ -108,7 +108,10 @@ impl Draft {
             conds: Vec::new(alloc),
             order: None,
         };
-        Draft { built, pending: Pending::Items }
+        Draft {
+            built,
+            pending: Pending::Items,
+        }
     }
 }
 
@@ -116,33 +119,88 @@ impl Draft {
 fn push_item(built: Built, item: ItemText) -> Result<Draft, AllocError>
     ensures { IfOk result (λ d. drafts.draft_in d ≡ shifted.with_item (drafts.built_in built) item) }
 {
-    let Built { open, mut items, conds, order } = built;
+    let Built {
+        open,
+        mut items,
+        conds,
+        order,
+    } = built;
     items.push(item)?;
-    let built = Built { open, items, conds, order };
-    Ok(Draft { built, pending: Pending::Items })
+    let built = Built {
+        open,
+        items,
+        conds,
+        order,
+    };
+    Ok(Draft {
+        built,
+        pending: Pending::Items,
+    })
 }
 
 // An opening tag.
 fn open_element(alloc: Global, built: Built, at: usize, name: Label) -> Result<Draft, AllocError>
     ensures { IfOk result (λ d. drafts.draft_in d ≡ shifted.opened (drafts.built_in built) at name) }
 {
-    let Built { mut open, items, conds, order } = built;
-    open.push(OpenElement { at, name, before: items })?;
-    let built = Built { open, items: Vec::new(alloc), conds, order };
-    Ok(Draft { built, pending: Pending::Items })
+    let Built {
+        mut open,
+        items,
+        conds,
+        order,
+    } = built;
+    open.push(OpenElement {
+        at,
+        name,
+        before: items,
+    })?;
+    let built = Built {
+        open,
+        items: Vec::new(alloc),
+        conds,
+        order,
+    };
+    Ok(Draft {
+        built,
+        pending: Pending::Items,
+    })
 }
 
 // A closing tag.
 fn close_element(built: Built, close_at: usize, close_name: Label) -> Result<Draft, AllocError>
     ensures { IfOk result (λ d. drafts.draft_in d ≡ shifted.closed (drafts.built_in built) close_at close_name) }
 {
-    let Built { mut open, items, conds, order } = built;
+    let Built {
+        mut open,
+        items,
+        conds,
+        order,
+    } = built;
     let Some(OpenElement { at, name, before }) = open.pop() else {
-        let built = Built { open, items, conds, order };
-        return Ok(Draft { built, pending: Pending::Items });
+        let built = Built {
+            open,
+            items,
+            conds,
+            order,
+        };
+        return Ok(Draft {
+            built,
+            pending: Pending::Items,
+        });
     };
-    let element = ElementText { at, name, items, close_at, close_name, group: None };
-    let built = Built { open, items: before, conds, order };
+    let element = ElementText {
+        at,
+        name,
+        items,
+        close_at,
+        close_name,
+        group: None,
+    };
+    let built = Built {
+        open,
+        items: before,
+        conds,
+        order,
+    };
     push_item(built, ItemText::Element(element))
 }
 
@@ -150,12 +208,28 @@ fn close_element(built: Built, close_at: usize, close_name: Label) -> Result<Dra
 fn begin_group(alloc: Global, built: Built, at: usize) -> Draft
     ensures { drafts.draft_in result ≡ shifted.grouped (drafts.built_in built) at }
 {
-    let Built { open, mut items, conds, order } = built;
+    let Built {
+        open,
+        mut items,
+        conds,
+        order,
+    } = built;
     let pending = match items.pop() {
-        Some(item) => Pending::Keys(item, GroupText { at, keys: Vec::new(alloc) }),
+        Some(item) => Pending::Keys(
+            item,
+            GroupText {
+                at,
+                keys: Vec::new(alloc),
+            },
+        ),
         None => Pending::Items,
     };
-    let built = Built { open, items, conds, order };
+    let built = Built {
+        open,
+        items,
+        conds,
+        order,
+    };
     Draft { built, pending }
 }
 
@@ -168,7 +242,14 @@ fn shift_item(alloc: Global, built: Built, at: usize, token: Lexeme) -> Result<D
         Lexeme::CloseTag(name) => return close_element(built, at, name),
         Lexeme::Var(name) => {
             let var = VarText { at, name };
-            return push_item(built, ItemText::Node(ShownText { at, var, group: None }));
+            return push_item(
+                built,
+                ItemText::Node(ShownText {
+                    at,
+                    var,
+                    group: None,
+                }),
+            );
         }
         Lexeme::Quoted(label) => return push_item(built, ItemText::Text(label)),
         Lexeme::Fixed(Mark::OpenBrace) => return Ok(begin_group(alloc, built, at)),
@@ -184,10 +265,20 @@ fn shift_labelled(built: Built, start: usize, at: usize, token: Lexeme) -> Resul
     ensures { IfOk result (λ d. drafts.draft_in d ≡ shifted.labelled_shifted (drafts.built_in built) start at token) }
 {
     let Lexeme::Var(name) = token else {
-        return Ok(Draft { built, pending: Pending::Labelled(start) });
+        return Ok(Draft {
+            built,
+            pending: Pending::Labelled(start),
+        });
     };
     let var = VarText { at, name };
-    push_item(built, ItemText::LabelOf(ShownText { at: start, var, group: None }))
+    push_item(
+        built,
+        ItemText::LabelOf(ShownText {
+            at: start,
+            var,
+            group: None,
+        }),
+    )
 }
 
 // The item with a group label.
@@ -197,42 +288,93 @@ fn with_group(item: ItemText, group: GroupText) -> ItemText
     let group = Some(group);
     match item {
         ItemText::Element(element) => {
-            let ElementText { at, name, items, close_at, close_name, group: _ } = element;
-            ItemText::Element(ElementText { at, name, items, close_at, close_name, group })
+            let ElementText {
+                at,
+                name,
+                items,
+                close_at,
+                close_name,
+                group: _,
+            } = element;
+            ItemText::Element(ElementText {
+                at,
+                name,
+                items,
+                close_at,
+                close_name,
+                group,
+            })
         }
-        ItemText::Node(ShownText { at, var, group: _ }) => ItemText::Node(ShownText { at, var, group }),
-        ItemText::LabelOf(ShownText { at, var, group: _ }) => ItemText::LabelOf(ShownText { at, var, group }),
+        ItemText::Node(ShownText { at, var, group: _ }) => ItemText::Node(ShownText {
+            at,
+            var,
+            group,
+        }),
+        ItemText::LabelOf(ShownText { at, var, group: _ }) => ItemText::LabelOf(ShownText {
+            at,
+            var,
+            group,
+        }),
         ItemText::Text(label) => ItemText::Text(label),
     }
 }
 
 // One more key.
-fn push_key(built: Built, item: ItemText, group: GroupText, key: KeyText) -> Result<Draft, AllocError>
+fn push_key(
+    built: Built,
+    item: ItemText,
+    group: GroupText,
+    key: KeyText,
+) -> Result<Draft, AllocError>
     ensures { IfOk result (λ d. drafts.draft_in d ≡ shifted.with_key (drafts.built_in built) item group key) }
 {
     let GroupText { at, mut keys } = group;
     keys.push(key)?;
-    Ok(Draft { built, pending: Pending::Keys(item, GroupText { at, keys }) })
+    Ok(Draft {
+        built,
+        pending: Pending::Keys(item, GroupText { at, keys }),
+    })
 }
 
 // A token inside a group label.
-fn shift_keys(built: Built, item: ItemText, group: GroupText, at: usize, token: Lexeme) -> Result<Draft, AllocError>
+fn shift_keys(
+    built: Built,
+    item: ItemText,
+    group: GroupText,
+    at: usize,
+    token: Lexeme,
+) -> Result<Draft, AllocError>
     ensures { IfOk result (λ d. drafts.draft_in d ≡ shifted.keys_shifted (drafts.built_in built) item group at token) }
 {
     match token {
         Lexeme::Var(name) => push_key(built, item, group, KeyText::Node(VarText { at, name })),
-        Lexeme::Fixed(Mark::LabelWord) => Ok(Draft { built, pending: Pending::KeyLabel(item, group) }),
+        Lexeme::Fixed(Mark::LabelWord) => Ok(Draft {
+            built,
+            pending: Pending::KeyLabel(item, group),
+        }),
         Lexeme::Fixed(Mark::CloseBrace) => push_item(built, with_group(item, group)),
-        _ => Ok(Draft { built, pending: Pending::Keys(item, group) }),
+        _ => Ok(Draft {
+            built,
+            pending: Pending::Keys(item, group),
+        }),
     }
 }
 
 // A token behind `label` inside a group label.
-fn shift_key_label(built: Built, item: ItemText, group: GroupText, at: usize, token: Lexeme) -> Result<Draft, AllocError>
+fn shift_key_label(
+    built: Built,
+    item: ItemText,
+    group: GroupText,
+    at: usize,
+    token: Lexeme,
+) -> Result<Draft, AllocError>
     ensures { IfOk result (λ d. drafts.draft_in d ≡ shifted.key_label_shifted (drafts.built_in built) item group at token) }
 {
     let Lexeme::Var(name) = token else {
-        return Ok(Draft { built, pending: Pending::KeyLabel(item, group) });
+        return Ok(Draft {
+            built,
+            pending: Pending::KeyLabel(item, group),
+        });
     };
     push_key(built, item, group, KeyText::LabelOf(VarText { at, name }))
 }
@@ -275,35 +417,71 @@ fn shift_from(built: Built, start: StartText, token: Lexeme) -> Draft
 fn push_cond(built: Built, cond: CondText) -> Result<Draft, AllocError>
     ensures { IfOk result (λ d. drafts.draft_in d ≡ shifted.with_cond (drafts.built_in built) cond) }
 {
-    let Built { open, items, mut conds, order } = built;
+    let Built {
+        open,
+        items,
+        mut conds,
+        order,
+    } = built;
     conds.push(cond)?;
-    let built = Built { open, items, conds, order };
-    Ok(Draft { built, pending: Pending::Done })
+    let built = Built {
+        open,
+        items,
+        conds,
+        order,
+    };
+    Ok(Draft {
+        built,
+        pending: Pending::Done,
+    })
 }
 
 // A token behind a path.
-fn shift_path(built: Built, start: StartText, path: PathText, at: usize, token: Lexeme) -> Result<Draft, AllocError>
+fn shift_path(
+    built: Built,
+    start: StartText,
+    path: PathText,
+    at: usize,
+    token: Lexeme,
+) -> Result<Draft, AllocError>
     ensures { IfOk result (λ d. drafts.draft_in d ≡ shifted.path_shifted (drafts.built_in built) start path at token) }
 {
     let Lexeme::Var(name) = token else {
-        return Ok(Draft { built, pending: Pending::CondPath(start, path) });
+        return Ok(Draft {
+            built,
+            pending: Pending::CondPath(start, path),
+        });
     };
     let var = VarText { at, name };
     let cond = match start {
-        StartText::Source(at, source) => CondText::FromSource { at, source, path, var },
+        StartText::Source(at, source) => CondText::FromSource {
+            at,
+            source,
+            path,
+            var,
+        },
         StartText::Var(start) => CondText::FromVar { start, path, var },
     };
     push_cond(built, cond)
 }
 
 // A token behind an operator.
-fn shift_compared(built: Built, left: VarText, op: TestOp, at: usize, token: Lexeme) -> Result<Draft, AllocError>
+fn shift_compared(
+    built: Built,
+    left: VarText,
+    op: TestOp,
+    at: usize,
+    token: Lexeme,
+) -> Result<Draft, AllocError>
     ensures { IfOk result (λ d. drafts.draft_in d ≡ shifted.compared_shifted (drafts.built_in built) left op at token) }
 {
     let right = match token {
         Lexeme::Var(name) => OperandText::Var(VarText { at, name }),
         Lexeme::Quoted(label) => OperandText::Text(label),
-        _ => return Ok(Draft { built, pending: Pending::Compared(left, op) }),
+        _ => return Ok(Draft {
+            built,
+            pending: Pending::Compared(left, op),
+        }),
     };
     push_cond(built, CondText::Compare { left, op, right })
 }
@@ -320,14 +498,30 @@ fn descending(order: Option<OrderText>) -> Option<OrderText>
 fn shift_done(built: Built, at: usize, token: Lexeme) -> Draft
     ensures { drafts.draft_in result ≡ shifted.done_shifted (drafts.built_in built) at token }
 {
-    let Built { open, items, conds, order } = built;
+    let Built {
+        open,
+        items,
+        conds,
+        order,
+    } = built;
     let (order, pending) = match token {
         Lexeme::Fixed(Mark::And) => (order, Pending::Cond),
-        Lexeme::Var(name) => (Some(OrderText { var: VarText { at, name }, desc: false }), Pending::Done),
+        Lexeme::Var(name) => (
+            Some(OrderText {
+                var: VarText { at, name },
+                desc: false,
+            }),
+            Pending::Done,
+        ),
         Lexeme::Fixed(Mark::Desc) => (descending(order), Pending::Done),
         _other => (order, Pending::Done),
     };
-    let built = Built { open, items, conds, order };
+    let built = Built {
+        open,
+        items,
+        conds,
+        order,
+    };
     Draft { built, pending }
 }
 

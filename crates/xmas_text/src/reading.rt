@@ -1,9 +1,23 @@
 // Reading the rule that a text spells.
-ghost use Rattle.xmas_text.specs.Results.{Answers};
+ghost use Rattle.std.specs.Prelude.{IfOk, IsUtf8};
+ghost use Rattle.xmas_text.specs.Parsed.{RuleForm};
+ghost use Rattle.xmas_text.specs.Results.{Answers, SpellsWithin, IsTree};
 
 use crate::TextFault;
+use crate::build::build_rule;
 use crate::rule::RuleText;
+use crate::scan::scan_rule;
 use std::alloc::Global;
+use std::str;
+
+// Reads a text that is UTF-8.
+fn read(alloc: Global, text: &[u8]) -> Result<RuleText, TextFault>
+    requires { IsUtf8 text.now }
+    ensures { Answers text.now result }
+{
+    scan_rule(text)?;
+    Ok(build_rule(alloc, text)?)
+}
 
 /// The rule that a text spells, with the place of each of its parts.
 ///
@@ -16,11 +30,17 @@ use std::alloc::Global;
 /// - `EndsEarly` where a rule's text goes on from the end.
 /// - `TooDeep` where an element stands inside 20 others.
 ///
-/// `OutOfMemory` can come with any text. Tags whose names differ are no fault here, and a path that passes its limits is kept as
-/// the limit that it passes.
-pub fn parse_rule(_alloc: Global, _text: &[u8]) -> Result<RuleText, TextFault>
+/// `OutOfMemory` can come with any text. Tags whose names differ are no fault here, and in place of a path that passes its limits
+/// stands the limit that it passes.
+pub fn parse_rule(alloc: Global, text: &[u8]) -> Result<RuleText, TextFault>
     // The answer is that of the text: the tree that it spells, or why none is read.
-    ensures answers { Answers _text.now result }
+    ensures answers { Answers text.now result }
+
+    // What is spelled within the limit is read, unless memory runs out.
+    ensures only { (v : RuleForm) → IsUtf8 text.now → SpellsWithin text.now v → IsTree result v }
 {
-    Err(TextFault::OutOfMemory)
+    match str::from_utf8(text) {
+        Ok(_) => read(alloc, text),
+        Err(error) => Err(TextFault::NotUtf8(error.valid_up_to())),
+    }
 }

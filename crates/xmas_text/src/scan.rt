@@ -95,7 +95,7 @@ fn begin_item(scan: Scan, byte: u8) -> Option<Part>
 }
 
 // The first byte of a path, where one may come.
-fn begin_path(scan: Scan, byte: u8) -> Option<Part> 
+fn begin_path(scan: Scan, byte: u8) -> Option<Part>
     ensures step { result ≡ first_path (scans.may_now scan Kind.Path) byte }
     ensures depth { IfSome result (λ p. part_depth p ≤ 1) }
 {
@@ -146,7 +146,13 @@ fn scan_between(scan: Scan, byte: u8) -> Option<Scan>
     } else {
         (scan.gap, begin_part(scan, byte)?)
     };
-    Some(Scan { stage: scan.stage, depth: scan.depth, deep: scan.deep, gap, part })
+    Some(Scan {
+        stage: scan.stage,
+        depth: scan.depth,
+        deep: scan.deep,
+        gap,
+        part,
+    })
 }
 
 // How many elements are open behind a token, and whether more than 20 were.
@@ -170,7 +176,13 @@ fn scan_behind(scan: Scan, kind: Kind) -> Scan
     ensures depth { result.depth ≤ scan.depth + 1 }
 {
     let (depth, deep) = depth_behind(scan, kind);
-    Scan { stage: stage_behind(scan.stage, kind), depth, deep, gap: false, part: Part::Between }
+    Scan {
+        stage: stage_behind(scan.stage, kind),
+        depth,
+        deep,
+        gap: false,
+        part: Part::Between,
+    }
 }
 
 /// The scan behind the token that ends here; between tokens the scan itself; `None` where no token may end.
@@ -194,7 +206,13 @@ pub fn scan_byte(scan: Scan, byte: u8) -> Option<Scan>
     ensures part { IfSome result (λ next. part_depth next.part ≤ part_depth scan.part + 1) }
 {
     if let Some(part) = next_part(scan.part, byte) {
-        return Some(Scan { stage: scan.stage, depth: scan.depth, deep: scan.deep, gap: scan.gap, part });
+        return Some(Scan {
+            stage: scan.stage,
+            depth: scan.depth,
+            deep: scan.deep,
+            gap: scan.gap,
+            part,
+        });
     }
     scan_between(settle(scan)?, byte)
 }
