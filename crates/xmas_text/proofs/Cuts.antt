@@ -8,7 +8,7 @@ use Rattle.std.specs.Str.{IsUtf8}
 use Rattle.mix_base.proofs.Choices.{Gives, and_parts, some_is, none_some}
 use Rattle.mix_base.proofs.Utf8.{utf8_behind}
 use Rattle.mix_tree.specs.LabelGrammar.{is_escape}
-use Rattle.path_expr.specs.Names.{is_name_byte}
+use Rattle.mix_tree.specs.Names.{is_name_byte}
 use Rattle.path_expr.specs.declared.scan.Scan as path_scan
 use Rattle.path_expr.specs.declared.scan.Stage.TheVariants as path_stage
 use Rattle.path_expr.specs.Scanned as scanned

@@ -2,7 +2,7 @@
 use Rattle.std.proofs.Common.{◌≡◌, ◌∙◌, ◌+◌, ◌&&◌, ℕ, Bool, true, false, IsTrue, reverse, List, [], ◌∷◌, ◌++◌, Option, Some, None, refl, sym, ap, arith, length, length-append}
 use Rattle.std.proofs.lemmas.List.{reverse-append, reverse-reverse}
 use Rattle.path_expr.specs.Grammar as paths
-use Rattle.xmas_text.specs.declared.cond.TestOp.{TestOp}
+use Rattle.mix_tree.specs.declared.comparing.TestOp.{TestOp}
 use Rattle.xmas_text.specs.declared.token.Mark.TheVariants as mark
 use Rattle.xmas_text.specs.declared.cond.CondText.{CondText}
 use Rattle.xmas_text.specs.declared.element.ItemText.{ItemText}

@@ -11,7 +11,7 @@ use Rattle.std.proofs.Common.{rules}
 use Rattle.mix_tree.specs.Spelling.{is_bare_label}
 use Rattle.mix_tree.specs.LabelGrammar.{SpellsLabel, SpellsBare, SpellsQuoted, meaning, inside_quotes}
 use Rattle.mix_tree.specs.LabelReads.{SpellsNowhere, IsLongest, IsNoLabel, IsCutLabel}
-use Rattle.path_expr.specs.Names.{IsName}
+use Rattle.mix_tree.specs.Names.{IsName}
 use Rattle.path_expr.specs.Grammar as paths
 use Rattle.path_expr.specs.Form.{Form, positions_in}
 use Rattle.path_expr.specs.Values.{value_of}

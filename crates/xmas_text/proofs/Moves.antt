@@ -4,7 +4,7 @@ use Rattle.xmas_text.specs.declared.token.Mark.TheVariants as mark
 use Rattle.xmas_text.specs.declared.stage.Last.TheVariants as last
 use Rattle.xmas_text.specs.declared.stage.Stage.TheVariants as stage
 use Rattle.path_expr.specs.Grammar.{Spelled}
-use Rattle.xmas_text.specs.declared.cond.TestOp.{TestOp}
+use Rattle.mix_tree.specs.declared.comparing.TestOp.{TestOp}
 use Rattle.xmas_text.specs.Grammar.{Conds, Group, absent, braced, Items, nothing, variable, literal, element, Keys, none, first, more, Key, Order, unordered, ordered, descending}
 use Rattle.xmas_text.specs.Levels.{levels}
 use Rattle.xmas_text.specs.Tokens.{Token, fixed, open_tag, close_tag, word, var, quoted, path, comparison, kind_of}

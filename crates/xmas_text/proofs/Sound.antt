@@ -4,7 +4,7 @@ use Rattle.std.specs.List.{list_all}
 use Rattle.mix_base.proofs.Choices.{and_parts, and_both, list_all-push, some_is, none_some, Gives, either, number_is}
 use Rattle.mix_base.proofs.Lists.{append_nil}
 use Rattle.mix_tree.specs.LabelGrammar.{Piece, plain, escape, is_escape, is_plain, is_piece, ArePieces, inside_quotes}
-use Rattle.path_expr.specs.Names.{is_name_byte, IsName}
+use Rattle.mix_tree.specs.Names.{is_name_byte, IsName}
 use Rattle.xmas_text.specs.Grammar.{quoted_text, op_text, Rule, IsRule, rule_text, Writes, items_text, conds_text, construct_text, where_text}
 use Rattle.xmas_text.specs.Lexer.{Lex, between, marking, angle, opening, slash, closing, naming, dollar, varying, quoting, escaping, pathing, ready, comparing, on_mark, map_path, lex_step, as_path, as_mark, token_in, begin_mark, begin}
 use Rattle.xmas_text.specs.Lexical.{is_blank, is_letter, is_word_byte, IsBlanks, IsGap, IsVar}
@@ -14,7 +14,7 @@ use Rattle.xmas_text.specs.Tokens.{Token, fixed, open_tag, close_tag, word, var,
 use Rattle.xmas_text.specs.declared.token.Kind.{Kind}
 use Rattle.xmas_text.specs.declared.token.Mark.{Mark}
 use Rattle.xmas_text.specs.declared.token.Sign.{Sign}
-use Rattle.xmas_text.specs.declared.cond.TestOp.TheVariants as op
+use Rattle.mix_tree.specs.declared.comparing.TestOp.TheVariants as op
 use Rattle.xmas_text.specs.declared.token.Mark.TheVariants as mark
 use Rattle.xmas_text.specs.declared.token.Sign.TheVariants as sign
 use Rattle.xmas_text.specs.declared.token.Kind.TheVariants as kind

@@ -5,7 +5,7 @@ use Rattle.std.specs.List.{list_all}
 use Rattle.mix_base.proofs.Choices.{and_parts, and_both, list_all-push, some_is, none_some, Gives, either, number_is}
 use Rattle.mix_base.proofs.Lists.{append_nil}
 use Rattle.mix_tree.specs.LabelGrammar.{Piece, ArePieces, inside_quotes}
-use Rattle.path_expr.specs.Names.{is_name_byte, IsName}
+use Rattle.mix_tree.specs.Names.{is_name_byte, IsName}
 use Rattle.xmas_text.specs.Grammar.{Key, Items, nothing, variable, literal, element, Keys, none, first, more, Conds, Order, unordered, ordered, descending, Rule}
 use Rattle.xmas_text.specs.Lexer.{Lex, between, marking, angle, opening, slash, closing, naming, dollar, varying, quoting, escaping, pathing, ready, comparing, map_path, as_path, lex_step, token_in, begin}
 use Rattle.xmas_text.specs.Lexical.{is_blank, is_letter, is_word_byte, IsBlanks, IsGap, IsVar}
@@ -13,11 +13,11 @@ use Rattle.xmas_text.specs.Machine.{State, at, next, step, run}
 use Rattle.xmas_text.specs.Spots.{Frame, Head, Place, at_first, at_more, Before, Start, by_name, by_var, Spot, beginning, items, labelled, keys, key_comma, key_label, cond_start, cond_from, cond_path, cond_done, compared, ordering, ordering_by, sorted, has_blank, item_gap, may_group, is_nothing, is_none, takes, push_key, shift}
 use Rattle.xmas_text.specs.Stages.{not}
 use Rattle.xmas_text.specs.Tokens.{Token, fixed, open_tag, close_tag, word, var, quoted, path, comparison, kind_of, mark_first, mark_rest, token_text}
-use Rattle.xmas_text.specs.declared.cond.TestOp.{TestOp}
+use Rattle.mix_tree.specs.declared.comparing.TestOp.{TestOp}
 use Rattle.xmas_text.specs.declared.token.Kind.{Kind}
 use Rattle.xmas_text.specs.declared.token.Mark.{Mark}
 use Rattle.xmas_text.specs.declared.token.Sign.{Sign}
-use Rattle.xmas_text.specs.declared.cond.TestOp.TheVariants as op
+use Rattle.mix_tree.specs.declared.comparing.TestOp.TheVariants as op
 use Rattle.xmas_text.specs.declared.token.Mark.TheVariants as mark
 use Rattle.xmas_text.specs.declared.token.Sign.TheVariants as sign
 use Rattle.xmas_text.specs.declared.token.Kind.TheVariants as kind

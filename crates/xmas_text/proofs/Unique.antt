@@ -4,8 +4,8 @@ use Rattle.std.proofs.lemmas.List.{append_cancel_right}
 use Rattle.mix_tree.specs.LabelGrammar.{Piece, ArePieces, meaning, inside_quotes}
 use Rattle.path_expr.specs.Grammar as paths
 use Rattle.path_expr.proofs.Verdicts.{one_spelled}
-use Rattle.xmas_text.specs.declared.cond.TestOp.{TestOp}
-use Rattle.xmas_text.specs.declared.cond.TestOp.TheVariants as op
+use Rattle.mix_tree.specs.declared.comparing.TestOp.{TestOp}
+use Rattle.mix_tree.specs.declared.comparing.TestOp.TheVariants as op
 use Rattle.xmas_text.specs.declared.token.Mark.{Mark}
 use Rattle.xmas_text.specs.declared.draft.Lexeme.{Lexeme}
 use Rattle.xmas_text.specs.declared.draft.Lexeme.TheVariants as lexeme

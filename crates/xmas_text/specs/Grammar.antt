@@ -1,10 +1,10 @@
 -- How rules are spelled.
 use Rattle.std.specs.Prelude.{◌≡◌, ℕ, List, [], ◌∷◌, ◌++◌}
 use Rattle.mix_tree.specs.LabelGrammar.{Piece, ArePieces, inside_quotes}
-use Rattle.path_expr.specs.Names.{IsName}
+use Rattle.mix_tree.specs.Names.{IsName}
 use Rattle.path_expr.specs.Grammar as paths
-use Rattle.xmas_text.specs.declared.cond.TestOp.{TestOp}
-use Rattle.xmas_text.specs.declared.cond.TestOp.TheVariants as op
+use Rattle.mix_tree.specs.declared.comparing.TestOp.{TestOp}
+use Rattle.mix_tree.specs.declared.comparing.TestOp.TheVariants as op
 use Rattle.xmas_text.specs.Lexical.{IsBlanks, IsGap, IsVar}
 
 -- a variable, or `label`, a gap and a variable

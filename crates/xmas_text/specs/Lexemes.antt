@@ -3,8 +3,8 @@ use Rattle.std.specs.Prelude.{◌≡◌, ℕ, Bool, true, false, cond, ◌==◌,
 use Rattle.mix_tree.specs.LabelGrammar.{Piece, ArePieces, meaning}
 use Rattle.path_expr.specs.Form.{Form}
 use Rattle.path_expr.specs.Grammar as paths
-use Rattle.xmas_text.specs.declared.cond.TestOp.{TestOp}
-use Rattle.xmas_text.specs.declared.cond.TestOp.TheVariants as op
+use Rattle.mix_tree.specs.declared.comparing.TestOp.{TestOp}
+use Rattle.mix_tree.specs.declared.comparing.TestOp.TheVariants as op
 use Rattle.xmas_text.specs.declared.cond.PathLimit.{PathLimit}
 use Rattle.xmas_text.specs.declared.token.Kind.{Kind}
 use Rattle.xmas_text.specs.declared.draft.Lexeme.{Lexeme}

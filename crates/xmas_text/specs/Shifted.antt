@@ -8,7 +8,7 @@ use Rattle.xmas_text.specs.declared.var.KeyText.TheVariants as keyed
 use Rattle.xmas_text.specs.declared.var.ShownText.{ShownText}
 use Rattle.xmas_text.specs.declared.element.ItemText.{ItemText}
 use Rattle.xmas_text.specs.declared.element.ItemText.TheVariants as item
-use Rattle.xmas_text.specs.declared.cond.TestOp.{TestOp}
+use Rattle.mix_tree.specs.declared.comparing.TestOp.{TestOp}
 use Rattle.xmas_text.specs.declared.cond.PathLimit.{PathLimit}
 use Rattle.xmas_text.specs.declared.cond.OperandText.TheVariants as operand
 use Rattle.xmas_text.specs.declared.cond.CondText.{CondText}

@@ -1,7 +1,7 @@
 -- Where in a rule a token stands, with all that was read before it.
 use Rattle.std.specs.Prelude.{ℕ, Bool, true, false, List, [], ◌∷◌, ◌++◌}
 use Rattle.path_expr.specs.Grammar.{Spelled}
-use Rattle.xmas_text.specs.declared.cond.TestOp.{TestOp}
+use Rattle.mix_tree.specs.declared.comparing.TestOp.{TestOp}
 use Rattle.xmas_text.specs.declared.token.Mark.TheVariants as mark
 use Rattle.xmas_text.specs.declared.token.Kind.{Kind}
 use Rattle.xmas_text.specs.declared.stage.Last.{Last}

@@ -2,10 +2,10 @@
 use Rattle.std.specs.Prelude.{ℕ, List, [], ◌∷◌, ◌++◌, Option, Some, None}
 use Rattle.mix_tree.specs.LabelGrammar.{Piece, ArePieces}
 use Rattle.path_expr.specs.Grammar.{Spelled, text_of, Is, a_path}
-use Rattle.path_expr.specs.Names.{IsName}
+use Rattle.mix_tree.specs.Names.{IsName}
 use Rattle.xmas_text.specs.Lexical.{IsVar}
-use Rattle.xmas_text.specs.declared.cond.TestOp.{TestOp}
-use Rattle.xmas_text.specs.declared.cond.TestOp.TheVariants as op
+use Rattle.mix_tree.specs.declared.comparing.TestOp.{TestOp}
+use Rattle.mix_tree.specs.declared.comparing.TestOp.TheVariants as op
 use Rattle.xmas_text.specs.declared.token.Mark.{Mark}
 use Rattle.xmas_text.specs.declared.token.Mark.TheVariants as mark
 use Rattle.xmas_text.specs.declared.token.Sign.{Sign}

@@ -1,24 +1,7 @@
 // Conditions.
 use crate::var::VarText;
-use mix_tree::Label;
+use mix_tree::{Label, TestOp};
 use path_expr::Path;
-
-/// How two operands are compared.
-#[derive(Clone, Copy, Debug, PartialEq, Eq)]
-pub enum TestOp {
-    /// `=`
-    Eq,
-    /// `!=`
-    Ne,
-    /// `<`
-    Lt,
-    /// `<=`
-    Le,
-    /// `>`
-    Gt,
-    /// `>=`
-    Ge,
-}
 
 /// What a path has too much of.
 #[derive(Clone, Copy, Debug, PartialEq, Eq)]

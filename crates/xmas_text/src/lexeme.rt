@@ -2,10 +2,10 @@
 ghost use Rattle.std.specs.Prelude.{◌≡◌, ◌<◌, ◌≤◌, nat_lt, length, slice_index, slice_range, IfOk, IsUtf8};
 ghost use Rattle.xmas_text.specs.Lexemes.{IsWritten, IsLexeme, IsQuotedText, Quotes, IsPathText, SpellsPath, op_by};
 
-use crate::cond::{PathLimit, PathText, TestOp};
+use crate::cond::{PathLimit, PathText};
 use crate::draft::Lexeme;
 use crate::token::Kind;
-use mix_tree::{Label, LabelRead, read_label};
+use mix_tree::{Label, LabelRead, TestOp, read_label};
 use path_expr::{PathFault, read_path};
 use std::alloc::{AllocError, Global};
 

@@ -12,14 +12,20 @@ mod lexer;
 mod reading;
 mod rule;
 mod scan;
+mod shift;
+mod shift_conds;
+mod shift_items;
 mod stage;
 mod token;
 mod var;
 
-pub use cond::{CondText, OperandText, PathLimit, PathText, TestOp};
+pub use cond::{CondText, OperandText, PathLimit, PathText};
 pub use element::{ElementText, ItemText};
 pub use fault::TextFault;
 pub use law::no_text_spells_two_rules;
 pub use reading::parse_rule;
 pub use rule::{OrderText, RuleText};
 pub use var::{GroupText, KeyText, ShownText, VarText};
+
+#[cfg(test)]
+mod tests;
