@@ -1,0 +1,7 @@
+pub mod Canonical
+pub mod Faults
+pub mod ItemValue
+pub mod Refusals
+pub mod Results
+pub mod Tree
+pub mod Value

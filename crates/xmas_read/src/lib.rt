@@ -1,0 +1,20 @@
+//! Rules are read, checked and written.
+#![tactic(auto)]
+
+mod checks;
+mod conds;
+mod fault;
+mod lists;
+mod loose;
+mod names;
+mod reading;
+mod scopes;
+mod sizes;
+mod tags;
+mod values;
+mod vars;
+mod writing;
+
+pub use fault::{Large, XmasFault};
+pub use reading::read_rule;
+pub use writing::write_rule;

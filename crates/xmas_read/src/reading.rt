@@ -1,0 +1,85 @@
+// Reading the rule that a text spells.
+ghost use Rattle.std.specs.Prelude.{◌≡◌, ◌<◌, ◌^◌, false, IfOk, None, length};
+ghost use Rattle.std.specs.List.{list_any};
+ghost use Rattle.xmas_rule.specs.RuleMade.{rule_of};
+ghost use Rattle.xmas_rule.specs.Rules.{IsAccepted};
+ghost use Rattle.xmas_read.specs.Tree.{tree_of, bound_names};
+ghost use Rattle.xmas_read.specs.Value.{rule_value};
+ghost use Rattle.xmas_read.specs.Refusals.{has_path, is_nested, has_many, checked};
+ghost use Rattle.xmas_read.specs.Results.{names_of_sources, IsOutcome, Answers};
+
+use crate::XmasFault;
+use crate::checks::{scope_refusal, size_refusal, template_refusal};
+use crate::conds::conds_of;
+use crate::fault::fault_of;
+use crate::names::bound_names;
+use crate::values::{order_of, template_value};
+use mix_catalog::Catalog;
+use mix_tree::Label;
+use std::alloc::{AllocError, Global};
+use xmas_rule::Rule;
+use xmas_text::{RuleText, parse_rule};
+
+// The rule of a tree whose paths pass no limit.
+fn make_rule(
+    alloc: Global,
+    catalog: &Catalog,
+    names: Vec<Label>,
+    tree: RuleText,
+) -> Result<Rule, AllocError>
+    requires names { names.items ≡ bound_names tree.conds.items }
+    requires few { length names.items < 2 ^ 32 }
+    requires nesting { list_any (has_path is_nested) tree.conds.items ≡ false }
+    requires positions { list_any (has_path has_many) tree.conds.items ≡ false }
+    ensures { IfOk result (λ rule. rule_of rule ≡ rule_value (names_of_sources catalog.now) (tree_of tree)) }
+{
+    let template = template_value(alloc, &names, &tree.template)?;
+    let order = order_of(&names, &tree.order);
+    let conds = conds_of(alloc, catalog, &names, tree.conds)?;
+    Ok(Rule {
+        template,
+        conds,
+        order,
+        names,
+    })
+}
+
+// What comes of a tree: its rule, or the first refusal.
+fn check_tree(alloc: Global, catalog: &Catalog, tree: RuleText) -> Result<Rule, XmasFault>
+    ensures { IsOutcome (checked (names_of_sources catalog.now) (tree_of tree)) result }
+{
+    if let Some(fault) = size_refusal(alloc, &tree)? {
+        return Err(fault);
+    }
+    let names = bound_names(alloc, &tree.conds)?;
+    if let Some(fault) = scope_refusal(alloc, catalog, &names, &tree)? {
+        return Err(fault);
+    }
+    if let Some(fault) = template_refusal(alloc, &names, &tree)? {
+        return Err(fault);
+    }
+    Ok(make_rule(alloc, catalog, names, tree)?)
+}
+
+/// The rule that a text spells over the sources of a catalog (docs/FORMATS.md, "Rules").
+///
+/// # Errors
+///
+/// Places count bytes from the front of the text. Of the causes that a text has, the first of these is answered, and of one kind
+/// the first place in the text:
+///
+/// - `NotUtf8` with the length of the longest front that is UTF-8.
+/// - `Unexpected` with the first byte with which no rule's text goes on; `EndsEarly` where a rule's text goes on from the end.
+/// - `TooLarge` with the first of `Large` that stands.
+/// - `TagDiffers`, `UnknownSource`, `BoundTwice`, `Unbound`, `OuterGroup`, `Loose`, `TwoLists`, in this order.
+///
+/// `OutOfMemory` can come with any text.
+pub fn read_rule(alloc: Global, text: &[u8], catalog: &Catalog) -> Result<Rule, XmasFault>
+    ensures answers { Answers text.now (names_of_sources catalog.now) result }
+    ensures accepted { IfOk result (λ rule. IsAccepted (rule_of rule)) }
+{
+    match parse_rule(alloc, text) {
+        Ok(tree) => check_tree(alloc, catalog, tree),
+        Err(fault) => Err(fault_of(fault)),
+    }
+}
