@@ -200,7 +200,7 @@ fn each_part_has_its_place(rt: HostRuntime) -> Result<(), Fail> {
     );
     assert!(rt; order.is_some());
     if let Some(order) = order {
-        assert!(rt; order.desc && is_var(&order.var, 116, "X"));
+        assert!(rt; order.desc && is_var(&order.var, 115, "X"));
     }
     Ok(())
 }
