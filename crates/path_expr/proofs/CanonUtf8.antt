@@ -7,22 +7,8 @@ use Rattle.mix_base.proofs.Choices.{number_is}
 use Rattle.mix_base.proofs.Utf8.{utf8_split, one_utf8, utf8_push}
 use Rattle.mix_tree.specs.Spelling.{escaped, quoted}
 use Rattle.path_expr.specs.Form as form
+use Rattle.path_expr.specs.Labels.{HeadUtf8, AreUtf8}
 use Rattle.path_expr.specs.Canonical.{is_plain_name, canon_label, Member, wraps_in_seq, wraps_in_alt, wraps_in_mark, canon_member, canon_rest, canon_between, canon_only, canon_by, members_of, canon, parenthesized}
-
--- the labels of paths are UTF-8
-abbrev pub HeadUtf8 : form.Head → Type 0
-HeadUtf8 (form.name l) = IsUtf8 l
-HeadUtf8 form.any = Unit {0}
-HeadUtf8 form.seq = Unit {0}
-HeadUtf8 form.alt = Unit {0}
-HeadUtf8 form.star = Unit {0}
-HeadUtf8 form.plus = Unit {0}
-HeadUtf8 form.opt = Unit {0}
-
--- and below them
-abbrev pub AreUtf8 : form.Paths → Type 0
-AreUtf8 form.none = Unit {0}
-AreUtf8 (form.path head members after) = HeadUtf8 head × AreUtf8 members × AreUtf8 after
 
 -- one byte's escape before others
 escaped_one : (u : List ℕ) (b : ℕ) (l : List ℕ) → IsUtf8 (u ++ b ∷ l) → IsUtf8 ((u ++ b ∷ []) ++ flat_map escaped l) → (IsUtf8 l → IsUtf8 (flat_map escaped l)) → IsUtf8 (u ++ (escaped b ++ flat_map escaped l))

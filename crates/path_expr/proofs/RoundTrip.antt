@@ -14,7 +14,8 @@ use Rattle.path_expr.proofs.Utf8.{label_utf8}
 use Rattle.path_expr.proofs.Sound.{sequence_of_repeat, repeat_of_atom}
 use Rattle.path_expr.proofs.Again.{Part, wrapped, dots_from, bars_from, parts_of, spelled_as, canon_writes}
 use Rattle.path_expr.proofs.Images.{dots_of_repeat, bars_of_sequence}
-use Rattle.path_expr.proofs.CanonUtf8.{HeadUtf8, AreUtf8, canon_utf8}
+use Rattle.path_expr.specs.Labels.{HeadUtf8, AreUtf8}
+use Rattle.path_expr.proofs.CanonUtf8.{canon_utf8}
 
 -- a path as a part of the canonical text, and how deep its parentheses go there
 abbrev part_of : form.Form → Part

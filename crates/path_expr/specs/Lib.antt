@@ -1,3 +1,4 @@
+pub mod Automaton
 pub mod BuilderState
 pub mod Building
 pub mod Canonical
@@ -6,12 +7,15 @@ pub mod Depth
 pub mod Description
 pub mod Form
 pub mod Grammar
+pub mod Labels
 pub mod Machine
 pub mod Matches
 pub mod Node
 pub mod Parentheses
+pub mod Positions
 pub mod Results
 pub mod Scanned
+pub mod Sets
 pub mod Size
 pub mod Values
 pub mod Weight

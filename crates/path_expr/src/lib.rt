@@ -1,6 +1,7 @@
 //! Path expressions: read from their text, written as text, and which lists of labels they describe.
 #![tactic(auto)]
 
+mod auto;
 mod build;
 mod depth;
 mod fault;
@@ -9,8 +10,10 @@ mod path;
 mod positions;
 mod reading;
 mod scan;
+mod sets;
 mod writing;
 
+pub use auto::Auto;
 pub use fault::PathFault;
 pub use law::no_text_spells_two_paths;
 pub use path::{Node, Path};

@@ -1,6 +1,8 @@
 // Counting the label positions of a path.
 ghost use Rattle.std.specs.Prelude.{◌≡◌, ◌<◌, ◌^◌};
 ghost use Rattle.path_expr.specs.Form.{positions_in, positions_of, paths_of};
+ghost use Rattle.path_expr.specs.Positions.{count_by};
+ghost use Rattle.path_expr.specs.Sets.{count as count_of};
 
 use crate::path::{Node, Path};
 
@@ -8,7 +10,8 @@ use crate::path::{Node, Path};
 #[cycle(count)]
 pub fn count_positions(path: &Path) -> usize
     requires { positions_in path.now < 2 ^ 64 }
-    ensures { result ≡ positions_in path.now }
+    ensures positions { result ≡ positions_in path.now }
+    ensures listed { result ≡ count_by path.now.head (count_of path.now.members) }
 {
     match path.node() {
         Node::Name(_) | Node::Any => 1,
@@ -21,7 +24,8 @@ pub fn count_positions(path: &Path) -> usize
 #[cycle(count)]
 fn count_all(paths: &[Path]) -> usize
     requires { positions_of (paths_of paths.now) < 2 ^ 64 }
-    ensures { result ≡ positions_of (paths_of paths.now) }
+    ensures positions { result ≡ positions_of (paths_of paths.now) }
+    ensures listed { result ≡ count_of (paths_of paths.now) }
 {
     let mut count = 0;
     for path in paths {

@@ -1,5 +1,6 @@
 use Rattle.std.proofs.Common.{◌≡◌, ◌+◌, ◌*◌, ◌≤◌, drop}
 use Rattle.path_expr.specs.Form.{positions_of, paths_of}
+use Rattle.path_expr.specs.Sets.{count}
 use Rattle.path_expr.specs.Size.{size_of, form_size}
 use Rattle.path_expr.proofs.positions.+count.Given as goal
 
@@ -11,6 +12,7 @@ decreases-count_all l = 2 * size_of (paths_of l.paths.now) + 1
 
 abbrev pub invariant-count_all-loop-path : goal.invariant-count_all-loop-path
 invariant-count_all-loop-path l = record {
-  count : l.count + positions_of (paths_of (drop l.path-index l.paths)) ≡ positions_of (paths_of l.fn.paths);
+  positions : l.count + positions_of (paths_of (drop l.path-index l.paths)) ≡ positions_of (paths_of l.fn.paths);
+  listed : l.count + count (paths_of (drop l.path-index l.paths)) ≡ count (paths_of l.fn.paths);
   size : size_of (paths_of (drop l.path-index l.paths)) ≤ size_of (paths_of l.fn.paths);
 }

@@ -15,7 +15,7 @@ count_positions-count-requires c =
 pub returns-then-count-gt-POSITIONS : goal.returns-then-count-gt-POSITIONS
 returns-then-count-gt-POSITIONS c =
     let spells : Spells c.args.text.now c.in-Some-2.path = subst (λ o. IfSome o (λ v. Spells c.args.text.now v)) c.in-Some-2.is c.in_ok-path.ensures.spells in
-    (c.requires, too_many _ c.in-Some-2.path _ spells (sym c.deep_parenthesis.ensures ∙ c.in_default.is) c.count_positions-count.ensures (search rules))
+    (c.requires, too_many _ c.in-Some-2.path _ spells (sym c.deep_parenthesis.ensures ∙ c.in_default.is) c.count_positions-count.ensures.positions (search rules))
 
 pub returns : goal.returns
 returns c =
