@@ -1,7 +1,7 @@
 -- Nodes of source documents. A source has a document node above its root, and places are counted from it: the root stands at 0.
-use Rattle.std.specs.Prelude.{◌≡◌, ◌⊎◌, ◌<◌, ℕ, Bool, List, [], ◌∷◌, ◌==◌, ◌&&◌, is_some, Option, Some, None}
+use Rattle.std.specs.Prelude.{◌≡◌, ◌⊎◌, ◌<◌, ℕ, Bool, List, [], ◌∷◌, ◌==◌, ◌&&◌}
 use Rattle.std.specs.Str.{bytes_eq}
-use Rattle.mix_tree.specs.Forest.{Forest, none, tree, first_label, first_kids, from}
+use Rattle.mix_tree.specs.Forest.{Forest, none, tree, first_kids}
 use Rattle.mix_tree.specs.Place.{trees_at}
 
 -- the document of each source, by its number
@@ -37,11 +37,6 @@ label_at docs n = label_of_first (node_trees docs n)
 -- the children of a node, with all that is below them
 abbrev pub kids_at : Documents → Node → Forest
 kids_at docs n = first_kids (node_trees docs n)
-
--- the labels on the way from the first tree of a list down to a place below it, that at the place included and its own not
-abbrev pub labels_down : Forest → List ℕ → List (List ℕ)
-labels_down f [] = []
-labels_down f (i ∷ steps) = label_of_first (from i (first_kids f)) ∷ labels_down (from i (first_kids f)) steps
 
 -- document order: a place stands before those below it, and else by the smaller index at the first difference
 abbrev pub PlaceBefore : List ℕ → List ℕ → Type 0

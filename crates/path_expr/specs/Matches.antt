@@ -1,17 +1,30 @@
--- Which nodes a path leads to.
-use Rattle.std.specs.Prelude.{◌≡◌, ◌<◌, ℕ, true, List, ◌++◌, length}
-use Rattle.mix_tree.specs.Forest.{Forest}
-use Rattle.mix_tree.specs.Place.{has_place}
-use Rattle.mix_tree.specs.Nodes.{Documents, Node, node_trees, labels_down}
+-- The matches of a path in a document: which nodes it leads to.
+use Rattle.std.specs.Prelude.{◌≡◌, ◌↔◌, ◌<◌, ℕ, true, List, [], ◌∷◌, ◌++◌, length, unwrap_or}
+use Rattle.mix_base.specs.Ascents.{Among, Ascending}
+use Rattle.mix_tree.specs.Forest.{Forest, none, tree, first_label, first_kids, from}
+use Rattle.mix_tree.specs.Place.{trees_at, has_place}
+use Rattle.mix_tree.specs.Nodes.{Documents, Node, PlaceBefore}
 use Rattle.path_expr.specs.Form.{Form}
-use Rattle.path_expr.specs.Description.{Describes}
+use Rattle.path_expr.specs.Description.{Labels, Describes}
 
--- a path leads from the first tree of a list down these steps: there is such a node, strictly below, and the path describes the labels on the way
-pub record LeadsDown (p : Form) (f : Forest) (steps : List ℕ) : Type 0 where
-  pub below : 0 < length steps
-  pub there : has_place f steps ≡ true
-  pub described : Describes p (labels_down f steps)
+-- the labels on the way down from a list of trees: that of the tree at the first index, that of its child at the next, and so on
+abbrev pub labels_down : Forest → List ℕ → Labels
+labels_down f [] = []
+labels_down f (i ∷ place) = unwrap_or (first_label (from i f)) [] ∷ labels_down (first_kids (from i f)) place
 
--- a path leads from a node to one below it
+-- a path leads from one place to another: that lies strictly below, and the path describes the labels on the way
+pub record LeadsTo (p : Form) (f : Forest) (start at : List ℕ) : Type 0 where
+  pub way : List ℕ
+  pub below : 0 < length way
+  pub place : start ++ way ≡ at
+  pub there : has_place f at ≡ true
+  pub described : Describes p (labels_down (first_kids (trees_at f start)) way)
+
+-- a node is a match of a path from another node of the same source
 abbrev pub IsMatch : Documents → Form → Node → Node → Type 0
-IsMatch docs p start n = (n.source ≡ start.source) × ((steps : List ℕ) × (n.place ≡ start.place ++ steps) × LeadsDown p (node_trees docs start) steps)
+IsMatch docs p start n = (n.source ≡ start.source) × LeadsTo p (tree [] (docs start.source) none) start.place n.place
+
+-- the places are the matches of the path from a place, all of them, in document order and once each
+pub record AreMatches (p : Form) (f : Forest) (start : List ℕ) (places : List (List ℕ)) : Type 0 where
+  pub ascending : Ascending PlaceBefore places
+  pub exactly : (q : List ℕ) → Among q places ↔ LeadsTo p f start q

@@ -1,6 +1,6 @@
 -- What callers carry through calls: what calls leave together, what earlier spots stand for, and what an answer says.
 use Rattle.std.proofs.lemmas.Bool.{cases_eq}
-use Rattle.std.proofs.Common.{◌≡◌, ℕ, ◌⊎◌, inl, inr, ◌≤◌, true, List, [], Option, Some, None, refl, ap, sym, subst, ◌∙◌, arith}
+use Rattle.std.proofs.Common.{◌≡◌, ℕ, ◌+◌, ◌⊎◌, inl, inr, ◌≤◌, true, List, [], Option, Some, None, refl, ap, sym, subst, ◌∙◌, arith}
 use Rattle.std.specs.Prelude.{IfSome, is_some}
 use Rattle.mix_tree.specs.Forest.{Forest, none, tree, first_label, first_kids, behind}
 use Rattle.mix_tree.specs.Place.{trees_at, has_place, child_place, next_place}
@@ -13,7 +13,9 @@ use Rattle.tree_buffer.specs.Weights.{below_node}
 use Rattle.tree_buffer.specs.Buffer.{nodes_of, number_of, IsSpot, place_of, label_of, weigh, below, after, trees_from, IsSourcesOf, Goes, Ran, IsChildSpot, IsNextSpot}
 use Rattle.tree_buffer.proofs.Documents.{trees_at-next, no_next, no_tree}
 use Rattle.tree_buffer.proofs.Refine.{moved_again, sourced_again, same_document, all_stay, moved_same, moved_twice}
-use Rattle.tree_buffer.proofs.Spots.{after_moved, below_top}
+use Rattle.tree_buffer.specs.Nodes.{places}
+use Rattle.tree_buffer.proofs.Held.{held-from}
+use Rattle.tree_buffer.proofs.Spots.{after_moved, below_top, child_at, child_lighter}
 
 -- nothing happened
 pub goes_same : (v : View) (b : Buffer) → Goes v b v b
@@ -114,3 +116,13 @@ below_root {v} {b} s x spot = cases (cases_eq x.number 0)
     cases : (x.number ≡ 0) ⊎ (x.number ≡ 0 → ⊥) → below v b x ≤ v.weight b.number (v.root b.number)
     cases (inl e) = subst (λ i. below_node (weigh v b) (nodes_of b) i ≤ v.weight b.number (v.root b.number)) (sym e) s.sourced.lighter
     cases (inr ne) = omega (arith, s.sourced.lighter, below_top (nodes_of b) b.linked (weigh v b) x.number s.sourced.rests (omega arith) spot)
+
+-- what lies below a spot weighs more than what lies below a child and behind it
+pub child_weight : {v : View} {b : Buffer} → IsSourcesOf v b → (p : Spot) → IsSpot b p → (k : ℕ) (c : Spot) → IsChildSpot b p k c
+    → 1 + below v b c + after v b c ≤ below v b p
+child_weight {v} {b} s p spot k c child =
+    omega (
+      arith,
+      child_lighter (nodes_of b) b.linked (weigh v b) p.number k c.number s.sourced.rests (child_at (nodes_of b) b.linked p.number k c.number spot child.spot child.place),
+      held-from (weigh v b) (place_of b p) k (places (nodes_of b).links) (nodes_of b).rests,
+    )

@@ -173,3 +173,9 @@ held-top w k p (r ∷ rs) (o ∷ os) zero e within is =
     rw (a, d) (omega (arith, held-below w (k ∷ p) rs os))
 held-top w k p (r ∷ rs) (o ∷ os) (suc c) e within is =
     omega (arith, held-top w k p rs os c (omega arith) (omega arith) is, in_from-top (k ∷ p) r (1 + w o))
+
+-- the children from an index on weigh at most all of them
+pub held-from : (w : Open → ℕ) (p : List ℕ) (k : ℕ) (rs : List (List ℕ)) (os : List Open) → held w p k rs os ≤ held w p 0 rs os
+held-from w p zero rs os = omega arith
+held-from w p (suc k) rs os = let next : k + 1 ≡ suc k = omega arith in
+    omega (arith, held-from w p k rs os, held-parts w p k rs os, ap (λ i. held w p i rs os) next)

@@ -1,6 +1,6 @@
 pub mod Calls
 mod Columns
-mod Documents
+pub mod Documents
 mod Entries
 mod Exact
 mod Fills

@@ -1,0 +1,5 @@
+pub mod Arrival
+pub mod Bindings
+pub mod Events
+pub mod Progress
+pub mod Stay

@@ -1,0 +1,13 @@
+//! The nodes below a node whose labels a path describes, one after another, by cursors that stay.
+#![tactic(auto)]
+
+mod cursor;
+mod frame;
+mod law;
+mod steps;
+
+pub use cursor::DescCursor;
+pub use law::{bindings_are_matches, cursors_stay, numbers_are_small};
+
+
+
