@@ -33,7 +33,7 @@ cost_visit m q at (tree x kids later) ys =
 -- the events from a tree on: its own, those below it, and those behind
 visit_tree : (m : Machine) (q st : ℕ) (at : List ℕ) (f : Forest) (label : List ℕ) (ys : List (Event (List ℕ))) → first_label f ≡ Some label → st ≡ m.step q label
     → visit m q at f ++ ys
-        ≡ cond (m.accepts st) (bind at) skip ∷ (cond (m.goes_on st) (visit m st (child_place at) (first_kids f)) [] ++ (visit m q (place_behind at) (behind f) ++ ys))
+    ≡ cond (m.accepts st) (bind at) skip ∷ (cond (m.goes_on st) (visit m st (child_place at) (first_kids f)) [] ++ (visit m q (place_behind at) (behind f) ++ ys))
 visit_tree m q st at none label ys is e = cc
 visit_tree m q st at (tree x kids later) label ys is e =
     let same : label ≡ x = cc in
@@ -48,7 +48,7 @@ module _ {v v' : View} {b b' : Buffer} (s : IsSourcesOf v b) (s' : IsSourcesOf v
   arrive_end : (v.told (number_of b) ≡ true → f ≡ none) → (d : DescCursor) → d.frame.value ≡ u → d.deep ≡ false
       → Moves v b v' b' m (visit m (states_of u) at f ++ events_behind v b m u) (n + weight_behind v b u) (suc (2 * n) + steps_behind v b u) (start_of u) d
   arrive_end z d e g = record {
-    cursor = rw e (frame_stays s keeps goes u h);
+    cursor = rw e (frame_stays goes u h);
     started = ap start_of e;
     smaller = rw (e, g) (omega (arith, weight_stays s keeps goes u h));
     lighter = rw (e, g) (omega (arith, steps_stay s keeps goes u h));
@@ -60,7 +60,7 @@ module _ {v v' : View} {b b' : Buffer} (s : IsSourcesOf v b) (s' : IsSourcesOf v
       (reach : v.told (number_of b) ≡ true → trees_of v' b' q ≡ f) (answer : Bool) (d : DescCursor) (i : StandsAt b' m u q answer d) where
     -- the cursor at a child is one of the buffer
     at_cursor : IsCursor b' d
-    at_cursor = frame_child b' d.frame.value u i.up (rw i.spot child) (frame_stays s keeps goes u h)
+    at_cursor = frame_child b' d.frame.value u i.up (rw i.spot child) (frame_stays goes u h)
 
     -- its number is smaller
     at_number : (deep : Bool) → weight_ahead v' b' d.frame.value deep < n + weight_behind v b u
@@ -75,7 +75,7 @@ module _ {v v' : View} {b b' : Buffer} (s : IsSourcesOf v b) (s' : IsSourcesOf v
     -- the events ahead of it
     at_ahead : ahead v' b' m d
         ≡ cond (m.goes_on (states_of d.frame.value)) (visit m (states_of d.frame.value) (child_place (place_of b' q)) (first_kids (trees_of v' b' q))) []
-            ++ (visit m (states_of u) (place_behind (place_of b' q)) (behind (trees_of v' b' q)) ++ events_behind v b m u)
+        ++ (visit m (states_of u) (place_behind (place_of b' q)) (behind (trees_of v' b' q)) ++ events_behind v b m u)
     at_ahead = rw (i.deep, behind_up v' b' m d.frame.value u i.up, i.spot, behind_stays s keeps goes m u h) refl
 
     -- the events are its own and those ahead of it
@@ -177,7 +177,7 @@ module _ {v v' : View} {b b' : Buffer} (s : IsSourcesOf v b) (s' : IsSourcesOf v
           let above : place_of b (spot_of u) ≡ place_of b' (spot_of u) = sym (goes_place goes (spot_of u) (frame_spot b u (frame_up b f u e h))) in
           let at : place_of b (spot_of f) ≡ place_of b' (spot_of u) ++ own.0 ∷ [] = own.1.place ∙ ap (λ l. l ++ own.0 ∷ []) above in
           let is : place_of b' q ≡ place_of b' (spot_of u) ++ (own.0 + 1) ∷ [] =
-              ap (λ o. unwrap_or o []) (n.place ∙ ap next_place (same ∙ at) ∙ next_place-push (place_of b' (spot_of u)) own.0) in
+          ap (λ o. unwrap_or o []) (n.place ∙ ap next_place (same ∙ at) ∙ next_place-push (place_of b' (spot_of u)) own.0) in
           (own.0 + 1, record { spot = n.spot; place = is })
 
   -- a fill is within the events below a node

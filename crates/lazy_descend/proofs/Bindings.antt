@@ -62,12 +62,14 @@ before_deeper (x ∷ p) i r = inr (refl, before_deeper p i r)
 -- two ascending lists, where all of one stand before all of the other
 ascending_append : (xs ys : List (List ℕ)) → Ascending xs → Ascending ys → ((x y : List ℕ) → Contains xs x → Contains ys y → PlaceBefore x y) → Ascending (xs ++ ys)
 ascending_append [] ys h k f = k
-ascending_append (x ∷ xs) ys h k f =
-    ((λ q c. elim (Contains-append_cases xs ys q c) [ inl a ↦ h.0 q a | inr a ↦ f x q (first_in x xs) a ]),
-     ascending_append xs ys h.1 k (λ u w a c. f u w (later_in x xs u a) c))
+ascending_append (x ∷ xs) ys h k f = (
+  (λ q c. elim (Contains-append_cases xs ys q c) [ inl a ↦ h.0 q a | inr a ↦ f x q (first_in x xs) a ]),
+  ascending_append xs ys h.1 k (λ u w a c. f u w (later_in x xs u a) c),
+)
   where
     first_in : (x : List ℕ) (xs : List (List ℕ)) → Contains (x ∷ xs) x
     first_in x xs = (0, omega arith, refl)
+
     later_in : (x : List ℕ) (xs : List (List ℕ)) (u : List ℕ) → Contains xs u → Contains (x ∷ xs) u
     later_in x xs u (k, h, e) = (suc k, omega arith, e)
 
@@ -83,16 +85,16 @@ module _ (m : Machine) where
   -- the bindings at a tree: its own, those below it, and those behind it
   bindings_tree : (q : ℕ) (p : List ℕ) (k : ℕ) (x : List ℕ) (kids later : Forest)
       → bindings q p k (tree x kids later)
-          ≡ cond (m.accepts (m.step q x)) ((p ++ k ∷ []) ∷ []) []
-              ++ (cond (m.goes_on (m.step q x)) (bindings (m.step q x) (p ++ k ∷ []) 0 kids) [] ++ bindings q p (k + 1) later)
+      ≡ cond (m.accepts (m.step q x)) ((p ++ k ∷ []) ∷ []) []
+      ++ (cond (m.goes_on (m.step q x)) (bindings (m.step q x) (p ++ k ∷ []) 0 kids) [] ++ bindings q p (k + 1) later)
   bindings_tree q p k x kids later =
       let at : List ℕ = p ++ k ∷ [] in
       let deep : List (Event (List ℕ)) = cond (m.goes_on (m.step q x)) (visit m (m.step q x) (child_place at) kids) [] in
       bindings_first (m.accepts (m.step q x)) at (deep ++ visit m q (place_behind at) later)
       ∙ ap (λ z. cond (m.accepts (m.step q x)) (at ∷ []) [] ++ z)
-          (bindings_append deep (visit m q (place_behind at) later)
-          ∙ ap (λ z. z ++ without_skips (visit m q (place_behind at) later)) (bindings_if (m.goes_on (m.step q x)) (visit m (m.step q x) (child_place at) kids))
-          ∙ ap (λ l. cond (m.goes_on (m.step q x)) (bindings (m.step q x) at 0 kids) [] ++ without_skips (visit m q l later)) (behind_push p k))
+      (bindings_append deep (visit m q (place_behind at) later)
+      ∙ ap (λ z. z ++ without_skips (visit m q (place_behind at) later)) (bindings_if (m.goes_on (m.step q x)) (visit m (m.step q x) (child_place at) kids))
+      ∙ ap (λ l. cond (m.goes_on (m.step q x)) (bindings (m.step q x) at 0 kids) [] ++ without_skips (visit m q l later)) (behind_push p k))
 
   -- the machine accepts the labels on the way down from trees, to the tree at index i and below it
   abbrev Accepts : ℕ → Forest → ℕ → List ℕ → Type 0
@@ -110,15 +112,19 @@ module _ (m : Machine) where
   binding_is q p k none y (i, h, e) = absurd (omega arith)
   binding_is q p k (tree x kids later) y c =
       elim (Contains-append_cases own (deep ++ rest) y (subst (λ z. Contains z y) (bindings_tree q p k x kids later) c)) [
-          inl a ↦ here (contains_one (m.accepts (m.step q x)) (p ++ k ∷ []) y a)
+        | inl a ↦ here (contains_one (m.accepts (m.step q x)) (p ++ k ∷ []) y a)
         | inr a ↦ elim (Contains-append_cases deep rest y a) [
-            inl d ↦ below (binding_is (m.step q x) (p ++ k ∷ []) 0 kids y (contains_taken (m.goes_on (m.step q x)) (bindings (m.step q x) (p ++ k ∷ []) 0 kids) y d))
-          | inr d ↦ behind (binding_is q p (k + 1) later y d) ] ]
+          | inl d ↦ below (binding_is (m.step q x) (p ++ k ∷ []) 0 kids y (contains_taken (m.goes_on (m.step q x)) (bindings (m.step q x) (p ++ k ∷ []) 0 kids) y d))
+          | inr d ↦ behind (binding_is q p (k + 1) later y d)
+        ]
+      ]
     where
       own : List (List ℕ)
       own = cond (m.accepts (m.step q x)) ((p ++ k ∷ []) ∷ []) []
+
       deep : List (List ℕ)
       deep = cond (m.goes_on (m.step q x)) (bindings (m.step q x) (p ++ k ∷ []) 0 kids) []
+
       rest : List (List ℕ)
       rest = bindings q p (k + 1) later
 
@@ -140,13 +146,15 @@ module _ (m : Machine) where
   ascends q p k (tree x kids later) =
       subst Ascending (sym (bindings_tree q p k x kids later))
       (ascending_append own (deep ++ rest) (own_ascends (m.accepts (m.step q x)))
-        (ascending_append deep rest (deep_ascends (m.goes_on (m.step q x)) (ascends (m.step q x) (p ++ k ∷ []) 0 kids)) (ascends q p (k + 1) later) deep_first)
-        own_first)
+      (ascending_append deep rest (deep_ascends (m.goes_on (m.step q x)) (ascends (m.step q x) (p ++ k ∷ []) 0 kids)) (ascends q p (k + 1) later) deep_first)
+      own_first)
     where
       own : List (List ℕ)
       own = cond (m.accepts (m.step q x)) ((p ++ k ∷ []) ∷ []) []
+
       deep : List (List ℕ)
       deep = cond (m.goes_on (m.step q x)) (bindings (m.step q x) (p ++ k ∷ []) 0 kids) []
+
       rest : List (List ℕ)
       rest = bindings q p (k + 1) later
 
@@ -176,8 +184,9 @@ module _ (m : Machine) where
       own_first y z c d =
           let e = (contains_one (m.accepts (m.step q x)) (p ++ k ∷ []) y c).1 in
           subst (λ l. PlaceBefore l z) (sym e) (elim (Contains-append_cases deep rest z d) [
-            inl a ↦ (let w = in_deep z a in subst (PlaceBefore (p ++ k ∷ [])) (sym w.2) (before_deeper (p ++ k ∷ []) (0 + w.0) w.1))
-          | inr a ↦ sibling_later [] z a ])
+            | inl a ↦ (let w = in_deep z a in subst (PlaceBefore (p ++ k ∷ [])) (sym w.2) (before_deeper (p ++ k ∷ []) (0 + w.0) w.1))
+            | inr a ↦ sibling_later [] z a
+          ])
 
   -- the machine accepts the labels on the way
   accepted : (q : ℕ) (f : Forest) (i : ℕ) (r : List ℕ) → Accepts q f i r → IsTrue (m.accepts (steps m q (labels_down f (i ∷ r))))
@@ -233,7 +242,7 @@ module _ (m : Machine) where
         let deep : List (List ℕ) = cond (m.goes_on (m.step q x)) (bindings (m.step q x) (s ++ k ∷ []) 0 kids) [] in
         let y : List ℕ = s ++ (k + suc i) ∷ r in
         let later_has : Contains (bindings q s (k + 1) later) (s ++ (k + suc i) ∷ r) =
-            subst (λ a. Contains (bindings q s (k + 1) later) (s ++ a ∷ r)) n (is_binding q at s (k + 1) later i r h) in
+        subst (λ a. Contains (bindings q s (k + 1) later) (s ++ a ∷ r)) n (is_binding q at s (k + 1) later i r h) in
         subst (λ z. Contains z y) (sym (bindings_tree q s k x kids later))
         (Contains-append_right own (deep ++ bindings q s (k + 1) later) y (Contains-append_right deep (bindings q s (k + 1) later) y later_has))
     is_binding q at s k (tree x kids later) zero [] h =
@@ -252,7 +261,7 @@ module _ (m : Machine) where
         let kids_hold : List (List ℕ) = bindings st (s ++ k ∷ []) 0 kids in
         let on : IsTrue (m.goes_on (m.step q x)) = goes_further st (reached_step q x at) (unwrap_or (first_label (from j kids)) []) (labels_down (first_kids (from j kids)) r) (accepted st kids j r h) in
         let same : (s ++ k ∷ []) ++ (0 + j) ∷ r ≡ s ++ (k + 0) ∷ j ∷ r =
-            ap (λ a. (s ++ k ∷ []) ++ a ∷ r) i ∙ append_assoc s (k ∷ []) (j ∷ r) ∙ ap (λ a. s ++ a ∷ j ∷ r) n in
+        ap (λ a. (s ++ k ∷ []) ++ a ∷ r) i ∙ append_assoc s (k ∷ []) (j ∷ r) ∙ ap (λ a. s ++ a ∷ j ∷ r) n in
         let y : List ℕ = s ++ (k + 0) ∷ j ∷ r in
         let below : Contains (bindings (m.step q x) (s ++ k ∷ []) 0 kids) (s ++ (k + 0) ∷ j ∷ r) = subst (Contains kids_hold) same (is_binding st (reached_step q x at) (s ++ k ∷ []) 0 kids j r h) in
         subst (λ z. Contains z y) (sym (bindings_tree q s k x kids later))
@@ -280,7 +289,7 @@ module _ (m : Machine) where
         let n : 0 + i ≡ i = omega arith in
         let kids : Forest = first_kids (trees_at f start) in
         let here : is_some (first_label (trees_at (from i (first_kids (trees_at f start))) r)) ≡ true =
-            sym (ap (λ g. is_some (first_label g)) (trees_at-append f start (i ∷ r))) ∙ ap (has_place f) e ∙ there in
+        sym (ap (λ g. is_some (first_label g)) (trees_at-append f start (i ∷ r))) ∙ ap (has_place f) e ∙ there in
         subst (Contains (bindings m.start start 0 kids)) (ap (λ a. start ++ a ∷ r) n ∙ e)
         (is_binding m.start ([], refl) start 0 kids i r (accepts_there m.start kids i r here ((auto.accepts (labels_down kids (i ∷ r))).1 d)))
 

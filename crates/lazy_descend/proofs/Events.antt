@@ -59,8 +59,7 @@ module _ {v v' : View} {b b' : Buffer} (s : IsSourcesOf v b) (keeps : Keeps v' v
         let r = found_front (ahead v b m c) (place_at b' d) (ahead v' b' m d) (f.first told) in
         let p = h.stands told in
         let own : List (Event (List ℕ)) = bind (place_at b c) ∷ [] in
-        let rest : List (Event (List ℕ)) = bind (place_at b' d) ∷ ahead v' b' m d in
-        (
+        let rest : List (Event (List ℕ)) = bind (place_at b' d) ∷ ahead v' b' m d in (
           (p.0 ++ own) ++ r.0,
           visit_stays h.spot ∙ p.1 ∙ ap (λ (z : List (Event (List ℕ))). p.0 ++ bind (place_at b c) ∷ z) r.1
               ∙ sym (append_assoc p.0 own (r.0 ++ rest)) ∙ sym (append_assoc (p.0 ++ own) r.0 rest),
@@ -74,13 +73,12 @@ module _ {v v' : View} {b b' : Buffer} (s : IsSourcesOf v b) (keeps : Keeps v' v
   event_stays : (c : DescCursor) → IsEvent v b m start c → IsEvent v' b' m start c
   event_stays c h = record {
     spot = goes_spot goes start h.spot;
-    cursor = frame_stays s keeps goes c.frame.value h.cursor;
+    cursor = frame_stays goes c.frame.value h.cursor;
     started = h.started;
     stands = λ t.
         let told : v.told (number_of b) ≡ true = told_before t in
         let p = h.stands told in
-        let at : place_at b c ≡ place_at b' c = sym (goes_place goes (spot_of c.frame.value) (frame_spot b c.frame.value h.cursor)) in
-        (
+        let at : place_at b c ≡ place_at b' c = sym (goes_place goes (spot_of c.frame.value) (frame_spot b c.frame.value h.cursor)) in (
           p.0,
           visit_stays h.spot ∙ p.1 ∙ ap (λ (z : List (Event (List ℕ))). p.0 ++ bind (place_at b c) ∷ z) (sym (ahead_stays s keeps goes m c.frame.value c.deep h.cursor))
               ∙ ap (λ x. p.0 ++ bind x ∷ ahead v' b' m c) at,
@@ -117,6 +115,15 @@ answer_result v b v' b' m es top start r y = IfOk-weaker r _ _ each y
     each None z = z
     each (Some d) z = z.first
 
+-- what a search finds is a cursor of the later buffer
+pub cursor_result : (v : View) (b : Buffer) (v' : View) (b' : Buffer) (m : Machine) (es : List (Event (List ℕ))) (top : ℕ) (start : Spot) (r : Result (Option DescCursor) BufferFault)
+    → IfOk r (Found v b v' b' m es top start) → IfOk r (λ o. IfSome o (IsCursor b'))
+cursor_result v b v' b' m es top start r y = IfOk-weaker r _ _ each y
+  where
+    each : (o : Option DescCursor) → Found v b v' b' m es top start o → IfSome o (IsCursor b')
+    each None z = tt
+    each (Some d) z = z.cursor
+
 -- the number of a cursor that a search finds is smaller
 pub smaller_result : (v : View) (b : Buffer) (v' : View) (b' : Buffer) (m : Machine) (es : List (Event (List ℕ))) (top : ℕ) (start : Spot) (r : Result (Option DescCursor) BufferFault)
     → IfOk r (Found v b v' b' m es top start) → IfOk r (λ o. IfSome o (λ d. number v' b' d < top))
@@ -129,7 +136,7 @@ smaller_result v b v' b' m es top start r y = IfOk-weaker r _ _ each y
 -- each earlier cursor stays
 pub cursors_stay : CursorsStay
 cursors_stay v b v' b' s keeps goes m d h = record {
-  cursor = frame_stays s keeps goes d.frame.value h;
+  cursor = frame_stays goes d.frame.value h;
   place = goes_place goes (spot_of d.frame.value) (frame_spot b d.frame.value h);
   ahead = ahead_stays s keeps goes m d.frame.value d.deep h;
   number = number_stays s keeps goes d.frame.value d.deep h;
@@ -148,7 +155,7 @@ first_found v b v' b' m start q r e y =
     let at : List ℕ = child_place (place_of b start) in
     let kids : Forest = first_kids (trees_of v b start) in
     let es : events_ahead v b m (Start start q) true ≡ visit_below m (document_node v (number_of b)) (place_of b start) =
-        append-nil (visit m q at kids) ∙ ap (λ n. visit m n at kids) e in
+    append-nil (visit m q at kids) ∙ ap (λ n. visit m n at kids) e in
     let n : below v b start + 0 ≡ below v b start = omega arith in
     subst (λ z. IfOk r (Found v b v' b' m z (below v b start) start)) es
     (subst (λ k. IfOk r (Found v b v' b' m (events_ahead v b m (Start start q) true) k start)) n y)

@@ -11,8 +11,9 @@ use Rattle.tree_buffer.specs.Document.{document_node}
 use Rattle.tree_buffer.specs.Buffer.{IsSpot, IsChildSpot, IsSourcesOf, Goes, number_of, place_of, below, after}
 use Rattle.tree_buffer.proofs.Calls.{goes_spot, goes_place, goes_below, goes_after, still_node, child_weight}
 use Rattle.lazy_descend.specs.declared.frame.Frame.{Frame, Start, Child'}
+use Rattle.lazy_descend.specs.declared.cursor.DescCursor.{DescCursor}
 use Rattle.lazy_descend.specs.Visit.{place_behind, visit}
-use Rattle.lazy_descend.specs.Cursors.{spot_of, states_of, up_of, start_of, IsFrame, trees_of, events_behind, events_below, events_ahead, weight_behind, weight_ahead, steps_behind}
+use Rattle.lazy_descend.specs.Cursors.{spot_of, states_of, up_of, start_of, IsFrame, IsCursor, trees_of, events_behind, events_below, events_ahead, weight_behind, weight_ahead, steps_behind}
 
 -- the node of a frame is one of the buffer
 pub frame_spot : (b : Buffer) (f : Frame) → IsFrame b f → IsSpot b (spot_of f)
@@ -60,15 +61,19 @@ pub steps_up : (v : View) (b : Buffer) (f u : Frame) → up_of f ≡ Some u → 
 steps_up v b (Start p q) u e = cc
 steps_up v b (Child' p q r w) u e = let x : w ≡ u = cc in rw x refl
 
-module _ {v v' : View} {b b' : Buffer} (s : IsSourcesOf v b) (keeps : Keeps v' v) (goes : Goes v b v' b') where
-  -- the frames are of the later buffer too
-  pub frame_stays : (f : Frame) → IsFrame b f → IsFrame b' f
-  frame_stays (Start p q) h = goes_spot goes p h
-  frame_stays (Child' p q r u) h =
-      let at : place_of b' p ≡ place_of b' (spot_of u) ++ h.0.0 ∷ [] =
-          goes_place goes p h.0.1.spot ∙ h.0.1.place ∙ ap (λ l. l ++ h.0.0 ∷ []) (sym (goes_place goes (spot_of u) (frame_spot b u h.1))) in
-      ((h.0.0, record { spot = goes_spot goes p h.0.1.spot; place = at }), frame_stays u h.1)
+-- the frames are of a later buffer too
+pub frame_stays : {v v' : View} {b b' : Buffer} → Goes v b v' b' → (f : Frame) → IsFrame b f → IsFrame b' f
+frame_stays goes (Start p q) h = goes_spot goes p h
+frame_stays {b} {b'} goes (Child' p q r u) h =
+    let at : place_of b' p ≡ place_of b' (spot_of u) ++ h.0.0 ∷ [] =
+    goes_place goes p h.0.1.spot ∙ h.0.1.place ∙ ap (λ l. l ++ h.0.0 ∷ []) (sym (goes_place goes (spot_of u) (frame_spot b u h.1))) in
+    ((h.0.0, record { spot = goes_spot goes p h.0.1.spot; place = at }), frame_stays goes u h.1)
 
+-- a cursor is one of a later buffer too
+pub cursor_stays : {v v' : View} {b b' : Buffer} → Goes v b v' b' → (d : DescCursor) → IsCursor b d → IsCursor b' d
+cursor_stays goes d h = frame_stays goes d.frame.value h
+
+module _ {v v' : View} {b b' : Buffer} (s : IsSourcesOf v b) (keeps : Keeps v' v) (goes : Goes v b v' b') where
   -- a spot's trees are the same
   pub trees_stay : (x : Spot) → IsSpot b x → trees_of v' b' x ≡ trees_of v b x
   trees_stay x h = ap (λ f. trees_at f (place_of b' x)) (still_node s keeps goes) ∙ ap (trees_at (document_node v (number_of b))) (goes_place goes x h)
@@ -116,3 +121,8 @@ small v b s (Child' p q r u) h = omega (arith, child_weight s (spot_of u) (frame
 pub number_small : (v : View) (b : Buffer) → IsSourcesOf v b → (f : Frame) (deep : Bool) → IsFrame b f → weight_ahead v b f deep ≤ below v b (start_of f)
 number_small v b s f true h = small v b s f h
 number_small v b s f false h = omega (arith, small v b s f h)
+
+-- how many cursors are still to come from an answer on, at most
+abbrev pub count_left : View → Buffer → Option DescCursor → ℕ
+count_left v b None = 0
+count_left v b (Some d) = suc (weight_ahead v b d.frame.value d.deep)

@@ -2,6 +2,7 @@
 ghost use Rattle.std.specs.Prelude.{◌≡◌, ◌<◌, IfOk, IfSome, IsErrOf};
 ghost use Rattle.mix_base.specs.Counts.{HasRisen};
 ghost use Rattle.path_expr.specs.Automaton.{machine_of};
+ghost use Rattle.tree_buffer.specs.declared.buffer.Buffer.{Buffer};
 ghost use Rattle.tree_buffer.specs.declared.spot.Spot.{Spot};
 ghost use Rattle.tree_buffer.specs.Document.{document_node};
 ghost use Rattle.tree_buffer.specs.Buffer.{IsSpot, IsSourcesOf, Ran, number_of, place_of, below};
@@ -43,6 +44,7 @@ impl DescCursor {
         requires sources { IsSourcesOf (S.view s.old) b.old }
         ensures ran { Ran S.view S.came_from s.old b.old s.new b.new }
         // What the cursor stands for.
+        ensures cursor { IfOk result (λ r. IfSome r (IsCursor b.new)) }
         ensures event { IfOk result (λ r. IfSome r (IsEvent (S.view s.new) b.new (machine_of a.now) start.now)) }
         ensures answer { IfOk result (Answers (S.view s.old) b.old (S.view s.new) b.new (machine_of a.now)
             (visit_below (machine_of a.now) (document_node (S.view s.old) (number_of b.old)) (place_of b.old start.now))) }
@@ -78,6 +80,7 @@ impl DescCursor {
         requires sources { IsSourcesOf (S.view s.old) b.old }
         ensures ran { Ran S.view S.came_from s.old b.old s.new b.new }
         // What the cursor stands for.
+        ensures cursor { IfOk result (λ r. IfSome r (IsCursor b.new)) }
         ensures event { (start : Spot) → IsEvent (S.view s.old) b.old (machine_of a.now) start self.now
             → IfOk result (λ r. IfSome r (IsEvent (S.view s.new) b.new (machine_of a.now) start)) }
         ensures answer { IfOk result (Answers (S.view s.old) b.old (S.view s.new) b.new (machine_of a.now)
@@ -96,7 +99,8 @@ impl DescCursor {
 
     /// The node at which the cursor stands.
     pub fn spot(&self) -> &Spot
-        ensures { result.now ≡ spot_of self.now.frame.value }
+        ensures value { result.now ≡ spot_of self.now.frame.value }
+        ensures spot { (b : Buffer) → IsCursor b self.now → IsSpot b result.now }
     {
         spot_at(&self.frame)
     }

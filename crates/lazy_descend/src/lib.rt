@@ -9,5 +9,5 @@ mod steps;
 pub use cursor::DescCursor;
 pub use law::{bindings_are_matches, cursors_stay, numbers_are_small};
 
-
-
+#[cfg(test)]
+mod tests;
