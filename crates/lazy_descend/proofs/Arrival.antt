@@ -2,16 +2,16 @@
 use Rattle.std.proofs.Common.{◌≡◌, ◌∙◌, ◌<◌, ◌≤◌, ℕ, suc, ◌+◌, ◌*◌, Bool, true, false, cond, Option, Some, None, List, [], ◌∷◌, ◌++◌, append_assoc, refl, sym, ap, arith}
 use Rattle.std.specs.Prelude.{IfSome, IfOk, Result, is_some, unwrap_or}
 use Rattle.std.proofs.lemmas.Result.{IfOk-weaker}
-use Rattle.mix_base.specs.Events.{Event, skip, bind, found, cost}
+use Rattle.mix_base.specs.Events.{Event, skip, bind, cost}
 use Rattle.mix_tree.specs.Forest.{Forest, none, tree, first_label, first_kids, behind}
-use Rattle.mix_tree.specs.Place.{trees_at, has_place, child_place, next_place}
+use Rattle.mix_tree.specs.Place.{has_place, child_place, next_place}
 use Rattle.path_expr.specs.Automaton.{Machine}
 use Rattle.lxp_core.specs.View.{View, Keeps}
 use Rattle.tree_buffer.specs.declared.buffer.Buffer.{Buffer}
 use Rattle.tree_buffer.specs.declared.fault.BufferFault.{BufferFault}
 use Rattle.tree_buffer.specs.declared.spot.Spot.{Spot}
 use Rattle.tree_buffer.specs.Document.{document_node, has_next}
-use Rattle.tree_buffer.specs.Buffer.{IsSpot, IsChildSpot, IsNextSpot, IsSourcesOf, Goes, number_of, place_of, label_of, below, after, trees_from}
+use Rattle.tree_buffer.specs.Buffer.{IsChildSpot, IsNextSpot, IsSourcesOf, Goes, number_of, place_of, label_of, below, after, trees_from}
 use Rattle.tree_buffer.proofs.Calls.{goes_place, still_told, still_node, label_at_spot, down_trees, right_trees}
 use Rattle.tree_buffer.proofs.Documents.{next_place-push}
 use Rattle.lazy_descend.specs.declared.frame.Frame.{Frame}
@@ -19,7 +19,7 @@ use Rattle.lazy_descend.specs.declared.cursor.DescCursor.{DescCursor}
 use Rattle.lazy_descend.specs.declared.steps.Step.{Step}
 use Rattle.lazy_descend.specs.declared.steps.Step.TheVariants.{Done, At, On}
 use Rattle.lazy_descend.specs.Visit.{place_behind, visit}
-use Rattle.lazy_descend.specs.Cursors.{spot_of, states_of, up_of, start_of, IsFrame, IsCursor, trees_of, events_behind, events_below, events_ahead, weight_behind, weight_ahead, steps_behind, steps_ahead, ahead, number, AsksWithin, Finds, Moves, Steps, StandsAt, IsArrival}
+use Rattle.lazy_descend.specs.Cursors.{spot_of, states_of, up_of, start_of, IsFrame, IsCursor, trees_of, events_behind, events_ahead, weight_behind, weight_ahead, steps_behind, steps_ahead, ahead, AsksWithin, Finds, Moves, Steps, StandsAt, IsArrival}
 use Rattle.lazy_descend.proofs.Stay.{frame_spot, frame_up, frame_index, frame_child, start_up, behind_up, weight_up, steps_up, frame_stays, behind_stays, weight_stays, steps_stay}
 
 -- a visit has an event at least

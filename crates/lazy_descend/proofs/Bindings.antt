@@ -1,37 +1,37 @@
 -- The bindings of the visit are the matches of the path.
-use Rattle.std.proofs.Common.{◌≡◌, ◌∙◌, ◌⊎◌, inl, inr, ◌<◌, ◌+◌, ℕ, zero, suc, Bool, true, false, cond, IsTrue, List, [], ◌∷◌, ◌++◌, length, get_or, append_assoc, refl, sym, ap, subst, arith}
+use Rattle.std.proofs.Common.{◌≡◌, ◌∙◌, inl, inr, ◌<◌, ◌+◌, ℕ, zero, suc, Bool, true, false, cond, IsTrue, List, [], ◌∷◌, ◌++◌, length, append_assoc, refl, sym, ap, subst, arith}
 use Rattle.std.specs.Prelude.{is_some, unwrap_or}
-use Rattle.std.specs.List.{Contains}
-use Rattle.std.proofs.lemmas.List.Elements.{Contains-append_left, Contains-append_right, Contains-append_cases}
+use Rattle.mix_base.specs.Ascents.{Among, Ascending}
+use Rattle.mix_base.proofs.Ascents.{among_left, among_right, among_cases, ascending_append}
 use Rattle.mix_base.specs.Events.{Event, skip, bind, without_skips}
 use Rattle.mix_tree.specs.Forest.{Forest, none, tree, first_label, first_kids, from}
 use Rattle.mix_tree.specs.Place.{trees_at, has_place, child_place}
-use Rattle.mix_tree.specs.Order.{PlaceBefore, Ascending}
+use Rattle.mix_tree.specs.Nodes.{PlaceBefore}
 use Rattle.mix_tree.proofs.Kids.{from_none}
 use Rattle.mix_tree.proofs.Places.{trees_at_none, trees_at-append}
 use Rattle.path_expr.specs.Form.{Form}
 use Rattle.path_expr.specs.Description.{Labels, Describes}
 use Rattle.path_expr.specs.Automaton.{Machine, steps, states_after, IsAutomatonOf}
-use Rattle.path_expr.specs.Matches.{labels_down, IsMatch, AreMatches}
+use Rattle.path_expr.specs.Matches.{labels_down, LeadsTo}
 use Rattle.tree_buffer.proofs.Documents.{next_place-push}
 use Rattle.lazy_descend.specs.Law.{BindingsAreMatches}
-use Rattle.lazy_descend.specs.Visit.{place_behind, visit, visit_below}
+use Rattle.lazy_descend.specs.Visit.{place_behind, visit}
 
--- what a list of one, or of none, contains
-contains_one : (a : Bool) (x y : List ℕ) → Contains (cond a (x ∷ []) []) y → IsTrue a × (y ≡ x)
-contains_one true x y (zero, h, e) = (refl, sym e)
-contains_one true x y (suc k, h, e) = absurd (omega arith)
-contains_one false x y (k, h, e) = absurd (omega arith)
+-- what a list of one, or of none, holds
+among_one : (a : Bool) (x y : List ℕ) → Among y (cond a (x ∷ []) []) → IsTrue a × (y ≡ x)
+among_one true x y (inl e) = (refl, e)
+among_one true x y (inr h) = absurd h
+among_one false x y h = absurd h
 
--- a list that is taken contains what it does
-contains_if : (a : Bool) (xs : List (List ℕ)) (y : List ℕ) → IsTrue a → Contains xs y → Contains (cond a xs []) y
-contains_if true xs y t h = h
-contains_if false xs y t h = let f : false ≡ true = t in cc
+-- a list that is taken holds what it does
+among_if : (a : Bool) (xs : List (List ℕ)) (y : List ℕ) → IsTrue a → Among y xs → Among y (cond a xs [])
+among_if true xs y t h = h
+among_if false xs y t h = let f : false ≡ true = t in cc
 
--- what a list contains that is taken if so
-contains_taken : (a : Bool) (xs : List (List ℕ)) (y : List ℕ) → Contains (cond a xs []) y → Contains xs y
-contains_taken true xs y h = h
-contains_taken false xs y (k, h, e) = absurd (omega arith)
+-- what a list holds that is taken if so
+among_taken : (a : Bool) (xs : List (List ℕ)) (y : List ℕ) → Among y (cond a xs []) → Among y xs
+among_taken true xs y h = h
+among_taken false xs y h = absurd h
 
 -- the bindings of two lists of events
 bindings_append : (xs ys : List (Event (List ℕ))) → without_skips (xs ++ ys) ≡ without_skips xs ++ without_skips ys
@@ -58,20 +58,6 @@ before_below (x ∷ p) u w h = inr (refl, before_below p u w h)
 before_deeper : (p : List ℕ) (i : ℕ) (r : List ℕ) → PlaceBefore p (p ++ i ∷ r)
 before_deeper [] i r = tt
 before_deeper (x ∷ p) i r = inr (refl, before_deeper p i r)
-
--- two ascending lists, where all of one stand before all of the other
-ascending_append : (xs ys : List (List ℕ)) → Ascending xs → Ascending ys → ((x y : List ℕ) → Contains xs x → Contains ys y → PlaceBefore x y) → Ascending (xs ++ ys)
-ascending_append [] ys h k f = k
-ascending_append (x ∷ xs) ys h k f = (
-  (λ q c. elim (Contains-append_cases xs ys q c) [ inl a ↦ h.0 q a | inr a ↦ f x q (first_in x xs) a ]),
-  ascending_append xs ys h.1 k (λ u w a c. f u w (later_in x xs u a) c),
-)
-  where
-    first_in : (x : List ℕ) (xs : List (List ℕ)) → Contains (x ∷ xs) x
-    first_in x xs = (0, omega arith, refl)
-
-    later_in : (x : List ℕ) (xs : List (List ℕ)) (u : List ℕ) → Contains xs u → Contains (x ∷ xs) u
-    later_in x xs u (k, h, e) = (suc k, omega arith, e)
 
 -- the place behind a child's is that of the next child
 behind_push : (p : List ℕ) (k : ℕ) → place_behind (p ++ k ∷ []) ≡ p ++ (k + 1) ∷ []
@@ -108,13 +94,13 @@ module _ (m : Machine) where
   IsBinding q p k f y = (i : ℕ) × (r : List ℕ) × (y ≡ p ++ (k + i) ∷ r) × Accepts q f i r
 
   -- each binding is one
-  binding_is : (q : ℕ) (p : List ℕ) (k : ℕ) (f : Forest) (y : List ℕ) → Contains (bindings q p k f) y → IsBinding q p k f y
-  binding_is q p k none y (i, h, e) = absurd (omega arith)
+  binding_is : (q : ℕ) (p : List ℕ) (k : ℕ) (f : Forest) (y : List ℕ) → Among y (bindings q p k f) → IsBinding q p k f y
+  binding_is q p k none y h = absurd h
   binding_is q p k (tree x kids later) y c =
-      elim (Contains-append_cases own (deep ++ rest) y (subst (λ z. Contains z y) (bindings_tree q p k x kids later) c)) [
-        | inl a ↦ here (contains_one (m.accepts (m.step q x)) (p ++ k ∷ []) y a)
-        | inr a ↦ elim (Contains-append_cases deep rest y a) [
-          | inl d ↦ below (binding_is (m.step q x) (p ++ k ∷ []) 0 kids y (contains_taken (m.goes_on (m.step q x)) (bindings (m.step q x) (p ++ k ∷ []) 0 kids) y d))
+      elim (among_cases own (deep ++ rest) y (subst (λ z. Among y z) (bindings_tree q p k x kids later) c)) [
+        | inl a ↦ here (among_one (m.accepts (m.step q x)) (p ++ k ∷ []) y a)
+        | inr a ↦ elim (among_cases deep rest y a) [
+          | inl d ↦ below (binding_is (m.step q x) (p ++ k ∷ []) 0 kids y (among_taken (m.goes_on (m.step q x)) (bindings (m.step q x) (p ++ k ∷ []) 0 kids) y d))
           | inr d ↦ behind (binding_is q p (k + 1) later y d)
         ]
       ]
@@ -141,12 +127,12 @@ module _ (m : Machine) where
       behind (i, r, e, t) = let n : (k + 1) + i ≡ k + suc i = omega arith in (suc i, r, e ∙ ap (λ a. p ++ a ∷ r) n, t)
 
   -- the bindings ascend
-  ascends : (q : ℕ) (p : List ℕ) (k : ℕ) (f : Forest) → Ascending (bindings q p k f)
+  ascends : (q : ℕ) (p : List ℕ) (k : ℕ) (f : Forest) → Ascending PlaceBefore (bindings q p k f)
   ascends q p k none = tt
   ascends q p k (tree x kids later) =
-      subst Ascending (sym (bindings_tree q p k x kids later))
-      (ascending_append own (deep ++ rest) (own_ascends (m.accepts (m.step q x)))
-      (ascending_append deep rest (deep_ascends (m.goes_on (m.step q x)) (ascends (m.step q x) (p ++ k ∷ []) 0 kids)) (ascends q p (k + 1) later) deep_first)
+      subst (Ascending PlaceBefore) (sym (bindings_tree q p k x kids later))
+      (ascending_append PlaceBefore own (deep ++ rest) (own_ascends (m.accepts (m.step q x)))
+      (ascending_append PlaceBefore deep rest (deep_ascends (m.goes_on (m.step q x)) (ascends (m.step q x) (p ++ k ∷ []) 0 kids)) (ascends q p (k + 1) later) deep_first)
       own_first)
     where
       own : List (List ℕ)
@@ -158,32 +144,32 @@ module _ (m : Machine) where
       rest : List (List ℕ)
       rest = bindings q p (k + 1) later
 
-      own_ascends : (a : Bool) → Ascending (cond a ((p ++ k ∷ []) ∷ []) [])
-      own_ascends true = ((λ w c. absurd (omega (arith, c.1))), tt)
+      own_ascends : (a : Bool) → Ascending PlaceBefore (cond a ((p ++ k ∷ []) ∷ []) [])
+      own_ascends true = (tt, tt)
       own_ascends false = tt
 
-      deep_ascends : (a : Bool) → Ascending (bindings (m.step q x) (p ++ k ∷ []) 0 kids) → Ascending (cond a (bindings (m.step q x) (p ++ k ∷ []) 0 kids) [])
+      deep_ascends : (a : Bool) → Ascending PlaceBefore (bindings (m.step q x) (p ++ k ∷ []) 0 kids) → Ascending PlaceBefore (cond a (bindings (m.step q x) (p ++ k ∷ []) 0 kids) [])
       deep_ascends true h = h
       deep_ascends false h = tt
 
-      in_deep : (y : List ℕ) → Contains deep y → IsBinding (m.step q x) (p ++ k ∷ []) 0 kids y
-      in_deep y c = binding_is (m.step q x) (p ++ k ∷ []) 0 kids y (contains_taken (m.goes_on (m.step q x)) (bindings (m.step q x) (p ++ k ∷ []) 0 kids) y c)
+      in_deep : (y : List ℕ) → Among y deep → IsBinding (m.step q x) (p ++ k ∷ []) 0 kids y
+      in_deep y c = binding_is (m.step q x) (p ++ k ∷ []) 0 kids y (among_taken (m.goes_on (m.step q x)) (bindings (m.step q x) (p ++ k ∷ []) 0 kids) y c)
 
-      sibling_later : (u : List ℕ) (y : List ℕ) → Contains rest y → PlaceBefore (p ++ k ∷ u) y
+      sibling_later : (u : List ℕ) (y : List ℕ) → Among y rest → PlaceBefore (p ++ k ∷ u) y
       sibling_later u y c =
           let w = binding_is q p (k + 1) later y c in
           let n : k < (k + 1) + w.0 = omega arith in
           subst (PlaceBefore (p ++ k ∷ u)) (sym w.2) (before_below p (k ∷ u) (((k + 1) + w.0) ∷ w.1) (inl n))
 
-      deep_first : (y z : List ℕ) → Contains deep y → Contains rest z → PlaceBefore y z
+      deep_first : (y z : List ℕ) → Among y deep → Among z rest → PlaceBefore y z
       deep_first y z c d =
           let w = in_deep y c in
           subst (λ l. PlaceBefore l z) (sym (w.2 ∙ append_assoc p (k ∷ []) ((0 + w.0) ∷ w.1))) (sibling_later ((0 + w.0) ∷ w.1) z d)
 
-      own_first : (y z : List ℕ) → Contains own y → Contains (deep ++ rest) z → PlaceBefore y z
+      own_first : (y z : List ℕ) → Among y own → Among z (deep ++ rest) → PlaceBefore y z
       own_first y z c d =
-          let e = (contains_one (m.accepts (m.step q x)) (p ++ k ∷ []) y c).1 in
-          subst (λ l. PlaceBefore l z) (sym e) (elim (Contains-append_cases deep rest z d) [
+          let e = (among_one (m.accepts (m.step q x)) (p ++ k ∷ []) y c).1 in
+          subst (λ l. PlaceBefore l z) (sym e) (elim (among_cases deep rest z d) [
             | inl a ↦ (let w = in_deep z a in subst (PlaceBefore (p ++ k ∷ [])) (sym w.2) (before_deeper (p ++ k ∷ []) (0 + w.0) w.1))
             | inr a ↦ sibling_later [] z a
           ])
@@ -234,25 +220,25 @@ module _ (m : Machine) where
         subst (λ n. IsTrue (m.goes_on n)) e (auto.longer x l y ((auto.accepts (x ++ l ∷ y)).0 (subst (λ n. IsTrue (m.accepts n)) same h)))
 
     -- each accepted place is a binding
-    is_binding : (q : ℕ) → Reached q → (s : List ℕ) (k : ℕ) (f : Forest) (i : ℕ) (r : List ℕ) → Accepts q f i r → Contains (bindings q s k f) (s ++ (k + i) ∷ r)
+    is_binding : (q : ℕ) → Reached q → (s : List ℕ) (k : ℕ) (f : Forest) (i : ℕ) (r : List ℕ) → Accepts q f i r → Among (s ++ (k + i) ∷ r) (bindings q s k f)
     is_binding q at s k none i r h = absurd h
     is_binding q at s k (tree x kids later) (suc i) r h =
         let n : (k + 1) + i ≡ k + suc i = omega arith in
         let own : List (List ℕ) = cond (m.accepts (m.step q x)) ((s ++ k ∷ []) ∷ []) [] in
         let deep : List (List ℕ) = cond (m.goes_on (m.step q x)) (bindings (m.step q x) (s ++ k ∷ []) 0 kids) [] in
         let y : List ℕ = s ++ (k + suc i) ∷ r in
-        let later_has : Contains (bindings q s (k + 1) later) (s ++ (k + suc i) ∷ r) =
-        subst (λ a. Contains (bindings q s (k + 1) later) (s ++ a ∷ r)) n (is_binding q at s (k + 1) later i r h) in
-        subst (λ z. Contains z y) (sym (bindings_tree q s k x kids later))
-        (Contains-append_right own (deep ++ bindings q s (k + 1) later) y (Contains-append_right deep (bindings q s (k + 1) later) y later_has))
+        let later_has : Among (s ++ (k + suc i) ∷ r) (bindings q s (k + 1) later) =
+        subst (λ a. Among (s ++ a ∷ r) (bindings q s (k + 1) later)) n (is_binding q at s (k + 1) later i r h) in
+        subst (λ z. Among y z) (sym (bindings_tree q s k x kids later))
+        (among_right own (deep ++ bindings q s (k + 1) later) y (among_right deep (bindings q s (k + 1) later) y later_has))
     is_binding q at s k (tree x kids later) zero [] h =
         let n : k ≡ k + 0 = omega arith in
         let own : List (List ℕ) = (s ++ k ∷ []) ∷ [] in
         let deep : List (List ℕ) = cond (m.goes_on (m.step q x)) (bindings (m.step q x) (s ++ k ∷ []) 0 kids) [] in
-        subst (λ a. Contains (bindings q s k (tree x kids later)) (s ++ a ∷ [])) n
-        (subst (λ z. Contains z (s ++ k ∷ [])) (sym (bindings_tree q s k x kids later))
-        (Contains-append_left (cond (m.accepts (m.step q x)) own []) (deep ++ bindings q s (k + 1) later) (s ++ k ∷ [])
-        (contains_if (m.accepts (m.step q x)) own (s ++ k ∷ []) h (0, omega arith, refl))))
+        subst (λ a. Among (s ++ a ∷ []) (bindings q s k (tree x kids later))) n
+        (subst (λ z. Among (s ++ k ∷ []) z) (sym (bindings_tree q s k x kids later))
+        (among_left (cond (m.accepts (m.step q x)) own []) (deep ++ bindings q s (k + 1) later) (s ++ k ∷ [])
+        (among_if (m.accepts (m.step q x)) own (s ++ k ∷ []) h (inl refl))))
     is_binding q at s k (tree x kids later) zero (j ∷ r) h =
         let n : k ≡ k + 0 = omega arith in
         let i : 0 + j ≡ j = omega arith in
@@ -263,13 +249,13 @@ module _ (m : Machine) where
         let same : (s ++ k ∷ []) ++ (0 + j) ∷ r ≡ s ++ (k + 0) ∷ j ∷ r =
         ap (λ a. (s ++ k ∷ []) ++ a ∷ r) i ∙ append_assoc s (k ∷ []) (j ∷ r) ∙ ap (λ a. s ++ a ∷ j ∷ r) n in
         let y : List ℕ = s ++ (k + 0) ∷ j ∷ r in
-        let below : Contains (bindings (m.step q x) (s ++ k ∷ []) 0 kids) (s ++ (k + 0) ∷ j ∷ r) = subst (Contains kids_hold) same (is_binding st (reached_step q x at) (s ++ k ∷ []) 0 kids j r h) in
-        subst (λ z. Contains z y) (sym (bindings_tree q s k x kids later))
-        (Contains-append_right own (cond (m.goes_on st) kids_hold [] ++ bindings q s (k + 1) later) y
-        (Contains-append_left (cond (m.goes_on st) kids_hold []) (bindings q s (k + 1) later) y (contains_if (m.goes_on st) kids_hold y on below)))
+        let below : Among (s ++ (k + 0) ∷ j ∷ r) (bindings (m.step q x) (s ++ k ∷ []) 0 kids) = subst (λ z. Among z kids_hold) same (is_binding st (reached_step q x at) (s ++ k ∷ []) 0 kids j r h) in
+        subst (λ z. Among y z) (sym (bindings_tree q s k x kids later))
+        (among_right own (cond (m.goes_on st) kids_hold [] ++ bindings q s (k + 1) later) y
+        (among_left (cond (m.goes_on st) kids_hold []) (bindings q s (k + 1) later) y (among_if (m.goes_on st) kids_hold y on below)))
 
     -- a binding of the visit is a match
-    match_of : (f : Forest) (start y : List ℕ) → IsBinding m.start start 0 (first_kids (trees_at f start)) y → IsMatch p f start y
+    match_of : (f : Forest) (start y : List ℕ) → IsBinding m.start start 0 (first_kids (trees_at f start)) y → LeadsTo p f start y
     match_of f start y (i, r, e, h) =
         let n : 0 + i ≡ i = omega arith in
         let at : y ≡ start ++ i ∷ r = e ∙ ap (λ a. start ++ a ∷ r) n in
@@ -283,20 +269,20 @@ module _ (m : Machine) where
 
     -- a match is a binding of the visit
     of_match : (f : Forest) (start y way : List ℕ) → 0 < length way → start ++ way ≡ y → has_place f y ≡ true → Describes p (labels_down (first_kids (trees_at f start)) way)
-        → Contains (bindings m.start start 0 (first_kids (trees_at f start))) y
+        → Among y (bindings m.start start 0 (first_kids (trees_at f start)))
     of_match f start y [] some e there d = absurd (omega arith)
     of_match f start y (i ∷ r) some e there d =
         let n : 0 + i ≡ i = omega arith in
         let kids : Forest = first_kids (trees_at f start) in
         let here : is_some (first_label (trees_at (from i (first_kids (trees_at f start))) r)) ≡ true =
         sym (ap (λ g. is_some (first_label g)) (trees_at-append f start (i ∷ r))) ∙ ap (has_place f) e ∙ there in
-        subst (Contains (bindings m.start start 0 kids)) (ap (λ a. start ++ a ∷ r) n ∙ e)
+        subst (λ z. Among z (bindings m.start start 0 kids)) (ap (λ a. start ++ a ∷ r) n ∙ e)
         (is_binding m.start ([], refl) start 0 kids i r (accepts_there m.start kids i r here ((auto.accepts (labels_down kids (i ∷ r))).1 d)))
 
 -- the bindings of the visit are the matches of the path
 pub bindings_are_matches : BindingsAreMatches
 bindings_are_matches m p auto f start = record {
   ascending = ascends m m.start start 0 (first_kids (trees_at f start));
-  sound = λ y c. match_of m p auto f start y (binding_is m m.start start 0 (first_kids (trees_at f start)) y c);
-  complete = λ y h. of_match m p auto f start y h.way h.below h.place h.there h.described;
+  exactly = λ y.
+      ((λ c. match_of m p auto f start y (binding_is m m.start start 0 (first_kids (trees_at f start)) y c)), (λ h. of_match m p auto f start y h.way h.below h.place h.there h.described));
 }

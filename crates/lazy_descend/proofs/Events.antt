@@ -1,5 +1,5 @@
 -- A cursor stands for an event of the visit, from call to call.
-use Rattle.std.proofs.Common.{◌≡◌, ◌∙◌, ◌<◌, ◌≤◌, ◌+◌, ℕ, true, subst, arith, Option, Some, None, List, [], ◌∷◌, ◌++◌, append_assoc, append-nil, refl, sym, ap}
+use Rattle.std.proofs.Common.{◌≡◌, ◌∙◌, ◌<◌, ◌+◌, ℕ, true, subst, arith, Option, Some, None, List, [], ◌∷◌, ◌++◌, append_assoc, append-nil, refl, sym, ap}
 use Rattle.std.specs.Prelude.{IfSome, IfOk, Result}
 use Rattle.std.proofs.lemmas.Result.{IfOk-weaker}
 use Rattle.mix_base.specs.Events.{Event, skip, bind, finds, found}
@@ -12,9 +12,9 @@ use Rattle.tree_buffer.specs.declared.fault.BufferFault.{BufferFault}
 use Rattle.tree_buffer.specs.declared.spot.Spot.{Spot}
 use Rattle.tree_buffer.specs.Document.{document_node}
 use Rattle.tree_buffer.specs.Buffer.{IsSpot, IsSourcesOf, Goes, number_of, place_of, below}
-use Rattle.tree_buffer.proofs.Calls.{goes_spot, goes_place, still_told, still_node}
+use Rattle.tree_buffer.proofs.Calls.{goes_spot, goes_place, still_node}
 use Rattle.lazy_descend.specs.declared.cursor.DescCursor.{DescCursor}
-use Rattle.lazy_descend.specs.Law.{Stays, CursorsStay, NumbersAreSmall}
+use Rattle.lazy_descend.specs.Law.{CursorsStay, NumbersAreSmall}
 use Rattle.lazy_descend.specs.declared.frame.Frame.{Start}
 use Rattle.lazy_descend.specs.Visit.{visit, visit_below}
 use Rattle.lazy_descend.specs.Cursors.{spot_of, start_of, IsCursor, IsEvent, trees_of, events_ahead, weight_ahead, place_at, ahead, number, Finds, Found, Answers}

@@ -1,5 +1,5 @@
 -- How far a search has come: what is still ahead, and what it has cost.
-use Rattle.std.proofs.Common.{◌≡◌, ◌∙◌, ◌≤◌, ℕ, ◌+◌, true, Option, Some, None, List, refl, arith}
+use Rattle.std.proofs.Common.{◌≡◌, ◌∙◌, ◌≤◌, ℕ, ◌+◌, true, List, refl, arith}
 use Rattle.mix_base.specs.Events.{Event, nothing, found, cost}
 use Rattle.path_expr.specs.Automaton.{Machine}
 use Rattle.lxp_core.specs.View.{View, Keeps}

@@ -1,7 +1,6 @@
 -- What stays of the frames of a cursor from call to call.
-use Rattle.std.proofs.Common.{◌≡◌, ◌∙◌, ◌≤◌, ℕ, suc, ◌+◌, ◌*◌, Bool, true, false, cond, Option, Some, None, List, [], ◌∷◌, ◌++◌, refl, sym, ap, arith}
-use Rattle.mix_base.specs.Events.{Event}
-use Rattle.mix_tree.specs.Forest.{Forest, first_kids, behind}
+use Rattle.std.proofs.Common.{◌≡◌, ◌∙◌, ◌≤◌, ℕ, suc, ◌+◌, ◌*◌, Bool, true, false, cond, Option, Some, None, [], ◌∷◌, ◌++◌, refl, sym, ap, arith}
+use Rattle.mix_tree.specs.Forest.{first_kids, behind}
 use Rattle.mix_tree.specs.Place.{trees_at, child_place}
 use Rattle.path_expr.specs.Automaton.{Machine}
 use Rattle.lxp_core.specs.View.{View, Keeps}

@@ -99,7 +99,7 @@ pub record IsEvent (v : View) (b : Buffer) (m : Machine) (start : Spot) (d : Des
   pub stands : v.told (number_of b) ≡ true → (front : List (Event (List ℕ)))
       × (visit_below m (document_node v (number_of b)) (place_of b start) ≡ front ++ bind (place_at b d) ∷ ahead v b m d)
 
--- the source is told, and the first binding of these events is that of the cursor, with the events ahead of it behind; or there is none
+-- what a search over these events answers, where the source is told: the cursor at the first binding, with the events behind it ahead; or that there is none
 abbrev pub Answers : View → Buffer → View → Buffer → Machine → List (Event (List ℕ)) → Option DescCursor → Type 0
 Answers v b v' b' m es None = v.told (number_of b) ≡ true → found es ≡ nothing
 Answers v b v' b' m es (Some d) = v.told (number_of b) ≡ true → found es ≡ finds (place_at b' d) (ahead v' b' m d)

@@ -1,5 +1,5 @@
 -- What holds of the visit itself, and of cursors from call to call.
-use Rattle.std.specs.Prelude.{◌≡◌, ℕ, ◌≤◌, true, List}
+use Rattle.std.specs.Prelude.{◌≡◌, ℕ, ◌≤◌, List}
 use Rattle.mix_base.specs.Events.{without_skips}
 use Rattle.mix_tree.specs.Forest.{Forest}
 use Rattle.path_expr.specs.Form.{Form}
@@ -8,7 +8,7 @@ use Rattle.path_expr.specs.Matches.{AreMatches}
 use Rattle.lxp_core.specs.View.{View, Keeps}
 use Rattle.tree_buffer.specs.declared.buffer.Buffer.{Buffer}
 use Rattle.tree_buffer.specs.declared.spot.Spot.{Spot}
-use Rattle.tree_buffer.specs.Buffer.{number_of, IsSourcesOf, Goes, below}
+use Rattle.tree_buffer.specs.Buffer.{IsSourcesOf, Goes, below}
 use Rattle.lazy_descend.specs.Visit.{visit_below}
 use Rattle.lazy_descend.specs.Cursors.{IsCursor, IsEvent, place_at, ahead, number}
 use Rattle.lazy_descend.specs.declared.cursor.DescCursor.{DescCursor}

@@ -1,5 +1,5 @@
 -- The machine of a path's table is the path's automaton.
-use Rattle.std.proofs.Common.{◌≡◌, ◌∙◌, ◌⊎◌, inl, inr, ◌≤◌, ◌<◌, ℕ, zero, suc, ◌+◌, ◌%◌, ◌/◌, ◌^◌, ◌&&◌, length-append, ◌==◌, min, Bool, true, false, IsTrue, List, [], ◌∷◌, ◌++◌, length, Option, Some, None, refl, sym, ap, subst, arith}
+use Rattle.std.proofs.Common.{◌≡◌, ◌∙◌, inl, inr, ◌≤◌, ◌<◌, ℕ, zero, suc, ◌+◌, ◌%◌, ◌/◌, ◌^◌, ◌&&◌, length-append, ◌==◌, min, Bool, true, false, IsTrue, List, [], ◌∷◌, ◌++◌, length, Option, refl, sym, ap, subst, arith}
 use Rattle.std.specs.Prelude.{not}
 use Rattle.std.specs.Int.{bit_at}
 use Rattle.std.specs.Int.RustNames.{bit_and, bit_or}
@@ -11,14 +11,14 @@ use Rattle.path_expr.specs.Form.{Head, name, any, seq, alt, star, plus, opt, Pat
 use Rattle.path_expr.specs.Description.{Labels, How, in_turn, one_of, Describes}
 use Rattle.path_expr.specs.Labels.{HeadUtf8, AreUtf8}
 use Rattle.path_expr.specs.Positions.{Position, tests, count_by}
-use Rattle.path_expr.specs.Sets.{count, entry, rows_by, rows, step_from, end_of, first_set, listed_in, rows_in, step, run, accepts, tests_by, tests_of, some, lives_by, lives, lives_in, set_of}
+use Rattle.path_expr.specs.Sets.{count, entry, rows_by, rows, step_from, end_of, first_set, listed_in, rows_in, step, run, tests_by, tests_of, some, lives_by, lives, lives_in, set_of}
 use Rattle.path_expr.specs.Automaton.{Machine, steps, states_after, GoesOn, IsAutomatonOf, machine_of, table_of}
 use Rattle.path_expr.proofs.Unions.{tests_by_are, tests_are}
 use Rattle.path_expr.proofs.Entries.{length_by, length_is}
 use Rattle.path_expr.proofs.Runs.{accepts_is, run_leads, first_leads}
 use Rattle.path_expr.proofs.Steps.{OnAny}
 use Rattle.path_expr.proofs.Runs.{on_leads}
-use Rattle.path_expr.proofs.Living.{Longer, Meet, Lives, live_by, all_live, meet_leads, leads_meet}
+use Rattle.path_expr.proofs.Living.{Meet, Lives, live_by, all_live, meet_leads, leads_meet}
 
 -- the tests of a path are those of its positions
 tests_in : (p : Form) → tests (listed_in p) ≡ tests_by p.head (tests_of p.members)

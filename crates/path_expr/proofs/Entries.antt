@@ -1,17 +1,16 @@
 -- The set of first listed leads where the first listed lead.
-use Rattle.std.proofs.Common.{◌≡◌, ◌∙◌, ◌⊎◌, inl, inr, ℕ, zero, suc, ◌+◌, ◌^◌, max, ◌<◌, ◌≢◌, ◌==◌, cond, Bool, true, false, ◌&&◌, ◌||◌, IsTrue, List, [], ◌∷◌, ◌++◌, length, Option, Some, None, refl, sym, ap, subst, append_assoc, arith}
+use Rattle.std.proofs.Common.{◌≡◌, ◌∙◌, ◌⊎◌, inl, inr, ℕ, ◌+◌, ◌^◌, max, ◌<◌, ◌≢◌, ◌==◌, Bool, true, false, ◌&&◌, ◌||◌, IsTrue, List, [], ◌∷◌, ◌++◌, length, Some, None, refl, sym, subst, arith}
 use Rattle.std.specs.Int.{bit_at}
 use Rattle.std.specs.Int.RustNames.{bit_or}
 use Rattle.std.proofs.lemmas.Nat.Bits.{bit_at-zero, bit_at_or, bit_at-pow_same, bit_at-pow_other, bit_at-lt}
 use Rattle.std.proofs.lemmas.Bool.Decides.{Decides-eqb, not_from_Decides}
-use Rattle.mix_base.proofs.Lists.{append_nil}
 use Rattle.mix_base.proofs.Choices.{and_parts, and_both}
 use Rattle.std.specs.Prelude.{◌↔◌ as Iff}
 use Rattle.path_expr.specs.Form.{Head, name, any, seq, alt, star, plus, opt, Paths, none, path}
 use Rattle.path_expr.specs.Description.{Labels, How, in_turn, one_of}
 use Rattle.path_expr.specs.Positions.{Position, Takes, Begins, nullable_by, nullable, starts_by, positions_if, starts, listed_by, listed, count_by}
 use Rattle.path_expr.specs.Sets.{count, entry_by, entry, Leads, Located}
-use Rattle.path_expr.proofs.FirstPositions.{begins_left, begins_right, begins_parts, complete, sound, nullable_describes, so_begins, begins_so, enter_by, sound_by, nullable_by_describes, or_left, or_right, or_parts}
+use Rattle.path_expr.proofs.FirstPositions.{begins_left, begins_right, begins_parts, so_begins, begins_so, or_left, or_right, or_parts}
 
 -- what leads to the end from each number
 abbrev pub Way : Type 1

@@ -1,5 +1,5 @@
 -- After a run over a list the set tells whether the path describes some longer list.
-use Rattle.std.proofs.Common.{◌≡◌, ◌∙◌, ◌⊎◌, inl, inr, ℕ, zero, suc, ◌+◌, ◌^◌, ◌<◌, ◌≤◌, ◌==◌, cond, Bool, true, false, ◌&&◌, ◌||◌, IsTrue, List, [], ◌∷◌, ◌++◌, length, Option, Some, None, refl, sym, ap, subst, append_assoc, arith}
+use Rattle.std.proofs.Common.{◌≡◌, ◌⊎◌, inl, inr, ℕ, ◌+◌, ◌^◌, cond, Bool, true, false, ◌&&◌, IsTrue, List, [], ◌∷◌, ◌++◌, Option, Some, None, refl}
 use Rattle.std.specs.Str.{IsUtf8}
 use Rattle.std.specs.Int.{bit_at}
 use Rattle.std.specs.Int.RustNames.{bit_or}
@@ -13,7 +13,7 @@ use Rattle.path_expr.specs.Positions.{Position, passes, listed_by, listed}
 use Rattle.path_expr.specs.Sets.{some_by, some, lives_by, lives, set_of}
 use Rattle.path_expr.specs.Automaton.{AreTexts}
 use Rattle.path_expr.proofs.FirstPositions.{same_label, or_left, or_right, or_parts}
-use Rattle.path_expr.proofs.Entries.{Way, single_is, union_parts, union_left, union_right, is_single, empty_leads}
+use Rattle.path_expr.proofs.Entries.{single_is, union_parts, union_left, union_right, is_single, empty_leads}
 use Rattle.path_expr.proofs.Steps.{OnAny}
 
 -- the labels of two lists

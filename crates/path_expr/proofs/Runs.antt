@@ -1,16 +1,14 @@
 -- After a run over a list the set tells whether it is described, and whether some longer one is.
-use Rattle.std.proofs.Common.{◌≡◌, ◌∙◌, ◌⊎◌, inl, inr, ℕ, zero, suc, ◌+◌, ◌^◌, ◌<◌, ◌==◌, cond, Bool, true, false, ◌&&◌, ◌||◌, IsTrue, List, [], ◌∷◌, ◌++◌, length, Option, Some, None, refl, sym, ap, subst, append_assoc, arith}
+use Rattle.std.proofs.Common.{◌≡◌, ◌∙◌, ℕ, zero, suc, ◌+◌, ◌^◌, IsTrue, List, [], ◌∷◌, ◌++◌, length, refl, sym, ap, subst, arith}
 use Rattle.std.specs.Int.{bit_at}
 use Rattle.std.proofs.lemmas.Bool.Decides.{Decides-eqb}
 use Rattle.mix_base.proofs.Lists.{append_nil}
-use Rattle.mix_base.proofs.Choices.{and_parts, and_both}
 use Rattle.std.specs.Prelude.{◌↔◌ as Iff}
 use Rattle.path_expr.specs.Form.{none, path, Form}
 use Rattle.path_expr.specs.Description.{Labels, in_turn, DescribesAs, Describes}
 use Rattle.path_expr.specs.Positions.{Position}
 use Rattle.path_expr.specs.Sets.{From, Leads, end_of, first_set, listed_in, rows_in, step, run, accepts}
-use Rattle.path_expr.proofs.FirstPositions.{same_label, or_left, or_right, or_parts}
-use Rattle.path_expr.proofs.Entries.{Way, single_is, is_single, length_by, length_is}
+use Rattle.path_expr.proofs.Entries.{single_is, is_single, length_by, length_is}
 use Rattle.path_expr.proofs.Steps.{Means, head_means, Match, matches_by, matches, located, OnAny, on_from, from_on, step_leads}
 
 -- the end

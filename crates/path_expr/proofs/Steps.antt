@@ -1,9 +1,8 @@
 -- A step leads where the set led by that label.
-use Rattle.std.proofs.Common.{◌≡◌, ◌∙◌, ◌⊎◌, inl, inr, ℕ, zero, suc, ◌+◌, ◌^◌, ◌<◌, ◌==◌, cond, Bool, true, false, ◌&&◌, ◌||◌, IsTrue, List, [], ◌∷◌, ◌++◌, length, Option, Some, None, refl, sym, ap, subst, append_assoc, arith}
+use Rattle.std.proofs.Common.{◌≡◌, ◌∙◌, ◌⊎◌, inl, inr, ℕ, zero, suc, ◌+◌, ◌==◌, cond, Bool, true, false, ◌&&◌, IsTrue, List, [], ◌∷◌, ◌++◌, refl, sym, ap, subst, arith}
 use Rattle.std.specs.Int.{bit_at}
 use Rattle.std.specs.Int.RustNames.{bit_or}
 use Rattle.std.proofs.lemmas.Bool.Decides.{Decides-eqb}
-use Rattle.mix_base.proofs.Lists.{append_nil}
 use Rattle.mix_base.proofs.Choices.{and_parts, and_both}
 use Rattle.std.specs.Prelude.{◌↔◌ as Iff}
 use Rattle.path_expr.specs.Form.{Head, name, any, seq, alt, star, plus, opt, Paths, none, path}
@@ -11,7 +10,7 @@ use Rattle.path_expr.specs.Description.{Labels, How, in_turn, one_of, DescribesA
 use Rattle.path_expr.specs.Positions.{Position, passes, Takes, Begins, nullable_by, nullable, starts_by, starts, listed_by, listed, tests, count_by}
 use Rattle.path_expr.specs.Sets.{count, entry_by, entry, rows_by, rows, From, Leads, Located, step_from}
 use Rattle.path_expr.proofs.FirstPositions.{complete, sound, nullable_describes, enter_by, sound_by, nullable_by_describes}
-use Rattle.path_expr.proofs.Entries.{Way, union_parts, union_left, union_right, empty_leads, single_is, is_single, length_by, length_is, parts_at, Ways, Enter, enters_by, enters}
+use Rattle.path_expr.proofs.Entries.{Way, union_parts, union_left, union_right, empty_leads, length_by, length_is, parts_at, Ways, enters_by, enters}
 
 -- a set that leads where paths do
 abbrev pub Means : Way → ℕ → Paths → Type 0

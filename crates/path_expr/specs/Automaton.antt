@@ -1,5 +1,5 @@
 -- The automaton of a path: which sets of positions a list of labels leads to, and what a set tells.
-use Rattle.std.specs.Prelude.{◌≡◌, ℕ, Bool, IsTrue, ◌==◌, not, List, [], ◌∷◌, ◌++◌, Option, length, ◌↔◌}
+use Rattle.std.specs.Prelude.{ℕ, Bool, IsTrue, ◌==◌, not, List, [], ◌∷◌, ◌++◌, Option, length, ◌↔◌}
 use Rattle.std.specs.Str.{IsUtf8}
 use Rattle.std.specs.Int.{bit_at}
 use Rattle.std.specs.Int.RustNames.{bit_and}

@@ -1,5 +1,5 @@
-use Rattle.std.proofs.Common.{◌≡◌, ◌∙◌, ◌≤◌, ◌^◌, ◌++◌, length, ap, arith}
-use Rattle.path_expr.specs.Sets.{tests_by, tests_of, rows_by, rows, rows_in, entry_by, entry, end_of, lives_in, first_set}
+use Rattle.std.proofs.Common.{◌≡◌, ◌∙◌, ◌^◌, ◌++◌, ap, arith}
+use Rattle.path_expr.specs.Sets.{tests_by, tests_of, rows_by, rows, rows_in, entry_by, entry, end_of, first_set}
 use Rattle.path_expr.proofs.Automata.{few_lives, sizes, automaton}
 use Rattle.path_expr.proofs.auto.Auto.new.Goals as goal
 
