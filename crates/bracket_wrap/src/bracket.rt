@@ -1,7 +1,9 @@
 // Bracket documents, given so many children at a time.
 ghost use Rattle.std.specs.Prelude.{◌≤◌};
 
-use lxp_core::{Document, HoleId, OpenTree, SourceFault};
+use crate::holes::Rest;
+use crate::layout::Layout;
+use lxp_core::{HoleId, OpenTree, SourceFault};
 use mix_tree::Tree;
 use std::alloc::{AllocError, Global};
 
@@ -13,7 +15,7 @@ use std::alloc::{AllocError, Global};
 /// same two ways. No list begins with a hole.
 #[derive(Drop)]
 pub struct BracketDoc {
-    document: Document,
+    layout: Layout,
     chunk: u32,
     deep: bool,
     ghost some: { 1 ≤ chunk },
@@ -24,8 +26,7 @@ impl BracketDoc {
     ghost use Rattle.mix_tree.specs.Forest.{alone};
     ghost use Rattle.lxp_core.specs.Open.{closed, weight_of, AllHoles, IsProgress, begins_with_hole};
     ghost use Rattle.lxp_core.specs.Plain.{plain};
-    ghost use Rattle.lxp_core.specs.DocumentHoles.{root_hole};
-    ghost use Rattle.bracket_wrap.specs.Bracket.{chunk_of, deep_of, knows, forest, weight, document, given};
+    ghost use Rattle.bracket_wrap.specs.Bracket.{chunk_of, deep_of, root_hole, knows, forest, weight, document, given};
 
     /// The document of a tree, to be given `chunk` children at a time, `deep` or not. A chunk is 1 to 1,000.
     pub fn open(alloc: Global, doc: Tree, chunk: u32, deep: bool) -> Result<BracketDoc, AllocError>
@@ -36,7 +37,7 @@ impl BracketDoc {
         ensures deep { IfOk result (λ d. deep_of d ≡ deep) }
     {
         Ok(BracketDoc {
-            document: Document::new(alloc, doc)?,
+            layout: Layout::new(alloc, doc)?,
             chunk,
             deep,
         })
@@ -44,9 +45,10 @@ impl BracketDoc {
 
     /// The hole that stands for the root.
     pub fn root_hole(&self) -> HoleId
-        ensures { result ≡ root_hole }
+        ensures { result ≡ root_hole self.now }
     {
-        self.document.root_hole()
+        let top = self.layout.nodes.len() - 1;
+        Rest { node: top, to: top }.hole()
     }
 
     /// The list of a hole. `UnknownHole`: the document doesn't know the hole. It never answers `Failed`.
@@ -63,6 +65,9 @@ impl BracketDoc {
         ensures unknown { IsErrOf result SourceFault.UnknownHole → knows self.now hole ≡ false }
         ensures only_unknown { knows self.now hole ≡ false → IsErrOf result SourceFault.UnknownHole }
     {
-        self.document.fill(alloc, self.chunk, self.deep, hole)
+        let Some(rest) = self.layout.rest(hole) else {
+            return Err(SourceFault::UnknownHole);
+        };
+        Ok(self.layout.give(alloc, self.chunk, self.deep, rest)?)
     }
 }

@@ -2,6 +2,9 @@
 #![tactic(auto)]
 
 mod bracket;
+mod giving;
+mod holes;
+mod layout;
 mod one_document;
 
 pub use bracket::BracketDoc;

@@ -120,12 +120,13 @@ fn a_root_alone_has_no_hole(rt: HostRuntime) -> Result<(), Fail> {
 fn unknown_holes_are_refused(rt: HostRuntime) -> Result<(), Fail> {
     let alloc = rt.alloc();
     let doc = BracketDoc::open(alloc, document(alloc)?, 1, false)?;
+    // From the last to the first: c at 0, e, d, b at 3, a, and the document node at 5.
     let unknown = [
-        [0, 0, 2],
-        [1, 0, 1],
-        [1, 2, 3],
-        [1, 3, 2],
-        [9, 0, 0],
+        [5, 6, 0],
+        [5, 5, 1],
+        [4, 5, 0],
+        [3, 0, 0],
+        [6, 6, 0],
         [u64::MAX, 0, 0],
     ];
     for words in unknown {

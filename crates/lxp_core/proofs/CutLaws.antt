@@ -25,7 +25,7 @@ abbrev known_in : List DocNode → HoleId → Bool
 known_in ns h = has_span ns (hole_span h)
 
 -- a list without holes closes to itself
-closed-without_holes : (forest : HoleId → Forest) (f : Forest) → closed forest (without_holes f) ≡ f
+pub closed-without_holes : (forest : HoleId → Forest) (f : Forest) → closed forest (without_holes f) ≡ f
 closed-without_holes forest none = refl
 closed-without_holes forest (tree label kids rest) =
     ap (λ f. tree label f (closed forest (without_holes rest))) (closed-without_holes forest kids)
@@ -37,7 +37,7 @@ AllHoles-without_holes test none = tt
 AllHoles-without_holes test (tree label kids rest) = (AllHoles-without_holes test kids, AllHoles-without_holes test rest)
 
 -- and none stand side by side
-IsApart-without_holes : (f : Forest) → IsApart (without_holes f)
+pub IsApart-without_holes : (f : Forest) → IsApart (without_holes f)
 IsApart-without_holes none = tt
 IsApart-without_holes (tree label kids rest) = (IsApart-without_holes kids, IsApart-without_holes rest)
 

@@ -74,7 +74,7 @@ within-placed t ns queue ns' queue' p h =
     subst (λ m. AreWithin m (length queue')) (sym p.nodes_are)
     (within-push ns p.node (length queue) (length queue') h (omega arith) (omega (arith, p.ahead, p.count)))
 
-forest_of-append : (xs ys : List LabelledTree) → forest_of (xs ++ ys) ≡ followed (forest_of xs) (forest_of ys)
+pub forest_of-append : (xs ys : List LabelledTree) → forest_of (xs ++ ys) ≡ followed (forest_of xs) (forest_of ys)
 forest_of-append [] ys = refl
 forest_of-append (x ∷ xs) ys = ap (tree x.label x.kids) (forest_of-append xs ys)
 

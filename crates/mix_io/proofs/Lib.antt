@@ -2,3 +2,4 @@ mod Calls
 mod Fronts
 pub mod Keeps
 mod Writes
+pub mod Written

@@ -1,0 +1,116 @@
+// The lists with which a document answers.
+ghost use Rattle.std.specs.Prelude.{◌≡◌, ◌≤◌, ◌+◌, ◌<◌, length, true, false, IfOk, OnOk, MatchOption};
+ghost use Rattle.lxp_core.specs.Open.{Open, node, without_holes};
+ghost use Rattle.lxp_core.specs.Plain.{plain, put_all};
+ghost use Rattle.bracket_wrap.specs.Layout.{node_at, below, before, between};
+ghost use Rattle.bracket_wrap.specs.Holes.{hole_rest, is_there, is_known, rest_given, kids_given, given_from};
+
+use crate::holes::Rest;
+use crate::layout::Layout;
+use lxp_core::{HoleId, OpenTree};
+use std::alloc::{AllocError, Global};
+
+impl Layout {
+    // Puts a node behind a list, above a list of its own.
+    fn push_node(
+        &self,
+        alloc: Global,
+        list: &mut Vec<OpenTree>,
+        i: usize,
+        kids: Vec<OpenTree>,
+    ) -> Result<(), AllocError>
+        requires { i < length self.now.nodes.items }
+        ensures { OnOk result ((rest : Open) → put_all list.new.items rest
+            ≡ put_all list.old.items (node (node_at self.now.nodes.items i).label (plain kids.items) rest)) }
+    {
+        let label = self.nodes[i].label.copy(alloc)?;
+        list.push(OpenTree::Node { label, kids })?;
+        Ok(())
+    }
+
+    // The trees between two positions, without holes.
+    fn whole(&self, alloc: Global, from: usize, mut to: usize) -> Result<Vec<OpenTree>, AllocError>
+        requires { to ≤ length self.now.nodes.items }
+        ensures { IfOk result (λ list. plain list.items ≡ without_holes (between self.now.nodes.items from to)) }
+    {
+        let mut list = Vec::new(alloc);
+        while let Some(i) = self.first(from, to) {
+            let kids = self.whole(alloc, self.before(i), i)?;
+            self.push_node(alloc, &mut list, i, kids)?;
+            to = self.before(i);
+        }
+        Ok(list)
+    }
+
+    // Puts a hole for some last children of a node behind a list, where there are any.
+    fn push_rest(&self, list: &mut Vec<OpenTree>, rest: Rest) -> Result<(), AllocError>
+        requires { is_there self.now.nodes.items rest ≡ true }
+        ensures { OnOk result (plain list.new.items ≡ put_all list.old.items (rest_given self.now.nodes.items rest)) }
+    {
+        let from = self.before(rest.node);
+        match self.first(from, rest.to) {
+            Some(_) => {
+                list.push(OpenTree::Hole(rest.hole()))?;
+                Ok(())
+            }
+            None => Ok(()),
+        }
+    }
+
+    // The list below a node.
+    fn kids(&self, alloc: Global, whole: bool, i: usize) -> Result<Vec<OpenTree>, AllocError>
+        requires { i < length self.now.nodes.items }
+        ensures { IfOk result (λ list. plain list.items ≡ kids_given self.now.nodes.items whole i) }
+    {
+        if whole {
+            return self.whole(alloc, self.before(i), i);
+        }
+        let mut list = Vec::new(alloc);
+        self.push_rest(&mut list, Rest { node: i, to: i })?;
+        Ok(list)
+    }
+
+    /// The children that a hole names; `None` where the document doesn't know the hole.
+    pub fn rest(&self, hole: HoleId) -> Option<Rest>
+        ensures { MatchOption result (is_known self.now.nodes.items hole ≡ false)
+            (λ rest. (rest ≡ hole_rest hole) × (is_known self.now.nodes.items hole ≡ true)) }
+    {
+        let rest = Rest::of_hole(hole);
+        if hole.words[2] != 0 || rest.node >= self.nodes.len() {
+            return None;
+        }
+        if self.before(rest.node) <= rest.to && rest.to <= rest.node {
+            return Some(rest);
+        }
+        None
+    }
+
+    /// The next of some last children of a node, at most `most`, each whole or with a hole below it where it has children,
+    /// and a hole behind them where more remain.
+    pub fn give(
+        &self,
+        alloc: Global,
+        most: u32,
+        whole: bool,
+        rest: Rest,
+    ) -> Result<Vec<OpenTree>, AllocError>
+        requires { is_there self.now.nodes.items rest ≡ true }
+        ensures { IfOk result (λ list. plain list.items ≡ given_from self.now.nodes.items whole rest.node most rest.to) }
+    {
+        let mut list = Vec::new(alloc);
+        let from = self.before(rest.node);
+        let mut to = rest.to;
+        let mut left = most;
+        while left > 0 {
+            let Some(i) = self.first(from, to) else {
+                return Ok(list);
+            };
+            let kids = self.kids(alloc, whole, i)?;
+            self.push_node(alloc, &mut list, i, kids)?;
+            to = self.before(i);
+            left -= 1;
+        }
+        self.push_rest(&mut list, Rest { to, ..rest })?;
+        Ok(list)
+    }
+}

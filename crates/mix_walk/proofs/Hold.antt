@@ -1,0 +1,57 @@
+-- What names hold in two ways at once.
+use Rattle.std.proofs.Common.{◌≡◌, ◌∙◌, ℕ, Bool, true, false, cond, ◌&&◌, List, ◌∷◌, Option, Some, None, refl, ap, sym, subst}
+use Rattle.std.specs.Str.{bytes_eq}
+use Rattle.tree_buffer.specs.declared.buffer.Buffer.{Buffer}
+use Rattle.tree_buffer.specs.declared.spot.Spot.{Spot}
+use Rattle.lxp_core.specs.View.{View}
+use Rattle.tree_buffer.specs.Buffer.{IsSpot, place_of, Goes}
+use Rattle.tree_buffer.proofs.Calls.{goes_spot, goes_place}
+use Rattle.mix_script.specs.Names.{NamesOf, no_names, with_name}
+use Rattle.mix_walk.specs.Allowed.{Nodes}
+use Rattle.mix_walk.specs.Held.{Both, HoldBoth, IsNode, IsPlace, HoldNodes, HoldPlaces}
+
+module _ {V W : Type 0} where
+  -- names that hold nothing
+  pub hold_none : (With : V → W → Type 0) → HoldBoth With no_names no_names
+  hold_none With client name = tt
+
+  -- a name that holds values which go together
+  pub hold_with : (With : V → W → Type 0) (vs : NamesOf V) (ws : NamesOf W) (client name : List ℕ) (v : Option V) (w : Option W) → HoldBoth With vs ws → Both With v w
+      → HoldBoth With (with_name vs client name v) (with_name ws client name w)
+  hold_with With vs ws client name v w hold both c n = at (bytes_eq client c && bytes_eq name n)
+    where
+      at : (b : Bool) → Both With (cond b v (vs c n)) (cond b w (ws c n))
+      at true = both
+      at false = hold c n
+
+  -- what goes together goes together in a weaker sense
+  both_weaker : (With Weaker : V → W → Type 0) (o : Option V) (p : Option W) → ((v : V) (w : W) → With v w → Weaker v w) → Both With o p → Both Weaker o p
+  both_weaker With Weaker None None f h = tt
+  both_weaker With Weaker None (Some w) f h = h
+  both_weaker With Weaker (Some v) None f h = h
+  both_weaker With Weaker (Some v) (Some w) f h = f v w h
+
+  -- names hold what goes together in a weaker sense
+  pub hold_weaker : (With Weaker : V → W → Type 0) (vs : NamesOf V) (ws : NamesOf W) → ((v : V) (w : W) → With v w → Weaker v w) → HoldBoth With vs ws → HoldBoth Weaker vs ws
+  hold_weaker With Weaker vs ws f hold c n = both_weaker With Weaker (vs c n) (ws c n) f (hold c n)
+
+  -- where nothing is, nothing goes together with it
+  pub none_other : (With : V → W → Type 0) (o : Option V) (p : Option W) → o ≡ None → Both With o p → p ≡ None
+  none_other With None None e h = refl
+  none_other With None (Some w) e h = absurd h
+  none_other With (Some v) p e h = cc
+
+  -- where something is, something goes together with it
+  pub some_other : (With : V → W → Type 0) (o : Option V) (p : Option W) (v : V) → o ≡ Some v → Both With o p → (w : W) × (p ≡ Some w) × With v w
+  some_other With None p v e h = cc
+  some_other With (Some u) None v e h = absurd h
+  some_other With (Some u) (Some w) v e h = let same : u ≡ v = cc in (w, refl, subst (λ x. With x w) same h)
+
+-- names hold nodes of a buffer that goes on
+pub nodes_go : (v v' : View) (b b' : Buffer) (spots : NamesOf Spot) (nodes : Nodes) → Goes v b v' b' → HoldNodes b spots nodes → HoldNodes b' spots nodes
+nodes_go v v' b b' spots nodes goes hold = hold_weaker (IsNode b) (IsNode b') spots nodes (λ x n h. goes_spot goes x h) hold
+
+-- names hold places of a buffer that goes on
+pub places_go : (v v' : View) (b b' : Buffer) (spots : NamesOf Spot) (places : NamesOf (List ℕ)) → Goes v b v' b' → HoldPlaces b spots places → HoldPlaces b' spots places
+places_go v v' b b' spots places goes hold =
+    hold_weaker (IsPlace b) (IsPlace b') spots places (λ x p h. (goes_spot goes x h.0, goes_place goes x h.0 ∙ h.1)) hold

@@ -1,0 +1,6 @@
+mod Answered
+mod Found
+mod Hold
+mod Named
+pub mod Unmarked
+mod Walked
