@@ -38,24 +38,26 @@ seen_alike same k (s ∷ seen) b x h = ap (λ (z : Bool). z || was_seen same see
 filter-filter : {X : Type 0} (p q r : X → Bool) → ((x : X) → r x ≡ cond (p x) (q x) false) → (xs : List X) → filter p (filter q xs) ≡ filter r xs
 filter-filter p q r h [] = refl
 filter-filter {X} p q r h (x ∷ xs) =
-  rw (h x) (elim (q x) as (λ w. filter p (cond w (x ∷ filter q xs) (filter q xs)) ≡ cond (cond (p x) w false) (x ∷ filter r xs) (filter r xs))
-    [ true ↦ elim (p x) as (λ v. cond v (x ∷ filter p (filter q xs)) (filter p (filter q xs)) ≡ cond (cond v true false) (x ∷ filter r xs) (filter r xs))
-        [ true ↦ ap (λ (zs : List X). x ∷ zs) (filter-filter p q r h xs) | false ↦ filter-filter p q r h xs ]
-    | false ↦ elim (p x) as (λ v. filter p (filter q xs) ≡ cond (cond v false false) (x ∷ filter r xs) (filter r xs)) [ true ↦ filter-filter p q r h xs | false ↦ filter-filter p q r h xs ] ])
+    rw (h x) (elim (q x) as (λ w. filter p (cond w (x ∷ filter q xs) (filter q xs)) ≡ cond (cond (p x) w false) (x ∷ filter r xs) (filter r xs)) [
+      | true ↦ elim (p x) as (λ v. cond v (x ∷ filter p (filter q xs)) (filter p (filter q xs)) ≡ cond (cond v true false) (x ∷ filter r xs) (filter r xs))
+          [ true ↦ ap (λ (zs : List X). x ∷ zs) (filter-filter p q r h xs) | false ↦ filter-filter p q r h xs ]
+      | false ↦ elim (p x) as (λ v. filter p (filter q xs) ≡ cond (cond v false false) (x ∷ filter r xs) (filter r xs)) [ true ↦ filter-filter p q r h xs | false ↦ filter-filter p q r h xs ]
+    ])
 
 -- they are the first members that are not equal to one seen
 pub distinct-firsts : {X : Type 0} (same : X → X → Bool) → IsSameness same → (seen bs : List X) → distinct same seen bs ≡ filter (λ b. not (was_seen same seen b)) (firsts same bs)
 distinct-firsts same k seen [] = refl
 distinct-firsts {X} same k seen (b ∷ bs) =
-  elim (was_seen same seen b) as (λ w. was_seen same seen b ≡ w →
-      cond w (distinct same seen bs) (b ∷ distinct same (seen ++ b ∷ []) bs)
-      ≡ cond (not w) (b ∷ filter (λ c. not (was_seen same seen c)) (filter (λ c. not (same b c)) (firsts same bs))) (filter (λ c. not (was_seen same seen c)) (filter (λ c. not (same b c)) (firsts same bs))))
-    [ true ↦ λ e. distinct-firsts same k seen bs
-        ∙ sym (filter_absorb (λ c. not (was_seen same seen c)) (λ c. not (same b c))
-            (λ x h. elim (same b x) as (λ v. same b x ≡ v → not v ≡ true) [ true ↦ λ d. (let c : false ≡ true = sym (ap not (sym (seen_alike same k seen b x d) ∙ e)) ∙ h in cc) | false ↦ λ d. refl ] refl) (firsts same bs))
-    | false ↦ λ e. ap (λ (zs : List X). b ∷ zs) (distinct-firsts same k (seen ++ b ∷ []) bs
-        ∙ sym (filter-filter (λ c. not (was_seen same seen c)) (λ c. not (same b c)) (λ c. not (was_seen same (seen ++ b ∷ []) c))
-            (λ x. ap not (seen_more same seen b x) ∙ not_or (was_seen same seen x) (same b x)) (firsts same bs))) ] refl
+    elim (was_seen same seen b) as (λ w. was_seen same seen b ≡ w →
+    cond w (distinct same seen bs) (b ∷ distinct same (seen ++ b ∷ []) bs)
+    ≡ cond (not w) (b ∷ filter (λ c. not (was_seen same seen c)) (filter (λ c. not (same b c)) (firsts same bs))) (filter (λ c. not (was_seen same seen c)) (filter (λ c. not (same b c)) (firsts same bs)))) [
+      | true ↦ λ e. distinct-firsts same k seen bs
+          ∙ sym (filter_absorb (λ c. not (was_seen same seen c)) (λ c. not (same b c))
+          (λ x h. elim (same b x) as (λ v. same b x ≡ v → not v ≡ true) [ true ↦ λ d. (let c : false ≡ true = sym (ap not (sym (seen_alike same k seen b x d) ∙ e)) ∙ h in cc) | false ↦ λ d. refl ] refl) (firsts same bs))
+      | false ↦ λ e. ap (λ (zs : List X). b ∷ zs) (distinct-firsts same k (seen ++ b ∷ []) bs
+          ∙ sym (filter-filter (λ c. not (was_seen same seen c)) (λ c. not (same b c)) (λ c. not (was_seen same (seen ++ b ∷ []) c))
+          (λ x. ap not (seen_more same seen b x) ∙ not_or (was_seen same seen x) (same b x)) (firsts same bs)))
+    ] refl
   where
     not_or : (p q : Bool) → not (p || q) ≡ cond (not p) (not q) false
     not_or p q = elim p as (λ p. not (p || q) ≡ cond (not p) (not q) false) [ true ↦ refl | false ↦ refl ]

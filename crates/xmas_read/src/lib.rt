@@ -18,3 +18,6 @@ mod writing;
 pub use fault::{Large, XmasFault};
 pub use reading::read_rule;
 pub use writing::write_rule;
+
+#[cfg(test)]
+mod tests;
