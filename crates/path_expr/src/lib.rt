@@ -3,6 +3,7 @@
 
 mod auto;
 mod build;
+mod copying;
 mod depth;
 mod fault;
 mod law;
@@ -14,6 +15,7 @@ mod sets;
 mod writing;
 
 pub use auto::Auto;
+pub use copying::copy_path;
 pub use fault::PathFault;
 pub use law::no_text_spells_two_paths;
 pub use path::{Node, Path};
