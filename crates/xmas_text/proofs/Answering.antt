@@ -1,5 +1,5 @@
 -- What the passes over a text say together.
-use Rattle.std.proofs.Common.{◌≡◌, ◌<◌, ◌≤◌, ◌+◌, ◌∙◌, ℕ, List, Some, None, Result, Ok, Err, sym, ap, subst, arith, drop}
+use Rattle.std.proofs.Common.{◌≡◌, ◌≤◌, ◌+◌, ◌∙◌, ℕ, List, Result, Ok, Err, IfOk, sym, ap, subst, arith, drop}
 use Rattle.std.specs.Str.{IsUtf8}
 use Rattle.std.proofs.lemmas.List.{take-append-drop}
 use Rattle.mix_base.proofs.Choices.{some_is}
@@ -9,8 +9,10 @@ use Rattle.xmas_text.specs.declared.fault.TextFault.TheVariants.{NotUtf8, Unexpe
 use Rattle.xmas_text.specs.Grammar.{Rule, Writes}
 use Rattle.xmas_text.specs.Levels.{levels}
 use Rattle.xmas_text.specs.Parsed.{RuleForm, parsed}
-use Rattle.xmas_text.specs.Results.{Spells, SpellsWithin, IsTooDeep, Answers, IsTree, form_of}
+use Rattle.xmas_text.specs.Results.{Spells, SpellsWithin, Answers, IsTree, form_of}
+use Rattle.xmas_text.specs.Named.{IsNamedTree}
 use Rattle.xmas_text.proofs.Complete.{writes_read}
+use Rattle.xmas_text.proofs.Named.{spells_named}
 
 -- no text is written in two ways
 one_written : (x : List ℕ) (r s : Rule) → Writes x r → Writes x s → r ≡ s
@@ -40,3 +42,8 @@ answers_tree x (Err TooDeep) v (k, (r, w, d)) u h =
     let same : levels r.template ≡ levels h.written.template = ap (λ s. levels s.template) (one_written x r h.written w h.writes) in
     absurd (omega (arith, d, same, h.levels))
 answers_tree x (Err OutOfMemory) v a u h = tt
+
+-- what is read has names, variables and paths as the grammar has them
+pub answers_named : (x : List ℕ) (r : Result RuleText TextFault) → Answers x r → IfOk r (λ t. IsNamedTree (form_of t))
+answers_named x (Ok t) a = spells_named x (form_of t) (within_spells x (form_of t) a.1)
+answers_named x (Err e) a = tt

@@ -1,27 +1,22 @@
 -- The machine reads each text of the grammar as it is written.
-use Rattle.std.proofs.Common.{◌≡◌, ◌∙◌, ℕ, Bool, true, false, ◌&&◌, IsTrue, List, [], ◌∷◌, ◌++◌, Option, Some, None, option_and_then, refl, sym, ap, subst, append_assoc}
+use Rattle.std.proofs.Common.{◌≡◌, ◌∙◌, ℕ, Bool, true, false, ◌&&◌, IsTrue, List, [], ◌∷◌, ◌++◌, Some, option_and_then, refl, sym, ap, subst, append_assoc}
 use Rattle.std.specs.List.{list_all}
-use Rattle.mix_base.proofs.Choices.{and_parts, and_both, list_all-push, some_is, none_some, Gives, either, number_is}
-use Rattle.mix_base.proofs.Lists.{append_nil}
-use Rattle.mix_tree.specs.LabelGrammar.{Piece, ArePieces}
+use Rattle.mix_base.proofs.Choices.{and_parts}
 use Rattle.mix_tree.specs.Names.{IsName}
-use Rattle.xmas_text.specs.Grammar.{quoted_text, Key, node, label, Keys, none, first, more, Group, absent, braced, Items, nothing, variable, literal, element, key_text, keys_text, group_text, items_text, IsKey, HasKeys, AreKeys, IsGroup, IsItemGap, AreItems, Operand, a_variable, a_text, op_text, operand_text, IsOperand, Cond, source, walk, compare, Conds, one, also, Order, unordered, ordered, descending, ordered_text, order_text, IsOrder, cond_text, conds_text, IsCond, AreConds, IsNothing, IsTemplate, construct_text, where_text, Rule, IsRule, rule_text, Writes}
+use Rattle.xmas_text.specs.Grammar.{quoted_text, Key, node, label, Keys, none, first, more, Group, absent, braced, Items, nothing, variable, literal, element, key_text, keys_text, group_text, items_text, IsKey, HasKeys, AreKeys, IsGroup, IsItemGap, AreItems, Operand, a_variable, a_text, op_text, operand_text, IsOperand, Cond, source, walk, compare, Conds, one, also, Order, unordered, ordered, descending, ordered_text, order_text, IsOrder, cond_text, conds_text, IsCond, AreConds, IsTemplate, construct_text, where_text, Rule, IsRule, Writes}
 use Rattle.xmas_text.specs.Lexer.{between}
 use Rattle.xmas_text.specs.Lexical.{is_blank, IsBlanks, IsGap, IsVar}
-use Rattle.xmas_text.specs.Machine.{State, at, step, run, rule_at, whole, start, read_of}
-use Rattle.xmas_text.specs.Spots.{Frame, Head, Place, at_first, at_more, Before, first_cond, also_cond, Start, by_name, by_var, Spot, beginning, items, labelled, keys, key_comma, key_label, cond_start, cond_from, cond_path, cond_done, compared, ordering, ordering_by, sorted, has_blank, item_gap, may_group, is_nothing, is_none, takes, with_group, push_key, push_cond, cond_of, shift}
+use Rattle.xmas_text.specs.Machine.{State, at, run, rule_at, whole, start, read_of}
+use Rattle.xmas_text.specs.Spots.{Frame, Head, at_first, at_more, Before, first_cond, also_cond, Start, by_name, by_var, Spot, beginning, items, labelled, keys, key_comma, key_label, cond_start, cond_from, cond_path, cond_done, compared, ordering, ordering_by, sorted, has_blank, item_gap, may_group, is_none, takes, with_group, push_cond, cond_of, shift}
 use Rattle.xmas_text.specs.Stages.{not}
 use Rattle.xmas_text.specs.Tokens.{Token, fixed, open_tag, close_tag, word, var, quoted, path, comparison, kind_of, token_text}
 use Rattle.mix_tree.specs.declared.comparing.TestOp.{TestOp}
-use Rattle.xmas_text.specs.declared.token.Mark.{Mark}
-use Rattle.mix_tree.specs.declared.comparing.TestOp.TheVariants as op
 use Rattle.xmas_text.specs.declared.token.Mark.TheVariants as mark
-use Rattle.xmas_text.specs.declared.token.Sign.TheVariants as sign
 use Rattle.xmas_text.specs.declared.token.Kind.TheVariants as kind
 use Rattle.path_expr.specs.Grammar as paths
-use Rattle.xmas_text.proofs.Texts.{label_text, start_text, IsStart}
+use Rattle.xmas_text.proofs.Texts.{label_text}
 use Rattle.xmas_text.specs.Tokens.{IsToken}
-use Rattle.xmas_text.proofs.Lexes.{run_append, run_then, run_byte}
+use Rattle.xmas_text.proofs.Lexes.{run_then, run_byte}
 use Rattle.xmas_text.proofs.Tokens.{IsAt, at_start, Behind, reading, gap_run, gap_step, blank_follows}
 use Rattle.xmas_text.proofs.Takes.{taken_reading}
 
@@ -29,35 +24,43 @@ use Rattle.xmas_text.proofs.Takes.{taken_reading}
 abbrev pub Reads : Spot → List ℕ → Spot → Type 0
 Reads s x s' = (t : State) → IsAt s t → Behind s' x t
 
+-- a spot leads to itself
 pub stays : (s : Spot) → Reads s [] s
 stays s t a = record { state = t; runs = refl; is = a }
 
+-- one text leads on where another one has led
 pub then : (s s' s'' : Spot) (x y : List ℕ) → Reads s x s' → Reads s' y s'' → Reads s (x ++ y) s''
 then s s' s'' x y h k t a =
     let b = h t a in
     let c = k b.state b.is in
     record { state = c.state; runs = run_then x y t b.state b.runs ∙ c.runs; is = c.is }
 
+-- a token that may come leads to the spot behind it
 pub token : (s : Spot) (h : List ℕ) (t : Token) → IsBlanks h → IsToken t → IsTrue (takes s h (kind_of t)) → Reads s (h ++ token_text t) (shift s h t)
 token s h t b i k st a = reading s st h t a b (taken_reading s h t i k)
 
+-- the same, of an equal text
 as_text : (s s' : Spot) (x y : List ℕ) → x ≡ y → Reads s x s' → Reads s y s'
 as_text s s' x y e h = subst (λ z. Reads s z s') e h
 
+-- a gap is blanks
 blanks_of : (g : List ℕ) → IsGap g → IsBlanks g
 blanks_of [] h = absurd h
 blanks_of (b ∷ g) h = h
 
+-- a gap has a blank
 has_gap : (g : List ℕ) → IsGap g → IsTrue (has_blank g)
 has_gap [] h = absurd h
 has_gap (b ∷ g) h = refl
 
+-- what stands before an item is blanks
 item_blanks : (xs : Items) (g : List ℕ) → IsItemGap xs g → IsBlanks g
 item_blanks nothing g h = h
 item_blanks (variable b f k e) g h = blanks_of g h
 item_blanks (literal b f ps) g h = blanks_of g h
 item_blanks (element b f n i j c e) g h = blanks_of g h
 
+-- an item may come behind them
 item_gaps : (xs : Items) (g : List ℕ) → IsItemGap xs g → IsTrue (item_gap xs g)
 item_gaps nothing g h = refl
 item_gaps (variable b f k e) g h = has_gap g h
@@ -72,6 +75,7 @@ key_reads lead o xs e g (label f v) b i =
     (then (keys lead o xs e none) (key_label lead o xs e none at_first g) (keys lead o xs e (first g (label f v))) (g ++ label_text) (f ++ 36 ∷ v)
     (token (keys lead o xs e none) g (fixed mark.LabelWord) b tt refl) (token (key_label lead o xs e none at_first g) f (var v) (blanks_of f i.0) i.1 (has_gap f i.0)))
 
+-- a key behind a comma
 more_reads : (lead : List ℕ) (o : List Frame) (xs : Items) (e : List ℕ) (ks : Keys) (h g : List ℕ) (k : Key) → IsBlanks g → IsKey k → Reads (key_comma lead o xs e ks h) (g ++ key_text k) (keys lead o xs e (more ks h g k))
 more_reads lead o xs e ks h g (node v) b i = token (key_comma lead o xs e ks h) g (var v) b i refl
 more_reads lead o xs e ks h g (label f v) b i =
@@ -79,11 +83,13 @@ more_reads lead o xs e ks h g (label f v) b i =
     (then (key_comma lead o xs e ks h) (key_label lead o xs e ks (at_more h) g) (keys lead o xs e (more ks h g (label f v))) (g ++ label_text) (f ++ 36 ∷ v)
     (token (key_comma lead o xs e ks h) g (fixed mark.LabelWord) b tt refl) (token (key_label lead o xs e ks (at_more h) g) f (var v) (blanks_of f i.0) i.1 (has_gap f i.0)))
 
+-- some keys are not none
 not_none : (ks : Keys) → HasKeys ks → IsTrue (not (is_none ks))
 not_none none h = absurd h
 not_none (first g k) h = refl
 not_none (more ks g h' k) h = refl
 
+-- all keys
 keys_reads : (ks : Keys) (lead : List ℕ) (o : List Frame) (xs : Items) (e : List ℕ) → AreKeys ks → Reads (keys lead o xs e none) (keys_text ks) (keys lead o xs e ks)
 keys_reads none lead o xs e i = stays (keys lead o xs e none)
 keys_reads (first g k) lead o xs e i = key_reads lead o xs e g k i.0 i.1
@@ -102,10 +108,12 @@ absent_again (literal b g ps) h = refl
 absent_again (element b g n i j c absent) h = refl
 absent_again (element b g n i j c (braced e ks f)) h = cc
 
+-- a group label may come behind an item that may have one
 may_left : (lead : List ℕ) (o : List Frame) (xs : Items) (g : List ℕ) → IsTrue (may_group xs) → IsTrue (takes (items lead o xs) g (kind.Fixed mark.OpenBrace))
 may_left lead [] xs g h = h
 may_left lead (f ∷ o) xs g h = h
 
+-- a group label, or none
 group_reads : (lead : List ℕ) (o : List Frame) (xs : Items) (e : Group) → IsTrue (may_group xs) → IsGroup e → Reads (items lead o xs) (group_text e) (items lead o (with_group xs e))
 group_reads lead o xs absent m i = subst (λ y. Reads (items lead o xs) [] (items lead o y)) (sym (absent_again xs m)) (stays (items lead o xs))
 group_reads lead o xs (braced g ks h) m i =
@@ -123,10 +131,12 @@ variable_reads lead f o xs g (label h v) b i =
     (then (items lead (f ∷ o) xs) (labelled lead (f ∷ o) xs g) (items lead (f ∷ o) (variable xs g (label h v) absent)) (g ++ label_text) (h ++ 36 ∷ v)
     (token (items lead (f ∷ o) xs) g (fixed mark.LabelWord) (item_blanks xs g b) tt (item_gaps xs g b)) (token (labelled lead (f ∷ o) xs g) h (var v) (blanks_of h i.0) i.1 (has_gap h i.0)))
 
+-- an opening tag
 token_open : (lead : List ℕ) (o : List Frame) (xs : Items) (g n : List ℕ) → IsBlanks g → IsTrue (takes (items lead o xs) g kind.OpenTag) → IsName n → Reads (items lead o xs) (g ++ 60 ∷ (n ++ 62 ∷ [])) (items lead (record { before = xs; gap = g; name = n } ∷ o) nothing)
 token_open lead [] xs g n b t i = token (items lead [] xs) g (open_tag n) b i t
 token_open lead (f ∷ o) xs g n b t i = token (items lead (f ∷ o) xs) g (open_tag n) b i t
 
+-- the text of an element, part by part
 element_text : (g n x h c e : List ℕ) → g ++ 60 ∷ (n ++ 62 ∷ (x ++ (h ++ 60 ∷ 47 ∷ (c ++ 62 ∷ e)))) ≡ (g ++ 60 ∷ (n ++ 62 ∷ [])) ++ (x ++ ((h ++ 60 ∷ 47 ∷ (c ++ 62 ∷ [])) ++ e))
 element_text g n x h c e = parts g (60 ∷ []) n (62 ∷ []) x h (60 ∷ 47 ∷ []) c (62 ∷ []) e
   where
@@ -168,13 +178,16 @@ path_part r b g s e p h v ie ip ih iv =
     then (cond_from r b g s) (cond_path r b g s e p) (cond_done r (push_cond b g (cond_of s e p h v))) (e ++ paths.text_of p) (h ++ 36 ∷ v)
     (token (cond_from r b g s) e (path p) (blanks_of e ie) ip (has_gap e ie)) (token (cond_path r b g s e p) h (var v) (blanks_of h ih) iv (has_gap h ih))
 
+-- the text of a condition, part by part
 cond_text_parts : (g n e p t : List ℕ) → (g ++ n) ++ ((e ++ p) ++ t) ≡ g ++ (n ++ (e ++ (p ++ t)))
 cond_text_parts g n e p t = simp append_assoc
 
+-- an operand
 operand_reads : (r : Head) (b : Before) (g v e : List ℕ) (o : TestOp) (h : List ℕ) (a : Operand) → IsBlanks h → IsOperand a → Reads (compared r b g v e o) (h ++ operand_text a) (cond_done r (push_cond b g (compare v e o h a)))
 operand_reads r b g v e o h (a_variable u) ih i = token (compared r b g v e o) h (var u) ih i refl
 operand_reads r b g v e o h (a_text ps) ih i = token (compared r b g v e o) h (quoted ps) ih i refl
 
+-- a condition
 cond_reads : (r : Head) (b : Before) (g : List ℕ) (c : Cond) → IsGap g → IsCond c → Reads (cond_start r b) (g ++ cond_text c) (cond_done r (push_cond b g c))
 cond_reads r b g (source n e p h v) ig i =
     as_text _ _ _ _ (cond_text_parts g n e (paths.text_of p) (h ++ 36 ∷ v))
@@ -191,6 +204,7 @@ cond_reads r b g (compare v e o h a) ig i =
     (then (cond_from r b g (by_var v)) (compared r b g v e o) (cond_done r (push_cond b g (compare v e o h a))) (e ++ op_text o) (h ++ operand_text a)
     (token (cond_from r b g (by_var v)) e (comparison o) i.1 tt refl) (operand_reads r b g v e o h a i.2 i.3)))
 
+-- all conditions
 conds_reads : (cs : Conds) (r : Head) → AreConds cs → Reads (cond_start r first_cond) (conds_text cs) (cond_done r cs)
 conds_reads (one g c) r i = cond_reads r first_cond g c i.0 i.1
 conds_reads (also cs g h c) r i =
@@ -204,6 +218,7 @@ both : (a b : Bool) → IsTrue a → IsTrue b → IsTrue (a && b)
 both true b h k = k
 both false b h k = cc
 
+-- the template is read
 template_reads : (xs : Items) (lead : List ℕ) → IsTemplate xs → Reads (items lead [] nothing) (items_text xs) (items lead [] xs)
 template_reads nothing lead i = absurd i
 template_reads (variable b g k e) lead i = absurd i
@@ -214,29 +229,36 @@ template_reads (element (variable b f k j) g n inside h c e) lead i = absurd i.0
 template_reads (element (literal b f ps) g n inside h c e) lead i = absurd i.0
 template_reads (element (element b f m j l d a) g n inside h c e) lead i = absurd i.0
 
+-- WHERE may come behind it
 where_takes : (xs : Items) (lead g : List ℕ) → IsTemplate xs → IsGap g → IsTrue (takes (items lead [] xs) g (kind.Fixed mark.Where))
 where_takes nothing lead g i k = absurd i
 where_takes (variable b f j e) lead g i k = absurd i
 where_takes (literal b f ps) lead g i k = absurd i
 where_takes (element b f n inside h c e) lead g i k = has_gap g k
 
+-- what stands before the conditions
 abbrev rule_head : Rule → Head
 rule_head r = record { lead = r.lead; template = r.template; gap = r.gap }
 
+-- where a rule ends
 abbrev pub end_spot : Head → Conds → Order → Spot
 end_spot r cs unordered = cond_done r cs
 end_spot r cs (ordered g h i v) = sorted r cs (ordered g h i v)
 end_spot r cs (descending g h i v j) = sorted r cs (descending g h i v j)
 
+-- ORDER
 abbrev order_bytes : List ℕ
 order_bytes = 79 ∷ 82 ∷ 68 ∷ 69 ∷ 82 ∷ []
 
+-- BY
 abbrev by_bytes : List ℕ
 by_bytes = 66 ∷ 89 ∷ []
 
+-- the text of an order, part by part
 ordered_parts : (g o h b i v : List ℕ) → (g ++ o) ++ ((h ++ b) ++ (i ++ v)) ≡ g ++ (o ++ (h ++ (b ++ (i ++ v))))
 ordered_parts g o h b i v = simp append_assoc
 
+-- an order without DESC
 ordered_reads : (r : Head) (cs : Conds) (g h i v : List ℕ) → IsOrder (ordered g h i v) → Reads (cond_done r cs) (ordered_text g h i v) (sorted r cs (ordered g h i v))
 ordered_reads r cs g h i v is =
     as_text _ _ _ _ (ordered_parts g order_bytes h by_bytes i (36 ∷ v))
@@ -244,6 +266,7 @@ ordered_reads r cs g h i v is =
     (then (ordering r cs g) (ordering_by r cs g h) (sorted r cs (ordered g h i v)) (h ++ by_bytes) (i ++ 36 ∷ v) (token (ordering r cs g) h (fixed mark.By) (blanks_of h is.1) tt (has_gap h is.1))
     (token (ordering_by r cs g h) i (var v) (blanks_of i is.2) is.3 (has_gap i is.2))))
 
+-- an order, or none
 order_reads : (r : Head) (cs : Conds) (o : Order) → IsOrder o → Reads (cond_done r cs) (order_text o) (end_spot r cs o)
 order_reads r cs unordered is = stays (cond_done r cs)
 order_reads r cs (ordered g h i v) is = ordered_reads r cs g h i v is
@@ -251,11 +274,13 @@ order_reads r cs (descending g h i v j) is =
     then (cond_done r cs) (sorted r cs (ordered g h i v)) (sorted r cs (descending g h i v j)) (ordered_text g h i v) (j ++ 68 ∷ 69 ∷ 83 ∷ 67 ∷ []) (ordered_reads r cs g h i v (is.0, is.1, is.2, is.3))
     (token (sorted r cs (ordered g h i v)) j (fixed mark.Desc) (blanks_of j is.4) tt (has_gap j is.4))
 
+-- the rule that ends there
 end_rule : (r : Head) (cs : Conds) (o : Order) (g : List ℕ) → rule_at (end_spot r cs o) g ≡ Some (record { lead = r.lead; template = r.template; gap = r.gap; conds = cs; order = o; tail = g })
 end_rule r cs unordered g = refl
 end_rule r cs (ordered e h i v) g = refl
 end_rule r cs (descending e h i v j) g = refl
 
+-- a rule up to the blanks at its end
 rule_reads : (r : Rule) → IsRule r → Reads beginning ((r.lead ++ construct_text) ++ (items_text r.template ++ ((r.gap ++ where_text) ++ (conds_text r.conds ++ order_text r.order)))) (end_spot (rule_head r) r.conds r.order)
 rule_reads r i =
     let e : Spot = end_spot (rule_head r) r.conds r.order in
@@ -272,6 +297,7 @@ tail_whole s t (c ∷ g) a b =
     let parts = and_parts (is_blank c) (list_all is_blank g) b in
     ap (option_and_then whole) (run_byte c g t (at s (c ∷ []) between) (a.steps c (blank_follows s c parts.0) ∙ gap_step s [] c parts.0) ∙ gap_run s (c ∷ []) g parts.1)
 
+-- the text of a rule, part by part
 rule_parts : (l c x g w cs o t : List ℕ) → ((l ++ c) ++ (x ++ ((g ++ w) ++ (cs ++ o)))) ++ t ≡ l ++ (c ++ (x ++ (g ++ (w ++ (cs ++ (o ++ t))))))
 rule_parts l c x g w cs o t = simp append_assoc
 

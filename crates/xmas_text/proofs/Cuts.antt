@@ -1,5 +1,5 @@
 -- Where a scan stands outside quotes, what it has passed is UTF-8.
-use Rattle.std.proofs.Common.{◌≡◌, ◌∙◌, ◌==◌, ◌+◌, ◌<◌, ◌≤◌, ◌&&◌, ◌||◌, ℕ, zero, suc, Bool, true, false, cond, IsTrue, List, [], ◌∷◌, ◌++◌, Option, Some, None, option_map, option_and_then, refl, sym, ap, subst, arith, length, nat_lt, take, drop, slice_index}
+use Rattle.std.proofs.Common.{◌≡◌, ◌∙◌, ◌==◌, ◌+◌, ◌<◌, ◌≤◌, ◌&&◌, ℕ, zero, suc, Bool, true, false, cond, IsTrue, List, [], ◌∷◌, ◌++◌, Option, Some, None, option_map, option_and_then, refl, sym, ap, subst, arith, length, nat_lt, take, drop, slice_index}
 use Rattle.std.proofs.lemmas.Bool.Decides.{nat_tests}
 use Rattle.std.proofs.lemmas.List.{take_more, take-append-drop}
 use Rattle.std.proofs.lemmas.Str.{IsUtf8-nil}
@@ -7,7 +7,6 @@ use Rattle.std.specs.List.{list_all}
 use Rattle.std.specs.Str.{IsUtf8}
 use Rattle.mix_base.proofs.Choices.{Gives, and_parts, some_is, none_some}
 use Rattle.mix_base.proofs.Utf8.{utf8_behind}
-use Rattle.mix_tree.specs.LabelGrammar.{is_escape}
 use Rattle.mix_tree.specs.Names.{is_name_byte}
 use Rattle.path_expr.specs.declared.scan.Scan as path_scan
 use Rattle.path_expr.specs.declared.scan.Stage.TheVariants as path_stage
@@ -23,8 +22,8 @@ use Rattle.xmas_text.specs.declared.scan.Scan.{Scan}
 use Rattle.xmas_text.specs.Lexical.{is_blank, is_letter, is_word_byte}
 use Rattle.xmas_text.specs.Tokens.{mark_first, mark_text}
 use Rattle.xmas_text.specs.Machine.{State, step, run, start}
-use Rattle.xmas_text.specs.Parts.{mark_step, part_step, or_else, first_mark, first_keyword, first_item, first_path, first_word, first_part}
-use Rattle.xmas_text.specs.Scans.{scan_of, may_now, with_part, between_step, settled, begun, or_begun, scan_step}
+use Rattle.xmas_text.specs.Parts.{part_step, or_else, first_mark, first_item, first_word, first_part}
+use Rattle.xmas_text.specs.Scans.{scan_of, may_now, with_part, settled, begun, or_begun, scan_step}
 use Rattle.xmas_text.proofs.Runs.{Stands, run_stands, start_stands}
 use Rattle.xmas_text.proofs.Lexes.{run_append}
 use Rattle.xmas_text.proofs.Fronts.{is_low, low_byte, mark_low}

@@ -1,5 +1,5 @@
 -- What a run has read goes on to a text of the grammar; where it stops, no text goes on.
-use Rattle.std.proofs.Common.{◌≡◌, ◌∙◌, ◌<◌, ℕ, Bool, true, false, ◌&&◌, ◌||◌, IsTrue, List, [], ◌∷◌, ◌++◌, Option, Some, None, option_and_then, refl, sym, ap, subst, append_assoc, arith, length}
+use Rattle.std.proofs.Common.{◌≡◌, ◌∙◌, ◌<◌, ℕ, Bool, true, false, ◌||◌, IsTrue, List, [], ◌∷◌, ◌++◌, Option, Some, None, option_and_then, refl, sym, ap, subst, append_assoc, arith}
 use Rattle.std.specs.Str.{IsUtf8, IsAscii}
 use Rattle.std.specs.List.{list_all}
 use Rattle.std.proofs.Common.{nat_lt, zero, suc}
@@ -8,32 +8,27 @@ use Rattle.std.proofs.lemmas.Str.{IsUtf8-nil, IsUtf8-append, IsUtf8-from_ascii}
 use Rattle.mix_base.specs.Reading.{IsFront}
 use Rattle.xmas_text.specs.Parsed.{parsed}
 use Rattle.xmas_text.specs.Results.{Spells}
-use Rattle.mix_base.proofs.Choices.{and_parts, and_both, list_all-push, some_is, none_some, Gives, either, number_is}
-use Rattle.mix_base.proofs.Lists.{append_nil}
-use Rattle.mix_tree.specs.LabelGrammar.{Piece, escape, ArePieces}
-use Rattle.mix_tree.specs.Names.{is_name_byte, IsName}
-use Rattle.xmas_text.specs.Grammar.{Key, node, label, Keys, none, first, more, Group, absent, braced, Items, nothing, variable, literal, element, Conds, Order, unordered, ordered, descending, Rule, Writes}
+use Rattle.mix_base.proofs.Choices.{and_parts, and_both, list_all-push, some_is, none_some, Gives}
+use Rattle.mix_tree.specs.LabelGrammar.{Piece, escape}
+use Rattle.mix_tree.specs.Names.{IsName}
+use Rattle.xmas_text.specs.Grammar.{Keys, Group, absent, Items, nothing, variable, literal, element, Conds, Order, unordered, ordered, descending, Rule, Writes}
 use Rattle.xmas_text.specs.Lexer.{Lex, between, marking, angle, opening, slash, closing, naming, dollar, varying, quoting, escaping, pathing, ready, comparing, map_path, as_path, lex_step, token_in}
-use Rattle.xmas_text.specs.Lexical.{is_blank, IsBlanks, IsVar}
-use Rattle.xmas_text.specs.Machine.{State, at, next, step, run, rule_at, whole, start, read_of}
-use Rattle.xmas_text.specs.Spots.{Frame, Head, Place, Before, Start, Spot, beginning, items, labelled, keys, key_comma, key_label, cond_start, cond_from, cond_path, cond_done, compared, ordering, ordering_by, sorted, has_blank, takes, shift}
-use Rattle.xmas_text.specs.Tokens.{Token, fixed, open_tag, close_tag, word, var, quoted, path, comparison, kind_of, mark_first, mark_rest, mark_text, with_equal, token_text}
-use Rattle.xmas_text.specs.declared.token.Kind.{Kind}
+use Rattle.xmas_text.specs.Lexical.{is_blank, IsBlanks}
+use Rattle.xmas_text.specs.Machine.{State, at, step, run, rule_at, whole, start}
+use Rattle.xmas_text.specs.Spots.{Frame, Head, Before, Start, Spot, beginning, items, labelled, keys, key_comma, key_label, cond_start, cond_from, cond_path, cond_done, compared, ordering, ordering_by, sorted, has_blank, takes, shift}
+use Rattle.xmas_text.specs.Tokens.{Token, fixed, open_tag, close_tag, word, var, quoted, path, comparison, kind_of, mark_text, with_equal, token_text}
 use Rattle.xmas_text.specs.declared.token.Mark.{Mark}
-use Rattle.xmas_text.specs.declared.token.Sign.{Sign}
-use Rattle.mix_tree.specs.declared.comparing.TestOp.TheVariants as op
 use Rattle.xmas_text.specs.declared.token.Mark.TheVariants as mark
-use Rattle.xmas_text.specs.declared.token.Sign.TheVariants as sign
 use Rattle.xmas_text.specs.declared.token.Kind.TheVariants as kind
 use Rattle.path_expr.specs.Grammar as paths
 use Rattle.path_expr.specs.Machine as pathing_
 use Rattle.path_expr.proofs.Fronts as path_fronts
 use Rattle.path_expr.proofs.Complete as path_complete
-use Rattle.xmas_text.proofs.Texts.{IsLex, Offered}
+use Rattle.xmas_text.proofs.Texts.{IsLex}
 use Rattle.xmas_text.specs.Tokens.{IsToken}
-use Rattle.xmas_text.proofs.Lexes.{run_append, run_then, run_byte, lexes, mark_read, open_read, close_read, path_run}
-use Rattle.xmas_text.proofs.Tokens.{is_apart, is_fixed, no_equal, follows, IsAt, at_start, Behind, reading, gap_run, last_step, last_whole}
-use Rattle.xmas_text.proofs.Takes.{taken_reading, unfixed, varying_quiet, naming_quiet, push_unfixed, repeat_quiet, apart_not_name, apart_marks}
+use Rattle.xmas_text.proofs.Lexes.{run_append, run_then, mark_read, path_run}
+use Rattle.xmas_text.proofs.Tokens.{is_apart, is_fixed, no_equal, follows, IsAt, at_start, gap_run, last_step, last_whole}
+use Rattle.xmas_text.proofs.Takes.{unfixed, varying_quiet, naming_quiet, push_unfixed, repeat_quiet, apart_not_name, apart_marks}
 use Rattle.xmas_text.proofs.Complete.{Reads, stays, then, token}
 use Rattle.xmas_text.proofs.Runs.{Stands, run_stands, start_stands, read_writes}
 use Rattle.xmas_text.proofs.Complete as complete
@@ -65,12 +60,15 @@ low_ascii (b ∷ x) h (suc i) = low_ascii x (and_parts (is_low b) (list_all is_l
 low_utf8 : (x : List ℕ) → IsTrue (list_all is_low x) → IsUtf8 x
 low_utf8 x h = IsUtf8-from_ascii x (low_ascii x h)
 
+-- a rule may end behind a condition
 on_done : (r : Head) (cs : Conds) → On (cond_done r cs)
 on_done r cs = record { text = []; goal = cond_done r cs; rule = _; whole = refl; utf8 = IsUtf8-nil; reads = stays (cond_done r cs) }
 
+-- and behind an order
 on_sorted : (r : Head) (cs : Conds) (o : Order) → On (sorted r cs o)
 on_sorted r cs o = record { text = []; goal = sorted r cs o; rule = _; whole = refl; utf8 = IsUtf8-nil; reads = stays (sorted r cs o) }
 
+-- a spot goes on where the one behind a token does
 on_token : (s : Spot) (h : List ℕ) (t : Token) → IsBlanks h → IsToken t → IsTrue (takes s h (kind_of t)) → IsTrue (list_all is_low (h ++ token_text t)) → On (shift s h t) → On s
 on_token s h t b i k l n = record {
   text = (h ++ token_text t) ++ n.text;
@@ -81,27 +79,35 @@ on_token s h t b i k l n = record {
   reads = then s (shift s h t) n.goal (h ++ token_text t) n.text (token s h t b i k) n.reads;
 }
 
+-- the name a
 abbrev one_name : List ℕ
 one_name = 97 ∷ []
 
+-- one blank
 abbrev gap : List ℕ
 gap = 32 ∷ []
 
+-- that name is one
 name_is : IsName one_name
 name_is = (refl, omega arith)
 
+-- behind a path
 path_on : (r : Head) (b : Before) (g : List ℕ) (s : Start) (h : List ℕ) (p : paths.Spelled) → On (cond_path r b g s h p)
 path_on r b g s h p = on_token (cond_path r b g s h p) gap (var one_name) refl (refl, refl) refl refl (on_done r _)
 
+-- behind the first word of a condition
 from_on : (r : Head) (b : Before) (g : List ℕ) (s : Start) → On (cond_from r b g s)
 from_on r b g s = on_token (cond_from r b g s) gap (path (paths.word one_name)) refl name_is refl refl (path_on r b g s gap (paths.word one_name))
 
+-- where a condition begins
 start_on : (r : Head) (b : Before) → On (cond_start r b)
 start_on r b = on_token (cond_start r b) gap (word one_name) refl name_is refl refl (from_on r b gap _)
 
+-- behind the template
 element_on : (lead : List ℕ) (b : Items) (f n : List ℕ) (i : Items) (h c : List ℕ) (e : Group) → On (items lead [] (element b f n i h c e))
 element_on lead b f n i h c e = on_token (items lead [] (element b f n i h c e)) gap (fixed mark.Where) refl tt refl refl (start_on _ _)
 
+-- before the template and behind it
 top_on : (lead : List ℕ) (xs : Items) → On (items lead [] xs)
 top_on lead nothing =
     on_token (items lead [] nothing) gap (open_tag one_name) refl name_is refl refl
@@ -110,16 +116,20 @@ top_on lead (variable b g k e) = on_token (items lead [] (variable b g k e)) gap
 top_on lead (literal b g ps) = on_token (items lead [] (literal b g ps)) gap (fixed mark.Where) refl tt refl refl (start_on _ _)
 top_on lead (element b f n i h c e) = element_on lead b f n i h c e
 
+-- inside elements
 items_on : (o : List Frame) (lead : List ℕ) (xs : Items) → On (items lead o xs)
 items_on [] lead xs = top_on lead xs
 items_on (f ∷ o) lead xs = on_token (items lead (f ∷ o) xs) [] (close_tag one_name) refl name_is refl refl (items_on o lead (element f.before f.gap f.name xs [] one_name absent))
 
+-- inside a group label
 keys_on : (lead : List ℕ) (o : List Frame) (xs : Items) (g : List ℕ) (ks : Keys) → On (keys lead o xs g ks)
 keys_on lead o xs g ks = on_token (keys lead o xs g ks) [] (fixed mark.CloseBrace) refl tt refl refl (items_on o lead _)
 
+-- behind BY
 by_on : (r : Head) (cs : Conds) (g h : List ℕ) → On (ordering_by r cs g h)
 by_on r cs g h = on_token (ordering_by r cs g h) gap (var one_name) refl (refl, refl) refl refl (on_sorted r cs _)
 
+-- each spot goes on
 pub spot_on : (s : Spot) → On s
 spot_on beginning = on_token beginning [] (fixed mark.Construct) refl tt refl refl (items_on [] [] nothing)
 spot_on (items lead o xs) = items_on o lead xs
@@ -156,6 +166,7 @@ text_on x s t u e h = record {
 byte_on : (b : ℕ) (s t : State) → IsTrue (is_low b) → step s b ≡ Some t → GoesOn t → GoesOn s
 byte_on b s t l e h = text_on (b ∷ []) s t (low_utf8 (b ∷ []) (and_both (is_low b) true l refl)) (ap (option_and_then (λ u. run u [])) e) h
 
+-- each state that stands at a spot goes on
 pub at_on : (s : Spot) (t : State) → IsAt s t → GoesOn t
 at_on s t h =
     let n = spot_on s in
@@ -166,6 +177,7 @@ at_on s t h =
 last_on : (s : Spot) (g : List ℕ) (l : Lex) (t : Token) → token_in l ≡ Some t → ((b : ℕ) → IsTrue (follows (shift s g t) b) → lex_step l b ≡ None) → GoesOn (at s g l)
 last_on s g l t e q = at_on (shift s g t) (at s g l) (record { steps = λ b f. last_step s g l t b e (q b f); ends = last_whole s g l t e })
 
+-- a token that has ended goes on
 ready_on : (s : Spot) (g : List ℕ) (t : Token) → GoesOn (at s g (ready t))
 ready_on s g t = last_on s g (ready t) t refl (λ b f. refl)
 
@@ -189,6 +201,7 @@ var_unfixed (sorted r cs unordered) g v h = cc
 var_unfixed (sorted r cs (ordered e f i j)) g v h = cc
 var_unfixed (sorted r cs (descending e f i j k)) g v h = cc
 
+-- nor does a name
 word_unfixed : (s : Spot) (g l : List ℕ) → IsTrue (takes s g kind.Name) → is_fixed (shift s g (word l)) ≡ false
 word_unfixed beginning g l h = cc
 word_unfixed (items lead [] xs) g l h = cc
@@ -208,12 +221,15 @@ word_unfixed (sorted r cs unordered) g l h = cc
 word_unfixed (sorted r cs (ordered e f i j)) g l h = cc
 word_unfixed (sorted r cs (descending e f i j k)) g l h = cc
 
+-- a variable goes on
 var_on : (s : Spot) (g v : List ℕ) → IsTrue (takes s g kind.Var) → GoesOn (at s g (varying v))
 var_on s g v h = last_on s g (varying v) (var v) refl (λ b f. varying_quiet v b (unfixed (is_fixed (shift s g (var v))) (is_apart b) (no_equal (shift s g (var v)) b) (var_unfixed s g v h) f))
 
+-- a name goes on
 word_on : (s : Spot) (g l : List ℕ) → IsTrue (takes s g kind.Name) → GoesOn (at s g (naming l))
 word_on s g l h = last_on s g (naming l) (word l) refl (λ b f. naming_quiet l b (unfixed (is_fixed (shift s g (word l))) (is_apart b) (no_equal (shift s g (word l)) b) (word_unfixed s g l h) f))
 
+-- nor does a path
 path_unfixed : (s : Spot) (g : List ℕ) (p : paths.Spelled) → IsTrue (takes s g kind.Path) → is_fixed (shift s g (path p)) ≡ false
 path_unfixed beginning g p h = cc
 path_unfixed (items lead [] xs) g p h = cc
@@ -240,15 +256,18 @@ whole_quiet f [] m None q b e w h = none_some q w
 whole_quiet f [] m (Some p) q b e w h = path_complete.ends_by b f [] m p (apart_not_name b h) (apart_marks b h) e ∙ repeat_quiet f p b h
 whole_quiet f (g ∷ o) m r q b e w h = none_some q w
 
+-- a path that is whole goes on
 path_last : (s : Spot) (g : List ℕ) (t : pathing_.State) (q : paths.Spelled) → IsTrue (takes s g kind.Path) → pathing_.whole t ≡ Some q → GoesOn (at s g (pathing t))
 path_last s g t q h w =
     last_on s g (pathing t) (path q) (ap as_path w)
     (λ b f. ap map_path (whole_quiet t.here t.outer t.mode (pathing_.repeat_in t.mode) q b refl w (unfixed (is_fixed (shift s g (path q))) (is_apart b) (no_equal (shift s g (path q)) b) (path_unfixed s g q h) f)))
 
+-- a path goes on by what makes it whole
 path_end : (s : Spot) (g y : List ℕ) (p : pathing_.State) (o : Option pathing_.State) (q : paths.Spelled) → IsUtf8 y → IsTrue (takes s g kind.Path) → pathing_.run p y ≡ o → option_and_then pathing_.whole o ≡ Some q → GoesOn (at s g (pathing p))
 path_end s g y p None q l h r w = none_some q w
 path_end s g y p (Some t) q l h r w = text_on y (at s g (pathing p)) (at s g (pathing t)) l (path_run s g y p t r) (path_last s g t q h w)
 
+-- each path goes on
 path_goes : (s : Spot) (g : List ℕ) (p : pathing_.State) → IsTrue (takes s g kind.Path) → GoesOn (at s g (pathing p))
 path_goes s g p h = let on = path_fronts.mode_on p.here p.outer p.mode in path_end s g on.bytes p (pathing_.run p on.bytes) on.spelled on.utf8 h refl on.read
 
@@ -275,21 +294,26 @@ mark_goes : (s : Spot) (g : List ℕ) (m : Mark) (done rest : List ℕ) → IsLe
 mark_goes s g m done rest h =
     text_on rest (at s g (marking m done rest)) (at s g (marking m (done ++ rest) [])) (low_utf8 rest (all_behind done rest (subst (λ x. IsTrue (list_all is_low x)) (sym h) (mark_low m)))) (mark_read s g m done rest) (last_on s g (marking m (done ++ rest) []) (fixed m) refl (λ b f. refl))
 
+-- an opening tag goes on
 opening_on : (s : Spot) (g l : List ℕ) → GoesOn (at s g (opening l))
 opening_on s g l = byte_on 62 (at s g (opening l)) (at s g (ready (open_tag l))) refl refl (ready_on s g (open_tag l))
 
+-- a closing tag goes on
 closing_on : (s : Spot) (g l : List ℕ) → GoesOn (at s g (closing l))
 closing_on s g l = byte_on 62 (at s g (closing l)) (at s g (ready (close_tag l))) refl refl (ready_on s g (close_tag l))
 
+-- and so it does without a name
 slash_on : (s : Spot) (g : List ℕ) → GoesOn (at s g slash)
 slash_on s g = byte_on 97 (at s g slash) (at s g (closing one_name)) refl refl (closing_on s g one_name)
 
+-- a bracket goes on
 angle_on : (s : Spot) (g : List ℕ) (p q : Bool) → IsTrue (p || q) → GoesOn (at s g (angle p q))
 angle_on s g true true h = byte_on 47 (at s g (angle true true)) (at s g slash) refl refl (slash_on s g)
 angle_on s g true false h = byte_on 97 (at s g (angle true false)) (at s g (opening one_name)) refl refl (opening_on s g one_name)
 angle_on s g false true h = byte_on 47 (at s g (angle false true)) (at s g slash) refl refl (slash_on s g)
 angle_on s g false false h = cc
 
+-- a quoted label goes on
 quoting_on : (s : Spot) (g : List ℕ) (ps : List Piece) → GoesOn (at s g (quoting ps))
 quoting_on s g ps = byte_on 34 (at s g (quoting ps)) (at s g (ready (quoted ps))) refl refl (ready_on s g (quoted ps))
 
@@ -301,10 +325,12 @@ gap_on s g t b c i k l =
     (sym (run_then g (gap ++ token_text t) (at s [] between) (at s g between) (gap_run s [] g b)) ∙ ap (run (at s [] between)) (sym (append_assoc g gap (token_text t))) ∙ n.runs)
     (at_on (shift s (g ++ gap) t) n.state n.is)
 
+-- there is a blank behind one more
 has_gap : (g : List ℕ) → IsTrue (has_blank (g ++ gap))
 has_gap [] = refl
 has_gap (b ∷ g) = refl
 
+-- blanks go on
 between_on : (s : Spot) (g : List ℕ) → IsBlanks g → IsBlanks (g ++ gap) → GoesOn (at s g between)
 between_on beginning g b c = gap_on beginning g (fixed mark.Construct) b c tt refl refl
 between_on (items lead [] nothing) g b c = gap_on (items lead [] nothing) g (open_tag one_name) b c name_is (has_gap g) refl
@@ -342,6 +368,7 @@ state_on x s g (pathing p) h = path_goes s g p h.offered
 state_on x s g (comparing k) h = byte_on 61 (at s g (comparing k)) (at s g (ready (comparison (with_equal k)))) refl refl (ready_on s g (comparison (with_equal k)))
 state_on x s g (ready t) h = ready_on s g t
 
+-- the state behind a text is well formed
 pub stood_at : (x : List ℕ) (o : Option State) (t : State) → Gives (Stands x) o → o ≡ Some t → Stands x t
 stood_at x None t h e = none_some t e
 stood_at x (Some s) t h e = subst (Stands x) (some_is _ _ e) h

@@ -1,5 +1,5 @@
 -- How many levels of elements have been read.
-use Rattle.std.proofs.Common.{◌≡◌, ◌+◌, ◌∙◌, ◌||◌, ℕ, Bool, List, [], ◌∷◌, refl, ap, arith, length, nat_lt, max}
+use Rattle.std.proofs.Common.{◌≡◌, ◌+◌, ◌∙◌, ◌||◌, ℕ, List, [], ◌∷◌, refl, ap, arith, length, nat_lt, max}
 use Rattle.std.proofs.lemmas.Bool.Decides.{nat_tests}
 use Rattle.xmas_text.specs.Grammar.{Group, Items, nothing, variable, literal, element}
 use Rattle.xmas_text.specs.Levels.{levels}

@@ -1,5 +1,5 @@
 -- What the text of a token says.
-use Rattle.std.proofs.Common.{◌≡◌, ◌∙◌, ◌+◌, ◌-◌, ◌<◌, ◌≤◌, ◌⊎◌, inl, inr, ℕ, zero, suc, Bool, true, false, cond, IsTrue, List, [], ◌∷◌, ◌++◌, Option, Some, None, Result, Ok, Err, refl, sym, ap, subst, arith, length, take, drop, nat_lt, slice_range, length-append}
+use Rattle.std.proofs.Common.{◌≡◌, ◌∙◌, ◌+◌, ◌-◌, ◌<◌, ◌≤◌, inl, inr, ℕ, zero, suc, Bool, true, false, IsTrue, List, [], ◌∷◌, ◌++◌, Result, Ok, Err, refl, sym, ap, subst, arith, length, take, drop, nat_lt, slice_range, length-append}
 use Rattle.std.proofs.lemmas.Bool.Decides.{nat_tests}
 use Rattle.std.proofs.lemmas.List.{take_all, take-append-drop}
 use Rattle.std.proofs.lemmas.Str.{IsUtf8-from_ascii}
@@ -9,13 +9,11 @@ use Rattle.mix_base.proofs.Choices.{and_parts, none_some}
 use Rattle.mix_base.proofs.Lists.{append_nil, take_whole}
 use Rattle.std.proofs.Common.{rules}
 use Rattle.mix_tree.specs.Spelling.{is_bare_label}
-use Rattle.mix_tree.specs.LabelGrammar.{SpellsLabel, SpellsBare, SpellsQuoted, meaning, inside_quotes}
-use Rattle.mix_tree.specs.LabelReads.{SpellsNowhere, IsLongest, IsNoLabel, IsCutLabel}
-use Rattle.mix_tree.specs.Names.{IsName}
-use Rattle.path_expr.specs.Grammar as paths
+use Rattle.mix_tree.specs.LabelGrammar.{SpellsLabel, SpellsQuoted, meaning, inside_quotes}
+use Rattle.mix_tree.specs.LabelReads.{SpellsNowhere, IsLongest}
 use Rattle.path_expr.specs.Form.{Form, positions_in}
 use Rattle.path_expr.specs.Values.{value_of}
-use Rattle.path_expr.specs.Depth.{nesting, deep_at}
+use Rattle.path_expr.specs.Depth.{nesting}
 use Rattle.path_expr.specs.Results.{SpellsWithin, IsTooDeep, HasTooMany}
 use Rattle.path_expr.specs.Results as paths_
 use Rattle.mix_base.specs.Reading.{IsUnexpected, IsCut}
@@ -27,8 +25,7 @@ use Rattle.xmas_text.specs.declared.token.Kind.{Kind}
 use Rattle.xmas_text.specs.declared.token.Kind.TheVariants as kind
 use Rattle.xmas_text.specs.declared.draft.Lexeme.TheVariants as lexeme
 use Rattle.xmas_text.specs.Lexical.{is_letter, is_word_byte, IsVar}
-use Rattle.xmas_text.specs.Tokens.{Token, fixed, open_tag, close_tag, word, var, quoted, path, comparison, kind_of, token_text, IsToken}
-use Rattle.xmas_text.specs.Parsed.{path_form}
+use Rattle.xmas_text.specs.Tokens.{fixed, open_tag, close_tag, word, var, quoted, path, comparison}
 use Rattle.xmas_text.specs.Lexemes.{IsWritten, IsLexeme, IsQuotedText, Quotes, IsPathText, SpellsPath}
 
 -- the part between a front and an end of a text

@@ -1,40 +1,35 @@
 -- The machine reads each token that may come.
-use Rattle.std.proofs.Common.{◌≡◌, ◌∙◌, ◌==◌, ◌<◌, ℕ, Bool, true, false, cond, ◌&&◌, ◌||◌, IsTrue, List, [], ◌∷◌, ◌++◌, Option, Some, None, option_and_then, refl, sym, ap, subst, append_assoc, arith, length}
+use Rattle.std.proofs.Common.{◌≡◌, ◌∙◌, ◌==◌, ℕ, Bool, true, false, cond, ◌&&◌, IsTrue, List, [], ◌∷◌, ◌++◌, Option, Some, None, option_and_then, refl, sym, ap, append_assoc, arith}
 use Rattle.std.proofs.lemmas.Bool.Decides.{nat_tests}
 use Rattle.std.specs.List.{list_all}
-use Rattle.mix_base.proofs.Choices.{and_parts, and_both, list_all-push, some_is, none_some, Gives, either, number_is}
+use Rattle.mix_base.proofs.Choices.{and_parts, some_is, none_some}
 use Rattle.mix_base.proofs.Lists.{append_nil}
 use Rattle.mix_tree.specs.LabelGrammar.{Piece, plain, escape, is_escape, is_plain, is_piece, ArePieces, inside_quotes}
 use Rattle.mix_tree.specs.Names.{is_name_byte, IsName}
-use Rattle.xmas_text.specs.Grammar.{quoted_text}
-use Rattle.xmas_text.specs.Lexer.{Lex, between, marking, angle, opening, slash, closing, naming, dollar, varying, quoting, escaping, pathing, ready, comparing, on_mark, map_path, lex_step, token_in}
-use Rattle.xmas_text.specs.Lexical.{is_blank, is_letter, is_word_byte, IsBlanks, IsGap, IsVar}
-use Rattle.xmas_text.specs.Machine.{State, at, or_behind, step_in, step, run, behind, next}
-use Rattle.xmas_text.specs.Spots.{Spot, shift, takes}
-use Rattle.xmas_text.specs.Tokens.{Token, fixed, open_tag, close_tag, word, var, quoted, path, kind_of, mark_first, mark_rest, token_text}
-use Rattle.xmas_text.specs.declared.token.Kind.{Kind}
+use Rattle.xmas_text.specs.Lexer.{Lex, between, marking, angle, opening, slash, closing, naming, dollar, varying, quoting, escaping, pathing, ready, comparing, map_path, lex_step}
+use Rattle.xmas_text.specs.Lexical.{is_letter, is_word_byte, IsVar}
+use Rattle.xmas_text.specs.Machine.{State, at, or_behind, step, run}
+use Rattle.xmas_text.specs.Spots.{Spot}
+use Rattle.xmas_text.specs.Tokens.{open_tag, close_tag, quoted}
 use Rattle.xmas_text.specs.declared.token.Mark.{Mark}
-use Rattle.mix_tree.specs.declared.comparing.TestOp.TheVariants as op
-use Rattle.xmas_text.specs.declared.token.Mark.TheVariants as mark
-use Rattle.xmas_text.specs.declared.token.Sign.TheVariants as sign
-use Rattle.xmas_text.specs.declared.token.Kind.TheVariants as kind
-use Rattle.path_expr.specs.Grammar as paths
 use Rattle.path_expr.specs.Machine as pathing_
-use Rattle.path_expr.proofs.Complete as path_complete
-use Rattle.xmas_text.specs.Tokens.{IsToken}
 
+-- two texts, from an option
 behind_ : (x y : List ℕ) → ((t : State) → run t (x ++ y) ≡ option_and_then (λ u. run u y) (run t x)) → (o : Option State)
     → option_and_then (λ t. run t (x ++ y)) o ≡ option_and_then (λ t. run t y) (option_and_then (λ t. run t x) o)
 behind_ x y h None = refl
 behind_ x y h (Some t) = h t
 
+-- two texts
 pub run_append : (x y : List ℕ) (s : State) → run s (x ++ y) ≡ option_and_then (λ t. run t y) (run s x)
 run_append [] y s = refl
 run_append (b ∷ x) y s = behind_ x y (λ t. run_append x y t) (step s b)
 
+-- two texts, by where the first leads
 pub run_then : (x y : List ℕ) (s t : State) → run s x ≡ Some t → run s (x ++ y) ≡ run t y
 run_then x y s t e = run_append x y s ∙ ap (option_and_then (λ u. run u y)) e
 
+-- a text by its first byte
 pub run_byte : (b : ℕ) (y : List ℕ) (s t : State) → step s b ≡ Some t → run s (b ∷ y) ≡ run t y
 run_byte b y s t e = ap (option_and_then (λ u. run u y)) e
 
@@ -63,28 +58,36 @@ grows C p h s g l (b ∷ x) a =
     run_byte b x (at s g (C l)) (at s g (C (l ++ b ∷ []))) (lexes s g (C l) (C (l ++ b ∷ [])) b (h l b parts.0))
     ∙ grows C p h s g (l ++ b ∷ []) x parts.1 ∙ ap (λ r. Some (at s g (C r))) (append_assoc l (b ∷ []) x)
 
+-- an opening tag goes on with a name
 opening_grows : (l : List ℕ) (b : ℕ) → IsTrue (is_name_byte b) → lex_step (opening l) b ≡ Some (opening (l ++ b ∷ []))
 opening_grows l b h = rw h refl
 
+-- a closing tag goes on with a name
 closing_grows : (l : List ℕ) (b : ℕ) → IsTrue (is_name_byte b) → lex_step (closing l) b ≡ Some (closing (l ++ b ∷ []))
 closing_grows l b h = rw h refl
 
+-- a name goes on
 naming_grows : (l : List ℕ) (b : ℕ) → IsTrue (is_name_byte b) → lex_step (naming l) b ≡ Some (naming (l ++ b ∷ []))
 naming_grows l b h = rw h refl
 
+-- a variable goes on
 varying_grows : (l : List ℕ) (b : ℕ) → IsTrue (is_word_byte b) → lex_step (varying l) b ≡ Some (varying (l ++ b ∷ []))
 varying_grows l b h = rw h refl
 
+-- a slash is no byte of a name
 name_not_slash : (b : ℕ) → IsTrue (is_name_byte b) → (b == 47) ≡ false
 name_not_slash b h = grind (arith, nat_tests)
 
+-- what does not hold does not hold with another
 and_false : (q c : Bool) → c ≡ false → (q && c) ≡ false
 and_false true c h = h
 and_false false c h = refl
 
+-- a bracket goes on to an opening tag
 angle_opens : (q : Bool) (b : ℕ) → IsTrue (is_name_byte b) → lex_step (angle true q) b ≡ Some (opening (b ∷ []))
 angle_opens q b h = rw (and_false q (b == 47) (name_not_slash b h), h) refl
 
+-- a slash goes on to a closing tag
 slash_closes : (b : ℕ) → IsTrue (is_name_byte b) → lex_step slash b ≡ Some (closing (b ∷ []))
 slash_closes b h = rw h refl
 
@@ -96,6 +99,7 @@ open_read q s g (b ∷ l) h =
     run_byte b (l ++ 62 ∷ []) (at s g (angle true q)) (at s g (opening (b ∷ []))) (lexes s g (angle true q) (opening (b ∷ [])) b (angle_opens q b parts.0))
     ∙ run_then l (62 ∷ []) (at s g (opening (b ∷ []))) (at s g (opening (b ∷ l))) (grows opening is_name_byte opening_grows s g (b ∷ []) l parts.1)
 
+-- a closing tag behind its bracket
 pub close_read : (p : Bool) (s : Spot) (g l : List ℕ) → IsName l → run (at s g (angle p true)) (47 ∷ (l ++ 62 ∷ [])) ≡ Some (at s g (ready (close_tag l)))
 close_read p s g [] h = absurd (omega arith)
 close_read p s g (b ∷ l) h =
@@ -103,17 +107,21 @@ close_read p s g (b ∷ l) h =
     run_byte b (l ++ 62 ∷ []) (at s g slash) (at s g (closing (b ∷ []))) (lexes s g slash (closing (b ∷ [])) b (slash_closes b parts.0))
     ∙ run_then l (62 ∷ []) (at s g (closing (b ∷ []))) (at s g (closing (b ∷ l))) (grows closing is_name_byte closing_grows s g (b ∷ []) l parts.1)
 
+-- a name behind its first byte
 pub name_read : (s : Spot) (g : List ℕ) (b : ℕ) (l : List ℕ) → IsTrue (list_all is_name_byte l) → run (at s g (naming (b ∷ []))) l ≡ Some (at s g (naming (b ∷ l)))
 name_read s g b l h = grows naming is_name_byte naming_grows s g (b ∷ []) l h
 
+-- a variable begins with a letter
 letter_step : (b : ℕ) → IsTrue (is_letter b) → lex_step dollar b ≡ Some (varying (b ∷ []))
 letter_step b h = rw h refl
 
+-- a variable behind its $
 pub var_read : (s : Spot) (g v : List ℕ) → IsVar v → run (at s g dollar) v ≡ Some (at s g (varying v))
 var_read s g [] h = absurd h
 var_read s g (b ∷ v) h =
     run_byte b v (at s g dollar) (at s g (varying (b ∷ []))) (lexes s g dollar (varying (b ∷ [])) b (letter_step b h.0)) ∙ grows varying is_word_byte varying_grows s g (b ∷ []) v h.1
 
+-- a byte that stands for itself
 plain_step : (b : ℕ) (ps : List Piece) → IsTrue (is_plain b) → lex_step (quoting ps) b ≡ Some (quoting (ps ++ plain b ∷ []))
 plain_step b ps h = by_cases (b == 34) (b == 92) _ _ _ h
   where
@@ -122,9 +130,11 @@ plain_step b ps h = by_cases (b == 34) (b == 92) _ _ _ h
     by_cases false true x y z h = cc
     by_cases false false x y z h = refl
 
+-- a byte behind a backslash
 escape_step : (b : ℕ) (ps : List Piece) → IsTrue (is_escape b) → lex_step (escaping ps) b ≡ Some (quoting (ps ++ escape b ∷ []))
 escape_step b ps h = rw h refl
 
+-- the inside of a quoted label
 quote_goes_on : (s : Spot) (g : List ℕ) (ps qs : List Piece) → ArePieces qs → run (at s g (quoting ps)) (inside_quotes qs) ≡ Some (at s g (quoting (ps ++ qs)))
 quote_goes_on s g ps [] h = ap (λ r. Some (at s g (quoting r))) (sym (append_nil ps))
 quote_goes_on s g ps (plain b ∷ qs) h =
@@ -136,23 +146,28 @@ quote_goes_on s g ps (escape b ∷ qs) h =
     run_byte b (inside_quotes qs) (at s g (escaping ps)) (at s g (quoting (ps ++ escape b ∷ []))) (lexes s g (escaping ps) (quoting (ps ++ escape b ∷ [])) b (escape_step b ps parts.0))
     ∙ quote_goes_on s g (ps ++ escape b ∷ []) qs parts.1 ∙ ap (λ r. Some (at s g (quoting r))) (append_assoc ps (escape b ∷ []) qs)
 
+-- a quoted label behind its quote
 pub quote_read : (s : Spot) (g : List ℕ) (ps : List Piece) → ArePieces ps → run (at s g (quoting [])) (inside_quotes ps ++ 34 ∷ []) ≡ Some (at s g (ready (quoted ps)))
 quote_read s g ps h = run_then (inside_quotes ps) (34 ∷ []) (at s g (quoting [])) (at s g (quoting ps)) (quote_goes_on s g [] ps h)
 
+-- the next byte of a token that is always the same
 mark_step : (m : Mark) (done : List ℕ) (c : ℕ) (rest : List ℕ) → lex_step (marking m done (c ∷ rest)) c ≡ Some (marking m (done ++ c ∷ []) rest)
 mark_step m done c rest = let same : (c == c) ≡ true = grind (arith, nat_tests) in rw same refl
 
+-- such a token behind its first byte
 pub mark_read : (s : Spot) (g : List ℕ) (m : Mark) (done rest : List ℕ) → run (at s g (marking m done rest)) rest ≡ Some (at s g (marking m (done ++ rest) []))
 mark_read s g m done [] = ap (λ r. Some (at s g (marking m r []))) (sym (append_nil done))
 mark_read s g m done (c ∷ rest) =
     run_byte c rest (at s g (marking m done (c ∷ rest))) (at s g (marking m (done ++ c ∷ []) rest)) (lexes s g (marking m done (c ∷ rest)) (marking m (done ++ c ∷ []) rest) c (mark_step m done c rest))
     ∙ mark_read s g m (done ++ c ∷ []) rest ∙ ap (λ r. Some (at s g (marking m r []))) (append_assoc done (c ∷ []) rest)
 
+-- a path by its first byte
 path_run_at : (s : Spot) (g : List ℕ) (b : ℕ) (x : List ℕ) (o : Option pathing_.State) (p t : pathing_.State) → pathing_.step p b ≡ o → option_and_then (λ u. pathing_.run u x) o ≡ Some t
     → ((u : pathing_.State) → pathing_.run u x ≡ Some t → run (at s g (pathing u)) x ≡ Some (at s g (pathing t))) → run (at s g (pathing p)) (b ∷ x) ≡ Some (at s g (pathing t))
 path_run_at s g b x None p t e h k = none_some t h
 path_run_at s g b x (Some u) p t e h k = run_byte b x (at s g (pathing p)) (at s g (pathing u)) (lexes s g (pathing p) (pathing u) b (ap map_path e)) ∙ k u h
 
+-- a path
 pub path_run : (s : Spot) (g : List ℕ) (x : List ℕ) (p t : pathing_.State) → pathing_.run p x ≡ Some t → run (at s g (pathing p)) x ≡ Some (at s g (pathing t))
 path_run s g [] p t h = ap (λ u. Some (at s g (pathing u))) (some_is _ _ h)
 path_run s g (b ∷ x) p t h = path_run_at s g b x (pathing_.step p b) p t refl h (λ u k. path_run s g x u t k)

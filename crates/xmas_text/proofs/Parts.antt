@@ -1,5 +1,5 @@
 -- What a scan keeps of a token goes as the token does.
-use Rattle.std.proofs.Common.{◌≡◌, ◌∙◌, ◌==◌, ◌+◌, ◌<◌, ◌&&◌, ◌||◌, ℕ, suc, Bool, true, false, cond, IsTrue, List, [], ◌∷◌, ◌++◌, Option, Some, None, option_map, refl, sym, ap, subst, arith, length, nat_lt, slice_index, get_or, length-append, is_some}
+use Rattle.std.proofs.Common.{◌≡◌, ◌∙◌, ◌==◌, ◌+◌, ◌<◌, ◌&&◌, ◌||◌, ℕ, Bool, true, false, cond, List, [], ◌∷◌, ◌++◌, Option, Some, None, option_map, refl, sym, ap, arith, length, nat_lt, slice_index, length-append, is_some}
 use Rattle.std.proofs.Math.Seq.{get_or-append_seam}
 use Rattle.std.proofs.lemmas.Bool.Decides.{nat_tests}
 use Rattle.mix_base.proofs.Lists.{append_nil}
@@ -18,9 +18,9 @@ use Rattle.xmas_text.specs.declared.token.Kind.TheVariants as kind
 use Rattle.xmas_text.specs.declared.lexer.Part.{Part}
 use Rattle.xmas_text.specs.declared.lexer.Part.TheVariants as part
 use Rattle.xmas_text.specs.Lexical.{is_letter, is_word_byte}
-use Rattle.xmas_text.specs.Tokens.{Token, path, kind_of, mark_first, mark_rest, mark_text, by_sign}
+use Rattle.xmas_text.specs.Tokens.{kind_of, mark_first, mark_text, by_sign}
 use Rattle.xmas_text.specs.Lexer.{Lex, between, marking, angle, opening, slash, closing, naming, dollar, varying, quoting, escaping, pathing, ready, comparing, on_mark, map_path, lex_step, as_path, as_mark, token_in, begin_mark, begin_word, begin}
-use Rattle.xmas_text.specs.Parts.{part_of, mark_step, part_step, kind_by_sign, kind_in, or_else, first_mark, first_keyword, first_item, first_path, first_word, first_part}
+use Rattle.xmas_text.specs.Parts.{part_of, mark_step, part_step, kind_by_sign, kind_in, or_else, first_mark, first_item, first_path, first_word, first_part}
 use Rattle.xmas_text.proofs.Texts.{IsLex}
 
 -- both choices, side by side

@@ -1,24 +1,22 @@
 -- What a run has read is what its state writes.
-use Rattle.std.proofs.Common.{◌≡◌, ◌∙◌, ◌==◌, ℕ, Bool, true, false, cond, IsTrue, List, [], ◌∷◌, ◌++◌, Option, Some, None, option_and_then, refl, sym, ap, subst, append_assoc}
-use Rattle.mix_base.proofs.Choices.{and_parts, and_both, list_all-push, some_is, none_some, Gives, either, number_is}
+use Rattle.std.proofs.Common.{◌≡◌, ◌∙◌, ℕ, Bool, IsTrue, List, [], ◌∷◌, ◌++◌, Option, Some, None, option_and_then, refl, sym, ap, subst, append_assoc}
+use Rattle.mix_base.proofs.Choices.{list_all-push, some_is, none_some, Gives, either}
 use Rattle.mix_base.proofs.Lists.{append_nil}
-use Rattle.xmas_text.specs.Grammar.{Rule, IsRule, rule_text, Writes, items_text, conds_text, order_text, Order, unordered, construct_text, where_text}
+use Rattle.xmas_text.specs.Grammar.{Rule, Writes, items_text, conds_text, order_text, construct_text, where_text}
 use Rattle.xmas_text.specs.Lexer.{Lex, between, marking, angle, opening, slash, closing, naming, dollar, varying, quoting, escaping, pathing, ready, comparing, lex_step, as_path, as_mark, token_in, begin}
 use Rattle.xmas_text.specs.Lexical.{is_blank, IsBlanks}
 use Rattle.xmas_text.specs.Machine.{State, at, with_lex, next, behind, or_behind, step_in, step, run, rule_at, rule_behind, whole_in, whole, start, read_of}
-use Rattle.xmas_text.specs.Spots.{Frame, Head, Spot, beginning, items, labelled, keys, key_comma, key_label, cond_start, cond_from, cond_path, cond_done, compared, ordering, ordering_by, sorted, takes, shift}
-use Rattle.xmas_text.specs.Tokens.{Token, fixed, open_tag, close_tag, word, var, quoted, path, comparison, kind_of, sign_byte, by_sign, token_text}
+use Rattle.xmas_text.specs.Spots.{Spot, cond_done, sorted, takes, shift}
+use Rattle.xmas_text.specs.Tokens.{Token, kind_of, sign_byte, by_sign, token_text}
 use Rattle.xmas_text.specs.declared.token.Kind.{Kind}
 use Rattle.xmas_text.specs.declared.token.Mark.{Mark}
 use Rattle.xmas_text.specs.declared.token.Sign.{Sign}
-use Rattle.mix_tree.specs.declared.comparing.TestOp.TheVariants as op
-use Rattle.xmas_text.specs.declared.token.Mark.TheVariants as mark
 use Rattle.xmas_text.specs.declared.token.Sign.TheVariants as sign
 use Rattle.xmas_text.specs.declared.token.Kind.TheVariants as kind
 use Rattle.path_expr.specs.Grammar as paths
 use Rattle.path_expr.specs.Machine as pathing_
 use Rattle.path_expr.proofs.Sound as path_sound
-use Rattle.xmas_text.proofs.Texts.{head_text, spot_text, IsSpot, lex_text, IsLex, Offered}
+use Rattle.xmas_text.proofs.Texts.{spot_text, IsSpot, lex_text, IsLex, Offered}
 use Rattle.xmas_text.specs.Tokens.{IsToken}
 use Rattle.xmas_text.proofs.Shifts.{shifts}
 use Rattle.xmas_text.proofs.Sound.{Goes, lex_goes, begin_goes}
@@ -37,22 +35,27 @@ pub record Ended (may : Kind → Bool) (x : List ℕ) (t : Token) : Type 0 where
   pub taken : IsTrue (may (kind_of t))
   pub text : token_text t ≡ x
 
+-- a token that is always the same has ended
 mark_ended : (may : Kind → Bool) (m : Mark) (done rest : List ℕ) (t : Token) → IsLex (marking m done rest) → Offered may (marking m done rest) → as_mark m rest ≡ Some t → Ended may done t
 mark_ended may m done [] t h o e = subst (Ended may done) (some_is _ _ e) (record { is = tt; taken = o; text = sym h ∙ append_nil done })
 mark_ended may m done (c ∷ rest) t h o e = none_some t e
 
+-- a path that is whole is written so
 path_writes : (x : List ℕ) (s : pathing_.State) (p : paths.Spelled) → path_sound.StandsAt x s → pathing_.whole s ≡ Some p → paths.Writes x p
 path_writes x s p h e = path_sound.whole_writes x s p h e
 
+-- a path has ended
 path_ended : (may : Kind → Bool) (x : List ℕ) (s : pathing_.State) (r : Option paths.Spelled) (t : Token) → path_sound.StandsAt x s → IsTrue (may kind.Path) → pathing_.whole s ≡ r → as_path r ≡ Some t → Ended may x t
 path_ended may x s None t h o w e = none_some t e
 path_ended may x s (Some p) t h o w e = let k = path_writes x s p h w in subst (Ended may x) (some_is _ _ e) (record { is = k.0; taken = o; text = k.1 })
 
+-- an operator of one byte has ended
 sign_ended : (may : Kind → Bool) (k : Sign) (t : Token) → IsTrue (may kind.Operator) → by_sign k ≡ Some t → Ended may (sign_byte k ∷ []) t
 sign_ended may sign.Bang t o e = none_some t e
 sign_ended may sign.Less t o e = subst (Ended may (60 ∷ [])) (some_is _ _ e) (record { is = tt; taken = o; text = refl })
 sign_ended may sign.Greater t o e = subst (Ended may (62 ∷ [])) (some_is _ _ e) (record { is = tt; taken = o; text = refl })
 
+-- each token that ends is one that may come
 pub token_ended : (may : Kind → Bool) (l : Lex) (t : Token) → IsLex l → Offered may l → token_in l ≡ Some t → Ended may (lex_text l) t
 token_ended may between t h o e = none_some t e
 token_ended may (marking m done rest) t h o e = mark_ended may m done rest t h o e
@@ -69,6 +72,7 @@ token_ended may (pathing s) t h o e = path_ended may (lex_text (pathing s)) s (p
 token_ended may (comparing k) t h o e = sign_ended may k t o e
 token_ended may (ready u) t h o e = subst (Ended may (token_text u)) (some_is _ _ e) (record { is = h; taken = o; text = refl })
 
+-- a token has begun
 with_lex_stands : (x : List ℕ) (s : Spot) (g : List ℕ) (b : ℕ) (o : Option Lex) → IsSpot s → IsBlanks g → spot_text s ++ g ≡ x → Gives (Goes (takes s g) (b ∷ [])) o → Gives (Stands (x ++ b ∷ [])) (with_lex s g o)
 with_lex_stands x s g b None h k e i = tt
 with_lex_stands x s g b (Some l) h k e i = record {
@@ -79,6 +83,7 @@ with_lex_stands x s g b (Some l) h k e i = record {
   text = ap (λ r. spot_text s ++ (g ++ r)) i.text ∙ sym (append_assoc (spot_text s) g (b ∷ [])) ∙ ap (λ r. r ++ b ∷ []) e;
 }
 
+-- a byte between tokens
 pub next_stands : (x : List ℕ) (s : Spot) (g : List ℕ) (b : ℕ) → IsSpot s → IsBlanks g → spot_text s ++ g ≡ x → Gives (Stands (x ++ b ∷ [])) (next s g b)
 next_stands x s g b h k e =
     either _ (is_blank b) _ _
@@ -91,6 +96,7 @@ next_stands x s g b h k e =
     })
     (λ n. with_lex_stands x s g b (begin (takes s g) b) h k e (begin_goes (takes s g) b))
 
+-- a byte behind a token
 behind_stands : (x : List ℕ) (s : Spot) (g : List ℕ) (l : Lex) (o : Option Token) (b : ℕ) → token_in l ≡ o → Stands x (at s g l) → Gives (Stands (x ++ b ∷ [])) (behind s g o b)
 behind_stands x s g l None b e h = tt
 behind_stands x s g l (Some t) b e h =
@@ -98,6 +104,7 @@ behind_stands x s g l (Some t) b e h =
     let n = shifts s g t h.spot h.gap k.is k.taken in
     next_stands x (shift s g t) [] b n.is refl (append_nil _ ∙ n.text ∙ ap (λ r. spot_text s ++ (g ++ r)) k.text ∙ h.text)
 
+-- a byte that goes on, or stands behind a token
 lex_stands : (x : List ℕ) (s : Spot) (g : List ℕ) (l : Lex) (b : ℕ) (o : Option Lex) → Stands x (at s g l) → Gives (Goes (takes s g) (lex_text l ++ b ∷ [])) o → Gives (Stands (x ++ b ∷ [])) (or_behind s g l b o)
 lex_stands x s g l b None h k = behind_stands x s g l (token_in l) b refl h
 lex_stands x s g l b (Some m) h k = record {
@@ -111,9 +118,11 @@ lex_stands x s g l b (Some m) h k = record {
     regrouped : (a c d e : List ℕ) → a ++ (c ++ (d ++ e)) ≡ (a ++ (c ++ d)) ++ e
     regrouped a c d e = simp append_assoc
 
+-- the same, by what the token at hand does
 lexed : (x : List ℕ) (s : Spot) (g : List ℕ) (l : Lex) (b : ℕ) → Stands x (at s g l) → Gives (Stands (x ++ b ∷ [])) (or_behind s g l b (lex_step l b))
 lexed x s g l b h = lex_stands x s g l b (lex_step l b) h (lex_goes (takes s g) l b h.lex h.offered)
 
+-- one more byte
 pub step_stands : (x : List ℕ) (s : Spot) (g : List ℕ) (l : Lex) (b : ℕ) → Stands x (at s g l) → Gives (Stands (x ++ b ∷ [])) (step_in s g l b)
 step_stands x s g between b h = next_stands x s g b h.spot h.gap (ap (λ r. spot_text s ++ r) (sym (append_nil g)) ∙ h.text)
 step_stands x s g (marking m done rest) b h = lexed x s g (marking m done rest) b h
@@ -130,24 +139,30 @@ step_stands x s g (pathing p) b h = lexed x s g (pathing p) b h
 step_stands x s g (comparing k) b h = lexed x s g (comparing k) b h
 step_stands x s g (ready t) b h = lexed x s g (ready t) b h
 
+-- a text by its first byte
 after_step : (x y : List ℕ) (b : ℕ) (s : Option State) → Gives (Stands (x ++ b ∷ [])) s → ((t : State) → Stands (x ++ b ∷ []) t → Gives (Stands ((x ++ b ∷ []) ++ y)) (run t y))
     → Gives (Stands (x ++ b ∷ y)) (option_and_then (λ t. run t y) s)
 after_step x y b None h k = tt
 after_step x y b (Some t) h k = subst (λ z. Gives (Stands z) (run t y)) (append_assoc x (b ∷ []) y) (k t h)
 
+-- a text
 pub run_stands : (y x : List ℕ) (s : State) → Stands x s → Gives (Stands (x ++ y)) (run s y)
 run_stands [] x s h = subst (λ z. Stands z s) (sym (append_nil x)) h
 run_stands (b ∷ y) x s h = after_step x y b (step s b) (step_stands x s.spot s.gap s.lex b h) (λ t k. run_stands y (x ++ b ∷ []) t k)
 
+-- before a text
 pub start_stands : Stands [] start
 start_stands = record { spot = tt; gap = refl; lex = tt; offered = tt; text = refl }
 
+-- the text of a rule without an order, part by part
 rule_regrouped : (lead c x g w cs t : List ℕ) → lead ++ (c ++ (x ++ (g ++ (w ++ (cs ++ t))))) ≡ ((lead ++ (c ++ (x ++ (g ++ w)))) ++ cs) ++ t
 rule_regrouped lead c x g w cs t = simp append_assoc
 
+-- the text of a rule, part by part
 sorted_regrouped : (lead c x g w cs o t : List ℕ) → lead ++ (c ++ (x ++ (g ++ (w ++ (cs ++ (o ++ t)))))) ≡ ((lead ++ (c ++ (x ++ (g ++ w)))) ++ (cs ++ o)) ++ t
 sorted_regrouped lead c x g w cs o t = simp append_assoc
 
+-- the rule that may end at a spot is written so
 at_writes : (x : List ℕ) (s : Spot) (g : List ℕ) (r : Rule) → IsSpot s → IsBlanks g → spot_text s ++ g ≡ x → rule_at s g ≡ Some r → Writes x r
 at_writes x (cond_done h cs) g r i b t e =
     subst (Writes x) (some_is _ _ e) (
@@ -161,6 +176,7 @@ at_writes x (sorted h cs o) g r i b t e =
     )
 at_writes x s g r i b t e = none_some r e
 
+-- so is the rule that may end behind a token
 behind_writes : (x : List ℕ) (s : Spot) (g : List ℕ) (l : Lex) (o : Option Token) (r : Rule) → token_in l ≡ o → Stands x (at s g l) → rule_behind s g o ≡ Some r → Writes x r
 behind_writes x s g l None r e h w = none_some r w
 behind_writes x s g l (Some t) r e h w =
@@ -168,6 +184,7 @@ behind_writes x s g l (Some t) r e h w =
     let n = shifts s g t h.spot h.gap k.is k.taken in
     at_writes x (shift s g t) [] r n.is refl (append_nil _ ∙ n.text ∙ ap (λ r. spot_text s ++ (g ++ r)) k.text ∙ h.text) w
 
+-- so is the rule that has been read
 pub whole_writes : (x : List ℕ) (s : Spot) (g : List ℕ) (l : Lex) (r : Rule) → Stands x (at s g l) → whole_in s g l ≡ Some r → Writes x r
 whole_writes x s g between r h e = at_writes x s g r h.spot h.gap (ap (λ r. spot_text s ++ r) (sym (append_nil g)) ∙ h.text) e
 whole_writes x s g (marking m done rest) r h e = behind_writes x s g (marking m done rest) _ r refl h e
@@ -184,6 +201,7 @@ whole_writes x s g (pathing p) r h e = behind_writes x s g (pathing p) _ r refl 
 whole_writes x s g (comparing k) r h e = behind_writes x s g (comparing k) _ r refl h e
 whole_writes x s g (ready t) r h e = behind_writes x s g (ready t) _ r refl h e
 
+-- the same, from an option
 read_from : (x : List ℕ) (s : Option State) (r : Rule) → Gives (Stands x) s → option_and_then whole s ≡ Some r → Writes x r
 read_from x None r h e = none_some r e
 read_from x (Some s) r h e = whole_writes x s.spot s.gap s.lex r h e

@@ -1,52 +1,51 @@
 -- A token that may come is written behind its spot.
-use Rattle.std.proofs.Common.{◌≡◌, ◌∙◌, ◌==◌, ℕ, Bool, true, false, ◌&&◌, IsTrue, List, [], ◌∷◌, ◌++◌, refl, sym, ap, subst, append_assoc}
-use Rattle.std.specs.List.{list_all}
-use Rattle.mix_base.proofs.Choices.{and_parts, and_both, list_all-push, some_is, none_some, Gives, either, number_is}
+use Rattle.std.proofs.Common.{◌≡◌, ◌∙◌, ℕ, IsTrue, List, [], ◌∷◌, ◌++◌, refl, sym, ap, append_assoc}
+use Rattle.mix_base.proofs.Choices.{and_parts}
 use Rattle.mix_base.proofs.Lists.{append_nil}
-use Rattle.mix_tree.specs.LabelGrammar.{Piece, ArePieces}
 use Rattle.mix_tree.specs.Names.{IsName}
-use Rattle.xmas_text.specs.Grammar.{quoted_text, Key, node, label, Keys, none, first, more, Group, absent, braced, Items, nothing, variable, literal, element, key_text, keys_text, group_text, items_text, IsKey, HasKeys, AreKeys, IsGroup, IsItemGap, AreItems, Operand, a_variable, a_text, op_text, operand_text, IsOperand, Cond, source, walk, compare, Conds, one, also, Order, unordered, ordered, descending, ordered_text, order_text, IsOrder, cond_text, conds_text, IsCond, AreConds, IsNothing, IsTemplate, construct_text, where_text}
-use Rattle.xmas_text.specs.Lexical.{is_blank, IsBlanks, IsGap, IsVar}
+use Rattle.xmas_text.specs.Grammar.{quoted_text, Key, node, label, Keys, none, first, more, Group, absent, braced, Items, nothing, variable, literal, element, key_text, keys_text, group_text, items_text, IsKey, HasKeys, AreKeys, IsGroup, IsItemGap, AreItems, Operand, a_variable, a_text, op_text, operand_text, IsOperand, Cond, compare, Conds, Order, ordered, ordered_text, cond_text, conds_text, IsCond, AreConds, IsNothing, IsTemplate, construct_text, where_text}
+use Rattle.xmas_text.specs.Lexical.{IsBlanks, IsGap, IsVar}
 use Rattle.xmas_text.specs.Spots.{Frame, Head, Place, at_first, at_more, Before, first_cond, also_cond, Start, by_name, by_var, Spot, beginning, items, labelled, keys, key_comma, key_label, cond_start, cond_from, cond_path, cond_done, compared, ordering, ordering_by, sorted, has_blank, item_gap, may_group, is_nothing, is_none, takes, with_group, push_key, push_cond, cond_of, shift}
 use Rattle.xmas_text.specs.Stages.{not}
-use Rattle.xmas_text.specs.Tokens.{Token, fixed, open_tag, close_tag, word, var, quoted, path, comparison, kind_of, mark_first, mark_rest, token_text}
+use Rattle.xmas_text.specs.Tokens.{Token, fixed, open_tag, close_tag, word, var, quoted, path, comparison, kind_of, token_text}
 use Rattle.mix_tree.specs.declared.comparing.TestOp.{TestOp}
-use Rattle.xmas_text.specs.declared.token.Kind.{Kind}
-use Rattle.xmas_text.specs.declared.token.Mark.{Mark}
-use Rattle.mix_tree.specs.declared.comparing.TestOp.TheVariants as op
 use Rattle.xmas_text.specs.declared.token.Mark.TheVariants as mark
-use Rattle.xmas_text.specs.declared.token.Sign.TheVariants as sign
-use Rattle.xmas_text.specs.declared.token.Kind.TheVariants as kind
 use Rattle.path_expr.specs.Grammar as paths
-use Rattle.xmas_text.proofs.Texts.{frame_text, outer_text, base, head_text, label_text, place_text, before_text, start_text, spot_text, IsTop, Begins, Level, Inside, IsHead, IsPlace, IsBefore, IsStart, IsSpot}
+use Rattle.xmas_text.proofs.Texts.{outer_text, base, head_text, label_text, place_text, before_text, start_text, spot_text, IsTop, Level, IsPlace, IsBefore, IsStart, IsSpot}
 use Rattle.xmas_text.specs.Tokens.{IsToken}
 
+-- the spot behind a token is well formed, and its text is that of the spot, the gap and the token
 pub record Shifts (s : Spot) (g : List ℕ) (t : Token) : Type 0 where
   pub is : IsSpot (shift s g t)
   pub text : spot_text (shift s g t) ≡ spot_text s ++ (g ++ token_text t)
 
+-- blanks that have a blank are a gap
 gap_of : (g : List ℕ) → IsBlanks g → IsTrue (has_blank g) → IsGap g
 gap_of [] h k = cc
 gap_of (b ∷ g) h k = h
 
+-- blanks that an item may stand behind
 item_gap_of : (xs : Items) (g : List ℕ) → IsBlanks g → IsTrue (item_gap xs g) → IsItemGap xs g
 item_gap_of nothing g h k = h
 item_gap_of (variable before f e i) g h k = gap_of g h k
 item_gap_of (literal before f ps) g h k = gap_of g h k
 item_gap_of (element before f n i e c j) g h k = gap_of g h k
 
+-- no items are nothing
 nothing_of : (xs : Items) → IsTrue (is_nothing xs) → IsNothing xs
 nothing_of nothing h = tt
 nothing_of (variable before f e i) h = cc
 nothing_of (literal before f ps) h = cc
 nothing_of (element before f n i e c j) h = cc
 
+-- an element that stands alone is the template
 template_of : (xs : Items) → IsTop xs → IsTrue (not (is_nothing xs)) → IsTemplate xs
 template_of nothing h k = cc
 template_of (variable before f e i) h k = absurd h
 template_of (literal before f ps) h k = absurd h
 template_of (element before f n i e c j) h k = h
 
+-- the text of items with a group label behind the last
 with_group_text : (xs : Items) (e : Group) → IsTrue (may_group xs) → items_text (with_group xs e) ≡ items_text xs ++ group_text e
 with_group_text nothing e h = cc
 with_group_text (variable before f k absent) e h = regrouped (items_text before) f (key_text k) (group_text e)
@@ -62,6 +61,7 @@ with_group_text (element before f n i j c absent) e h =
     regrouped a b c d e f g h i j k = simp append_assoc
 with_group_text (element before f n i j c (braced k ks l)) e h = cc
 
+-- such items are well formed
 with_group_items : (xs : Items) (e : Group) → IsTrue (may_group xs) → IsGroup e → AreItems xs → AreItems (with_group xs e)
 with_group_items nothing e h k is = is
 with_group_items (variable before f j absent) e h k is = (is.0, is.1, is.2, k)
@@ -70,6 +70,7 @@ with_group_items (literal before f ps) e h k is = is
 with_group_items (element before f n i j c absent) e h k is = (is.0, is.1, is.2, is.3, is.4, is.5, k)
 with_group_items (element before f n i j c (braced l ks m)) e h k is = cc
 
+-- so is such a template
 with_group_top : (xs : Items) (e : Group) → IsTrue (may_group xs) → IsGroup e → IsTop xs → IsTop (with_group xs e)
 with_group_top nothing e h k is = is
 with_group_top (variable before f j i) e h k is = absurd is
@@ -77,30 +78,36 @@ with_group_top (literal before f ps) e h k is = absurd is
 with_group_top (element before f n i j c absent) e h k is = (is.0, is.1, is.2, is.3, is.4, is.5, k)
 with_group_top (element before f n i j c (braced l ks m)) e h k is = cc
 
+-- and such a level
 with_group_level : (o : List Frame) (xs : Items) (e : Group) → IsTrue (may_group xs) → IsGroup e → Level o xs → Level o (with_group xs e)
 with_group_level [] xs e h k is = with_group_top xs e h k is
 with_group_level (f ∷ o) xs e h k is = (with_group_items xs e h k is.0, is.1, is.2, is.3)
 
+-- some keys are keys
 has_keys_of : (ks : Keys) → IsTrue (not (is_none ks)) → HasKeys ks
 has_keys_of none h = cc
 has_keys_of (first g k) h = tt
 has_keys_of (more ks g e k) h = tt
 
+-- a key may come first where there is none
 place_first : (ks : Keys) → IsTrue (is_none ks) → IsPlace ks at_first
 place_first none h = tt
 place_first (first g k) h = cc
 place_first (more ks g e k) h = cc
 
+-- and behind a comma where there is one
 place_more : (ks : Keys) (h : List ℕ) → HasKeys ks → IsBlanks h → IsPlace ks (at_more h)
 place_more none h k b = absurd k
 place_more (first g j) h k b = b
 place_more (more ks g e j) h k b = b
 
+-- the text of a first key
 first_text : (ks : Keys) (g : List ℕ) (k : Key) → IsTrue (is_none ks) → g ++ key_text k ≡ keys_text ks ++ (g ++ key_text k)
 first_text none g k h = refl
 first_text (first e j) g k h = cc
 first_text (more ks f e j) g k h = cc
 
+-- the text of one more key
 push_text : (ks : Keys) (p : Place) (g : List ℕ) (k : Key) → IsPlace ks p → keys_text (push_key ks p g k) ≡ keys_text ks ++ (place_text p ++ (g ++ key_text k))
 push_text none at_first g k h = refl
 push_text (first e j) at_first g k h = absurd h
@@ -109,6 +116,7 @@ push_text none (at_more i) g k h = absurd h
 push_text (first e j) (at_more i) g k h = ap (λ r. keys_text (first e j) ++ r) (sym (append_assoc i (44 ∷ []) (g ++ key_text k)))
 push_text (more ks f e j) (at_more i) g k h = ap (λ r. keys_text (more ks f e j) ++ r) (sym (append_assoc i (44 ∷ []) (g ++ key_text k)))
 
+-- such keys are well formed
 push_is : (ks : Keys) (p : Place) (g : List ℕ) (k : Key) → AreKeys ks → IsPlace ks p → IsBlanks g → IsKey k → AreKeys (push_key ks p g k)
 push_is none at_first g k a h b i = (b, i)
 push_is (first e j) at_first g k a h b i = absurd h
@@ -117,6 +125,7 @@ push_is none (at_more l) g k a h b i = absurd h
 push_is (first e j) (at_more l) g k a h b i = (tt, a, h, b, i)
 push_is (more ks f e j) (at_more l) g k a h b i = (tt, a, h, b, i)
 
+-- the text of one more condition
 conds_push : (b : Before) (g : List ℕ) (c : Cond) → conds_text (push_cond b g c) ≡ before_text b ++ (g ++ cond_text c)
 conds_push first_cond g c = refl
 conds_push (also_cond cs h) g c = regrouped (conds_text cs) h (65 ∷ 78 ∷ 68 ∷ []) (g ++ cond_text c)
@@ -124,14 +133,17 @@ conds_push (also_cond cs h) g c = regrouped (conds_text cs) h (65 ∷ 78 ∷ 68 
     regrouped : (a b c d : List ℕ) → a ++ (b ++ (c ++ d)) ≡ (a ++ (b ++ c)) ++ d
     regrouped a b c d = simp append_assoc
 
+-- such conditions are well formed
 conds_are : (b : Before) (g : List ℕ) (c : Cond) → IsBefore b → IsGap g → IsCond c → AreConds (push_cond b g c)
 conds_are first_cond g c h k i = (k, i)
 conds_are (also_cond cs h') g c h k i = (h.0, h.1, k, i)
 
+-- the text of a condition with a path
 cond_of_text : (s : Start) (g : List ℕ) (p : paths.Spelled) (h v : List ℕ) → cond_text (cond_of s g p h v) ≡ start_text s ++ (g ++ (paths.text_of p ++ (h ++ 36 ∷ v)))
 cond_of_text (by_name n) g p h v = refl
 cond_of_text (by_var u) g p h v = refl
 
+-- such a condition is well formed
 cond_of_is : (s : Start) (g : List ℕ) (p : paths.Spelled) (h v : List ℕ) → IsStart s → IsGap g → paths.Is p paths.a_path → IsGap h → IsVar v → IsCond (cond_of s g p h v)
 cond_of_is (by_name n) g p h v a b c d e = (a, b, c, d, e)
 cond_of_is (by_var u) g p h v a b c d e = (a, b, c, d, e)
@@ -140,52 +152,68 @@ cond_of_is (by_var u) g p h v a b c d e = (a, b, c, d, e)
 behind_base : (lead c o x g t : List ℕ) → lead ++ (c ++ (o ++ (x ++ (g ++ t)))) ≡ (lead ++ (c ++ (o ++ x))) ++ (g ++ t)
 behind_base lead c o x g t = simp append_assoc
 
+-- a text with an opening tag behind it, part by part
 open_text : (lead c o x g t : List ℕ) → lead ++ (c ++ ((o ++ (x ++ (g ++ t))) ++ [])) ≡ (lead ++ (c ++ (o ++ x))) ++ (g ++ t)
 open_text lead c o x g t = simp (append_assoc, append_nil)
 
+-- a text with a closing tag behind it, part by part
 close_text : (lead c o b e p n q x g t : List ℕ) → lead ++ (c ++ (o ++ (b ++ (e ++ (p ++ (n ++ (q ++ (x ++ (g ++ t))))))))) ≡ (lead ++ (c ++ ((o ++ (b ++ (e ++ (p ++ (n ++ q))))) ++ x))) ++ (g ++ t)
 close_text lead c o b e p n q x g t = simp append_assoc
 
+-- a text with a variable behind it, part by part
 var_text : (lead c o x g t : List ℕ) → lead ++ (c ++ (o ++ (x ++ (g ++ (t ++ []))))) ≡ (lead ++ (c ++ (o ++ x))) ++ (g ++ t)
 var_text lead c o x g t = simp (append_assoc, append_nil)
 
+-- a text with WHERE behind it, part by part
 where_behind : (lead c x g w : List ℕ) → (lead ++ (c ++ (x ++ (g ++ w)))) ++ [] ≡ (lead ++ (c ++ x)) ++ (g ++ w)
 where_behind lead c x g w = simp (append_assoc, append_nil)
 
+-- a text with `label` and a variable behind it, part by part
 label_behind : (lead c o x h l g t : List ℕ) → lead ++ (c ++ (o ++ (x ++ (h ++ ((l ++ (g ++ t)) ++ []))))) ≡ ((lead ++ (c ++ (o ++ x))) ++ (h ++ l)) ++ (g ++ t)
 label_behind lead c o x h l g t = simp (append_assoc, append_nil)
 
+-- a text inside a group label, part by part
 key_behind : (base h p k g t : List ℕ) → base ++ (h ++ (p ++ (k ++ (g ++ t)))) ≡ (base ++ (h ++ (p ++ k))) ++ (g ++ t)
 key_behind base h p k g t = simp append_assoc
 
+-- a text behind a group label, part by part
 brace_behind : (lead c o x h p k g t : List ℕ) → lead ++ (c ++ (o ++ (x ++ (h ++ (p ++ (k ++ (g ++ t))))))) ≡ ((lead ++ (c ++ (o ++ x))) ++ (h ++ (p ++ k))) ++ (g ++ t)
 brace_behind lead c o x h p k g t = simp append_assoc
 
+-- a text with a key behind a comma, part by part
 more_behind : (base h p k e m g t : List ℕ) → base ++ (h ++ (p ++ (k ++ (e ++ (m ++ (g ++ t)))))) ≡ (base ++ (h ++ (p ++ (k ++ (e ++ m))))) ++ (g ++ t)
 more_behind base h p k e m g t = simp append_assoc
 
+-- a text with `label` behind a comma, part by part
 comma_label : (base h p k e m g t : List ℕ) → base ++ (h ++ (p ++ (k ++ ((e ++ m) ++ (g ++ t))))) ≡ (base ++ (h ++ (p ++ (k ++ (e ++ m))))) ++ (g ++ t)
 comma_label base h p k e m g t = simp append_assoc
 
+-- a text with a variable behind `label` in a group label, part by part
 place_behind : (base h p k e m l g t : List ℕ) → base ++ (h ++ (p ++ (k ++ (e ++ (m ++ (l ++ (g ++ t))))))) ≡ (base ++ (h ++ (p ++ (k ++ (e ++ (m ++ l)))))) ++ (g ++ t)
 place_behind base h p k e m l g t = simp append_assoc
 
+-- two parts before a token
 two_behind : (a b g t : List ℕ) → a ++ (b ++ (g ++ t)) ≡ (a ++ b) ++ (g ++ t)
 two_behind a b g t = simp append_assoc
 
+-- four parts before a token
 four_behind : (a b h s g t : List ℕ) → a ++ (b ++ (h ++ (s ++ (g ++ t)))) ≡ (a ++ (b ++ (h ++ s))) ++ (g ++ t)
 four_behind a b h s g t = simp append_assoc
 
+-- six parts before a token
 six_behind : (a b h s e p g t : List ℕ) → a ++ (b ++ (h ++ (s ++ (e ++ (p ++ (g ++ t)))))) ≡ (a ++ (b ++ (h ++ (s ++ (e ++ p))))) ++ (g ++ t)
 six_behind a b h s e p g t = simp append_assoc
 
+-- the token may come
 abbrev Taken : Spot → List ℕ → Token → Type 0
 Taken s g t = IsTrue (takes s g (kind_of t))
 
+-- before CONSTRUCT
 beginning_shifts : (g : List ℕ) (t : Token) → IsBlanks g → IsToken t → Taken beginning g t → Shifts beginning g t
 beginning_shifts g (fixed mark.Construct) b i h = record { is = (b, tt); text = refl }
 beginning_shifts g t b i h = cc
 
+-- before the template and behind it
 outer_shifts : (lead : List ℕ) (xs : Items) (g : List ℕ) (t : Token) → IsSpot (items lead [] xs) → IsBlanks g → IsToken t → Taken (items lead [] xs) g t → Shifts (items lead [] xs) g t
 outer_shifts lead xs g (open_tag l) s b i h =
     let parts = and_parts (is_nothing xs) (has_blank g) h in record {
@@ -200,10 +228,12 @@ outer_shifts lead xs g (fixed mark.Where) s b i h =
     }
 outer_shifts lead xs g t s b i h = cc
 
+-- the spot behind a closing tag
 closed_is : (lead : List ℕ) (f : Frame) (o : List Frame) (xs : Items) (g l : List ℕ) → IsBlanks lead → Level (f ∷ o) xs → IsBlanks g → IsName l → IsSpot (items lead o (element f.before f.gap f.name xs g l absent))
 closed_is lead f [] xs g l a s b i = (a, (s.2.0, s.2.1, s.1, s.0, b, i, tt))
 closed_is lead f (e ∷ o) xs g l a s b i = (a, ((s.3.0, s.2, s.1, s.0, b, i, tt), s.3.1, s.3.2, s.3.3))
 
+-- inside an element
 inner_shifts : (lead : List ℕ) (f : Frame) (o : List Frame) (xs : Items) (g : List ℕ) (t : Token) → IsSpot (items lead (f ∷ o) xs) → IsBlanks g → IsToken t → Taken (items lead (f ∷ o) xs) g t
     → Shifts (items lead (f ∷ o) xs) g t
 inner_shifts lead f o xs g (open_tag l) s b i h = record {
@@ -227,10 +257,12 @@ inner_shifts lead f o xs g (fixed mark.LabelWord) s b i h = record { is = (s.0, 
 inner_shifts lead f o xs g (fixed mark.OpenBrace) s b i h = record { is = (s.0, s.1, h, b, tt); text = refl }
 inner_shifts lead f o xs g t s b i h = cc
 
+-- the spot behind `label` and a variable
 labelled_is : (lead : List ℕ) (o : List Frame) (xs : Items) (e g v : List ℕ) → IsSpot (labelled lead o xs e) → IsGap g → IsVar v → IsSpot (items lead o (variable xs e (label g v) absent))
 labelled_is lead [] xs e g v s b i = absurd s.2
 labelled_is lead (f ∷ o) xs e g v s b i = (s.0, ((s.1.0, s.3, (b, i), tt), s.1.1, s.1.2, s.1.3))
 
+-- behind `label` as an item
 labelled_shifts : (lead : List ℕ) (o : List Frame) (xs : Items) (e g : List ℕ) (t : Token) → IsSpot (labelled lead o xs e) → IsBlanks g → IsToken t → Taken (labelled lead o xs e) g t
     → Shifts (labelled lead o xs e) g t
 labelled_shifts lead o xs e g (var v) s b i h = record {
@@ -239,6 +271,7 @@ labelled_shifts lead o xs e g (var v) s b i h = record {
 }
 labelled_shifts lead o xs e g t s b i h = cc
 
+-- inside a group label
 keys_shifts : (lead : List ℕ) (o : List Frame) (xs : Items) (e : List ℕ) (ks : Keys) (g : List ℕ) (t : Token) → IsSpot (keys lead o xs e ks) → IsBlanks g → IsToken t → Taken (keys lead o xs e ks) g t
     → Shifts (keys lead o xs e ks) g t
 keys_shifts lead o xs e ks g (var v) s b i h = record {
@@ -263,6 +296,7 @@ keys_shifts lead o xs e ks g (fixed mark.CloseBrace) s b i h = record {
 }
 keys_shifts lead o xs e ks g t s b i h = cc
 
+-- behind a comma
 comma_shifts : (lead : List ℕ) (o : List Frame) (xs : Items) (e : List ℕ) (ks : Keys) (f g : List ℕ) (t : Token) → IsSpot (key_comma lead o xs e ks f) → IsBlanks g → IsToken t
     → Taken (key_comma lead o xs e ks f) g t → Shifts (key_comma lead o xs e ks f) g t
 comma_shifts lead o xs e ks f g (var v) s b i h = record {
@@ -275,6 +309,7 @@ comma_shifts lead o xs e ks f g (fixed mark.LabelWord) s b i h = record {
 }
 comma_shifts lead o xs e ks f g t s b i h = cc
 
+-- behind `label` as a key
 key_label_shifts : (lead : List ℕ) (o : List Frame) (xs : Items) (e : List ℕ) (ks : Keys) (p : Place) (f g : List ℕ) (t : Token) → IsSpot (key_label lead o xs e ks p f) → IsBlanks g → IsToken t
     → Taken (key_label lead o xs e ks p f) g t → Shifts (key_label lead o xs e ks p f) g t
 key_label_shifts lead o xs e ks p f g (var v) s b i h = record {
@@ -285,11 +320,13 @@ key_label_shifts lead o xs e ks p f g (var v) s b i h = record {
 }
 key_label_shifts lead o xs e ks p f g t s b i h = cc
 
+-- where a condition begins
 start_shifts : (r : Head) (c : Before) (g : List ℕ) (t : Token) → IsSpot (cond_start r c) → IsBlanks g → IsToken t → Taken (cond_start r c) g t → Shifts (cond_start r c) g t
 start_shifts r c g (word n) s b i h = record { is = (s.0, s.1, gap_of g b h, i); text = two_behind (head_text r) (before_text c) g n }
 start_shifts r c g (var v) s b i h = record { is = (s.0, s.1, gap_of g b h, i); text = two_behind (head_text r) (before_text c) g (token_text (var v)) }
 start_shifts r c g t s b i h = cc
 
+-- behind its first word
 from_shifts : (r : Head) (c : Before) (e : List ℕ) (a : Start) (g : List ℕ) (t : Token) → IsSpot (cond_from r c e a) → IsBlanks g → IsToken t → Taken (cond_from r c e a) g t → Shifts (cond_from r c e a) g t
 from_shifts r c e a g (path p) s b i h = record {
   is = (s.0, s.1, s.2, s.3, gap_of g b h, i);
@@ -298,6 +335,7 @@ from_shifts r c e a g (path p) s b i h = record {
 from_shifts r c e (by_var v) g (comparison o) s b i h = record { is = (s.0, s.1, s.2, s.3, b); text = four_behind (head_text r) (before_text c) e (36 ∷ v) g (op_text o) }
 from_shifts r c e a g t s b i h = cc
 
+-- an operand
 operand_shifts : (r : Head) (c : Before) (e v f : List ℕ) (o : TestOp) (g : List ℕ) (a : Operand) → IsSpot (compared r c e v f o) → IsBlanks g → IsOperand a
     → IsSpot (cond_done r (push_cond c e (compare v f o g a))) × (spot_text (cond_done r (push_cond c e (compare v f o g a))) ≡ spot_text (compared r c e v f o) ++ (g ++ operand_text a))
 operand_shifts r c e v f o g a s b i = (
@@ -305,11 +343,13 @@ operand_shifts r c e v f o g a s b i = (
   ap (λ x. head_text r ++ x) (conds_push c e (compare v f o g a)) ∙ six_behind (head_text r) (before_text c) e (36 ∷ v) f (op_text o) g (operand_text a),
 )
 
+-- behind an operator
 compared_shifts : (r : Head) (c : Before) (e v f : List ℕ) (o : TestOp) (g : List ℕ) (t : Token) → IsSpot (compared r c e v f o) → IsBlanks g → IsToken t → Taken (compared r c e v f o) g t → Shifts (compared r c e v f o) g t
 compared_shifts r c e v f o g (var u) s b i h = let k = operand_shifts r c e v f o g (a_variable u) s b i in record { is = k.0; text = k.1 }
 compared_shifts r c e v f o g (quoted ps) s b i h = let k = operand_shifts r c e v f o g (a_text ps) s b i in record { is = k.0; text = k.1 }
 compared_shifts r c e v f o g t s b i h = cc
 
+-- behind a path
 path_shifts : (r : Head) (c : Before) (e : List ℕ) (a : Start) (f : List ℕ) (p : paths.Spelled) (g : List ℕ) (t : Token) → IsSpot (cond_path r c e a f p) → IsBlanks g → IsToken t
     → Taken (cond_path r c e a f p) g t → Shifts (cond_path r c e a f p) g t
 path_shifts r c e a f p g (var v) s b i h = record {
@@ -320,32 +360,40 @@ path_shifts r c e a f p g (var v) s b i h = record {
 }
 path_shifts r c e a f p g t s b i h = cc
 
+-- behind a condition
 done_shifts : (r : Head) (cs : Conds) (g : List ℕ) (t : Token) → IsSpot (cond_done r cs) → IsBlanks g → IsToken t → Taken (cond_done r cs) g t → Shifts (cond_done r cs) g t
 done_shifts r cs g (fixed mark.And) s b i h = record { is = (s.0, (s.1, gap_of g b h)); text = two_behind (head_text r) (conds_text cs) g (65 ∷ 78 ∷ 68 ∷ []) }
 done_shifts r cs g (fixed mark.Order) s b i h = record { is = (s.0, s.1, gap_of g b h); text = two_behind (head_text r) (conds_text cs) g (79 ∷ 82 ∷ 68 ∷ 69 ∷ 82 ∷ []) }
 done_shifts r cs g t s b i h = cc
 
+-- a text with BY behind it, part by part
 order_behind : (a b c d g t : List ℕ) → a ++ (b ++ (c ++ (d ++ (g ++ t)))) ≡ (a ++ (b ++ (c ++ d))) ++ (g ++ t)
 order_behind a b c d g t = simp append_assoc
 
+-- a text with the variable that orders behind it, part by part
 by_behind : (a b c d e f g t : List ℕ) → a ++ (b ++ (c ++ (d ++ (e ++ (f ++ (g ++ t)))))) ≡ (a ++ (b ++ (c ++ (d ++ (e ++ f))))) ++ (g ++ t)
 by_behind a b c d e f g t = simp append_assoc
 
+-- a text with DESC behind it, part by part
 sorted_behind : (a b o g t : List ℕ) → a ++ (b ++ (o ++ (g ++ t))) ≡ (a ++ (b ++ o)) ++ (g ++ t)
 sorted_behind a b o g t = simp append_assoc
 
+-- behind ORDER
 ordering_shifts : (r : Head) (cs : Conds) (e g : List ℕ) (t : Token) → IsSpot (ordering r cs e) → IsBlanks g → IsToken t → Taken (ordering r cs e) g t → Shifts (ordering r cs e) g t
 ordering_shifts r cs e g (fixed mark.By) s b i h = record { is = (s.0, s.1, s.2, gap_of g b h); text = order_behind (head_text r) (conds_text cs) e (79 ∷ 82 ∷ 68 ∷ 69 ∷ 82 ∷ []) g (66 ∷ 89 ∷ []) }
 ordering_shifts r cs e g t s b i h = cc
 
+-- behind BY
 by_shifts : (r : Head) (cs : Conds) (e f g : List ℕ) (t : Token) → IsSpot (ordering_by r cs e f) → IsBlanks g → IsToken t → Taken (ordering_by r cs e f) g t → Shifts (ordering_by r cs e f) g t
 by_shifts r cs e f g (var v) s b i h = record { is = (s.0, s.1, (s.2, s.3, gap_of g b h, i)); text = by_behind (head_text r) (conds_text cs) e (79 ∷ 82 ∷ 68 ∷ 69 ∷ 82 ∷ []) f (66 ∷ 89 ∷ []) g (token_text (var v)) }
 by_shifts r cs e f g t s b i h = cc
 
+-- behind the variable that orders
 sorted_shifts : (r : Head) (cs : Conds) (o : Order) (g : List ℕ) (t : Token) → IsSpot (sorted r cs o) → IsBlanks g → IsToken t → Taken (sorted r cs o) g t → Shifts (sorted r cs o) g t
 sorted_shifts r cs (ordered e f j v) g (fixed mark.Desc) s b i h = record { is = (s.0, s.1, (s.2.0, s.2.1, s.2.2, s.2.3, gap_of g b h)); text = sorted_behind (head_text r) (conds_text cs) (ordered_text e f j v) g (68 ∷ 69 ∷ 83 ∷ 67 ∷ []) }
 sorted_shifts r cs o g t s b i h = cc
 
+-- each token that may come
 pub shifts : (s : Spot) (g : List ℕ) (t : Token) → IsSpot s → IsBlanks g → IsToken t → IsTrue (takes s g (kind_of t)) → Shifts s g t
 shifts beginning g t s b i h = beginning_shifts g t b i h
 shifts (items lead [] xs) g t s b i h = outer_shifts lead xs g t s b i h

@@ -1,16 +1,12 @@
 -- What the machine has read is what its state writes.
-use Rattle.std.proofs.Common.{◌≡◌, ◌∙◌, ◌<◌, ◌==◌, ℕ, Bool, true, false, cond, ◌&&◌, ◌||◌, IsTrue, List, [], ◌∷◌, ◌++◌, Option, Some, None, option_and_then, refl, sym, ap, subst, append_assoc, arith, length}
-use Rattle.std.specs.List.{list_all}
-use Rattle.mix_base.proofs.Choices.{and_parts, and_both, list_all-push, some_is, none_some, Gives, either, number_is}
-use Rattle.mix_base.proofs.Lists.{append_nil}
-use Rattle.mix_tree.specs.LabelGrammar.{Piece, plain, escape, is_escape, is_plain, is_piece, ArePieces, inside_quotes}
+use Rattle.std.proofs.Common.{◌≡◌, ◌∙◌, ◌==◌, ℕ, Bool, true, ◌&&◌, ◌||◌, IsTrue, List, [], ◌∷◌, ◌++◌, Option, Some, None, refl, sym, ap, subst, append_assoc, arith}
+use Rattle.mix_base.proofs.Choices.{and_parts, and_both, list_all-push, Gives, either, number_is}
+use Rattle.mix_tree.specs.LabelGrammar.{plain, escape, is_escape, is_piece, inside_quotes}
 use Rattle.mix_tree.specs.Names.{is_name_byte, IsName}
-use Rattle.xmas_text.specs.Grammar.{quoted_text, op_text, Rule, IsRule, rule_text, Writes, items_text, conds_text, construct_text, where_text}
-use Rattle.xmas_text.specs.Lexer.{Lex, between, marking, angle, opening, slash, closing, naming, dollar, varying, quoting, escaping, pathing, ready, comparing, on_mark, map_path, lex_step, as_path, as_mark, token_in, begin_mark, begin}
-use Rattle.xmas_text.specs.Lexical.{is_blank, is_letter, is_word_byte, IsBlanks, IsGap, IsVar}
-use Rattle.xmas_text.specs.Machine.{State, at, with_lex, next, behind, or_behind, step_in, step, run, rule_at, rule_behind, whole_in, whole, start, read_of}
-use Rattle.xmas_text.specs.Spots.{Frame, Head, Spot, beginning, items, labelled, keys, key_comma, key_label, cond_start, cond_from, cond_path, cond_done, takes, shift}
-use Rattle.xmas_text.specs.Tokens.{Token, fixed, open_tag, close_tag, word, var, quoted, path, comparison, kind_of, mark_first, mark_rest, sign_byte, with_equal, token_text}
+use Rattle.xmas_text.specs.Grammar.{op_text}
+use Rattle.xmas_text.specs.Lexer.{Lex, between, marking, angle, opening, slash, closing, naming, dollar, varying, quoting, escaping, pathing, ready, comparing, on_mark, map_path, lex_step, begin_mark, begin}
+use Rattle.xmas_text.specs.Lexical.{is_letter, is_word_byte, IsVar}
+use Rattle.xmas_text.specs.Tokens.{open_tag, close_tag, quoted, comparison, mark_first, mark_rest, sign_byte, with_equal}
 use Rattle.xmas_text.specs.declared.token.Kind.{Kind}
 use Rattle.xmas_text.specs.declared.token.Mark.{Mark}
 use Rattle.xmas_text.specs.declared.token.Sign.{Sign}
@@ -18,12 +14,9 @@ use Rattle.mix_tree.specs.declared.comparing.TestOp.TheVariants as op
 use Rattle.xmas_text.specs.declared.token.Mark.TheVariants as mark
 use Rattle.xmas_text.specs.declared.token.Sign.TheVariants as sign
 use Rattle.xmas_text.specs.declared.token.Kind.TheVariants as kind
-use Rattle.path_expr.specs.Grammar as paths
 use Rattle.path_expr.specs.Machine as pathing_
 use Rattle.path_expr.proofs.Sound as path_sound
-use Rattle.xmas_text.proofs.Texts.{head_text, spot_text, IsSpot, lex_text, IsLex, Offered}
-use Rattle.xmas_text.specs.Tokens.{IsToken}
-use Rattle.xmas_text.proofs.Shifts.{shifts}
+use Rattle.xmas_text.proofs.Texts.{lex_text, IsLex, Offered}
 
 -- a token goes on by a byte
 pub record Goes (may : Kind → Bool) (x : List ℕ) (k : Lex) : Type 0 where
@@ -31,33 +24,41 @@ pub record Goes (may : Kind → Bool) (x : List ℕ) (k : Lex) : Type 0 where
   pub offered : Offered may k
   pub text : lex_text k ≡ x
 
+-- a token that goes on so
 goes : (may : Kind → Bool) (x : List ℕ) (k : Lex) → IsLex k → Offered may k → lex_text k ≡ x → Goes may x k
 goes may x k h o e = record { is = h; offered = o; text = e }
 
+-- one byte more of a token that is always the same
 mark_goes : (may : Kind → Bool) (m : Mark) (done rest : List ℕ) (b : ℕ) → IsLex (marking m done rest) → Offered may (marking m done rest) → Gives (Goes may (done ++ b ∷ [])) (on_mark m done rest b)
 mark_goes may m done [] b h o = tt
 mark_goes may m done (c ∷ rest) b h o =
     either _ (b == c) _ _ (λ e. goes may (done ++ b ∷ []) (marking m (done ++ c ∷ []) rest) (append_assoc done (c ∷ []) rest ∙ h) o (ap (λ d. done ++ d ∷ []) (number_is b c e))) (λ n. tt)
 
+-- one byte more of a variable
 var_push : (l : List ℕ) (b : ℕ) → IsVar l → IsTrue (is_word_byte b) → IsVar (l ++ b ∷ [])
 var_push [] b h k = absurd h
 var_push (c ∷ l) b h k = (h.0, list_all-push is_word_byte l b h.1 k)
 
+-- one byte more of a name
 name_push : (l : List ℕ) (b : ℕ) → IsName l → IsTrue (is_name_byte b) → IsName (l ++ b ∷ [])
 name_push l b h k = (list_all-push is_name_byte l b h.0 k, path_sound.longer l b)
 
+-- a name of one byte
 name_one : (b : ℕ) → IsTrue (is_name_byte b) → IsName (b ∷ [])
 name_one b h = (and_both (is_name_byte b) true h refl, omega arith)
 
+-- one byte more of a path
 path_goes_at : (may : Kind → Bool) (x : List ℕ) (o : Option pathing_.State) → Gives (path_sound.StandsAt x) o → IsTrue (may kind.Path) → Gives (Goes may x) (map_path o)
 path_goes_at may x None h k = tt
 path_goes_at may x (Some t) h k = record { is = subst (λ y. path_sound.StandsAt y t) (sym h.text) h; offered = k; text = h.text }
 
+-- the text of an operator of two bytes
 sign_text : (k : Sign) (b : ℕ) → 61 ≡ b → op_text (with_equal k) ≡ sign_byte k ∷ b ∷ []
 sign_text sign.Bang b e = ap (λ c. 33 ∷ c ∷ []) e
 sign_text sign.Less b e = ap (λ c. 60 ∷ c ∷ []) e
 sign_text sign.Greater b e = ap (λ c. 62 ∷ c ∷ []) e
 
+-- one byte more of each token
 pub lex_goes : (may : Kind → Bool) (l : Lex) (b : ℕ) → IsLex l → Offered may l → Gives (Goes may (lex_text l ++ b ∷ [])) (lex_step l b)
 lex_goes may between b h o = tt
 lex_goes may (marking m done rest) b h o = mark_goes may m done rest b h o
@@ -87,12 +88,14 @@ lex_goes may (pathing s) b h o = path_goes_at may (lex_text (pathing s) ++ b ∷
 lex_goes may (ready t) b h o = tt
 lex_goes may (comparing k) b h o = either _ (b == 61) _ _ (λ e. goes may (sign_byte k ∷ b ∷ []) (ready (comparison (with_equal k))) tt o (sign_text k b (number_is b 61 e))) (λ m. tt)
 
+-- the first byte of a token that is always the same
 begin_mark_goes : (may : Kind → Bool) (m : Mark) (b : ℕ) (other : Option Lex) → Gives (Goes may (b ∷ [])) other → Gives (Goes may (b ∷ [])) (begin_mark m may b other)
 begin_mark_goes may m b other h =
     either _ (b == mark_first m && may (kind.Fixed m)) _ _
     (λ e. let parts = and_parts (b == mark_first m) (may (kind.Fixed m)) e in goes may (b ∷ []) (marking m (mark_first m ∷ []) (mark_rest m)) refl parts.1 (ap (λ d. d ∷ []) (number_is b (mark_first m) parts.0)))
     (λ n. h)
 
+-- the first byte of each token
 pub begin_goes : (may : Kind → Bool) (b : ℕ) → Gives (Goes may (b ∷ [])) (begin may b)
 begin_goes may b =
     begin_mark_goes may mark.Construct b _ (begin_mark_goes may mark.Where b _ (begin_mark_goes may mark.And b _ (begin_mark_goes may mark.Order b _ (begin_mark_goes may mark.By b _ (begin_mark_goes may mark.Desc b _ (begin_mark_goes may mark.LabelWord b _ (begin_mark_goes may mark.OpenBrace b _ (begin_mark_goes may mark.CloseBrace b _ (begin_mark_goes may mark.Comma b _

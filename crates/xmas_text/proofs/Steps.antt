@@ -1,9 +1,7 @@
 -- A scan goes as the machine does.
-use Rattle.std.proofs.Common.{◌≡◌, ◌∙◌, ◌+◌, ◌<◌, ℕ, suc, Bool, true, false, cond, IsTrue, List, [], ◌∷◌, ◌++◌, Option, Some, None, option_map, option_and_then, refl, sym, ap, arith, length, nat_lt}
+use Rattle.std.proofs.Common.{◌≡◌, ◌∙◌, ℕ, suc, Bool, true, false, cond, List, [], ◌∷◌, ◌++◌, Option, Some, None, option_map, option_and_then, refl, sym, ap, arith, length, nat_lt}
 use Rattle.std.proofs.lemmas.Bool.Decides.{nat_tests}
-use Rattle.mix_base.proofs.Choices.{Gives, some_is, none_some}
-use Rattle.xmas_text.specs.declared.token.Kind.{Kind}
-use Rattle.xmas_text.specs.declared.lexer.Part.{Part}
+use Rattle.mix_base.proofs.Choices.{some_is, none_some}
 use Rattle.xmas_text.specs.declared.stage.Stage.{Stage}
 use Rattle.xmas_text.specs.declared.scan.Scan.{Scan}
 use Rattle.xmas_text.specs.Lexical.{is_blank}
@@ -11,12 +9,10 @@ use Rattle.xmas_text.specs.Tokens.{Token, kind_of}
 use Rattle.xmas_text.specs.Stages.{may_come}
 use Rattle.xmas_text.specs.Spots.{Frame, Spot, has_blank, is_inside, stage_of, frames_of, takes, shift}
 use Rattle.xmas_text.specs.Lexer.{Lex, between, marking, angle, opening, slash, closing, naming, dollar, varying, quoting, escaping, pathing, ready, comparing, lex_step, token_in, begin}
-use Rattle.xmas_text.specs.Machine.{State, at, with_lex, next, behind, or_behind, step_in, step, run, start}
-use Rattle.xmas_text.specs.Parts.{part_of, part_step, kind_in, first_part}
-use Rattle.xmas_text.specs.Scans.{levels_at, scan_of, may_now, scan_behind, with_part, between_step, settled_by, settled, begun, or_begun, scan_step}
-use Rattle.xmas_text.proofs.Texts.{lex_text, IsLex}
-use Rattle.xmas_text.proofs.Runs.{Stands, Ended, token_ended, run_stands, start_stands}
-use Rattle.xmas_text.proofs.Lexes.{run_append}
+use Rattle.xmas_text.specs.Machine.{State, at, with_lex, next, behind, or_behind, step_in}
+use Rattle.xmas_text.specs.Parts.{part_of, kind_in, first_part}
+use Rattle.xmas_text.specs.Scans.{levels_at, scan_of, scan_behind, with_part, between_step, settled, begun, or_begun, scan_step}
+use Rattle.xmas_text.proofs.Runs.{Stands, token_ended}
 use Rattle.xmas_text.proofs.Moves.{Moves, moves, may_group_of}
 use Rattle.xmas_text.proofs.Parts.{step_part, kind_part, begin_part}
 

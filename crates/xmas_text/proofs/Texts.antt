@@ -1,54 +1,54 @@
 -- What a spot and a token write.
-use Rattle.std.proofs.Common.{◌≡◌, ◌∙◌, ℕ, Bool, true, false, ◌||◌, IsTrue, List, [], ◌∷◌, ◌++◌, refl, sym, ap, append_assoc}
-use Rattle.mix_base.proofs.Choices.{and_parts, and_both, list_all-push, some_is, none_some, Gives, either, number_is}
-use Rattle.mix_base.proofs.Lists.{append_nil}
-use Rattle.mix_tree.specs.LabelGrammar.{Piece, ArePieces, inside_quotes}
+use Rattle.std.proofs.Common.{◌≡◌, ℕ, Bool, ◌||◌, IsTrue, List, [], ◌∷◌, ◌++◌}
+use Rattle.mix_tree.specs.LabelGrammar.{ArePieces, inside_quotes}
 use Rattle.mix_tree.specs.Names.{IsName}
-use Rattle.xmas_text.specs.Grammar.{quoted_text, Key, node, label, Keys, none, first, more, Group, absent, braced, Items, nothing, variable, literal, element, key_text, keys_text, group_text, items_text, IsKey, HasKeys, AreKeys, IsGroup, IsItemGap, AreItems, Operand, a_variable, a_text, op_text, operand_text, IsOperand, Cond, source, walk, compare, Conds, one, also, Order, unordered, ordered, descending, ordered_text, order_text, IsOrder, cond_text, conds_text, IsCond, AreConds, IsNothing, IsTemplate, construct_text, where_text}
+use Rattle.xmas_text.specs.Grammar.{Keys, none, first, more, Items, nothing, variable, literal, element, keys_text, items_text, HasKeys, AreKeys, IsItemGap, AreItems, op_text, order_text, IsOrder, conds_text, AreConds, IsNothing, IsTemplate, construct_text, where_text}
 use Rattle.xmas_text.specs.Lexer.{Lex, between, marking, angle, opening, slash, closing, naming, dollar, varying, quoting, escaping, pathing, ready, comparing}
 use Rattle.xmas_text.specs.Lexical.{IsBlanks, IsGap, IsVar}
 use Rattle.xmas_text.specs.Spots.{Frame, Head, Place, at_first, at_more, Before, first_cond, also_cond, Start, by_name, by_var, Spot, beginning, items, labelled, keys, key_comma, key_label, cond_start, cond_from, cond_path, cond_done, compared, ordering, ordering_by, sorted, may_group}
-use Rattle.xmas_text.specs.Tokens.{Token, fixed, open_tag, close_tag, word, var, quoted, path, comparison, kind_of, mark_first, mark_rest, sign_byte, token_text, IsToken}
-use Rattle.mix_tree.specs.declared.comparing.TestOp.{TestOp}
+use Rattle.xmas_text.specs.Tokens.{kind_of, mark_first, mark_rest, sign_byte, token_text, IsToken}
 use Rattle.xmas_text.specs.declared.token.Kind.{Kind}
-use Rattle.xmas_text.specs.declared.token.Mark.{Mark}
-use Rattle.xmas_text.specs.declared.token.Sign.{Sign}
-use Rattle.mix_tree.specs.declared.comparing.TestOp.TheVariants as op
-use Rattle.xmas_text.specs.declared.token.Mark.TheVariants as mark
-use Rattle.xmas_text.specs.declared.token.Sign.TheVariants as sign
 use Rattle.xmas_text.specs.declared.token.Kind.TheVariants as kind
 use Rattle.path_expr.specs.Grammar as paths
-use Rattle.path_expr.specs.Machine as pathing
 use Rattle.path_expr.proofs.Sound as path_sound
 
+-- the text of an open element
 abbrev pub frame_text : Frame → List ℕ
 frame_text f = items_text f.before ++ (f.gap ++ 60 ∷ (f.name ++ 62 ∷ []))
 
+-- the text of open elements
 abbrev pub outer_text : List Frame → List ℕ
 outer_text [] = []
 outer_text (f ∷ o) = outer_text o ++ frame_text f
 
+-- the text up to the last item
 abbrev pub base : List ℕ → List Frame → Items → List ℕ
 base lead o xs = lead ++ (construct_text ++ (outer_text o ++ items_text xs))
 
+-- the text up to WHERE
 abbrev pub head_text : Head → List ℕ
 head_text r = r.lead ++ (construct_text ++ (items_text r.template ++ (r.gap ++ where_text)))
 
+-- `label`
 abbrev pub label_text : List ℕ
 label_text = 108 ∷ 97 ∷ 98 ∷ 101 ∷ 108 ∷ []
 
+-- what stands before a key
 abbrev pub place_text : Place → List ℕ
 place_text at_first = []
 place_text (at_more h) = h ++ 44 ∷ []
 
+-- what stands before a condition
 abbrev pub before_text : Before → List ℕ
 before_text first_cond = []
 before_text (also_cond cs g) = conds_text cs ++ (g ++ 65 ∷ 78 ∷ 68 ∷ [])
 
+-- what a condition begins with
 abbrev pub start_text : Start → List ℕ
 start_text (by_name n) = n
 start_text (by_var v) = 36 ∷ v
 
+-- the text up to a spot
 abbrev pub spot_text : Spot → List ℕ
 spot_text beginning = []
 spot_text (items lead o xs) = base lead o xs
@@ -72,21 +72,26 @@ IsTop (variable before g k e) = ⊥
 IsTop (literal before g ps) = ⊥
 IsTop (element before g n i h c e) = IsTemplate (element before g n i h c e)
 
+-- where an element may begin
 abbrev pub Begins : List Frame → Items → List ℕ → Type 0
 Begins [] before g = IsNothing before × IsGap g
 Begins (f ∷ o) before g = IsItemGap before g
 
+-- the items at hand and the open elements around them are as the grammar has them
 abbrev pub Level : List Frame → Items → Type 0
 Level [] xs = IsTop xs
 Level (f ∷ o) xs = AreItems xs × IsName f.name × Begins o f.before f.gap × Level o f.before
 
+-- an element is open
 abbrev pub Inside : List Frame → Type 0
 Inside [] = ⊥
 Inside (f ∷ o) = Unit {0}
 
+-- what stands before the conditions is as the grammar has it
 abbrev pub IsHead : Head → Type 0
 IsHead r = IsBlanks r.lead × IsTemplate r.template × IsGap r.gap
 
+-- a key may stand there
 abbrev pub IsPlace : Keys → Place → Type 0
 IsPlace none at_first = Unit {0}
 IsPlace (first g k) at_first = ⊥
@@ -95,14 +100,17 @@ IsPlace none (at_more h) = ⊥
 IsPlace (first g k) (at_more h) = IsBlanks h
 IsPlace (more ks g e k) (at_more h) = IsBlanks h
 
+-- what stands before a condition is as the grammar has it
 abbrev pub IsBefore : Before → Type 0
 IsBefore first_cond = Unit {0}
 IsBefore (also_cond cs g) = AreConds cs × IsGap g
 
+-- a condition may begin so
 abbrev pub IsStart : Start → Type 0
 IsStart (by_name n) = IsName n
 IsStart (by_var v) = IsVar v
 
+-- what stands before a token is as the grammar has it
 abbrev pub IsSpot : Spot → Type 0
 IsSpot beginning = Unit {0}
 IsSpot (items lead o xs) = IsBlanks lead × Level o xs
@@ -119,6 +127,7 @@ IsSpot (ordering r cs g) = IsHead r × AreConds cs × IsGap g
 IsSpot (ordering_by r cs g h) = IsHead r × AreConds cs × IsGap g × IsGap h
 IsSpot (sorted r cs o) = IsHead r × AreConds cs × IsOrder o
 
+-- the text of the token at hand
 abbrev pub lex_text : Lex → List ℕ
 lex_text between = []
 lex_text (marking m done rest) = done
@@ -135,6 +144,7 @@ lex_text (pathing s) = path_sound.outer_text s.outer ++ (path_sound.frame_text s
 lex_text (ready t) = token_text t
 lex_text (comparing k) = sign_byte k ∷ []
 
+-- the token at hand is as the grammar has it
 abbrev pub IsLex : Lex → Type 0
 IsLex between = Unit {0}
 IsLex (marking m done rest) = done ++ rest ≡ mark_first m ∷ mark_rest m

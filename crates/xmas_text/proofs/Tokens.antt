@@ -1,29 +1,16 @@
 -- Behind a spot, the machine reads each token that may come, and stands behind the next spot.
-use Rattle.std.proofs.Common.{◌≡◌, ◌∙◌, ◌==◌, ◌<◌, ℕ, Bool, true, false, cond, ◌&&◌, ◌||◌, IsTrue, List, [], ◌∷◌, ◌++◌, Option, Some, None, option_and_then, refl, sym, ap, subst, append_assoc, arith, length}
+use Rattle.std.proofs.Common.{◌≡◌, ◌∙◌, ◌==◌, ℕ, Bool, true, false, ◌&&◌, ◌||◌, IsTrue, List, [], ◌∷◌, ◌++◌, Some, None, refl, sym, ap, append_assoc, arith}
 use Rattle.std.proofs.lemmas.Bool.Decides.{nat_tests}
 use Rattle.std.specs.List.{list_all}
-use Rattle.mix_base.proofs.Choices.{and_parts, and_both, list_all-push, some_is, none_some, Gives, either, number_is}
+use Rattle.mix_base.proofs.Choices.{and_parts, none_some}
 use Rattle.mix_base.proofs.Lists.{append_nil}
-use Rattle.mix_tree.specs.LabelGrammar.{Piece, ArePieces, inside_quotes}
-use Rattle.mix_tree.specs.Names.{is_name_byte, IsName}
-use Rattle.xmas_text.specs.Grammar.{Items, Keys, Conds, Rule}
-use Rattle.xmas_text.specs.Lexer.{Lex, between, marking, angle, opening, slash, closing, naming, dollar, varying, quoting, escaping, pathing, ready, comparing, map_path, lex_step, token_in, begin}
-use Rattle.xmas_text.specs.Lexical.{is_blank, is_letter, is_word_byte, IsBlanks, IsGap, IsVar}
+use Rattle.xmas_text.specs.Lexer.{Lex, between, marking, angle, opening, slash, closing, naming, dollar, varying, quoting, escaping, pathing, ready, comparing, lex_step, token_in, begin}
+use Rattle.xmas_text.specs.Lexical.{is_blank, IsBlanks}
 use Rattle.xmas_text.specs.Machine.{State, at, with_lex, next, behind, or_behind, step_in, step, run, rule_at, rule_behind, whole_in, whole}
-use Rattle.xmas_text.specs.Spots.{Frame, Head, Place, Before, Start, Spot, beginning, items, labelled, keys, key_comma, key_label, cond_start, cond_from, cond_path, cond_done, compared, ordering, ordering_by, sorted, has_blank, item_gap, may_group, is_nothing, is_none, takes, shift}
+use Rattle.xmas_text.specs.Spots.{Spot, beginning, items, labelled, keys, key_comma, key_label, cond_start, cond_from, cond_path, cond_done, compared, ordering, ordering_by, sorted, is_nothing, is_none, takes, shift}
 use Rattle.xmas_text.specs.Stages.{not}
-use Rattle.xmas_text.specs.Tokens.{Token, fixed, open_tag, close_tag, word, var, quoted, path, comparison, kind_of, mark_first, mark_rest, token_text}
-use Rattle.xmas_text.specs.declared.token.Kind.{Kind}
-use Rattle.xmas_text.specs.declared.token.Mark.{Mark}
-use Rattle.mix_tree.specs.declared.comparing.TestOp.TheVariants as op
-use Rattle.xmas_text.specs.declared.token.Mark.TheVariants as mark
-use Rattle.xmas_text.specs.declared.token.Sign.TheVariants as sign
-use Rattle.xmas_text.specs.declared.token.Kind.TheVariants as kind
-use Rattle.path_expr.specs.Grammar as paths
-use Rattle.path_expr.specs.Machine as pathing_
-use Rattle.path_expr.proofs.Complete as path_complete
-use Rattle.xmas_text.specs.Tokens.{IsToken}
-use Rattle.xmas_text.proofs.Lexes.{run_append, run_then, run_byte, open_read, close_read, name_read, var_read, quote_read, mark_read, path_run}
+use Rattle.xmas_text.specs.Tokens.{Token, token_text}
+use Rattle.xmas_text.proofs.Lexes.{run_then, run_byte}
 
 -- a byte that ends a name, a variable and a path
 abbrev pub is_apart : ℕ → Bool
@@ -51,6 +38,7 @@ abbrev pub no_equal : Spot → ℕ → Bool
 no_equal (compared r e g v h o) b = not (b == 61)
 no_equal s b = true
 
+-- the byte may stand behind the spot
 abbrev pub follows : Spot → ℕ → Bool
 follows s b = is_fixed s || (is_apart b && no_equal s b)
 
@@ -59,6 +47,7 @@ pub record IsAt (s : Spot) (t : State) : Type 0 where
   pub steps : (b : ℕ) → IsTrue (follows s b) → step t b ≡ next s [] b
   pub ends : whole t ≡ rule_at s []
 
+-- between tokens a state stands at its spot
 pub at_start : (s : Spot) → IsAt s (at s [] between)
 at_start s = record { steps = λ b h. refl; ends = refl }
 
@@ -76,6 +65,7 @@ pub record Reading (s : Spot) (h : List ℕ) (t : Token) : Type 0 where
   pub ends : token_in last ≡ Some t
   pub quiet : (b : ℕ) → IsTrue (follows (shift s h t) b) → lex_step last b ≡ None
 
+-- a byte behind a token
 pub last_step : (s : Spot) (h : List ℕ) (l : Lex) (t : Token) (b : ℕ) → token_in l ≡ Some t → lex_step l b ≡ None → step_in s h l b ≡ next (shift s h t) [] b
 last_step s h between t b e n = none_some t e
 last_step s h (marking m done rest) t b e n = ap (or_behind s h (marking m done rest) b) n ∙ ap (λ o. behind s h o b) e
@@ -92,6 +82,7 @@ last_step s h (pathing p) t b e n = ap (or_behind s h (pathing p) b) n ∙ ap (�
 last_step s h (comparing k) t b e n = ap (or_behind s h (comparing k) b) n ∙ ap (λ o. behind s h o b) e
 last_step s h (ready u) t b e n = ap (λ o. behind s h o b) e
 
+-- the end of the text behind a token
 pub last_whole : (s : Spot) (h : List ℕ) (l : Lex) (t : Token) → token_in l ≡ Some t → whole_in s h l ≡ rule_at (shift s h t) []
 last_whole s h between t e = none_some t e
 last_whole s h (marking m done rest) t e = ap (rule_behind s h) e
@@ -112,6 +103,7 @@ last_whole s h (ready u) t e = ap (rule_behind s h) e
 pub gap_step : (s : Spot) (g : List ℕ) (b : ℕ) → IsTrue (is_blank b) → next s g b ≡ Some (at s (g ++ b ∷ []) between)
 gap_step s g b h = rw h refl
 
+-- blanks between tokens are read
 pub gap_run : (s : Spot) (g x : List ℕ) → IsBlanks x → run (at s g between) x ≡ Some (at s (g ++ x) between)
 gap_run s g [] h = ap (λ r. Some (at s r between)) (sym (append_nil g))
 gap_run s g (b ∷ x) h =
@@ -119,13 +111,16 @@ gap_run s g (b ∷ x) h =
     run_byte b x (at s g between) (at s (g ++ b ∷ []) between) (gap_step s g b parts.0) ∙ gap_run s (g ++ b ∷ []) x parts.1
     ∙ ap (λ r. Some (at s r between)) (append_assoc g (b ∷ []) x)
 
+-- the first byte of a token
 pub token_step : (s : Spot) (g : List ℕ) (b : ℕ) (l : Lex) → is_blank b ≡ false → begin (takes s g) b ≡ Some l → next s g b ≡ Some (at s g l)
 token_step s g b l n e = rw n (ap (with_lex s g) e)
 
+-- a blank is no =
 blank_no_equal : (s : Spot) (b : ℕ) → IsTrue (is_blank b) → IsTrue (no_equal s b)
 blank_no_equal (compared r e g v i o) b h = let n : (b == 61) ≡ false = grind (arith, nat_tests) in rw n refl
 blank_no_equal s b h = refl
 
+-- a blank may stand behind each spot
 pub blank_follows : (s : Spot) (b : ℕ) → IsTrue (is_blank b) → IsTrue (follows s b)
 blank_follows s b h = let n : is_apart b ≡ true = rw h refl in or_both (is_fixed s) (is_apart b) (no_equal s b) n (blank_no_equal s b h)
   where
@@ -150,6 +145,7 @@ pub record Behind (s : Spot) (x : List ℕ) (t : State) : Type 0 where
   pub runs : run t x ≡ Some state
   pub is : IsAt s state
 
+-- a token that is read so leads to the spot behind it
 pub reading : (s : Spot) (st : State) (h : List ℕ) (t : Token) → IsAt s st → IsBlanks h → Reading s h t → Behind (shift s h t) (h ++ token_text t) st
 reading s st h t a g r = record {
   state = at s h r.last;

@@ -1,7 +1,7 @@
 -- No text of a kind says two things.
 use Rattle.std.proofs.Common.{◌≡◌, ◌∙◌, ℕ, List, [], ◌∷◌, ◌++◌, refl, sym, ap, length, nat_lt, slice_index}
 use Rattle.std.proofs.lemmas.List.{append_cancel_right}
-use Rattle.mix_tree.specs.LabelGrammar.{Piece, ArePieces, meaning, inside_quotes}
+use Rattle.mix_tree.specs.LabelGrammar.{Piece, ArePieces, meaning}
 use Rattle.path_expr.specs.Grammar as paths
 use Rattle.path_expr.proofs.Verdicts.{one_spelled}
 use Rattle.mix_tree.specs.declared.comparing.TestOp.{TestOp}

@@ -1,21 +1,19 @@
 -- What a scan says of a text.
-use Rattle.std.proofs.Common.{◌≡◌, ◌∙◌, ◌+◌, ◌<◌, ◌≤◌, ℕ, Bool, true, false, List, [], ◌∷◌, ◌++◌, Option, Some, None, Result, Ok, Err, option_map, option_and_then, refl, sym, ap, subst, arith, length, nat_lt, take, slice_index}
+use Rattle.std.proofs.Common.{◌≡◌, ◌∙◌, ◌+◌, ◌<◌, ◌≤◌, ℕ, Bool, true, false, List, [], Option, Some, None, Result, Ok, Err, option_map, option_and_then, refl, sym, ap, subst, arith, length, nat_lt, take, slice_index}
 use Rattle.std.proofs.lemmas.Bool.Decides.{nat_tests}
 use Rattle.std.specs.Str.{IsUtf8}
 use Rattle.mix_base.specs.Reading.{IsFront, IsUnexpected, IsCut}
 use Rattle.mix_base.proofs.Choices.{Gives, some_is, none_some}
 use Rattle.xmas_text.specs.declared.scan.Scan.{Scan}
-use Rattle.xmas_text.specs.Grammar.{Order, Rule, Writes}
+use Rattle.xmas_text.specs.Grammar.{Rule, Writes}
 use Rattle.xmas_text.specs.Levels.{levels}
 use Rattle.xmas_text.specs.Tokens.{Token}
-use Rattle.xmas_text.specs.Spots.{Spot, beginning, items, labelled, keys, key_comma, key_label, cond_start, cond_from, cond_path, cond_done, compared, ordering, ordering_by, sorted, stage_of}
+use Rattle.xmas_text.specs.Spots.{Spot, cond_done, sorted, stage_of}
 use Rattle.xmas_text.specs.Lexer.{Lex, between, marking, angle, opening, slash, closing, naming, dollar, varying, quoting, escaping, pathing, ready, comparing, token_in}
-use Rattle.xmas_text.specs.Machine.{State, step, run, rule_at, rule_behind, whole_in, whole, start, read_of}
-use Rattle.xmas_text.specs.Parsed.{RuleForm, parsed}
-use Rattle.xmas_text.specs.Results.{Spells, SpellsWithin, IsTooDeep, Scans}
+use Rattle.xmas_text.specs.Machine.{State, run, rule_at, rule_behind, whole_in, whole, start, read_of}
+use Rattle.xmas_text.specs.Results.{Spells, IsTooDeep, Scans}
 use Rattle.xmas_text.specs.Ends.{EndsBy, EndsSo}
 use Rattle.xmas_text.specs.declared.fault.TextFault.{TextFault}
-use Rattle.xmas_text.specs.declared.fault.TextFault.TheVariants.{NotUtf8, Unexpected, EndsEarly, TooDeep, OutOfMemory}
 use Rattle.xmas_text.specs.Scans.{levels_at, scan_of, settled, scan_step, may_end_at}
 use Rattle.xmas_text.proofs.Runs.{Stands, run_stands, start_stands, read_writes}
 use Rattle.xmas_text.proofs.Complete.{writes_read}

@@ -1,5 +1,5 @@
 -- No item of an element is as large as the element.
-use Rattle.std.specs.Prelude.{◌≤◌, ◌+◌, List, [], ◌∷◌, max}
+use Rattle.std.specs.Prelude.{◌≤◌, ◌+◌, List, [], ◌∷◌}
 use Rattle.std.proofs.Common.{arith}
 use denote.Param.Weighed.{most}
 use Rattle.xmas_text.specs.declared.element.ItemText.{ItemText}

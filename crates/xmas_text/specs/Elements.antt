@@ -1,6 +1,6 @@
 -- The items of the code as values.
 use Rattle.std.specs.Prelude.{List, [], ◌∷◌}
-use Rattle.xmas_text.specs.Contents.{Leaf, node, label_of, text, Contents, nothing, element, leaf, tags_of}
+use Rattle.xmas_text.specs.Contents.{node, label_of, text, Contents, nothing, element, leaf, tags_of}
 use Rattle.xmas_text.specs.declared.element.ItemText.{ItemText}
 use Rattle.xmas_text.specs.declared.element.ItemText.TheVariants as item
 

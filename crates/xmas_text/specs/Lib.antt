@@ -14,6 +14,7 @@ pub mod Lexemes
 pub mod Lexer
 pub mod Lexical
 pub mod Machine
+pub mod Named
 pub mod Parsed
 pub mod Parts
 pub mod Results

@@ -8,7 +8,6 @@ use Rattle.path_expr.specs.Form.{Form, positions_in}
 use Rattle.xmas_text.specs.declared.var.VarText.{VarText}
 use Rattle.xmas_text.specs.declared.var.KeyText.{KeyText}
 use Rattle.xmas_text.specs.declared.var.KeyText.TheVariants as keyed
-use Rattle.xmas_text.specs.declared.var.ShownText.{ShownText}
 use Rattle.xmas_text.specs.declared.element.ItemText.{ItemText}
 use Rattle.xmas_text.specs.declared.element.ItemText.TheVariants as item
 use Rattle.xmas_text.specs.declared.cond.PathLimit.{PathLimit}
@@ -19,9 +18,8 @@ use Rattle.xmas_text.specs.declared.cond.CondText.{CondText}
 use Rattle.xmas_text.specs.declared.cond.CondText.TheVariants as condition
 use Rattle.xmas_text.specs.declared.rule.OrderText.{OrderText}
 use Rattle.xmas_text.specs.Groups.{GroupForm}
-use Rattle.xmas_text.specs.Contents.{ElementForm}
 use Rattle.xmas_text.specs.Elements.{contents_of}
-use Rattle.xmas_text.specs.Grammar.{Key, node, label, Keys, none, first, more, Group, absent, braced, Items, nothing, variable, literal, element, Operand, a_variable, a_text, Cond, source, walk, compare, Conds, one, also, Order, unordered, ordered, descending, Rule, quoted_text, key_text, keys_text, items_text, op_text, conds_text, construct_text, where_text}
+use Rattle.xmas_text.specs.Grammar.{Key, node, label, Keys, none, first, more, Group, absent, braced, Items, nothing, variable, literal, element, Operand, a_variable, a_text, Cond, source, walk, compare, Conds, one, also, Order, unordered, ordered, descending, Rule, keys_text, items_text, op_text, conds_text, construct_text, where_text}
 
 -- a variable at a place
 abbrev pub var_at : ℕ → List ℕ → VarText

@@ -1,5 +1,5 @@
 -- What a scan keeps of a token that is being read.
-use Rattle.std.specs.Prelude.{◌+◌, ◌<◌, ℕ, Bool, cond, ◌||◌, ◌&&◌, ◌==◌, nat_lt, List, [], length, slice_index, Option, Some, None, option_map}
+use Rattle.std.specs.Prelude.{◌+◌, ℕ, Bool, cond, ◌||◌, ◌&&◌, ◌==◌, nat_lt, length, slice_index, Option, Some, None, option_map}
 use Rattle.mix_tree.specs.LabelGrammar.{is_escape}
 use Rattle.mix_tree.specs.Names.{is_name_byte}
 use Rattle.path_expr.specs.Machine as paths

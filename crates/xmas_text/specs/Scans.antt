@@ -1,5 +1,5 @@
 -- What a scan keeps of a state, and how it goes on.
-use Rattle.std.specs.Prelude.{◌+◌, ℕ, Bool, true, false, cond, ◌||◌, ◌&&◌, nat_lt, max, List, [], ◌∷◌, length, Option, Some, None, option_map}
+use Rattle.std.specs.Prelude.{◌+◌, ℕ, Bool, true, false, cond, ◌||◌, nat_lt, max, List, [], ◌∷◌, length, Option, Some, None, option_map}
 use Rattle.xmas_text.specs.declared.token.Kind.{Kind}
 use Rattle.xmas_text.specs.declared.token.Kind.TheVariants as kind
 use Rattle.xmas_text.specs.declared.stage.Stage.{Stage}

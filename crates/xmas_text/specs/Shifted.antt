@@ -5,7 +5,6 @@ use Rattle.xmas_text.specs.declared.token.Mark.TheVariants as mark
 use Rattle.xmas_text.specs.declared.var.VarText.{VarText}
 use Rattle.xmas_text.specs.declared.var.KeyText.{KeyText}
 use Rattle.xmas_text.specs.declared.var.KeyText.TheVariants as keyed
-use Rattle.xmas_text.specs.declared.var.ShownText.{ShownText}
 use Rattle.xmas_text.specs.declared.element.ItemText.{ItemText}
 use Rattle.xmas_text.specs.declared.element.ItemText.TheVariants as item
 use Rattle.mix_tree.specs.declared.comparing.TestOp.{TestOp}

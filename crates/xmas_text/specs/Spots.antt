@@ -1,5 +1,5 @@
 -- Where in a rule a token stands, with all that was read before it.
-use Rattle.std.specs.Prelude.{ℕ, Bool, true, false, List, [], ◌∷◌, ◌++◌}
+use Rattle.std.specs.Prelude.{ℕ, Bool, true, false, List, [], ◌∷◌}
 use Rattle.path_expr.specs.Grammar.{Spelled}
 use Rattle.mix_tree.specs.declared.comparing.TestOp.{TestOp}
 use Rattle.xmas_text.specs.declared.token.Mark.TheVariants as mark

@@ -1,7 +1,8 @@
 // Reading the rule that a text spells.
 ghost use Rattle.std.specs.Prelude.{IfOk, IsUtf8};
+ghost use Rattle.xmas_text.specs.Named.{IsNamedTree};
 ghost use Rattle.xmas_text.specs.Parsed.{RuleForm};
-ghost use Rattle.xmas_text.specs.Results.{Answers, SpellsWithin, IsTree};
+ghost use Rattle.xmas_text.specs.Results.{Answers, SpellsWithin, IsTree, form_of};
 
 use crate::TextFault;
 use crate::build::build_rule;
@@ -38,6 +39,9 @@ pub fn parse_rule(alloc: Global, text: &[u8]) -> Result<RuleText, TextFault>
 
     // What is spelled within the limit is read, unless memory runs out.
     ensures only { (v : RuleForm) → IsUtf8 text.now → SpellsWithin text.now v → IsTree result v }
+
+    // Names, variables and paths of the tree are as the grammar has them.
+    ensures named { IfOk result (λ t. IsNamedTree (form_of t)) }
 {
     match str::from_utf8(text) {
         Ok(_) => read(alloc, text),

@@ -1,5 +1,5 @@
-use Rattle.std.proofs.Common.{◌≡◌, ◌∙◌, ◌<◌, ◌^◌, sym, ap, subst, refl, arith, length}
-use Rattle.xmas_text.specs.Building.{build_in, tree_of}
+use Rattle.std.proofs.Common.{◌≡◌, ◌∙◌, sym, subst, refl, arith, length}
+use Rattle.xmas_text.specs.Building.{build_in}
 use Rattle.xmas_text.specs.Drafts.{draft_in}
 use Rattle.xmas_text.proofs.Builds.{Standing, Finishes, can_build, standing_start, standing_next, ended_here, last_utf8, last_order, finishes}
 use Rattle.xmas_text.proofs.build.build_rule.Goals as goal

@@ -1,4 +1,4 @@
-use Rattle.std.proofs.Common.{rules, arith, ◌≡◌, ◌∙◌, sym, subst, take}
+use Rattle.std.proofs.Common.{rules, arith, ◌≡◌, sym, subst, take}
 use Rattle.std.proofs.lemmas.List.{take_all}
 use Rattle.xmas_text.proofs.Cuts.{ScansTo, scan_next}
 use Rattle.xmas_text.proofs.Verdicts.{scan_unexpected, ends_scan}
