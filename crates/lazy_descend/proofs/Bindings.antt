@@ -34,7 +34,7 @@ among_taken true xs y h = h
 among_taken false xs y h = absurd h
 
 -- the bindings of two lists of events
-bindings_append : (xs ys : List (Event (List ℕ))) → without_skips (xs ++ ys) ≡ without_skips xs ++ without_skips ys
+pub bindings_append : (xs ys : List (Event (List ℕ))) → without_skips (xs ++ ys) ≡ without_skips xs ++ without_skips ys
 bindings_append [] ys = refl
 bindings_append (skip ∷ xs) ys = bindings_append xs ys
 bindings_append (bind x ∷ xs) ys = ap (λ (z : List (List ℕ)). x ∷ z) (bindings_append xs ys)
@@ -55,7 +55,7 @@ before_below [] u w h = h
 before_below (x ∷ p) u w h = inr (refl, before_below p u w h)
 
 -- a place stands before those below it
-before_deeper : (p : List ℕ) (i : ℕ) (r : List ℕ) → PlaceBefore p (p ++ i ∷ r)
+pub before_deeper : (p : List ℕ) (i : ℕ) (r : List ℕ) → PlaceBefore p (p ++ i ∷ r)
 before_deeper [] i r = tt
 before_deeper (x ∷ p) i r = inr (refl, before_deeper p i r)
 

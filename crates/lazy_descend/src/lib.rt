@@ -7,7 +7,7 @@ mod law;
 mod steps;
 
 pub use cursor::DescCursor;
-pub use law::{bindings_are_matches, cursors_stay, numbers_are_small};
+pub use law::{bindings_are_matches, cursors_stay, finds_next_matches, numbers_are_small};
 
 #[cfg(test)]
 mod tests;

@@ -4,7 +4,9 @@ ghost use Rattle.path_expr.specs.Form.{positions_in};
 ghost use Rattle.lxp_core.specs.Memory.{memory_view};
 ghost use Rattle.tree_buffer.specs.Buffer.{IsSpot, IsSourcesOf};
 
-use crate::{DescCursor, bindings_are_matches, cursors_stay, numbers_are_small};
+use crate::{
+    DescCursor, bindings_are_matches, cursors_stay, finds_next_matches, numbers_are_small,
+};
 use lxp_core::MemSources;
 use mix_tree::{Label, Place, Tree};
 use path_expr::{Auto, PathFault, read_path};
@@ -107,6 +109,7 @@ fn a_visit_finds_what_its_path_describes(rt: HostRuntime) -> Result<(), Fail> {
         assert!(rt; are(&places, wanted));
     }
     bindings_are_matches();
+    finds_next_matches();
     cursors_stay();
     numbers_are_small();
     Ok(())

@@ -1,0 +1,116 @@
+-- What is found among the events tells the next match.
+use Rattle.std.proofs.Common.{◌≡◌, ◌∙◌, ◌⊎◌, inl, inr, ◌<◌, ◌+◌, ℕ, zero, suc, true, List, [], ◌∷◌, ◌++◌, length, get_or, append_assoc, refl, sym, ap, subst, arith}
+use Rattle.std.specs.List.{Contains}
+use Rattle.std.proofs.lemmas.List.Elements.{Contains-append_left, Contains-append_right, Contains-append_cases}
+use Rattle.mix_base.specs.Events.{Event, skip, bind, found, without_skips}
+use Rattle.mix_tree.specs.Forest.{Forest}
+use Rattle.mix_tree.specs.Order.{PlaceBefore, Ascending}
+use Rattle.path_expr.specs.Form.{Form}
+use Rattle.path_expr.specs.Automaton.{Machine, IsAutomatonOf}
+use Rattle.path_expr.specs.Matches.{IsMatch, AreMatches}
+use Rattle.lxp_core.specs.View.{View}
+use Rattle.tree_buffer.specs.declared.buffer.Buffer.{Buffer}
+use Rattle.tree_buffer.specs.declared.spot.Spot.{Spot}
+use Rattle.tree_buffer.specs.Document.{document_node}
+use Rattle.tree_buffer.specs.Buffer.{number_of, place_of}
+use Rattle.lazy_descend.specs.declared.cursor.DescCursor.{DescCursor}
+use Rattle.lazy_descend.specs.Law.{NoneBehind, IsFirstBehind, TellsNext, FindsTheNextMatch, FindsNextMatches}
+use Rattle.lazy_descend.specs.Visit.{visit_below}
+use Rattle.lazy_descend.specs.Cursors.{IsEvent, place_at, ahead}
+use Rattle.lazy_descend.proofs.Bindings.{bindings_append, before_deeper, bindings_are_matches}
+
+-- no place stands before itself
+before_itself : (p : List ℕ) → PlaceBefore p p → ⊥
+before_itself [] h = h
+before_itself (i ∷ p) (inl h) = omega (arith, h)
+before_itself (i ∷ p) (inr h) = before_itself p h.1
+
+-- no two places stand before one another
+before_both : (p q : List ℕ) → PlaceBefore p q → PlaceBefore q p → ⊥
+before_both p [] h k = h
+before_both [] (j ∷ q) h k = k
+before_both (i ∷ p) (j ∷ q) (inl h) (inl k) = omega (arith, h, k)
+before_both (i ∷ p) (j ∷ q) (inl h) (inr k) = omega (arith, h, k.0)
+before_both (i ∷ p) (j ∷ q) (inr h) (inl k) = omega (arith, h.0, k)
+before_both (i ∷ p) (j ∷ q) (inr h) (inr k) = before_both p q h.1 k.1
+
+-- the first member of a list, or a later one
+first_or : (x : List ℕ) (xs : List (List ℕ)) (y : List ℕ) → Contains (x ∷ xs) y → (y ≡ x) ⊎ Contains xs y
+first_or x xs y (zero, h, e) = inl (sym e)
+first_or x xs y (suc k, h, e) = inr (k, omega arith, e)
+
+-- the later part of an ascending list ascends
+ascends_right : (xs ys : List (List ℕ)) → Ascending (xs ++ ys) → Ascending ys
+ascends_right [] ys h = h
+ascends_right (x ∷ xs) ys h = ascends_right xs ys h.1
+
+-- in an ascending list the members of the first part stand before those of the later one
+ascends_across : (xs ys : List (List ℕ)) → Ascending (xs ++ ys) → (x y : List ℕ) → Contains xs x → Contains ys y → PlaceBefore x y
+ascends_across [] ys h x y c d = absurd (omega (arith, c.1))
+ascends_across (z ∷ xs) ys h x y c d =
+    elim (first_or z xs x c) [
+      | inl e ↦ subst (λ w. PlaceBefore w y) (sym e) (h.0 y (Contains-append_right xs ys y d))
+      | inr c' ↦ ascends_across xs ys h.1 x y c' d
+    ]
+
+-- of matches in two parts, the later one given by events: none of the first part stands behind the place, and all of the later one do
+tells : (p : Form) (f : Forest) (start at : List ℕ) (done : List (List ℕ)) (es : List (Event (List ℕ))) → AreMatches p f start (done ++ without_skips es)
+    → ((q : List ℕ) → Contains done q → PlaceBefore at q → ⊥) → ((q : List ℕ) → Contains (without_skips es) q → PlaceBefore at q) → TellsNext p f start at (found es)
+tells p f start at done [] all passed coming = λ q is_match h. elim (Contains-append_cases done [] q (all.complete q is_match)) [
+  | inl c ↦ passed q c h
+  | inr c ↦ omega (arith, c.1)
+]
+tells p f start at done (skip ∷ es) all passed coming = tells p f start at done es all passed coming
+tells p f start at done (bind x ∷ es) all passed coming = record {
+  is_match = all.sound x (Contains-append_right done (x ∷ without_skips es) x (0, omega arith, refl));
+  behind = coming x (0, omega arith, refl);
+  first = λ q is_match h. elim (Contains-append_cases done (x ∷ without_skips es) q (all.complete q is_match)) [
+    | inl c ↦ absurd (passed q c h)
+    | inr c ↦ elim (first_or x (without_skips es) q c) [
+      | inl e ↦ inl e
+      | inr later ↦ inr ((ascends_right done (x ∷ without_skips es) all.ascending).0 q later)
+    ]
+  ];
+}
+
+-- a match stands behind the start
+match_behind : (p : Form) (f : Forest) (start q : List ℕ) → IsMatch p f start q → PlaceBefore start q
+match_behind p f start q h = deeper h.way h.below h.place
+  where
+    deeper : (way : List ℕ) → 0 < length way → start ++ way ≡ q → PlaceBefore start q
+    deeper [] some e = absurd (omega arith)
+    deeper (i ∷ r) some e = subst (PlaceBefore start) e (before_deeper start i r)
+
+-- the first binding of the visit
+first_match : (m : Machine) (p : Form) → IsAutomatonOf m p → (f : Forest) (start : List ℕ) → TellsNext p f start start (found (visit_below m f start))
+first_match m p auto f start =
+    let all : AreMatches p f start (without_skips (visit_below m f start)) = bindings_are_matches m p auto f start in
+    tells p f start start [] (visit_below m f start) all (λ q c h. omega (arith, c.1)) (λ q c. match_behind p f start q (all.sound q c))
+
+-- the first binding ahead of a cursor
+next_match : (m : Machine) (p : Form) → IsAutomatonOf m p → (v : View) (b : Buffer) (start : Spot) (d : DescCursor) → IsEvent v b m start d → v.told (number_of b) ≡ true
+    → TellsNext p (document_node v (number_of b)) (place_of b start) (place_at b d) (found (ahead v b m d))
+next_match m p auto v b start d h told =
+    let f : Forest = document_node v (number_of b) in
+    let at : List ℕ = place_at b d in
+    let stands = h.stands told in
+    let before : List (List ℕ) = without_skips stands.0 in
+    let later : List (List ℕ) = without_skips (ahead v b m d) in
+    let parts : without_skips (visit_below m f (place_of b start)) ≡ (before ++ at ∷ []) ++ later =
+    ap without_skips stands.1 ∙ bindings_append stands.0 (bind at ∷ ahead v b m d) ∙ sym (append_assoc before (at ∷ []) later) in
+    let all : AreMatches p f (place_of b start) ((before ++ at ∷ []) ++ later) =
+    subst (AreMatches p f (place_of b start)) parts (bindings_are_matches m p auto f (place_of b start)) in
+    let one : Ascending (before ++ at ∷ later) = subst Ascending (append_assoc before (at ∷ []) later) all.ascending in
+    tells p f (place_of b start) at (before ++ at ∷ []) (ahead v b m d) all
+    (λ q c behind. elim (Contains-append_cases before (at ∷ []) q c) [
+      | inl earlier ↦ before_both at q behind (ascends_across before (at ∷ later) one q at earlier (0, omega arith, refl))
+      | inr same ↦ elim (first_or at [] q same) [
+        | inl e ↦ before_itself at (subst (PlaceBefore at) e behind)
+        | inr none ↦ omega (arith, none.1)
+      ]
+    ])
+    (λ q c. ascends_across (before ++ at ∷ []) later all.ascending at q (Contains-append_right before (at ∷ []) at (0, omega arith, refl)) c)
+
+-- the next match is found
+pub finds_next_matches : FindsNextMatches
+finds_next_matches m p auto = record { first = first_match m p auto; next = next_match m p auto }
