@@ -1,7 +1,7 @@
 -- What is found among the events tells the next match.
-use Rattle.std.proofs.Common.{◌≡◌, ◌∙◌, ◌⊎◌, inl, inr, ◌<◌, ◌+◌, ℕ, zero, suc, true, List, [], ◌∷◌, ◌++◌, length, get_or, append_assoc, refl, sym, ap, subst, arith}
+use Rattle.std.proofs.Common.{◌≡◌, ◌∙◌, ◌⊎◌, inl, inr, ◌<◌, ℕ, zero, suc, true, List, [], ◌∷◌, ◌++◌, length, append_assoc, refl, sym, ap, subst, arith}
 use Rattle.std.specs.List.{Contains}
-use Rattle.std.proofs.lemmas.List.Elements.{Contains-append_left, Contains-append_right, Contains-append_cases}
+use Rattle.std.proofs.lemmas.List.Elements.{Contains-append_right, Contains-append_cases}
 use Rattle.mix_base.specs.Events.{Event, skip, bind, found, without_skips}
 use Rattle.mix_tree.specs.Forest.{Forest}
 use Rattle.mix_tree.specs.Order.{PlaceBefore, Ascending}
@@ -14,7 +14,7 @@ use Rattle.tree_buffer.specs.declared.spot.Spot.{Spot}
 use Rattle.tree_buffer.specs.Document.{document_node}
 use Rattle.tree_buffer.specs.Buffer.{number_of, place_of}
 use Rattle.lazy_descend.specs.declared.cursor.DescCursor.{DescCursor}
-use Rattle.lazy_descend.specs.Law.{NoneBehind, IsFirstBehind, TellsNext, FindsTheNextMatch, FindsNextMatches}
+use Rattle.lazy_descend.specs.Law.{TellsNext, FindsNextMatches}
 use Rattle.lazy_descend.specs.Visit.{visit_below}
 use Rattle.lazy_descend.specs.Cursors.{IsEvent, place_at, ahead}
 use Rattle.lazy_descend.proofs.Bindings.{bindings_append, before_deeper, bindings_are_matches}

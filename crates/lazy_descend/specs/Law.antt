@@ -21,7 +21,7 @@ BindingsAreMatches =
     (m : Machine) (p : Form) → IsAutomatonOf m p → (f : Forest) (start : List ℕ) → AreMatches p f start (without_skips (visit_below m f start))
 
 -- an earlier cursor, under later sources and a later buffer: it is a cursor of these too, at the same place, with the same events
--- ahead where the source is told, and its number did not rise
+-- ahead, its number did not rise, and it stands for the same binding of each visit
 pub record Stays (v : View) (b : Buffer) (v' : View) (b' : Buffer) (m : Machine) (d : DescCursor) : Type 0 where
   pub cursor : IsCursor b' d
   pub place : place_at b' d ≡ place_at b d
