@@ -21,14 +21,14 @@ pub struct Layout {
     ghost some: { 0 < length nodes.items },
 }
 
-// How many trees a list gives up before it gives their room back.
+// After how many trees the room of a long list is given back.
 const STEP: usize = 65536;
 
-// Gives back the room of trees that were taken from the end of a list, now and then.
+// Gives back the room of the trees that were taken from the end of a long list, now and then.
 fn give_back(trees: &mut Vec<Tree>)
     ensures { trees.new.items ≡ trees.old.items }
 {
-    if trees.len() % STEP == 0 {
+    if trees.len() >= STEP && trees.len() % STEP == 0 {
         trees.shrink_to_fit();
     }
 }
