@@ -2,10 +2,10 @@
 use Rattle.std.specs.Prelude.{◌≡◌, ◌⊎◌, ℕ, ◌≤◌, true, List}
 use Rattle.mix_base.specs.Events.{Find, nothing, finds, found, without_skips}
 use Rattle.mix_tree.specs.Forest.{Forest}
-use Rattle.mix_tree.specs.Order.{PlaceBefore}
+use Rattle.mix_tree.specs.Nodes.{PlaceBefore}
 use Rattle.path_expr.specs.Form.{Form}
 use Rattle.path_expr.specs.Automaton.{Machine, IsAutomatonOf}
-use Rattle.path_expr.specs.Matches.{IsMatch, AreMatches}
+use Rattle.path_expr.specs.Matches.{LeadsTo, AreMatches}
 use Rattle.lxp_core.specs.View.{View, Keeps}
 use Rattle.tree_buffer.specs.declared.buffer.Buffer.{Buffer}
 use Rattle.tree_buffer.specs.declared.spot.Spot.{Spot}
@@ -41,13 +41,13 @@ NumbersAreSmall = (v : View) (b : Buffer) (m : Machine) (start : Spot) (d : Desc
 
 -- no match of the path from the start stands behind the place
 abbrev pub NoneBehind : Form → Forest → List ℕ → List ℕ → Type 0
-NoneBehind p f start at = (q : List ℕ) → IsMatch p f start q → PlaceBefore at q → ⊥
+NoneBehind p f start at = (q : List ℕ) → LeadsTo p f start q → PlaceBefore at q → ⊥
 
 -- the first match of the path from the start that stands behind the place
 pub record IsFirstBehind (p : Form) (f : Forest) (start at x : List ℕ) : Type 0 where
-  pub is_match : IsMatch p f start x
+  pub is_match : LeadsTo p f start x
   pub behind : PlaceBefore at x
-  pub first : (q : List ℕ) → IsMatch p f start q → PlaceBefore at q → (q ≡ x) ⊎ PlaceBefore x q
+  pub first : (q : List ℕ) → LeadsTo p f start q → PlaceBefore at q → (q ≡ x) ⊎ PlaceBefore x q
 
 -- what is found tells the first match behind the place, or that there is none
 abbrev pub TellsNext : Form → Forest → List ℕ → List ℕ → Find (List ℕ) → Type 0

@@ -63,7 +63,7 @@ EndsUnmarked t steps before after (Ok marked) = (marked ≡ false) × Appends be
 EndsUnmarked t steps before after (Err fault) = AppendsFront before.written after.written (transcript t [] [] steps)
 
 module _ (old new : View) (source : ℕ) (names : List (List ℕ)) (steps : List Step) (before after : SinkView) (steady : new.faults source ≡ old.faults source) (room : old.faults source + 1 < 2 ^ 64)
-  (t : LabelledTree) (told : old.told source ≡ true) (one : document old source ≡ alone t) where
+    (t : LabelledTree) (told : old.told source ≡ true) (one : document old source ≡ alone t) where
   -- no fault was answered
   faultless : (answers : List Answer) → IsWalk old new source steps answers → faults_in answers ≡ 0
   faultless answers walk = omega (arith, walk.counted, steady, room)
