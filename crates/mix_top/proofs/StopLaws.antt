@@ -1,17 +1,22 @@
 -- How the stop of one call is that of the call around it.
-use Rattle.std.proofs.Common.{◌≡◌, ◌<◌, inl, inr, ◌∙◌, ℕ, List, [], Option, IfSome, refl, subst, length, string_bytes}
+use Rattle.std.proofs.Common.{◌≡◌, ◌<◌, inl, inr, ◌∙◌, ℕ, List, [], ◌∷◌, ◌++◌, Option, IfSome, refl, subst, length, string_bytes}
 use Rattle.mix_base.specs.Counts.{HasRisen}
 use Rattle.mix_io.specs.Views.{FilesView, SinkView, KeepsFiles}
 use Rattle.mix_top.specs.declared.refusal.FileFault.{FileFault}
-use Rattle.mix_top.specs.declared.refusal.FileFault.TheVariants.{Unread, TooLong, NotUtf8, Unexpected, TooDeep, EndsEarly, NoForm, ChunkOutOfRange, NameTwice, TooManySources}
+use Rattle.mix_top.specs.declared.refusal.FileFault.TheVariants.{Unread, TooLong, NotUtf8, Unexpected, TooDeep, EndsEarly, NoForm, ChunkOutOfRange, NameTwice, TooManySources, View}
 use Rattle.mix_top.specs.declared.refusal.Stop.{Stop}
 use Rattle.mix_top.specs.declared.refusal.Stop.TheVariants.{Refused, SinkFailed, OutOfMemory}
-use Rattle.mix_top.specs.Causes.{IsRead, IsNotAccepted, IsNoBytes, IsNoDocument, IsNoScript, IsCause}
+use Rattle.mix_top.specs.Causes.{IsRead, IsNotAccepted, IsNoBytes, IsNoCatalog, IsNoDocument, IsNoRule, IsNoScript, IsCause}
+use Rattle.mix_catalog.specs.declared.source.SourceSpec.{SourceSpec}
+use Rattle.xmas_rule.specs.Rules.{RuleValue}
+use Rattle.xmas_read.specs.Canonical.{canonical}
+use Rattle.xmas_read.specs.Results.{names_of_sources, Refuses as RefusesRule}
+use Rattle.xmas_read.specs.declared.fault.XmasFault.{XmasFault}
 use Rattle.mix_tree.specs.Forest.{LabelledTree}
 use Rattle.mix_script.specs.declared.step.Step.{Step}
 use Rattle.mix_script.specs.Transcript.{transcript}
-use Rattle.mix_top.specs.Course.{IsRefused, IsDocument, IsScript, Walks}
-use Rattle.mix_top.specs.Stops.{IsStopFor, IsLoadStop, IsCut, IsStop}
+use Rattle.mix_top.specs.Course.{IsRefused, IsCatalogFile, IsDocument, IsRuleFile, IsScript, Reads, Walks}
+use Rattle.mix_top.specs.Stops.{IsStopFor, IsViewStop, IsLoadStop, IsCut, IsStop}
 
 -- a file that is refused for a cause was not loaded
 pub load_stop : (IsNone : List ℕ → FileFault → Type 0) (old new : FilesView) (path : List ℕ) (fault : FileFault) (stop : Stop) → IsStopFor path fault stop
@@ -37,11 +42,12 @@ load_stop_unread IsNone old new path (Refused r) h =
     cause (ChunkOutOfRange n) k = absurd k.2
     cause (NameTwice n) k = absurd k.2
     cause (TooManySources n) k = absurd k.2
+    cause (View e) k = absurd k.2
 load_stop_unread IsNone old new path SinkFailed h = h
 load_stop_unread IsNone old new path OutOfMemory h = h
 
 -- what was read of a file later was there before
-read_before : (old mid : FilesView) (path text : List ℕ) → mid.told path ≡ old.told path → IsRead mid path text → IsRead old path text
+pub read_before : (old mid : FilesView) (path text : List ℕ) → mid.told path ≡ old.told path → IsRead mid path text → IsRead old path text
 read_before old mid path text told h = record { all = subst (λ (o : Option (List ℕ)). IfSome o (λ contents. contents ≡ text)) told h.all; short = h.short }
 
 not_accepted_before : (IsNone : List ℕ → FileFault → Type 0) (old mid : FilesView) (path : List ℕ) (fault : FileFault) → mid.told path ≡ old.told path
@@ -66,6 +72,7 @@ cause_before IsNone old mid new path (NoForm n) told steady h = not_accepted_bef
 cause_before IsNone old mid new path (ChunkOutOfRange n) told steady h = not_accepted_before IsNone old mid path (ChunkOutOfRange n) told h
 cause_before IsNone old mid new path (NameTwice n) told steady h = not_accepted_before IsNone old mid path (NameTwice n) told h
 cause_before IsNone old mid new path (TooManySources n) told steady h = not_accepted_before IsNone old mid path (TooManySources n) told h
+cause_before IsNone old mid new path (View e) told steady h = not_accepted_before IsNone old mid path (View e) told h
 
 -- a refusal from a later moment on is one from an earlier one on, where no read failed between them
 pub refused_before : (IsNone : List ℕ → FileFault → Type 0) (old mid new : FilesView) (path : List ℕ) (status : ℕ) (line : List ℕ) → KeepsFiles mid old
@@ -108,4 +115,39 @@ walk_course old mid new file script t steps keeps document s =
         refl,
         refl,
       ),
+    )
+
+-- a view that is refused for a fault of its text was not loaded
+pub view_stop :
+    (sources : List (List ℕ)) (old new : FilesView) (path text : List ℕ) (fault : XmasFault) (stop : Stop) → IsViewStop path fault stop → IsRead old path text
+    → RefusesRule text sources fault → IsLoadStop (IsNoRule sources) old new path stop
+view_stop sources old new path text fault (Refused r) h read refuses =
+    record { fault = View fault; cause = (text, read, (h.0, refuses)); status_is = h.1.0; line_is = h.1.1 }
+view_stop sources old new path text fault SinkFailed h read refuses = h
+view_stop sources old new path text fault OutOfMemory h read refuses = h
+
+-- a catalog that was not loaded stops a view's reading before it writes
+pub catalog_stops : (old new : FilesView) (before : SinkView) (view catalog : List ℕ) (stop : Stop) → IsLoadStop IsNoCatalog old new catalog stop
+    → IsStop (Reads old new view catalog) before before stop
+catalog_stops old new before view catalog (Refused r) h = (inl h, refl)
+catalog_stops old new before view catalog SinkFailed h = absurd h
+catalog_stops old new before view catalog OutOfMemory h = inl refl
+
+-- a view that was not loaded, behind a catalog that was, stops its reading before it writes
+pub view_stops : (old mid new : FilesView) (before : SinkView) (view catalog : List ℕ) (sources : List SourceSpec) (stop : Stop) → KeepsFiles mid old
+    → ((p : List ℕ) → mid.faults p ≡ old.faults p) → IsCatalogFile old catalog sources → IsLoadStop (IsNoRule (names_of_sources sources)) mid new view stop
+    → IsStop (Reads old new view catalog) before before stop
+view_stops old mid new before view catalog sources (Refused r) keeps steady accepted h =
+    (inr (sources, accepted, inl (refused_before (IsNoRule (names_of_sources sources)) old mid new view r.status (string_bytes r.line) keeps steady h)), refl)
+view_stops old mid new before view catalog sources SinkFailed keeps steady accepted h = absurd h
+view_stops old mid new before view catalog sources OutOfMemory keeps steady accepted h = inl refl
+
+-- the course of a view's reading whose files were loaded
+pub read_course : (old mid new : FilesView) (view catalog : List ℕ) (sources : List SourceSpec) (v : RuleValue) → KeepsFiles mid old → IsCatalogFile old catalog sources
+    → IsRuleFile mid view (names_of_sources sources) v → Reads old new view catalog 0 (canonical (names_of_sources sources) v ++ 10 ∷ [])
+read_course old mid new view catalog sources v keeps accepted r =
+    inr (
+      sources,
+      accepted,
+      inr (v, record { text = r.text; read = read_before old mid view r.text (keeps.told view) r.read; spelled = r.spelled }, refl, refl),
     )

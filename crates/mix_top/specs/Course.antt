@@ -1,5 +1,5 @@
 -- The course of a run: what its words, its files and their faults let it write, and its status then.
-use Rattle.std.specs.Prelude.{◌≡◌, ◌⊎◌, ℕ, List, [], Ok}
+use Rattle.std.specs.Prelude.{◌≡◌, ◌⊎◌, ℕ, List, [], ◌∷◌, ◌++◌, Ok}
 use Rattle.std.specs.Str.{IsUtf8}
 use Rattle.mix_tree.specs.Forest.{LabelledTree}
 use Rattle.mix_io.specs.Views.{FilesView}
@@ -9,9 +9,12 @@ use Rattle.mix_script.specs.Steps.{steps_of}
 use Rattle.mix_catalog.specs.declared.source.SourceSpec.{SourceSpec}
 use Rattle.mix_catalog.specs.Sources.{IsCatalog}
 use Rattle.mix_script.specs.Transcript.{transcript}
+use Rattle.xmas_rule.specs.Rules.{RuleValue}
+use Rattle.xmas_read.specs.Results.{names_of_sources, Spells}
+use Rattle.xmas_read.specs.Canonical.{canonical}
 use Rattle.mix_top.specs.declared.refusal.FileFault.{FileFault}
-use Rattle.mix_top.specs.Causes.{IsRead, IsCause, IsNoDocument, IsNoScript, status_of, refusal_line}
-use Rattle.mix_top.specs.Commands.{Command, help, version, walk, unknown}
+use Rattle.mix_top.specs.Causes.{IsRead, IsCause, IsNoCatalog, IsNoDocument, IsNoRule, IsNoScript, status_of, refusal_line}
+use Rattle.mix_top.specs.Commands.{Command, help, version, walk, read, unknown}
 use Rattle.mix_top.specs.Texts.{help_text, version_text, unknown_text}
 
 -- a file spells a tree of at most 200 levels
@@ -33,6 +36,12 @@ pub record IsCatalogFile (files : FilesView) (path : List ℕ) (sources : List S
   pub read : IsRead files path text
   pub accepted : IsCatalog text sources
 
+-- a file spells a rule over sources of these names
+pub record IsRuleFile (files : FilesView) (path : List ℕ) (sources : List (List ℕ)) (v : RuleValue) : Type 0 where
+  pub text : List ℕ
+  pub read : IsRead files path text
+  pub spelled : Spells text sources v
+
 -- a file of a kind is refused, with this status and line
 pub record IsRefused (IsNone : List ℕ → FileFault → Type 0) (old new : FilesView) (path : List ℕ) (status : ℕ) (line : List ℕ) : Type 0 where
   pub fault : FileFault
@@ -50,9 +59,22 @@ abbrev pub Walks : FilesView → FilesView → List ℕ → List ℕ → ℕ →
 Walks old new file script status lines =
     IsRefused IsNoDocument old new file status lines ⊎ ((t : LabelledTree) × IsDocument old file t × WalksOn old new script t status lines)
 
+-- a view is read over sources of these names: it is refused, or the line is its canonical text
+abbrev pub ReadsOn : FilesView → FilesView → List ℕ → List (List ℕ) → ℕ → List ℕ → Type 0
+ReadsOn old new view sources status lines =
+    IsRefused (IsNoRule sources) old new view status lines
+    ⊎ ((v : RuleValue) × IsRuleFile old view sources v × (status ≡ 0) × (lines ≡ canonical sources v ++ 10 ∷ []))
+
+-- a view is read: the catalog is refused, or what follows over its sources
+abbrev pub Reads : FilesView → FilesView → List ℕ → List ℕ → ℕ → List ℕ → Type 0
+Reads old new view catalog status lines =
+    IsRefused IsNoCatalog old new catalog status lines
+    ⊎ ((sources : List SourceSpec) × IsCatalogFile old catalog sources × ReadsOn old new view (names_of_sources sources) status lines)
+
 -- the lines that a command writes where nothing cuts it short, and its status then
 abbrev pub IsCourse : FilesView → FilesView → Command → ℕ → List ℕ → Type 0
 IsCourse old new help status lines = (status ≡ 0) × (lines ≡ help_text)
 IsCourse old new version status lines = (status ≡ 0) × (lines ≡ version_text)
 IsCourse old new (walk file script) status lines = Walks old new file script status lines
+IsCourse old new (read view catalog) status lines = Reads old new view catalog status lines
 IsCourse old new unknown status lines = (status ≡ 2) × (lines ≡ unknown_text)

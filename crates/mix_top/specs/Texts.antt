@@ -5,6 +5,10 @@ use Rattle.std.specs.Prelude.{ℕ, List, ◌++◌, codes}
 abbrev pub walk_help : List ℕ
 walk_help = codes "mixq walk FILE SCRIPT   answers the steps of SCRIPT, a line each, on the tree that FILE spells\n"
 
+-- the line on `read`
+abbrev pub read_help : List ℕ
+read_help = codes "mixq read VIEW CATALOG  writes the canonical text of the rule that VIEW spells over the sources of CATALOG\n"
+
 -- the line on `--help`
 abbrev pub help_help : List ℕ
 help_help = codes "mixq --help             writes these lines\n"
@@ -15,7 +19,7 @@ version_help = codes "mixq --version          writes the name and the version\n"
 
 -- how to call the program, a line for each form of words
 abbrev pub help_text : List ℕ
-help_text = walk_help ++ (help_help ++ version_help)
+help_text = (walk_help ++ read_help) ++ (help_help ++ version_help)
 
 -- the name and the version
 abbrev pub version_text : List ℕ

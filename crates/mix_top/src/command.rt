@@ -9,6 +9,7 @@ pub enum Command<'a> {
     Help,
     Version,
     Walk { file: &'a str, script: &'a str },
+    Read { view: &'a str, catalog: &'a str },
     /// Words of no form.
     Unknown,
 }
@@ -23,6 +24,10 @@ pub fn read_words(words: &[String]) -> Command<'_>
         [word, file, script] if word.as_str() == "walk" => Command::Walk {
             file: file.as_str(),
             script: script.as_str(),
+        },
+        [word, view, catalog] if word.as_str() == "read" => Command::Read {
+            view: view.as_str(),
+            catalog: catalog.as_str(),
         },
         _ => Command::Unknown,
     }

@@ -4,6 +4,7 @@
 mod answers;
 mod command;
 mod load;
+mod reading;
 mod refusal;
 mod top;
 mod walk;

@@ -1,17 +1,21 @@
 // Files that a command reads whole and accepts, one after another.
 ghost use Rattle.std.specs.Prelude.{◌≡◌, List, ℕ, OnOk, IfOk, IfErr};
 ghost use Rattle.mix_io.specs.Views.{FilesView, KeepsFiles};
-ghost use Rattle.mix_top.specs.Causes.{IsRead, IsNoBytes, IsNoCatalog, IsNoDocument, IsNoScript};
-ghost use Rattle.mix_top.specs.Course.{IsCatalogFile, IsDocument, IsScript};
+ghost use Rattle.xmas_rule.specs.RuleMade.{rule_of};
+ghost use Rattle.xmas_read.specs.Results.{names_of_sources};
+ghost use Rattle.mix_top.specs.Causes.{IsRead, IsNoBytes, IsNoCatalog, IsNoDocument, IsNoRule, IsNoScript};
+ghost use Rattle.mix_top.specs.Course.{IsCatalogFile, IsDocument, IsRuleFile, IsScript};
 ghost use Rattle.mix_top.specs.Stops.{IsLoadStop};
 
-use crate::refusal::{FileFault, Stop, refused};
+use crate::refusal::{FileFault, Stop, refused, refused_view};
 use bracket_text::{BracketFault, read_tree};
 use mix_catalog::{Catalog, CatalogFault, read_catalog};
 use mix_io::{Files, ReadWhole, read_whole};
 use mix_script::{ScriptFault, Step, read_script};
 use mix_tree::Tree;
 use std::alloc::Global;
+use xmas_read::read_rule;
+use xmas_rule::Rule;
 
 // The bytes of a file.
 fn load<F: Files>(alloc: Global, files: &mut F, path: &str) -> Result<Vec<u8>, Stop>
@@ -82,5 +86,24 @@ pub fn load_catalog<F: Files>(alloc: Global, files: &mut F, path: &str) -> Resul
             FileFault::TooManySources(line),
         )),
         Err(CatalogFault::OutOfMemory) => Err(Stop::OutOfMemory),
+    }
+}
+
+/// The rule that a file spells over the sources of a catalog. An error is as with a tree.
+pub fn load_rule<F: Files>(
+    alloc: Global,
+    files: &mut F,
+    path: &str,
+    catalog: &Catalog,
+) -> Result<Rule, Stop>
+    ensures keeps { KeepsFiles (F.view files.new) (F.view files.old) }
+    ensures steady { OnOk result ((p : List ℕ) → (F.view files.new).faults p ≡ (F.view files.old).faults p) }
+    ensures ok { IfOk result (λ rule. IsRuleFile (F.view files.old) path.now (names_of_sources catalog.now) (rule_of rule)) }
+    ensures err { IfErr result (IsLoadStop (IsNoRule (names_of_sources catalog.now)) (F.view files.old) (F.view files.new) path.now) }
+{
+    let bytes = load(alloc, files, path)?;
+    match read_rule(alloc, &bytes, catalog) {
+        Ok(rule) => Ok(rule),
+        Err(fault) => Err(refused_view(alloc, path, fault)),
     }
 }

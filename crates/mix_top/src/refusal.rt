@@ -1,11 +1,12 @@
 // Why a run stops before all was done, and what is said of it.
 ghost use Rattle.std.specs.Prelude.{◌≡◌, IfOk, string_bytes};
-ghost use Rattle.mix_top.specs.Causes.{status_of, refusal_line};
-ghost use Rattle.mix_top.specs.Stops.{IsStopFor};
+ghost use Rattle.mix_top.specs.Causes.{status_of, large_text, rule_line, refusal_line};
+ghost use Rattle.mix_top.specs.Stops.{IsStopFor, IsViewStop};
 ghost use Rattle.mix_top.specs.declared.refusal.Stop.TheVariants.{OutOfMemory};
 
 use mix_io::SinkFault;
 use std::alloc::{AllocError, Global};
+use xmas_read::{Large, XmasFault};
 
 /// Why a file is refused.
 #[derive(Clone, Copy, Debug, PartialEq, Eq)]
@@ -30,6 +31,8 @@ pub enum FileFault {
     NameTwice(usize),
     /// The line of this number has one source too many.
     TooManySources(usize),
+    /// It is no view, for this fault.
+    View(XmasFault),
 }
 
 /// A refusal: the status of the run, and the line that says why.
@@ -71,6 +74,45 @@ impl From<SinkFault> for Stop {
     }
 }
 
+// What a view has too much of.
+fn large_name(large: Large) -> &'static str
+    ensures { result.now ≡ large_text large }
+{
+    match large {
+        Large::Depth => "depth",
+        Large::Items => "items",
+        Large::Variables => "variables",
+        Large::Conditions => "conditions",
+        Large::Nesting => "nesting",
+        Large::Positions => "positions",
+    }
+}
+
+// What is said of a view.
+fn view_line(alloc: Global, path: &str, fault: XmasFault) -> Result<String, AllocError>
+    ensures { IfOk result (λ line. string_bytes line ≡ rule_line path.now fault) }
+{
+    match fault {
+        XmasFault::NotUtf8(at) => format!(in alloc; "{path}: not UTF-8 at {at}\n"),
+        XmasFault::Unexpected(at) => format!(in alloc; "{path}: unexpected at {at}\n"),
+        XmasFault::EndsEarly => format!(in alloc; "{path}: ends too early\n"),
+        XmasFault::TooLarge(large) => {
+            let name = large_name(large);
+            format!(in alloc; "{path}: too large: {name}\n")
+        }
+        XmasFault::TagDiffers(at) => format!(in alloc; "{path}: tag differs at {at}\n"),
+        XmasFault::UnknownSource(at) => format!(in alloc; "{path}: unknown source at {at}\n"),
+        XmasFault::BoundTwice(at) => format!(in alloc; "{path}: bound twice at {at}\n"),
+        XmasFault::Unbound(at) => format!(in alloc; "{path}: unbound variable at {at}\n"),
+        XmasFault::OuterGroup(at) => {
+            format!(in alloc; "{path}: outer element grouped at {at}\n")
+        }
+        XmasFault::Loose(at) => format!(in alloc; "{path}: loose item at {at}\n"),
+        XmasFault::TwoLists(at) => format!(in alloc; "{path}: two lists at {at}\n"),
+        XmasFault::OutOfMemory => format!(in alloc; "{path}\n"),
+    }
+}
+
 // What is said of a file.
 fn line_of(alloc: Global, path: &str, fault: FileFault) -> Result<String, AllocError>
     ensures { IfOk result (λ line. string_bytes line ≡ refusal_line path.now fault) }
@@ -90,6 +132,7 @@ fn line_of(alloc: Global, path: &str, fault: FileFault) -> Result<String, AllocE
         FileFault::TooManySources(line) => {
             format!(in alloc; "{path}: too many sources in line {line}\n")
         }
+        FileFault::View(fault) => view_line(alloc, path, fault),
     }
 }
 
@@ -107,7 +150,8 @@ fn status_for(fault: FileFault) -> u8
         | FileFault::NoForm(_)
         | FileFault::ChunkOutOfRange(_)
         | FileFault::NameTwice(_)
-        | FileFault::TooManySources(_) => 3,
+        | FileFault::TooManySources(_)
+        | FileFault::View(_) => 3,
     }
 }
 
@@ -121,5 +165,15 @@ pub fn refused(alloc: Global, path: &str, fault: FileFault) -> Stop
             line,
         }),
         Err(_) => Stop::OutOfMemory,
+    }
+}
+
+/// The stop of a run by a view that is refused for this fault; want of memory names no file.
+pub fn refused_view(alloc: Global, path: &str, fault: XmasFault) -> Stop
+    ensures { IsViewStop path.now fault result }
+{
+    match fault {
+        XmasFault::OutOfMemory => Stop::OutOfMemory,
+        _ => refused(alloc, path, FileFault::View(fault)),
     }
 }

@@ -1,5 +1,5 @@
 // The top call.
-ghost use Rattle.std.specs.Prelude.{◌≡◌, ◌≤◌, ℕ, List, OnOk, IfErr, map, string_bytes};
+ghost use Rattle.std.specs.Prelude.{◌≡◌, ◌≤◌, ◌++◌, ℕ, List, OnOk, IfErr, map, string_bytes};
 ghost use Rattle.mix_io.specs.Views.{FilesView, SinkView, KeepsFiles};
 ghost use Rattle.mix_io.specs.Contents.{Appends};
 ghost use Rattle.mix_top.specs.Commands.{command_of};
@@ -9,13 +9,14 @@ ghost use Rattle.mix_top.specs.Stops.{IsCut, IsDone, IsStop, IsWordsStop};
 ghost use Rattle.mix_top.specs.Texts.{help_text, unknown_text};
 
 use crate::command::{Command, read_words};
+use crate::reading::read;
 use crate::refusal::{Refusal, Stop};
 use crate::walk::walk;
 use mix_io::{Files, Sink, SinkFault};
 use std::alloc::Global;
 
-// Writes a line.
-fn write_line<K: Sink>(alloc: Global, line: &[u8], out: &mut K) -> Result<(), Stop>
+/// Writes a line.
+pub fn write_line<K: Sink>(alloc: Global, line: &[u8], out: &mut K) -> Result<(), Stop>
     ensures ok { OnOk result (Appends (K.view out.old).written (K.view out.new).written line.now) }
     ensures err { IfErr result (IsCut (K.view out.old) (K.view out.new) line.now) }
     ensures count { (K.view out.old).faults ≤ (K.view out.new).faults }
@@ -24,20 +25,31 @@ fn write_line<K: Sink>(alloc: Global, line: &[u8], out: &mut K) -> Result<(), St
     Ok(())
 }
 
+// Writes two lines, each by one write.
+fn write_two<K: Sink>(alloc: Global, first: &[u8], second: &[u8], out: &mut K) -> Result<(), Stop>
+    ensures ok { OnOk result (Appends (K.view out.old).written (K.view out.new).written (first.now ++ second.now)) }
+    ensures err { IfErr result (IsCut (K.view out.old) (K.view out.new) (first.now ++ second.now)) }
+    ensures count { (K.view out.old).faults ≤ (K.view out.new).faults }
+{
+    write_line(alloc, first, out)?;
+    write_line(alloc, second, out)
+}
+
 // Writes how to call the program, each line by one write.
 fn write_help<K: Sink>(alloc: Global, out: &mut K) -> Result<(), Stop>
     ensures ok { OnOk result (Appends (K.view out.old).written (K.view out.new).written help_text) }
     ensures err { IfErr result (IsCut (K.view out.old) (K.view out.new) help_text) }
     ensures count { (K.view out.old).faults ≤ (K.view out.new).faults }
 {
-    write_line(
+    write_two(
         alloc,
         b"mixq walk FILE SCRIPT   answers the steps of SCRIPT, a line each, on the tree that FILE spells\n",
+        b"mixq read VIEW CATALOG  writes the canonical text of the rule that VIEW spells over the sources of CATALOG\n",
         out,
     )?;
-    write_line(alloc, b"mixq --help             writes these lines\n", out)?;
-    write_line(
+    write_two(
         alloc,
+        b"mixq --help             writes these lines\n",
         b"mixq --version          writes the name and the version\n",
         out,
     )
@@ -69,6 +81,7 @@ fn run<F: Files, K: Sink>(
         Command::Help => write_help(alloc, out),
         Command::Version => write_line(alloc, b"mixq 0.1.0\n", out),
         Command::Walk { file, script } => walk(alloc, file, script, files, out),
+        Command::Read { view, catalog } => read(alloc, view, catalog, files, out),
         Command::Unknown => Err(unknown_words(alloc)),
     }
 }

@@ -62,7 +62,26 @@ Refuses x sources (fault.Loose at) = IsUtf8 x × ComesOf x sources (Err (fault.L
 Refuses x sources (fault.TwoLists at) = IsUtf8 x × ComesOf x sources (Err (fault.TwoLists at))
 Refuses x sources fault.OutOfMemory = Unit {0}
 
+-- the text spells the rule, over sources of these names
+abbrev pub Spells : List ℕ → List (List ℕ) → RuleValue → Type 0
+Spells x sources v = IsUtf8 x × ((t : Tree) × texts.SpellsWithin x (form_of_tree t) × (checked sources t ≡ Ok v))
+
+-- memory ran out
+abbrev pub IsWantOfMemory : XmasFault → Type 0
+IsWantOfMemory (fault.NotUtf8 at) = ⊥
+IsWantOfMemory (fault.Unexpected at) = ⊥
+IsWantOfMemory fault.EndsEarly = ⊥
+IsWantOfMemory (fault.TooLarge what) = ⊥
+IsWantOfMemory (fault.TagDiffers at) = ⊥
+IsWantOfMemory (fault.UnknownSource at) = ⊥
+IsWantOfMemory (fault.BoundTwice at) = ⊥
+IsWantOfMemory (fault.Unbound at) = ⊥
+IsWantOfMemory (fault.OuterGroup at) = ⊥
+IsWantOfMemory (fault.Loose at) = ⊥
+IsWantOfMemory (fault.TwoLists at) = ⊥
+IsWantOfMemory fault.OutOfMemory = Unit {0}
+
 -- the rule that the text spells over sources of these names, or why none is read
 abbrev pub Answers : List ℕ → List (List ℕ) → Result Rule XmasFault → Type 0
-Answers x sources (Ok r) = IsUtf8 x × ComesOf x sources (Ok r)
+Answers x sources (Ok r) = Spells x sources (rule_of r)
 Answers x sources (Err e) = Refuses x sources e

@@ -1,0 +1,27 @@
+use Rattle.std.proofs.Common.{◌≡◌, ◌≤◌, ◌++◌, OnOk, IfErr}
+use Rattle.std.proofs.lemmas.Result.{on_ok_weaker, IfErr-weaker, err_from_is_err_and}
+use Rattle.mix_top.specs.Stops.{IsCut}
+use Rattle.mix_top.proofs.Lines.{one_more, cut_first, cut_last}
+use Rattle.mix_top.proofs.top.write_two.Goals as goal
+
+pub returns-in_err-write_line-clause-err : goal.returns-in_err-write_line-clause-err
+returns-in_err-write_line-clause-err g c =
+    let p = err_from_is_err_and c.from_residual.result c.from_residual.ensures.1 in
+    rw (p.1, p.2) (cut_first (g.K.Sink.view c.args.out.now) (g.K.Sink.view c.write_line.new.out) c.args.first.now c.args.second.now _ c.in_err-write_line.ensures.err)
+
+pub returns-clause-ok : goal.returns-clause-ok
+returns-clause-ok g c =
+    let view = g.K.Sink.view in
+    on_ok_weaker c.write_line-2.result
+    (λ later. one_more (view c.args.out.now).written (view c.write_line.new.out).written (view c.write_line-2.new.out).written c.args.first.now c.args.second.now c.in_ok-write_line.ensures.ok later)
+    c.write_line-2.ensures.ok
+
+pub returns-clause-err : goal.returns-clause-err
+returns-clause-err g c =
+    let view = g.K.Sink.view in
+    let before = view c.args.out.now in
+    let mid = view c.write_line.new.out in
+    let after = view c.write_line-2.new.out in
+    IfErr-weaker c.write_line-2.result (IsCut mid after c.args.second.now) (IsCut before after (c.args.first.now ++ c.args.second.now))
+    (λ stop h. cut_last before mid after c.args.first.now c.args.second.now stop c.in_ok-write_line.ensures.ok c.in_ok-write_line.ensures.count h)
+    c.write_line-2.ensures.err
