@@ -82,12 +82,13 @@ moved_right t b x place (Ok (Some q)) at next exact =
     )
 moved_right t b x place (Err fault) at next exact = tt
 
--- what was found as a child, or as a next sibling, is a spot
+-- what was found as a child is a spot
 child_found : (b : Buffer) (x : Spot) (found : Result (Option Spot) BufferFault) → IfOk found (λ r. IfSome r (IsChildSpot b x 0)) → FoundSpot b found
 child_found b x (Ok None) h = tt
 child_found b x (Ok (Some c)) h = h.spot
 child_found b x (Err fault) h = tt
 
+-- what was found as a next sibling is a spot
 next_found : (b : Buffer) (x : Spot) (found : Result (Option Spot) BufferFault) → IfOk found (λ r. IfSome r (IsNextSpot b x)) → FoundSpot b found
 next_found b x (Ok None) h = tt
 next_found b x (Ok (Some c)) h = h.spot
@@ -109,6 +110,7 @@ module _ (v v' : View) (b b' : Buffer) (keeps : Keeps v' v) (goes : Goes v b v' 
   is_here : IsFound (number_of b) found a
   is_here = subst (λ n. IsFound n found a) (own ∙ goes.number) is
 
+  -- a fault was counted
   counted : HasRisenBy (faults_in (a ∷ [])) (v.faults (number_of b)) (v'.faults (number_of b))
   counted = counted_found (number_of b) (v.faults (number_of b)) (v'.faults (number_of b)) found a (keeps.faults (number_of b)) failed is_here
 

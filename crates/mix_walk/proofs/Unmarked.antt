@@ -68,6 +68,7 @@ module _ (old new : View) (source : ℕ) (names : List (List ℕ)) (steps : List
   faultless : (answers : List Answer) → IsWalk old new source steps answers → faults_in answers ≡ 0
   faultless answers walk = omega (arith, walk.counted, steady, room)
 
+  -- a front of a line was written
   within : EndsWithin old new source names steps before after → AppendsFront before.written after.written (transcript t [] [] steps)
   within w =
       let answers = w.answers ++ w.last ∷ [] in

@@ -33,11 +33,12 @@ appends_nothing : (before : Option (List ℕ)) → Appends before before []
 appends_nothing None = refl
 appends_nothing (Some w) = ap Some (sym (append_nil w))
 
--- one answer more
+-- how many faults there are with one answer more
 faults_push : (answers : List Answer) (a : Answer) → faults_in (answers ++ a ∷ []) ≡ faults_in answers + faults_in (a ∷ [])
 faults_push [] a = omega arith
 faults_push (x ∷ answers) a = omega (arith, faults_push answers a)
 
+-- whether there is a fault with one answer more
 has_fault_push : (answers : List Answer) (a : Answer) → has_fault (answers ++ a ∷ []) ≡ has_fault answers || is_fault a
 has_fault_push [] a = last (is_fault a)
   where

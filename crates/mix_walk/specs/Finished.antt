@@ -38,6 +38,7 @@ pub lines_begin_transcript : (t : LabelledTree) (sources : List (List ℕ)) (ans
     → (rest : List ℕ) × (answer_lines sources answers steps ++ rest ≡ transcript t sources (marks_of answers) steps)
 lines_begin_transcript t sources answers steps h = lines_of_rest t sources no_names answers steps h
 
+-- the lines of answers to all steps are those of the steps, from these names on
 lines_of_all : (t : LabelledTree) (sources : List (List ℕ)) (names : Names) (answers : List Answer) (steps : List Step) → AreOf t names answers steps → length answers ≡ length steps
     → answer_lines sources answers steps ≡ lines_from t sources names (marks_of answers) steps
 lines_of_all t sources names [] [] h all = refl
@@ -75,6 +76,7 @@ marks_are t names (answer.Fault s) step e = of step.act e
         never None q = cc
         never (Some u) q = cc
 
+-- the marks that the answers show may stand, from these names on
 are_marks : (t : LabelledTree) (names : Names) (answers : List Answer) (steps : List Step) → AreOf t names answers steps → AreMarks true t names (marks_of answers) steps
 are_marks t names answers [] h = tt
 are_marks t names [] (step ∷ steps) h = (tt, are_marks t (answered t names None step).1 [] steps tt)
