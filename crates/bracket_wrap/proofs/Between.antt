@@ -24,11 +24,12 @@ fits_some ns from to h = some_below (below ns (to - 1)) from to h
     some_below : (b f t : ℕ) → nat_lt b (t - f) ≡ true → f + b < t
     some_below b f t e = grind (arith, nat_tests)
 
--- what a test chooses
+-- a test that fails chooses nothing
 chosen_none : (b : Bool) (f : Forest) → b ≡ false → cond b f none ≡ none
 chosen_none true f h = cc
 chosen_none false f h = refl
 
+-- a test that holds chooses the trees
 chosen_some : (b : Bool) (f : Forest) → b ≡ true → cond b f none ≡ f
 chosen_some true f h = refl
 chosen_some false f h = cc

@@ -47,11 +47,12 @@ module _ (ns : List LaidNode) where
       ∙ sym (between_some ns from to h))
       (λ h. sym (between_none ns from to h))
 
-  -- no two holes stand side by side
+  -- below a node no two holes stand side by side
   apart-kids : (whole : Bool) (i : ℕ) → IsApart (kids_given ns whole i)
   apart-kids true i = IsApart-without_holes (between ns (before ns i) i)
   apart-kids false i = by_test IsApart (fits ns (before ns i) i) (hole (rest_hole (all_of i)) nil) nil (λ h. (refl, tt)) (λ h. tt)
 
+  -- and in no list that is given
   apart-given : (whole : Bool) (parent most to : ℕ) → IsApart (given_from ns whole parent most to)
   apart-given whole parent zero to =
       by_test IsApart (fits ns (before ns parent) to) (hole (rest_hole (record { node = parent; to = to })) nil) nil (λ h. (refl, tt)) (λ h. tt)
@@ -85,6 +86,7 @@ module _ (ns : List LaidNode) where
       tests : (b i t n : ℕ) → i < n → b ≤ t → t ≤ i → (0 == 0) && (nat_lt i n && (nat_le b t && nat_le t i)) ≡ true
       tests b i t n p q r = grind (arith, nat_tests)
 
+  -- the holes below a node are known
   known-kids : (whole : Bool) (i : ℕ) → i < length ns → AllHoles (is_known ns) (kids_given ns whole i)
   known-kids true i h = AllHoles-without_holes (is_known ns) (between ns (before ns i) i)
   known-kids false i h =
@@ -116,10 +118,12 @@ module _ (ns : List LaidNode) where
       parts : (w b i t n : ℕ) → (w == 0) && (nat_lt i n && (nat_le b t && nat_le t i)) ≡ true → (i < n) × (b ≤ t) × (t ≤ i)
       parts w b i t n e = (grind (arith, nat_tests), grind (arith, nat_tests), grind (arith, nat_tests))
 
+  -- a test that fails chooses the empty list
   chosen_nil : (b : Bool) (x : Open) → b ≡ false → cond b x nil ≡ nil
   chosen_nil true x h = cc
   chosen_nil false x h = refl
 
+  -- a test that holds chooses the other list
   chosen : (b : Bool) (x : Open) → b ≡ true → cond b x nil ≡ x
   chosen true x h = refl
   chosen false x h = cc

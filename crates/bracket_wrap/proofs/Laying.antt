@@ -58,6 +58,7 @@ laid-tree nodes now more label kids t count laid_kids size e is =
     ∙ append_assoc nodes (laid kids) (record { label = label; below = nodes_of kids } ∷ [])
     ∙ ap (λ u. nodes ++ laid (alone u)) is
 
+-- a smaller number passes the test
 fit : (b d : ℕ) → b < d → nat_lt b d ≡ true
 fit b d h = grind (arith, nat_tests)
 
