@@ -1,7 +1,6 @@
 //! The top call: words in, lines and a status out.
 #![tactic(auto)]
 
-mod answers;
 mod command;
 mod load;
 mod reading;

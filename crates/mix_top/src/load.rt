@@ -6,9 +6,11 @@ ghost use Rattle.xmas_read.specs.Results.{names_of_sources};
 ghost use Rattle.mix_top.specs.Causes.{IsRead, IsNoBytes, IsNoCatalog, IsNoDocument, IsNoRule, IsNoScript};
 ghost use Rattle.mix_top.specs.Course.{IsCatalogFile, IsDocument, IsRuleFile, IsScript};
 ghost use Rattle.mix_top.specs.Stops.{IsLoadStop};
+ghost use Rattle.mix_top.specs.Mounted.{IsMounted};
 
 use crate::refusal::{FileFault, Stop, refused, refused_view};
 use bracket_text::{BracketFault, read_tree};
+use bracket_wrap::{BracketDoc, OneDocument};
 use mix_catalog::{Catalog, CatalogFault, read_catalog};
 use mix_io::{Files, ReadWhole, read_whole};
 use mix_script::{ScriptFault, Step, read_script};
@@ -32,8 +34,8 @@ fn load<F: Files>(alloc: Global, files: &mut F, path: &str) -> Result<Vec<u8>, S
     }
 }
 
-/// The tree that a file spells. An error names the file and why it is refused; only want of memory has no cause.
-pub fn load_tree<F: Files>(alloc: Global, files: &mut F, path: &str) -> Result<Tree, Stop>
+// The tree that a file spells. An error names the file and why it is refused; only want of memory has no cause.
+fn load_tree<F: Files>(alloc: Global, files: &mut F, path: &str) -> Result<Tree, Stop>
     ensures keeps { KeepsFiles (F.view files.new) (F.view files.old) }
     ensures steady { OnOk result ((p : List ℕ) → (F.view files.new).faults p ≡ (F.view files.old).faults p) }
     ensures ok { IfOk result (IsDocument (F.view files.old) path.now) }
@@ -48,6 +50,18 @@ pub fn load_tree<F: Files>(alloc: Global, files: &mut F, path: &str) -> Result<T
         Err(BracketFault::Ends) => Err(refused(alloc, path, FileFault::EndsEarly)),
         Err(BracketFault::OutOfMemory) => Err(Stop::OutOfMemory),
     }
+}
+
+/// The document that a file spells, as a source that gives one child at a time. An error is as with a tree. What the tree
+/// takes is free again before the next file is read.
+pub fn mount<F: Files>(alloc: Global, files: &mut F, path: &str) -> Result<OneDocument, Stop>
+    ensures keeps { KeepsFiles (F.view files.new) (F.view files.old) }
+    ensures steady { OnOk result ((p : List ℕ) → (F.view files.new).faults p ≡ (F.view files.old).faults p) }
+    ensures ok { IfOk result (IsMounted (F.view files.old) path.now) }
+    ensures err { IfErr result (IsLoadStop IsNoDocument (F.view files.old) (F.view files.new) path.now) }
+{
+    let tree = load_tree(alloc, files, path)?;
+    Ok(OneDocument::new(BracketDoc::open(alloc, tree, 1, false)?))
 }
 
 /// The steps of a file that is a script. An error is as with a tree.

@@ -1,8 +1,9 @@
 use Rattle.std.proofs.Common.{◌≡◌, ◌≤◌, ◌++◌, OnOk, IfErr}
 use Rattle.std.proofs.lemmas.Result.{on_ok_weaker, IfErr-weaker, err_from_is_err_and}
 use Rattle.mix_top.specs.Stops.{IsCut}
+use Rattle.mix_io.proofs.Written.{one_more}
 use Rattle.mix_top.specs.Texts.{walk_help, read_help, help_help, version_help}
-use Rattle.mix_top.proofs.Lines.{one_more, cut_first, cut_last}
+use Rattle.mix_top.proofs.Lines.{cut_first, cut_last}
 use Rattle.mix_top.proofs.top.write_help.Goals as goal
 
 pub returns-in_err-write_two-clause-err : goal.returns-in_err-write_two-clause-err
