@@ -8,6 +8,7 @@ pub data Command : Type 0 where
   version : Command
   walk : (file : List ℕ) → (script : List ℕ) → Command
   read : (view : List ℕ) → (catalog : List ℕ) → Command
+  plan : (view : List ℕ) → (catalog : List ℕ) → Command
   unknown : Command
 
 -- the command that words are
@@ -15,5 +16,5 @@ abbrev pub command_of : List (List ℕ) → Command
 command_of [] = unknown
 command_of (word ∷ []) = cond (bytes_eq word (codes "--help")) help (cond (bytes_eq word (codes "--version")) version unknown)
 command_of (a ∷ b ∷ []) = unknown
-command_of (word ∷ a ∷ b ∷ []) = cond (bytes_eq word (codes "walk")) (walk a b) (cond (bytes_eq word (codes "read")) (read a b) unknown)
+command_of (word ∷ a ∷ b ∷ []) = cond (bytes_eq word (codes "walk")) (walk a b) (cond (bytes_eq word (codes "read")) (read a b) (cond (bytes_eq word (codes "plan")) (plan a b) unknown))
 command_of (a ∷ b ∷ c ∷ d ∷ words) = unknown

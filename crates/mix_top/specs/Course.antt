@@ -12,9 +12,11 @@ use Rattle.mix_script.specs.Transcript.{transcript}
 use Rattle.xmas_rule.specs.Rules.{RuleValue}
 use Rattle.xmas_read.specs.Results.{names_of_sources, Spells}
 use Rattle.xmas_read.specs.Canonical.{canonical}
+use Rattle.plan_core.specs.PlanText.{plan_text}
+use Rattle.plan_make.specs.Operators.{plan_of}
 use Rattle.mix_top.specs.declared.refusal.FileFault.{FileFault}
 use Rattle.mix_top.specs.Causes.{IsRead, IsCause, IsNoCatalog, IsNoDocument, IsNoRule, IsNoScript, status_of, refusal_line}
-use Rattle.mix_top.specs.Commands.{Command, help, version, walk, read, unknown}
+use Rattle.mix_top.specs.Commands.{Command, help, version, walk, read, plan, unknown}
 use Rattle.mix_top.specs.Texts.{help_text, version_text, unknown_text}
 
 -- a file spells a tree of at most 200 levels
@@ -59,22 +61,30 @@ abbrev pub Walks : FilesView → FilesView → List ℕ → List ℕ → ℕ →
 Walks old new file script status lines =
     IsRefused IsNoDocument old new file status lines ⊎ ((t : LabelledTree) × IsDocument old file t × WalksOn old new script t status lines)
 
--- a view is read over sources of these names: it is refused, or the line is its canonical text
-abbrev pub ReadsOn : FilesView → FilesView → List ℕ → List (List ℕ) → ℕ → List ℕ → Type 0
-ReadsOn old new view sources status lines =
+-- what is written of a rule over sources of these names: its canonical text and LF, or its plan
+abbrev pub read_lines : List (List ℕ) → RuleValue → List ℕ
+read_lines sources v = canonical sources v ++ 10 ∷ []
+
+abbrev pub plan_lines : List (List ℕ) → RuleValue → List ℕ
+plan_lines sources v = plan_text (plan_of sources v)
+
+-- a view is read over sources of these names: it is refused, or the lines are those of its rule
+abbrev pub ReadsOn : (List (List ℕ) → RuleValue → List ℕ) → FilesView → FilesView → List ℕ → List (List ℕ) → ℕ → List ℕ → Type 0
+ReadsOn text old new view sources status lines =
     IsRefused (IsNoRule sources) old new view status lines
-    ⊎ ((v : RuleValue) × IsRuleFile old view sources v × (status ≡ 0) × (lines ≡ canonical sources v ++ 10 ∷ []))
+    ⊎ ((v : RuleValue) × IsRuleFile old view sources v × (status ≡ 0) × (lines ≡ text sources v))
 
 -- a view is read: the catalog is refused, or what follows over its sources
-abbrev pub Reads : FilesView → FilesView → List ℕ → List ℕ → ℕ → List ℕ → Type 0
-Reads old new view catalog status lines =
+abbrev pub Reads : (List (List ℕ) → RuleValue → List ℕ) → FilesView → FilesView → List ℕ → List ℕ → ℕ → List ℕ → Type 0
+Reads text old new view catalog status lines =
     IsRefused IsNoCatalog old new catalog status lines
-    ⊎ ((sources : List SourceSpec) × IsCatalogFile old catalog sources × ReadsOn old new view (names_of_sources sources) status lines)
+    ⊎ ((sources : List SourceSpec) × IsCatalogFile old catalog sources × ReadsOn text old new view (names_of_sources sources) status lines)
 
 -- the lines that a command writes where nothing cuts it short, and its status then
 abbrev pub IsCourse : FilesView → FilesView → Command → ℕ → List ℕ → Type 0
 IsCourse old new help status lines = (status ≡ 0) × (lines ≡ help_text)
 IsCourse old new version status lines = (status ≡ 0) × (lines ≡ version_text)
 IsCourse old new (walk file script) status lines = Walks old new file script status lines
-IsCourse old new (read view catalog) status lines = Reads old new view catalog status lines
+IsCourse old new (read view catalog) status lines = Reads read_lines old new view catalog status lines
+IsCourse old new (plan view catalog) status lines = Reads plan_lines old new view catalog status lines
 IsCourse old new unknown status lines = (status ≡ 2) × (lines ≡ unknown_text)

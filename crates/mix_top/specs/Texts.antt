@@ -9,6 +9,10 @@ walk_help = codes "mixq walk FILE SCRIPT   answers the steps of SCRIPT, a line e
 abbrev pub read_help : List ℕ
 read_help = codes "mixq read VIEW CATALOG  writes the canonical text of the rule that VIEW spells over the sources of CATALOG\n"
 
+-- the line on `plan`
+abbrev pub plan_help : List ℕ
+plan_help = codes "mixq plan VIEW CATALOG  writes the plan of that rule, an operator a line\n"
+
 -- the line on `--help`
 abbrev pub help_help : List ℕ
 help_help = codes "mixq --help             writes these lines\n"
@@ -19,7 +23,7 @@ version_help = codes "mixq --version          writes the name and the version\n"
 
 -- how to call the program, a line for each form of words
 abbrev pub help_text : List ℕ
-help_text = (walk_help ++ read_help) ++ (help_help ++ version_help)
+help_text = walk_help ++ ((read_help ++ plan_help) ++ (help_help ++ version_help))
 
 -- the name and the version
 abbrev pub version_text : List ℕ

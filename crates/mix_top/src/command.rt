@@ -10,6 +10,7 @@ pub enum Command<'a> {
     Version,
     Walk { file: &'a str, script: &'a str },
     Read { view: &'a str, catalog: &'a str },
+    Plan { view: &'a str, catalog: &'a str },
     /// Words of no form.
     Unknown,
 }
@@ -26,6 +27,10 @@ pub fn read_words(words: &[String]) -> Command<'_>
             script: script.as_str(),
         },
         [word, view, catalog] if word.as_str() == "read" => Command::Read {
+            view: view.as_str(),
+            catalog: catalog.as_str(),
+        },
+        [word, view, catalog] if word.as_str() == "plan" => Command::Plan {
             view: view.as_str(),
             catalog: catalog.as_str(),
         },

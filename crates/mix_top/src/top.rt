@@ -6,10 +6,10 @@ ghost use Rattle.mix_top.specs.Commands.{command_of};
 ghost use Rattle.mix_top.specs.Course.{IsCourse};
 ghost use Rattle.mix_top.specs.Ends.{Ends};
 ghost use Rattle.mix_top.specs.Stops.{IsCut, IsDone, IsStop, IsWordsStop};
-ghost use Rattle.mix_top.specs.Texts.{help_text, unknown_text};
+ghost use Rattle.mix_top.specs.Texts.{read_help, plan_help, help_help, version_help, help_text, unknown_text};
 
 use crate::command::{Command, read_words};
-use crate::reading::read;
+use crate::reading::{plan, read};
 use crate::refusal::{Refusal, Stop};
 use crate::walk::walk;
 use mix_io::{Files, Sink, SinkFault};
@@ -41,10 +41,24 @@ fn write_help<K: Sink>(alloc: Global, out: &mut K) -> Result<(), Stop>
     ensures err { IfErr result (IsCut (K.view out.old) (K.view out.new) help_text) }
     ensures count { (K.view out.old).faults ≤ (K.view out.new).faults }
 {
-    write_two(
+    write_line(
         alloc,
         b"mixq walk FILE SCRIPT   answers the steps of SCRIPT, a line each, on the tree that FILE spells\n",
+        out,
+    )?;
+    write_more_help(alloc, out)
+}
+
+// Writes the lines of help behind the first.
+fn write_more_help<K: Sink>(alloc: Global, out: &mut K) -> Result<(), Stop>
+    ensures ok { OnOk result (Appends (K.view out.old).written (K.view out.new).written ((read_help ++ plan_help) ++ (help_help ++ version_help))) }
+    ensures err { IfErr result (IsCut (K.view out.old) (K.view out.new) ((read_help ++ plan_help) ++ (help_help ++ version_help))) }
+    ensures count { (K.view out.old).faults ≤ (K.view out.new).faults }
+{
+    write_two(
+        alloc,
         b"mixq read VIEW CATALOG  writes the canonical text of the rule that VIEW spells over the sources of CATALOG\n",
+        b"mixq plan VIEW CATALOG  writes the plan of that rule, an operator a line\n",
         out,
     )?;
     write_two(
@@ -82,6 +96,7 @@ fn run<F: Files, K: Sink>(
         Command::Version => write_line(alloc, b"mixq 0.1.0\n", out),
         Command::Walk { file, script } => walk(alloc, file, script, files, out),
         Command::Read { view, catalog } => read(alloc, view, catalog, files, out),
+        Command::Plan { view, catalog } => plan(alloc, view, catalog, files, out),
         Command::Unknown => Err(unknown_words(alloc)),
     }
 }

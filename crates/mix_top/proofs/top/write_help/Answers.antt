@@ -1,29 +1,29 @@
 use Rattle.std.proofs.Common.{◌≡◌, ◌≤◌, ◌++◌, OnOk, IfErr}
 use Rattle.std.proofs.lemmas.Result.{on_ok_weaker, IfErr-weaker, err_from_is_err_and}
-use Rattle.mix_top.specs.Stops.{IsCut}
 use Rattle.mix_io.proofs.Written.{one_more}
-use Rattle.mix_top.specs.Texts.{walk_help, read_help, help_help, version_help}
+use Rattle.mix_top.specs.Stops.{IsCut}
+use Rattle.mix_top.specs.Texts.{walk_help, read_help, plan_help, help_help, version_help}
 use Rattle.mix_top.proofs.Lines.{cut_first, cut_last}
 use Rattle.mix_top.proofs.top.write_help.Goals as goal
 
-pub returns-in_err-write_two-clause-err : goal.returns-in_err-write_two-clause-err
-returns-in_err-write_two-clause-err g c =
+pub returns-in_err-write_line-clause-err : goal.returns-in_err-write_line-clause-err
+returns-in_err-write_line-clause-err g c =
     let p = err_from_is_err_and c.from_residual.result c.from_residual.ensures.1 in
-    rw (p.1, p.2) (cut_first (g.K.Sink.view c.args.out.now) (g.K.Sink.view c.write_two.new.out) (walk_help ++ read_help) (help_help ++ version_help) _ c.in_err-write_two.ensures.err)
+    rw (p.1, p.2) (cut_first (g.K.Sink.view c.args.out.now) (g.K.Sink.view c.write_line.new.out) walk_help ((read_help ++ plan_help) ++ (help_help ++ version_help)) _ c.in_err-write_line.ensures.err)
 
 pub returns-clause-ok : goal.returns-clause-ok
 returns-clause-ok g c =
     let view = g.K.Sink.view in
-    on_ok_weaker c.write_two-2.result
-    (λ later. one_more (view c.args.out.now).written (view c.write_two.new.out).written (view c.write_two-2.new.out).written (walk_help ++ read_help) (help_help ++ version_help) c.in_ok-write_two.ensures.ok later)
-    c.write_two-2.ensures.ok
+    on_ok_weaker c.write_more_help.result
+    (λ later. one_more (view c.args.out.now).written (view c.write_line.new.out).written (view c.write_more_help.new.out).written walk_help ((read_help ++ plan_help) ++ (help_help ++ version_help)) c.in_ok-write_line.ensures.ok later)
+    c.write_more_help.ensures.ok
 
 pub returns-clause-err : goal.returns-clause-err
 returns-clause-err g c =
     let view = g.K.Sink.view in
     let before = view c.args.out.now in
-    let mid = view c.write_two.new.out in
-    let after = view c.write_two-2.new.out in
-    IfErr-weaker c.write_two-2.result (IsCut mid after (help_help ++ version_help)) (IsCut before after ((walk_help ++ read_help) ++ (help_help ++ version_help)))
-    (λ stop h. cut_last before mid after (walk_help ++ read_help) (help_help ++ version_help) stop c.in_ok-write_two.ensures.ok c.in_ok-write_two.ensures.count h)
-    c.write_two-2.ensures.err
+    let mid = view c.write_line.new.out in
+    let after = view c.write_more_help.new.out in
+    IfErr-weaker c.write_more_help.result (IsCut mid after ((read_help ++ plan_help) ++ (help_help ++ version_help))) (IsCut before after (walk_help ++ ((read_help ++ plan_help) ++ (help_help ++ version_help))))
+    (λ stop h. cut_last before mid after walk_help ((read_help ++ plan_help) ++ (help_help ++ version_help)) stop c.in_ok-write_line.ensures.ok c.in_ok-write_line.ensures.count h)
+    c.write_more_help.ensures.err

@@ -1,0 +1,5 @@
+pub mod Law
+pub mod Making
+pub mod Operators
+pub mod Reached
+pub mod Translation
