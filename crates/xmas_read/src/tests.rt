@@ -121,52 +121,50 @@ fn repeated(
     Ok(text)
 }
 
+// A rule with a part so many times; parentheses are closed as often.
+fn many(
+    alloc: Global,
+    large: Large,
+    (front, part, end): (&str, &str, &str),
+    times: usize,
+) -> Result<String, Fail> {
+    let text = repeated(alloc, front, part, times, end)?;
+    match large {
+        Large::Nesting => repeated(alloc, text.as_str(), ")", times, " $X"),
+        _ => Ok(text),
+    }
+}
+
 #[test]
 fn what_is_too_large_is_refused(rt: HostRuntime) -> Result<(), Fail> {
     let alloc = rt.alloc();
     let catalog = catalog(alloc)?;
+    let conditions = ("CONSTRUCT <a> $X </a> WHERE s a $X", " AND $X = \"t\"", "");
     let rows = [
         (
-            "CONSTRUCT <a> ",
-            "\"t\" ",
-            1000,
-            "</a> WHERE s a $X",
             Large::Items,
+            ("CONSTRUCT <a> ", "\"t\" ", "</a> WHERE s a $X"),
+            1000,
+            1001,
         ),
+        (Large::Conditions, conditions, 99, 100),
         (
-            "CONSTRUCT <a> $X </a> WHERE s a $X",
-            " AND $X = \"t\"",
-            99,
-            "",
-            Large::Conditions,
-        ),
-        (
-            "CONSTRUCT <a> $X </a> WHERE s ",
-            "(",
-            100,
-            "",
             Large::Nesting,
+            ("CONSTRUCT <a> $X </a> WHERE s ", "(", "a"),
+            100,
+            101,
         ),
         (
-            "CONSTRUCT <a> $X </a> WHERE s a",
-            ".a",
-            119,
-            " $X",
             Large::Positions,
+            ("CONSTRUCT <a> $X </a> WHERE s a", ".a", " $X"),
+            119,
+            120,
         ),
     ];
-    for (front, part, times, end, large) in rows {
-        let closing = match large {
-            Large::Nesting => repeated(alloc, "a", ")", times, " $X")?,
-            _ => String::from_str(alloc, end)?,
-        };
-        let text = repeated(alloc, front, part, times, closing.as_str())?;
+    for (large, parts, most, more) in rows {
+        let text = many(alloc, large, parts, most)?;
         assert!(rt; canonical(alloc, &catalog, text.as_str()).is_ok());
-        let closing = match large {
-            Large::Nesting => repeated(alloc, "a", ")", times + 1, " $X")?,
-            _ => String::from_str(alloc, end)?,
-        };
-        let text = repeated(alloc, front, part, times + 1, closing.as_str())?;
+        let text = many(alloc, large, parts, more)?;
         let fault = canonical(alloc, &catalog, text.as_str());
         assert!(rt; matches!(fault, Err(XmasFault::TooLarge(found)) if found == large));
     }
@@ -196,7 +194,7 @@ fn rules_are_written_as_they_mean(rt: HostRuntime) -> Result<(), Fail> {
         ),
         (
             "CONSTRUCT <o> $X </o> WHERE s (a|c)*.(c|(a.c)) $X AND $X<=\"1\\\"0\" ORDER BY $X DESC",
-            "CONSTRUCT <o> $X {$X} </o> {} WHERE s (a|c)*.(c|(a.c)) $X AND $X <= \"1\\\"0\" ORDER BY $X DESC",
+            "CONSTRUCT <o> $X {$X} </o> {} WHERE s (a|c)*.(c|a.c) $X AND $X <= \"1\\\"0\" ORDER BY $X DESC",
         ),
         (
             "CONSTRUCT <a> <b> \"x y\" </b> </a> WHERE s q $X",
