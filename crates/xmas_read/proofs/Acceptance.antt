@@ -22,12 +22,12 @@ use Rattle.xmas_read.proofs.Bodies.{conds_bound, all_bound, conds_compared, orde
 use Rattle.xmas_read.proofs.NamePlaces.{among_themselves}
 
 -- there is no place
-no_place : (f : ℕ → XmasFault) (places : List ℕ) (os : List (Option XmasFault)) → first_of (first_place f places ∷ os) ≡ None → (places ≡ []) × (first_of os ≡ None)
+pub no_place : (f : ℕ → XmasFault) (places : List ℕ) (os : List (Option XmasFault)) → first_of (first_place f places ∷ os) ≡ None → (places ≡ []) × (first_of os ≡ None)
 no_place f [] os h = (refl, h)
 no_place f (at ∷ places) os h = cc
 
 -- there is no first refusal among two lists
-both_pass : (xs ys : List (Option XmasFault)) → first_of (xs ++ ys) ≡ None → (first_of xs ≡ None) × (first_of ys ≡ None)
+pub both_pass : (xs ys : List (Option XmasFault)) → first_of (xs ++ ys) ≡ None → (first_of xs ≡ None) × (first_of ys ≡ None)
 both_pass [] ys h = (refl, h)
 both_pass (None ∷ xs) ys h = both_pass xs ys h
 both_pass (Some e ∷ xs) ys h = cc

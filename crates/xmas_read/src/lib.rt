@@ -4,6 +4,7 @@
 mod checks;
 mod conds;
 mod fault;
+mod law;
 mod lists;
 mod loose;
 mod names;
@@ -16,6 +17,7 @@ mod vars;
 mod writing;
 
 pub use fault::{Large, XmasFault};
+pub use law::canonical_text_is_read_again;
 pub use reading::read_rule;
 pub use writing::write_rule;
 
