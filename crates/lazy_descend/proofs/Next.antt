@@ -1,10 +1,11 @@
 -- What is found among the events tells the next match.
-use Rattle.std.proofs.Common.{◌≡◌, ◌∙◌, ◌⊎◌, inl, inr, ◌<◌, ℕ, zero, suc, true, List, [], ◌∷◌, ◌++◌, length, append_assoc, refl, sym, ap, subst, arith}
+use Rattle.std.proofs.Common.{◌≡◌, ◌∙◌, inl, inr, ◌<◌, ℕ, true, List, [], ◌∷◌, ◌++◌, length, append_assoc, refl, sym, ap, subst, arith}
 use Rattle.mix_base.specs.Ascents.{Among, Ascending}
 use Rattle.mix_base.proofs.Ascents.{each_among, among_right, among_cases}
 use Rattle.mix_base.specs.Events.{Event, skip, bind, found, without_skips}
 use Rattle.mix_tree.specs.Forest.{Forest}
 use Rattle.mix_tree.specs.Nodes.{PlaceBefore}
+use Rattle.mix_tree.proofs.PlaceOrder.{place_itself, place_both}
 use Rattle.path_expr.specs.Form.{Form}
 use Rattle.path_expr.specs.Automaton.{Machine, IsAutomatonOf}
 use Rattle.path_expr.specs.Matches.{LeadsTo, AreMatches}
@@ -18,22 +19,6 @@ use Rattle.lazy_descend.specs.Law.{TellsNext, FindsNextMatches}
 use Rattle.lazy_descend.specs.Visit.{visit_below}
 use Rattle.lazy_descend.specs.Cursors.{IsEvent, place_at, ahead}
 use Rattle.lazy_descend.proofs.Bindings.{bindings_append, before_deeper, bindings_are_matches}
-
--- no place stands before itself
-before_itself : (p : List ℕ) → PlaceBefore p p → ⊥
-before_itself [] h = h
-before_itself (i ∷ p) (inl h) = omega (arith, h)
-before_itself (i ∷ p) (inr h) = before_itself p h.1
-
--- no two places stand before one another
-before_both : (p q : List ℕ) → PlaceBefore p q → PlaceBefore q p → ⊥
-before_both [] [] h k = h
-before_both [] (j ∷ q) h k = k
-before_both (i ∷ p) [] h k = h
-before_both (i ∷ p) (j ∷ q) (inl h) (inl k) = omega (arith, h, k)
-before_both (i ∷ p) (j ∷ q) (inl h) (inr k) = omega (arith, h, k.0)
-before_both (i ∷ p) (j ∷ q) (inr h) (inl k) = omega (arith, h.0, k)
-before_both (i ∷ p) (j ∷ q) (inr h) (inr k) = before_both p q h.1 k.1
 
 -- the later part of an ascending list ascends
 ascends_right : (xs ys : List (List ℕ)) → Ascending PlaceBefore (xs ++ ys) → Ascending PlaceBefore ys
@@ -49,8 +34,10 @@ ascends_across (z ∷ xs) ys h x y (inr c) d = ascends_across xs ys h.1 x y c d
 -- of matches in two parts, the later one given by events: none of the first part stands behind the place, and all of the later one do
 tells : (p : Form) (f : Forest) (start at : List ℕ) (done : List (List ℕ)) (es : List (Event (List ℕ))) → AreMatches p f start (done ++ without_skips es)
     → ((q : List ℕ) → Among q done → PlaceBefore at q → ⊥) → ((q : List ℕ) → Among q (without_skips es) → PlaceBefore at q) → TellsNext p f start at (found es)
-tells p f start at done [] all passed coming =
-    λ q is_match h. elim (among_cases done [] q ((all.exactly q).1 is_match)) [ inl c ↦ passed q c h | inr c ↦ absurd c ]
+tells p f start at done [] all passed coming = λ q is_match h. elim (among_cases done [] q ((all.exactly q).1 is_match)) [
+  | inl c ↦ passed q c h
+  | inr c ↦ absurd c
+]
 tells p f start at done (skip ∷ es) all passed coming = tells p f start at done es all passed coming
 tells p f start at done (bind x ∷ es) all passed coming = record {
   is_match = (all.exactly x).0 (among_right done (x ∷ without_skips es) x (inl refl));
@@ -76,7 +63,7 @@ match_behind p f start q h = deeper h.way h.below h.place
 first_match : (m : Machine) (p : Form) → IsAutomatonOf m p → (f : Forest) (start : List ℕ) → TellsNext p f start start (found (visit_below m f start))
 first_match m p auto f start =
     let all : AreMatches p f start (without_skips (visit_below m f start)) = bindings_are_matches m p auto f start in
-    tells p f start start [] (visit_below m f start) all (λ q c h. absurd c) (λ q c. match_behind p f start q ((all.exactly q).0 c))
+    tells p f start start [] (visit_below m f start) all (λ q c h. c) (λ q c. match_behind p f start q ((all.exactly q).0 c))
 
 -- the first binding ahead of a cursor
 next_match : (m : Machine) (p : Form) → IsAutomatonOf m p → (v : View) (b : Buffer) (start : Spot) (d : DescCursor) → IsEvent v b m start d → v.told (number_of b) ≡ true
@@ -94,10 +81,10 @@ next_match m p auto v b start d h told =
     let one : Ascending PlaceBefore (before ++ at ∷ later) = subst (Ascending PlaceBefore) (append_assoc before (at ∷ []) later) all.ascending in
     tells p f (place_of b start) at (before ++ at ∷ []) (ahead v b m d) all
     (λ q c behind. elim (among_cases before (at ∷ []) q c) [
-      | inl earlier ↦ before_both at q behind (ascends_across before (at ∷ later) one q at earlier (inl refl))
+      | inl earlier ↦ place_both at q behind (ascends_across before (at ∷ later) one q at earlier (inl refl))
       | inr same ↦ elim same [
-        | inl e ↦ before_itself at (subst (PlaceBefore at) e behind)
-        | inr none ↦ absurd none
+        | inl e ↦ place_itself at (subst (PlaceBefore at) e behind)
+        | inr none ↦ none
       ]
     ])
     (λ q c. ascends_across (before ++ at ∷ []) later all.ascending at q (among_right before (at ∷ []) at (inl refl)) c)

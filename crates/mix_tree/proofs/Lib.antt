@@ -7,5 +7,6 @@ pub mod LabelSeen
 pub mod LabelSound
 pub mod LabelTaken
 pub mod Numerals
+pub mod PlaceOrder
 pub mod Places
 pub mod TableLaws

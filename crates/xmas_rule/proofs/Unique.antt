@@ -1,34 +1,17 @@
 -- A body has one list of bindings, and so a rule one finished document.
-use Rattle.std.proofs.Common.{◌≡◌, ◌⊎◌, ◌<◌, ℕ, Bool, true, false, List, [], ◌∷◌, Option, None, Some, refl, ◌∙◌, sym, ap, arith, subst, inl, inr, Ordering, Less, Equal, Greater, is_lt}
+use Rattle.std.proofs.Common.{◌≡◌, ℕ, Bool, true, false, List, [], ◌∷◌, Option, None, Some, ◌∙◌, sym, ap, subst, inl, inr, Ordering, Less, Equal, Greater, is_lt}
 use Rattle.std.specs.Prelude.{cond}
 use Rattle.std.specs.Ordering.{ordering_reverse}
 use Rattle.std.proofs.lemmas.Cmp.{tied_itself}
 use Rattle.mix_base.proofs.Ascents.{IsStrict, same_ascents}
-use Rattle.mix_tree.specs.Forest.{LabelledTree}
 use Rattle.mix_tree.specs.Nodes.{Documents, PlaceBefore}
-use Rattle.mix_tree.specs.LabelOrder.{label_order, label_before, IsLabelOrder}
+use Rattle.mix_tree.specs.LabelOrder.{label_order, label_before}
 use Rattle.mix_tree.proofs.LabelOrders.{label_order_ok}
+use Rattle.mix_tree.proofs.PlaceOrder.{place_itself, place_both}
 use Rattle.xmas_rule.specs.Bindings.{Binding, TupleBefore, StandsBefore, sorts_before, label_of, AreBindings}
-use Rattle.xmas_rule.specs.Rules.{RuleValue}
-use Rattle.xmas_rule.specs.Meaning.{finished, IsFinished, HasOneFinished}
+use Rattle.xmas_rule.specs.Meaning.{finished, HasOneFinished}
 use Rattle.xmas_rule.specs.declared.condition.Cond.{Cond}
 use Rattle.xmas_rule.specs.declared.condition.OrderBy.{OrderBy}
-
--- no place stands before itself
-place_itself : (p : List ℕ) → PlaceBefore p p → ⊥
-place_itself [] h = h
-place_itself (i ∷ p) (inl e) = omega arith
-place_itself (i ∷ p) (inr e) = place_itself p e.1
-
--- no two places stand before one another
-place_both : (p q : List ℕ) → PlaceBefore p q → PlaceBefore q p → ⊥
-place_both [] [] h k = h
-place_both [] (j ∷ q) h k = k
-place_both (i ∷ p) [] h k = h
-place_both (i ∷ p) (j ∷ q) (inl e) (inl f) = omega arith
-place_both (i ∷ p) (j ∷ q) (inl e) (inr f) = (let d = f.0 in omega (arith, e, d))
-place_both (i ∷ p) (j ∷ q) (inr e) (inl f) = (let d = e.0 in omega (arith, f, d))
-place_both (i ∷ p) (j ∷ q) (inr e) (inr f) = place_both p q e.1 f.1
 
 -- no tuple stands before itself
 tuple_itself : (a : Binding) → TupleBefore a a → ⊥

@@ -1,5 +1,5 @@
 -- The machine reads each text of the grammar as it is written.
-use Rattle.std.proofs.Common.{◌≡◌, ◌∙◌, ℕ, Bool, true, false, ◌&&◌, IsTrue, List, [], ◌∷◌, ◌++◌, Some, option_and_then, refl, sym, ap, subst, append_assoc}
+use Rattle.std.proofs.Common.{not, ◌≡◌, ◌∙◌, ℕ, Bool, true, false, ◌&&◌, IsTrue, List, [], ◌∷◌, ◌++◌, Some, option_and_then, refl, sym, ap, subst, append_assoc}
 use Rattle.std.specs.List.{list_all}
 use Rattle.mix_base.proofs.Choices.{and_parts}
 use Rattle.mix_tree.specs.Names.{IsName}
@@ -8,7 +8,6 @@ use Rattle.xmas_text.specs.Lexer.{between}
 use Rattle.xmas_text.specs.Lexical.{is_blank, IsBlanks, IsGap, IsVar}
 use Rattle.xmas_text.specs.Machine.{State, at, run, rule_at, whole, start, read_of}
 use Rattle.xmas_text.specs.Spots.{Frame, Head, at_first, at_more, Before, first_cond, also_cond, Start, by_name, by_var, Spot, beginning, items, labelled, keys, key_comma, key_label, cond_start, cond_from, cond_path, cond_done, compared, ordering, ordering_by, sorted, has_blank, item_gap, may_group, is_none, takes, with_group, push_cond, cond_of, shift}
-use Rattle.xmas_text.specs.Stages.{not}
 use Rattle.xmas_text.specs.Tokens.{Token, fixed, open_tag, close_tag, word, var, quoted, path, comparison, kind_of, token_text}
 use Rattle.mix_tree.specs.declared.comparing.TestOp.{TestOp}
 use Rattle.xmas_text.specs.declared.token.Mark.TheVariants as mark

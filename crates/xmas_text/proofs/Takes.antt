@@ -1,5 +1,5 @@
 -- Each token that may come is read.
-use Rattle.std.proofs.Common.{◌≡◌, ◌∙◌, ◌==◌, ℕ, Bool, true, false, cond, ◌&&◌, ◌||◌, IsTrue, List, [], ◌∷◌, ◌++◌, Option, Some, None, option_and_then, refl, sym, ap, subst, arith}
+use Rattle.std.proofs.Common.{not, ◌≡◌, ◌∙◌, ◌==◌, ℕ, Bool, true, false, cond, ◌&&◌, ◌||◌, IsTrue, List, [], ◌∷◌, ◌++◌, Option, Some, None, option_and_then, refl, sym, ap, subst, arith}
 use Rattle.std.proofs.lemmas.Bool.Decides.{nat_tests}
 use Rattle.std.specs.List.{list_all}
 use Rattle.mix_base.proofs.Choices.{and_parts, some_is, none_some}
@@ -9,7 +9,6 @@ use Rattle.xmas_text.specs.Grammar.{Key, Items, nothing, variable, literal, elem
 use Rattle.xmas_text.specs.Lexer.{Lex, marking, angle, naming, dollar, varying, quoting, pathing, ready, comparing, map_path, as_path, lex_step, begin}
 use Rattle.xmas_text.specs.Lexical.{is_blank, is_word_byte, IsVar}
 use Rattle.xmas_text.specs.Spots.{Frame, Head, Place, at_first, at_more, Before, Start, by_var, Spot, beginning, items, labelled, keys, key_comma, key_label, cond_start, cond_from, cond_path, cond_done, compared, ordering, ordering_by, sorted, has_blank, item_gap, is_nothing, is_none, takes, push_key, shift}
-use Rattle.xmas_text.specs.Stages.{not}
 use Rattle.xmas_text.specs.Tokens.{Token, fixed, open_tag, close_tag, word, var, quoted, path, comparison, kind_of, mark_first, mark_rest}
 use Rattle.mix_tree.specs.declared.comparing.TestOp.{TestOp}
 use Rattle.xmas_text.specs.declared.token.Mark.{Mark}

@@ -1,5 +1,5 @@
 -- Behind a spot, the machine reads each token that may come, and stands behind the next spot.
-use Rattle.std.proofs.Common.{◌≡◌, ◌∙◌, ◌==◌, ℕ, Bool, true, false, ◌&&◌, ◌||◌, IsTrue, List, [], ◌∷◌, ◌++◌, Some, None, refl, sym, ap, append_assoc, arith}
+use Rattle.std.proofs.Common.{not, ◌≡◌, ◌∙◌, ◌==◌, ℕ, Bool, true, false, ◌&&◌, ◌||◌, IsTrue, List, [], ◌∷◌, ◌++◌, Some, None, refl, sym, ap, append_assoc, arith}
 use Rattle.std.proofs.lemmas.Bool.Decides.{nat_tests}
 use Rattle.std.specs.List.{list_all}
 use Rattle.mix_base.proofs.Choices.{and_parts, none_some}
@@ -8,7 +8,6 @@ use Rattle.xmas_text.specs.Lexer.{Lex, between, marking, angle, opening, slash, 
 use Rattle.xmas_text.specs.Lexical.{is_blank, IsBlanks}
 use Rattle.xmas_text.specs.Machine.{State, at, with_lex, next, behind, or_behind, step_in, step, run, rule_at, rule_behind, whole_in, whole}
 use Rattle.xmas_text.specs.Spots.{Spot, beginning, items, labelled, keys, key_comma, key_label, cond_start, cond_from, cond_path, cond_done, compared, ordering, ordering_by, sorted, is_nothing, is_none, takes, shift}
-use Rattle.xmas_text.specs.Stages.{not}
 use Rattle.xmas_text.specs.Tokens.{Token, token_text}
 use Rattle.xmas_text.proofs.Lexes.{run_then, run_byte}
 

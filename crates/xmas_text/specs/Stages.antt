@@ -1,5 +1,5 @@
 -- Which tokens may come at a stage of a rule, and what stage comes behind them.
-use Rattle.std.specs.Prelude.{ℕ, ◌+◌, ◌-◌, Bool, true, false, ◌&&◌}
+use Rattle.std.specs.Prelude.{ℕ, ◌+◌, ◌-◌, Bool, true, false, not, ◌&&◌}
 use Rattle.xmas_text.specs.declared.token.Mark.TheVariants as mark
 use Rattle.xmas_text.specs.declared.token.Kind.{Kind}
 use Rattle.xmas_text.specs.declared.token.Kind.TheVariants as kind
@@ -7,11 +7,6 @@ use Rattle.xmas_text.specs.declared.stage.Last.{Last}
 use Rattle.xmas_text.specs.declared.stage.Last.TheVariants as last
 use Rattle.xmas_text.specs.declared.stage.Stage.{Stage}
 use Rattle.xmas_text.specs.declared.stage.Stage.TheVariants as stage
-
--- the other truth value
-abbrev pub not : Bool → Bool
-not true = false
-not false = true
 
 -- no item stands before
 abbrev pub is_first : Last → Bool

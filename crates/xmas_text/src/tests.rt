@@ -1,10 +1,9 @@
 // What the contracts leave to tests: that texts are read, and trees worked out by hand.
 use crate::{
-    CondText, GroupText, ItemText, KeyText, OperandText, PathLimit, RuleText, ShownText, TextFault,
-    VarText, no_text_spells_two_rules, parse_rule,
+    CondText, GroupText, ItemText, KeyText, OperandText, PathLimit, RuleText, TextFault, VarText,
+    no_text_spells_two_rules, parse_rule,
 };
 use mix_tree::{Label, TestOp};
-use path_expr::write_path;
 use std::alloc::{AllocError, Global};
 use std::test::Fail;
 
@@ -23,6 +22,12 @@ fn texts_of_the_grammar_are_read(rt: HostRuntime) -> Result<(), Fail> {
         "CONSTRUCT <a> label $X {label $X,$Y} <b></c> $label </a> WHERE WHERE AND $X AND $X (a|\"b c\")*.d? $Y",
         "CONSTRUCT <a> $X { } </a> WHERE s a $X AND $X!=\"\\\"é\" AND $X<=$X AND $X<$X AND $X>=\"\" ORDER BY $X DESC ",
         "CONSTRUCT <a> $X </a> WHERE s a $X AND $X a $ORDER ORDER BY $ORDER",
+        "CONSTRUCT <names> <p> $N </p> {$R,$N} </names> {} WHERE people people.row $R AND $R name._ $N",
+        "CONSTRUCT <r> $X </r> WHERE s (a|c)*.(c|a.c) $X",
+        "CONSTRUCT <o> $X </o> WHERE s l._ $X AND $X < \"10\"",
+        "CONSTRUCT <o> <g> label $Z <m> $H </m> {$H} </g> {label $Z} </o> WHERE homes homes.home $H AND $H zip._ $Z",
+        "CONSTRUCT <a> <b> \"x y\" </b> </a> WHERE s q $X",
+        "CONSTRUCT <a> $X </b> WHERE s a $Y",
     ];
     for text in rows {
         assert!(rt; is_read(alloc, text));
@@ -128,14 +133,6 @@ fn is_label(label: &Label, text: &str) -> bool {
     label.bytes() == text.as_bytes()
 }
 
-// Whether an item is a variable at a place with a group label at another one.
-fn is_shown(shown: &ShownText, at: usize, brace: usize) -> bool {
-    let Some(group) = &shown.group else {
-        return false;
-    };
-    shown.at == at && group.at == brace
-}
-
 // Whether a key is that variable, or its label.
 fn is_key(key: &KeyText, at: usize, name: &str, of_label: bool) -> bool {
     match key {
@@ -144,64 +141,119 @@ fn is_key(key: &KeyText, at: usize, name: &str, of_label: bool) -> bool {
     }
 }
 
-#[test]
-fn each_part_has_its_place(rt: HostRuntime) -> Result<(), Fail> {
-    let alloc = rt.alloc();
+// A rule with all kinds of parts.
+fn with_all_parts(alloc: Global) -> Result<RuleText, TextFault> {
     let text =
         b"CONSTRUCT <a> $X {$X, label $Y} label $Z{} \"\\n\" <b> </c> {$X} </d> WHERE s x $X AND $X a.b $Y AND $Y<=\"q\" ORDER BY $X DESC";
-    let rule = parse_rule(alloc, text.as_slice())?;
-    let RuleText {
-        template,
-        conds,
-        order,
-    } = &rule;
+    parse_rule(alloc, text.as_slice())
+}
+
+// Whether an item shows this variable, with two keys in its group label.
+fn is_first_item(item: &ItemText) -> bool {
+    let ItemText::Node(shown) = item else {
+        return false;
+    };
+    let Some(GroupText { at: 17, keys }) = &shown.group else {
+        return false;
+    };
+    let [first, second] = keys.as_slice() else {
+        return false;
+    };
+    shown.at == 14
+        && is_var(&shown.var, 14, "X")
+        && is_key(first, 18, "X", false)
+        && is_key(second, 28, "Y", true)
+}
+
+// Whether an item shows this variable's label, with no keys in its group label.
+fn is_second_item(item: &ItemText) -> bool {
+    let ItemText::LabelOf(shown) = item else {
+        return false;
+    };
+    let Some(group) = &shown.group else {
+        return false;
+    };
+    (shown.at, group.at, group.keys.len()) == (32, 40, 0) && is_var(&shown.var, 38, "Z")
+}
+
+// Whether an item is this element.
+fn is_last_item(item: &ItemText) -> bool {
+    let ItemText::Element(element) = item else {
+        return false;
+    };
+    (element.at, element.close_at, element.items.len()) == (48, 52, 0)
+        && is_label(&element.name, "b")
+        && is_label(&element.close_name, "c")
+        && element.group.is_some()
+}
+
+#[test]
+fn each_item_has_its_place(rt: HostRuntime) -> Result<(), Fail> {
+    let rule = with_all_parts(rt.alloc())?;
+    let template = &rule.template;
     assert_eq!(rt; (template.at, template.close_at), (10, 62));
     assert!(rt; is_label(&template.name, "a") && is_label(&template.close_name, "d"));
     assert_eq!(rt; template.items.len(), 4);
-    if let ItemText::Node(shown) = &template.items[0] {
-        assert!(rt; is_shown(shown, 14, 17) && is_var(&shown.var, 14, "X"));
-        if let Some(GroupText { at: _, keys }) = &shown.group {
-            assert_eq!(rt; keys.len(), 2);
-            assert!(rt; is_key(&keys[0], 18, "X", false) && is_key(&keys[1], 28, "Y", true));
-        }
-    } else {
-        assert!(rt; false);
-    }
-    if let ItemText::LabelOf(shown) = &template.items[1] {
-        assert!(rt; is_shown(shown, 32, 40) && is_var(&shown.var, 38, "Z"));
-    } else {
-        assert!(rt; false);
-    }
+    assert!(rt; is_first_item(&template.items[0]));
+    assert!(rt; is_second_item(&template.items[1]));
     assert!(rt; matches!(&template.items[2], ItemText::Text(label) if is_label(label, "\n")));
-    if let ItemText::Element(element) = &template.items[3] {
-        assert_eq!(rt; (element.at, element.close_at), (48, 52));
-        assert!(rt; is_label(&element.name, "b") && is_label(&element.close_name, "c"));
-        assert!(rt; element.group.is_some());
-    } else {
-        assert!(rt; false);
-    }
-    assert_eq!(rt; conds.len(), 3);
-    assert!(rt;
-        matches!(&conds[0], CondText::FromSource { at: 73, source, path: _, var } if is_label(source, "s") && is_var(var, 77, "X"))
-    );
-    if let CondText::FromVar {
-        start,
-        path: Ok(path),
+    assert!(rt; is_last_item(&template.items[3]));
+    Ok(())
+}
+
+// Whether a condition leads from a source to a variable.
+fn is_first_cond(cond: &CondText) -> bool {
+    let CondText::FromSource {
+        at: 73,
+        source,
+        path: Ok(_),
         var,
-    } = &conds[1]
-    {
-        assert!(rt; is_var(start, 84, "X") && is_var(var, 91, "Y"));
-        assert_eq!(rt; write_path(alloc, path)?.as_slice(), b"a.b".as_slice());
-    } else {
-        assert!(rt; false);
-    }
-    assert!(rt;
-        matches!(&conds[2], CondText::Compare { left, op: TestOp::Le, right: OperandText::Text(label) } if is_var(left, 98, "Y") && is_label(label, "q"))
-    );
-    assert!(rt; order.is_some());
-    if let Some(order) = order {
-        assert!(rt; order.desc && is_var(&order.var, 115, "X"));
-    }
+    } = cond
+    else {
+        return false;
+    };
+    is_label(source, "s") && is_var(var, 77, "X")
+}
+
+// Whether a condition leads from a variable to another one.
+fn is_second_cond(cond: &CondText) -> bool {
+    let CondText::FromVar {
+        start,
+        path: Ok(_),
+        var,
+    } = cond
+    else {
+        return false;
+    };
+    is_var(start, 84, "X") && is_var(var, 91, "Y")
+}
+
+// Whether a condition compares a variable with a text.
+fn is_third_cond(cond: &CondText) -> bool {
+    let CondText::Compare {
+        left,
+        op: TestOp::Le,
+        right: OperandText::Text(label),
+    } = cond
+    else {
+        return false;
+    };
+    is_var(left, 98, "Y") && is_label(label, "q")
+}
+
+#[test]
+fn each_condition_has_its_place(rt: HostRuntime) -> Result<(), Fail> {
+    let RuleText {
+        template: _,
+        conds,
+        order,
+    } = with_all_parts(rt.alloc())?;
+    assert_eq!(rt; conds.len(), 3);
+    assert!(rt; is_first_cond(&conds[0]));
+    assert!(rt; is_second_cond(&conds[1]));
+    assert!(rt; is_third_cond(&conds[2]));
+    let order = order.ok_or("no order")?;
+    assert!(rt; order.desc && is_var(&order.var, 115, "X"));
     Ok(())
 }
 
