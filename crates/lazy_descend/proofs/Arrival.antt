@@ -5,7 +5,7 @@ use Rattle.std.proofs.lemmas.Result.{IfOk-weaker}
 use Rattle.mix_base.specs.Events.{Event, skip, bind, cost}
 use Rattle.mix_tree.specs.Forest.{Forest, none, tree, first_label, first_kids, behind}
 use Rattle.mix_tree.specs.Place.{has_place, child_place, next_place}
-use Rattle.path_expr.specs.Automaton.{Machine}
+use Rattle.path_auto.specs.Automaton.{Machine}
 use Rattle.lxp_core.specs.View.{View, Keeps}
 use Rattle.tree_buffer.specs.declared.buffer.Buffer.{Buffer}
 use Rattle.tree_buffer.specs.declared.fault.BufferFault.{BufferFault}
@@ -18,7 +18,7 @@ use Rattle.lazy_descend.specs.declared.frame.Frame.{Frame}
 use Rattle.lazy_descend.specs.declared.cursor.DescCursor.{DescCursor}
 use Rattle.lazy_descend.specs.declared.steps.Step.{Step}
 use Rattle.lazy_descend.specs.declared.steps.Step.TheVariants.{Done, At, On}
-use Rattle.lazy_descend.specs.Visit.{place_behind, visit}
+use Rattle.path_auto.specs.Visit.{place_behind, visit}
 use Rattle.lazy_descend.specs.Cursors.{spot_of, states_of, up_of, start_of, IsFrame, IsCursor, trees_of, events_behind, events_ahead, weight_behind, weight_ahead, steps_behind, steps_ahead, ahead, AsksWithin, Finds, Moves, Steps, StandsAt, IsArrival}
 use Rattle.lazy_descend.proofs.Stay.{frame_spot, frame_up, frame_index, frame_child, start_up, behind_up, weight_up, steps_up, frame_stays, behind_stays, weight_stays, steps_stay}
 

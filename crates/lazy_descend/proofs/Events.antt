@@ -5,7 +5,7 @@ use Rattle.std.proofs.lemmas.Result.{IfOk-weaker}
 use Rattle.mix_base.specs.Events.{Event, skip, bind, finds, found}
 use Rattle.mix_tree.specs.Forest.{Forest, first_kids}
 use Rattle.mix_tree.specs.Place.{child_place}
-use Rattle.path_expr.specs.Automaton.{Machine}
+use Rattle.path_auto.specs.Automaton.{Machine}
 use Rattle.lxp_core.specs.View.{View, Keeps}
 use Rattle.tree_buffer.specs.declared.buffer.Buffer.{Buffer}
 use Rattle.tree_buffer.specs.declared.fault.BufferFault.{BufferFault}
@@ -16,7 +16,7 @@ use Rattle.tree_buffer.proofs.Calls.{goes_spot, goes_place, still_node}
 use Rattle.lazy_descend.specs.declared.cursor.DescCursor.{DescCursor}
 use Rattle.lazy_descend.specs.Law.{CursorsStay, NumbersAreSmall}
 use Rattle.lazy_descend.specs.declared.frame.Frame.{Start}
-use Rattle.lazy_descend.specs.Visit.{visit, visit_below}
+use Rattle.path_auto.specs.Visit.{visit, visit_below}
 use Rattle.lazy_descend.specs.Cursors.{spot_of, start_of, IsCursor, IsEvent, trees_of, events_ahead, weight_ahead, place_at, ahead, number, Finds, Found, Answers}
 use Rattle.lazy_descend.proofs.Stay.{frame_spot, frame_stays, ahead_stays, number_stays, number_small}
 

@@ -7,7 +7,7 @@ use Rattle.mix_tree.specs.Forest.{Forest}
 use Rattle.mix_tree.specs.Nodes.{PlaceBefore}
 use Rattle.mix_tree.proofs.PlaceOrder.{place_itself, place_both}
 use Rattle.path_expr.specs.Form.{Form}
-use Rattle.path_expr.specs.Automaton.{Machine, IsAutomatonOf}
+use Rattle.path_auto.specs.Automaton.{Machine, IsAutomatonOf}
 use Rattle.path_expr.specs.Matches.{LeadsTo, AreMatches}
 use Rattle.lxp_core.specs.View.{View}
 use Rattle.tree_buffer.specs.declared.buffer.Buffer.{Buffer}
@@ -16,9 +16,9 @@ use Rattle.tree_buffer.specs.Document.{document_node}
 use Rattle.tree_buffer.specs.Buffer.{number_of, place_of}
 use Rattle.lazy_descend.specs.declared.cursor.DescCursor.{DescCursor}
 use Rattle.lazy_descend.specs.Law.{TellsNext, FindsNextMatches}
-use Rattle.lazy_descend.specs.Visit.{visit_below}
+use Rattle.path_auto.specs.Visit.{visit_below}
 use Rattle.lazy_descend.specs.Cursors.{IsEvent, place_at, ahead}
-use Rattle.lazy_descend.proofs.Bindings.{bindings_append, before_deeper, bindings_are_matches}
+use Rattle.path_auto.proofs.Bindings.{bindings_append, before_deeper, bindings_are_matches}
 
 -- the later part of an ascending list ascends
 ascends_right : (xs ys : List (List ℕ)) → Ascending PlaceBefore (xs ++ ys) → Ascending PlaceBefore ys
@@ -62,7 +62,7 @@ match_behind p f start q h = deeper h.way h.below h.place
 -- the first binding of the visit
 first_match : (m : Machine) (p : Form) → IsAutomatonOf m p → (f : Forest) (start : List ℕ) → TellsNext p f start start (found (visit_below m f start))
 first_match m p auto f start =
-    let all : AreMatches p f start (without_skips (visit_below m f start)) = bindings_are_matches m p auto f start in
+    let all : AreMatches p f start (without_skips (visit_below m f start)) = bindings_are_matches m p auto.follows f start in
     tells p f start start [] (visit_below m f start) all (λ q c h. c) (λ q c. match_behind p f start q ((all.exactly q).0 c))
 
 -- the first binding ahead of a cursor
@@ -77,7 +77,7 @@ next_match m p auto v b start d h told =
     let parts : without_skips (visit_below m f (place_of b start)) ≡ (before ++ at ∷ []) ++ later =
     ap without_skips stands.1 ∙ bindings_append stands.0 (bind at ∷ ahead v b m d) ∙ sym (append_assoc before (at ∷ []) later) in
     let all : AreMatches p f (place_of b start) ((before ++ at ∷ []) ++ later) =
-    subst (AreMatches p f (place_of b start)) parts (bindings_are_matches m p auto f (place_of b start)) in
+    subst (AreMatches p f (place_of b start)) parts (bindings_are_matches m p auto.follows f (place_of b start)) in
     let one : Ascending PlaceBefore (before ++ at ∷ later) = subst (Ascending PlaceBefore) (append_assoc before (at ∷ []) later) all.ascending in
     tells p f (place_of b start) at (before ++ at ∷ []) (ahead v b m d) all
     (λ q c behind. elim (among_cases before (at ∷ []) q c) [

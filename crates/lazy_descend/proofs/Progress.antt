@@ -1,7 +1,7 @@
 -- How far a search has come: what is still ahead, and what it has cost.
 use Rattle.std.proofs.Common.{◌≡◌, ◌∙◌, ◌≤◌, ℕ, ◌+◌, true, List, refl, arith}
 use Rattle.mix_base.specs.Events.{Event, nothing, found, cost}
-use Rattle.path_expr.specs.Automaton.{Machine}
+use Rattle.path_auto.specs.Automaton.{Machine}
 use Rattle.lxp_core.specs.View.{View, Keeps}
 use Rattle.tree_buffer.specs.declared.buffer.Buffer.{Buffer}
 use Rattle.tree_buffer.specs.declared.spot.Spot.{Spot}

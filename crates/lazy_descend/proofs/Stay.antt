@@ -2,7 +2,7 @@
 use Rattle.std.proofs.Common.{◌≡◌, ◌∙◌, ◌≤◌, ℕ, suc, ◌+◌, ◌*◌, Bool, true, false, cond, Option, Some, None, [], ◌∷◌, ◌++◌, refl, sym, ap, arith}
 use Rattle.mix_tree.specs.Forest.{first_kids, behind}
 use Rattle.mix_tree.specs.Place.{trees_at, child_place}
-use Rattle.path_expr.specs.Automaton.{Machine}
+use Rattle.path_auto.specs.Automaton.{Machine}
 use Rattle.lxp_core.specs.View.{View, Keeps}
 use Rattle.tree_buffer.specs.declared.buffer.Buffer.{Buffer}
 use Rattle.tree_buffer.specs.declared.spot.Spot.{Spot}
@@ -11,7 +11,7 @@ use Rattle.tree_buffer.specs.Buffer.{IsSpot, IsChildSpot, IsSourcesOf, Goes, num
 use Rattle.tree_buffer.proofs.Calls.{goes_spot, goes_place, goes_below, goes_after, still_node, child_weight}
 use Rattle.lazy_descend.specs.declared.frame.Frame.{Frame, Start, Child'}
 use Rattle.lazy_descend.specs.declared.cursor.DescCursor.{DescCursor}
-use Rattle.lazy_descend.specs.Visit.{place_behind, visit}
+use Rattle.path_auto.specs.Visit.{place_behind, visit}
 use Rattle.lazy_descend.specs.Cursors.{spot_of, states_of, up_of, start_of, IsFrame, IsCursor, trees_of, events_behind, events_below, events_ahead, weight_behind, weight_ahead, steps_behind}
 
 -- the node of a frame is one of the buffer

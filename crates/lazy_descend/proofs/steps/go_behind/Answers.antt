@@ -1,5 +1,5 @@
 use Rattle.std.proofs.Common.{◌≡◌, Some}
-use Rattle.path_expr.specs.Automaton.{machine_of}
+use Rattle.path_auto.specs.Automaton.{machine_of}
 use Rattle.lxp_core.specs.View.{Keeps}
 use Rattle.lazy_descend.specs.Cursors.{spot_of, up_of}
 use Rattle.lazy_descend.proofs.Arrival.{behind_steps, behind_asks}
