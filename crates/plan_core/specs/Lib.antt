@@ -1,7 +1,11 @@
+pub mod ByNumber
+pub mod Events
 pub mod PlanMade
 pub mod PlanText
 pub mod Plans
 pub mod Rows
 pub mod Sorted
+pub mod Tolled
+pub mod TolledRows
 pub mod Unary
 pub mod Valid

@@ -4,11 +4,10 @@ use Rattle.std.specs.List.{filter}
 use Rattle.mix_base.specs.Groups.{firsts}
 use Rattle.mix_tree.specs.Forest.{Forest, none, tree, joined}
 use Rattle.mix_tree.specs.Nodes.{Documents, Node, label_at}
-use Rattle.mix_tree.specs.LabelOrder.{label_before, compares}
+use Rattle.mix_tree.specs.Comparisons.{passes}
+use Rattle.mix_tree.specs.LabelOrder.{label_before}
 use Rattle.mix_tree.specs.Keys.{key_var, same_by}
 use Rattle.mix_tree.specs.declared.var.Key.{Key}
-use Rattle.mix_tree.specs.declared.comparing.Operand.{Operand}
-use Rattle.mix_tree.specs.declared.comparing.Operand.TheVariants.{Var as var_operand, Text as text_operand}
 use Rattle.mix_tree.specs.declared.comparing.Test.{Test}
 use Rattle.plan_core.specs.declared.plan.Piece.{Piece}
 use Rattle.plan_core.specs.declared.plan.Piece.TheVariants.{Var as var_piece, LabelOf as label_piece, Text as text_piece}
@@ -24,14 +23,9 @@ pub data Unary : Type 0 where
   concatenate : (pieces : List Piece) → (out : ℕ) → Unary
   create_element : (label : List ℕ) → (list : ℕ) → (out : ℕ) → Unary
 
--- the label on the right of a comparison
-abbrev pub right_label : Documents → Operand → Row → List ℕ
-right_label docs (var_operand v) row = label_at docs (nodes_in row v)
-right_label docs (text_operand label) row = label
-
 -- a comparison holds of a binding
 abbrev pub holds : Documents → Test → Row → Bool
-holds docs t row = compares t.op (label_at docs (nodes_in row t.left)) (right_label docs t.right row)
+holds docs t row = passes docs t (nodes_in row)
 
 -- the first label comes before the second, in the label order or in that order turned round
 abbrev pub comes_before : Bool → List ℕ → List ℕ → Bool

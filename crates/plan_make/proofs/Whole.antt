@@ -7,7 +7,8 @@ use Rattle.mix_base.specs.Ascents.{Among, Ascending}
 use Rattle.mix_tree.specs.Forest.{LabelledTree}
 use Rattle.xmas_rule.specs.Conditions.{Binder, binder_var, binder_vars, has, flat, binders, comparisons, components, components_from, in_order}
 use Rattle.xmas_rule.specs.Rules.{RuleValue, IsAccepted, variables}
-use Rattle.xmas_rule.specs.Bindings.{Binding, node_of, TupleBefore, Binds, passes, Satisfies, AreBindings}
+use Rattle.mix_tree.specs.Comparisons.{passes}
+use Rattle.xmas_rule.specs.Bindings.{Binding, node_of, TupleBefore, Binds, Satisfies, AreBindings}
 use Rattle.xmas_rule.specs.Meaning.{finished, IsFinished}
 use Rattle.xmas_rule.proofs.Unique.{one_finished}
 use Rattle.plan_core.specs.Rows.{Value, node, made, Row, value}
