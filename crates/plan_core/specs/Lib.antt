@@ -7,5 +7,6 @@ pub mod Rows
 pub mod Sorted
 pub mod Tolled
 pub mod TolledRows
+pub mod Typed
 pub mod Unary
 pub mod Valid
