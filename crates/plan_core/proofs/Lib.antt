@@ -1,2 +1,4 @@
+pub mod Numbers
 pub mod RowLaws
 mod Texts
+mod Typed

@@ -1,10 +1,12 @@
 //! Plans: their operators as values, what they mean over source documents, which are valid, and their text.
 #![tactic(auto)]
 
+mod law;
 mod plan;
 mod text;
 mod writing;
 
+pub use law::valid_plans_are_typed;
 pub use plan::{Op, Piece, Plan};
 pub use writing::write_plan;
 
