@@ -4,6 +4,7 @@ use Rattle.std.specs.Prelude.{Some, is_some, unwrap_or, option_map}
 use Rattle.mix_base.specs.Ascents.{Among, Ascending}
 use Rattle.mix_base.proofs.Ascents.{among_left, among_right, among_cases, ascending_append}
 use Rattle.mix_base.specs.Events.{Event, skip, bind, without_skips}
+use Rattle.mix_base.proofs.EventLaws.{bindings_append}
 use Rattle.mix_tree.specs.Forest.{Forest, none, tree, first_label, first_kids, from}
 use Rattle.mix_tree.specs.Place.{trees_at, has_place, child_place, next_place}
 use Rattle.mix_tree.specs.Nodes.{PlaceBefore}
@@ -32,12 +33,6 @@ among_if false xs y t h = let f : false ≡ true = t in cc
 among_taken : (a : Bool) (xs : List (List ℕ)) (y : List ℕ) → Among y (cond a xs []) → Among y xs
 among_taken true xs y h = h
 among_taken false xs y h = absurd h
-
--- the bindings of two lists of events
-pub bindings_append : (xs ys : List (Event (List ℕ))) → without_skips (xs ++ ys) ≡ without_skips xs ++ without_skips ys
-bindings_append [] ys = refl
-bindings_append (skip ∷ xs) ys = bindings_append xs ys
-bindings_append (bind x ∷ xs) ys = ap (λ (z : List (List ℕ)). x ∷ z) (bindings_append xs ys)
 
 -- the binding of an event, and those behind it
 bindings_first : (a : Bool) (x : List ℕ) (es : List (Event (List ℕ))) → without_skips (cond a (bind x) skip ∷ es) ≡ cond a (x ∷ []) [] ++ without_skips es

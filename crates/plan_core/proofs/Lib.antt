@@ -1,3 +1,5 @@
+pub mod Distinct
+pub mod Found
 pub mod Numbers
 pub mod RowLaws
 mod Texts
