@@ -12,8 +12,6 @@ use Rattle.tree_buffer.specs.declared.fault.BufferFault.{BufferFault}
 use Rattle.tree_buffer.specs.declared.spot.Spot.{Spot}
 use Rattle.tree_buffer.specs.Document.{document_node, has_next}
 use Rattle.tree_buffer.specs.Buffer.{IsChildSpot, IsNextSpot, IsSourcesOf, Goes, number_of, place_of, label_of, below, after, trees_from}
-use Rattle.tree_buffer.proofs.Calls.{goes_place, still_told, still_node, label_at_spot, down_trees, right_trees}
-use Rattle.tree_buffer.proofs.Documents.{next_place-push}
 use Rattle.lazy_descend.specs.declared.frame.Frame.{Frame}
 use Rattle.lazy_descend.specs.declared.cursor.DescCursor.{DescCursor}
 use Rattle.lazy_descend.specs.declared.steps.Step.{Step}
@@ -81,7 +79,7 @@ module _ {v v' : View} {b b' : Buffer} (s : IsSourcesOf v b) (s' : IsSourcesOf v
     -- the events are its own and those ahead of it
     at_events : v.told (number_of b) ≡ true → visit m (states_of u) at f ++ events_behind v b m u ≡ cond answer (bind (place_of b' q)) skip ∷ ahead v' b' m d
     at_events t =
-        let label : first_label f ≡ Some (label_of b' q) = ap first_label (sym (reach t)) ∙ label_at_spot s' (still_told keeps goes t) q child.1.spot in
+        let label : first_label f ≡ Some (label_of b' q) = ap first_label (sym (reach t)) ∙ s'.label (goes.told ∙ t) q child.1.spot in
         visit_tree m (states_of u) (states_of d.frame.value) at f (label_of b' q) (events_behind v b m u) label i.states
         ∙ rw (at_ahead, i.accepts, reach t, here) refl
 
@@ -137,48 +135,43 @@ module _ {v v' : View} {b b' : Buffer} (s : IsSourcesOf v b) (s' : IsSourcesOf v
     (paid : v.forward (number_of b) ≡ true → v'.fills ≤ v.fills + 1) (m : Machine) (f : Frame) (h : IsFrame b f) where
   -- the event that follows a node whose children are to be visited
   pub below_steps : (o : Option Spot) → IfSome o (IsChildSpot b' (spot_of f) 0)
-      → (v.told (number_of b) ≡ true → is_some o ≡ has_place (document_node v (number_of b)) (child_place (place_of b (spot_of f))))
+      → (v.told (number_of b) ≡ true → trees_from (document_node v (number_of b)) b' o ≡ first_kids (trees_of v b (spot_of f)))
       → IfSome o (λ q. 1 + below v' b' q + after v' b' q ≤ below v b (spot_of f)) → (r : Result Step BufferFault) → IfOk r (IsArrival b' m f o)
       → IfOk r (Steps v b v' b' m (events_ahead v b m f true) (weight_ahead v b f true) (steps_ahead v b f true) (start_of f))
-  below_steps o child exact less r y =
+  below_steps o child trees less r y =
       let x = spot_of f in
-      let doc = document_node v (number_of b) in
-      let same = goes_place goes x (frame_spot b f h) in
+      let same = goes.place x (frame_spot b f h) in
       arrival_steps s s' keeps goes paid m f h (child_place (place_of b x)) (first_kids (trees_of v b x)) (below v b x) o
       (if_some_weaker o (IsChildSpot b' x 0) (λ q. (k : ℕ) × IsChildSpot b' (spot_of f) k q) (λ q c. (0, c)) child)
       (if_some_weaker o (IsChildSpot b' x 0) (λ q. place_of b' q ≡ child_place (place_of b (spot_of f))) (λ q c. c.place ∙ ap child_place same) child)
       less
-      (λ t. ap (λ g. trees_from g b' o) (still_node s keeps goes) ∙ down_trees doc b' x (place_of b x) same o child (exact t))
+      (λ t. ap (λ g. trees_from g b' o) goes.document ∙ trees t)
       r y
 
   -- the event that follows all that is below a node
   pub behind_steps : (u : Frame) → up_of f ≡ Some u → (o : Option Spot) → IfSome o (IsNextSpot b' (spot_of f))
-      → (v.told (number_of b) ≡ true → is_some o ≡ has_next (document_node v (number_of b)) (place_of b (spot_of f)))
+      → (v.told (number_of b) ≡ true → trees_from (document_node v (number_of b)) b' o ≡ behind (trees_of v b (spot_of f)))
       → IfSome o (λ q. 1 + below v' b' q + after v' b' q ≤ after v b (spot_of f)) → (r : Result Step BufferFault) → IfOk r (IsArrival b' m u o)
       → IfOk r (Steps v b v' b' m (events_behind v b m f) (weight_behind v b f) (steps_behind v b f) (start_of f))
-  behind_steps u e o next exact less r y =
+  behind_steps u e o next trees less r y =
       rw (behind_up v b m f u e, weight_up v b f u e, steps_up v b f u e, start_up f u e)
       (arrival_steps s s' keeps goes paid m u (frame_up b f u e h) (place_behind (place_of b (spot_of f))) (behind (trees_of v b (spot_of f))) (after v b (spot_of f)) o
       (if_some_weaker o (IsNextSpot b' (spot_of f)) (λ q. (k : ℕ) × IsChildSpot b' (spot_of u) k q) child next)
       (if_some_weaker o (IsNextSpot b' (spot_of f)) (λ q. place_of b' q ≡ place_behind (place_of b (spot_of f))) here next)
       less
-      (λ t. ap (λ g. trees_from g b' o) (still_node s keeps goes) ∙ right_trees (document_node v (number_of b)) b' (spot_of f) (place_of b (spot_of f)) refl same o next (exact t))
+      (λ t. ap (λ g. trees_from g b' o) goes.document ∙ trees t)
       r y)
     where
       same : place_of b' (spot_of f) ≡ place_of b (spot_of f)
-      same = goes_place goes (spot_of f) (frame_spot b f h)
+      same = goes.place (spot_of f) (frame_spot b f h)
 
       here : (q : Spot) → IsNextSpot b' (spot_of f) q → place_of b' q ≡ place_behind (place_of b (spot_of f))
       here q n = ap (λ o. unwrap_or o (place_of b (spot_of f))) (n.place ∙ ap next_place same)
 
       child : (q : Spot) → IsNextSpot b' (spot_of f) q → (k : ℕ) × IsChildSpot b' (spot_of u) k q
       child q n =
-          let own = frame_index b f u e h in
-          let above : place_of b (spot_of u) ≡ place_of b' (spot_of u) = sym (goes_place goes (spot_of u) (frame_spot b u (frame_up b f u e h))) in
-          let at : place_of b (spot_of f) ≡ place_of b' (spot_of u) ++ own.0 ∷ [] = own.1.place ∙ ap (λ l. l ++ own.0 ∷ []) above in
-          let is : place_of b' q ≡ place_of b' (spot_of u) ++ (own.0 + 1) ∷ [] =
-          ap (λ o. unwrap_or o []) (n.place ∙ ap next_place (same ∙ at) ∙ next_place-push (place_of b' (spot_of u)) own.0) in
-          (own.0 + 1, record { spot = n.spot; place = is })
+          let own = frame_index b' f u e (frame_stays goes f h) in
+          (own.0 + 1, n.child (spot_of u) own.0 own.1)
 
   -- a fill is within the events below a node
   pub below_asks : AsksWithin v b v' (events_ahead v b m f true)
