@@ -1,9 +1,9 @@
 -- Each act is answered as it may be, and as the tree answers it.
-use Rattle.std.proofs.Common.{◌≡◌, ◌∙◌, ◌+◌, ◌≤◌, ℕ, true, false, cond, List, [], ◌∷◌, ◌++◌, Option, Some, None, Result, Ok, Err, refl, ap, sym, subst, arith}
+use Rattle.std.proofs.Common.{◌≡◌, ◌∙◌, ℕ, true, false, cond, List, [], ◌∷◌, Option, Some, None, Result, Ok, Err, refl, ap, sym, subst}
 use Rattle.std.specs.Prelude.{IfOk, IfSome, IsErrOf, is_some, option_map, option_and_then}
 use Rattle.mix_base.specs.Counts.{HasRisen, HasRisenBy}
-use Rattle.mix_tree.specs.Forest.{Forest, none, tree, LabelledTree, alone, first_label, first_tree}
-use Rattle.mix_tree.specs.Place.{trees_at, has_place, tree_at, child_place, next_place}
+use Rattle.mix_tree.specs.Forest.{Forest, none, tree, LabelledTree, alone, first_label}
+use Rattle.mix_tree.specs.Place.{has_place, child_place, next_place}
 use Rattle.mix_tree.proofs.Places.{trees_at_none}
 use Rattle.lxp_core.specs.View.{View, Keeps, document}
 use Rattle.tree_buffer.specs.declared.buffer.Buffer.{Buffer}
@@ -11,17 +11,16 @@ use Rattle.tree_buffer.specs.declared.spot.Spot.{Spot}
 use Rattle.tree_buffer.specs.declared.fault.BufferFault.{BufferFault}
 use Rattle.tree_buffer.specs.declared.fault.BufferFault.TheVariants as buffer
 use Rattle.tree_buffer.specs.Document.{document_node, has_given, has_next}
-use Rattle.tree_buffer.specs.Buffer.{IsSpot, IsSourcesOf, Goes, number_of, place_of, label_of, IsChildSpot, IsNextSpot}
-use Rattle.mix_script.specs.Names.{NamesOf, with_name}
-use Rattle.mix_script.specs.Transcript.{Names, goal_of, move_answer, label_answer, if_held, unless_marked, answer_of, with_named, names_after}
-use Rattle.mix_script.specs.declared.step.Act.{Act}
-use Rattle.mix_script.specs.declared.step.Act.TheVariants.{Root, Down, Right, Fetch}
+use Rattle.tree_buffer.specs.Buffer.{IsSpot, Goes, number_of, place_of, IsChildSpot, IsNextSpot}
+use Rattle.mix_script.specs.Names.{NamesOf}
+use Rattle.mix_script.specs.Transcript.{move_answer, if_held, answer_of}
+use Rattle.mix_script.specs.declared.step.Act.TheVariants.{Root, Down, Right}
 use Rattle.mix_script.specs.declared.answer.Answer.{Answer}
 use Rattle.mix_script.specs.declared.answer.Answer.TheVariants as answer
-use Rattle.mix_walk.specs.Allowed.{Nodes, MayFind, MayRead, WhereHeld, MayAnswer, nodes_after, mark_of, faults_in}
-use Rattle.mix_walk.specs.Held.{Both, HoldBoth, IsNode, IsPlace, HoldNodes, HoldPlaces}
+use Rattle.mix_walk.specs.Allowed.{MayFind, WhereHeld, faults_in}
+use Rattle.mix_walk.specs.Held.{IsNode, IsPlace}
 use Rattle.mix_walk.specs.Stepped.{IsFound, spots_after, IsAnswered}
-use Rattle.mix_walk.proofs.Hold.{none_other, some_other, nodes_go, places_go}
+use Rattle.mix_walk.proofs.Hold.{some_other, nodes_go, places_go}
 use Rattle.mix_walk.proofs.Found.{FoundSpot, IsMoved, nodes_found, places_found, counted_found}
 
 -- the document node above a tree

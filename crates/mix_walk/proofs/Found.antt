@@ -1,21 +1,20 @@
 -- What a node that was found, or none, or a fault becomes.
-use Rattle.std.proofs.Common.{◌≡◌, ◌∙◌, ◌+◌, ◌≤◌, ℕ, true, List, [], ◌∷◌, Option, Some, None, Result, Ok, Err, refl, ap, sym, subst, arith}
+use Rattle.std.proofs.Common.{◌≡◌, ◌≤◌, ℕ, List, [], ◌∷◌, Option, Some, None, Result, Ok, Err, refl, sym, subst, arith}
 use Rattle.std.specs.Prelude.{IfOk, IfSome, IsErrOf}
 use Rattle.mix_base.specs.Counts.{HasRisen, HasRisenBy}
 use Rattle.mix_tree.specs.Forest.{LabelledTree}
-use Rattle.lxp_core.specs.View.{View}
 use Rattle.tree_buffer.specs.declared.buffer.Buffer.{Buffer}
 use Rattle.tree_buffer.specs.declared.spot.Spot.{Spot}
 use Rattle.tree_buffer.specs.declared.fault.BufferFault.{BufferFault}
 use Rattle.tree_buffer.specs.declared.fault.BufferFault.TheVariants as buffer
-use Rattle.tree_buffer.specs.Buffer.{IsSpot, Goes}
+use Rattle.tree_buffer.specs.Buffer.{IsSpot}
 use Rattle.mix_script.specs.Names.{NamesOf, with_name}
 use Rattle.mix_script.specs.Transcript.{Names, goal_of, answer_of, with_named, names_after}
 use Rattle.mix_script.specs.declared.step.Act.{Act}
 use Rattle.mix_script.specs.declared.answer.Answer.{Answer}
 use Rattle.mix_script.specs.declared.answer.Answer.TheVariants as answer
 use Rattle.mix_walk.specs.Allowed.{Nodes, MayFind, with_act, nodes_after, mark_of, faults_in}
-use Rattle.mix_walk.specs.Held.{Both, HoldBoth, IsNode, IsPlace, HoldNodes, HoldPlaces}
+use Rattle.mix_walk.specs.Held.{IsNode, IsPlace, HoldNodes, HoldPlaces}
 use Rattle.mix_walk.specs.Stepped.{IsFound, spots_after}
 use Rattle.mix_walk.proofs.Hold.{hold_with}
 

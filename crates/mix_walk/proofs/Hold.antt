@@ -1,10 +1,10 @@
 -- What names hold in two ways at once.
-use Rattle.std.proofs.Common.{◌≡◌, ◌∙◌, ℕ, Bool, true, false, cond, ◌&&◌, List, ◌∷◌, Option, Some, None, refl, ap, sym, subst}
+use Rattle.std.proofs.Common.{◌≡◌, ◌∙◌, ℕ, Bool, true, false, cond, ◌&&◌, List, Option, Some, None, refl, subst}
 use Rattle.std.specs.Str.{bytes_eq}
 use Rattle.tree_buffer.specs.declared.buffer.Buffer.{Buffer}
 use Rattle.tree_buffer.specs.declared.spot.Spot.{Spot}
 use Rattle.lxp_core.specs.View.{View}
-use Rattle.tree_buffer.specs.Buffer.{IsSpot, place_of, Goes}
+use Rattle.tree_buffer.specs.Buffer.{Goes}
 use Rattle.mix_script.specs.Names.{NamesOf, no_names, with_name}
 use Rattle.mix_walk.specs.Allowed.{Nodes}
 use Rattle.mix_walk.specs.Held.{Both, HoldBoth, IsNode, IsPlace, HoldNodes, HoldPlaces}

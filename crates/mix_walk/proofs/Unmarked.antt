@@ -1,5 +1,5 @@
 -- Over a source that didn't fail, the lines are the transcript without marks.
-use Rattle.std.proofs.Common.{◌≡◌, ◌∙◌, ◌⊎◌, inl, inr, ◌+◌, ◌^◌, ◌<◌, ◌≤◌, ℕ, Bool, true, false, ◌||◌, cond, List, [], ◌∷◌, ◌++◌, Option, Some, None, Result, Ok, Err, refl, ap, sym, subst, arith, length, append_assoc}
+use Rattle.std.proofs.Common.{◌≡◌, ◌∙◌, inl, inr, ◌+◌, ◌^◌, ◌<◌, ℕ, Bool, true, false, ◌||◌, cond, List, [], ◌∷◌, ◌++◌, Option, Some, None, Result, Ok, Err, refl, ap, sym, subst, arith, length, append_assoc}
 use Rattle.std.specs.Prelude.{is_some}
 use Rattle.mix_base.proofs.Lists.{append_nil}
 use Rattle.mix_tree.specs.Forest.{LabelledTree, alone}
@@ -14,7 +14,7 @@ use Rattle.mix_script.specs.declared.answer.Answer.{Answer}
 use Rattle.mix_script.specs.declared.answer.Answer.TheVariants as answer
 use Rattle.mix_walk.specs.declared.fault.LinesFault.{LinesFault}
 use Rattle.mix_walk.specs.declared.fault.LinesFault.TheVariants.{SinkFailed, OutOfMemory}
-use Rattle.mix_walk.specs.Allowed.{answer_lines, mark_of, is_fault, has_fault, faults_in}
+use Rattle.mix_walk.specs.Allowed.{answer_lines, mark_of, has_fault, faults_in}
 use Rattle.mix_walk.specs.Finished.{AreOf}
 use Rattle.mix_walk.specs.Lines.{IsWalk, EndsWithin, Ends}
 use Rattle.mix_walk.specs.Told.{front_of_more, whole_front}

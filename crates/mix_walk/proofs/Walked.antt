@@ -1,7 +1,7 @@
 -- One step of a walk more, and how a walk ends.
-use Rattle.std.proofs.Common.{◌≡◌, ◌⊎◌, inl, inr, ◌∙◌, ◌+◌, ◌<◌, ◌≤◌, ℕ, Bool, true, false, ◌||◌, List, [], ◌∷◌, ◌++◌, Option, Some, None, refl, ap, sym, subst, arith, length, take, drop, get_or, append_assoc}
+use Rattle.std.proofs.Common.{◌≡◌, inl, inr, ◌∙◌, ◌+◌, ◌<◌, ◌≤◌, ℕ, Bool, true, false, ◌||◌, List, [], ◌∷◌, ◌++◌, Option, Some, None, refl, ap, sym, subst, arith, length, take, drop, get_or, append_assoc}
 use Rattle.std.proofs.lemmas.List.{length_push, drop_more}
-use Rattle.mix_base.specs.Counts.{HasRisen, HasRisenBy}
+use Rattle.mix_base.specs.Counts.{HasRisenBy}
 use Rattle.mix_base.proofs.Lists.{append_nil, take_append}
 use Rattle.mix_tree.specs.Forest.{LabelledTree, alone, first_kids}
 use Rattle.mix_io.specs.Views.{SinkView}
@@ -13,16 +13,16 @@ use Rattle.tree_buffer.specs.declared.spot.Spot.{Spot}
 use Rattle.tree_buffer.specs.Buffer.{number_of, IsSourcesOf, Goes}
 use Rattle.mix_script.specs.Names.{NamesOf, no_names}
 use Rattle.mix_script.specs.Answers.{line_of}
-use Rattle.mix_script.specs.Transcript.{Names, answered, names_after}
+use Rattle.mix_script.specs.Transcript.{answered, names_after}
 use Rattle.mix_script.specs.declared.step.Step.{Step}
 use Rattle.mix_script.specs.declared.answer.Answer.{Answer}
 use Rattle.mix_walk.specs.declared.fault.LinesFault.{LinesFault}
 use Rattle.mix_walk.specs.declared.fault.LinesFault.TheVariants.{SinkFailed, OutOfMemory}
-use Rattle.mix_walk.specs.Allowed.{Nodes, MayAnswer, nodes_after, AreAnswers, answer_lines, mark_of, is_fault, has_fault, faults_in, fills_for, fills_begun}
+use Rattle.mix_walk.specs.Allowed.{MayAnswer, nodes_after, AreAnswers, answer_lines, mark_of, is_fault, has_fault, faults_in, fills_for, fills_begun}
 use Rattle.mix_walk.specs.Finished.{AreOf}
 use Rattle.mix_walk.specs.Held.{HoldNodes, HoldPlaces, IsNode, IsPlace}
 use Rattle.mix_walk.specs.Stepped.{IsAnswered, IsFrugal}
-use Rattle.mix_walk.specs.Cuts.{WroteLine, WroteFront, IsStepCut}
+use Rattle.mix_walk.specs.Cuts.{IsStepCut}
 use Rattle.mix_walk.specs.Lines.{IsWalk, IsLazy, IsWhole, EndsBetween, EndsWithin, Ends}
 use Rattle.mix_walk.specs.SoFar.{IsOnTree, IsSoFar}
 use Rattle.mix_walk.proofs.Hold.{hold_none}

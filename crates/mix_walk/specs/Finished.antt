@@ -1,11 +1,11 @@
 -- Answers as the finished document gives them, and that their lines are the transcript.
-use Rattle.std.specs.Prelude.{◌≡◌, ℕ, ◌+◌, true, List, [], ◌∷◌, ◌++◌, Option, Some, None, option_and_then, length, refl, is_some, IsTrue}
-use Rattle.std.proofs.Common.{ap, sym, subst, ◌∙◌, append_assoc, arith}
+use Rattle.std.specs.Prelude.{◌≡◌, ℕ, true, List, [], ◌∷◌, ◌++◌, Option, Some, None, option_and_then, length, refl, is_some, IsTrue}
+use Rattle.std.proofs.Common.{ap, ◌∙◌, append_assoc, arith}
 use Rattle.mix_tree.specs.Forest.{LabelledTree}
 use Rattle.mix_tree.specs.Place.{tree_at}
 use Rattle.mix_script.specs.Names.{no_names}
 use Rattle.mix_script.specs.Answers.{line_of}
-use Rattle.mix_script.specs.Transcript.{Names, goal_of, move_answer, label_answer, if_held, unless_marked, answer_of, answered, lines_from, transcript, may_mark, MayBeMarked, AreMarks}
+use Rattle.mix_script.specs.Transcript.{Names, label_answer, if_held, answer_of, answered, lines_from, transcript, may_mark, MayBeMarked, AreMarks}
 use Rattle.mix_script.specs.declared.step.Act.{Act}
 use Rattle.mix_script.specs.declared.step.Act.TheVariants.{Root, Down, Right, Fetch}
 use Rattle.mix_script.specs.declared.step.Step.{Step}

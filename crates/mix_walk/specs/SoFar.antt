@@ -1,5 +1,5 @@
 -- How far a walk has come.
-use Rattle.std.specs.Prelude.{◌≡◌, ℕ, ◌+◌, ◌≤◌, Bool, true, ◌||◌, List, ◌++◌, Option, length}
+use Rattle.std.specs.Prelude.{◌≡◌, ℕ, ◌+◌, ◌≤◌, Bool, true, List, ◌++◌, Option, length}
 use Rattle.mix_base.specs.Counts.{HasRisenBy}
 use Rattle.mix_tree.specs.Forest.{LabelledTree, alone}
 use Rattle.mix_io.specs.Contents.{Appends}

@@ -11,7 +11,6 @@ use Rattle.tree_buffer.specs.Buffer.{number_of}
 use Rattle.mix_script.specs.Names.{NamesOf, with_name}
 use Rattle.mix_script.specs.Transcript.{Names, answer_of, names_after}
 use Rattle.mix_script.specs.declared.step.Act.{Act}
-use Rattle.mix_script.specs.declared.step.Step.{Step}
 use Rattle.mix_script.specs.declared.answer.Answer.{Answer}
 use Rattle.mix_script.specs.declared.answer.Answer.TheVariants as answer
 use Rattle.mix_walk.specs.Allowed.{Nodes, MayAnswer, nodes_after, mark_of, faults_in, fills_for}

@@ -1,5 +1,5 @@
 -- How a walk ends over a source that tells its document.
-use Rattle.std.specs.Prelude.{◌≡◌, ◌⊎◌, ℕ, ◌+◌, Bool, true, List, [], ◌∷◌, ◌++◌, Option, Some, None, length, take, Result, Ok, Err, refl}
+use Rattle.std.specs.Prelude.{◌≡◌, ℕ, ◌+◌, Bool, true, List, [], ◌∷◌, ◌++◌, Option, Some, None, length, take, Result, Ok, Err, refl}
 use Rattle.std.proofs.Common.{ap, sym, subst, ◌∙◌, inl, inr}
 use Rattle.mix_base.proofs.Lists.{append_nil, take_append, take_front}
 use Rattle.mix_tree.specs.Forest.{LabelledTree, alone}
@@ -14,7 +14,7 @@ use Rattle.mix_walk.specs.declared.fault.LinesFault.{LinesFault}
 use Rattle.mix_walk.specs.declared.fault.LinesFault.TheVariants.{SinkFailed, OutOfMemory}
 use Rattle.mix_walk.specs.Allowed.{answer_lines, marks_of}
 use Rattle.mix_walk.specs.Finished.{AreOf, lines_begin_transcript, lines_are_transcript, answers_show_marks}
-use Rattle.mix_walk.specs.Lines.{IsWhole, EndsBetween, EndsWithin, Ends}
+use Rattle.mix_walk.specs.Lines.{EndsWithin, Ends}
 
 -- the lines are the transcript of the steps on a tree, under marks that stand only where they may
 pub record AreLinesOn (t : LabelledTree) (names : List (List ℕ)) (steps : List Step) (lines : List ℕ) : Type 0 where

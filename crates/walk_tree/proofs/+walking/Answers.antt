@@ -1,4 +1,4 @@
-use Rattle.std.proofs.Common.{rules, ◌≡◌, ℕ, ◌+◌, ◌*◌, ◌<◌, ◌≤◌, ◌++◌, ◌∷◌, [], true, Some, length, ap, sym, subst, ◌∙◌, arith, append_assoc}
+use Rattle.std.proofs.Common.{rules, ◌≡◌, ◌+◌, ◌<◌, ◌++◌, ◌∷◌, [], length, ap, sym, subst, ◌∙◌, arith, append_assoc}
 use Rattle.std.proofs.lemmas.List.{length_push}
 use Rattle.std.proofs.lemmas.Result.{on_ok_weaker}
 use Rattle.mix_base.specs.Counts.{HasRisen}
@@ -6,7 +6,7 @@ use Rattle.mix_base.proofs.Risen.{risen_before}
 use Rattle.mix_tree.specs.Place.{trees_at}
 use Rattle.lxp_core.specs.View.{Keeps}
 use Rattle.tree_buffer.specs.Document.{document_node}
-use Rattle.tree_buffer.specs.Buffer.{IsSpot, IsNextSpot, Ran, number_of, place_of, label_of, below, after}
+use Rattle.tree_buffer.specs.Buffer.{IsSpot, IsNextSpot, number_of, place_of, label_of, below, after}
 use Rattle.tree_buffer.proofs.Laws.{ran_twice}
 use Rattle.walk_tree.specs.Walk.{first_labels, labels_from, left}
 use Rattle.walk_tree.proofs.Steps.{left_le, if_some_weaker, labels_down, labels_right}

@@ -1,4 +1,4 @@
-use Rattle.std.proofs.Common.{◌≡◌, ◌+◌, ◌≤◌, length, subst, arith}
+use Rattle.std.proofs.Common.{◌≤◌, subst, arith}
 use Rattle.tree_buffer.specs.Buffer.{below}
 use Rattle.walk_tree.proofs.walk_all.Goals as goal
 

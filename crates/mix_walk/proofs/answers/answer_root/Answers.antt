@@ -1,4 +1,4 @@
-use Rattle.std.proofs.Common.{◌≡◌, ◌∙◌, Some, sym}
+use Rattle.std.proofs.Common.{◌≡◌}
 use Rattle.lxp_core.specs.View.{Keeps}
 use Rattle.mix_script.specs.Names.{held}
 use Rattle.mix_script.specs.declared.step.Act.TheVariants.{Root}

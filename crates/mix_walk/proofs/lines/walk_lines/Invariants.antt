@@ -1,4 +1,4 @@
-use Rattle.std.proofs.Common.{◌≡◌, ◌≤◌, drop}
+use Rattle.std.proofs.Common.{◌≤◌, drop}
 use Rattle.mix_script.specs.Names.{held}
 use Rattle.tree_buffer.specs.Buffer.{Ran}
 use Rattle.mix_walk.specs.SoFar.{IsSoFar}
