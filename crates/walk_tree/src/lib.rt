@@ -98,5 +98,32 @@ pub fn walk_all<S: Sources>(
     Ok(labels)
 }
 
+/// The labels of two documents, each walked by a buffer of its own over the same sources: what a walk of the one asks
+/// leaves the other's buffer as it was.
+pub fn walk_two<S: Sources>(
+    alloc: Global,
+    s: &mut S,
+    first: u32,
+    second: u32,
+) -> Result<(Vec<Label>, Vec<Label>), BufferFault>
+    requires first { first < (S.view s.old).count }
+    requires second { second < (S.view s.old).count }
+    ensures came { S.came_from s.new s.old }
+    ensures first { IfOk result (λ both. (S.view s.old).told first ≡ true
+        → both.0.items ≡ [] ∷ labels_of (document (S.view s.old) first)) }
+    ensures second { IfOk result (λ both. (S.view s.old).told second ≡ true
+        → both.1.items ≡ [] ∷ labels_of (document (S.view s.old) second)) }
+{
+    let mut left = Buffer::open(alloc, s, first)?;
+    let mut right = Buffer::open(alloc, s, second)?;
+    let mut labels = Vec::new(alloc);
+    let mut others = Vec::new(alloc);
+    let top = left.top();
+    walk(alloc, s, &mut left, &top, &mut labels)?;
+    let top = right.top();
+    walk(alloc, s, &mut right, &top, &mut others)?;
+    Ok((labels, others))
+}
+
 #[cfg(test)]
 mod tests;

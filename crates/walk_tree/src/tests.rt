@@ -1,8 +1,9 @@
-// What no clause says: that walks succeed at each cutting, with fills counted by hand, and again after each fault.
+// What no clause says: that walks succeed at each cutting, with fills counted by hand, again after each fault, and over two
+// documents.
 ghost use Rattle.std.specs.Prelude.{◌≡◌, IfOk};
 ghost use Rattle.lxp_core.specs.Memory.{memory_view};
 
-use crate::{walk, walk_all};
+use crate::{walk, walk_all, walk_two};
 use lxp_core::MemSources;
 use mix_tree::{Label, Tree};
 use std::alloc::{AllocError, Global};
@@ -84,5 +85,18 @@ fn a_walk_answers_after_each_fault(rt: HostRuntime) -> Result<(), Fail> {
         assert_eq!(rt; joined(alloc, &again)?.as_slice(), b"abdec".as_slice());
         assert_eq!(rt; s.fills(), 6);
     }
+    Ok(())
+}
+
+#[test]
+fn two_documents_are_walked(rt: HostRuntime) -> Result<(), Fail> {
+    let alloc = rt.alloc();
+    let leaf = |label| tree(alloc, label, Vec::new(alloc));
+    let one = tree(alloc, "a", vec![in alloc; leaf("b")?]?)?;
+    let docs = vec![in alloc; one, leaf("c")?]?;
+    let mut s = MemSources::new(alloc, docs, Vec::new(alloc), Vec::new(alloc), true)?;
+    let (labels, others) = walk_two(alloc, &mut s, 0, 1)?;
+    assert_eq!(rt; joined(alloc, &labels)?.as_slice(), b"ab".as_slice());
+    assert_eq!(rt; joined(alloc, &others)?.as_slice(), b"c".as_slice());
     Ok(())
 }
