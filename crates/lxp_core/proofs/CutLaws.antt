@@ -12,7 +12,7 @@ use Rattle.lxp_core.specs.Nodes.{first_of, count_of, label_of, run, AreWithin}
 use Rattle.lxp_core.specs.Span.{hole_span, has_span, span_trees}
 use Rattle.lxp_core.specs.Choice.{IsChoice, wants_hole, choice_of}
 use Rattle.lxp_core.specs.Cut.{hole_if, kids_of, children, shown_from, shown_to, cut}
-use Rattle.lxp_core.proofs.Forests.{followed-none}
+use Rattle.mix_tree.proofs.Forests.{followed-none}
 use Rattle.lxp_core.proofs.Opens.{nodes_of-closed}
 use Rattle.lxp_core.proofs.NodeLaws.{run-suc, run-add}
 

@@ -1,7 +1,6 @@
 pub mod ChunkLaws
 pub mod CutLaws
 pub mod CutSteps
-pub mod Forests
 pub mod DocumentLaws
 pub mod Opens
 pub mod Plains

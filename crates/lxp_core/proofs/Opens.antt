@@ -4,7 +4,7 @@ use Rattle.mix_tree.specs.Forest.{Forest, none, tree, followed}
 use Rattle.mix_tree.specs.Weight.{nodes_of}
 use Rattle.lxp_core.specs.declared.open_tree.HoleId.{HoleId}
 use Rattle.lxp_core.specs.Open.{Open, nil, node, hole, closed, weight_of, AllHoles, begins_with_hole, IsApart, open_followed}
-use Rattle.lxp_core.proofs.Forests.{followed_assoc}
+use Rattle.mix_tree.proofs.Forests.{followed_assoc}
 
 -- of three lists, the first two or the last two may be joined first
 pub open_followed_assoc : (a b c : Open) → open_followed (open_followed a b) c ≡ open_followed a (open_followed b c)

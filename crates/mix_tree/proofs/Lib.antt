@@ -1,3 +1,4 @@
+pub mod Forests
 pub mod Kids
 pub mod LabelAnswers
 pub mod LabelCanonical
@@ -9,4 +10,5 @@ pub mod LabelTaken
 pub mod Numerals
 pub mod PlaceOrder
 pub mod Places
+pub mod SameKeys
 pub mod TableLaws

@@ -1,6 +1,9 @@
 pub mod Distinct
 pub mod Found
 pub mod Numbers
+mod PlainRows
+pub mod Plains
 pub mod RowLaws
+pub mod SortLaws
 mod Texts
 mod Typed

@@ -4,6 +4,7 @@ use Rattle.std.specs.List.{AllByRecursion}
 use Rattle.std.specs.Prelude.{◌==◌, ◌||◌}
 use Rattle.std.proofs.lemmas.Bool.{or_cases, eqb-true, ne_eqb}
 use Rattle.mix_base.proofs.Ascents.{each_among}
+use Rattle.mix_base.proofs.Firsts.{each_snoc}
 use Rattle.mix_base.proofs.Lists.{append_nil}
 use Rattle.mix_tree.specs.Nodes.{Node, document_node}
 use Rattle.xmas_rule.specs.Bindings.{Binding, node_of}
@@ -91,11 +92,6 @@ unfoldable pub AreApart : List (List Binder) → Type 0
 AreApart [] = Unit {0}
 AreApart (comp ∷ comps) =
     AllByRecursion (FromSource (source_of comp)) comp × AreScoped [] comp × ((v : ℕ) → has (binder_vars comp) v ≡ true → has (binder_vars (flat comps)) v ≡ false) × AreApart comps
-
--- what holds of a list and of one member more
-each_snoc : {X : Type 0} (P : X → Type 0) (xs : List X) (x : X) → AllByRecursion P xs → P x → AllByRecursion P (xs ++ x ∷ [])
-each_snoc P [] x h p = (p, tt)
-each_snoc P (y ∷ xs) x h p = (h.0, each_snoc P xs x h.1 p)
 
 -- a condition that starts inside a component does not start in another
 start_apart : (ds : List Binder) (c : Binder) (cs : List Binder) (us : List ℕ) → ((v : ℕ) → has (binder_vars (ds ++ c ∷ cs)) v ≡ true → has us v ≡ false) → Follows (binder_vars ds) c → Apart us c

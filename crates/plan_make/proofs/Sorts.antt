@@ -20,6 +20,7 @@ use Rattle.xmas_rule.specs.declared.condition.OrderBy.{OrderBy}
 use Rattle.plan_core.specs.Rows.{Row, node_in, nodes_in}
 use Rattle.plan_core.specs.Sorted.{insert_by, sorted_by}
 use Rattle.plan_core.specs.Unary.{holds, run}
+use Rattle.plan_core.proofs.SortLaws.{sorted_by-map, sorted_same}
 use Rattle.plan_make.proofs.Groupings.{RowsOf}
 use Rattle.plan_make.proofs.Members.{among_each, among-filter, among_filter, ascending_filter}
 use Rattle.plan_make.specs.Operators.{selects, orders}
@@ -71,27 +72,6 @@ selects-run docs top row (t ∷ ts) bs r h =
     ap (run docs (selects ts)) (filter-map (holds docs t) row bs
     ∙ ap (map row) (filter_same (λ b. holds docs t (row b)) (λ b. passes docs t (node_of b)) bs (each_all (λ b. holds docs t (row b) ≡ passes docs t (node_of b)) (λ b. passes-row docs top row t b r h.0.0 h.0.1) bs)))
     ∙ selects-run docs top row ts (filter (λ b. passes docs t (node_of b)) bs) r h.1
-
--- put into images
-insert_by-map : {X Y : Type 0} (less : Y → Y → Bool) (f : X → Y) (x : X) (xs : List X) → insert_by less (f x) (map f xs) ≡ map f (insert_by (λ a b. less (f a) (f b)) x xs)
-insert_by-map less f x [] = refl
-insert_by-map {X} {Y} less f x (y ∷ xs) = elim (less (f y) (f x)) as (λ w. cond w (f y ∷ insert_by less (f x) (map f xs)) (f x ∷ f y ∷ map f xs) ≡ map f (cond w (y ∷ insert_by (λ a b. less (f a) (f b)) x xs) (x ∷ y ∷ xs)))
-    [ true ↦ ap (λ (zs : List Y). f y ∷ zs) (insert_by-map less f x xs) | false ↦ refl ]
-
--- images sorted
-sorted_by-map : {X Y : Type 0} (less : Y → Y → Bool) (f : X → Y) (xs : List X) → sorted_by less (map f xs) ≡ map f (sorted_by (λ a b. less (f a) (f b)) xs)
-sorted_by-map less f [] = refl
-sorted_by-map less f (x ∷ xs) = ap (insert_by less (f x)) (sorted_by-map less f xs) ∙ insert_by-map less f x (sorted_by (λ a b. less (f a) (f b)) xs)
-
--- comparisons that agree put alike
-insert_same : {X : Type 0} (l m : X → X → Bool) → ((a b : X) → l a b ≡ m a b) → (x : X) (xs : List X) → insert_by l x xs ≡ insert_by m x xs
-insert_same l m h x [] = refl
-insert_same {X} l m h x (y ∷ xs) = rw h (ap (λ (zs : List X). cond (m y x) (y ∷ zs) (x ∷ y ∷ xs)) (insert_same l m h x xs))
-
--- and sort alike
-sorted_same : {X : Type 0} (l m : X → X → Bool) → ((a b : X) → l a b ≡ m a b) → (xs : List X) → sorted_by l xs ≡ sorted_by m xs
-sorted_same l m h [] = refl
-sorted_same l m h (x ∷ xs) = insert_same l m h x (sorted_by l xs) ∙ ap (insert_by m x) (sorted_same l m h xs)
 
 -- a member of a list into which one was put
 among-insert : {X : Type 0} (less : X → X → Bool) (z x : X) (xs : List X) → Among z (insert_by less x xs) → (z ≡ x) ⊎ Among z xs

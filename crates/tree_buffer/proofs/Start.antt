@@ -4,7 +4,7 @@ use Rattle.mix_tree.specs.Forest.{from, first_kids, first_label}
 use Rattle.mix_tree.specs.Place.{trees_at}
 use Rattle.lxp_core.specs.Open.{nil, hole, closed, AllHoles, IsApart}
 use Rattle.lxp_core.specs.View.{View, document}
-use Rattle.lxp_core.proofs.Forests.{followed-none}
+use Rattle.mix_tree.proofs.Forests.{followed-none}
 use Rattle.tree_buffer.specs.Document.{document_node}
 use Rattle.tree_buffer.specs.Nodes.{Nodes}
 use Rattle.tree_buffer.specs.Sourced.{Sourced}
