@@ -1,4 +1,5 @@
 pub mod Distinct
+mod EventRows
 pub mod Found
 pub mod Numbers
 mod PlainRows

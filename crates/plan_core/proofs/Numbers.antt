@@ -1,5 +1,5 @@
 -- What is said of an operator by its number, from what is said of its inputs.
-use Rattle.std.proofs.Common.{◌≡◌, ℕ, zero, suc, ◌<◌, Bool, true, false, cond, List, [], ◌∷◌, ◌++◌, map, refl, ◌∙◌, sym, ap, arith}
+use Rattle.std.proofs.Common.{◌≡◌, ℕ, zero, suc, ◌<◌, ◌≤◌, Bool, true, false, cond, List, [], ◌∷◌, ◌++◌, map, refl, ◌∙◌, sym, ap, arith}
 use Rattle.std.specs.Prelude.{◌==◌}
 use Rattle.std.specs.List.{AllByRecursion}
 use Rattle.std.proofs.lemmas.Bool.Decides.{nat_tests}
@@ -30,6 +30,16 @@ below_op-at f d ops (suc n) j h =
       | true ↦ λ e. (let k : n ≡ j = grind (arith, nat_tests, e) in ap (λ (m : ℕ). f (op_at ops m) (below_op f d ops m)) k)
       | false ↦ λ e. (let k : j < n = grind (arith, nat_tests, e) in below_op-at f d ops n j k)
     ] refl)
+
+-- elsewhere it is what is said where nothing is known
+pub below_op-past : {A : Type 0} (f : Operator → (ℕ → A) → A) (d : A) (ops : List Operator) (n j : ℕ) → n ≤ j → below_op f d ops n j ≡ d
+unfolding below_op
+below_op-past f d ops zero j h = refl
+below_op-past f d ops (suc n) j h =
+    elim (j == n) as (λ v. (j == n) ≡ v → cond v (f (op_at ops n) (below_op f d ops n)) (below_op f d ops n j) ≡ d) [
+      | true ↦ λ e. absurd (let k : j ≡ n = grind (arith, nat_tests, e) in omega (arith, k, h))
+      | false ↦ λ e. below_op-past f d ops n j (omega (arith, h))
+    ] refl
 
 -- of the things that are said of operators, it reads those of the inputs alone
 abbrev pub ReadsInputs : {A : Type 0} → (Operator → (ℕ → A) → A) → Type 0
