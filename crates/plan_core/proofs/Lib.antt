@@ -8,3 +8,4 @@ pub mod RowLaws
 pub mod SortLaws
 mod Texts
 mod Typed
+mod Visited

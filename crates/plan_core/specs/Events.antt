@@ -14,7 +14,7 @@ use Rattle.plan_core.specs.declared.plan.Piece.TheVariants.{Var as var_piece}
 use Rattle.plan_core.specs.Sorted.{sorted_by}
 use Rattle.plan_core.specs.Unary.{Unary, select, order_by, project, group_by, concatenate, create_element, comes_before}
 use Rattle.plan_core.specs.ByNumber.{by_number}
-use Rattle.plan_core.specs.Plans.{World, Operator, source, get_descendants, join, over, tuple_destroy, PlanValue, rows_of, document}
+use Rattle.plan_core.specs.Plans.{World, AreMatches, Operator, source, get_descendants, join, over, tuple_destroy, PlanValue, rows_of, document}
 use Rattle.plan_core.specs.Tolled.{Tolled, ends, item, plain}
 use Rattle.plan_core.specs.Valid.{IsValid}
 use Rattle.plan_core.specs.TolledRows.{TolledValue, of_source, element, trees, TolledRow, plain_row, tolled_value, row_node, tolled_restrict, piece_items, all_items, collected, KeyValue, key_values, same_values, is_seen}
@@ -136,6 +136,10 @@ events docs ops n = by_number (op_events docs) [] ops n
 -- source documents with the matches that visits find
 abbrev pub visited : Documents → World
 visited docs = record { docs = docs; matches = λ path n. without_skips (visits docs path n) }
+
+-- the bindings of visits are the matches of the paths
+abbrev pub VisitedAreMatches : Type 0
+VisitedAreMatches = (docs : Documents) → AreMatches (visited docs)
 
 -- the bindings of operators are their events without the skips and the tolls
 abbrev pub EventsAreBindings : List Operator → Type 0

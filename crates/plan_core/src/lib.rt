@@ -6,7 +6,7 @@ mod plan;
 mod text;
 mod writing;
 
-pub use law::{events_are_bindings, tolled_is_document, valid_plans_are_typed};
+pub use law::{events_are_bindings, tolled_is_document, valid_plans_are_typed, visited_are_matches};
 pub use plan::{Op, Piece, Plan};
 pub use writing::write_plan;
 
