@@ -1,6 +1,5 @@
 -- What is seen at a place of a text, in terms of the grammar.
 use Rattle.std.proofs.Common.{◌≡◌, inl, inr, ◌<◌, ◌≤◌, ◌+◌, ◌-◌, ◌∙◌, ◌==◌, ℕ, zero, suc, Bool, true, false, cond, List, [], ◌∷◌, ◌++◌, Option, Some, None, refl, sym, ap, subst, arith, length, append_assoc, option_and_then, take, drop, slice_range, slice_index, length-append, length-drop, Result, Ok, Err, IfOk}
-use Rattle.std.proofs.lemmas.Bool.Decides.{nat_tests}
 use Rattle.std.proofs.lemmas.List.{drop_more}
 use Rattle.std.proofs.lemmas.Str.{IsUtf8-nil, IsUtf8-drop, IsUtf8-append, IsUtf8-between, IsCharBoundary-start, IsCharBoundary-from_drop}
 use Rattle.std.specs.Str.{IsUtf8, IsCharBoundary}

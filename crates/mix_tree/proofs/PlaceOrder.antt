@@ -1,5 +1,5 @@
 -- The order of places is strict.
-use Rattle.std.proofs.Common.{◌≡◌, ℕ, List, [], ◌∷◌, inl, inr, arith}
+use Rattle.std.proofs.Common.{ℕ, List, [], ◌∷◌, inl, inr, arith}
 use Rattle.mix_tree.specs.Nodes.{PlaceBefore}
 
 -- no place stands before itself

@@ -1,5 +1,5 @@
 -- What is said of an operator by its number, from what is said of its inputs.
-use Rattle.std.proofs.Common.{◌≡◌, ℕ, zero, suc, ◌<◌, ◌≤◌, Bool, true, false, cond, List, [], ◌∷◌, ◌++◌, map, refl, ◌∙◌, sym, ap, arith}
+use Rattle.std.proofs.Common.{◌≡◌, ℕ, zero, suc, ◌<◌, ◌≤◌, true, false, cond, List, [], ◌∷◌, refl, ◌∙◌, ap, arith}
 use Rattle.std.specs.Prelude.{◌==◌}
 use Rattle.std.specs.List.{AllByRecursion}
 use Rattle.std.proofs.lemmas.Bool.Decides.{nat_tests}
@@ -14,7 +14,7 @@ use Rattle.plan_core.specs.Plans.{Operator, source, get_descendants, join, over,
 use Rattle.plan_core.specs.TolledRows.{of_source}
 use Rattle.plan_core.specs.Typed.{kinds}
 use Rattle.plan_core.specs.Unary.{Unary}
-use Rattle.plan_core.specs.Valid.{Kind, Kinds, no_kinds, either_kind, op_kinds, inputs_of}
+use Rattle.plan_core.specs.Valid.{Kinds, no_kinds, either_kind, op_kinds, inputs_of}
 
 -- one operator further
 below_op-step : {A : Type 0} (f : Operator → (ℕ → A) → A) (d : A) (ops : List Operator) (n j : ℕ) → below_op f d ops (suc n) j ≡ cond (j == n) (f (op_at ops n) (below_op f d ops n)) (below_op f d ops n j)

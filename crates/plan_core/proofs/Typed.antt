@@ -1,14 +1,14 @@
 -- What a valid plan says of each operator by its number.
-use Rattle.std.proofs.Common.{◌≡◌, inl, inr, ℕ, zero, suc, ◌+◌, ◌<◌, ◌≤◌, List, [], ◌∷◌, ◌++◌, length, get_or, refl, ◌∙◌, sym, ap, subst, arith, length-append}
-use Rattle.std.specs.Prelude.{Option, Some}
+use Rattle.std.proofs.Common.{◌≡◌, inl, inr, ℕ, zero, suc, ◌+◌, ◌<◌, List, [], ◌∷◌, ◌++◌, length, get_or, refl, ◌∙◌, sym, ap, subst, arith, length-append}
+use Rattle.std.specs.Prelude.{Some}
 use Rattle.std.specs.List.{AllByRecursion}
 use Rattle.std.proofs.lemmas.Bool.{cases_lt}
 use Rattle.std.proofs.lemmas.List.{get_or_append_left, get_or_at}
 use Rattle.mix_base.proofs.Firsts.{each_weaker}
 use Rattle.plan_core.specs.ByNumber.{op_at}
-use Rattle.plan_core.specs.Plans.{Operator, source, get_descendants, join, over, tuple_destroy, PlanValue}
-use Rattle.plan_core.specs.Typed.{kinds, IsTyped, ValidIsTyped}
-use Rattle.plan_core.specs.Valid.{Kind, a_node, an_element, Kinds, no_kinds, either_kind, op_kinds, IsTest, IsUnaryFit, IsFit, AreFit, inputs_of, HaveSmallerInputs, IsValid}
+use Rattle.plan_core.specs.Plans.{Operator, source, get_descendants, join, over, tuple_destroy}
+use Rattle.plan_core.specs.Typed.{kinds, ValidIsTyped}
+use Rattle.plan_core.specs.Valid.{a_node, an_element, Kinds, no_kinds, either_kind, op_kinds, IsTest, IsUnaryFit, IsFit, AreFit, inputs_of, HaveSmallerInputs}
 use Rattle.plan_core.proofs.Numbers.{op_kinds-reads, kinds-of}
 
 -- what an operator uses is said of the kinds of its inputs alone
@@ -51,10 +51,10 @@ module _ (whole : List Operator) where
       elim (cases_lt i k) [
         | inl b ↦ get_or_append_left before (next ∷ []) no_kinds i (omega (arith, l, b)) ∙ h i b
         | inr b ↦ (let q : i ≡ k = omega (arith, b, lt) in
-          get_or_at before next [] no_kinds i (sym l ∙ sym q)
-          ∙ op_kinds-reads op (λ i. get_or before i no_kinds) (kinds whole) (are_read before k op h s)
-          ∙ sym (kinds-of whole k op e s)
-          ∙ ap (kinds whole) (sym q))
+            get_or_at before next [] no_kinds i (sym l ∙ sym q)
+            ∙ op_kinds-reads op (λ i. get_or before i no_kinds) (kinds whole) (are_read before k op h s)
+            ∙ sym (kinds-of whole k op e s)
+            ∙ ap (kinds whole) (sym q))
       ]
 
   -- all is well from an operator on

@@ -3,7 +3,7 @@ use Rattle.std.specs.Prelude.{◌<◌, ℕ, List, length}
 use Rattle.std.specs.List.{AllByRecursion}
 use Rattle.plan_core.specs.ByNumber.{op_at, by_number}
 use Rattle.plan_core.specs.Plans.{Operator, PlanValue}
-use Rattle.plan_core.specs.Valid.{Kinds, no_kinds, op_kinds, IsFit, inputs_of, HasSource, IsValid}
+use Rattle.plan_core.specs.Valid.{Kinds, no_kinds, op_kinds, IsFit, inputs_of, IsValid}
 
 -- the kinds of the variables that operator n binds
 unfoldable pub kinds : List Operator → ℕ → Kinds

@@ -1,6 +1,6 @@
-use Rattle.std.proofs.Common.{rules, ◌≡◌, ◌∙◌, ℕ, ◌+◌, ◌-◌, ◌*◌, ◌<◌, ◌^◌, ap, sym, subst, arith, take, get_or}
+use Rattle.std.proofs.Common.{◌≡◌, ◌∙◌, ◌+◌, ◌-◌, ◌*◌, sym, arith, take, get_or}
 use Rattle.std.specs.Str.Parse.{digits_value}
-use Rattle.mix_tree.proofs.Numerals.{digits_more, digits_below, front_below}
+use Rattle.mix_tree.proofs.Numerals.{digits_more, front_below}
 use Rattle.mix_tree.proofs.numeral.read_digits.Goals as goal
 
 pub overflow_mul-number : goal.overflow_mul-number
