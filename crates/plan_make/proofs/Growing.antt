@@ -60,7 +60,7 @@ descend-append d i (c ∷ a) b =
     ap (λ (z : List Operator). descend_op d i c ∷ z) (descend-append d (suc i) a b ∙ ap (λ (n : ℕ). descend_ops d (suc i) a ++ descend_ops d n b) e)
 
 -- what is reached by one condition, and then by those behind it
-reached-more : (vs : List ℕ) (x : Cond) (xs : List Cond) →
+pub reached-more : (vs : List ℕ) (x : Cond) (xs : List Cond) →
     reached vs (binders (x ∷ xs)) ≡ reached vs (binders (x ∷ [])) ++ reached (vs ++ binder_vars (reached vs (binders (x ∷ [])))) (binders xs)
 reached-more vs (FromSource s path v) xs = ap (λ (z : List ℕ). reached z (binders xs)) (sym (append_nil vs))
 reached-more vs (Compare t) xs = ap (λ (z : List ℕ). reached z (binders xs)) (sym (append_nil vs))
@@ -195,7 +195,7 @@ rest-begun n d (Compare t) cs more = same n d more
         ap (λ (z : ℕ). rest_ops z d more) (sym e) ∙ ap (λ (z : ℕ). rest_ops (n + length {A = Operator} []) z more) (sym f)
 
 -- what a condition begins, then what those behind it do
-reaches-begun : (x : Cond) (xs : List Cond) → reaches (binders (x ∷ xs)) ≡ begun x (binders xs) ++ reaches (binders xs)
+pub reaches-begun : (x : Cond) (xs : List Cond) → reaches (binders (x ∷ xs)) ≡ begun x (binders xs) ++ reaches (binders xs)
 reaches-begun (FromSource s path v) xs = refl
 reaches-begun (FromVar y path v) xs = refl
 reaches-begun (Compare t) xs = refl

@@ -1,20 +1,20 @@
 mod OuterLevel
-mod Reaches
+pub mod Reaches
 mod BodyNumbers
 mod Building
 mod Chaining
 mod Chains
-mod ComponentRows
-mod Components
+pub mod ComponentRows
+pub mod Components
 mod Finish
 mod Groupings
-mod Growing
-mod KeyLaws
+pub mod Growing
+pub mod KeyLaws
 mod Levels
-mod Members
+pub mod Members
 mod Selecting
-mod Sorts
-mod TupleRows
-mod Tuples
-mod Whole
+pub mod Sorts
+pub mod TupleRows
+pub mod Tuples
+pub mod Whole
 mod WorkedRows

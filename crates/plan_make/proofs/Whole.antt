@@ -73,7 +73,7 @@ unfolding AreApart
 nothing_apart = tt
 
 -- the tuples of the body, filtered and sorted, are its bindings
-bindings_ok : (world : World) (r : RuleValue) → AreMatches world → IsAccepted r → AreApart (components r.conds) →
+pub bindings_ok : (world : World) (r : RuleValue) → AreMatches world → IsAccepted r → AreApart (components r.conds) →
     AreBindings world.docs r.conds r.order (in_order_of world.docs r.order (passing world.docs (comparisons r.conds) (tuples world ([] ∷ []) (flat (components r.conds)))))
 unfolding Exact vars_of
 bindings_ok world r d a apart =

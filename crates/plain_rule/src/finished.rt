@@ -1,0 +1,39 @@
+// The bindings of a rule's body, and its finished document.
+ghost use Rattle.std.specs.Prelude.{IfOk};
+ghost use Rattle.xmas_rule.specs.Bindings.{AreBindings};
+ghost use Rattle.xmas_rule.specs.Meaning.{IsFinished};
+ghost use Rattle.xmas_rule.specs.RuleMade.{rule_of};
+ghost use Rattle.xmas_rule.specs.Rules.{IsAccepted};
+ghost use Rattle.plain_rule.specs.Documents.{documents_of};
+
+use crate::binding::Binding;
+use crate::instances::push_instances;
+use crate::ordering::in_order;
+use crate::selecting::select;
+use crate::tuples::body_tuples;
+use mix_tree::Tree;
+use std::alloc::{AllocError, Global};
+use xmas_rule::Rule;
+
+/// The bindings of the body of an accepted rule, in its order. Source number n of the rule is tree n of `docs`; a source without a
+/// tree has an empty document.
+pub fn bindings(alloc: Global, rule: &Rule, docs: &[Tree]) -> Result<Vec<Binding>, AllocError>
+    requires { IsAccepted (rule_of rule.now) }
+    ensures { IfOk result (λ found. AreBindings (documents_of docs.now) (rule_of rule.now).conds (rule_of rule.now).order found.items) }
+{
+    let all = body_tuples(alloc, docs, &rule.conds)?;
+    let kept = select(alloc, docs, &rule.conds, all)?;
+    in_order(alloc, docs, rule.order, kept)
+}
+
+/// The finished document of an accepted rule over source documents. Source number n of the rule is tree n of `docs`; a source
+/// without a tree has an empty document.
+pub fn finished_document(alloc: Global, rule: &Rule, docs: &[Tree]) -> Result<Tree, AllocError>
+    requires { IsAccepted (rule_of rule.now) }
+    ensures { IfOk result (λ made. IsFinished (documents_of docs.now) (rule_of rule.now) made) }
+{
+    let found = bindings(alloc, rule, docs)?;
+    let mut kids = Vec::new(alloc);
+    push_instances(alloc, docs, &[], &rule.template.items, &found, &mut kids)?;
+    Ok(Tree::new(rule.template.label.copy(alloc)?, kids))
+}

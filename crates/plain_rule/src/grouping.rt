@@ -1,0 +1,238 @@
+// Groups of bindings that are the same by keys.
+ghost use Rattle.std.specs.Prelude.{◌≡◌, ◌++◌, ◌∷◌, [], cond, map, IfOk, OnOk};
+ghost use Rattle.std.specs.List.{filter, list_any};
+ghost use Rattle.mix_base.specs.Groups.{firsts as firsts_by, groups as groups_by};
+ghost use Rattle.mix_tree.specs.Keys.{same_key};
+ghost use Rattle.mix_tree.specs.Nodes.{same_node as is_same_node};
+ghost use Rattle.xmas_rule.specs.Bindings.{node_of};
+ghost use Rattle.xmas_rule.specs.Meaning.{same, parts as parts_of};
+ghost use Rattle.plain_rule.specs.Documents.{documents_of};
+
+use crate::binding::{Binding, copy_binding, node_in};
+use crate::node::Node;
+use crate::selecting::label_in;
+use mix_tree::{Key, Tree, item_collects, same_label};
+use std::alloc::{AllocError, Global};
+use std::marker::Model;
+
+// Some of the bindings.
+#[derive(Drop)]
+pub struct Part {
+    bindings: Vec<Binding>,
+}
+
+impl Model for Part {
+    ghost use Rattle.std.specs.Prelude.{List};
+    ghost use Rattle.xmas_rule.specs.Bindings.{Binding};
+
+    ghost Value = { List Binding };
+
+    ghost view = { λ p. p.bindings.items };
+}
+
+impl Part {
+    // These bindings.
+    fn new(bindings: Vec<Binding>) -> Part
+        ensures { result ≡ bindings.items }
+    {
+        Part { bindings }
+    }
+
+    // The bindings, in order.
+    pub fn bindings(&self) -> &[Binding]
+        ensures { result.now ≡ self.now }
+    {
+        &self.bindings
+    }
+}
+
+// Whether two nodes are one node of one source.
+fn same_node(a: &Node, b: &Node) -> bool
+    ensures { result ≡ is_same_node a.now b.now }
+{
+    a.source() == b.source() && a.place().steps() == b.place().steps()
+}
+
+// Whether two bindings are the same by a key.
+fn same_by_key(
+    alloc: Global,
+    docs: &[Tree],
+    key: &Key,
+    a: &Binding,
+    b: &Binding,
+) -> Result<bool, AllocError>
+    ensures { IfOk result (λ alike. alike ≡ same_key (documents_of docs.now) key.now (node_of a.now) (node_of b.now)) }
+{
+    match key {
+        Key::Node(var) => {
+            let (left, right) = (node_in(alloc, a, *var)?, node_in(alloc, b, *var)?);
+            Ok(same_node(&left, &right))
+        },
+        Key::LabelOf(var) => {
+            let left = label_in(alloc, docs, a, *var)?;
+            let right = label_in(alloc, docs, b, *var)?;
+            Ok(same_label(&left, &right))
+        },
+    }
+}
+
+// Whether two bindings are the same by all keys.
+fn same_by_keys(
+    alloc: Global,
+    docs: &[Tree],
+    keys: &[Key],
+    a: &Binding,
+    b: &Binding,
+) -> Result<bool, AllocError>
+    ensures { IfOk result (λ alike. alike ≡ same (documents_of docs.now) keys.now a.now b.now) }
+{
+    for key in keys {
+        if !same_by_key(alloc, docs, key, a, b)? {
+            return Ok(false);
+        }
+    }
+    Ok(true)
+}
+
+// Adds the binding, where it is the same as the first.
+fn push_if_alike(
+    alloc: Global,
+    docs: &[Tree],
+    keys: &[Key],
+    first: &Binding,
+    binding: &Binding,
+    group: &mut Vec<Binding>,
+) -> Result<(), AllocError>
+    ensures { OnOk result (group.new.items ≡ group.old.items ++ cond (same (documents_of docs.now) keys.now first.now binding.now) (binding.now ∷ []) []) }
+{
+    if same_by_keys(alloc, docs, keys, first, binding)? {
+        group.push(copy_binding(alloc, binding)?)?;
+    }
+    Ok(())
+}
+
+// The bindings that are the same as the first.
+fn group_of(
+    alloc: Global,
+    docs: &[Tree],
+    keys: &[Key],
+    first: &Binding,
+    bindings: &[Binding],
+) -> Result<Part, AllocError>
+    ensures { IfOk result (λ group. group ≡ filter (same (documents_of docs.now) keys.now first.now) bindings.now) }
+{
+    let mut group = Vec::new(alloc);
+    for binding in bindings {
+        push_if_alike(alloc, docs, keys, first, binding, &mut group)?;
+    }
+    Ok(Part::new(group))
+}
+
+// Whether one of those seen is the same as the binding.
+fn was_seen(
+    alloc: Global,
+    docs: &[Tree],
+    keys: &[Key],
+    seen: &[Binding],
+    binding: &Binding,
+) -> Result<bool, AllocError>
+    ensures { IfOk result (λ known. known ≡ list_any (λ s. same (documents_of docs.now) keys.now s binding.now) seen.now) }
+{
+    for other in seen {
+        if same_by_keys(alloc, docs, keys, other, binding)? {
+            return Ok(true);
+        }
+    }
+    Ok(false)
+}
+
+// Adds the binding, where none of those seen is the same.
+fn push_if_new(
+    alloc: Global,
+    docs: &[Tree],
+    keys: &[Key],
+    binding: &Binding,
+    seen: &mut Vec<Binding>,
+) -> Result<(), AllocError>
+    ensures { OnOk result (seen.new.items ≡ seen.old.items ++ cond (list_any (λ s. same (documents_of docs.now) keys.now s binding.now) seen.old.items) [] (binding.now ∷ [])) }
+{
+    if !was_seen(alloc, docs, keys, seen, binding)? {
+        seen.push(copy_binding(alloc, binding)?)?;
+    }
+    Ok(())
+}
+
+// The first binding of each group.
+fn firsts(
+    alloc: Global,
+    docs: &[Tree],
+    keys: &[Key],
+    bindings: &[Binding],
+) -> Result<Vec<Binding>, AllocError>
+    ensures { IfOk result (λ found. found.items ≡ firsts_by (same (documents_of docs.now) keys.now) bindings.now) }
+{
+    let mut seen = Vec::new(alloc);
+    for binding in bindings {
+        push_if_new(alloc, docs, keys, binding, &mut seen)?;
+    }
+    Ok(seen)
+}
+
+// The groups of these first bindings.
+fn groups_of(
+    alloc: Global,
+    docs: &[Tree],
+    keys: &[Key],
+    first: &[Binding],
+    bindings: &[Binding],
+) -> Result<Vec<Part>, AllocError>
+    ensures { IfOk result (λ found. found.items ≡ map (λ b. filter (same (documents_of docs.now) keys.now b) bindings.now) first.now) }
+{
+    let mut found = Vec::new(alloc);
+    for binding in first {
+        found.push(group_of(alloc, docs, keys, binding, bindings)?)?;
+    }
+    Ok(found)
+}
+
+// The groups by keys, in the order of their first bindings.
+fn groups(
+    alloc: Global,
+    docs: &[Tree],
+    keys: &[Key],
+    bindings: &[Binding],
+) -> Result<Vec<Part>, AllocError>
+    ensures { IfOk result (λ found. found.items ≡ groups_by (same (documents_of docs.now) keys.now) bindings.now) }
+{
+    let first = firsts(alloc, docs, keys, bindings)?;
+    groups_of(alloc, docs, keys, &first, bindings)
+}
+
+// All bindings as one part.
+fn whole(alloc: Global, bindings: &[Binding]) -> Result<Part, AllocError>
+    ensures { IfOk result (λ part. part ≡ bindings.now) }
+{
+    let mut copies = Vec::new(alloc);
+    for binding in bindings {
+        copies.push(copy_binding(alloc, binding)?)?;
+    }
+    Ok(Part::new(copies))
+}
+
+// What an item of these keys has one instance of: each group where it collects, else all bindings.
+pub fn parts(
+    alloc: Global,
+    docs: &[Tree],
+    force: &[Key],
+    own: &[Key],
+    bindings: &[Binding],
+) -> Result<Vec<Part>, AllocError>
+    ensures { IfOk result (λ found. found.items ≡ parts_of (documents_of docs.now) force.now own.now bindings.now) }
+{
+    if item_collects(force, own) {
+        return groups(alloc, docs, own, bindings);
+    }
+    let mut one = Vec::new(alloc);
+    one.push(whole(alloc, bindings)?)?;
+    Ok(one)
+}

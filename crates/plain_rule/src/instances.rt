@@ -1,0 +1,188 @@
+// The instances of a template's items.
+ghost use Rattle.std.specs.Prelude.{◌≡◌, IfOk, OnOk};
+ghost use Rattle.mix_tree.specs.Forest.{forest_of, none, tree, followed, joined};
+ghost use Rattle.mix_tree.specs.Keys.{in_force};
+ghost use Rattle.xmas_rule.specs.Items.{whole, label_alone, done};
+ghost use Rattle.xmas_rule.specs.Made.{items_of, item_before};
+ghost use Rattle.xmas_rule.specs.Meaning.{shown_first, instances};
+ghost use Rattle.plain_rule.specs.Documents.{documents_of};
+
+use crate::binding::{Binding, node_in};
+use crate::documents::kids_of;
+use crate::grouping::{Part, parts};
+use crate::selecting::label_in;
+use mix_tree::{Key, Label, Tree, Var, keys_in_force};
+use std::alloc::{AllocError, Global};
+use xmas_rule::{Item, Template};
+
+// Another such tree.
+#[cycle(copying)]
+fn copy_tree(alloc: Global, tree: &Tree) -> Result<Tree, AllocError>
+    ensures { IfOk result (λ copy. copy ≡ tree.now) }
+{
+    let label = tree.label().copy(alloc)?;
+    Ok(Tree::new(label, copy_trees(alloc, tree.kids())?))
+}
+
+// Other such trees.
+#[cycle(copying)]
+fn copy_trees(alloc: Global, trees: &[Tree]) -> Result<Vec<Tree>, AllocError>
+    ensures { IfOk result (λ copies. copies.items ≡ trees.now) }
+{
+    let mut copies = Vec::new(alloc);
+    for tree in trees {
+        copies.push(copy_tree(alloc, tree)?)?;
+    }
+    Ok(copies)
+}
+
+// Adds a tree.
+fn push_tree(made: &mut Vec<Tree>, label: Label, kids: Vec<Tree>) -> Result<(), AllocError>
+    ensures { OnOk result (forest_of made.new.items ≡ followed (forest_of made.old.items) (tree label (forest_of kids.items) none)) }
+{
+    made.push(Tree::new(label, kids))?;
+    Ok(())
+}
+
+// Adds the subtree at the variable's node in the first binding.
+fn push_whole(
+    alloc: Global,
+    docs: &[Tree],
+    var: Var,
+    bindings: &[Binding],
+    made: &mut Vec<Tree>,
+) -> Result<(), AllocError>
+    ensures { OnOk result (forest_of made.new.items ≡ followed (forest_of made.old.items) (shown_first (documents_of docs.now) whole var bindings.now)) }
+{
+    if let Some((first, _)) = bindings.split_first() {
+        let label = label_in(alloc, docs, first, var)?;
+        let node = node_in(alloc, first, var)?;
+        let kids = copy_trees(alloc, kids_of(docs, &node))?;
+        push_tree(made, label, kids)?;
+    }
+    Ok(())
+}
+
+// Adds a leaf with the label of the variable's node in the first binding.
+fn push_label(
+    alloc: Global,
+    docs: &[Tree],
+    var: Var,
+    bindings: &[Binding],
+    made: &mut Vec<Tree>,
+) -> Result<(), AllocError>
+    ensures { OnOk result (forest_of made.new.items ≡ followed (forest_of made.old.items) (shown_first (documents_of docs.now) label_alone var bindings.now)) }
+{
+    if let Some((first, _)) = bindings.split_first() {
+        let label = label_in(alloc, docs, first, var)?;
+        push_tree(made, label, Vec::new(alloc))?;
+    }
+    Ok(())
+}
+
+// Adds the subtree at the variable's node for each part.
+fn push_wholes(
+    alloc: Global,
+    docs: &[Tree],
+    var: Var,
+    found: &[Part],
+    made: &mut Vec<Tree>,
+) -> Result<(), AllocError>
+    ensures { OnOk result (forest_of made.new.items ≡ followed (forest_of made.old.items) (joined (shown_first (documents_of docs.now) whole var) found.now)) }
+{
+    for part in found {
+        push_whole(alloc, docs, var, part.bindings(), made)?;
+    }
+    Ok(())
+}
+
+// Adds a leaf with the label of the variable's node for each part.
+fn push_labels(
+    alloc: Global,
+    docs: &[Tree],
+    var: Var,
+    found: &[Part],
+    made: &mut Vec<Tree>,
+) -> Result<(), AllocError>
+    ensures { OnOk result (forest_of made.new.items ≡ followed (forest_of made.old.items) (joined (shown_first (documents_of docs.now) label_alone var) found.now)) }
+{
+    for part in found {
+        push_label(alloc, docs, var, part.bindings(), made)?;
+    }
+    Ok(())
+}
+
+// Adds the element for each part.
+#[cycle(making)]
+fn push_elements(
+    alloc: Global,
+    docs: &[Tree],
+    force: &[Key],
+    template: &Template,
+    found: &[Part],
+    made: &mut Vec<Tree>,
+) -> Result<(), AllocError>
+    ensures { OnOk result (forest_of made.new.items ≡ followed (forest_of made.old.items) (joined (λ part. tree template.now.label (instances (documents_of docs.now) force.now template.now.items part) none) found.now)) }
+{
+    for part in found {
+        let mut kids = Vec::new(alloc);
+        push_instances(
+            alloc,
+            docs,
+            force,
+            &template.items,
+            part.bindings(),
+            &mut kids,
+        )?;
+        push_tree(made, template.label.copy(alloc)?, kids)?;
+    }
+    Ok(())
+}
+
+// Adds the instances of an item.
+#[cycle(making)]
+fn push_item(
+    alloc: Global,
+    docs: &[Tree],
+    force: &[Key],
+    item: &Item,
+    bindings: &[Binding],
+    made: &mut Vec<Tree>,
+) -> Result<(), AllocError>
+    ensures { OnOk result (forest_of made.new.items ≡ followed (forest_of made.old.items) (instances (documents_of docs.now) force.now (item_before item.now done) bindings.now)) }
+{
+    match item {
+        Item::Text(label) => push_tree(made, label.copy(alloc)?, Vec::new(alloc)),
+        Item::Node { var, keys } => {
+            let found = parts(alloc, docs, force, keys, bindings)?;
+            push_wholes(alloc, docs, *var, &found, made)
+        },
+        Item::LabelOf { var, keys } => {
+            let found = parts(alloc, docs, force, keys, bindings)?;
+            push_labels(alloc, docs, *var, &found, made)
+        },
+        Item::Element(template) => {
+            let found = parts(alloc, docs, force, &template.keys, bindings)?;
+            let inside = keys_in_force(alloc, force, &template.keys)?;
+            push_elements(alloc, docs, &inside, template, &found, made)
+        },
+    }
+}
+
+// Adds the instances of items, one after another.
+#[cycle(making)]
+pub fn push_instances(
+    alloc: Global,
+    docs: &[Tree],
+    force: &[Key],
+    items: &[Item],
+    bindings: &[Binding],
+    made: &mut Vec<Tree>,
+) -> Result<(), AllocError>
+    ensures { OnOk result (forest_of made.new.items ≡ followed (forest_of made.old.items) (instances (documents_of docs.now) force.now (items_of items.now) bindings.now)) }
+{
+    for item in items {
+        push_item(alloc, docs, force, item, bindings, made)?;
+    }
+    Ok(())
+}
