@@ -105,6 +105,97 @@ fn refusals_name_their_places(rt: HostRuntime) -> Result<(), Fail> {
     Ok(())
 }
 
+#[test]
+fn the_earlier_cause_is_answered_wherever_it_stands(rt: HostRuntime) -> Result<(), Fail> {
+    let alloc = rt.alloc();
+    let catalog = catalog(alloc)?;
+    let refusals = [
+        (
+            "CONSTRUCT <a> $X </b> WHERE s a..b $X",
+            XmasFault::Unexpected(32),
+        ),
+        ("CONSTRUCT <a> $X </b> WHERE s a $", XmasFault::EndsEarly),
+        (
+            "CONSTRUCT <a> $Y </b> WHERE t a $X",
+            XmasFault::TagDiffers(17),
+        ),
+        (
+            "CONSTRUCT <a> $Y </a> WHERE t a $X",
+            XmasFault::UnknownSource(28),
+        ),
+        (
+            "CONSTRUCT <a> $X </a> WHERE s a $X AND s b $X AND t c $Y",
+            XmasFault::UnknownSource(50),
+        ),
+        (
+            "CONSTRUCT <a> $X </a> WHERE t a $X AND s b $X",
+            XmasFault::UnknownSource(28),
+        ),
+        (
+            "CONSTRUCT <a> $Y </a> WHERE s a $X AND s b $X",
+            XmasFault::BoundTwice(43),
+        ),
+        (
+            "CONSTRUCT <a> $X </a> WHERE s a $X AND s b $X AND $X = $Z",
+            XmasFault::BoundTwice(43),
+        ),
+        (
+            "CONSTRUCT <a> $Z </a> {$X} WHERE s a $X",
+            XmasFault::Unbound(14),
+        ),
+        (
+            "CONSTRUCT <a> $X </a> {$X} WHERE s a $X ORDER BY $Z",
+            XmasFault::Unbound(49),
+        ),
+        (
+            "CONSTRUCT <a> $X {$Y} </a> {$X} WHERE s a $X AND s b $Y",
+            XmasFault::OuterGroup(27),
+        ),
+        (
+            "CONSTRUCT <a> $X $Y $X {$Y} </a> WHERE s a $X AND s b $Y",
+            XmasFault::Loose(20),
+        ),
+        (
+            "CONSTRUCT <a> $X {$Y} $X $Y </a> WHERE s a $X AND s b $Y",
+            XmasFault::Loose(14),
+        ),
+    ];
+    for (text, fault) in refusals {
+        match canonical(alloc, &catalog, text) {
+            Ok(_) => return Err(text.into()),
+            Err(found) => assert_eq!(rt; found, fault),
+        }
+    }
+    let read = read_rule(alloc, b"CONSTRUCT } \xff", &catalog);
+    assert!(rt; matches!(read, Err(XmasFault::NotUtf8(12))));
+    let text = repeated(
+        alloc,
+        "CONSTRUCT <a> $X </b> WHERE s a $X",
+        " AND $X = \"t\"",
+        100,
+        "",
+    )?;
+    let fault = canonical(alloc, &catalog, text.as_str());
+    assert!(rt; matches!(fault, Err(XmasFault::TooLarge(Large::Conditions))));
+    Ok(())
+}
+
+#[test]
+fn a_rule_has_60_variables_at_most(rt: HostRuntime) -> Result<(), Fail> {
+    let alloc = rt.alloc();
+    let catalog = catalog(alloc)?;
+    let mut text = String::from_str(alloc, "CONSTRUCT <a> $X </a> WHERE s a $X")?;
+    for i in 1..60 {
+        let cond = format!(in alloc; " AND s a $v{i}")?;
+        text.push_str(cond.as_str())?;
+    }
+    assert!(rt; canonical(alloc, &catalog, text.as_str()).is_ok());
+    text.push_str(" AND $X = $Y")?;
+    let fault = canonical(alloc, &catalog, text.as_str());
+    assert!(rt; matches!(fault, Err(XmasFault::TooLarge(Large::Variables))));
+    Ok(())
+}
+
 // A rule with a part between a front and an end, so many times.
 fn repeated(
     alloc: Global,
