@@ -1,8 +1,9 @@
 -- What calls leave together, and what they leave of buffers that they don't take: for callers to cite.
-use Rattle.std.proofs.Common.{refl, ◌∙◌, arith}
+use Rattle.std.proofs.Common.{◌≡◌, refl, ◌∙◌, arith}
 use Rattle.lxp_core.specs.View.{View, Keeps}
 use Rattle.tree_buffer.specs.declared.buffer.Buffer.{Buffer}
-use Rattle.tree_buffer.specs.Buffer.{IsSourcesOf, Goes, IsKept, Ran}
+use Rattle.tree_buffer.specs.declared.spot.Spot.{Spot}
+use Rattle.tree_buffer.specs.Buffer.{IsSpot, place_of, IsSourcesOf, Goes, IsKept, Ran}
 use Rattle.tree_buffer.proofs.Calls.{kept}
 
 -- nothing happened to a buffer
@@ -65,3 +66,7 @@ module _ {S : Type 0} {view : S → View} {came_from : S → S → Type 0} where
 -- what calls of the sources leave of a buffer
 pub keeps_buffers : {v v' : View} {b : Buffer} → IsSourcesOf v b → Keeps v' v → IsKept v v' b
 keeps_buffers = kept
+
+-- two spots of a buffer that stand for one place are one
+pub one_spot : (b : Buffer) (x y : Spot) → IsSpot b x → IsSpot b y → place_of b x ≡ place_of b y → x.number ≡ y.number
+one_spot b x y at_x at_y same = b.linked.distinct x.number y.number at_x at_y same

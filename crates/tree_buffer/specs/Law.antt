@@ -1,7 +1,9 @@
 -- What calls leave together, and what they leave of buffers that they don't take.
+use Rattle.std.specs.Prelude.{◌≡◌}
 use Rattle.lxp_core.specs.View.{View, Keeps}
 use Rattle.tree_buffer.specs.declared.buffer.Buffer.{Buffer}
-use Rattle.tree_buffer.specs.Buffer.{IsSourcesOf, IsKept, Ran}
+use Rattle.tree_buffer.specs.declared.spot.Spot.{Spot}
+use Rattle.tree_buffer.specs.Buffer.{IsSpot, place_of, IsSourcesOf, IsKept, Ran}
 
 -- no call leaves what a call leaves
 abbrev pub RanSame : {S : Type 0} → (S → View) → (S → S → Type 0) → Type 0
@@ -14,3 +16,7 @@ RanTwice {S} view came_from = (s t u : S) (a b c : Buffer) → Ran view came_fro
 -- whatever keeps what every call keeps, keeps each buffer of the sources
 abbrev pub KeepsBuffers : Type 0
 KeepsBuffers = (v v' : View) (b : Buffer) → IsSourcesOf v b → Keeps v' v → IsKept v v' b
+
+-- two spots of a buffer that stand for one place are one
+abbrev pub SpotsAreOne : Type 0
+SpotsAreOne = (b : Buffer) (x y : Spot) → IsSpot b x → IsSpot b y → place_of b x ≡ place_of b y → x.number ≡ y.number

@@ -1,5 +1,5 @@
 // What calls leave together, and what they leave of buffers that they don't take.
-ghost use Rattle.tree_buffer.specs.Law.{RanSame, RanTwice, KeepsBuffers};
+ghost use Rattle.tree_buffer.specs.Law.{RanSame, RanTwice, KeepsBuffers, SpotsAreOne};
 
 use lxp_core::Sources;
 
@@ -16,4 +16,9 @@ pub fn two_calls_run<S: Sources>()
 /// Whatever is asked of the sources, each buffer of theirs that isn't taken stays one and goes on.
 pub fn buffers_are_kept()
     ensures { KeepsBuffers }
+{}
+
+/// Two spots of one buffer that stand for one place are one.
+pub fn spots_are_one()
+    ensures { SpotsAreOne }
 {}

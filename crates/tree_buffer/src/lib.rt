@@ -11,7 +11,7 @@ mod stacks;
 
 pub use buffer::Buffer;
 pub use fault::BufferFault;
-pub use law::{buffers_are_kept, no_call_runs, two_calls_run};
+pub use law::{buffers_are_kept, no_call_runs, spots_are_one, two_calls_run};
 pub use spot::Spot;
 
 #[cfg(test)]
