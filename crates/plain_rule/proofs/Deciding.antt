@@ -1,9 +1,9 @@
 -- It can be decided whether a path describes a list of labels.
-use Rattle.std.proofs.Common.{◌≡◌, ◌⊎◌, ◌↔◌, ◌∙◌, inl, inr, ◌<◌, ◌≤◌, ◌+◌, ℕ, zero, suc, Bool, true, false, List, [], ◌∷◌, ◌++◌, length, refl, sym, ap, subst, arith, length-append}
+use Rattle.std.proofs.Common.{◌≡◌, ◌⊎◌, ◌↔◌, inl, inr, ◌<◌, ◌≤◌, ℕ, zero, suc, Bool, true, false, List, [], ◌∷◌, length, refl, ap, subst, arith, length-append}
 use Rattle.std.specs.Str.{bytes_eq}
 use Rattle.std.proofs.lemmas.Slice.Eq.{bytes_eq-Decides}
 use Rattle.path_expr.specs.Form.{Head, name, any, seq, alt, star, plus, opt, Paths, none, path, Form}
-use Rattle.path_expr.specs.Description.{Labels, How, in_turn, one_of, Then, Times, Many, DescribesBy, DescribesAs, Describes}
+use Rattle.path_expr.specs.Description.{Labels, How, in_turn, one_of, Then, Many, DescribesBy, DescribesAs}
 use Rattle.plain_rule.specs.Found.{Tests}
 use Rattle.plain_rule.proofs.Splits.{split_nil, then_cases, then_later, many_cases, many_more}
 

@@ -1,5 +1,5 @@
 -- The first members of groups, found one after another.
-use Rattle.std.proofs.Common.{◌≡◌, ◌∙◌, ◌<◌, ◌≤◌, ◌+◌, ℕ, Bool, true, false, cond, List, [], ◌∷◌, ◌++◌, length, drop, get_or, refl, sym, ap, append_assoc}
+use Rattle.std.proofs.Common.{◌≡◌, ◌∙◌, ◌<◌, ◌≤◌, ◌+◌, ℕ, Bool, true, false, cond, List, [], ◌∷◌, ◌++◌, length, drop, get_or, sym, ap, append_assoc}
 use Rattle.mix_base.proofs.Lists.{append_nil}
 use Rattle.mix_base.proofs.Seen.{was_seen, distinct}
 use Rattle.plain_rule.proofs.Tupling.{drop_next, drop_past}

@@ -6,7 +6,7 @@ use Rattle.mix_tree.specs.declared.var.Key.{Key}
 use Rattle.mix_tree.specs.Keys.{in_force}
 use Rattle.xmas_rule.specs.Bindings.{Binding}
 use Rattle.xmas_rule.specs.Codes.{items_size}
-use Rattle.xmas_rule.specs.Items.{Shown, Items, done, literal, variable, element, whole, label_alone}
+use Rattle.xmas_rule.specs.Items.{Shown, Items, done, variable, element, whole, label_alone}
 use Rattle.xmas_rule.specs.Made.{items_of, item_before}
 use Rattle.xmas_rule.specs.Meaning.{instances, parts, shown_first}
 use Rattle.xmas_rule.specs.declared.template.Item.{Item}

@@ -1,10 +1,10 @@
 -- What stands in source documents, as slices of trees.
-use Rattle.std.proofs.Common.{◌≡◌, ◌<◌, ◌≤◌, ◌+◌, ◌-◌, ◌∙◌, ℕ, zero, suc, List, [], ◌∷◌, ◌++◌, Option, Some, None, refl, sym, ap, subst, arith, length, take, drop, get_or, add-one, drop-cons}
+use Rattle.std.proofs.Common.{◌≡◌, ◌<◌, ◌≤◌, ◌+◌, ◌-◌, ◌∙◌, ℕ, zero, suc, List, [], ◌∷◌, ◌++◌, Option, Some, None, refl, sym, ap, arith, length, take, drop, get_or, add-one, drop-cons}
 use Rattle.std.specs.Prelude.{slice_range}
-use Rattle.mix_tree.specs.Forest.{Forest, none, tree, LabelledTree, forest_of, alone, first_tree, first_kids, from}
+use Rattle.mix_tree.specs.Forest.{Forest, none, tree, LabelledTree, forest_of, first_tree, first_kids, from}
 use Rattle.mix_tree.specs.Place.{trees_at}
 use Rattle.mix_tree.specs.Nodes.{label_of_first}
-use Rattle.mix_tree.proofs.Kids.{from_none, from_past, first_tree-get}
+use Rattle.mix_tree.proofs.Kids.{from_past, first_tree-get}
 use Rattle.mix_tree.proofs.Places.{trees_at_none, trees_at-append}
 use Rattle.mix_tree.specs.Weight.{nodes_of}
 use Rattle.plain_rule.specs.Documents.{documents_of}

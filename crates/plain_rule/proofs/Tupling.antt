@@ -1,9 +1,9 @@
 -- Tuples that are extended condition by condition, and what they are in the end: the bindings of a body.
-use Rattle.std.proofs.Common.{◌≡◌, ◌↔◌, ◌∙◌, ◌<◌, ◌≤◌, ◌+◌, ℕ, zero, suc, List, [], ◌∷◌, ◌++◌, length, map, drop, get_or, refl, sym, ap, subst, add-one, drop-cons, append_assoc, arith}
-use Rattle.std.specs.List.{flat_map, filter}
+use Rattle.std.proofs.Common.{◌≡◌, ◌∙◌, ◌<◌, ◌≤◌, ◌+◌, ℕ, zero, suc, List, [], ◌∷◌, ◌++◌, length, map, drop, get_or, refl, sym, ap, subst, add-one, drop-cons, append_assoc, arith}
+use Rattle.std.specs.List.{filter}
 use Rattle.mix_base.proofs.Firsts.{map-map}
 use Rattle.mix_base.proofs.Lists.{append_nil}
-use Rattle.mix_tree.specs.Forest.{LabelledTree, Forest, tree, none}
+use Rattle.mix_tree.specs.Forest.{LabelledTree, tree, none}
 use Rattle.mix_tree.specs.Nodes.{Documents, Node, document_node, kids_at}
 use Rattle.path_expr.specs.Form.{Form}
 use Rattle.path_expr.specs.Matches.{LeadsTo}
@@ -14,7 +14,7 @@ use Rattle.xmas_rule.specs.Rules.{RuleValue, IsAccepted}
 use Rattle.xmas_rule.specs.declared.condition.Cond.{Cond}
 use Rattle.xmas_rule.specs.declared.condition.Cond.TheVariants as cond
 use Rattle.mix_tree.specs.declared.comparing.Test.{Test}
-use Rattle.plan_core.specs.Plans.{World, AreMatches}
+use Rattle.plan_core.specs.Plans.{World}
 use Rattle.plan_make.specs.Reached.{reached, reaches, begun}
 use Rattle.plan_make.proofs.Tuples.{longer, extend, tuples, next_nodes}
 use Rattle.plan_make.proofs.Growing.{reached-more, reaches-begun}

@@ -1,5 +1,5 @@
 -- Source documents that are given as a list of trees.
-use Rattle.std.specs.Prelude.{ℕ, zero, suc, List, [], ◌∷◌}
+use Rattle.std.specs.Prelude.{zero, suc, List, [], ◌∷◌}
 use Rattle.mix_tree.specs.Forest.{none, LabelledTree, alone}
 use Rattle.mix_tree.specs.Nodes.{Documents}
 

@@ -1,5 +1,5 @@
 -- Lists of labels in parts that a path describes.
-use Rattle.std.specs.Prelude.{◌<◌, List, [], ◌∷◌, length}
+use Rattle.std.specs.Prelude.{◌<◌, [], ◌∷◌, length}
 use Rattle.path_expr.specs.Form.{Form, paths_of}
 use Rattle.path_expr.specs.Description.{Labels, DescribesAs, one_of, Then, Many}
 

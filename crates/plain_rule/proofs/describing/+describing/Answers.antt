@@ -1,9 +1,8 @@
-use Rattle.std.proofs.Common.{◌≡◌, ◌≤◌, ◌<◌, ◌+◌, ◌↔◌, ◌∙◌, ◌∷◌, IsTrue, sym, ap, subst, arith, length, []}
-use Rattle.std.proofs.lemmas.Bool.{eqb-true, eq-eqb}
-use Rattle.path_expr.specs.Form.{Form, paths_of, star, plus}
+use Rattle.std.proofs.Common.{◌∙◌, ◌∷◌, sym, ap, subst, arith}
+use Rattle.path_expr.specs.Form.{paths_of, star, plus}
 use Rattle.path_expr.specs.Node.{form_of}
-use Rattle.path_expr.specs.Description.{Describes, DescribesAs, in_turn, Then, Many}
-use Rattle.plain_rule.specs.Parts.{DescribesAlone, Begins}
+use Rattle.path_expr.specs.Description.{Describes, DescribesAs, in_turn}
+use Rattle.plain_rule.specs.Parts.{DescribesAlone}
 use Rattle.plain_rule.proofs.Splits.{not_then, not_begun, many_begins, some_begins, both_ways, alone_is, not_empty, mark_is}
 use Rattle.plain_rule.proofs.describing.+describing.Goals as goal
 

@@ -1,6 +1,6 @@
-use Rattle.std.proofs.Common.{◌≡◌, ◌<◌, ◌∙◌, [], sym, ap, ◌+◌, arith, drop, get_or, length}
+use Rattle.std.proofs.Common.{◌<◌, ◌∙◌, [], sym, ap, ◌+◌, arith, drop, get_or, length}
 use Rattle.std.proofs.lemmas.Grind.{common_steps}
-use Rattle.mix_tree.specs.Forest.{forest_of, tree, none, first_kids}
+use Rattle.mix_tree.specs.Forest.{tree, none, first_kids}
 use Rattle.mix_tree.specs.Place.{trees_at}
 use Rattle.plain_rule.proofs.Standing.{step_missing, step_there}
 use Rattle.plain_rule.proofs.documents.kids_below.Goals as goal

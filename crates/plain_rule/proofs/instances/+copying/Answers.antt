@@ -1,4 +1,4 @@
-use Rattle.std.proofs.Common.{◌≡◌, ◌<◌, ◌+◌, ◌*◌, rules, arith}
+use Rattle.std.proofs.Common.{◌<◌, ◌+◌, ◌*◌, rules, arith}
 use Rattle.mix_tree.specs.Forest.{forest_of}
 use Rattle.mix_tree.specs.Weight.{nodes_of, tree_nodes}
 use Rattle.plain_rule.proofs.Standing.{fewer_nodes}

@@ -1,10 +1,9 @@
-use Rattle.std.proofs.Common.{◌≡◌, ◌≤◌, ◌+◌, ◌*◌, ◌<◌, ◌∙◌, List, rules, arith, sym, ap}
+use Rattle.std.proofs.Common.{◌≡◌, ◌+◌, ◌*◌, ◌<◌, ◌∙◌, List, rules, arith, sym, ap}
 use Rattle.std.proofs.lemmas.Result.{on_ok_weaker}
 use Rattle.mix_tree.specs.Forest.{Forest, forest_of, none, tree, followed}
 use Rattle.mix_tree.specs.Keys.{in_force}
 use Rattle.mix_tree.specs.Nodes.{Documents}
 use Rattle.mix_tree.specs.declared.var.Key.{Key}
-use Rattle.xmas_rule.specs.Bindings.{Binding}
 use Rattle.xmas_rule.specs.Codes.{items_size}
 use Rattle.xmas_rule.specs.Items.{Element, whole, label_alone, done}
 use Rattle.xmas_rule.specs.Made.{items_of, item_before}

@@ -1,4 +1,3 @@
-use Rattle.std.proofs.Common.{◌≡◌}
 use Rattle.mix_tree.specs.Forest.{forest_of}
 use Rattle.plain_rule.proofs.Making.{pushed}
 use Rattle.plain_rule.proofs.instances.push_tree.Goals as goal

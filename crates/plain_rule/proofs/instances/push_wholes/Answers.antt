@@ -1,4 +1,4 @@
-use Rattle.std.proofs.Common.{◌≡◌, ◌∙◌, sym, ap}
+use Rattle.std.proofs.Common.{◌∙◌, sym, ap}
 use Rattle.mix_tree.specs.Forest.{forest_of, followed}
 use Rattle.xmas_rule.specs.Items.{whole}
 use Rattle.xmas_rule.specs.Meaning.{shown_first}

@@ -1,4 +1,4 @@
-use Rattle.std.proofs.Common.{◌≡◌, ◌<◌, ◌∙◌, rules, ap, sym, ◌++◌, ◌∷◌, [], cond}
+use Rattle.std.proofs.Common.{◌<◌, ◌∙◌, rules, ap, ◌++◌, ◌∷◌, [], cond}
 use Rattle.mix_tree.specs.Forest.{forest_of}
 use Rattle.mix_tree.specs.Weight.{nodes_of}
 use Rattle.plain_rule.specs.Found.{found_in}

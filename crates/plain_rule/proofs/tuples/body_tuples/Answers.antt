@@ -1,4 +1,4 @@
-use Rattle.std.proofs.Common.{◌≡◌, ◌++◌, ◌∷◌, ◌∙◌, [], ap, sym}
+use Rattle.std.proofs.Common.{◌∙◌, ap, sym}
 use Rattle.xmas_rule.specs.Conditions.{binders, flat}
 use Rattle.plan_make.specs.Reached.{reaches}
 use Rattle.plan_make.proofs.Tuples.{tuples}

@@ -1,4 +1,4 @@
-use Rattle.std.proofs.Common.{◌≡◌, ◌++◌, ◌∷◌, ◌∙◌, [], ap, sym, map}
+use Rattle.std.proofs.Common.{◌++◌, ◌∷◌, ◌∙◌, [], ap, sym, map}
 use Rattle.mix_tree.specs.Nodes.{Node}
 use Rattle.xmas_rule.specs.Conditions.{from_source}
 use Rattle.plain_rule.proofs.Tupling.{longer_source, extend_next, extend_end}

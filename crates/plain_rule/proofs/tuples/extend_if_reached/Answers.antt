@@ -1,4 +1,4 @@
-use Rattle.std.proofs.Common.{◌≡◌, ◌∷◌, ◌∙◌, [], ap, sym}
+use Rattle.std.proofs.Common.{◌∷◌, ◌∙◌, [], ap, sym}
 use Rattle.xmas_rule.specs.Conditions.{binders}
 use Rattle.plan_make.specs.Reached.{reached}
 use Rattle.plan_make.proofs.Tuples.{tuples}

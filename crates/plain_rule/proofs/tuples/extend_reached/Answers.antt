@@ -1,4 +1,4 @@
-use Rattle.std.proofs.Common.{◌≡◌, ◌++◌, ◌∷◌, ◌∙◌, [], ap, sym}
+use Rattle.std.proofs.Common.{◌∙◌, sym}
 use Rattle.plain_rule.proofs.Tupling.{reached_next, reached_end}
 use Rattle.plain_rule.proofs.tuples.extend_reached.Goals as goal
 

@@ -1,6 +1,5 @@
-use Rattle.std.proofs.Common.{◌≡◌, ◌++◌, ◌∷◌, ◌∙◌, ℕ, List, [], ap, map}
+use Rattle.std.proofs.Common.{◌++◌, ◌∷◌, ◌∙◌, ℕ, List, [], ap, map}
 use Rattle.std.proofs.lemmas.Result.{on_ok_weaker}
-use Rattle.mix_tree.specs.Nodes.{Node}
 use Rattle.xmas_rule.specs.Bindings.{Binding}
 use Rattle.plain_rule.proofs.Tupling.{world_list}
 use Rattle.plain_rule.proofs.tuples.push_longer.Goals as goal
