@@ -1,2 +1,4 @@
+pub mod Chained
+pub mod Inputs
 pub mod RowLaws
 mod Texts

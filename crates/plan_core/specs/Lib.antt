@@ -1,3 +1,4 @@
+pub mod FromInputs
 pub mod PlanMade
 pub mod PlanText
 pub mod Plans

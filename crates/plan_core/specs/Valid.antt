@@ -1,6 +1,6 @@
 -- Which plans are valid.
 use Rattle.std.specs.Prelude.{◌≡◌, ◌<◌, ◌≤◌, ℕ, suc, Bool, true, false, cond, List, [], ◌∷◌, ◌++◌, ◌==◌, ◌&&◌, length, map, slice_index_or, Option, None, Some}
-use Rattle.std.specs.List.{filter, flat_map, list_any, AllByRecursion}
+use Rattle.std.specs.List.{flat_map, list_any, count_by, AllByRecursion}
 use Rattle.mix_tree.specs.Keys.{has_var}
 use Rattle.mix_tree.specs.declared.var.Key.{Key}
 use Rattle.mix_tree.specs.declared.comparing.Operand.{Operand}
@@ -10,6 +10,7 @@ use Rattle.path_expr.specs.Form.{positions_in}
 use Rattle.plan_core.specs.declared.plan.Piece.{Piece}
 use Rattle.plan_core.specs.declared.plan.Piece.TheVariants.{Var as var_piece, LabelOf as label_piece, Text as text_piece}
 use Rattle.plan_core.specs.Unary.{Unary, select, order_by, project, group_by, concatenate, create_element}
+use Rattle.plan_core.specs.FromInputs.{from_inputs}
 use Rattle.plan_core.specs.Plans.{Operator, source, get_descendants, join, over, tuple_destroy, PlanValue}
 
 -- what a variable is bound to: a source node, a made element, or a list
@@ -56,6 +57,10 @@ op_kinds (join left right tests) of = λ v. either_kind (of left v) (of right v)
 op_kinds (over input op) of = unary_kinds op (of input)
 op_kinds (tuple_destroy input element) of = no_kinds
 
+-- what the operator of this number binds
+abbrev pub kinds_of : List Operator → ℕ → Kinds
+kinds_of ops n = from_inputs op_kinds no_kinds ops n
+
 -- the keys are of source nodes
 abbrev pub AreNodes : List Key → Kinds → Type 0
 AreNodes keys kinds = (v : ℕ) → has_var keys v ≡ true → kinds v ≡ Some a_node
@@ -98,12 +103,6 @@ IsFit (join left right tests) of = AllByRecursion (IsTest (λ v. either_kind (of
 IsFit (over input op) of = IsUnaryFit (of input) op
 IsFit (tuple_destroy input element) of = of input element ≡ Some an_element
 
--- so are all operators, where the kinds of those before are known
-abbrev pub AreFit : List Kinds → List Operator → Type 0
-AreFit before [] = Unit {0}
-AreFit before (op ∷ ops) =
-    IsFit op (λ i. slice_index_or before i no_kinds) × AreFit (before ++ op_kinds op (λ i. slice_index_or before i no_kinds) ∷ []) ops
-
 -- the inputs of an operator
 abbrev pub inputs_of : Operator → List ℕ
 inputs_of (source s out) = []
@@ -116,10 +115,6 @@ inputs_of (tuple_destroy input element) = input ∷ []
 abbrev pub HaveSmallerInputs : ℕ → List Operator → Type 0
 HaveSmallerInputs n [] = Unit {0}
 HaveSmallerInputs n (op ∷ ops) = AllByRecursion (λ i. i < n) (inputs_of op) × HaveSmallerInputs (suc n) ops
-
--- the operators that have this input
-abbrev pub users_of : ℕ → List Operator → List Operator
-users_of n ops = filter (λ op. list_any (λ i. i == n) (inputs_of op)) ops
 
 -- what an operator with one input binds anew
 abbrev pub unary_outs : Unary → List ℕ
@@ -162,15 +157,19 @@ is_single (join left right (t ∷ tests)) of = false
 is_single (over input op) of = unary_single op (of input)
 is_single (tuple_destroy input element) of = false
 
--- the last operator, and it alone, is a tupleDestroy, over a single input, where it is known which of those before are single
-abbrev pub EndsSingle : List Bool → List Operator → Type 0
-EndsSingle before [] = ⊥
-EndsSingle before (tuple_destroy input element ∷ []) = slice_index_or before input false ≡ true
-EndsSingle before (tuple_destroy input element ∷ op ∷ ops) = ⊥
-EndsSingle before (source s out ∷ ops) = EndsSingle (before ++ true ∷ []) ops
-EndsSingle before (get_descendants input start path out ∷ ops) = EndsSingle (before ++ false ∷ []) ops
-EndsSingle before (join left right tests ∷ ops) = EndsSingle (before ++ is_single (join left right tests) (λ i. slice_index_or before i false) ∷ []) ops
-EndsSingle before (over input op ∷ ops) = EndsSingle (before ++ is_single (over input op) (λ i. slice_index_or before i false) ∷ []) ops
+-- the operator of this number has a single binding
+abbrev pub single_of : List Operator → ℕ → Bool
+single_of ops n = from_inputs is_single false ops n
+
+-- the last operator, and it alone, is a tupleDestroy, and its input is single
+abbrev pub EndsSingle : (ℕ → Bool) → List Operator → Type 0
+EndsSingle single [] = ⊥
+EndsSingle single (tuple_destroy input element ∷ []) = single input ≡ true
+EndsSingle single (tuple_destroy input element ∷ op ∷ ops) = ⊥
+EndsSingle single (source s out ∷ ops) = EndsSingle single ops
+EndsSingle single (get_descendants input start path out ∷ ops) = EndsSingle single ops
+EndsSingle single (join left right tests ∷ ops) = EndsSingle single ops
+EndsSingle single (over input op ∷ ops) = EndsSingle single ops
 
 -- an operator reads a source below n
 abbrev pub HasSource : ℕ → Operator → Type 0
@@ -180,11 +179,16 @@ HasSource n (join left right tests) = Unit {0}
 HasSource n (over input op) = Unit {0}
 HasSource n (tuple_destroy input element) = Unit {0}
 
--- a valid plan
+-- how many times an operator is an input of these
+abbrev pub uses_of : List Operator → ℕ → ℕ
+uses_of ops n = count_by (λ i. i == n) (flat_map inputs_of ops)
+
+-- a valid plan: the inputs of an operator have smaller numbers, what it uses is bound by them and of the kind that it needs, no two operators bind
+-- the same variable, each but the last is an input once, the last is a tupleDestroy over a single one, and each source is among the plan's
 pub record IsValid (p : PlanValue) : Type 0 where
   pub smaller : HaveSmallerInputs 0 p.ops
-  pub fit : AreFit [] p.ops
+  pub fit : AllByRecursion (λ op. IsFit op (kinds_of p.ops)) p.ops
   pub distinct : AreDistinct (flat_map outs_of p.ops)
-  pub used_once : (n : ℕ) → suc n < length p.ops → length (users_of n p.ops) ≡ 1
-  pub ends : EndsSingle [] p.ops
+  pub used_once : (n : ℕ) → suc n < length p.ops → uses_of p.ops n ≡ 1
+  pub ends : EndsSingle (single_of p.ops) p.ops
   pub sources : AllByRecursion (HasSource (length p.sources)) p.ops
