@@ -5,7 +5,6 @@ use Rattle.std.specs.List.{AllByRecursion}
 use Rattle.std.proofs.lemmas.List.{get_or_append_left, get_or_at}
 use Rattle.plan_core.specs.FromInputs.{all_from_inputs, from_inputs}
 use Rattle.plan_core.specs.Plans.{Operator, source, get_descendants, join, over, tuple_destroy}
-use Rattle.plan_core.specs.Unary.{unary}
 use Rattle.plan_core.specs.Valid.{Kinds, either_kind, op_kinds, unary_kinds, inputs_of, HaveSmallerInputs, unary_single, is_single}
 use Rattle.plan_core.proofs.RowLaws.{snoc}
 

@@ -1,5 +1,5 @@
 -- Which plans are valid.
-use Rattle.std.specs.Prelude.{◌≡◌, ◌<◌, ◌≤◌, ℕ, suc, Bool, true, false, cond, List, [], ◌∷◌, ◌++◌, ◌==◌, ◌&&◌, length, map, slice_index_or, Option, None, Some}
+use Rattle.std.specs.Prelude.{◌≡◌, ◌<◌, ◌≤◌, ℕ, suc, Bool, true, false, cond, List, [], ◌∷◌, ◌==◌, ◌&&◌, length, Option, None, Some}
 use Rattle.std.specs.List.{flat_map, list_any, count_by, AllByRecursion}
 use Rattle.mix_tree.specs.Keys.{has_var}
 use Rattle.mix_tree.specs.declared.var.Key.{Key}

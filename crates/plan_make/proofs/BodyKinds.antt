@@ -1,5 +1,5 @@
 -- A body is fit: each of its operators uses variables that are bound to nodes, and the last one binds all of the body's.
-use Rattle.std.proofs.Common.{◌≡◌, ℕ, suc, ◌+◌, ◌<◌, ◌≤◌, Bool, true, false, cond, List, [], ◌∷◌, ◌++◌, length, Option, None, Some, refl, ◌∙◌, sym, ap, arith, subst, append_assoc}
+use Rattle.std.proofs.Common.{◌≡◌, ℕ, suc, ◌+◌, ◌<◌, ◌≤◌, true, false, cond, List, [], ◌∷◌, ◌++◌, length, Option, None, Some, refl, ◌∙◌, sym, ap, arith, subst, append_assoc}
 use Rattle.std.specs.Prelude.{◌==◌, ◌||◌}
 use Rattle.std.specs.List.{AllByRecursion}
 use Rattle.std.proofs.lemmas.Bool.{ne_eqb}
@@ -11,7 +11,7 @@ use Rattle.plan_core.proofs.Inputs.{AreValues, values-append}
 use Rattle.plan_make.specs.Operators.{descend_op, descend_ops, source_of, more_ops, more_last, body_ops, body_last}
 use Rattle.plan_make.proofs.BodyNumbers.{descend_ops-length}
 use Rattle.plan_make.proofs.ComponentRows.{AreApart, below}
-use Rattle.plan_make.proofs.Components.{has_flat, or_left}
+use Rattle.plan_make.proofs.Components.{or_left}
 use Rattle.plan_make.proofs.Fitting.{kind-here}
 use Rattle.plan_make.proofs.KeyLaws.{or_false}
 use Rattle.plan_make.proofs.Members.{each-append, each_append, snoc-append}

@@ -1,19 +1,17 @@
 -- The operators of a body: their inputs are smaller, each is an input once, each reads a source that there is, and each variable is bound once.
-use Rattle.std.proofs.Common.{◌≡◌, ℕ, suc, ◌+◌, ◌<◌, ◌≤◌, ◌⊎◌, Bool, true, false, cond, List, [], ◌∷◌, ◌++◌, length, refl, ◌∙◌, sym, ap, arith, subst, inl, inr}
-use Rattle.std.specs.Prelude.{◌==◌, ◌||◌}
+use Rattle.std.proofs.Common.{◌≡◌, ℕ, suc, ◌+◌, ◌<◌, ◌≤◌, ◌⊎◌, true, false, List, [], ◌∷◌, ◌++◌, length, refl, ◌∙◌, sym, ap, arith, subst, inl, inr}
+use Rattle.std.specs.Prelude.{◌==◌}
 use Rattle.std.specs.List.{AllByRecursion, flat_map, count_by}
 use Rattle.std.proofs.lemmas.Bool.{or_cases, eqb-true, eq-eqb}
 use Rattle.std.proofs.lemmas.Grind.{flat_map-append}
-use Rattle.std.proofs.lemmas.List.Sums.{sum_by-cons}
-use Rattle.xmas_rule.specs.Conditions.{Binder, from_source, from_var, binder_var, binder_vars, has, flat, AreSources}
+use Rattle.xmas_rule.specs.Conditions.{Binder, from_source, from_var, binder_var, binder_vars, has, flat}
 use Rattle.plan_core.specs.Plans.{Operator, source, get_descendants, join, over, tuple_destroy}
 use Rattle.plan_core.specs.Valid.{inputs_of, HaveSmallerInputs, outs_of, AreDistinct}
 use Rattle.plan_core.proofs.Chained.{smaller_append, AreOnce, count-append, once_append, once_none, once_one}
-use Rattle.plan_make.specs.Operators.{descend_op, descend_ops, source_of, more_ops, more_last, body_ops, body_last}
+use Rattle.plan_make.specs.Operators.{descend_ops, source_of, more_ops, more_last, body_ops, body_last}
 use Rattle.plan_make.proofs.BodyNumbers.{descend_ops-length}
 use Rattle.plan_make.proofs.ComponentRows.{AreApart, below}
 use Rattle.plan_make.proofs.Components.{has_flat, or_left}
-use Rattle.plan_make.proofs.KeyLaws.{or_false}
 use Rattle.plan_make.proofs.Members.{each-append, each_append}
 use Rattle.plan_make.proofs.Rising.{distinct_append}
 use Rattle.plan_make.proofs.TupleRows.{or_comm, follows-new}
@@ -32,9 +30,11 @@ more_smaller (comp ∷ comps) d i =
     let at : ℕ = suc (suc i) + length comp in
     let rest : List Operator = join i (suc i + length comp) [] ∷ more_ops (suc d) at comps in
     let l = descend_ops-length d (suc i) comp in
-    let e : at ≡ suc (suc i) + length (descend_ops d (suc i) comp) = omega (arith, l) in
-    (tt, smaller_append (descend_ops d (suc i) comp) rest (suc (suc i)) (descend_smaller comp d (suc i))
-    (subst (λ (n : ℕ). HaveSmallerInputs n rest) e ((omega arith, (omega arith, tt)), more_smaller comps (suc d) at)))
+    let e : at ≡ suc (suc i) + length (descend_ops d (suc i) comp) = omega (arith, l) in (
+      tt,
+      smaller_append (descend_ops d (suc i) comp) rest (suc (suc i)) (descend_smaller comp d (suc i))
+          (subst (λ (n : ℕ). HaveSmallerInputs n rest) e ((omega arith, (omega arith, tt)), more_smaller comps (suc d) at)),
+    )
 
 -- those of a body
 pub body_smaller : (comps : List (List Binder)) (d : ℕ) → HaveSmallerInputs 0 (body_ops d comps)
@@ -143,9 +143,10 @@ unfolding IsInside
 more_inside n [] d i some h = tt
 more_inside n (comp ∷ comps) d i some h =
     let s = each-append (IsBelow n) comp (flat comps) h in
-    let at : ℕ = suc (suc i) + length comp in
-    (source_below n comp some s.0,
-    each_append (IsInside n) (descend_ops d (suc i) comp) (join i (suc i + length comp) [] ∷ more_ops (suc d) at comps) (descend_inside n comp d (suc i)) (tt, more_inside n comps (suc d) at some s.1))
+    let at : ℕ = suc (suc i) + length comp in (
+      source_below n comp some s.0,
+      each_append (IsInside n) (descend_ops d (suc i) comp) (join i (suc i + length comp) [] ∷ more_ops (suc d) at comps) (descend_inside n comp d (suc i)) (tt, more_inside n comps (suc d) at some s.1),
+    )
 
 -- the operators of a body
 pub body_inside : (n : ℕ) (comps : List (List Binder)) (d : ℕ) → 0 < n → AllByRecursion (IsBelow n) (flat comps) → AllByRecursion (IsInside n) (body_ops d comps)
@@ -194,8 +195,11 @@ scoped_distinct vs [] h = (tt, (λ v e. (let c : false ≡ true = e in cc)))
 scoped_distinct vs (c ∷ cs) h =
     let x : ℕ = binder_var c in
     let r = scoped_distinct (vs ++ x ∷ []) cs h.1 in (
-      (elim (has (binder_vars cs) x) as (λ w. has (binder_vars cs) x ≡ w → w ≡ false)
-          [ true ↦ λ e. (let q : true ≡ false = sym (has_here vs x) ∙ r.1 x e in cc) | false ↦ λ e. refl ] refl, r.0),
+      (
+        elim (has (binder_vars cs) x) as (λ w. has (binder_vars cs) x ≡ w → w ≡ false)
+            [ true ↦ λ e. (let q : true ≡ false = sym (has_here vs x) ∙ r.1 x e in cc) | false ↦ λ e. refl ] refl,
+        r.0,
+      ),
       (λ v e. elim (or_cases (x == v) (has (binder_vars cs) v) e) [
         | inl q ↦ ap (has vs) (sym (eqb-true x v q)) ∙ follows-new vs c h.0
         | inr q ↦ (or_left (has vs v) (has (x ∷ []) v) (sym (has-append vs (x ∷ []) v) ∙ r.1 v q)).0

@@ -1,11 +1,11 @@
 -- The parts of a plan under construction are the operators of the rule's plan.
-use Rattle.std.proofs.Common.{◌≡◌, ℕ, zero, suc, ◌+◌, ◌-◌, ◌<◌, Bool, true, List, [], ◌∷◌, ◌++◌, map, length, vec_len, refl, ◌∙◌, sym, ap, arith, subst}
+use Rattle.std.proofs.Common.{◌≡◌, ℕ, suc, ◌+◌, ◌-◌, ◌<◌, true, List, [], ◌∷◌, ◌++◌, length, vec_len, ◌∙◌, sym, ap, arith, subst}
 use Rattle.mix_tree.specs.Forest.{none}
 use Rattle.xmas_rule.specs.Items.{Items}
 use Rattle.xmas_rule.specs.Conditions.{Binder, binder_vars, has, flat, binders, comparisons, components}
 use Rattle.xmas_rule.specs.Rules.{RuleValue, IsAccepted, variables}
 use Rattle.plan_core.specs.Unary.{Unary}
-use Rattle.plan_core.specs.Plans.{World, Operator, tuple_destroy, chained}
+use Rattle.plan_core.specs.Plans.{Operator, tuple_destroy, chained}
 use Rattle.plan_make.specs.Translation.{outer_build, template_ops, template_var}
 use Rattle.plan_make.specs.Operators.{body_ops, body_last, selects, orders, operators_of}
 use Rattle.plan_make.specs.Reached.{reaches, rest_ops}

@@ -1,15 +1,14 @@
 -- What stands above a body is fit: each variable that is used is bound, and of the kind that is needed.
-use Rattle.std.proofs.Common.{◌≡◌, ℕ, ◌+◌, ◌<◌, ◌≤◌, Bool, true, false, cond, List, [], ◌∷◌, ◌++◌, Option, None, Some, refl, ◌∙◌, sym, ap, arith, subst, append_assoc}
-use Rattle.std.specs.Prelude.{◌==◌}
+use Rattle.std.proofs.Common.{◌≡◌, ℕ, ◌+◌, ◌<◌, ◌≤◌, true, false, cond, List, [], ◌∷◌, ◌++◌, Some, refl, ◌∙◌, sym, ap, arith, subst, append_assoc}
 use Rattle.std.specs.List.{AllByRecursion}
 use Rattle.std.proofs.lemmas.Bool.{eq-eqb, ne_eqb}
 use Rattle.mix_tree.specs.Keys.{collects, in_force, has_var}
 use Rattle.mix_tree.specs.declared.var.Key.{Key}
 use Rattle.xmas_rule.specs.Items.{Shown, whole, label_alone, Items, done, literal, variable, element, lists, AreBelow, AreAccepted}
 use Rattle.plan_core.specs.declared.plan.Piece.{Piece}
-use Rattle.plan_core.specs.declared.plan.Piece.TheVariants.{LabelOf as label_piece, Text as text_piece, Var as var_piece}
+use Rattle.plan_core.specs.declared.plan.Piece.TheVariants.{Var as var_piece}
 use Rattle.plan_core.specs.Unary.{Unary, project, group_by, concatenate, create_element}
-use Rattle.plan_core.specs.Valid.{Kind, a_node, an_element, a_list, Kinds, with_kind, kept, unary_kinds, AreNodes, IsPiece, IsSinglePiece, IsUnaryFit}
+use Rattle.plan_core.specs.Valid.{Kind, a_node, an_element, a_list, Kinds, with_kind, kept, unary_kinds, AreNodes, IsPiece, IsSinglePiece}
 use Rattle.plan_core.proofs.Chained.{kinds_after, AreUnaryFit}
 use Rattle.plan_make.specs.Translation.{shown_piece, Built, add_piece, element_ops, add_element, build, Chain, nothing, found, or_else, level_ops, level_list, level_next, with_element, chain, outer_ops, outer_next, outer_build, template_ops, template_var}
 use Rattle.plan_make.proofs.KeyLaws.{has_var-collects_not}

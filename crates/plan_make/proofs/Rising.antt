@@ -7,7 +7,7 @@ use Rattle.std.proofs.lemmas.Grind.{flat_map-append}
 use Rattle.mix_tree.specs.Keys.{collects, in_force}
 use Rattle.mix_tree.specs.declared.var.Key.{Key}
 use Rattle.xmas_rule.specs.Conditions.{has}
-use Rattle.xmas_rule.specs.Items.{Shown, Items, done, literal, variable, element}
+use Rattle.xmas_rule.specs.Items.{Items, done, literal, variable, element}
 use Rattle.plan_core.specs.declared.plan.Piece.TheVariants.{Var as var_piece}
 use Rattle.plan_core.specs.Unary.{Unary, select, order_by, project, group_by, concatenate, create_element}
 use Rattle.plan_core.specs.Valid.{unary_outs, AreDistinct}

@@ -1,6 +1,5 @@
 -- The plan of an accepted rule is valid.
-use Rattle.std.proofs.Common.{◌≡◌, ℕ, suc, ◌+◌, ◌<◌, ◌≤◌, Bool, true, false, List, [], ◌∷◌, ◌++◌, map, length, Option, None, Some, refl, ◌∙◌, sym, ap, arith, subst, length-append, inl, inr}
-use Rattle.std.specs.Prelude.{◌==◌}
+use Rattle.std.proofs.Common.{◌≡◌, ℕ, suc, ◌+◌, ◌<◌, Bool, true, false, List, [], ◌∷◌, ◌++◌, length, Option, None, Some, refl, ◌∙◌, sym, ap, arith, subst, length-append, inl, inr}
 use Rattle.std.specs.List.{AllByRecursion, flat_map}
 use Rattle.std.proofs.lemmas.Grind.{flat_map-append}
 use Rattle.mix_base.proofs.Lists.{append_nil}
@@ -24,7 +23,7 @@ use Rattle.plan_make.proofs.Components.{components-apart, components_each}
 use Rattle.plan_make.proofs.Finish.{last_of_body}
 use Rattle.plan_make.proofs.Fitting.{after-append, fit-append, template_fits}
 use Rattle.plan_make.proofs.Members.{each_append}
-use Rattle.plan_make.proofs.Rising.{IsRising, template_rising, single-append, template_single, distinct_append}
+use Rattle.plan_make.proofs.Rising.{template_rising, single-append, template_single, distinct_append}
 use Rattle.plan_make.proofs.Whole.{all_below, no_vars, nothing_apart, chained-length}
 
 -- selections are fit where all variables are nodes

@@ -1,18 +1,16 @@
 -- The document of the plan of a rule is the rule's finished document.
-use Rattle.std.proofs.Common.{◌≡◌, ◌↔◌, ℕ, suc, ◌+◌, ◌<◌, Bool, true, false, List, [], ◌∷◌, ◌++◌, map, length, Option, None, Some, refl, ◌∙◌, sym, ap, arith, length-append}
-use Rattle.std.specs.Prelude.{◌==◌, ◌||◌}
+use Rattle.std.proofs.Common.{◌≡◌, ℕ, suc, ◌+◌, ◌<◌, true, List, [], ◌∷◌, ◌++◌, map, length, Option, None, Some, refl, ◌∙◌, sym, ap, arith, length-append}
+use Rattle.std.specs.Prelude.{◌==◌}
 use Rattle.std.specs.List.{AllByRecursion, last_or}
 use Rattle.std.proofs.lemmas.Bool.{eq-eqb}
-use Rattle.mix_base.specs.Ascents.{Among, Ascending}
-use Rattle.mix_tree.specs.Forest.{LabelledTree}
-use Rattle.xmas_rule.specs.Conditions.{Binder, binder_var, binder_vars, has, flat, binders, comparisons, components, components_from, in_order}
+use Rattle.xmas_rule.specs.Conditions.{Binder, binder_var, binder_vars, has, flat, binders, comparisons, components}
 use Rattle.xmas_rule.specs.Rules.{RuleValue, IsAccepted, variables}
-use Rattle.xmas_rule.specs.Bindings.{Binding, node_of, TupleBefore, Binds, passes, Satisfies, AreBindings}
+use Rattle.xmas_rule.specs.Bindings.{Binding, node_of, Binds, AreBindings}
 use Rattle.xmas_rule.specs.Meaning.{finished, IsFinished}
 use Rattle.xmas_rule.proofs.Unique.{one_finished}
-use Rattle.plan_core.specs.Rows.{Value, node, made, Row, value}
+use Rattle.plan_core.specs.Rows.{node, Row, value}
 use Rattle.plan_core.specs.Unary.{Unary, run}
-use Rattle.plan_core.specs.Plans.{World, AreMatches, Operator, over, tuple_destroy, rows_of, source_rows, element_in, element_of, destroyed, document, chained}
+use Rattle.plan_core.specs.Plans.{World, AreMatches, Operator, tuple_destroy, rows_of, source_rows, element_in, element_of, destroyed, document, chained}
 use Rattle.plan_core.proofs.RowLaws.{run-append, rows-stable, chained-means}
 use Rattle.plan_make.specs.Translation.{template_ops, template_var}
 use Rattle.plan_make.specs.Operators.{source_of, body_ops, body_last, selects, orders, unaries, operators_of}
@@ -20,8 +18,8 @@ use Rattle.plan_make.specs.Law.{HasFinishedDocument}
 use Rattle.plan_make.proofs.Members.{each-append}
 use Rattle.plan_make.proofs.Groupings.{RowsOf}
 use Rattle.plan_make.proofs.OuterLevel.{template_ok}
-use Rattle.plan_make.proofs.Tuples.{vars_of, tuples, tuples-ascend, AreScoped, Exact, Sat, tuples-exact, exact_none}
-use Rattle.plan_make.proofs.TupleRows.{IsBody, or_comm}
+use Rattle.plan_make.proofs.Tuples.{vars_of, tuples, tuples-ascend, AreScoped, Exact, tuples-exact, exact_none}
+use Rattle.plan_make.proofs.TupleRows.{or_comm}
 use Rattle.plan_make.proofs.BodyNumbers.{body-means, component_rows}
 use Rattle.plan_make.proofs.ComponentRows.{AreApart, component_body, components_body}
 use Rattle.plan_make.proofs.Components.{Same, components-apart, components_each, each_components, apart-scoped}

@@ -1,4 +1,4 @@
-use Rattle.std.proofs.Common.{◌≡◌, ◌+◌, ◌∙◌, List, ap, arith, subst, length, map}
+use Rattle.std.proofs.Common.{◌+◌, ◌∙◌, List, ap, arith, subst, length, map}
 use Rattle.std.proofs.lemmas.List.{map-append}
 use Rattle.xmas_rule.specs.Conditions.{binders}
 use Rattle.xmas_rule.specs.RuleMade.{rule_of}
