@@ -54,7 +54,7 @@ with_both top left right vs us small h g = record {
       ap (λ (k : Option Kind). either_kind k (right v)) (h.others v l q.0) ∙ g.others v l q.1;
 }
 
--- what an operator of a body is
+-- operators of a body are fit, and behind the last of them exactly these of the rule's variables are bound
 pub record IsFitBody (f : ℕ → Kinds) (top : ℕ) (ops : List Operator) (last : ℕ) (vs : List ℕ) : Type 0 where
   pub fit : AllByRecursion (λ op. IsFit op f) ops
   pub binds : HasNodes top (f last) vs
@@ -74,7 +74,7 @@ one_fit f top d i (from_var x path var) vs m e h doc follows small few = (
   ap (λ (k : Kinds). k d) e ∙ rw (ne_eqb var d (λ q. (let g : var ≡ d = q in omega (arith, g, small, m)))) doc,
 )
 
--- so are all conditions of a component
+-- the conditions of a component are fit
 descend_fit : (f : ℕ → Kinds) (top d : ℕ) (cs : List Binder) (vs : List ℕ) (i : ℕ) → top ≤ d → AreValues op_kinds f (suc i) (descend_ops d i cs) → HasNodes top (f i) vs → f i d ≡ Some a_node → AreScoped vs cs →
     AllByRecursion (λ c. binder_var c < top) cs → AllByRecursion HasFewPositions cs → IsFitBody f top (descend_ops d i cs) (i + length cs) (vs ++ binder_vars cs)
 unfolding AreValues AreScoped
@@ -90,7 +90,7 @@ descend_fit f top d (c ∷ cs) vs i m v h doc scoped small few =
       binds = subst (λ (us : List ℕ). HasNodes top (f (i + length (c ∷ cs))) us) (snoc-append vs (binder_var c) (binder_vars cs)) (subst (λ (n : ℕ). HasNodes top (f n) ((vs ++ binder_var c ∷ []) ++ binder_vars cs)) e r.binds);
     }
 
--- so is a component: its source, and its conditions
+-- a component is fit: its source, and its conditions
 component_fit : (f : ℕ → Kinds) (top d i : ℕ) (comp : List Binder) → top ≤ d → AreValues op_kinds f i (source (source_of comp) d ∷ descend_ops d i comp) → AreScoped [] comp →
     AllByRecursion (λ c. binder_var c < top) comp → AllByRecursion HasFewPositions comp → IsFitBody f top (source (source_of comp) d ∷ descend_ops d i comp) (i + length comp) (binder_vars comp)
 unfolding AreValues
@@ -100,7 +100,7 @@ component_fit f top d i comp m v scoped small few =
     let r = descend_fit f top d comp [] i m v.1 first doc scoped small few in
     record { fit = (tt, r.fit); binds = r.binds }
 
--- so are further components
+-- further components are fit
 more_fit : (f : ℕ → Kinds) (top : ℕ) (comps : List (List Binder)) (d i : ℕ) (vs : List ℕ) → top ≤ d → AreValues op_kinds f (suc i) (more_ops d i comps) → HasNodes top (f i) vs → AreApart comps →
     AllByRecursion (λ c. binder_var c < top) (flat comps) → AllByRecursion HasFewPositions (flat comps) → IsFitBody f top (more_ops d i comps) (more_last i comps) (vs ++ binder_vars (flat comps))
 unfolding AreApart AreValues
@@ -125,7 +125,7 @@ more_fit f top (comp ∷ comps) d i vs m v h apart small few =
           (append_assoc vs (binder_vars comp) (binder_vars (flat comps)) ∙ ap (λ (us : List ℕ). vs ++ us) (sym (binder_vars-append comp (flat comps)))) r.binds;
     }
 
--- so is a body
+-- a body is fit
 pub body_fit : (f : ℕ → Kinds) (top : ℕ) (comps : List (List Binder)) → has (binder_vars (flat comps)) 0 ≡ true → AreValues op_kinds f 0 (body_ops top comps) → AreApart comps →
     AllByRecursion (λ c. binder_var c < top) (flat comps) → AllByRecursion HasFewPositions (flat comps) → IsFitBody f top (body_ops top comps) (body_last comps) (binder_vars (flat comps))
 unfolding AreApart

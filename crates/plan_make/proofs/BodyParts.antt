@@ -80,7 +80,7 @@ more_later : (comps : List (List Binder)) (i : ℕ) → i ≤ more_last i comps
 more_later [] i = omega arith
 more_later (comp ∷ comps) i = let h = more_later comps (suc (suc i) + length comp) in omega (arith, h)
 
--- so is each below the last of further components
+-- each operator below the last of further components, from the one to which they are joined, is an input once
 more_once : (comps : List (List Binder)) (d i : ℕ) → AreOnce i (more_last i comps) (flat_map inputs_of (more_ops d i comps))
 more_once [] d i = once_none i
 more_once (comp ∷ comps) d i =
@@ -99,7 +99,7 @@ more_once (comp ∷ comps) d i =
     (once_same i last ((i ∷ []) ++ (below ++ j ∷ more)) (below ++ i ∷ j ∷ more) (λ n. count-moved n i below (j ∷ more))
     (once_append i (suc i) last (i ∷ []) (below ++ j ∷ more) (omega arith) (omega (arith, later)) (once_one i) both))
 
--- so is each below the last of a body
+-- each operator of a body below its last is an input once
 pub body_once : (comps : List (List Binder)) (d : ℕ) → AreOnce 0 (body_last comps) (flat_map inputs_of (body_ops d comps))
 body_once [] d = once_none 0
 body_once (comp ∷ comps) d =

@@ -183,7 +183,7 @@ rows_single (group_by keys piece out ∷ ops) h = absurd (h tt)
 rows_single (concatenate pieces out ∷ ops) h = rows_single ops h
 rows_single (create_element label list out ∷ ops) h = rows_single ops h
 
--- the chain of the outer level is single
+-- operators give a single binding, whatever they stand over
 unfoldable ChainSingle : Chain → Type 0
 ChainSingle nothing = Unit {0}
 ChainSingle (found ops list next) = (s : Bool) → single_after ops s ≡ true
@@ -194,7 +194,7 @@ unfolding ChainSingle
 or_single nothing e h k = k
 or_single (found ops list next) e h k = h
 
--- so it is
+-- a chain of the outer level is single
 chain_single : (items : Items) (force : List Key) (n : ℕ) → ChainSingle (chain [] force items n)
 unfolding ChainSingle
 chain_single done force n = tt
