@@ -1,5 +1,4 @@
 pub mod Arrival
-pub mod Bindings
 pub mod Events
 pub mod Next
 pub mod Progress

@@ -1,7 +1,7 @@
 // From one event of the visit to the next.
 ghost use Rattle.std.specs.Prelude.{◌≡◌, ◌+◌, ◌≤◌, true, IfOk, IfErr, IfSome, IsErrOf};
 ghost use Rattle.mix_base.specs.Counts.{HasRisen};
-ghost use Rattle.path_expr.specs.Automaton.{machine_of};
+ghost use Rattle.path_auto.specs.Automaton.{machine_of};
 ghost use Rattle.tree_buffer.specs.declared.fault.BufferFault.TheVariants.{OutOfMemory};
 ghost use Rattle.tree_buffer.specs.Buffer.{IsSpot, IsSourcesOf, Ran, number_of};
 ghost use Rattle.lazy_descend.specs.Cursors.{start_of, IsFrame, IsCursor, IsArrival, Steps, Answers, AsksWithin, Found, events_ahead, events_behind, ahead, number, weight_ahead, weight_behind, steps_ahead, steps_behind};
@@ -9,7 +9,7 @@ ghost use Rattle.lazy_descend.specs.Cursors.{start_of, IsFrame, IsCursor, IsArri
 use crate::DescCursor;
 use crate::frame::{Frame, put, share, spot_at, states_at, up_at};
 use lxp_core::Sources;
-use path_expr::Auto;
+use path_auto::Auto;
 use std::alloc::Global;
 use std::rc::Rc;
 use tree_buffer::{Buffer, BufferFault, Spot};

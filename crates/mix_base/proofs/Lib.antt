@@ -1,5 +1,6 @@
 pub mod Ascents
 pub mod Choices
+pub mod EventLaws
 pub mod Firsts
 pub mod Lists
 pub mod Risen

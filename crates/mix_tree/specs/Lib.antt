@@ -1,4 +1,5 @@
 pub mod Codes
+pub mod Comparisons
 pub mod Forest
 pub mod Keys
 pub mod LabelGrammar

@@ -12,7 +12,6 @@ use Rattle.tree_buffer.specs.declared.fault.BufferFault.{BufferFault}
 use Rattle.tree_buffer.specs.declared.fault.BufferFault.TheVariants as buffer
 use Rattle.tree_buffer.specs.Document.{document_node, has_given, has_next}
 use Rattle.tree_buffer.specs.Buffer.{IsSpot, IsSourcesOf, Goes, number_of, place_of, label_of, IsChildSpot, IsNextSpot}
-use Rattle.tree_buffer.proofs.Calls.{goes_place, label_at_spot}
 use Rattle.mix_script.specs.Names.{NamesOf, with_name}
 use Rattle.mix_script.specs.Transcript.{Names, goal_of, move_answer, label_answer, if_held, unless_marked, answer_of, with_named, names_after}
 use Rattle.mix_script.specs.declared.step.Act.{Act}
@@ -124,7 +123,7 @@ module _ (v v' : View) (b b' : Buffer) (keeps : Keeps v' v) (goes : Goes v b v' 
     told = λ t told one places hold.
         let there = exact_on found (v.told (number_of b) ≡ true) _ (λ r. is_some r ≡ has_place (above t) (child_place [])) told
         (λ r e. e ∙ ap (λ p. has_place (document_node v (number_of b)) (child_place p)) at ∙ ap (λ f. has_place f (child_place [])) (node_is v (number_of b) t one)) exact in
-        let moved = moved_down t b' top [] found (goes_place goes top spot ∙ at) child there [] refl in
+        let moved = moved_down t b' top [] found (goes.place top spot ∙ at) child there [] refl in
         places_found t b' spots spots' places client name (Root name) (number_of b) found a (λ value. refl) (λ s. refl) (places_go v v' b b' spots places goes hold) moved is_here after;
     counted = counted;
   }
@@ -143,7 +142,7 @@ module _ (v v' : View) (b b' : Buffer) (keeps : Keeps v' v) (goes : Goes v b v' 
           let place = some_other (IsPlace b) (spots client from) (places client from) x held (hold client from) in
           let there = exact_on found (v.told (number_of b) ≡ true) _ (λ r. is_some r ≡ has_place (above t) (child_place (0 ∷ place.0))) told
           (λ r e. e ∙ ap (λ p. has_place (document_node v (number_of b)) (child_place p)) place.2.1 ∙ ap (λ f. has_place f (child_place (0 ∷ place.0))) (node_is v (number_of b) t one)) exact in
-          let moved = moved_down t b' x (0 ∷ place.0) found (goes_place goes x place.2.0 ∙ place.2.1) child there (child_place place.0) refl in
+          let moved = moved_down t b' x (0 ∷ place.0) found (goes.place x place.2.0 ∙ place.2.1) child there (child_place place.0) refl in
           let Moved : Option (List ℕ) → Type 0 = λ o. IsMoved b' found (if_held o (move_answer t (option_map child_place o))) (option_map child_place o) in
           let marked : (s : ℕ) → answer_of t places (Some s) client (Down name from) ≡ answer.Fault s =
           λ s. ap (λ o. if_held o (answer.Fault s)) place.1 in
@@ -164,7 +163,7 @@ module _ (v v' : View) (b b' : Buffer) (keeps : Keeps v' v) (goes : Goes v b v' 
           let place = some_other (IsPlace b) (spots client from) (places client from) x held (hold client from) in
           let there = exact_on found (v.told (number_of b) ≡ true) _ (λ r. is_some r ≡ has_next (above t) (0 ∷ place.0)) told
           (λ r e. e ∙ ap (has_next (document_node v (number_of b))) place.2.1 ∙ ap (λ f. has_next f (0 ∷ place.0)) (node_is v (number_of b) t one)) exact in
-          let moved = moved_right t b' x place.0 found (goes_place goes x place.2.0 ∙ place.2.1) next there in
+          let moved = moved_right t b' x place.0 found (goes.place x place.2.0 ∙ place.2.1) next there in
           let Moved : Option (List ℕ) → Type 0 = λ o. IsMoved b' found (if_held o (move_answer t (option_and_then next_place o))) (option_and_then next_place o) in
           let marked : (s : ℕ) → answer_of t places (Some s) client (Right name from) ≡ answer.Fault s =
           λ s. ap (λ o. if_held o (answer.Fault s)) place.1 in

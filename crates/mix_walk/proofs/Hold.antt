@@ -5,7 +5,6 @@ use Rattle.tree_buffer.specs.declared.buffer.Buffer.{Buffer}
 use Rattle.tree_buffer.specs.declared.spot.Spot.{Spot}
 use Rattle.lxp_core.specs.View.{View}
 use Rattle.tree_buffer.specs.Buffer.{IsSpot, place_of, Goes}
-use Rattle.tree_buffer.proofs.Calls.{goes_spot, goes_place}
 use Rattle.mix_script.specs.Names.{NamesOf, no_names, with_name}
 use Rattle.mix_walk.specs.Allowed.{Nodes}
 use Rattle.mix_walk.specs.Held.{Both, HoldBoth, IsNode, IsPlace, HoldNodes, HoldPlaces}
@@ -49,9 +48,9 @@ module _ {V W : Type 0} where
 
 -- names hold nodes of a buffer that goes on
 pub nodes_go : (v v' : View) (b b' : Buffer) (spots : NamesOf Spot) (nodes : Nodes) → Goes v b v' b' → HoldNodes b spots nodes → HoldNodes b' spots nodes
-nodes_go v v' b b' spots nodes goes hold = hold_weaker (IsNode b) (IsNode b') spots nodes (λ x n h. goes_spot goes x h) hold
+nodes_go v v' b b' spots nodes goes hold = hold_weaker (IsNode b) (IsNode b') spots nodes (λ x n h. goes.spot x h) hold
 
 -- names hold places of a buffer that goes on
 pub places_go : (v v' : View) (b b' : Buffer) (spots : NamesOf Spot) (places : NamesOf (List ℕ)) → Goes v b v' b' → HoldPlaces b spots places → HoldPlaces b' spots places
 places_go v v' b b' spots places goes hold =
-    hold_weaker (IsPlace b) (IsPlace b') spots places (λ x p h. (goes_spot goes x h.0, goes_place goes x h.0 ∙ h.1)) hold
+    hold_weaker (IsPlace b) (IsPlace b') spots places (λ x p h. (goes.spot x h.0, goes.place x h.0 ∙ h.1)) hold

@@ -3,7 +3,7 @@ use Rattle.std.proofs.Common.{◌≡◌, ◌⊎◌, inl, inr, ◌∙◌, ◌+◌
 use Rattle.std.proofs.lemmas.List.{length_push, drop_more}
 use Rattle.mix_base.specs.Counts.{HasRisen, HasRisenBy}
 use Rattle.mix_base.proofs.Lists.{append_nil, take_append}
-use Rattle.mix_tree.specs.Forest.{LabelledTree, alone}
+use Rattle.mix_tree.specs.Forest.{LabelledTree, alone, first_kids}
 use Rattle.mix_io.specs.Views.{SinkView}
 use Rattle.mix_io.specs.Contents.{Appends, AppendsFront}
 use Rattle.mix_io.proofs.Written.{one_more}
@@ -11,7 +11,6 @@ use Rattle.lxp_core.specs.View.{View, Keeps, document}
 use Rattle.tree_buffer.specs.declared.buffer.Buffer.{Buffer}
 use Rattle.tree_buffer.specs.declared.spot.Spot.{Spot}
 use Rattle.tree_buffer.specs.Buffer.{number_of, IsSourcesOf, Goes}
-use Rattle.tree_buffer.proofs.Calls.{still_document}
 use Rattle.mix_script.specs.Names.{NamesOf, no_names}
 use Rattle.mix_script.specs.Answers.{line_of}
 use Rattle.mix_script.specs.Transcript.{Names, answered, names_after}
@@ -78,7 +77,7 @@ so_far_at old now source names steps before after b spots marked i step h is so 
 -- the document of a buffer's source is the one of the source that it was opened over
 pub same_source : (old now : View) (first b : Buffer) (source : ℕ) → IsSourcesOf old first → number_of first ≡ source → Keeps now old → Goes old first now b → document now source ≡ document old source
 same_source old now first b source sources number keeps goes =
-    ap (document now) (sym (goes.number ∙ number)) ∙ still_document sources keeps goes ∙ ap (document old) number
+    ap (document now) (sym (goes.number ∙ number)) ∙ ap first_kids goes.document ∙ ap (document old) number
 
 -- the lines so far, and one more
 lines_push : (xs l ys : List ℕ) → xs ++ (l ++ ys) ≡ (xs ++ (l ++ [])) ++ ys

@@ -1,5 +1,4 @@
 -- The labels of paths as texts.
-use Rattle.std.specs.Prelude.{ℕ, List, Option, Some, None}
 use Rattle.std.specs.Str.{IsUtf8}
 use Rattle.path_expr.specs.Form.{Head, name, any, seq, alt, star, plus, opt, Paths, none, path}
 
@@ -17,8 +16,3 @@ HeadUtf8 opt = Unit {0}
 abbrev pub AreUtf8 : Paths → Type 0
 AreUtf8 none = Unit {0}
 AreUtf8 (path head members after) = HeadUtf8 head × AreUtf8 members × AreUtf8 after
-
--- the label of a test, where it has one, is UTF-8
-abbrev pub TestUtf8 : Option (List ℕ) → Type 0
-TestUtf8 None = Unit {0}
-TestUtf8 (Some l) = IsUtf8 l

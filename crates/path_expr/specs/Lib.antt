@@ -1,8 +1,8 @@
-pub mod Automaton
 pub mod BuilderState
 pub mod Building
 pub mod Canonical
 pub mod Codes
+pub mod Count
 pub mod Depth
 pub mod Description
 pub mod Form
@@ -12,10 +12,8 @@ pub mod Machine
 pub mod Matches
 pub mod Node
 pub mod Parentheses
-pub mod Positions
 pub mod Results
 pub mod Scanned
-pub mod Sets
 pub mod Size
 pub mod Values
 pub mod Weight

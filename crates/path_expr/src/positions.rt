@@ -1,8 +1,7 @@
 // Counting the label positions of a path.
 ghost use Rattle.std.specs.Prelude.{◌≡◌, ◌<◌, ◌^◌};
 ghost use Rattle.path_expr.specs.Form.{positions_in, positions_of, paths_of};
-ghost use Rattle.path_expr.specs.Positions.{count_by};
-ghost use Rattle.path_expr.specs.Sets.{count as count_of};
+ghost use Rattle.path_expr.specs.Count.{count_by, count as count_of};
 
 use crate::path::{Node, Path};
 

@@ -1,8 +1,12 @@
-pub mod FromInputs
+pub mod ByNumber
+pub mod Events
 pub mod PlanMade
 pub mod PlanText
 pub mod Plans
 pub mod Rows
 pub mod Sorted
+pub mod Tolled
+pub mod TolledRows
+pub mod Typed
 pub mod Unary
 pub mod Valid

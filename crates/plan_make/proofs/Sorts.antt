@@ -12,13 +12,14 @@ use Rattle.mix_tree.specs.Nodes.{Documents, label_at}
 use Rattle.mix_tree.specs.declared.comparing.Operand.{Operand}
 use Rattle.mix_tree.specs.declared.comparing.Operand.TheVariants.{Var as var_operand, Text as text_operand}
 use Rattle.mix_tree.specs.declared.comparing.Test.{Test}
-use Rattle.xmas_rule.specs.Bindings.{Binding, node_of, operand_label, passes, TupleBefore, label_of, sorts_before, StandsBefore}
+use Rattle.mix_tree.specs.Comparisons.{operand_label, passes}
+use Rattle.xmas_rule.specs.Bindings.{Binding, node_of, TupleBefore, label_of, sorts_before, StandsBefore}
 use Rattle.xmas_rule.specs.Conditions.{OperandBelow}
 use Rattle.xmas_rule.specs.Rules.{IsOrdered}
 use Rattle.xmas_rule.specs.declared.condition.OrderBy.{OrderBy}
 use Rattle.plan_core.specs.Rows.{Row, node_in, nodes_in}
 use Rattle.plan_core.specs.Sorted.{insert_by, sorted_by}
-use Rattle.plan_core.specs.Unary.{right_label, holds, run}
+use Rattle.plan_core.specs.Unary.{holds, run}
 use Rattle.plan_make.proofs.Groupings.{RowsOf}
 use Rattle.plan_make.proofs.Members.{among_each, among-filter, among_filter, ascending_filter}
 use Rattle.plan_make.specs.Operators.{selects, orders}
@@ -49,7 +50,7 @@ passing-ascends docs [] bs h = h
 passing-ascends docs (t ∷ ts) bs h = passing-ascends docs ts (filter (λ b. passes docs t (node_of b)) bs) (ascending_filter TupleBefore (λ b. passes docs t (node_of b)) bs h)
 
 -- a row of the binding compares the same label
-operand-row : (docs : Documents) (top : ℕ) (row : Binding → Row) (o : Operand) (b : Binding) → RowsOf top row → OperandBelow top o → right_label docs o (row b) ≡ operand_label docs o (node_of b)
+operand-row : (docs : Documents) (top : ℕ) (row : Binding → Row) (o : Operand) (b : Binding) → RowsOf top row → OperandBelow top o → operand_label docs o (nodes_in (row b)) ≡ operand_label docs o (node_of b)
 unfolding RowsOf
 operand-row docs top row (var_operand v) b r h = ap (λ x. (label_at docs (node_in x))) (r b v h)
 operand-row docs top row (text_operand label) b r h = refl
@@ -58,7 +59,7 @@ operand-row docs top row (text_operand label) b r h = refl
 passes-row : (docs : Documents) (top : ℕ) (row : Binding → Row) (t : Test) (b : Binding) → RowsOf top row → t.left < top → OperandBelow top t.right → holds docs t (row b) ≡ passes docs t (node_of b)
 unfolding RowsOf
 passes-row docs top row t b r h k =
-    ap (λ x. compares t.op (label_at docs (node_in x)) (right_label docs t.right (row b))) (r b t.left h)
+    ap (λ x. compares t.op (label_at docs (node_in x)) (operand_label docs t.right (nodes_in (row b)))) (r b t.left h)
     ∙ ap (compares t.op (label_at docs (node_of b t.left))) (operand-row docs top row t.right b r k)
 
 -- the selections keep the rows of the bindings that pass

@@ -11,8 +11,8 @@ use Rattle.xmas_rule.specs.Rules.{RuleValue, IsAccepted, IsOrdered, variables}
 use Rattle.xmas_rule.specs.declared.condition.OrderBy.{OrderBy}
 use Rattle.plan_core.specs.Plans.{Operator, source, get_descendants, join, over, tuple_destroy, chained}
 use Rattle.plan_core.specs.Unary.{Unary}
-use Rattle.plan_core.specs.Valid.{a_node, an_element, Kinds, no_kinds, op_kinds, kinds_of, IsOperand, IsFit, inputs_of, HaveSmallerInputs, outs_of, unary_outs, AreDistinct, is_single, single_of, EndsSingle, HasSource, uses_of, IsValid}
-use Rattle.plan_core.proofs.Inputs.{AreValues, all_values, values-append, kinds_of_inputs, single_of_inputs}
+use Rattle.plan_core.specs.Valid.{a_node, an_element, Kinds, op_kinds, kinds, IsOperand, IsFit, inputs_of, HaveSmallerInputs, outs_of, unary_outs, AreDistinct, is_single, is_single_at, EndsSingle, HasSource, uses_of, IsValid}
+use Rattle.plan_core.proofs.Inputs.{AreValues, values-append, kinds_values, single_values}
 use Rattle.plan_core.proofs.Chained.{smaller_append, chained_smaller, kinds_after, AreUnaryFit, chained_fit, single_after, chained_single, chained_outs, AreOnce, once_append, once_one, chained_once}
 use Rattle.plan_make.specs.Operators.{body_ops, body_last, selects, orders, unaries, operators_of, plan_of}
 use Rattle.plan_make.specs.Translation.{template_ops, template_var}
@@ -147,7 +147,7 @@ plan_smaller sources r b =
     ((omega (arith, l, k, q), tt), tt)
 
 -- the plan's operators are fit
-plan_fit : (sources : ℕ) (r : RuleValue) → IsAccepted sources r → BodyOf sources r → AllByRecursion (λ op. IsFit op (kinds_of (operators_of r))) (operators_of r)
+plan_fit : (sources : ℕ) (r : RuleValue) → IsAccepted sources r → BodyOf sources r → AllByRecursion (λ op. IsFit op (kinds (operators_of r))) (operators_of r)
 plan_fit sources r a b =
     let top : ℕ = variables r in
     let comps : List (List Binder) = components r.conds in
@@ -157,8 +157,8 @@ plan_fit sources r a b =
     let n : ℕ = top + length comps in
     let front : List Operator = body ++ chained at us in
     let end : List Operator = tuple_destroy (at + length us) (template_var r.items n) ∷ [] in
-    let f : ℕ → Kinds = kinds_of (operators_of r) in
-    let values : AreValues op_kinds f 0 (operators_of r) = all_values op_kinds no_kinds kinds_of_inputs (operators_of r) (plan_smaller sources r b) in
+    let f : ℕ → Kinds = kinds (operators_of r) in
+    let values : AreValues op_kinds f 0 (operators_of r) = kinds_values (operators_of r) (plan_smaller sources r b) in
     let parts = values-append op_kinds f front end 0 values in
     let inner = values-append op_kinds f body (chained at us) 0 parts.0 in
     let l = b.last in
@@ -233,7 +233,7 @@ plan_once sources r b m h =
     (once m).0 (omega arith) (omega (arith, h, l, j, q, w))
 
 -- the plan ends with a tupleDestroy over a single operator, and each of its sources is there
-plan_ends : (sources : ℕ) (r : RuleValue) → BodyOf sources r → EndsSingle (single_of (operators_of r)) (operators_of r) × AllByRecursion (HasSource sources) (operators_of r)
+plan_ends : (sources : ℕ) (r : RuleValue) → BodyOf sources r → EndsSingle (is_single_at (operators_of r)) (operators_of r) × AllByRecursion (HasSource sources) (operators_of r)
 plan_ends sources r b =
     let top : ℕ = variables r in
     let comps : List (List Binder) = components r.conds in
@@ -243,8 +243,8 @@ plan_ends sources r b =
     let n : ℕ = top + length comps in
     let front : List Operator = body ++ chained at us in
     let end : List Operator = tuple_destroy (at + length us) (template_var r.items n) ∷ [] in
-    let f : ℕ → Bool = single_of (operators_of r) in
-    let values : AreValues is_single f 0 (operators_of r) = all_values is_single false single_of_inputs (operators_of r) (plan_smaller sources r b) in
+    let f : ℕ → Bool = is_single_at (operators_of r) in
+    let values : AreValues is_single f 0 (operators_of r) = single_values (operators_of r) (plan_smaller sources r b) in
     let parts = values-append is_single f front end 0 values in
     let inner = values-append is_single f body (chained at us) 0 parts.0 in
     let l = b.last in

@@ -5,6 +5,7 @@ use Rattle.std.specs.List.{AllByRecursion, last_or}
 use Rattle.std.proofs.lemmas.Bool.{eq-eqb}
 use Rattle.xmas_rule.specs.Conditions.{Binder, binder_var, binder_vars, has, flat, binders, comparisons, components}
 use Rattle.xmas_rule.specs.Rules.{RuleValue, IsAccepted, variables}
+use Rattle.mix_tree.specs.Comparisons.{passes}
 use Rattle.xmas_rule.specs.Bindings.{Binding, node_of, Binds, AreBindings}
 use Rattle.xmas_rule.specs.Meaning.{finished, IsFinished}
 use Rattle.xmas_rule.proofs.Unique.{one_finished}

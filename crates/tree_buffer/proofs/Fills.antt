@@ -14,6 +14,7 @@ stays old new n o keeps known apart = record {
   apart = apart;
   lighter = omega (arith, weight_of-same (old.knows n) (old.weight n) (new.weight n) (keeps.weight n) o known);
   closes = λ _. closed-same (old.knows n) (old.forest n) (new.forest n) (keeps.forest n) o known;
+  whole = λ e. e;
 }
 
 -- one step after the other
@@ -23,6 +24,7 @@ refined_again a b c n o p q keeps first second = record {
   apart = second.apart;
   lighter = omega (arith, first.lighter, second.lighter);
   closes = λ told. second.closes (keeps.told n ∙ told) ∙ first.closes told;
+  whole = λ e. second.whole (first.whole e);
 }
 
 -- the holes of two lists add up
@@ -77,6 +79,7 @@ module _ (old new : View) (n : ℕ) (h : HoleId) (tail list : Open) (keeps : Kee
     closes = λ told.
         closed-open_followed (new.forest n) list tail ∙ ap (λ f. followed f (closed (new.forest n) tail)) (closes told)
         ∙ ap (followed (old.forest n h)) (closed-same (old.knows n) (old.forest n) (new.forest n) (keeps.forest n) tail known.1);
+    whole = λ e. cc;
   }
 
   -- it leaves fewer fills

@@ -1,20 +1,10 @@
 -- One node more is handed out.
-use Rattle.std.proofs.Common.{◌≡◌, ℕ, zero, suc, ◌+◌, ◌<◌, ◌≤◌, ◌⊎◌, inl, inr, true, false, Bool, cond, min, List, [], ◌∷◌, ◌++◌, Some, length, get_or, set, refl, ap, sym, subst, ◌∙◌, arith}
+use Rattle.std.proofs.Common.{◌≡◌, ℕ, zero, suc, ◌+◌, ◌<◌, ◌≤◌, ◌⊎◌, inl, inr, min, List, [], ◌∷◌, ◌++◌, length, get_or, set, refl, ap, sym, subst, ◌∙◌, arith}
 use Rattle.std.proofs.lemmas.Bool.{cases_eq}
 use Rattle.std.proofs.lemmas.List.{get_or_append_left, get_or_push, get_or-set_same, get_or-set_other, length-set, length_push, same_from_push, get_or_past}
-use Rattle.lxp_core.specs.declared.open_tree.HoleId.{HoleId}
-use Rattle.mix_tree.specs.Forest.{from, first_kids, first_label, behind}
-use Rattle.mix_tree.specs.Place.{trees_at}
-use Rattle.lxp_core.specs.Open.{Open, nil, node, closed, weight_of, AllHoles, IsApart}
-use Rattle.lxp_core.specs.View.{View}
-use Rattle.tree_buffer.specs.Document.{document_node}
-use Rattle.tree_buffer.specs.Nodes.{Nodes, place, places, parent, index, IsChild, IsLinked}
-use Rattle.tree_buffer.specs.Sourced.{Sourced, Moved}
-use Rattle.tree_buffer.specs.Weights.{held, in_from, weight_from}
-use Rattle.tree_buffer.proofs.Documents.{from-more, trees_at-push}
-use Rattle.tree_buffer.proofs.Held.{held-le, held-push, held-set, in_from-push}
-use Rattle.tree_buffer.proofs.Refine.{set_relates}
-use Rattle.tree_buffer.proofs.Places.{place-old, place-new, places-push, length-places}
+use Rattle.lxp_core.specs.Open.{Open}
+use Rattle.tree_buffer.specs.Nodes.{Nodes, place, parent, index, IsChild, IsLinked}
+use Rattle.tree_buffer.proofs.Places.{place-old, place-new}
 
 -- the nodes with one child of q more: its label, its list, the list that is left to q, q's first child, and the sibling before
 abbrev pub handed : Nodes → ℕ → ℕ → ℕ → List ℕ → Open → Open → Nodes

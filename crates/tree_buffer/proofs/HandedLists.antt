@@ -1,20 +1,20 @@
 -- One node more is handed out: what lists weigh and close to.
-use Rattle.std.proofs.Common.{◌≡◌, ℕ, zero, suc, ◌+◌, ◌<◌, ◌≤◌, ◌⊎◌, inl, inr, true, false, Bool, cond, min, List, [], ◌∷◌, ◌++◌, Some, length, get_or, set, refl, ap, sym, subst, ◌∙◌, arith}
+use Rattle.std.proofs.Common.{◌≡◌, ℕ, zero, suc, ◌+◌, ◌<◌, ◌≤◌, ◌⊎◌, inl, inr, true, false, Bool, cond, List, [], ◌∷◌, ◌++◌, Some, length, get_or, set, ap, sym, subst, ◌∙◌, arith}
 use Rattle.std.proofs.lemmas.Bool.{cases_eq}
-use Rattle.std.proofs.lemmas.List.{get_or_append_left, get_or_push, get_or-set_same, get_or-set_other, length-set, length_push, same_from_push, get_or_past}
+use Rattle.std.proofs.lemmas.List.{get_or_append_left, get_or_push, get_or-set_same, get_or-set_other, length-set, length_push}
 use Rattle.lxp_core.specs.declared.open_tree.HoleId.{HoleId}
 use Rattle.mix_tree.specs.Forest.{from, first_kids, first_label, behind}
 use Rattle.mix_tree.specs.Place.{trees_at}
 use Rattle.lxp_core.specs.Open.{Open, nil, node, closed, weight_of, AllHoles, IsApart}
 use Rattle.lxp_core.specs.View.{View}
 use Rattle.tree_buffer.specs.Document.{document_node}
-use Rattle.tree_buffer.specs.Nodes.{Nodes, place, places, parent, index, IsChild, IsLinked}
+use Rattle.tree_buffer.specs.Nodes.{Nodes, place, places, IsLinked}
 use Rattle.tree_buffer.specs.Sourced.{Sourced, Moved}
 use Rattle.tree_buffer.specs.Weights.{held, in_from, weight_from}
 use Rattle.tree_buffer.proofs.Documents.{from-more, trees_at-push}
 use Rattle.tree_buffer.proofs.Held.{held-le, held-push, held-set, in_from-push}
 use Rattle.tree_buffer.proofs.Refine.{set_relates}
-use Rattle.tree_buffer.proofs.Places.{place-old, place-new, places-push, length-places}
+use Rattle.tree_buffer.proofs.Places.{places-push, length-places}
 use Rattle.tree_buffer.proofs.Handed.{handed, split, links_old, old_place, new_place, counts_own, counts_old, counts_new, longer}
 
 module _ (m : Nodes) (linked : IsLinked m.links m.counts m.firsts m.nexts) (q first before : ℕ) (l : List ℕ) (ks o : Open) (within : q < length m.links) where
@@ -98,6 +98,14 @@ module _ (m : Nodes) (linked : IsLinked m.links m.counts m.firsts m.nexts) (q fi
               held-set (weight_of w) (place m.links i) k (places m.links) m.rests q o (1 + weight_of w ks) (omega (arith, lists, length-places m.links)) (omega (arith, lists)) (omega (arith, at_weight)),
             )
 
+    -- an empty list is not that of q
+    still_whole : (i : ℕ) → i < length m.links → get_or m.rests i nil ≡ nil → get_or (handed m q first before l ks o).rests i nil ≡ nil
+    still_whole i h empty =
+        rests_old lists i (λ e. not_empty (sym at ∙ ap (λ j. get_or m.rests j nil) (sym e) ∙ empty)) h ∙ empty
+      where
+        not_empty : node l ks o ≡ nil → ⊥
+        not_empty e = cc
+
     -- the nodes go on
     pub moved_handed : Moved (weight_of w) m (weight_of w) (handed m q first before l ks o)
     moved_handed = record {
@@ -106,6 +114,7 @@ module _ (m : Nodes) (linked : IsLinked m.links m.counts m.firsts m.nexts) (q fi
       places = (old_place m linked q first before l ks o within);
       labels = labels_old names;
       lighter = new_lighter;
+      whole = still_whole;
     }
 
   module _ (v : View) (n : ℕ) (s : Sourced v n m) (at : get_or m.rests q nil ≡ node l ks o) where

@@ -1,12 +1,13 @@
-pub mod Calls
+mod Calls
 mod Columns
-pub mod Documents
+mod Documents
 mod Entries
 mod Exact
 mod Fills
 mod Handed
 mod HandedLists
 mod Held
+pub mod Laws
 mod Places
 mod Refine
 mod Spots

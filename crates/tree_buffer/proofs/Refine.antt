@@ -33,6 +33,7 @@ module _ (v v' : View) (n : ℕ) (m : Nodes) (os : List Open) (s : Sourced v n m
           (refined i).lighter,
           held-le (weight_of (v.weight n)) (weight_of (v'.weight n)) (place m.links i) k (places m.links) m.rests os e (λ j. (refined j).lighter),
         );
+    whole = λ i within. (refined i).whole;
   }
 
   -- the document stays the same
@@ -78,6 +79,7 @@ moved_same w m = record {
   places = λ i within. refl;
   labels = λ i within. refl;
   lighter = λ i k within. omega arith;
+  whole = λ i within e. e;
 }
 
 -- one step after the other
@@ -88,4 +90,5 @@ moved_twice w x y m n o a b = record {
   places = λ i within. b.places i (omega (arith, a.more, within)) ∙ a.places i within;
   labels = λ i within. b.labels i (omega (arith, a.more, within)) ∙ a.labels i within;
   lighter = λ i k within. omega (arith, b.lighter i k (omega (arith, a.more, within)), a.lighter i k within);
+  whole = λ i within e. b.whole i (omega (arith, a.more, within)) (a.whole i within e);
 }

@@ -123,7 +123,7 @@ module _ (es : List Entry) (p : ℕ) (e : Entry) (linked : AreLinked es) (some :
   up = omega (arith, linked.back p some within, (link_read es p e within read).0, within)
 
   -- the node's place is below its parent's
-  own_place : place (nodes es).links p ≡ place (nodes es).links e.parent ++ e.index ∷ []
+  pub own_place : place (nodes es).links p ≡ place (nodes es).links e.parent ++ e.index ∷ []
   own_place =
       let l = link_read es p e within read in
       linked.stands p some within ∙ ap (λ q. place (nodes es).links q ++ index (nodes es).links p ∷ []) l.0 ∙ ap (λ k. place (nodes es).links e.parent ++ k ∷ []) l.1

@@ -18,12 +18,14 @@ holes_weight weight (hole id rest) = weight id + holes_weight weight rest
 abbrev pub fills_left : (HoleId → ℕ) → Open → ℕ
 fills_left weight o = holes_weight weight o + holes_weight weight o + hole_first o
 
--- the list `now`, under the new view, stands for what `was` stood for under the old one, and weighs no more
+-- the list `now`, under the new view, stands for what `was` stood for under the old one, weighs no more,
+-- and is empty where that was
 pub record IsRefined (old new : View) (n : ℕ) (was now : Open) : Type 0 where
   pub known : AllHoles (new.knows n) now
   pub apart : IsApart now
   pub lighter : weight_of (new.weight n) now ≤ weight_of (old.weight n) was
   pub closes : old.told n ≡ true → closed (new.forest n) now ≡ closed (old.forest n) was
+  pub whole : was ≡ nil → now ≡ nil
 
 -- over a forward source each fill takes a hole from the front
 abbrev pub IsLazy : View → View → ℕ → Open → Open → Type 0

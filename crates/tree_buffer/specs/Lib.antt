@@ -1,7 +1,9 @@
+pub mod Advance
 pub mod Buffer
 pub mod Document
 pub mod Entries
 pub mod Fills
+pub mod Law
 pub mod Nodes
 pub mod Sourced
 pub mod Weights

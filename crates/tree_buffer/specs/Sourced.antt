@@ -23,10 +23,11 @@ pub record Sourced (v : View) (n : ℕ) (m : Nodes) : Type 0 where
   pub stands : v.told n ≡ true → (i : ℕ) → i < length m.links
       → first_label (trees_at (document_node v n) (place m.links i)) ≡ Some (get_or m.labels i [])
 
--- each node stands for what it stood for, and what lies below it and behind it doesn't weigh more
+-- each node stands for what it stood for, what lies below it and behind it doesn't weigh more, and an empty list stays so
 pub record Moved (w : Open → ℕ) (m : Nodes) (w' : Open → ℕ) (m' : Nodes) : Type 0 where
   pub more : length m.links ≤ length m'.links
   pub links : (i : ℕ) → i < length m.links → get_or m'.links i (0, 0) ≡ get_or m.links i (0, 0)
   pub places : (i : ℕ) → i < length m.links → place m'.links i ≡ place m.links i
   pub labels : (i : ℕ) → i < length m.links → get_or m'.labels i [] ≡ get_or m.labels i []
   pub lighter : (i k : ℕ) → i < length m.links → weight_from w' m' i k ≤ weight_from w m i k
+  pub whole : (i : ℕ) → i < length m.links → get_or m.rests i nil ≡ nil → get_or m'.rests i nil ≡ nil

@@ -21,12 +21,13 @@ pub struct Buffer {
 
 impl Buffer {
     ghost use Rattle.mix_base.specs.Counts.{HasRisen};
-    ghost use Rattle.mix_tree.specs.Place.{has_place, child_place};
+    ghost use Rattle.mix_tree.specs.Forest.{first_kids, behind};
+    ghost use Rattle.mix_tree.specs.Place.{trees_at, has_place, child_place};
     ghost use Rattle.lxp_core.specs.Open.{begins_with_hole};
     ghost use Rattle.tree_buffer.specs.declared.buffer.Buffer.{Buffer};
     ghost use Rattle.tree_buffer.specs.declared.spot.Spot.{Spot};
     ghost use Rattle.tree_buffer.specs.Document.{document_node, has_next};
-    ghost use Rattle.tree_buffer.specs.Buffer.{IsSpot, number_of, place_of, label_of, rest_of, below, after, IsSourcesOf, Ran, IsChildSpot, IsNextSpot};
+    ghost use Rattle.tree_buffer.specs.Buffer.{IsSpot, number_of, place_of, label_of, rest_of, below, after, trees_from, IsChildSpot, IsNextSpot, HasAllChildren, HasAllSiblings, IsSourcesOf, Ran};
 
     /// A buffer of one source, of which nothing was asked yet. No fill is asked.
     pub fn open<S: Sources>(alloc: Global, s: &S, number: u32) -> Result<Buffer, AllocError>
@@ -113,12 +114,17 @@ impl Buffer {
         ensures child { IfOk result (λ r. IfSome r (IsChildSpot self.new p.now 0)) }
         ensures exact { IfOk result (λ r. (S.view s.old).told (number_of self.old) ≡ true
             → is_some r ≡ has_place (document_node (S.view s.old) (number_of self.old)) (child_place (place_of self.old p.now))) }
+        ensures trees { IfOk result (λ r. (S.view s.old).told (number_of self.old) ≡ true
+            → trees_from (document_node (S.view s.old) (number_of self.old)) self.new r
+            ≡ first_kids (trees_at (document_node (S.view s.old) (number_of self.old)) (place_of self.old p.now))) }
         ensures smaller { IfOk result (λ r. IfSome r (λ c.
             1 + below (S.view s.new) self.new c + after (S.view s.new) self.new c ≤ below (S.view s.old) self.old p.now)) }
         // Fills.
         ensures lazy { (S.view s.old).forward (number_of self.old) ≡ true → (S.view s.new).fills ≤ (S.view s.old).fills + 1 }
         ensures known { (c : Spot) → IsChildSpot self.old p.now 0 c → s.new ≡ s.old }
         ensures whole { begins_with_hole (rest_of self.old p.now) ≡ false → s.new ≡ s.old }
+        ensures none { IfOk result (λ r. is_some r ≡ false → HasAllChildren self.new p.now) }
+        ensures again { HasAllChildren self.old p.now → s.new ≡ s.old }
         // The cause.
         ensures failed { IsErrOf result BufferFault.Failed
             → HasRisen ((S.view s.old).faults (number_of self.old)) ((S.view s.new).faults (number_of self.old)) }
@@ -147,6 +153,9 @@ impl Buffer {
         ensures next { IfOk result (λ r. IfSome r (IsNextSpot self.new p.now)) }
         ensures exact { IfOk result (λ r. (S.view s.old).told (number_of self.old) ≡ true
             → is_some r ≡ has_next (document_node (S.view s.old) (number_of self.old)) (place_of self.old p.now)) }
+        ensures trees { IfOk result (λ r. (S.view s.old).told (number_of self.old) ≡ true
+            → trees_from (document_node (S.view s.old) (number_of self.old)) self.new r
+            ≡ behind (trees_at (document_node (S.view s.old) (number_of self.old)) (place_of self.old p.now))) }
         ensures smaller { IfOk result (λ r. IfSome r (λ q.
             1 + below (S.view s.new) self.new q + after (S.view s.new) self.new q ≤ after (S.view s.old) self.old p.now)) }
         // Fills.
@@ -155,6 +164,8 @@ impl Buffer {
         ensures whole { (q : Spot) (k : ℕ) → IsSpot self.old q → IsChildSpot self.old q k p.now
             → begins_with_hole (rest_of self.old q) ≡ false → s.new ≡ s.old }
         ensures top { place_of self.old p.now ≡ [] → s.new ≡ s.old }
+        ensures none { IfOk result (λ r. is_some r ≡ false → HasAllSiblings self.new p.now) }
+        ensures again { HasAllSiblings self.old p.now → s.new ≡ s.old }
         // The cause.
         ensures failed { IsErrOf result BufferFault.Failed
             → HasRisen ((S.view s.old).faults (number_of self.old)) ((S.view s.new).faults (number_of self.old)) }

@@ -1,5 +1,5 @@
 // How a buffer comes to one node more.
-ghost use Rattle.std.specs.Prelude.{◌≡◌, ◌+◌, ◌<◌, ◌≤◌, true, false, OnOk, IfOk, MatchOption, IsErrOf, length};
+ghost use Rattle.std.specs.Prelude.{◌≡◌, ◌+◌, ◌<◌, ◌≤◌, true, false, is_some, OnOk, IfOk, MatchOption, IsErrOf, length};
 
 use crate::BufferFault;
 use crate::buffer::Buffer;
@@ -15,7 +15,8 @@ impl Buffer {
     ghost use Rattle.lxp_core.specs.Open.{nil, begins_with_hole};
     ghost use Rattle.lxp_core.specs.View.{View};
     ghost use Rattle.tree_buffer.specs.Nodes.{IsChild, IsLast};
-    ghost use Rattle.tree_buffer.specs.Buffer.{nodes_of, IsSourcesOf, Goes, Ran};
+    ghost use Rattle.tree_buffer.specs.Buffer.{nodes_of, IsSourcesOf};
+    ghost use Rattle.tree_buffer.specs.Advance.{Advances, Advanced};
 
     // Asks fills until no hole stands at the front of a node's list.
     pub(crate) fn settle_at<S: Sources>(
@@ -26,7 +27,7 @@ impl Buffer {
     ) -> Result<(), BufferFault>
         requires spot { q < length (nodes_of self.old).links }
         requires sources { IsSourcesOf (S.view s.old) self.old }
-        ensures ran { Ran S.view S.came_from s.old self.old s.new self.new }
+        ensures advanced { Advanced S.view S.came_from s.old self.old s.new self.new }
         ensures links { (nodes_of self.new).links ≡ (nodes_of self.old).links }
         ensures counts { (nodes_of self.new).counts ≡ (nodes_of self.old).counts }
         ensures settled { OnOk result (begins_with_hole (get_or (nodes_of self.new).rests q nil) ≡ false) }
@@ -45,9 +46,10 @@ impl Buffer {
         requires top { begins_with_hole (get_or (nodes_of self.old).rests q nil) ≡ false }
         requires before { 0 < get_or (nodes_of self.old).counts q 0 → IsLast (nodes_of self.old) q before }
         ensures sources { (v : View) → IsSourcesOf v self.old → IsSourcesOf v self.new }
-        ensures goes { (v : View) → IsSourcesOf v self.old → Goes v self.old v self.new }
+        ensures advances { (v : View) → IsSourcesOf v self.old → Advances v self.old v self.new }
         ensures child { IfOk result (λ r. MatchOption r (get_or (nodes_of self.old).rests q nil ≡ nil)
             (λ c. IsChild (nodes_of self.new).links q (get_or (nodes_of self.old).counts q 0) c.number)) }
+        ensures none { IfOk result (λ r. is_some r ≡ false → self.new ≡ self.old) }
     {
         if self.entries[q].rest.is_empty() {
             return Ok(None);

@@ -5,11 +5,13 @@ mod buffer;
 mod entry;
 mod fault;
 mod handing;
+mod law;
 mod spot;
 mod stacks;
 
 pub use buffer::Buffer;
 pub use fault::BufferFault;
+pub use law::{buffers_are_kept, no_call_runs, two_calls_run};
 pub use spot::Spot;
 
 #[cfg(test)]

@@ -3,10 +3,8 @@ use Rattle.std.specs.Prelude.{◌≡◌, ◌⊎◌, ◌↔◌, ℕ, Bool, true, 
 use Rattle.std.specs.List.{AllByRecursion}
 use Rattle.mix_base.specs.Ascents.{Among, Ascending}
 use Rattle.mix_tree.specs.Nodes.{Documents, Node, document_node, label_at, PlaceBefore}
-use Rattle.mix_tree.specs.LabelOrder.{label_before, compares}
-use Rattle.mix_tree.specs.declared.comparing.Operand.{Operand}
-use Rattle.mix_tree.specs.declared.comparing.Operand.TheVariants.{Var as var_operand, Text as text_operand}
-use Rattle.mix_tree.specs.declared.comparing.Test.{Test}
+use Rattle.mix_tree.specs.Comparisons.{passes}
+use Rattle.mix_tree.specs.LabelOrder.{label_before}
 use Rattle.path_expr.specs.Matches.{IsMatch}
 use Rattle.xmas_rule.specs.Conditions.{Binder, from_source, from_var, binders, comparisons, in_order}
 use Rattle.xmas_rule.specs.declared.condition.Cond.{Cond}
@@ -20,15 +18,6 @@ Binding = List (ℕ × Node)
 abbrev pub node_of : Binding → ℕ → Node
 node_of [] v = document_node 0
 node_of (p ∷ b) v = cond (p.0 == v) p.1 (node_of b v)
-
--- what a variable's label is compared with
-abbrev pub operand_label : Documents → Operand → (ℕ → Node) → List ℕ
-operand_label docs (var_operand v) nodes = label_at docs (nodes v)
-operand_label docs (text_operand label) nodes = label
-
--- whether a comparison holds of the nodes of variables
-abbrev pub passes : Documents → Test → (ℕ → Node) → Bool
-passes docs t nodes = compares t.op (label_at docs (nodes t.left)) (operand_label docs t.right nodes)
 
 -- a condition that binds holds: its path leads from its start to the variable's node
 abbrev pub Binds : Documents → Binding → Binder → Type 0

@@ -7,7 +7,7 @@ use Rattle.mix_tree.specs.Place.{trees_at}
 use Rattle.lxp_core.specs.View.{Keeps}
 use Rattle.tree_buffer.specs.Document.{document_node}
 use Rattle.tree_buffer.specs.Buffer.{IsSpot, IsNextSpot, Ran, number_of, place_of, label_of, below, after}
-use Rattle.tree_buffer.proofs.Calls.{ran_twice, goes_after, still_told, still_forward}
+use Rattle.tree_buffer.proofs.Laws.{ran_twice}
 use Rattle.walk_tree.specs.Walk.{first_labels, labels_from, left}
 use Rattle.walk_tree.proofs.Steps.{left_le, if_some_weaker, labels_down, labels_right}
 use Rattle.walk_tree.proofs.+walking.Goals as goal
@@ -21,31 +21,34 @@ walk-returns-clause-labels g t c =
     let v = g.S.Sources.view c.args.s.now in
     let b = c.args.b.now in
     let x = c.args.p.now in
-    let keeps : Keeps (g.S.Sources.view c.down.new.s) (g.S.Sources.view c.args.s.now) = g.met.S.Sources.keeps _ _ c.down.ensures.ran.came in
     let goes = c.down.ensures.ran.goes in
     let label : c.in_ok-label.label ≡ label_of c.args.b.now c.args.p.now = c.in_ok-label.ensures ∙ c.label.ensures in
     let pushed : c.push.new.self.items ≡ c.args.out.now.items ++ label_of c.args.b.now c.args.p.now ∷ [] =
     c.in_ok-push.ensures.items ∙ ap (λ l. c.args.out.now.items ++ l ∷ []) label in
-    let all = labels_down v (g.S.Sources.view c.down.new.s) b c.down.new.self x keeps c.requires.sources goes c.requires.spot told
-    c.in_ok-first.first c.in_ok-first.ensures.child (c.in_ok-first.ensures.exact told) in
+    let all = labels_down v (g.S.Sources.view c.down.new.s) b c.down.new.self x c.requires.sources goes c.requires.spot told
+    c.in_ok-first.first (c.in_ok-first.ensures.trees told) in
     let behind = labels_from (g.S.Sources.view c.down.new.s) c.down.new.self c.in_ok-first.first in
-    rest (still_told keeps goes told) ∙ ap (λ xs. xs ++ behind) pushed
+    rest (goes.told ∙ told) ∙ ap (λ xs. xs ++ behind) pushed
     ∙ append_assoc c.args.out.now.items (label_of b x ∷ []) behind ∙ ap (λ ls. c.args.out.now.items ++ ls) (sym all)) c.walk_from.ensures.labels
 
 pub walk-returns-clause-steps : goal.walk-returns-clause-steps
 walk-returns-clause-steps g t c =
     on_ok_weaker c.walk_from.result (λ _ forward.
     let goes = c.down.ensures.ran.goes in
-    let keeps : Keeps (g.S.Sources.view c.down.new.s) (g.S.Sources.view c.args.s.now) = g.met.S.Sources.keeps _ _ c.down.ensures.ran.came in
     let pushed : length c.push.new.self.items ≡ length c.args.out.now.items + 1 = ap length c.in_ok-push.ensures.items ∙ length_push c.args.out.now.items c.in_ok-label.label in
-    omega (arith, pushed, c.down.ensures.lazy forward, c.walk_from.ensures.lazy (still_forward keeps goes forward))) c.walk_from.ensures.labels
+    omega (arith, pushed, c.down.ensures.lazy forward, c.walk_from.ensures.lazy (goes.forward ∙ forward))) c.walk_from.ensures.labels
 
 pub walk-returns-clause-lazy : goal.walk-returns-clause-lazy
 walk-returns-clause-lazy g t c = λ forward.
     let goes = c.down.ensures.ran.goes in
-    let keeps : Keeps (g.S.Sources.view c.down.new.s) (g.S.Sources.view c.args.s.now) = g.met.S.Sources.keeps _ _ c.down.ensures.ran.came in
     let pushed : length c.push.new.self.items ≡ length c.args.out.now.items + 1 = ap length c.in_ok-push.ensures.items ∙ length_push c.args.out.now.items c.in_ok-label.label in
-    omega (arith, pushed, c.down.ensures.lazy forward, c.walk_from.ensures.lazy (still_forward keeps goes forward))
+    omega (arith, pushed, c.down.ensures.lazy forward, c.walk_from.ensures.lazy (goes.forward ∙ forward))
+
+pub walk-returns-clause-failed : goal.walk-returns-clause-failed
+walk-returns-clause-failed g t c = λ e.
+    let keeps : Keeps (g.S.Sources.view c.down.new.s) (g.S.Sources.view c.args.s.now) = g.met.S.Sources.keeps _ _ c.down.ensures.ran.came in
+    risen_before _ _ _ (keeps.faults (number_of c.args.b.now))
+    (subst (λ n. HasRisen ((g.S.Sources.view c.down.new.s).faults n) ((g.S.Sources.view c.walk_from.new.s).faults n)) c.down.ensures.ran.goes.number (c.walk_from.ensures.failed e))
 
 pub walk_from-returns-in_err-walk-clause-ran : goal.walk_from-returns-in_err-walk-clause-ran
 walk_from-returns-in_err-walk-clause-ran g t c = ran_twice g.met.S.Sources.after c.loop-at.invariant.ran c.walk.ensures.ran
@@ -58,13 +61,11 @@ pub walk_from-returns-in_err-at-clause-lazy : goal.walk_from-returns-in_err-at-c
 walk_from-returns-in_err-at-clause-lazy g t c = λ forward.
     let before = c.loop-at.invariant.ran in
     let both = ran_twice g.met.S.Sources.after before c.walk.ensures.ran in
-    let keeps : Keeps (g.S.Sources.view c.loop-at.s) (g.S.Sources.view c.args.s.now) = g.met.S.Sources.keeps _ _ before.came in
-    let keeps_both : Keeps (g.S.Sources.view c.walk.new.s) (g.S.Sources.view c.args.s.now) = g.met.S.Sources.keeps _ _ both.came in
     omega (
       arith,
       c.loop-at.invariant.lazy forward,
-      c.in_ok-walk.ensures.steps (still_forward keeps before.goes forward),
-      c.right.ensures.lazy (still_forward keeps_both both.goes forward),
+      c.in_ok-walk.ensures.steps (before.goes.forward ∙ forward),
+      c.right.ensures.lazy (both.goes.forward ∙ forward),
     )
 
 pub walk_from-returns-in_err-at-clause-failed : goal.walk_from-returns-in_err-at-clause-failed
@@ -80,7 +81,7 @@ walk_from-loop-at-smaller g t c =
     let spot : IsSpot c.loop-at.b c.in-Some.spot = rw c.in-Some.is at c.loop-at.invariant.spot in
     let next = left_le (g.S.Sources.view c.right.new.s) c.right.new.self c.in_ok-at.at _ c.in_ok-at.ensures.smaller in
     let fewer : left (g.S.Sources.view c.right.new.s) c.right.new.self c.in_ok-at.at < left (g.S.Sources.view c.loop-at.s) c.loop-at.b c.loop-at.at =
-    rw c.in-Some.is (omega (arith, next, goes_after c.walk.ensures.ran.goes c.in-Some.spot spot)) in
+    rw c.in-Some.is (omega (arith, next, c.walk.ensures.ran.goes.after c.in-Some.spot spot)) in
     search rules
 
 pub walk_from-loop-at-preserved : goal.walk_from-loop-at-preserved
@@ -93,13 +94,9 @@ walk_from-loop-at-preserved g t c =
     let r = c.in_ok-at.at in
     let so_far = c.loop-at.invariant in
     let both = ran_twice g.met.S.Sources.after so_far.ran c.walk.ensures.ran in
-    let keeps : Keeps (g.S.Sources.view c.loop-at.s) (g.S.Sources.view c.args.s.now) = g.met.S.Sources.keeps _ _ so_far.ran.came in
-    let keeps_both : Keeps (g.S.Sources.view c.walk.new.s) (g.S.Sources.view c.args.s.now) = g.met.S.Sources.keeps _ _ both.came in
-    let keeps_walk : Keeps (g.S.Sources.view c.walk.new.s) (g.S.Sources.view c.loop-at.s) = g.met.S.Sources.keeps _ _ c.walk.ensures.ran.came in
-    let keeps_right : Keeps (g.S.Sources.view c.right.new.s) (g.S.Sources.view c.walk.new.s) = g.met.S.Sources.keeps _ _ c.right.ensures.ran.came in
     let spot : IsSpot c.loop-at.b c.in-Some.spot = rw c.in-Some.is at so_far.spot in
     let next = left_le u c.right.new.self r _ c.in_ok-at.ensures.smaller in
-    let behind = goes_after c.walk.ensures.ran.goes x spot in
+    let behind = c.walk.ensures.ran.goes.after x spot in
     let here : left (g.S.Sources.view c.loop-at.s) c.loop-at.b c.loop-at.at ≡ 1 + below (g.S.Sources.view c.loop-at.s) c.loop-at.b c.in-Some.spot + after (g.S.Sources.view c.loop-at.s) c.loop-at.b c.in-Some.spot =
     ap (left (g.S.Sources.view c.loop-at.s) c.loop-at.b) c.in-Some.is in
     record {
@@ -108,11 +105,11 @@ walk_from-loop-at-preserved g t c =
       less = omega (arith, next, behind, here, so_far.less);
       few = omega (arith, next, behind, here, so_far.few, c.walk.ensures.few);
       labels = λ told.
-          let told_here = still_told keeps so_far.ran.goes told in
-          let told_walk = still_told keeps_both both.goes told in
+          let told_here = so_far.ran.goes.told ∙ told in
+          let told_walk = both.goes.told ∙ told in
           let first = first_labels (trees_at (document_node v (number_of b)) (place_of b x)) in
-          let all = labels_right v w u b c.walk.new.b c.right.new.self x so_far.ran.sources keeps_walk c.walk.ensures.ran.goes c.walk.ensures.ran.sources keeps_right c.right.ensures.ran.goes spot told_here
-          r c.in_ok-at.ensures.next (c.in_ok-at.ensures.exact told_walk) in
+          let all = labels_right v w u b c.walk.new.b c.right.new.self x so_far.ran.sources c.walk.ensures.ran.goes c.right.ensures.ran.goes spot told_here
+          r (c.in_ok-at.ensures.trees told_walk) in
           ap (λ xs. xs ++ labels_from u c.right.new.self r) (c.in_ok-walk.ensures.labels told_here)
           ∙ append_assoc c.loop-at.out.items first (labels_from u c.right.new.self r)
           ∙ ap (λ ls. c.loop-at.out.items ++ ls) (sym all)
@@ -122,7 +119,7 @@ walk_from-loop-at-preserved g t c =
           omega (
             arith,
             so_far.lazy forward,
-            c.in_ok-walk.ensures.steps (still_forward keeps so_far.ran.goes forward),
-            c.right.ensures.lazy (still_forward keeps_both both.goes forward),
+            c.in_ok-walk.ensures.steps (so_far.ran.goes.forward ∙ forward),
+            c.right.ensures.lazy (both.goes.forward ∙ forward),
           );
     }

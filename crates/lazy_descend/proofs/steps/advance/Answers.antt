@@ -1,5 +1,5 @@
 use Rattle.std.proofs.Common.{◌∙◌}
-use Rattle.tree_buffer.proofs.Calls.{ran_twice}
+use Rattle.tree_buffer.proofs.Laws.{ran_twice}
 use Rattle.lxp_core.specs.View.{Keeps}
 use Rattle.lazy_descend.proofs.Progress.{comes_asks, comes_on}
 use Rattle.lazy_descend.proofs.steps.advance.Goals as goal

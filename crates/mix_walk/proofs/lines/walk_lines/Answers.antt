@@ -3,7 +3,7 @@ use Rattle.std.proofs.lemmas.List.{drop_all}
 use Rattle.std.proofs.lemmas.Result.{err_from_is_err_and}
 use Rattle.lxp_core.specs.View.{Keeps}
 use Rattle.tree_buffer.specs.Buffer.{number_of}
-use Rattle.tree_buffer.proofs.Calls.{ran_same, ran_twice}
+use Rattle.tree_buffer.proofs.Laws.{ran_same, ran_twice}
 use Rattle.mix_script.specs.Names.{held}
 use Rattle.mix_walk.proofs.Walked.{so_far_start, so_far_at, same_source, so_far_step, so_far_whole, cut_ends}
 use Rattle.mix_walk.specs.Told.{ends_on, nothing_on}

@@ -1,6 +1,6 @@
 use Rattle.std.proofs.Common.{◌≡◌, ◌+◌, ◌*◌, ◌≤◌, drop}
 use Rattle.path_expr.specs.Form.{positions_of, paths_of}
-use Rattle.path_expr.specs.Sets.{count}
+use Rattle.path_expr.specs.Count.{count}
 use Rattle.path_expr.specs.Size.{size_of, form_size}
 use Rattle.path_expr.proofs.positions.+count.Given as goal
 

@@ -1,11 +1,13 @@
-use Rattle.std.proofs.Common.{◌≡◌, get_or, sym, ap, ◌∙◌, arith}
+use Rattle.std.proofs.Common.{◌≡◌, Some, get_or, refl, sym, ap, ◌∙◌, arith}
 use Rattle.lxp_core.specs.View.{Keeps}
 use Rattle.tree_buffer.specs.declared.spot.Spot.{Spot}
 use Rattle.tree_buffer.specs.Nodes.{IsChild}
-use Rattle.tree_buffer.specs.Buffer.{nodes_of, IsSourcesOf, Goes, IsChildSpot}
+use Rattle.tree_buffer.specs.Buffer.{nodes_of, IsSourcesOf, IsChildSpot}
+use Rattle.tree_buffer.specs.Advance.{Advances}
 use Rattle.tree_buffer.proofs.Spots.{is_some_from, if_some_from, child_place, child_lighter, child_told, first_child, count_read, child_at, child_counted}
-use Rattle.tree_buffer.proofs.Calls.{ran_same, goes_twice}
-use Rattle.tree_buffer.proofs.Exact.{exact_child, exact_none, less_child}
+use Rattle.tree_buffer.proofs.Calls.{advances_twice, ran_from}
+use Rattle.tree_buffer.proofs.Exact.{exact_child, exact_none, less_child, down_trees}
+use Rattle.tree_buffer.proofs.Laws.{ran_same}
 use Rattle.tree_buffer.proofs.buffer.Buffer.down.Goals.{Then-entry-gt0, Else-entry-gt0, In_ok-hand_out}
 use Rattle.tree_buffer.proofs.buffer.Buffer.down.Goals as goal
 
@@ -24,17 +26,26 @@ pub returns-then-entry-gt0-clause-smaller : goal.returns-then-entry-gt0-clause-s
 returns-then-entry-gt0-clause-smaller g c =
     child_lighter (nodes_of c.args.self.now) c.args.self.now.linked _ c.args.p.now.number 0 _ c.requires.sources.sourced.rests (first g c)
 
+pub returns-then-entry-gt0-clause-trees : goal.returns-then-entry-gt0-clause-trees
+returns-then-entry-gt0-clause-trees g c = λ told.
+    down_trees _ c.args.self.now c.args.p.now _ refl (Some (record { number = c.index-entry.result.now.first })) (returns-then-entry-gt0-clause-child g c)
+    (returns-then-entry-gt0-clause-exact g c told)
+
 pub returns-in_err-hand_out-clause-ran : goal.returns-in_err-hand_out-clause-ran
 returns-in_err-hand_out-clause-ran g c =
-    record {
-      came = c.settle_at.ensures.ran.came;
-      sources = c.hand_out.ensures.sources _ c.settle_at.ensures.ran.sources;
-      goes = goes_twice c.settle_at.ensures.ran.goes (c.hand_out.ensures.goes _ c.settle_at.ensures.ran.sources);
-    }
+    let first = c.settle_at.ensures.advanced in
+    ran_from g.met.S.Sources.keeps c.requires.sources (record {
+      came = first.came;
+      sources = c.hand_out.ensures.sources _ first.sources;
+      advances = advances_twice first.advances (c.hand_out.ensures.advances _ first.sources);
+    })
+
+pub returns-in_err-settle_at-clause-ran : goal.returns-in_err-settle_at-clause-ran
+returns-in_err-settle_at-clause-ran g c = ran_from g.met.S.Sources.keeps c.requires.sources c.settle_at.ensures.advanced
 
 module _ (g : _) (c : In_ok-hand_out g) where
   came : Keeps (g.S.Sources.view c.settle_at.new.s) (g.S.Sources.view c.args.s.now)
-  came = g.met.S.Sources.keeps _ _ c.settle_at.ensures.ran.came
+  came = g.met.S.Sources.keeps _ _ c.settle_at.ensures.advanced.came
 
   none_yet : get_or (nodes_of c.settle_at.new.self).counts c.args.p.now.number 0 ≡ 0
   none_yet =
@@ -42,13 +53,13 @@ module _ (g : _) (c : In_ok-hand_out g) where
       ∙ omega (arith, count_read c.args.self.now.entries.items c.args.p.now.number c.index-entry.result.now c.requires.spot c.index-entry.ensures, c.if-entry-gt0.false)
 
   after : IsSourcesOf (g.S.Sources.view c.settle_at.new.s) c.hand_out.new.self
-  after = c.hand_out.ensures.sources _ c.settle_at.ensures.ran.sources
+  after = c.hand_out.ensures.sources _ c.settle_at.ensures.advanced.sources
 
-  both : Goes (g.S.Sources.view c.args.s.now) c.args.self.now (g.S.Sources.view c.settle_at.new.s) c.hand_out.new.self
-  both = goes_twice c.settle_at.ensures.ran.goes (c.hand_out.ensures.goes _ c.settle_at.ensures.ran.sources)
+  both : Advances (g.S.Sources.view c.args.s.now) c.args.self.now (g.S.Sources.view c.settle_at.new.s) c.hand_out.new.self
+  both = advances_twice c.settle_at.ensures.advanced.advances (c.hand_out.ensures.advances _ c.settle_at.ensures.advanced.sources)
 
 pub returns-clause-ran : goal.returns-clause-ran
-returns-clause-ran g c = record { came = c.settle_at.ensures.ran.came; sources = after g c; goes = both g c }
+returns-clause-ran g c = ran_from g.met.S.Sources.keeps c.requires.sources (record { came = c.settle_at.ensures.advanced.came; sources = after g c; advances = both g c })
 
 pub returns-clause-child : goal.returns-clause-child
 returns-clause-child g c =
@@ -58,8 +69,13 @@ returns-clause-child g c =
 pub returns-clause-exact : goal.returns-clause-exact
 returns-clause-exact g c = λ told.
     is_some_from _ _ _ _ c.in_ok-hand_out.ensures.child
-    (λ empty. exact_none (came g c) c.requires.sources c.settle_at.ensures.ran.sources c.settle_at.ensures.ran.goes c.args.p.now.number 0 c.requires.spot (none_yet g c) empty told)
+    (λ empty. exact_none (came g c) c.requires.sources c.settle_at.ensures.advanced.sources c.settle_at.ensures.advanced.advances c.args.p.now.number 0 c.requires.spot (none_yet g c) empty told)
     (λ x h. exact_child (came g c) c.requires.sources (after g c) (both g c) c.args.p.now.number 0 c.requires.spot x.number (rw (none_yet g c) at h) told)
+
+pub returns-clause-trees : goal.returns-clause-trees
+returns-clause-trees g c = λ told.
+    down_trees _ c.hand_out.new.self c.args.p.now _ ((both g c).moved.places c.args.p.now.number c.requires.spot) c.in_ok-hand_out.field-0 (returns-clause-child g c)
+    (returns-clause-exact g c told)
 
 pub returns-clause-smaller : goal.returns-clause-smaller
 returns-clause-smaller g c =

@@ -12,6 +12,7 @@ use Rattle.tree_buffer.proofs.Columns.{column}
 use Rattle.tree_buffer.proofs.Entries.{length-links, nodes-handed}
 use Rattle.tree_buffer.proofs.Handed.{handed, linked_handed, child_new}
 use Rattle.tree_buffer.proofs.HandedLists.{moved_handed, sourced_handed, labels_front}
+use Rattle.tree_buffer.proofs.Calls.{sources_from}
 use Rattle.tree_buffer.proofs.Refine.{moved_same}
 use Rattle.tree_buffer.proofs.buffer.Buffer.hand_out.Goals.{After-index_mut-last}
 use Rattle.tree_buffer.proofs.buffer.Buffer.hand_out.Goals as goal
@@ -19,8 +20,11 @@ use Rattle.tree_buffer.proofs.buffer.Buffer.hand_out.Goals as goal
 within : (es : _) (q : _) → q < length (nodes es).links → q < length es
 within es q h = omega (arith, h, length-links es)
 
-pub returns-in_err-reserve-clause-goes : goal.returns-in_err-reserve-clause-goes
-returns-in_err-reserve-clause-goes c = λ v s. record { number = refl; moved = rw c.reserve.ensures.items (moved_same (weight_of (v.weight c.args.self.now.number)) (nodes c.args.self.now.entries.items)) }
+pub returns-in_err-reserve-clause-sources : goal.returns-in_err-reserve-clause-sources
+returns-in_err-reserve-clause-sources c = λ v s. sources_from v _ (rw c.reserve.ensures.items s.sourced)
+
+pub returns-in_err-reserve-clause-advances : goal.returns-in_err-reserve-clause-advances
+returns-in_err-reserve-clause-advances c = λ v s. record { number = refl; moved = rw c.reserve.ensures.items (moved_same (weight_of (v.weight c.args.self.now.number)) (nodes c.args.self.now.entries.items)) }
 
 module _ (c : After-index_mut-last) where
   in_es : c.args.q < length c.reserve.new.self.items
@@ -115,11 +119,11 @@ invariant_of-self-2 c =
 pub returns-clause-sources : goal.returns-clause-sources
 returns-clause-sources c = λ v s.
     let d = (goal.at.returns-clause-sources c).After-index_mut-last in
-    record { sourced = subst (Sourced v c.args.self.now.number) (sym (made d)) (sourced_after d v s.sourced) }
+    sources_from _ _ (subst (Sourced v c.args.self.now.number) (sym (made d)) (sourced_after d v s.sourced))
 
-pub returns-clause-goes : goal.returns-clause-goes
-returns-clause-goes c = λ v s.
-    let d = (goal.at.returns-clause-goes c).After-index_mut-last in
+pub returns-clause-advances : goal.returns-clause-advances
+returns-clause-advances c = λ v s.
+    let d = (goal.at.returns-clause-advances c).After-index_mut-last in
     record { number = refl; moved = subst (Moved (weight_of (v.weight c.args.self.now.number)) (nodes c.args.self.now.entries.items) (weight_of (v.weight c.args.self.now.number))) (sym (made d)) (moved_after d v s.sourced) }
 
 pub returns-clause-child : goal.returns-clause-child

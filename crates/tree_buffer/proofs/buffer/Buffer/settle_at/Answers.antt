@@ -7,6 +7,7 @@ use Rattle.tree_buffer.specs.Sourced.{Sourced, Moved}
 use Rattle.tree_buffer.specs.Entries.{nodes, list_of}
 use Rattle.tree_buffer.proofs.Columns.{column}
 use Rattle.tree_buffer.proofs.Entries.{nodes-set, rest-set, length-links}
+use Rattle.tree_buffer.proofs.Calls.{sources_from}
 use Rattle.tree_buffer.proofs.Refine.{moved_again, sourced_again, one_refined}
 use Rattle.tree_buffer.proofs.buffer.Buffer.settle_at.Goals as goal
 
@@ -35,8 +36,8 @@ invariant_of-self g c =
           c.args.self.now.bare;
     }
 
-pub returns-clause-ran : goal.returns-clause-ran
-returns-clause-ran g c =
+pub returns-clause-advanced : goal.returns-clause-advanced
+returns-clause-advanced g c =
     let v = g.S.Sources.view c.args.s.now in
     let v' = g.S.Sources.view c.settle.new.s in
     let n = c.args.self.now.number in
@@ -50,12 +51,10 @@ returns-clause-ran g c =
     let some : 0 < length (nodes es).links = omega (arith, c.requires.spot) in
     record {
       came = c.settle.ensures.came;
-      sources = record {
-        sourced = subst (λ (m : Nodes). Sourced v' n m)
-            (sym (nodes-set es q old _ inside c.index_mut-entry.ensures.value refl refl refl refl refl refl))
-            (sourced_again v v' n (nodes es) _ s c.settle.ensures.keeps (length-set _ _ _) (one_refined v v' n (nodes es) q _ s c.settle.ensures.keeps refined) some);
-      };
-      goes = record {
+      sources = sources_from _ _ (subst (λ (m : Nodes). Sourced v' n m)
+          (sym (nodes-set es q old _ inside c.index_mut-entry.ensures.value refl refl refl refl refl refl))
+          (sourced_again v v' n (nodes es) _ s c.settle.ensures.keeps (length-set _ _ _) (one_refined v v' n (nodes es) q _ s c.settle.ensures.keeps refined) some));
+      advances = record {
         number = refl;
         moved = subst (λ (m : Nodes). Moved (weight_of (v.weight n)) (nodes es) (weight_of (v'.weight n)) m)
             (sym (nodes-set es q old _ inside c.index_mut-entry.ensures.value refl refl refl refl refl refl))

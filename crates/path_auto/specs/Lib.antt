@@ -1,0 +1,5 @@
+pub mod Automaton
+pub mod Law
+pub mod Positions
+pub mod Sets
+pub mod Visit

@@ -1,0 +1,129 @@
+// The automaton of a path, over sets of its positions.
+ghost use Rattle.std.specs.Prelude.{◌≡◌, ◌<◌, ◌≤◌, ◌==◌, ◌&&◌, cond, length, IfOk};
+ghost use Rattle.std.specs.Int.{bit_at};
+ghost use Rattle.path_expr.specs.Form.{positions_in};
+ghost use Rattle.path_auto.specs.Positions.{passes};
+ghost use Rattle.path_auto.specs.Sets.{step_from};
+ghost use Rattle.path_auto.specs.Automaton.{machine_of, table_of, IsAutomatonOf};
+
+use crate::sets::{entry_path, has, live_set, push_behind, push_labels, single};
+use mix_tree::{Label, same_label};
+use path_expr::{Path, count_positions};
+use std::alloc::{AllocError, Global};
+use std::marker::Model;
+
+/// The automaton of a path. Its states are a set of the path's positions as the bits of a number; the bit behind them
+/// is that of the path's end. No step takes memory.
+#[derive(Drop)]
+pub struct Auto {
+    /// The label of each position; none where any may stand.
+    labels: Vec<Option<Label>>,
+    /// The set of those behind each position.
+    behind: Vec<u128>,
+    /// The positions from behind which some list of labels leads to the end.
+    live: u128,
+    /// The positions at which the first label may stand.
+    first: u128,
+}
+
+impl Model for Auto {
+    ghost use Rattle.std.specs.Prelude.{◌≡◌, ◌≤◌, length};
+    ghost use Rattle.path_auto.specs.Automaton.{Table};
+
+    ghost Value = { Table };
+
+    ghost view = { λ a. record { labels = a.labels.items; behind = a.behind.items; live = a.live; first = a.first } };
+
+    ghost invariant = { λ a. (length a.labels.items ≤ 120) × (length a.behind.items ≡ length a.labels.items) };
+}
+
+impl Auto {
+    /// The automaton of a path.
+    #[tactic(auto, using(crate::proofs::Automata::labels_length, crate::proofs::Automata::few_positions))]
+    pub fn new(alloc: Global, p: &Path) -> Result<Auto, AllocError>
+        requires { positions_in p.now ≤ 120 }
+        ensures automaton { IfOk result (λ a. IsAutomatonOf (machine_of a) p.now) }
+        ensures table { IfOk result (λ a. a ≡ table_of p.now) }
+    {
+        let end = single(count_positions(p));
+        let mut labels = Vec::new(alloc);
+        push_labels(alloc, p, &mut labels)?;
+        let mut behind = Vec::new(alloc);
+        push_behind(p, 0, end, &mut behind)?;
+        let live = live_set(alloc, p)?;
+        let first = entry_path(p, 0, end);
+        Ok(Auto {
+            labels,
+            behind,
+            live,
+            first,
+        })
+    }
+
+    /// The states before any label.
+    #[tactic(auto, unfolding(crate::specs::Automaton::machine_of))]
+    pub fn start(&self) -> u128
+        ensures { result ≡ (machine_of self.now).start }
+    {
+        self.first
+    }
+
+    /// The states behind one more label.
+    #[tactic(auto, unfolding(crate::specs::Automaton::machine_of))]
+    pub fn step(&self, states: u128, l: &Label) -> u128
+        ensures { result ≡ (machine_of self.now).step states l.now }
+    {
+        step_table(&self.labels, &self.behind, states, l)
+    }
+
+    /// Whether the path describes the labels so far.
+    #[tactic(auto, unfolding(crate::specs::Automaton::machine_of))]
+    pub fn accepts(&self, states: u128) -> bool
+        ensures { result ≡ (machine_of self.now).accepts states }
+    {
+        has(states, self.labels.len())
+    }
+
+    /// Whether the path describes some longer list of labels that begins with those so far.
+    #[tactic(auto, unfolding(crate::specs::Automaton::machine_of))]
+    pub fn alive(&self, states: u128) -> bool
+        ensures { result ≡ (machine_of self.now).goes_on states }
+    {
+        states & self.live != 0
+    }
+}
+
+// Whether a label may stand at a position.
+fn passes_label(test: &Option<Label>, label: &Label) -> bool
+    ensures { result ≡ passes test.now label.now }
+{
+    match test {
+        None => true,
+        Some(wanted) => same_label(wanted, label),
+    }
+}
+
+// The set that a position gives to a step.
+fn row_of(states: u128, at: usize, test: &Option<Label>, behind: u128, label: &Label) -> u128
+    requires { at < 128 }
+    ensures { result ≡ cond (bit_at states at == 1 && passes test.now label.now) behind 0 }
+{
+    if has(states, at) && passes_label(test, label) {
+        behind
+    } else {
+        0
+    }
+}
+
+// The set behind a label.
+fn step_table(labels: &[Option<Label>], behind: &[u128], states: u128, label: &Label) -> u128
+    requires few { length labels.now ≤ 120 }
+    requires same { length behind.now ≡ length labels.now }
+    ensures { result ≡ step_from labels.now behind.now 0 states label.now }
+{
+    let mut found = 0;
+    for at in 0..labels.len() {
+        found |= row_of(states, at, &labels[at], behind[at], label);
+    }
+    found
+}
