@@ -1,4 +1,4 @@
-// Runs of `read` and `plan`, with values worked out by hand. VIEW is the file `doc`, and CATALOG the file `s`.
+// Runs of `read`, with values worked out by hand. VIEW is the file `doc`, and CATALOG the file `s`.
 use crate::run::run;
 use std::test::Fail;
 
@@ -110,51 +110,5 @@ fn the_catalog_is_read_before_the_view(rt: HostRuntime) -> Result<(), Fail> {
         assert_eq!(rt; ended.status, status);
         assert_eq!(rt; ended.written.as_slice(), line.as_bytes());
     }
-    Ok(())
-}
-
-#[test]
-fn a_view_has_a_plan(rt: HostRuntime) -> Result<(), Fail> {
-    let alloc = rt.alloc();
-    let view =
-        "CONSTRUCT <answer> <med_home> $H $S {$S} </med_home> {$H} </answer> {} WHERE homes homes.home $H AND $H zip._ $V1 AND schools schools.school $S AND $S zip._ $V2 AND $V1 = $V2";
-    let catalog =
-        "source homes bracket homes.txt chunk 1\nsource schools bracket schools.txt chunk 1\n";
-    let plan = "0 source homes -> $4
-1 getDescendants 0 $4 homes.home -> $H
-2 getDescendants 1 $H zip._ -> $V1
-3 source schools -> $5
-4 getDescendants 3 $5 schools.school -> $S
-5 getDescendants 4 $S zip._ -> $V2
-6 join 2 5
-7 select 6 $V1 = $V2
-8 project 7 {$H,$S}
-9 groupBy 8 {$H} $S -> $6
-10 concatenate 9 $H $6 -> $7
-11 createElement 10 med_home $7 -> $8
-12 groupBy 11 {} $8 -> $9
-13 concatenate 12 $9 -> $10
-14 createElement 13 answer $10 -> $11
-15 tupleDestroy 14 $11
-";
-    let words = ["plan", "doc", "s"];
-    let ended = run(
-        alloc,
-        &words,
-        view.as_bytes().to_vec(alloc)?,
-        catalog,
-        (&[], &[]),
-    )?;
-    assert_eq!(rt; ended.status, 0);
-    assert_eq!(rt; ended.written.as_slice(), plan.as_bytes());
-    let ended = run(
-        alloc,
-        &words,
-        view.as_bytes().to_vec(alloc)?,
-        catalog,
-        (&[], &[2]),
-    )?;
-    assert_eq!(rt; ended.status, 5);
-    assert_eq!(rt; ended.written.as_slice(), &plan.as_bytes()[..40]);
     Ok(())
 }

@@ -1,5 +1,5 @@
 // Files that a command reads whole and accepts, one after another.
-ghost use Rattle.std.specs.Prelude.{◌≡◌, List, ℕ, OnOk, IfOk, IfErr};
+ghost use Rattle.std.specs.Prelude.{◌≡◌, List, ℕ, length, OnOk, IfOk, IfErr};
 ghost use Rattle.mix_io.specs.Views.{FilesView, KeepsFiles};
 ghost use Rattle.xmas_rule.specs.RuleMade.{rule_of};
 ghost use Rattle.xmas_rule.specs.Rules.{IsAccepted};
@@ -114,7 +114,7 @@ pub fn load_rule<F: Files>(
     ensures keeps { KeepsFiles (F.view files.new) (F.view files.old) }
     ensures steady { OnOk result ((p : List ℕ) → (F.view files.new).faults p ≡ (F.view files.old).faults p) }
     ensures ok { IfOk result (λ rule. IsRuleFile (F.view files.old) path.now (names_of_sources catalog.now) (rule_of rule)) }
-    ensures accepted { IfOk result (λ rule. IsAccepted (rule_of rule)) }
+    ensures accepted { IfOk result (λ rule. IsAccepted (length (names_of_sources catalog.now)) (rule_of rule)) }
     ensures err { IfErr result (IsLoadStop (IsNoRule (names_of_sources catalog.now)) (F.view files.old) (F.view files.new) path.now) }
 {
     let bytes = load(alloc, files, path)?;

@@ -62,7 +62,7 @@ fn source_names(alloc: Global, catalog: &Catalog) -> Result<Vec<Label>, AllocErr
 
 // The text of the plan of a rule, an operator a line.
 fn plan_text_of(alloc: Global, rule: &Rule, catalog: &Catalog) -> Result<Vec<u8>, AllocError>
-    requires { IsAccepted (rule_of rule.now) }
+    requires { IsAccepted (length (names_of_sources catalog.now)) (rule_of rule.now) }
     ensures { IfOk result (λ text. text.items ≡ plan_lines (names_of_sources catalog.now) (rule_of rule.now)) }
 {
     let sources = source_names(alloc, catalog)?;

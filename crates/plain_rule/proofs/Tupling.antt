@@ -188,16 +188,16 @@ is_world trees = record {
 }
 
 -- the tuples that pass all comparisons, in the rule's order, are the bindings of its body
-pub body_bindings : (trees : List LabelledTree) (r : RuleValue) → IsAccepted r → (all kept bs : List Binding)
+pub body_bindings : (trees : List LabelledTree) (sources : ℕ) (r : RuleValue) → IsAccepted sources r → (all kept bs : List Binding)
     → ((w : World) → IsWorldOf trees w → all ≡ tuples w ([] ∷ []) (flat (reaches (binders r.conds))))
     → kept ≡ passing (documents_of trees) (comparisons r.conds) all → bs ≡ in_order_of (documents_of trees) r.order kept
     → AreBindings (documents_of trees) r.conds r.order bs
 unfolding world_of
-body_bindings trees r a all kept bs t k o =
+body_bindings trees sources r a all kept bs t k o =
     let w : World = world_of trees in
     let docs : Documents = documents_of trees in
     let apart = components-apart (binders r.conds) [] [] no_vars a.bound nothing_apart in
     let comps : components r.conds ≡ reaches (binders r.conds) = components_reach (binders r.conds) [] [] no_vars a.bound nothing_apart in
     let whole : bs ≡ in_order_of docs r.order (passing docs (comparisons r.conds) (tuples w ([] ∷ []) (flat (components r.conds)))) =
     o ∙ ap (in_order_of docs r.order) (k ∙ ap (passing docs (comparisons r.conds)) (t w (is_world trees) ∙ ap (λ z. tuples w ([] ∷ []) (flat z)) (sym comps))) in
-    subst (AreBindings docs r.conds r.order) (sym whole) (bindings_ok w r (is_world trees).are a apart)
+    subst (AreBindings docs r.conds r.order) (sym whole) (bindings_ok w sources r (is_world trees).are a apart)

@@ -1,5 +1,5 @@
 // The bindings of a rule's body, and its finished document.
-ghost use Rattle.std.specs.Prelude.{IfOk};
+ghost use Rattle.std.specs.Prelude.{ℕ, IfOk};
 ghost use Rattle.xmas_rule.specs.Bindings.{AreBindings};
 ghost use Rattle.xmas_rule.specs.Meaning.{IsFinished};
 ghost use Rattle.xmas_rule.specs.RuleMade.{rule_of};
@@ -18,7 +18,7 @@ use xmas_rule::Rule;
 /// The bindings of the body of an accepted rule, in its order. Source number n of the rule is tree n of `docs`; a source without a
 /// tree has an empty document.
 pub fn bindings(alloc: Global, rule: &Rule, docs: &[Tree]) -> Result<Vec<Binding>, AllocError>
-    requires { IsAccepted (rule_of rule.now) }
+    requires { (sources : ℕ) × IsAccepted sources (rule_of rule.now) }
     ensures { IfOk result (λ found. AreBindings (documents_of docs.now) (rule_of rule.now).conds (rule_of rule.now).order found.items) }
 {
     let all = body_tuples(alloc, docs, &rule.conds)?;
@@ -29,7 +29,7 @@ pub fn bindings(alloc: Global, rule: &Rule, docs: &[Tree]) -> Result<Vec<Binding
 /// The finished document of an accepted rule over source documents. Source number n of the rule is tree n of `docs`; a source
 /// without a tree has an empty document.
 pub fn finished_document(alloc: Global, rule: &Rule, docs: &[Tree]) -> Result<Tree, AllocError>
-    requires { IsAccepted (rule_of rule.now) }
+    requires { (sources : ℕ) × IsAccepted sources (rule_of rule.now) }
     ensures { IfOk result (λ made. IsFinished (documents_of docs.now) (rule_of rule.now) made) }
 {
     let found = bindings(alloc, rule, docs)?;

@@ -5,7 +5,6 @@ use Rattle.mix_base.proofs.Lists.{append_nil}
 use Rattle.xmas_rule.specs.declared.template.Item.TheVariants as item
 use Rattle.mix_tree.specs.Keys.{collects, in_force}
 use Rattle.mix_tree.specs.declared.var.Key.{Key}
-use Rattle.xmas_rule.specs.Items.{Element}
 use Rattle.xmas_rule.specs.Made.{items_of}
 use Rattle.xmas_rule.specs.declared.template.Item.{Item}
 use Rattle.plan_core.specs.Plans.{Operator, over, chained}

@@ -1,20 +1,17 @@
 -- Operators added to a plan under construction, some after others.
-use Rattle.std.proofs.Common.{◌≡◌, ℕ, zero, suc, ◌+◌, ◌-◌, ◌<◌, ◌≤◌, Bool, true, false, cond, List, [], ◌∷◌, ◌++◌, map, length, drop, get_or, vec_len, refl, ◌∙◌, sym, ap, arith, subst, append_assoc, length-append}
+use Rattle.std.proofs.Common.{◌≡◌, ℕ, zero, suc, ◌+◌, ◌-◌, ◌<◌, ◌≤◌, true, false, cond, List, [], ◌∷◌, ◌++◌, length, drop, get_or, vec_len, refl, ◌∙◌, sym, ap, arith, subst, append_assoc, length-append}
 use Rattle.std.proofs.lemmas.List.{drop_more, drop_all}
 use Rattle.mix_base.proofs.Lists.{append_nil}
-use Rattle.mix_tree.specs.declared.comparing.Test.{Test}
 use Rattle.path_expr.specs.Form.{Form}
-use Rattle.xmas_rule.specs.Conditions.{Binder, from_source, from_var, binder_vars, has, binders, comparisons}
+use Rattle.xmas_rule.specs.Conditions.{Binder, from_source, from_var, binder_vars, has, binders}
 use Rattle.xmas_rule.specs.declared.condition.Cond.{Cond}
 use Rattle.xmas_rule.specs.declared.condition.Cond.TheVariants.{FromSource, FromVar, Compare}
-use Rattle.plan_core.specs.Unary.{Unary, select}
-use Rattle.plan_core.specs.Plans.{Operator, source, get_descendants, join, over, chained}
-use Rattle.plan_make.specs.Making.{ops_of, Grows, Levels}
-use Rattle.plan_make.specs.Operators.{descend_op, descend_ops, source_of, more_ops, body_ops, selects}
+use Rattle.plan_core.specs.Plans.{Operator, source, get_descendants, join}
+use Rattle.plan_make.specs.Making.{ops_of, Grows}
+use Rattle.plan_make.specs.Operators.{descend_op, descend_ops, source_of, more_ops}
 use Rattle.plan_make.specs.Reached.{reached, reaches, begun, next_ops, first_ops, rest_ops}
 use Rattle.plan_make.specs.declared.maker.Maker.{Maker}
 use Rattle.plan_make.proofs.BodyNumbers.{descend_ops-length}
-use Rattle.plan_make.proofs.Building.{chained-append}
 
 -- what was added so far, with what is still to be added, is the whole
 pub record Growing (m0 m : Maker) (rest all : List Operator) : Type 0 where

@@ -1,8 +1,8 @@
 -- The components of a body are those that a walk behind each source condition finds.
-use Rattle.std.proofs.Common.{◌≡◌, ℕ, zero, suc, ◌+◌, ◌<◌, Bool, true, false, cond, List, [], ◌∷◌, ◌++◌, map, length, refl, ◌∙◌, sym, ap, append_assoc}
+use Rattle.std.proofs.Common.{◌≡◌, ℕ, true, false, cond, List, [], ◌∷◌, ◌++◌, map, refl, ◌∙◌, sym, ap, append_assoc}
 use Rattle.mix_base.proofs.Lists.{append_nil}
 use Rattle.path_expr.specs.Form.{Form}
-use Rattle.xmas_rule.specs.Conditions.{Binder, from_source, from_var, binder_var, binder_vars, has, flat, add_to, with_binder, components_from, AreBound}
+use Rattle.xmas_rule.specs.Conditions.{Binder, from_source, from_var, binder_vars, has, flat, add_to, with_binder, components_from, AreBound}
 use Rattle.plan_make.specs.Reached.{reached, reaches}
 use Rattle.plan_make.proofs.Members.{map-append, snoc-append}
 use Rattle.plan_make.proofs.Tuples.{binder_vars-append}

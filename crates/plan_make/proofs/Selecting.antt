@@ -6,11 +6,11 @@ use Rattle.xmas_rule.specs.declared.condition.Cond.{Cond}
 use Rattle.xmas_rule.specs.declared.condition.Cond.TheVariants.{FromSource, FromVar, Compare}
 use Rattle.plan_core.specs.Unary.{Unary}
 use Rattle.plan_core.specs.Plans.{Operator, chained}
-use Rattle.plan_make.specs.Making.{ops_of, Grows, Levels}
+use Rattle.plan_make.specs.Making.{Levels}
 use Rattle.plan_make.specs.Operators.{selects}
 use Rattle.plan_make.specs.declared.maker.Maker.{Maker}
 use Rattle.plan_make.proofs.Building.{chained-append}
-use Rattle.plan_make.proofs.Growing.{Growing, growing_start, growing_step, growing_end}
+use Rattle.plan_make.proofs.Growing.{Growing, growing_step, growing_end}
 
 -- as many operators as are chained
 chained-length : (i : ℕ) (us : List Unary) → length (chained i us) ≡ length us

@@ -1,19 +1,17 @@
 -- The document of the plan of a rule is the rule's finished document.
-use Rattle.std.proofs.Common.{◌≡◌, ◌↔◌, ℕ, suc, ◌+◌, ◌<◌, Bool, true, false, List, [], ◌∷◌, ◌++◌, map, length, Option, None, Some, refl, ◌∙◌, sym, ap, arith, length-append}
-use Rattle.std.specs.Prelude.{◌==◌, ◌||◌}
+use Rattle.std.proofs.Common.{◌≡◌, ℕ, suc, ◌+◌, ◌<◌, true, List, [], ◌∷◌, ◌++◌, map, length, Option, None, Some, refl, ◌∙◌, sym, ap, arith, length-append}
+use Rattle.std.specs.Prelude.{◌==◌}
 use Rattle.std.specs.List.{AllByRecursion, last_or}
 use Rattle.std.proofs.lemmas.Bool.{eq-eqb}
-use Rattle.mix_base.specs.Ascents.{Among, Ascending}
-use Rattle.mix_tree.specs.Forest.{LabelledTree}
-use Rattle.xmas_rule.specs.Conditions.{Binder, binder_var, binder_vars, has, flat, binders, comparisons, components, components_from, in_order}
+use Rattle.xmas_rule.specs.Conditions.{Binder, binder_var, binder_vars, has, flat, binders, comparisons, components}
 use Rattle.xmas_rule.specs.Rules.{RuleValue, IsAccepted, variables}
 use Rattle.mix_tree.specs.Comparisons.{passes}
-use Rattle.xmas_rule.specs.Bindings.{Binding, node_of, TupleBefore, Binds, Satisfies, AreBindings}
+use Rattle.xmas_rule.specs.Bindings.{Binding, node_of, Binds, AreBindings}
 use Rattle.xmas_rule.specs.Meaning.{finished, IsFinished}
 use Rattle.xmas_rule.proofs.Unique.{one_finished}
-use Rattle.plan_core.specs.Rows.{Value, node, made, Row, value}
+use Rattle.plan_core.specs.Rows.{node, Row, value}
 use Rattle.plan_core.specs.Unary.{Unary, run}
-use Rattle.plan_core.specs.Plans.{World, AreMatches, Operator, over, tuple_destroy, rows_of, source_rows, element_in, element_of, destroyed, document, chained}
+use Rattle.plan_core.specs.Plans.{World, AreMatches, Operator, tuple_destroy, rows_of, source_rows, element_in, element_of, destroyed, document, chained}
 use Rattle.plan_core.proofs.RowLaws.{run-append, rows-stable, chained-means}
 use Rattle.plan_make.specs.Translation.{template_ops, template_var}
 use Rattle.plan_make.specs.Operators.{source_of, body_ops, body_last, selects, orders, unaries, operators_of}
@@ -21,15 +19,15 @@ use Rattle.plan_make.specs.Law.{HasFinishedDocument}
 use Rattle.plan_make.proofs.Members.{each-append}
 use Rattle.plan_make.proofs.Groupings.{RowsOf}
 use Rattle.plan_make.proofs.OuterLevel.{template_ok}
-use Rattle.plan_make.proofs.Tuples.{vars_of, tuples, tuples-ascend, AreScoped, Exact, Sat, tuples-exact, exact_none}
-use Rattle.plan_make.proofs.TupleRows.{IsBody, or_comm}
+use Rattle.plan_make.proofs.Tuples.{vars_of, tuples, tuples-ascend, AreScoped, Exact, tuples-exact, exact_none}
+use Rattle.plan_make.proofs.TupleRows.{or_comm}
 use Rattle.plan_make.proofs.BodyNumbers.{body-means, component_rows}
 use Rattle.plan_make.proofs.ComponentRows.{AreApart, component_body, components_body}
 use Rattle.plan_make.proofs.Components.{Same, components-apart, components_each, each_components, apart-scoped}
 use Rattle.plan_make.proofs.Sorts.{passing, among-passing, among_passing, passing-ascends, selects-run, in_order_of, among-order, order-ascends, orders-run}
 
 -- conditions of which all variables are below a number
-all_below : (top : ℕ) (cs : List Binder) → ((v : ℕ) → has (binder_vars cs) v ≡ true → v < top) → AllByRecursion (λ c. binder_var c < top) cs
+pub all_below : (top : ℕ) (cs : List Binder) → ((v : ℕ) → has (binder_vars cs) v ≡ true → v < top) → AllByRecursion (λ c. binder_var c < top) cs
 all_below top [] h = tt
 all_below top (c ∷ cs) h =
     (h (binder_var c) (rw (eq-eqb (binder_var c) (binder_var c) refl) refl), all_below top cs (λ v e. h v (rw e (or_comm (binder_var c == v) true))))
@@ -58,7 +56,7 @@ last-snoc o [] x = refl
 last-snoc o (y ∷ xs) x = last-snoc (Some y) xs x
 
 -- as many operators as are chained
-chained-length : (i : ℕ) (us : List Unary) → length (chained i us) ≡ length us
+pub chained-length : (i : ℕ) (us : List Unary) → length (chained i us) ≡ length us
 chained-length i [] = refl
 chained-length i (u ∷ us) = let h = chained-length (suc i) us in omega (arith, h)
 
@@ -73,10 +71,10 @@ unfolding AreApart
 nothing_apart = tt
 
 -- the tuples of the body, filtered and sorted, are its bindings
-pub bindings_ok : (world : World) (r : RuleValue) → AreMatches world → IsAccepted r → AreApart (components r.conds) →
+pub bindings_ok : (world : World) (sources : ℕ) (r : RuleValue) → AreMatches world → IsAccepted sources r → AreApart (components r.conds) →
     AreBindings world.docs r.conds r.order (in_order_of world.docs r.order (passing world.docs (comparisons r.conds) (tuples world ([] ∷ []) (flat (components r.conds)))))
 unfolding Exact vars_of
-bindings_ok world r d a apart =
+bindings_ok world sources r d a apart =
     let ds : List Binder = flat (components r.conds) in
     let all : List Binding = tuples world ([] ∷ []) ds in
     let ts = comparisons r.conds in
@@ -97,10 +95,10 @@ bindings_ok world r d a apart =
     }
 
 -- the plan's document is the outer element over the body's bindings
-pub plan_ok : (world : World) (r : RuleValue) → AreMatches world → IsAccepted r →
+pub plan_ok : (world : World) (sources : ℕ) (r : RuleValue) → AreMatches world → IsAccepted sources r →
     (bs : List Binding) × AreBindings world.docs r.conds r.order bs × (document world (operators_of r) ≡ Some (finished world.docs r bs))
 unfolding RowsOf
-plan_ok world r d a =
+plan_ok world sources r d a =
     let docs = world.docs in
     let top : ℕ = variables r in
     let comps : List (List Binder) = components r.conds in
@@ -130,7 +128,7 @@ plan_ok world r d a =
     ∙ chained-means world us body at l
     ∙ ap (run docs us) i.means ∙ top_run ∙ t.1 in (
       bs,
-      bindings_ok world r d a apart,
+      bindings_ok world sources r d a apart,
       ap (destroyed (rows_of world (operators_of r))) (last-snoc None front end)
           ∙ ap (element_of (template_var r.items n)) inside
           ∙ ap element_in t.2,
@@ -138,8 +136,8 @@ plan_ok world r d a =
 
 -- the plan's document and the rule's finished document are one
 pub plan_finished : HasFinishedDocument
-plan_finished r a world t d =
-    let p = plan_ok world r d a in
+plan_finished sources r a world t d =
+    let p = plan_ok world sources r d a in
     let made_of : IsFinished world.docs r (finished world.docs r p.0) = (p.0, p.1, refl) in (
       (λ f. p.2 ∙ ap Some (one_finished world.docs r (finished world.docs r p.0) t made_of f)),
       (λ e. (p.0, p.1, (let s : Some t ≡ Some (finished world.docs r p.0) = sym e ∙ p.2 in cc))),

@@ -1,5 +1,5 @@
 -- What the translation promises.
-use Rattle.std.specs.Prelude.{◌≡◌, ◌↔◌, List, Some}
+use Rattle.std.specs.Prelude.{◌≡◌, ◌↔◌, ℕ, List, Some}
 use Rattle.mix_tree.specs.Forest.{LabelledTree}
 use Rattle.xmas_rule.specs.Rules.{RuleValue, IsAccepted}
 use Rattle.xmas_rule.specs.Meaning.{IsFinished}
@@ -10,6 +10,6 @@ use Rattle.plan_make.specs.Operators.{operators_of}
 abbrev pub MeansRule : List Operator → RuleValue → Type 0
 MeansRule ops r = (world : World) (t : LabelledTree) → AreMatches world → IsFinished world.docs r t ↔ (document world ops ≡ Some t)
 
--- the plan of each accepted rule means the rule
+-- the plan of each accepted rule means the rule, however many sources it is accepted over
 abbrev pub HasFinishedDocument : Type 0
-HasFinishedDocument = (r : RuleValue) → IsAccepted r → MeansRule (operators_of r) r
+HasFinishedDocument = (sources : ℕ) (r : RuleValue) → IsAccepted sources r → MeansRule (operators_of r) r

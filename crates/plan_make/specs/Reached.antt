@@ -1,6 +1,6 @@
 -- The components of a body, found by one walk behind each source condition.
 use Rattle.std.specs.Prelude.{ℕ, zero, suc, ◌+◌, cond, List, [], ◌∷◌, ◌++◌, length}
-use Rattle.xmas_rule.specs.Conditions.{Binder, from_source, from_var, has, binders}
+use Rattle.xmas_rule.specs.Conditions.{Binder, from_source, from_var, has}
 use Rattle.xmas_rule.specs.declared.condition.Cond.{Cond}
 use Rattle.xmas_rule.specs.declared.condition.Cond.TheVariants.{FromSource, FromVar, Compare}
 use Rattle.plan_core.specs.Plans.{Operator, source, join}

@@ -1,8 +1,9 @@
 // Making the plan of a rule.
-ghost use Rattle.std.specs.Prelude.{◌≡◌, ◌<◌, IfOk, map, vec_len};
+ghost use Rattle.std.specs.Prelude.{◌≡◌, ◌<◌, ℕ, IfOk, length, map, vec_len};
 ghost use Rattle.xmas_rule.specs.Rules.{IsAccepted};
 ghost use Rattle.xmas_rule.specs.RuleMade.{rule_of};
 ghost use Rattle.plan_core.specs.PlanMade.{op_of, plan_value};
+ghost use Rattle.plan_core.specs.Valid.{IsValid};
 ghost use Rattle.plan_make.specs.Law.{MeansRule};
 ghost use Rattle.plan_make.specs.Making.{IsAbove};
 ghost use Rattle.plan_make.specs.Operators.{operators_of, plan_of};
@@ -37,9 +38,9 @@ fn add_above(alloc: Global, maker: &mut Maker, rule: &Rule) -> Result<Var, Alloc
     add_template(alloc, maker, &rule.template)
 }
 
-// The operators of an accepted rule's plan.
+// The operators of the plan of a rule that is accepted over some sources.
 fn make_ops(alloc: Global, rule: &Rule) -> Result<Vec<Op>, AllocError>
-    requires { IsAccepted (rule_of rule.now) }
+    requires { (sources : ℕ) × IsAccepted sources (rule_of rule.now) }
     ensures { IfOk result (λ ops. map op_of ops.items ≡ operators_of (rule_of rule.now)) }
 {
     let mut maker = new_maker(alloc, rule.names.len())?;
@@ -50,11 +51,12 @@ fn make_ops(alloc: Global, rule: &Rule) -> Result<Vec<Op>, AllocError>
     Ok(maker.ops)
 }
 
-/// The plan of an accepted rule over sources with these names (docs/FORMATS.md, "From rules to plans"). A plan of more than
-/// 2^32 operators or variables is answered as want of memory.
+/// The plan of a rule that is accepted over sources with these names (docs/FORMATS.md, "From rules to plans"). A plan of more
+/// than 2^32 operators or variables is answered as want of memory.
 pub fn make_plan(alloc: Global, rule: &Rule, sources: &[Label]) -> Result<Plan, AllocError>
-    requires { IsAccepted (rule_of rule.now) }
+    requires { IsAccepted (length sources.now) (rule_of rule.now) }
     ensures made { IfOk result (λ plan. plan_value plan ≡ plan_of sources.now (rule_of rule.now)) }
+    ensures valid { IfOk result (λ plan. IsValid (plan_value plan)) }
 
     // Over all source documents, its document is the rule's finished document.
     ensures document { IfOk result (λ plan. MeansRule (plan_value plan).ops (rule_of rule.now)) }

@@ -19,6 +19,7 @@ use Rattle.xmas_read.specs.Refusals.{unless, first_in, first_place, first_of, si
 use Rattle.xmas_read.specs.Results.{Answers}
 use Rattle.xmas_read.proofs.Templates.{both_none, unless_none, unbound_append, template_accepted}
 use Rattle.xmas_read.proofs.Bodies.{conds_bound, all_bound, conds_compared, order_accepted, some_bound}
+use Rattle.xmas_read.proofs.Limits.{conds_sourced, conds_few}
 use Rattle.xmas_read.proofs.NamePlaces.{among_themselves}
 
 -- there is no place
@@ -62,9 +63,9 @@ conds_some at (also cs g h c) = grows (conds_at at cs) (cond_at (at + length (co
 pub tree_conds : (x : List ℕ) (t : Tree) → SpellsWithin x (form_of_tree t) → 0 < length t.conds
 tree_conds x t w = subst (λ (f : RuleForm). 0 < length f.conds) w.tree (conds_some (conds_place w.written) w.written.conds)
 
--- the value of a tree without a refusal is accepted, if it has a condition
-value_accepted : (sources : List (List ℕ)) (t : Tree) → 0 < length t.conds → first_of (refusals sources t) ≡ None → IsAccepted (rule_value sources t)
-value_accepted sources t some h =
+-- the value of a tree of a text is accepted, if it has no refusal
+value_accepted : (x : List ℕ) (sources : List (List ℕ)) (t : Tree) → SpellsWithin x (form_of_tree t) → first_of (refusals sources t) ≡ None → IsAccepted (length sources) (rule_value sources t)
+value_accepted x sources t w h =
     let names = bound_names t.conds in
     let later = both_pass (size_refusals t) (scope_refusals sources t ++ template_refusals t) h in
     let parts = both_pass (scope_refusals sources t) (template_refusals t) later.1 in
@@ -80,9 +81,11 @@ value_accepted sources t some h =
     let vars = unbound_append names (contents_vars t.template.contents) (group_vars t.template.group) bodies.0 in
     let shown = template_accepted names [] false t.template.contents vars.0 loose.0 second.0 in
     record {
+      sourced = conds_sourced sources names t.conds unknown.0;
+      few_positions = conds_few x sources names t w;
       bound = conds_bound sources names [] t.conds tt (among_themselves names) again.0 bodies.1;
       all = λ v. all_bound sources t.conds again.0 bodies.1 v;
-      some = some_bound [] t.conds some bodies.1;
+      some = some_bound [] t.conds (tree_conds x t w) bodies.1;
       compared = conds_compared sources names [] t.conds bodies.1;
       ordered = order_accepted names t.order uses.1;
       shown = shown.0;
@@ -91,10 +94,10 @@ value_accepted sources t some h =
     }
 
 -- a rule that comes of the tree of a text is accepted
-pub accepted_of : (x : List ℕ) (sources : List (List ℕ)) (t : Tree) (v : RuleValue) → SpellsWithin x (form_of_tree t) → checked sources t ≡ Ok v → IsAccepted v
-accepted_of x sources t v w h = let p = no_refusal sources t v h in subst IsAccepted p.1 (value_accepted sources t (tree_conds x t w) p.0)
+pub accepted_of : (x : List ℕ) (sources : List (List ℕ)) (t : Tree) (v : RuleValue) → SpellsWithin x (form_of_tree t) → checked sources t ≡ Ok v → IsAccepted (length sources) v
+accepted_of x sources t v w h = let p = no_refusal sources t v h in subst (IsAccepted (length sources)) p.1 (value_accepted x sources t w p.0)
 
 -- a rule that is read is accepted
-pub accepted_answer : (x : List ℕ) (sources : List (List ℕ)) (result : Result MadeRule XmasFault) → Answers x sources result → IfOk result (λ r. IsAccepted (rule_of r))
+pub accepted_answer : (x : List ℕ) (sources : List (List ℕ)) (result : Result MadeRule XmasFault) → Answers x sources result → IfOk result (λ r. IsAccepted (length sources) (rule_of r))
 accepted_answer x sources (Ok r) (u, (t, w, h)) = accepted_of x sources t (rule_of r) w h
 accepted_answer x sources (Err e) a = tt

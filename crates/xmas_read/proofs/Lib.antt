@@ -11,6 +11,7 @@ pub mod CleanPaths
 pub mod CleanText
 pub mod CleanTree
 pub mod CleanUtf8
+pub mod Limits
 pub mod MadeItems
 pub mod NamePlaces
 pub mod Naming

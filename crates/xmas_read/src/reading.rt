@@ -76,7 +76,7 @@ fn check_tree(alloc: Global, catalog: &Catalog, tree: RuleText) -> Result<Rule, 
 /// `OutOfMemory` can come with any text.
 pub fn read_rule(alloc: Global, text: &[u8], catalog: &Catalog) -> Result<Rule, XmasFault>
     ensures answers { Answers text.now (names_of_sources catalog.now) result }
-    ensures accepted { IfOk result (λ rule. IsAccepted (rule_of rule)) }
+    ensures accepted { IfOk result (λ rule. IsAccepted (length (names_of_sources catalog.now)) (rule_of rule)) }
 {
     match parse_rule(alloc, text) {
         Ok(tree) => check_tree(alloc, catalog, tree),

@@ -1,7 +1,7 @@
 -- The conditions of a body: which variables they bind, in which order, and what is compared.
-use Rattle.std.specs.Prelude.{◌≡◌, ◌<◌, ℕ, Bool, true, false, cond, List, [], ◌∷◌, ◌++◌, ◌==◌, map, Option, Some, None}
+use Rattle.std.specs.Prelude.{◌≡◌, ◌<◌, ◌≤◌, ℕ, Bool, true, false, cond, List, [], ◌∷◌, ◌++◌, ◌==◌, map, Option, Some, None}
 use Rattle.std.specs.List.{list_any, AllByRecursion}
-use Rattle.path_expr.specs.Form.{Form}
+use Rattle.path_expr.specs.Form.{Form, positions_in}
 use Rattle.mix_tree.specs.declared.comparing.Operand.{Operand}
 use Rattle.mix_tree.specs.declared.comparing.Operand.TheVariants.{Var as var_operand, Text as text_operand}
 use Rattle.mix_tree.specs.declared.comparing.Test.{Test}
@@ -88,3 +88,8 @@ abbrev pub AreSources : ℕ → List Binder → Type 0
 AreSources n [] = Unit {0}
 AreSources n (from_source source path var ∷ cs) = (source < n) × AreSources n cs
 AreSources n (from_var start path var ∷ cs) = AreSources n cs
+
+-- the path of a condition has at most 120 label positions
+abbrev pub HasFewPositions : Binder → Type 0
+HasFewPositions (from_source source path var) = positions_in path ≤ 120
+HasFewPositions (from_var start path var) = positions_in path ≤ 120

@@ -1,8 +1,9 @@
 -- Rules as values, and which of them are accepted.
 use Rattle.std.specs.Prelude.{◌≡◌, ◌↔◌, ◌<◌, ◌≤◌, ℕ, true, List, [], length, Option, Some, None}
+use Rattle.std.specs.List.{AllByRecursion}
 use Rattle.mix_tree.specs.declared.var.Key.{Key}
 use Rattle.xmas_rule.specs.Items.{Items, lists, AreAccepted}
-use Rattle.xmas_rule.specs.Conditions.{binders, comparisons, has, in_order, AreBound, AreCompared}
+use Rattle.xmas_rule.specs.Conditions.{binders, comparisons, has, in_order, AreBound, AreCompared, AreSources, HasFewPositions}
 use Rattle.xmas_rule.specs.declared.condition.Cond.{Cond}
 use Rattle.xmas_rule.specs.declared.condition.OrderBy.{OrderBy}
 
@@ -24,9 +25,11 @@ abbrev pub IsOrdered : ℕ → Option OrderBy → Type 0
 IsOrdered n None = Unit {0}
 IsOrdered n (Some o) = o.var < n
 
--- an accepted rule: each variable is bound once and before it is started from, there is one, the template's items are accepted, and the outer
--- element has no keys
-pub record IsAccepted (r : RuleValue) : Type 0 where
+-- a rule that is accepted over so many sources: its sources are among them, no path has more than 120 label positions, each variable is bound
+-- once and before it is started from, there is one, the template's items are accepted, and the outer element has no keys
+pub record IsAccepted (sources : ℕ) (r : RuleValue) : Type 0 where
+  pub sourced : AreSources sources (binders r.conds)
+  pub few_positions : AllByRecursion HasFewPositions (binders r.conds)
   pub bound : AreBound [] (binders r.conds)
   pub all : (v : ℕ) → (v < variables r) ↔ (has (in_order r.conds) v ≡ true)
   pub some : 0 < variables r

@@ -17,7 +17,7 @@ returns c =
     IfOk-weaker c.in_order.result
     (λ found. found.items ≡ in_order_of docs c.args.rule.now.order c.in_ok-kept.kept.items)
     (λ found. AreBindings docs c.args.rule.now.conds.items c.args.rule.now.order found.items)
-    (λ found e. body_bindings c.args.docs.now (rule_of c.args.rule.now) c.requires c.in_ok-all.all.items c.in_ok-kept.kept.items found.items
+    (λ found e. body_bindings c.args.docs.now c.requires.0 (rule_of c.args.rule.now) c.requires.1 c.in_ok-all.all.items c.in_ok-kept.kept.items found.items
     (λ w is. c.in_ok-all.ensures w is ∙ ap (λ z. tuples w ([] ∷ []) (flat (reaches (binders z)))) c.deref.ensures.value)
     (c.in_ok-kept.ensures ∙ ap (λ z. passing docs (comparisons z) c.in_ok-all.all.items) c.deref-2.ensures.value) e)
     c.in_order.ensures
