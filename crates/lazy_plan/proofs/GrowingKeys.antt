@@ -1,0 +1,36 @@
+-- A list of keys that grows keeps what every call keeps.
+use Rattle.std.proofs.Common.{◌≡◌, ◌≤◌, ◌⊎◌, inl, inr, ℕ, List, [], ◌∷◌, length, take, refl, ◌∙◌, sym, ap, subst, arith, length-append}
+use Rattle.std.specs.Prelude.{slice_index_or}
+use Rattle.std.proofs.lemmas.Bool.{cases_eq}
+use Rattle.lxp_core.proofs.Views.{keeps_same as keeps_view_same}
+use Rattle.tree_buffer.proofs.Laws.{keeps_buffers}
+use Rattle.plan_core.specs.Plans.{Operator}
+use Rattle.lazy_plan.specs.declared.key.KeyPart.{KeyPart}
+use Rattle.lazy_plan.specs.World.{World, world, seen_at, IsBench}
+use Rattle.lazy_plan.specs.Keeping.{Keeps}
+use Rattle.lazy_plan.specs.Steps.{GrowsAt}
+use Rattle.lazy_plan.proofs.FirstLists.{take_front}
+
+-- the keys of one operator as they were, or with one more
+pub grows_keeps : (b : World) (ops : List Operator) → IsBench b ops → (seen : List (List (List KeyPart))) (n : ℕ) (key : List KeyPart) → GrowsAt b.seen seen n key → Keeps b (world b.view b.buffers seen)
+grows_keeps b ops bench seen n key g = record {
+  view = keeps_view_same b.view;
+  buffers = refl;
+  goes = λ s x there. record { later = x; there = there; goes = (keeps_buffers (bench.sources s x there).1 (keeps_view_same b.view)).goes };
+  lists = g.lists;
+  longer = λ j. longer_at j (cases_eq j n);
+  seen = λ j k h. seen_there j k h (cases_eq j n);
+}
+  where
+    longer_at : (j : ℕ) → (j ≡ n) ⊎ (j ≡ n → ⊥) → length (seen_at b j) ≤ length (slice_index_or seen j [])
+    longer_at j (inl z) =
+        subst (λ (m : ℕ). length (seen_at b m) ≤ length (slice_index_or seen m [])) (sym z)
+        (elim g.here [ inl y ↦ omega (arith, ap length y) | inr y ↦ omega (arith, ap length y, length-append (seen_at b n) (key ∷ [])) ])
+    longer_at j (inr ne) = omega (arith, ap length (g.others j ne))
+
+    seen_there : (j k : ℕ) → k ≤ length (seen_at b j) → (j ≡ n) ⊎ (j ≡ n → ⊥) → take k (slice_index_or seen j []) ≡ take k (seen_at b j)
+    seen_there j k h (inl z) =
+        let l : k ≤ length (seen_at b n) = subst (λ (m : ℕ). k ≤ length (seen_at b m)) z h in
+        subst (λ (m : ℕ). take k (slice_index_or seen m []) ≡ take k (seen_at b m)) (sym z)
+        (elim g.here [ inl y ↦ ap (take k) y | inr y ↦ ap (take k) y ∙ take_front (seen_at b n) (key ∷ []) k l ])
+    seen_there j k h (inr ne) = ap (take k) (g.others j ne)
