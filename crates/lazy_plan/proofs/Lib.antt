@@ -1,12 +1,16 @@
+pub mod Benches
 pub mod Buffers
 pub mod FirstLists
 pub mod FirstSteps
 pub mod Goes
 pub mod GrowingKeys
+pub mod Holding
 pub mod Keep
 pub mod KeyParts
 pub mod Labels
+pub mod Low
 pub mod Matches
+pub mod Openings
 pub mod PairSteps
 pub mod PassSteps
 pub mod SameKeys
@@ -16,4 +20,5 @@ pub mod Shapes
 pub mod Singles
 pub mod Spots
 pub mod Stay
+pub mod Unders
 pub mod VisitSteps

@@ -54,7 +54,7 @@ value_restrict (k ∷ keys) row v h =
     ] refl h
 
 -- a binding has no value of this variable
-abbrev Lacks : TolledRow → ℕ → Type 0
+abbrev pub Lacks : TolledRow → ℕ → Type 0
 Lacks a v = (b : TolledRow) → tolled_value (a ++ b) v ≡ tolled_value b v
 
 -- a binding of keys that don't name a variable lacks it
@@ -75,7 +75,7 @@ lacks_both : (a b : TolledRow) (v : ℕ) → Lacks a v → Lacks b v → Lacks (
 lacks_both a b v h k c = ap (λ (z : TolledRow). tolled_value z v) (append_assoc a b c) ∙ h (b ++ c) ∙ k c
 
 -- of a variable that one operator more binds: it is that one, of another kind, or the input's
-with_other : (out v : ℕ) (k : Kind) (kinds : Kinds) → (k ≡ a_node → ⊥) → with_kind out k kinds v ≡ Some a_node → ((out == v) ≡ false) × (kinds v ≡ Some a_node)
+pub with_other : (out v : ℕ) (k : Kind) (kinds : Kinds) → (k ≡ a_node → ⊥) → with_kind out k kinds v ≡ Some a_node → ((out == v) ≡ false) × (kinds v ≡ Some a_node)
 with_other out v k kinds ne h =
     elim (out == v) as (λ t. cond t (Some k) (kinds v) ≡ Some a_node → (t ≡ false) × (kinds v ≡ Some a_node)) [
       | true ↦ λ g. absurd (ne (let z : k ≡ a_node = cc in z))
@@ -93,10 +93,10 @@ kept_node keys kinds v h =
     elim (has_var keys v) as (λ t. cond t (kinds v) None ≡ Some a_node → (t ≡ true) × (kinds v ≡ Some a_node)) [ true ↦ λ g. (refl, g) | false ↦ λ g. cc ] h
 
 -- lists and elements are no nodes
-no_list : a_list ≡ a_node → ⊥
+pub no_list : a_list ≡ a_node → ⊥
 no_list h = cc
 
-no_element : an_element ≡ a_node → ⊥
+pub no_element : an_element ≡ a_node → ⊥
 no_element h = cc
 
 -- a value behind another variable's
@@ -252,7 +252,7 @@ module _ (of : ℕ → Kinds) (v : ℕ) where
   found_none (tuple_destroy i w) e h = cc
 
   -- what a join binds, its sides bind
-  pair_kind : (o : Operator) → shape o ≡ pairs_up → op_kinds o of v ≡ either_kind (of (input_of o) v) (of (right_of o) v)
+  pub pair_kind : (o : Operator) → shape o ≡ pairs_up → op_kinds o of v ≡ either_kind (of (input_of o) v) (of (right_of o) v)
   pair_kind (source s out) e = cc
   pair_kind (get_descendants i start path out) e = cc
   pair_kind (join l r tests) e = refl
@@ -266,7 +266,7 @@ module _ (of : ℕ → Kinds) (v : ℕ) where
   pair_kind (tuple_destroy i w) e = cc
 
 -- neither side binds it
-either_none : (j k : Option Kind) → either_kind j k ≡ None → (j ≡ None) × (k ≡ None)
+pub either_none : (j k : Option Kind) → either_kind j k ≡ None → (j ≡ None) × (k ≡ None)
 either_none None k e = (refl, e)
 either_none (Some j) k e = cc
 
@@ -277,7 +277,7 @@ either_some (Some j) k e = inl e
 
 module _ (ops : List Operator) (typed : IsTyped ops) where
   -- the kinds of an operator, from those of its inputs
-  kinds_at : (n : ℕ) → n < length ops → kinds ops n ≡ op_kinds (op_at ops n) (kinds ops)
+  pub kinds_at : (n : ℕ) → n < length ops → kinds ops n ≡ op_kinds (op_at ops n) (kinds ops)
   kinds_at n h = kinds-of ops n (op_at ops n) refl (typed.inputs n h)
 
   -- the input of an operator is one of the plan
@@ -304,7 +304,7 @@ module _ (ops : List Operator) (typed : IsTyped ops) where
 
   module _ (w : World) where
     -- a variable that an operator doesn't bind has no spot, and no value
-    lacks : (n : ℕ) → n < length ops → (c : Position) → IsOf w ops n c → IsTrue (has_row c) → (v : ℕ) → kinds ops n v ≡ None → (spot_in ops n c v ≡ None) × Lacks (binding w ops n c) v
+    pub lacks : (n : ℕ) → n < length ops → (c : Position) → IsOf w ops n c → IsTrue (has_row c) → (v : ℕ) → kinds ops n v ≡ None → (spot_in ops n c v ≡ None) × Lacks (binding w ops n c) v
     lacks n h Start of row v k = cc
     lacks n h (Top s x) of row v k =
         let z = top_none (kinds ops) v (op_at ops n) s of.0 (sym (ap (λ (g : Kinds). g v) (kinds_at n h)) ∙ k) in

@@ -1,8 +1,11 @@
+pub mod Bench
 pub mod Cursors
 pub mod Faults
 pub mod Keeping
 pub mod KeyLaws
 pub mod Keys
+pub mod Opening
 pub mod Parts
 pub mod Steps
+pub mod Unders
 pub mod World

@@ -63,7 +63,7 @@ fn binds_node(fixed: &Fixed, n: usize, v: Var) -> bool
 }
 
 /// Whether a variable is that of a key of an operator.
-fn has_key(fixed: &Fixed, n: usize, v: Var) -> bool
+pub(crate) fn has_key(fixed: &Fixed, n: usize, v: Var) -> bool
     requires { n < length (operators fixed.now) }
     ensures { result ≡ has_var (keys_of (op_at (operators fixed.now) n)) v }
 {

@@ -5,7 +5,7 @@ ghost use Rattle.plan_core.specs.ByNumber.{op_at};
 ghost use Rattle.plan_core.specs.Plans.{source, get_descendants, join, over};
 ghost use Rattle.plan_core.specs.Events.{events, expand, pairs, descendants};
 ghost use Rattle.lazy_plan.specs.World.{IsBench, docs_of, is_told, bound_of, IsMatchIn};
-ghost use Rattle.lazy_plan.specs.Cursors.{binding, ahead, number, size, shape, event_for_event, first_by_keys, one_group, in_order, pairs_up, input_of, right_of, left_ahead, visits_below, start_node, source_number, visit_ahead, found_ahead, found_number, right_ahead, IsOf, IsRead, has_row};
+ghost use Rattle.lazy_plan.specs.Cursors.{binding, ahead, number, size, shape, event_for_event, first_by_keys, one_group, pairs_up, input_of, right_of, left_ahead, visits_below, start_node, source_number, visit_ahead, found_ahead, found_number, right_ahead, IsOf, IsRead, has_row};
 ghost use Rattle.lazy_plan.specs.Steps.{Steps, Finds, Ran, HasCause};
 ghost use Rattle.lazy_plan.specs.Parts.{operators, world_of, IsFixed};
 
@@ -82,7 +82,7 @@ fn next_event<S: Sources>(
                 step_firsts(alloc, fixed, growing, s, op, *input as usize, at)
             }
         }
-        Op::OrderBy { input, .. } => step_order(alloc, fixed, growing, s, op, *input as usize, at),
+        Op::OrderBy { .. } => unreachable!(),
         Op::Concatenate { input, .. } => step_events(alloc, fixed, growing, s, op, *input as usize, at),
         Op::CreateElement { input, .. } => step_events(alloc, fixed, growing, s, op, *input as usize, at),
         Op::TupleDestroy { .. } => Ok(Step::Done),
@@ -416,30 +416,4 @@ fn step_firsts<S: Sources>(
             first_of_key(alloc, &mut growing.seen, op, key, below, count)
         }
     }
-}
-
-/// The bindings of the input in the order of a label.
-fn step_order<S: Sources>(
-    alloc: Global,
-    fixed: &Fixed,
-    growing: &mut Growing,
-    s: &mut S,
-    op: usize,
-    input: usize,
-    at: &Rc<Position>,
-) -> Result<Step, WalkFault>
-    requires fixed { IsFixed fixed.now }
-    requires op { op < length (operators fixed.now) }
-    requires is { shape (op_at (operators fixed.now) op) ≡ in_order }
-    requires input { input ≡ input_of (op_at (operators fixed.now) op) }
-    requires bench { IsBench (world_of (S.view s.old) growing.old) (operators fixed.now) }
-    requires cursor { IsOf (world_of (S.view s.old) growing.old) (operators fixed.now) op at.now.value }
-    ensures ran { Ran S.view S.came_from (operators fixed.now) op (ahead (world_of (S.view s.old) growing.old) (operators fixed.now) op at.now.value) s.old growing.old s.new growing.new }
-    ensures cause { HasCause (operators fixed.now) (S.view s.old) (S.view s.new) result }
-    ensures answer { IfOk result (Steps (world_of (S.view s.old) growing.old) (world_of (S.view s.new) growing.new) (operators fixed.now) op (ahead (world_of (S.view s.old) growing.old) (operators fixed.now) op at.now.value) (number (world_of (S.view s.old) growing.old) (operators fixed.now) op at.now.value)) }
-{
-    let _ = alloc;
-    let _ = op;
-    let _ = input;
-    Err(WalkFault::OutOfMemory)
 }

@@ -257,3 +257,6 @@ step_firsts-returns-clause-answer g t c =
     let parts = c.in_ok-key-in-Some.ensures.parts _ k.bench h.cursor in
     let value = rw c.requires.input at (c.in_ok-key-in-Some.ensures.value _ k.bench h.cursor) in
     firsts_result (operators c.args.fixed.now) c.requires.fixed.typed c.args.op c.requires.op c.requires.is (world_of (g.S.Sources.view c.args.s.now) c.args.growing.now) c.args.at.now.value c.requires.cursor _ c.requires.bench k.asks _ f k.bench c.in_ok-key-in-Some.key.items parts value c.first_of_key.new.seen.items c.first_of_key.ensures.grows (rw c.seen_up_to-count.ensures at c.first_of_key.ensures.pushed) c.first_of_key.result (rw c.seen_up_to-count.ensures at c.first_of_key.ensures.answer)
+
+pub next_event-unreachable-requires : goal.next_event-unreachable-requires
+next_event-unreachable-requires g t c = c.requires.fixed.unordered c.args.op c.requires.op (ap shape (sym c.operator.ensures ∙ ap op_of c.in-OrderBy.is))
