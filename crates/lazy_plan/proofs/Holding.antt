@@ -36,7 +36,7 @@ holds_restrict : (keys : List Key) (row : TolledRow) (v : ℕ) (rest : Option Ki
 holds_restrict [] row v rest k e b = cc
 holds_restrict (key ∷ keys) row v rest k e b =
     elim (key_var key == v) as (λ t. cond (t || has_var keys v) rest None ≡ Some k
-        → cond t (tolled_value row (key_var key)) (tolled_value (tolled_restrict keys row ++ b) v) ≡ cond t (tolled_value row (key_var key)) (tolled_value (tolled_restrict keys row) v)) [
+    → cond t (tolled_value row (key_var key)) (tolled_value (tolled_restrict keys row ++ b) v) ≡ cond t (tolled_value row (key_var key)) (tolled_value (tolled_restrict keys row) v)) [
       | true ↦ λ g. refl
       | false ↦ λ g. holds_restrict keys row v rest k g b
     ] e
@@ -120,7 +120,7 @@ module _ (of : ℕ → Kinds) (v : ℕ) (kind : Kind) where
   first_holds docs (over i (order_by w desc)) e h row es = cc
   first_holds docs (over i (project keys)) e h row es = holds_restrict keys row v (of i v) kind h
   first_holds docs (over i (group_by [] p out)) e h row es = cc
-  first_holds docs (over i (group_by (k ∷ keys) p out)) e h row es = 
+  first_holds docs (over i (group_by (k ∷ keys) p out)) e h row es =
       holds_more out (trees (piece_items docs p row (collected docs p (same_group docs (k ∷ keys) row es) (ends 0)))) (tolled_restrict (k ∷ keys) row) v a_list (kept (k ∷ keys) (of i) v) kind h
       (λ g. holds_restrict (k ∷ keys) row v (of i v) kind g)
   first_holds docs (over i (concatenate ps out)) e h row es = cc
@@ -144,7 +144,7 @@ module _ (ops : List Operator) (typed : IsTyped ops) (w : World) where
       first_holds (kinds ops) v k (docs_of w) (op_at ops n) of.0 (sym (ap (λ (g : Kinds). g v) (kinds_at ops typed n h)) ∙ e) (binding w ops (input_of (op_at ops n)) c) (ahead w ops (input_of (op_at ops n)) c)
   holds n h (Pair' q l q' r) of row v k e =
       elim (either_kind_some (kinds ops (input_of (op_at ops n)) v) (kinds ops (right_of (op_at ops n)) v) k
-        (sym (pair_kind (kinds ops) v (op_at ops n) of.0) ∙ sym (ap (λ (g : Kinds). g v) (kinds_at ops typed n h)) ∙ e)) [
+      (sym (pair_kind (kinds ops) v (op_at ops n) of.0) ∙ sym (ap (λ (g : Kinds). g v) (kinds_at ops typed n h)) ∙ e)) [
         | inl left ↦ holds_left (binding w ops (input_of (op_at ops n)) l) (binding w ops (right_of (op_at ops n)) r) v (holds (input_of (op_at ops n)) (input_within ops typed n h) l of.1 of.2 v k left)
         | inr sides ↦ holds_right (binding w ops (input_of (op_at ops n)) l) (binding w ops (right_of (op_at ops n)) r) v
             (lacks ops typed w (input_of (op_at ops n)) (input_within ops typed n h) l of.1 of.2 v sides.0).1

@@ -90,7 +90,7 @@ module _ (v v' : View) (bs : List Buffer) (seen : List (List (List KeyPart))) (o
             ap found (sym e) ∙ answer (ap v.told (bench.sources s x there).0 ∙ told_read (world v bs seen) ops s read t)
             ∙ ap (λ (p : List ℕ). finds p (ahead_of v' y m d)) (sym (ap (of_buffer [] (λ (b : Buffer). place_at b d)) here))
             ∙ ap (finds (match_place (world v' (set bs s y) seen) s d))
-              (ap (λ (z : Machine). ahead_of v' y z d) (sym same) ∙ sym (ap (of_buffer [] (λ (b : Buffer). ahead_of v' b (machine_at (op_at ops n)) d)) here));
+            (ap (λ (z : Machine). ahead_of v' y z d) (sym same) ∙ sym (ap (of_buffer [] (λ (b : Buffer). ahead_of v' b (machine_at (op_at ops n)) d)) here));
       }
 
 -- the same spot, by the buffer that was read

@@ -140,10 +140,10 @@ module _ (ops : List Operator) (typed : IsTyped ops) (n : ℕ) (within : n < len
   -- a walk begins with the left side
   pub pairs_begin : (w : World) → IsBench w ops → (c : Position) → c ≡ Start
       → Goes w w ops n (ahead w ops n c) (left_ahead (docs_of w) (op_at ops n) (events (docs_of w) ops (right_of (op_at ops n))) (ahead w ops (input_of (op_at ops n)) c)) (number w ops n c)
-        (number w ops (input_of (op_at ops n)) c * suc (size w ops (right_of (op_at ops n))))
+      (number w ops (input_of (op_at ops n)) c * suc (size w ops (right_of (op_at ops n))))
   pairs_begin w bench c e =
       subst (λ (z : Position). Goes w w ops n (ahead w ops n z) (left_ahead (docs_of w) (op_at ops n) (events (docs_of w) ops (right_of (op_at ops n))) (ahead w ops (input_of (op_at ops n)) z)) (number w ops n z)
-        (number w ops (input_of (op_at ops n)) z * suc (size w ops (right_of (op_at ops n))))) (sym e)
+      (number w ops (input_of (op_at ops n)) z * suc (size w ops (right_of (op_at ops n))))) (sym e)
       (goes_same (keeps_same w ops bench) (pairs_start w) (pairs_size w))
 
   module _ (a b : World) (bench : IsBench a ops) where
@@ -169,7 +169,7 @@ module _ (ops : List Operator) (typed : IsTyped ops) (n : ℕ) (within : n < len
       pub left_on : (k : Asks a b ops (input_of (op_at ops n)) (ahead a ops (input_of (op_at ops n)) c)) (d : Position)
           → Finds a b ops (input_of (op_at ops n)) (ahead a ops (input_of (op_at ops n)) c) (number a ops (input_of (op_at ops n)) c) d → (q r : _)
           → Moves a b ops n (left_ahead (docs_of a) (op_at ops n) (events (docs_of a) ops (right_of (op_at ops n))) (ahead a ops (input_of (op_at ops n)) c))
-            (number a ops (input_of (op_at ops n)) c * suc (size a ops (right_of (op_at ops n)))) (Pair' q d r Start)
+          (number a ops (input_of (op_at ops n)) c * suc (size a ops (right_of (op_at ops n)))) (Pair' q d r Start)
       left_on k d f q r = record {
         cursor = (e, f.cursor, f.row, tt, le_same (size b ops (right_of (op_at ops n))));
         falls =
@@ -180,16 +180,16 @@ module _ (ops : List Operator) (typed : IsTyped ops) (n : ℕ) (within : n < len
       }
         where
           later : right_ahead (docs_of a) (op_at ops n) (binding b ops (input_of (op_at ops n)) d) (events (docs_of a) ops (right_of (op_at ops n)))
-                ++ left_ahead (docs_of a) (op_at ops n) (events (docs_of a) ops (right_of (op_at ops n))) (ahead b ops (input_of (op_at ops n)) d)
+              ++ left_ahead (docs_of a) (op_at ops n) (events (docs_of a) ops (right_of (op_at ops n))) (ahead b ops (input_of (op_at ops n)) d)
               ≡ right_ahead (docs_of b) (op_at ops n) (binding b ops (input_of (op_at ops n)) d) (events (docs_of b) ops (right_of (op_at ops n)))
-                ++ left_ahead (docs_of b) (op_at ops n) (events (docs_of b) ops (right_of (op_at ops n))) (ahead b ops (input_of (op_at ops n)) d)
+              ++ left_ahead (docs_of b) (op_at ops n) (events (docs_of b) ops (right_of (op_at ops n))) (ahead b ops (input_of (op_at ops n)) d)
           later = ap (λ (z : Documents). right_ahead z (op_at ops n) (binding b ops (input_of (op_at ops n)) d) (events z ops (right_of (op_at ops n))) ++ left_ahead z (op_at ops n) (events z ops (right_of (op_at ops n))) (ahead b ops (input_of (op_at ops n)) d)) (sym (docs_kept k.kept ops bench))
 
           next : IsTrue (is_told a ops)
               → (found (left_ahead (docs_of a) (op_at ops n) (events (docs_of a) ops (right_of (op_at ops n))) (ahead a ops (input_of (op_at ops n)) c))
-                  ≡ found (right_ahead (docs_of a) (op_at ops n) (binding b ops (input_of (op_at ops n)) d) (events (docs_of a) ops (right_of (op_at ops n))) ++ left_ahead (docs_of a) (op_at ops n) (events (docs_of a) ops (right_of (op_at ops n))) (ahead b ops (input_of (op_at ops n)) d)))
+              ≡ found (right_ahead (docs_of a) (op_at ops n) (binding b ops (input_of (op_at ops n)) d) (events (docs_of a) ops (right_of (op_at ops n))) ++ left_ahead (docs_of a) (op_at ops n) (events (docs_of a) ops (right_of (op_at ops n))) (ahead b ops (input_of (op_at ops n)) d)))
               × (cost (left_ahead (docs_of a) (op_at ops n) (events (docs_of a) ops (right_of (op_at ops n))) (ahead a ops (input_of (op_at ops n)) c))
-                  ≡ cost (ahead a ops (input_of (op_at ops n)) c) + cost (right_ahead (docs_of a) (op_at ops n) (binding b ops (input_of (op_at ops n)) d) (events (docs_of a) ops (right_of (op_at ops n))) ++ left_ahead (docs_of a) (op_at ops n) (events (docs_of a) ops (right_of (op_at ops n))) (ahead b ops (input_of (op_at ops n)) d)))
+              ≡ cost (ahead a ops (input_of (op_at ops n)) c) + cost (right_ahead (docs_of a) (op_at ops n) (binding b ops (input_of (op_at ops n)) d) (events (docs_of a) ops (right_of (op_at ops n))) ++ left_ahead (docs_of a) (op_at ops n) (events (docs_of a) ops (right_of (op_at ops n))) (ahead b ops (input_of (op_at ops n)) d)))
           next t = left_next (docs_of a) (op_at ops n) e (events (docs_of a) ops (right_of (op_at ops n))) (ahead a ops (input_of (op_at ops n)) c) (binding b ops (input_of (op_at ops n)) d) (ahead b ops (input_of (op_at ops n)) d) (f.found t)
 
     -- a call of the right side
@@ -217,8 +217,8 @@ module _ (ops : List Operator) (typed : IsTyped ops) (n : ℕ) (within : n < len
       -- nothing is left on the right
       pub right_over : (IsTrue (is_told a ops) → found (ahead a ops (right_of (op_at ops n)) r) ≡ nothing)
           → Goes a b ops n (right_ahead (docs_of a) (op_at ops n) (binding a ops (input_of (op_at ops n)) l) (ahead a ops (right_of (op_at ops n)) r) ++ left_ahead (docs_of a) (op_at ops n) (events (docs_of a) ops (right_of (op_at ops n))) (ahead a ops (input_of (op_at ops n)) l))
-            (left_ahead (docs_of b) (op_at ops n) (events (docs_of b) ops (right_of (op_at ops n))) (ahead b ops (input_of (op_at ops n)) l))
-            (number a ops (input_of (op_at ops n)) l * suc (size a ops (right_of (op_at ops n))) + number a ops (right_of (op_at ops n)) r) (number b ops (input_of (op_at ops n)) l * suc (size b ops (right_of (op_at ops n))))
+          (left_ahead (docs_of b) (op_at ops n) (events (docs_of b) ops (right_of (op_at ops n))) (ahead b ops (input_of (op_at ops n)) l))
+          (number a ops (input_of (op_at ops n)) l * suc (size a ops (right_of (op_at ops n))) + number a ops (right_of (op_at ops n)) r) (number b ops (input_of (op_at ops n)) l * suc (size b ops (right_of (op_at ops n))))
       right_over f = record {
         kept = k.kept;
         falls =
@@ -269,14 +269,14 @@ module _ (ops : List Operator) (typed : IsTyped ops) (n : ℕ) (within : n < len
         -- that is let through
         pub right_at : (q p : _) → (IsTrue (is_told b ops) → lets (docs_of b) (op_at ops n) (binding b ops n (Pair' q l p d)) ≡ true)
             → Finds a b ops n (right_ahead (docs_of a) (op_at ops n) (binding a ops (input_of (op_at ops n)) l) (ahead a ops (right_of (op_at ops n)) r) ++ left_ahead (docs_of a) (op_at ops n) (events (docs_of a) ops (right_of (op_at ops n))) (ahead a ops (input_of (op_at ops n)) l))
-              (number a ops (input_of (op_at ops n)) l * suc (size a ops (right_of (op_at ops n))) + number a ops (right_of (op_at ops n)) r) (Pair' q l p d)
+            (number a ops (input_of (op_at ops n)) l * suc (size a ops (right_of (op_at ops n))) + number a ops (right_of (op_at ops n)) r) (Pair' q l p d)
         right_at q p y = record {
           cursor = pair_cursor q p;
           row = f.row;
           falls = pair_falls q p;
           found = λ t.
               found-append_some beside behind _ _
-                (right_yes (docs_of a) (op_at ops n) e (binding a ops (input_of (op_at ops n)) l) (ahead a ops (right_of (op_at ops n)) r) (binding b ops (right_of (op_at ops n)) d) (ahead b ops (right_of (op_at ops n)) d) (f.found t) (lets_old true q p (y (still_told k.kept ops t))))
+              (right_yes (docs_of a) (op_at ops n) e (binding a ops (input_of (op_at ops n)) l) (ahead a ops (right_of (op_at ops n)) r) (binding b ops (right_of (op_at ops n)) d) (ahead b ops (right_of (op_at ops n)) d) (f.found t) (lets_old true q p (y (still_told k.kept ops t))))
               ∙ ap (λ (z : TolledRow). finds (z ++ binding b ops (right_of (op_at ops n)) d) (right_ahead (docs_of a) (op_at ops n) (binding a ops (input_of (op_at ops n)) l) (ahead b ops (right_of (op_at ops n)) d) ++ behind)) (sym stays.binding_is)
               ∙ ap (finds (binding b ops (input_of (op_at ops n)) l ++ binding b ops (right_of (op_at ops n)) d)) (pair_ahead q p);
         }
@@ -284,7 +284,7 @@ module _ (ops : List Operator) (typed : IsTyped ops) (n : ℕ) (within : n < len
         -- that is passed
         pub right_on : (q p : _) → (IsTrue (is_told b ops) → lets (docs_of b) (op_at ops n) (binding b ops n (Pair' q l p d)) ≡ false)
             → Moves a b ops n (right_ahead (docs_of a) (op_at ops n) (binding a ops (input_of (op_at ops n)) l) (ahead a ops (right_of (op_at ops n)) r) ++ left_ahead (docs_of a) (op_at ops n) (events (docs_of a) ops (right_of (op_at ops n))) (ahead a ops (input_of (op_at ops n)) l))
-              (number a ops (input_of (op_at ops n)) l * suc (size a ops (right_of (op_at ops n))) + number a ops (right_of (op_at ops n)) r) (Pair' q l p d)
+            (number a ops (input_of (op_at ops n)) l * suc (size a ops (right_of (op_at ops n))) + number a ops (right_of (op_at ops n)) r) (Pair' q l p d)
         right_on q p y = record {
           cursor = pair_cursor q p;
           falls = pair_falls q p;

@@ -125,7 +125,7 @@ module _ (ops : List Operator) (typed : IsTyped ops) (n : ℕ) (within : n < len
     pass_done f t = ap found (pass_ahead_is a c h) ∙ pass_none (docs_of a) (op_at ops n) e (ahead a ops (input_of (op_at ops n)) (below c)) (f t)
 
     module _ (bench : IsBench a ops) (k : Asks a b ops (input_of (op_at ops n)) (ahead a ops (input_of (op_at ops n)) (below c)))
-      (d : Position) (f : Finds a b ops (input_of (op_at ops n)) (ahead a ops (input_of (op_at ops n)) (below c)) (number a ops (input_of (op_at ops n)) (below c)) d) where
+        (d : Position) (f : Finds a b ops (input_of (op_at ops n)) (ahead a ops (input_of (op_at ops n)) (below c)) (number a ops (input_of (op_at ops n)) (below c)) d) where
       -- a binding below makes a cursor here
       pub pass_cursor : (q : _) → IsOf b ops n (Pass' q d)
       pass_cursor q = (e, f.cursor, f.row)
@@ -146,7 +146,7 @@ module _ (ops : List Operator) (typed : IsTyped ops) (n : ℕ) (within : n < len
         found = λ t.
             ap found (pass_ahead_is a c h)
             ∙ pass_yes (docs_of a) (op_at ops n) e (ahead a ops (input_of (op_at ops n)) (below c)) (binding b ops (input_of (op_at ops n)) d) (ahead b ops (input_of (op_at ops n)) d) (f.found t)
-              (subst (λ (z : Documents). lets z (op_at ops n) (pass_row z (op_at ops n) (binding b ops (input_of (op_at ops n)) d)) ≡ true) (docs_kept k.kept ops bench) (y (still_told k.kept ops t)))
+            (subst (λ (z : Documents). lets z (op_at ops n) (pass_row z (op_at ops n) (binding b ops (input_of (op_at ops n)) d)) ≡ true) (docs_kept k.kept ops bench) (y (still_told k.kept ops t)))
             ∙ ap (λ (z : Documents). finds (pass_row z (op_at ops n) (binding b ops (input_of (op_at ops n)) d)) (pass_ahead z (op_at ops n) (ahead b ops (input_of (op_at ops n)) d))) (sym (docs_kept k.kept ops bench));
       }
 

@@ -221,10 +221,10 @@ module _ (of : ℕ → Kinds) (v : ℕ) where
       → ((node_out o v ≡ true) × ((row : TolledRow) (place : List ℕ) → tolled_value (found_row o row place) v ≡ of_source (record { source = (start_node o row).source; place = place })))
       ⊎ ((node_out o v ≡ false) × (of (input_of o) v ≡ Some a_node) × ((row : TolledRow) (place : List ℕ) → tolled_value (found_row o row place) v ≡ tolled_value row v))
   found_kind (source s out) e h = cc
-  found_kind (get_descendants i start path out) e h = 
+  found_kind (get_descendants i start path out) e h =
       elim (out == v) as (λ b. cond b (Some a_node) (of i v) ≡ Some a_node
-          → ((b ≡ true) × ((row : TolledRow) (place : List ℕ) → cond b (of_source (record { source = (row_node row start).source; place = place })) (tolled_value row v) ≡ of_source (record { source = (row_node row start).source; place = place })))
-          ⊎ ((b ≡ false) × (of i v ≡ Some a_node) × ((row : TolledRow) (place : List ℕ) → cond b (of_source (record { source = (row_node row start).source; place = place })) (tolled_value row v) ≡ tolled_value row v)))
+      → ((b ≡ true) × ((row : TolledRow) (place : List ℕ) → cond b (of_source (record { source = (row_node row start).source; place = place })) (tolled_value row v) ≡ of_source (record { source = (row_node row start).source; place = place })))
+      ⊎ ((b ≡ false) × (of i v ≡ Some a_node) × ((row : TolledRow) (place : List ℕ) → cond b (of_source (record { source = (row_node row start).source; place = place })) (tolled_value row v) ≡ tolled_value row v)))
       [ true ↦ λ g. inl (refl, λ row place. refl) | false ↦ λ g. inr (refl, g, λ row place. refl) ] h
   found_kind (join l r tests) e h = cc
   found_kind (over i (select t)) e h = cc
@@ -313,24 +313,27 @@ module _ (ops : List Operator) (typed : IsTyped ops) where
     lacks n h (Found' q c s None) of row v k = cc
     lacks n h (Found' q c s (Some d)) of row v k =
         let z = found_none (kinds ops) v (op_at ops n) of.0 (sym (ap (λ (g : Kinds). g v) (kinds_at n h)) ∙ k) in
-        let y = lacks (input_of (op_at ops n)) (input_within n h) c of.1 of.2 v z.1 in
-        (ap (λ (b : Bool). cond b (Some (s, spot_of d.frame.value)) (spot_in ops (input_of (op_at ops n)) c v)) z.0 ∙ y.0,
-         z.2 (binding w ops (input_of (op_at ops n)) c) (match_place w s d) y.1)
+        let y = lacks (input_of (op_at ops n)) (input_within n h) c of.1 of.2 v z.1 in (
+          ap (λ (b : Bool). cond b (Some (s, spot_of d.frame.value)) (spot_in ops (input_of (op_at ops n)) c v)) z.0 ∙ y.0,
+          z.2 (binding w ops (input_of (op_at ops n)) c) (match_place w s d) y.1,
+        )
     lacks n h (Pass' q c) of row v k =
         let z = pass_none (kinds ops) v (docs_of w) (op_at ops n) of.0 (sym (ap (λ (g : Kinds). g v) (kinds_at n h)) ∙ k) in
         let y = lacks (input_of (op_at ops n)) (input_within n h) c of.1 of.2 v z.0 in (y.0, z.1 (binding w ops (input_of (op_at ops n)) c) y.1)
     lacks n h (First' q c m) of row v k =
-        let z = first_none (kinds ops) v (docs_of w) (op_at ops n) of.0 (typed.fit n h) (sym (ap (λ (g : Kinds). g v) (kinds_at n h)) ∙ k) in
-        (ap (λ (b : Bool). cond b (spot_in ops (input_of (op_at ops n)) c v) None) z.0,
-         z.1 (binding w ops (input_of (op_at ops n)) c) (ahead w ops (input_of (op_at ops n)) c))
+        let z = first_none (kinds ops) v (docs_of w) (op_at ops n) of.0 (typed.fit n h) (sym (ap (λ (g : Kinds). g v) (kinds_at n h)) ∙ k) in (
+          ap (λ (b : Bool). cond b (spot_in ops (input_of (op_at ops n)) c v) None) z.0,
+          z.1 (binding w ops (input_of (op_at ops n)) c) (ahead w ops (input_of (op_at ops n)) c),
+        )
     lacks n h (Pair' q l q' r) of row v k =
         let e : either_kind (kinds ops (input_of (op_at ops n)) v) (kinds ops (right_of (op_at ops n)) v) ≡ None =
-            sym (pair_kind (kinds ops) v (op_at ops n) of.0) ∙ sym (ap (λ (g : Kinds). g v) (kinds_at n h)) ∙ k in
+        sym (pair_kind (kinds ops) v (op_at ops n) of.0) ∙ sym (ap (λ (g : Kinds). g v) (kinds_at n h)) ∙ k in
         let both = either_none (kinds ops (input_of (op_at ops n)) v) (kinds ops (right_of (op_at ops n)) v) e in
         let x = lacks (input_of (op_at ops n)) (input_within n h) l of.1 of.2 v both.0 in
-        let y = lacks (right_of (op_at ops n)) (right_within n h) r of.3 row v both.1 in
-        (ap (λ (z : Option (ℕ × Spot)). or_else z (spot_in ops (right_of (op_at ops n)) r v)) x.0 ∙ y.0,
-         lacks_both (binding w ops (input_of (op_at ops n)) l) (binding w ops (right_of (op_at ops n)) r) v x.1 y.1)
+        let y = lacks (right_of (op_at ops n)) (right_within n h) r of.3 row v both.1 in (
+          ap (λ (z : Option (ℕ × Spot)). or_else z (spot_in ops (right_of (op_at ops n)) r v)) x.0 ∙ y.0,
+          lacks_both (binding w ops (input_of (op_at ops n)) l) (binding w ops (right_of (op_at ops n)) r) v x.1 y.1,
+        )
 
     -- a variable that holds a node has its spot
     pub spot_is : (n : ℕ) → n < length ops → (c : Position) → IsOf w ops n c → IsTrue (has_row c) → (v : ℕ) → kinds ops n v ≡ Some a_node → IsSpotOf w ops n c v
@@ -338,7 +341,8 @@ module _ (ops : List Operator) (typed : IsTyped ops) where
     spot_is n h (Top s x) of row v k =
         let z = top_kind (kinds ops) v (op_at ops n) s of.0 (sym (ap (λ (g : Kinds). g v) (kinds_at n h)) ∙ k) in
         record {
-          source = s; spot = x;
+          source = s;
+          spot = x;
           is = ap (λ (b : Bool). cond b (Some (s, x)) None) z.0;
           read = record { number = n; within = h; is = of.0 };
           known = of.1;
@@ -349,19 +353,21 @@ module _ (ops : List Operator) (typed : IsTyped ops) where
     spot_is n h (Found' q c s (Some d)) of row v k =
         elim (found_kind (kinds ops) v (op_at ops n) of.0 (sym (ap (λ (g : Kinds). g v) (kinds_at n h)) ∙ k)) [
           | inl z ↦ record {
-              source = s; spot = spot_of d.frame.value;
-              is = ap (λ (b : Bool). cond b (Some (s, spot_of d.frame.value)) (spot_in ops (input_of (op_at ops n)) c v)) z.0;
-              read = of.4;
-              known = record { buffer = of.5.buffer; there = of.5.there; spot = frame_spot of.5.buffer d.frame.value of.5.cursor };
-              value = z.1 (binding w ops (input_of (op_at ops n)) c) (match_place w s d) ∙ ap (λ (x : ℕ). of_source (record { source = x; place = match_place w s d })) of.3;
-            }
+            source = s;
+            spot = spot_of d.frame.value;
+            is = ap (λ (b : Bool). cond b (Some (s, spot_of d.frame.value)) (spot_in ops (input_of (op_at ops n)) c v)) z.0;
+            read = of.4;
+            known = record { buffer = of.5.buffer; there = of.5.there; spot = frame_spot of.5.buffer d.frame.value of.5.cursor };
+            value = z.1 (binding w ops (input_of (op_at ops n)) c) (match_place w s d) ∙ ap (λ (x : ℕ). of_source (record { source = x; place = match_place w s d })) of.3;
+          }
           | inr z ↦ (let y = spot_is (input_of (op_at ops n)) (input_within n h) c of.1 of.2 v z.1 in record {
-              source = y.source; spot = y.spot;
-              is = ap (λ (b : Bool). cond b (Some (s, spot_of d.frame.value)) (spot_in ops (input_of (op_at ops n)) c v)) z.0 ∙ y.is;
-              read = y.read;
-              known = y.known;
-              value = z.2 (binding w ops (input_of (op_at ops n)) c) (match_place w s d) ∙ y.value;
-            })
+            source = y.source;
+            spot = y.spot;
+            is = ap (λ (b : Bool). cond b (Some (s, spot_of d.frame.value)) (spot_in ops (input_of (op_at ops n)) c v)) z.0 ∙ y.is;
+            read = y.read;
+            known = y.known;
+            value = z.2 (binding w ops (input_of (op_at ops n)) c) (match_place w s d) ∙ y.value;
+          })
         ]
     spot_is n h (Pass' q c) of row v k =
         let z = pass_kind (kinds ops) v (docs_of w) (op_at ops n) of.0 (sym (ap (λ (g : Kinds). g v) (kinds_at n h)) ∙ k) in
@@ -371,27 +377,33 @@ module _ (ops : List Operator) (typed : IsTyped ops) where
         let z = first_kind (kinds ops) v (docs_of w) (op_at ops n) of.0 (sym (ap (λ (g : Kinds). g v) (kinds_at n h)) ∙ k) in
         let y = spot_is (input_of (op_at ops n)) (input_within n h) c of.1 of.2 v z.1 in
         record {
-          source = y.source; spot = y.spot;
+          source = y.source;
+          spot = y.spot;
           is = ap (λ (b : Bool). cond b (spot_in ops (input_of (op_at ops n)) c v) None) z.0 ∙ y.is;
-          read = y.read; known = y.known;
+          read = y.read;
+          known = y.known;
           value = z.2 (binding w ops (input_of (op_at ops n)) c) (ahead w ops (input_of (op_at ops n)) c) ∙ y.value;
         }
     spot_is n h (Pair' q l q' r) of row v k =
         let e : either_kind (kinds ops (input_of (op_at ops n)) v) (kinds ops (right_of (op_at ops n)) v) ≡ Some a_node =
-            sym (pair_kind (kinds ops) v (op_at ops n) of.0) ∙ sym (ap (λ (g : Kinds). g v) (kinds_at n h)) ∙ k in
+        sym (pair_kind (kinds ops) v (op_at ops n) of.0) ∙ sym (ap (λ (g : Kinds). g v) (kinds_at n h)) ∙ k in
         elim (either_some (kinds ops (input_of (op_at ops n)) v) (kinds ops (right_of (op_at ops n)) v) e) [
           | inl left ↦ (let y = spot_is (input_of (op_at ops n)) (input_within n h) l of.1 of.2 v left in record {
-              source = y.source; spot = y.spot;
-              is = ap (λ (z : Option (ℕ × Spot)). or_else z (spot_in ops (right_of (op_at ops n)) r v)) y.is;
-              read = y.read; known = y.known;
-              value = value_left (binding w ops (input_of (op_at ops n)) l) (binding w ops (right_of (op_at ops n)) r) v (spot_node w y.source y.spot) y.value;
-            })
+            source = y.source;
+            spot = y.spot;
+            is = ap (λ (z : Option (ℕ × Spot)). or_else z (spot_in ops (right_of (op_at ops n)) r v)) y.is;
+            read = y.read;
+            known = y.known;
+            value = value_left (binding w ops (input_of (op_at ops n)) l) (binding w ops (right_of (op_at ops n)) r) v (spot_node w y.source y.spot) y.value;
+          })
           | inr sides ↦ (
               let x = lacks (input_of (op_at ops n)) (input_within n h) l of.1 of.2 v sides.0 in
               let y = spot_is (right_of (op_at ops n)) (right_within n h) r of.3 row v sides.1 in record {
-                source = y.source; spot = y.spot;
+                source = y.source;
+                spot = y.spot;
                 is = ap (λ (z : Option (ℕ × Spot)). or_else z (spot_in ops (right_of (op_at ops n)) r v)) x.0 ∙ y.is;
-                read = y.read; known = y.known;
+                read = y.read;
+                known = y.known;
                 value = x.1 (binding w ops (right_of (op_at ops n)) r) ∙ y.value;
               })
         ]

@@ -145,14 +145,14 @@ module _ (a b : World) (k : Keeps a b) (ops : List Operator) (bench : IsBench a 
       ap (λ (z : Standing). pair_standing b z (standing b ops (right_of (op_at ops n)) r)) (standing_kept (input_of (op_at ops n)) l h.1)
       ∙ ap (λ (z : Standing). pair_standing b left z) (standing_kept (right_of (op_at ops n)) r h.3)
       ∙ ap (λ (z : Documents). record {
-          row = left.row ++ right.row;
-          ahead = right_ahead z (op_at ops n) left.row right.ahead ++ left_ahead z (op_at ops n) (events z ops (right_of (op_at ops n))) left.ahead
-        }) (docs_kept k ops bench)
+        row = left.row ++ right.row;
+        ahead = right_ahead z (op_at ops n) left.row right.ahead ++ left_ahead z (op_at ops n) (events z ops (right_of (op_at ops n))) left.ahead;
+      }) (docs_kept k ops bench)
     where
       pair_standing : World → Standing → Standing → Standing
       pair_standing w x y = record {
         row = x.row ++ y.row;
-        ahead = right_ahead (docs_of w) (op_at ops n) x.row y.ahead ++ left_ahead (docs_of w) (op_at ops n) (events (docs_of w) ops (right_of (op_at ops n))) x.ahead
+        ahead = right_ahead (docs_of w) (op_at ops n) x.row y.ahead ++ left_ahead (docs_of w) (op_at ops n) (events (docs_of w) ops (right_of (op_at ops n))) x.ahead;
       }
 
   -- its number doesn't rise
@@ -178,17 +178,27 @@ module _ (a b : World) (k : Keeps a b) (ops : List Operator) (bench : IsBench a 
   cursor_kept n Start h = tt
   cursor_kept n (Top s x) h = (h.0, spot_kept k s x h.1, place_kept k s x h.1 ∙ h.2)
   cursor_kept n Whole h = h
-  cursor_kept n (Found' q c s d) h =
-      (h.0, cursor_kept (input_of (op_at ops n)) c h.1, h.2,
-       ap (λ (z : Standing). (start_node (op_at ops n) z.row).source) (standing_kept (input_of (op_at ops n)) c h.1) ∙ h.3, h.4, found_kept s d h.5)
+  cursor_kept n (Found' q c s d) h = (
+    h.0,
+    cursor_kept (input_of (op_at ops n)) c h.1,
+    h.2,
+    ap (λ (z : Standing). (start_node (op_at ops n) z.row).source) (standing_kept (input_of (op_at ops n)) c h.1) ∙ h.3,
+    h.4,
+    found_kept s d h.5,
+  )
   cursor_kept n (Pass' q c) h = (h.0, cursor_kept (input_of (op_at ops n)) c h.1, h.2)
-  cursor_kept n (First' q c m) h =
-      (h.0, cursor_kept (input_of (op_at ops n)) c h.1, h.2, omega (arith, k.longer n, h.3), λ t.
+  cursor_kept n (First' q c m) h = (
+    h.0,
+    cursor_kept (input_of (op_at ops n)) c h.1,
+    h.2,
+    omega (arith, k.longer n, h.3),
+    λ t.
         ap (λ (z : Documents). keys_seen z (keys_of (op_at ops n)) (seen_values b (take m (seen_at b n))) (ahead b ops (input_of (op_at ops n)) c)) (docs_kept k ops bench)
         ∙ ap (λ (z : List (List KeyValue)). keys_seen (docs_of a) (keys_of (op_at ops n)) z (ahead b ops (input_of (op_at ops n)) c)) (seen_kept n m h.3)
         ∙ ap (λ (z : Standing). keys_seen (docs_of a) (keys_of (op_at ops n)) (seen_values a (take m (seen_at a n))) z.ahead) (standing_kept (input_of (op_at ops n)) c h.1)
         ∙ h.4 (subst IsTrue (told-kept k ops) t)
-        ∙ ap (λ (z : Documents). drop m (keys_seen z (keys_of (op_at ops n)) [] (events z ops (input_of (op_at ops n))))) (sym (docs_kept k ops bench)))
+        ∙ ap (λ (z : Documents). drop m (keys_seen z (keys_of (op_at ops n)) [] (events z ops (input_of (op_at ops n))))) (sym (docs_kept k ops bench)),
+  )
   cursor_kept n (Pair' q l q' r) h =
       let e = size_kept (right_of (op_at ops n)) in
       let j = number_kept (right_of (op_at ops n)) r h.3 in

@@ -92,11 +92,10 @@ module _ (st : BenchState) (i : ℕ) (row : TolledRow) (es : RowEvents) where
   first_made (over j (create_element l w out)) e h = cc
   first_made (tuple_destroy j w) e h = cc
 
-
 -- the inputs of a join, and what its bindings are made of
 pair_made : (st : BenchState) (i : ℕ) (row below : TolledRow) (es : RowEvents) (o : Operator) → shape o ≡ pairs_up → AmongInputs i o
     → ((i ≡ input_of o) ⊎ (i ≡ right_of o)) × (((i ≡ input_of o → (v : ℕ) (k : Kind) → kinds (ops_of st) (input_of o) v ≡ Some k → tolled_value row v ≡ tolled_value below v)
-      × ((i ≡ input_of o → ⊥) → (v : ℕ) → kinds (ops_of st) (input_of o) v ≡ None → tolled_value row v ≡ tolled_value below v)) → IsMadeOf st row i below es o)
+    × ((i ≡ input_of o → ⊥) → (v : ℕ) → kinds (ops_of st) (input_of o) v ≡ None → tolled_value row v ≡ tolled_value below v)) → IsMadeOf st row i below es o)
 pair_made st i row below es (source s out) e h = cc
 pair_made st i row below es (get_descendants j start path out) e h = cc
 pair_made st i row below es (join l r tests) e h = (h, λ g. g)
@@ -215,7 +214,7 @@ source_either (Some p) q = refl
 module _ (of : ℕ → ℕ → Option ℕ) (v : ℕ) where
   -- of a source
   top_source : (o : Operator) (n : ℕ) (x : Spot) → source_number o ≡ Some n → source_in (cond (node_out o v) (Some (n, x)) None) ≡ op_source o of v
-  top_source (source s out) n x e = 
+  top_source (source s out) n x e =
       let same : s ≡ n = cc in
       elim (out == v) as (λ t. source_in (cond t (Some (n, x)) None) ≡ cond t (Some s) None) [ true ↦ ap Some (sym same) | false ↦ refl ]
   top_source (get_descendants i start path out) n x e = cc
@@ -311,8 +310,8 @@ module _ (ops : List Operator) (typed : IsTyped ops) (w : World) where
       let start = start_spot ops typed n h of.0 w (input_of (op_at ops n)) refl c of.1 of.2 (start_var (op_at ops n)) refl in
       let here : start.source ≡ s = sym (ap (λ (x : Node). x.source) (ap source_node start.value)) ∙ of.3 in
       found_source (source_var ops) v (op_at ops n) of.0 (s, spot_of d.frame.value) (spot_in ops (input_of (op_at ops n)) c v)
-        (sym (source_is (input_of (op_at ops n)) (input_within ops typed n h) c of.1 of.2 (start_var (op_at ops n))) ∙ ap source_in start.is ∙ ap Some here)
-        (source_is (input_of (op_at ops n)) (input_within ops typed n h) c of.1 of.2 v)
+      (sym (source_is (input_of (op_at ops n)) (input_within ops typed n h) c of.1 of.2 (start_var (op_at ops n))) ∙ ap source_in start.is ∙ ap Some here)
+      (source_is (input_of (op_at ops n)) (input_within ops typed n h) c of.1 of.2 v)
       ∙ sym (source_var-of ops typed n h (op_at ops n) v refl)
   source_is n h (Pass' q c) of row v =
       source_is (input_of (op_at ops n)) (input_within ops typed n h) c of.1 of.2 v
@@ -371,6 +370,6 @@ kind_source ops typed n v h e = below (suc n) n v (omega arith) h e
     below zero n v l h e = absurd (omega (arith, l))
     below (suc m) n v l h e =
         let inputs = each_weaker (λ i. i < n) (λ i. (w : ℕ) → kinds ops i w ≡ Some a_node → (s : ℕ) × (source_var ops i w ≡ Some s))
-          (λ i k w. below m i w (omega (arith, l, k)) (omega (arith, h, k))) (inputs_of (op_at ops n)) (typed.inputs n h) in
+        (λ i k w. below m i w (omega (arith, l, k)) (omega (arith, h, k))) (inputs_of (op_at ops n)) (typed.inputs n h) in
         let z = source_kind (kinds ops) (source_var ops) (op_at ops n) (typed.fit n h) inputs v (sym (ap (λ (g : Kinds). g v) (kinds_at ops typed n h)) ∙ e) in
         (z.0, source_var-of ops typed n h (op_at ops n) v refl ∙ z.1)

@@ -121,9 +121,9 @@ module _ (ops : List Operator) (typed : IsTyped ops) (n : ℕ) (within : n < len
 
         next : IsTrue (is_told a ops)
             → (found (found_ahead (docs_of a) (op_at ops n) (ahead a ops (input_of (op_at ops n)) c))
-                ≡ found (visit_whole (docs_of a) (op_at ops n) (binding b ops (input_of (op_at ops n)) d) ++ found_ahead (docs_of a) (op_at ops n) (ahead b ops (input_of (op_at ops n)) d)))
+            ≡ found (visit_whole (docs_of a) (op_at ops n) (binding b ops (input_of (op_at ops n)) d) ++ found_ahead (docs_of a) (op_at ops n) (ahead b ops (input_of (op_at ops n)) d)))
             × (cost (found_ahead (docs_of a) (op_at ops n) (ahead a ops (input_of (op_at ops n)) c))
-                ≡ cost (ahead a ops (input_of (op_at ops n)) c) + cost (visit_whole (docs_of a) (op_at ops n) (binding b ops (input_of (op_at ops n)) d) ++ found_ahead (docs_of a) (op_at ops n) (ahead b ops (input_of (op_at ops n)) d)))
+            ≡ cost (ahead a ops (input_of (op_at ops n)) c) + cost (visit_whole (docs_of a) (op_at ops n) (binding b ops (input_of (op_at ops n)) d) ++ found_ahead (docs_of a) (op_at ops n) (ahead b ops (input_of (op_at ops n)) d)))
         next t = visits_next (docs_of a) (op_at ops n) e (ahead a ops (input_of (op_at ops n)) c) (binding b ops (input_of (op_at ops n)) d) (ahead b ops (input_of (op_at ops n)) d) (f.found t)
 
   -- a call of the visit at hand
@@ -146,8 +146,8 @@ module _ (ops : List Operator) (typed : IsTyped ops) (n : ℕ) (within : n < len
     -- no match is left in the visit
     pub visit_over : (IsTrue (is_told a ops) → found (visit_ahead a (op_at ops n) (binding a ops (input_of (op_at ops n)) c) src d) ≡ nothing)
         → Goes a b ops n (visit_ahead a (op_at ops n) (binding a ops (input_of (op_at ops n)) c) src d ++ found_ahead (docs_of a) (op_at ops n) (ahead a ops (input_of (op_at ops n)) c))
-          (found_ahead (docs_of b) (op_at ops n) (ahead b ops (input_of (op_at ops n)) c))
-          (number a ops (input_of (op_at ops n)) c * suc (suc (bound_of a)) + found_number a src d) (number b ops (input_of (op_at ops n)) c * suc (suc (bound_of b)))
+        (found_ahead (docs_of b) (op_at ops n) (ahead b ops (input_of (op_at ops n)) c))
+        (number a ops (input_of (op_at ops n)) c * suc (suc (bound_of a)) + found_number a src d) (number b ops (input_of (op_at ops n)) c * suc (suc (bound_of b)))
     visit_over f = record {
       kept = k;
       falls =
@@ -177,7 +177,7 @@ module _ (ops : List Operator) (typed : IsTyped ops) (n : ℕ) (within : n < len
     pub visit_at : (row : IsTrue (has_row c)) → (start_node (op_at ops n) (binding a ops (input_of (op_at ops n)) c)).source ≡ src → IsRead ops src → (m : DescCursor)
         → FindsMatch a b ops n (binding a ops (input_of (op_at ops n)) c) src (visit_ahead a (op_at ops n) (binding a ops (input_of (op_at ops n)) c) src d) (found_number a src d) m
         → (q : _) → Finds a b ops n (visit_ahead a (op_at ops n) (binding a ops (input_of (op_at ops n)) c) src d ++ found_ahead (docs_of a) (op_at ops n) (ahead a ops (input_of (op_at ops n)) c))
-          (number a ops (input_of (op_at ops n)) c * suc (suc (bound_of a)) + found_number a src d) (Found' q c src (Some m))
+        (number a ops (input_of (op_at ops n)) c * suc (suc (bound_of a)) + found_number a src d) (Found' q c src (Some m))
     visit_at row start read m f q = record {
       cursor = (e, stays.cursor, row, ap (λ (z : TolledRow). (start_node (op_at ops n) z).source) stays.binding_is ∙ start, read, f.cursor);
       row = refl;

@@ -211,24 +211,24 @@ standing w ops n Whole = record { row = whole_row (docs_of w) (op_at ops n) (eve
 standing w ops n (Found' q c s d) =
     let input = standing w ops (input_of (op_at ops n)) c in record {
       row = found_binding w (op_at ops n) input.row s d;
-      ahead = visit_ahead w (op_at ops n) input.row s d ++ found_ahead (docs_of w) (op_at ops n) input.ahead
+      ahead = visit_ahead w (op_at ops n) input.row s d ++ found_ahead (docs_of w) (op_at ops n) input.ahead;
     }
 standing w ops n (Pass' q c) =
     let input = standing w ops (input_of (op_at ops n)) c in record {
       row = pass_row (docs_of w) (op_at ops n) input.row;
-      ahead = pass_ahead (docs_of w) (op_at ops n) input.ahead
+      ahead = pass_ahead (docs_of w) (op_at ops n) input.ahead;
     }
 standing w ops n (First' q c k) =
     let input = standing w ops (input_of (op_at ops n)) c in record {
       row = first_row_of (docs_of w) (op_at ops n) input.row input.ahead;
-      ahead = distinct (docs_of w) (keys_of (op_at ops n)) (first_row_of (docs_of w) (op_at ops n)) (seen_values w (take k (seen_at w n))) input.ahead
+      ahead = distinct (docs_of w) (keys_of (op_at ops n)) (first_row_of (docs_of w) (op_at ops n)) (seen_values w (take k (seen_at w n))) input.ahead;
     }
 standing w ops n (Pair' q l q' r) =
     let left = standing w ops (input_of (op_at ops n)) l in
     let right = standing w ops (right_of (op_at ops n)) r in record {
       row = left.row ++ right.row;
       ahead = right_ahead (docs_of w) (op_at ops n) left.row right.ahead
-          ++ left_ahead (docs_of w) (op_at ops n) (events (docs_of w) ops (right_of (op_at ops n))) left.ahead
+          ++ left_ahead (docs_of w) (op_at ops n) (events (docs_of w) ops (right_of (op_at ops n))) left.ahead;
     }
 
 -- the binding at which a cursor stands
@@ -338,7 +338,7 @@ IsOf w ops n (Found' q c s d) = (shape (op_at ops n) ≡ visits_below) × IsOf w
 IsOf w ops n (Pass' q c) = (shape (op_at ops n) ≡ event_for_event) × IsOf w ops (input_of (op_at ops n)) c × IsTrue (has_row c)
 IsOf w ops n (First' q c k) = (shape (op_at ops n) ≡ first_by_keys) × IsOf w ops (input_of (op_at ops n)) c × IsTrue (has_row c) × (k ≤ length (seen_at w n))
     × (IsTrue (is_told w ops) → keys_seen (docs_of w) (keys_of (op_at ops n)) (seen_values w (take k (seen_at w n))) (ahead w ops (input_of (op_at ops n)) c)
-        ≡ drop k (keys_seen (docs_of w) (keys_of (op_at ops n)) [] (events (docs_of w) ops (input_of (op_at ops n)))))
+    ≡ drop k (keys_seen (docs_of w) (keys_of (op_at ops n)) [] (events (docs_of w) ops (input_of (op_at ops n)))))
 IsOf w ops n (Pair' q l q' r) = (shape (op_at ops n) ≡ pairs_up) × IsOf w ops (input_of (op_at ops n)) l × IsTrue (has_row l)
     × IsOf w ops (right_of (op_at ops n)) r × (number w ops (right_of (op_at ops n)) r ≤ size w ops (right_of (op_at ops n)))
 

@@ -68,7 +68,12 @@ impl Bench {
     }
 
     /// The first binding of an operator; `None` where it has none. `Failed`: this source failed. Every earlier cursor and spot stays, whatever is answered.
-    pub fn first<S: Sources>(&mut self, alloc: Global, s: &mut S, op: u32) -> Result<Option<Cursor>, WalkFault>
+    pub fn first<S: Sources>(
+        &mut self,
+        alloc: Global,
+        s: &mut S,
+        op: u32,
+    ) -> Result<Option<Cursor>, WalkFault>
         requires op { op < length (plan_value (plan_of self.old)).ops }
         requires bench { IsBenchOf (S.view s.old) self.old }
         ensures ran { BenchRan S.view S.came_from s.old self.old s.new self.new }
@@ -79,7 +84,14 @@ impl Bench {
             (events_of (state_of (S.view s.old) self.old) op) (size_of (state_of (S.view s.old) self.old) op)) }
     {
         let start = put(alloc, Position::Start)?;
-        match advance(alloc, &self.fixed, &mut self.growing, s, op as usize, &start)? {
+        match advance(
+            alloc,
+            &self.fixed,
+            &mut self.growing,
+            s,
+            op as usize,
+            &start,
+        )? {
             None => Ok(None),
             Some(position) => Ok(Some(Cursor { position })),
         }
@@ -104,7 +116,14 @@ impl Bench {
         ensures answer { IfOk result (GivesFirst (state_of (S.view s.old) self.old) (state_of (S.view s.new) self.new) op
             (ahead_at (state_of (S.view s.old) self.old) op c.now) (number_at (state_of (S.view s.old) self.old) op c.now)) }
     {
-        match advance(alloc, &self.fixed, &mut self.growing, s, op as usize, &c.position)? {
+        match advance(
+            alloc,
+            &self.fixed,
+            &mut self.growing,
+            s,
+            op as usize,
+            &c.position,
+        )? {
             None => Ok(None),
             Some(position) => Ok(Some(Cursor { position })),
         }
@@ -140,7 +159,13 @@ impl Bench {
 
     /// The cursor of an operator's input at the binding that a cursor's binding is made of: of a join's input the one on its side, of a project or a groupBy with keys
     /// the first of those that are the same by them.
-    pub fn under(&self, alloc: Global, op: u32, c: &Cursor, input: u32) -> Result<Cursor, AllocError>
+    pub fn under(
+        &self,
+        alloc: Global,
+        op: u32,
+        c: &Cursor,
+        input: u32,
+    ) -> Result<Cursor, AllocError>
         requires op { op < length (plan_value (plan_of self.now)).ops }
         requires cursor { (view : View) × IsBenchOf view self.now × IsCursor (state_of view self.now) op c.now }
         requires has { HasUnder (op_at (plan_value (plan_of self.now)).ops op) }

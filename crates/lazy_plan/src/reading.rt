@@ -128,7 +128,13 @@ pub(crate) fn spot_of(fixed: &Fixed, n: usize, at: &Rc<Position>, v: Var) -> Opt
 }
 
 /// The label of a variable's node in a position's binding.
-pub(crate) fn label_of<'a>(fixed: &Fixed, growing: &'a Growing, n: usize, at: &Rc<Position>, v: Var) -> &'a Label
+pub(crate) fn label_of<'a>(
+    fixed: &Fixed,
+    growing: &'a Growing,
+    n: usize,
+    at: &Rc<Position>,
+    v: Var,
+) -> &'a Label
     requires fixed { IsFixed fixed.now }
     requires op { n < length (operators fixed.now) }
     requires cursor { (view : View) × IsBench (world_of view growing.now) (operators fixed.now) × IsOf (world_of view growing.now) (operators fixed.now) n at.now.value }
@@ -194,7 +200,13 @@ fn passes(fixed: &Fixed, growing: &Growing, n: usize, at: &Rc<Position>, test: &
 }
 
 /// Whether all comparisons hold in a position's binding.
-fn passes_each(fixed: &Fixed, growing: &Growing, n: usize, at: &Rc<Position>, tests: &[Test]) -> bool
+fn passes_each(
+    fixed: &Fixed,
+    growing: &Growing,
+    n: usize,
+    at: &Rc<Position>,
+    tests: &[Test],
+) -> bool
     requires fixed { IsFixed fixed.now }
     requires op { n < length (operators fixed.now) }
     requires cursor { (view : View) × IsBench (world_of view growing.now) (operators fixed.now) × IsOf (world_of view growing.now) (operators fixed.now) n at.now.value }

@@ -10,12 +10,12 @@ ghost use Rattle.lazy_plan.specs.Steps.{Steps, Finds, Ran, HasCause};
 ghost use Rattle.lazy_plan.specs.Parts.{operators, world_of, IsFixed};
 
 use crate::fault::WalkFault;
-use crate::parts::{Fixed, Growing, operator};
 use crate::firsts::{first_of_key, key_of, seen_up_to};
+use crate::parts::{Fixed, Growing, operator};
 use crate::position::{Position, inside, put, share};
 use crate::reading::{lets_through, start_node};
-use crate::visits::seek;
 use crate::step::Step;
+use crate::visits::seek;
 use lazy_descend::DescCursor;
 use lxp_core::Sources;
 use plan_core::Op;
@@ -39,7 +39,7 @@ pub(crate) fn advance<S: Sources>(
     ensures ran { Ran S.view S.came_from (operators fixed.now) op (ahead (world_of (S.view s.old) growing.old) (operators fixed.now) op from.now.value) s.old growing.old s.new growing.new }
     ensures cause { HasCause (operators fixed.now) (S.view s.old) (S.view s.new) result }
     ensures answer { IfOk result (λ r. MatchOption r (IsTrue (is_told (world_of (S.view s.old) growing.old) (operators fixed.now)) → found (ahead (world_of (S.view s.old) growing.old) (operators fixed.now) op from.now.value) ≡ nothing)
-            (λ d. Finds (world_of (S.view s.old) growing.old) (world_of (S.view s.new) growing.new) (operators fixed.now) op (ahead (world_of (S.view s.old) growing.old) (operators fixed.now) op from.now.value) (number (world_of (S.view s.old) growing.old) (operators fixed.now) op from.now.value) d.value)) }
+        (λ d. Finds (world_of (S.view s.old) growing.old) (world_of (S.view s.new) growing.new) (operators fixed.now) op (ahead (world_of (S.view s.old) growing.old) (operators fixed.now) op from.now.value) (number (world_of (S.view s.old) growing.old) (operators fixed.now) op from.now.value) d.value)) }
 {
     let mut at = share(from)?;
     'events: loop {
@@ -71,9 +71,26 @@ fn next_event<S: Sources>(
 {
     match operator(fixed, op) {
         Op::Source { source, .. } => step_source(alloc, fixed, growing, s, op, *source, at),
-        Op::GetDescendants { input, .. } => step_visits(alloc, fixed, growing, s, op, *input as usize, at),
+        Op::GetDescendants { input, .. } => step_visits(
+            alloc,
+            fixed,
+            growing,
+            s,
+            op,
+            *input as usize,
+            at,
+        ),
         Op::Select { input, .. } => step_events(alloc, fixed, growing, s, op, *input as usize, at),
-        Op::Join { left, right, .. } => step_pairs(alloc, fixed, growing, s, op, *left as usize, *right as usize, at),
+        Op::Join { left, right, .. } => step_pairs(
+            alloc,
+            fixed,
+            growing,
+            s,
+            op,
+            *left as usize,
+            *right as usize,
+            at,
+        ),
         Op::Project { input, .. } => step_firsts(alloc, fixed, growing, s, op, *input as usize, at),
         Op::GroupBy { input, keys, .. } => {
             if keys.is_empty() {
@@ -83,8 +100,24 @@ fn next_event<S: Sources>(
             }
         }
         Op::OrderBy { .. } => unreachable!(),
-        Op::Concatenate { input, .. } => step_events(alloc, fixed, growing, s, op, *input as usize, at),
-        Op::CreateElement { input, .. } => step_events(alloc, fixed, growing, s, op, *input as usize, at),
+        Op::Concatenate { input, .. } => step_events(
+            alloc,
+            fixed,
+            growing,
+            s,
+            op,
+            *input as usize,
+            at,
+        ),
+        Op::CreateElement { input, .. } => step_events(
+            alloc,
+            fixed,
+            growing,
+            s,
+            op,
+            *input as usize,
+            at,
+        ),
         Op::TupleDestroy { .. } => Ok(Step::Done),
     }
 }

@@ -46,14 +46,13 @@ pub(crate) fn variable_source(fixed: &Fixed, n: usize, v: Var) -> Option<u32>
     ensures { result ≡ source_var (operators fixed.now) n v }
 {
     match operator(fixed, n) {
-        Op::Source { source, out } => {
-            if *out == v {
-                Some(*source)
-            } else {
-                None
-            }
-        }
-        Op::GetDescendants { input, start, out, .. } => {
+        Op::Source { source, out } => { if *out == v { Some(*source) } else { None } }
+        Op::GetDescendants {
+            input,
+            start,
+            out,
+            ..
+        } => {
             let of = if *out == v { *start } else { v };
             variable_source(fixed, *input as usize, of)
         }

@@ -15,15 +15,15 @@ unreachable-requires c =
 pub returns-clause-read : goal.returns-clause-read
 returns-clause-read c =
     (start_found (operators c.args.fixed.now) c.requires.fixed.typed c.args.op c.requires.op c.requires.is c.requires.cursor.0 c.args.input c.requires.input c.args.at.now.value c.requires.cursor.1 c.requires.row
-      c.start_of.result c.start_of.ensures c.in-Some.found (sym c.spot_of.ensures ∙ c.in-Some.is)).read
+    c.start_of.result c.start_of.ensures c.in-Some.found (sym c.spot_of.ensures ∙ c.in-Some.is)).read
 
 pub returns-clause-spot : goal.returns-clause-spot
 returns-clause-spot c = λ w of.
     (start_found (operators c.args.fixed.now) c.requires.fixed.typed c.args.op c.requires.op c.requires.is w c.args.input c.requires.input c.args.at.now.value of c.requires.row
-      c.start_of.result c.start_of.ensures c.in-Some.found (sym c.spot_of.ensures ∙ c.in-Some.is)).known
+    c.start_of.result c.start_of.ensures c.in-Some.found (sym c.spot_of.ensures ∙ c.in-Some.is)).known
 
 pub returns-clause-node : goal.returns-clause-node
 returns-clause-node c = λ w of.
     ap (row_node (binding w (operators c.args.fixed.now) c.args.input c.args.at.now.value)) (sym c.start_of.ensures)
     ∙ (start_found (operators c.args.fixed.now) c.requires.fixed.typed c.args.op c.requires.op c.requires.is w c.args.input c.requires.input c.args.at.now.value of c.requires.row
-      c.start_of.result c.start_of.ensures c.in-Some.found (sym c.spot_of.ensures ∙ c.in-Some.is)).node
+    c.start_of.result c.start_of.ensures c.in-Some.found (sym c.spot_of.ensures ∙ c.in-Some.is)).node

@@ -63,11 +63,11 @@ pub in_visit-returns-in_err-seek-clause-ran : goal.in_visit-returns-in_err-seek-
 in_visit-returns-in_err-seek-clause-ran g t c = rw c.requires.input (visit_ran (operators c.args.fixed.now) c.requires.fixed.typed c.args.op c.requires.op c.requires.is c.args.below.now.value c.args.source c.args.visit.now (rw c.requires.input at c.seek.ensures.sought) (found_ahead (docs_of (world_of (g.S.Sources.view c.args.s.now) c.args.growing.now)) (op_at (operators c.args.fixed.now) c.args.op) (ahead (world_of (g.S.Sources.view c.args.s.now) c.args.growing.now) (operators c.args.fixed.now) (input_of (op_at (operators c.args.fixed.now) c.args.op)) c.args.below.now.value)))
 
 pub in_visit-returns-in_ok-position-in-Some-clause-answer : goal.in_visit-returns-in_ok-position-in-Some-clause-answer
-in_visit-returns-in_ok-position-in-Some-clause-answer g t c = 
+in_visit-returns-in_ok-position-in-Some-clause-answer g t c =
     let e = c.in_ok-position-in-Some.ensures.ok in
     let b = c.in_ok-below-in-Some.ensures.ok in
     rw (e, b) (rw c.requires.input (visit_at (operators c.args.fixed.now) c.requires.fixed.typed c.args.op c.requires.op c.requires.is (world_of (g.S.Sources.view c.args.s.now) c.args.growing.now) _ c.seek.ensures.sought.kept c.requires.bench c.args.below.now.value (rw c.requires.input at c.requires.below) c.args.source c.args.visit.now (rw c.requires.input at c.seek.ensures.sought.lazy) c.requires.row (rw c.requires.input at c.requires.start) c.requires.read _
-      (rw (c.in-Some.is, c.requires.input) at c.in_ok-seek.ensures.answer) _))
+    (rw (c.in-Some.is, c.requires.input) at c.in_ok-seek.ensures.answer) _))
 
 pub in_visit-returns-in_ok-position-in-Some-clause-ran : goal.in_visit-returns-in_ok-position-in-Some-clause-ran
 in_visit-returns-in_ok-position-in-Some-clause-ran g t c = rw c.requires.input (visit_ran (operators c.args.fixed.now) c.requires.fixed.typed c.args.op c.requires.op c.requires.is c.args.below.now.value c.args.source c.args.visit.now (rw c.requires.input at c.seek.ensures.sought) (found_ahead (docs_of (world_of (g.S.Sources.view c.args.s.now) c.args.growing.now)) (op_at (operators c.args.fixed.now) c.args.op) (ahead (world_of (g.S.Sources.view c.args.s.now) c.args.growing.now) (operators c.args.fixed.now) (input_of (op_at (operators c.args.fixed.now) c.args.op)) c.args.below.now.value)))
@@ -94,7 +94,7 @@ pub next_left-returns-in_err-start-in-Some-clause-ran : goal.next_left-returns-i
 next_left-returns-in_err-start-in-Some-clause-ran g t c = rw (c.requires.left, c.requires.right) (ran_over (rw c.requires.left at c.advance.ensures.ran) (left_costs (operators c.args.fixed.now) c.requires.fixed.typed c.args.op c.requires.op c.requires.is (world_of (g.S.Sources.view c.args.s.now) c.args.growing.now) (world_of (g.S.Sources.view c.args.s.now) c.args.growing.now) c.requires.bench c.args.l.now.value) (λ z. (pairs_single (operators c.args.fixed.now) c.requires.fixed.typed c.args.op c.requires.op c.requires.is z).0))
 
 pub next_left-returns-in_ok-pair-in-Some-clause-answer : goal.next_left-returns-in_ok-pair-in-Some-clause-answer
-next_left-returns-in_ok-pair-in-Some-clause-answer g t c = 
+next_left-returns-in_ok-pair-in-Some-clause-answer g t c =
     let f = rw (c.in-Some.is, c.requires.left) at c.in_ok-advance.ensures.answer in
     let e = c.in_ok-pair-in-Some.ensures.ok in
     let b = c.in_ok-start-in-Some.ensures.ok in
@@ -104,7 +104,7 @@ pub next_left-returns-in_ok-pair-in-Some-clause-ran : goal.next_left-returns-in_
 next_left-returns-in_ok-pair-in-Some-clause-ran g t c = rw (c.requires.left, c.requires.right) (ran_over (rw c.requires.left at c.advance.ensures.ran) (left_costs (operators c.args.fixed.now) c.requires.fixed.typed c.args.op c.requires.op c.requires.is (world_of (g.S.Sources.view c.args.s.now) c.args.growing.now) (world_of (g.S.Sources.view c.args.s.now) c.args.growing.now) c.requires.bench c.args.l.now.value) (λ z. (pairs_single (operators c.args.fixed.now) c.requires.fixed.typed c.args.op c.requires.op c.requires.is z).0))
 
 pub next_right-lets_through-requires-clause-cursor : goal.next_right-lets_through-requires-clause-cursor
-next_right-lets_through-requires-clause-cursor g t c = 
+next_right-lets_through-requires-clause-cursor g t c =
     let f = rw (c.in-Some.is, c.requires.right) at c.in_ok-advance.ensures.answer in
     let e = c.in_ok-pair-in-Some.ensures.ok in
     let b = c.in_ok-l-in-Some.ensures.ok in
@@ -116,7 +116,7 @@ next_right-next_left-requires g t c κs within =
     search rules
 
 pub next_right-returns-else-lets_through-clause-answer : goal.next_right-returns-else-lets_through-clause-answer
-next_right-returns-else-lets_through-clause-answer g t c = 
+next_right-returns-else-lets_through-clause-answer g t c =
     let f = rw (c.in-Some.is, c.requires.right) at c.in_ok-advance.ensures.answer in
     let e = c.in_ok-pair-in-Some.ensures.ok in
     let b = c.in_ok-l-in-Some.ensures.ok in
@@ -143,7 +143,7 @@ pub next_right-returns-in_err-pair-in-Some-clause-ran : goal.next_right-returns-
 next_right-returns-in_err-pair-in-Some-clause-ran g t c = rw (c.requires.left, c.requires.right) (ran_over (rw c.requires.right at c.advance.ensures.ran) (right_costs (operators c.args.fixed.now) c.requires.fixed.typed c.args.op c.requires.op c.requires.is (world_of (g.S.Sources.view c.args.s.now) c.args.growing.now) _ c.requires.bench c.args.l.now.value c.args.r.now.value (rw c.requires.left at c.requires.below) c.requires.row (rw c.requires.right at c.requires.small) (rw c.requires.right at c.advance.ensures.ran).asks (left_ahead (docs_of (world_of (g.S.Sources.view c.args.s.now) c.args.growing.now)) (op_at (operators c.args.fixed.now) c.args.op) (events (docs_of (world_of (g.S.Sources.view c.args.s.now) c.args.growing.now)) (operators c.args.fixed.now) (right_of (op_at (operators c.args.fixed.now) c.args.op))) (ahead (world_of (g.S.Sources.view c.args.s.now) c.args.growing.now) (operators c.args.fixed.now) (input_of (op_at (operators c.args.fixed.now) c.args.op)) c.args.l.now.value))) (λ z. (pairs_single (operators c.args.fixed.now) c.requires.fixed.typed c.args.op c.requires.op c.requires.is z).1))
 
 pub next_right-returns-then-lets_through-clause-answer : goal.next_right-returns-then-lets_through-clause-answer
-next_right-returns-then-lets_through-clause-answer g t c = 
+next_right-returns-then-lets_through-clause-answer g t c =
     let f = rw (c.in-Some.is, c.requires.right) at c.in_ok-advance.ensures.answer in
     let e = c.in_ok-pair-in-Some.ensures.ok in
     let b = c.in_ok-l-in-Some.ensures.ok in
@@ -167,7 +167,7 @@ pub next_start-returns-in_err-position-in-Some-clause-ran : goal.next_start-retu
 next_start-returns-in_err-position-in-Some-clause-ran g t c = rw c.requires.input (ran_over (rw c.requires.input at c.advance.ensures.ran) (visits_costs (operators c.args.fixed.now) c.requires.fixed.typed c.args.op c.requires.op c.requires.is (world_of (g.S.Sources.view c.args.s.now) c.args.growing.now) (world_of (g.S.Sources.view c.args.s.now) c.args.growing.now) c.args.below.now.value c.requires.bench) (λ z. absurd (visits_single (operators c.args.fixed.now) c.requires.fixed.typed c.args.op c.requires.op c.requires.is z)))
 
 pub next_start-returns-in_ok-position-in-Some-clause-answer : goal.next_start-returns-in_ok-position-in-Some-clause-answer
-next_start-returns-in_ok-position-in-Some-clause-answer g t c = 
+next_start-returns-in_ok-position-in-Some-clause-answer g t c =
     let f = rw c.in-Some.is at c.in_ok-advance.ensures.answer in
     let start = ap (λ (n : Node). n.source) (c.start_node-source.ensures.node _ f.cursor) in
     let e = c.in_ok-position-in-Some.ensures.ok in
@@ -241,7 +241,7 @@ pub step_firsts-returns-in-None-clause-answer : goal.step_firsts-returns-in-None
 step_firsts-returns-in-None-clause-answer g t c = firsts_done (operators c.args.fixed.now) c.requires.fixed.typed c.args.op c.requires.op c.requires.is (world_of (g.S.Sources.view c.args.s.now) c.args.growing.now) c.args.at.now.value c.requires.cursor (rw (c.in-None.is, c.in_ok-before.ensures.ok, c.requires.input) at c.in_ok-advance.ensures.answer)
 
 pub step_firsts-returns-clause-ran : goal.step_firsts-returns-clause-ran
-step_firsts-returns-clause-ran g t c = 
+step_firsts-returns-clause-ran g t c =
     let k = rw (c.in_ok-before.ensures.ok, c.requires.input) at c.advance.ensures.ran in
     let h = rw c.in-Some.is at c.in_ok-advance.ensures.answer in
     let f = rw (c.in-Some.is, c.in_ok-before.ensures.ok, c.requires.input) at c.in_ok-advance.ensures.answer in
@@ -250,7 +250,7 @@ step_firsts-returns-clause-ran g t c =
     record { came = k.came; bench = firsts_bench (operators c.args.fixed.now) c.requires.fixed.typed c.args.op c.requires.op c.requires.is (world_of (g.S.Sources.view c.args.s.now) c.args.growing.now) c.args.at.now.value c.requires.cursor _ c.requires.bench k.asks _ f k.bench c.in_ok-key-in-Some.key.items parts value c.first_of_key.new.seen.items c.first_of_key.ensures.grows (rw c.seen_up_to-count.ensures at c.first_of_key.ensures.pushed); asks = firsts_asks (operators c.args.fixed.now) c.requires.fixed.typed c.args.op c.requires.op c.requires.is (world_of (g.S.Sources.view c.args.s.now) c.args.growing.now) c.args.at.now.value c.requires.cursor _ c.requires.bench k.asks _ f k.bench c.in_ok-key-in-Some.key.items parts value c.first_of_key.new.seen.items c.first_of_key.ensures.grows (rw c.seen_up_to-count.ensures at c.first_of_key.ensures.pushed) }
 
 pub step_firsts-returns-clause-answer : goal.step_firsts-returns-clause-answer
-step_firsts-returns-clause-answer g t c = 
+step_firsts-returns-clause-answer g t c =
     let k = rw (c.in_ok-before.ensures.ok, c.requires.input) at c.advance.ensures.ran in
     let h = rw c.in-Some.is at c.in_ok-advance.ensures.answer in
     let f = rw (c.in-Some.is, c.in_ok-before.ensures.ok, c.requires.input) at c.in_ok-advance.ensures.answer in

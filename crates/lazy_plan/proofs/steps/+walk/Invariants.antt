@@ -40,10 +40,10 @@ abbrev pub invariant-advance-events : goal.invariant-advance-events
 invariant-advance-events g l = record {
   came : g.S.Sources.came_from l.s l.initial.s;
   goes : Goes (world_of (g.S.Sources.view l.initial.s) l.initial.growing) (world_of (g.S.Sources.view l.s) l.growing) (operators l.fixed) l.op
-    (ahead (world_of (g.S.Sources.view l.initial.s) l.initial.growing) (operators l.fixed) l.op l.from.value) (ahead (world_of (g.S.Sources.view l.s) l.growing) (operators l.fixed) l.op l.at.value)
-    (number (world_of (g.S.Sources.view l.initial.s) l.initial.growing) (operators l.fixed) l.op l.from.value) (number (world_of (g.S.Sources.view l.s) l.growing) (operators l.fixed) l.op l.at.value);
+      (ahead (world_of (g.S.Sources.view l.initial.s) l.initial.growing) (operators l.fixed) l.op l.from.value) (ahead (world_of (g.S.Sources.view l.s) l.growing) (operators l.fixed) l.op l.at.value)
+      (number (world_of (g.S.Sources.view l.initial.s) l.initial.growing) (operators l.fixed) l.op l.from.value) (number (world_of (g.S.Sources.view l.s) l.growing) (operators l.fixed) l.op l.at.value);
   bench : IsBench (world_of (g.S.Sources.view l.s) l.growing) (operators l.fixed);
-  cursor : IsOf (world_of (g.S.Sources.view l.s) l.growing) (operators l.fixed) l.op l.at.value
+  cursor : IsOf (world_of (g.S.Sources.view l.s) l.growing) (operators l.fixed) l.op l.at.value;
 }
 
 abbrev pub decreases-advance-events : goal.decreases-advance-events

@@ -25,7 +25,7 @@ returns-in_ok-position-in-Start-clause-answer g c =
     let place = top_place (world_of (g.S.Sources.view c.args.s.now) c.args.growing.now) c.args.source c.index.result.now c.top-top.result h c.index.ensures c.top-top.ensures.place in
     subst (λ (p : Position). Finds (world_of (g.S.Sources.view c.args.s.now) c.args.growing.now) (world_of (g.S.Sources.view c.args.s.now) c.args.growing.now) (operators c.args.fixed.now) c.args.op (ahead (world_of (g.S.Sources.view c.args.s.now) c.args.growing.now) (operators c.args.fixed.now) c.args.op c.args.at.now.value) (number (world_of (g.S.Sources.view c.args.s.now) c.args.growing.now) (operators c.args.fixed.now) c.args.op c.args.at.now.value) p) (sym c.in_ok-position-in-Start.ensures.ok)
     (subst (λ (p : Position). Finds (world_of (g.S.Sources.view c.args.s.now) c.args.growing.now) (world_of (g.S.Sources.view c.args.s.now) c.args.growing.now) (operators c.args.fixed.now) c.args.op (ahead (world_of (g.S.Sources.view c.args.s.now) c.args.growing.now) (operators c.args.fixed.now) c.args.op p) (number (world_of (g.S.Sources.view c.args.s.now) c.args.growing.now) (operators c.args.fixed.now) c.args.op p) (Top c.args.source c.top-top.result)) (sym (sym c.deref-here.ensures ∙ c.in-Start.is))
-      (top_at (operators c.args.fixed.now) c.requires.fixed.typed c.args.op c.requires.op c.args.source c.requires.is (world_of (g.S.Sources.view c.args.s.now) c.args.growing.now) c.top-top.result known place))
+    (top_at (operators c.args.fixed.now) c.requires.fixed.typed c.args.op c.requires.op c.args.source c.requires.is (world_of (g.S.Sources.view c.args.s.now) c.args.growing.now) c.top-top.result known place))
 
 pub returns-in_default : goal.returns-in_default
 returns-in_default g c = record {

@@ -17,7 +17,7 @@ pub returns-in_ok-position-in-Start-clause-answer : goal.returns-in_ok-position-
 returns-in_ok-position-in-Start-clause-answer g c =
     subst (λ (p : Position). Finds (world_of (g.S.Sources.view c.args.s.now) c.args.growing.now) (world_of (g.S.Sources.view c.args.s.now) c.args.growing.now) (operators c.args.fixed.now) c.args.op (ahead (world_of (g.S.Sources.view c.args.s.now) c.args.growing.now) (operators c.args.fixed.now) c.args.op c.args.at.now.value) (number (world_of (g.S.Sources.view c.args.s.now) c.args.growing.now) (operators c.args.fixed.now) c.args.op c.args.at.now.value) p) (sym c.in_ok-position-in-Start.ensures.ok)
     (subst (λ (p : Position). Finds (world_of (g.S.Sources.view c.args.s.now) c.args.growing.now) (world_of (g.S.Sources.view c.args.s.now) c.args.growing.now) (operators c.args.fixed.now) c.args.op (ahead (world_of (g.S.Sources.view c.args.s.now) c.args.growing.now) (operators c.args.fixed.now) c.args.op p) (number (world_of (g.S.Sources.view c.args.s.now) c.args.growing.now) (operators c.args.fixed.now) c.args.op p) Whole) (sym (sym c.deref-here.ensures ∙ c.in-Start.is))
-      (whole_at (operators c.args.fixed.now) c.requires.fixed.typed c.args.op c.requires.op c.requires.is (world_of (g.S.Sources.view c.args.s.now) c.args.growing.now)))
+    (whole_at (operators c.args.fixed.now) c.requires.fixed.typed c.args.op c.requires.op c.requires.is (world_of (g.S.Sources.view c.args.s.now) c.args.growing.now)))
 
 pub returns-in_default : goal.returns-in_default
 returns-in_default g c = record {

@@ -27,14 +27,14 @@ returns-in-Ok-clause-asked g c =
     call_asked c.args.source c.index_mut-buffer.result.now c.first.new.b c.requires.bench (spot_read c.requires.start c.index_mut-buffer.result.now (read_is c.args.growing.now.buffers.items c.args.source c.requires.start.buffer c.index_mut-buffer.result.now c.requires.start.there c.index_mut-buffer.ensures.value)).there
     (g.met.S.Sources.keeps _ _ c.first.ensures.ran.came) c.first.ensures.ran refl refl
     (call_lazy (g.S.Sources.view c.args.s.now) (g.S.Sources.view c.first.new.s) c.args.growing.now.buffers.items c.args.growing.now.seen.items (operators c.args.fixed.now) c.requires.bench c.args.source c.index_mut-buffer.result.now c.first.new.b (spot_read c.requires.start c.index_mut-buffer.result.now (read_is c.args.growing.now.buffers.items c.args.source c.requires.start.buffer c.index_mut-buffer.result.now c.requires.start.there c.index_mut-buffer.ensures.value)).there c.requires.read (visit_below (machine_of c.auto_of-auto.result.now) (document_node (g.S.Sources.view c.args.s.now) (number_of c.index_mut-buffer.result.now)) (place_of c.index_mut-buffer.result.now c.args.start.now)) (visit_below (machine_at (op_at (operators c.args.fixed.now) c.args.op)) (tree [] (docs_of (world_of (g.S.Sources.view c.args.s.now) c.args.growing.now) c.args.source) none) (place_in (world_of (g.S.Sources.view c.args.s.now) c.args.growing.now) c.args.source c.args.start.now))
-      (visit_same (world_of (g.S.Sources.view c.args.s.now) c.args.growing.now) (operators c.args.fixed.now) c.requires.bench c.args.source c.args.start.now (spot_read c.requires.start c.index_mut-buffer.result.now (read_is c.args.growing.now.buffers.items c.args.source c.requires.start.buffer c.index_mut-buffer.result.now c.requires.start.there c.index_mut-buffer.ensures.value)) (machine_of c.auto_of-auto.result.now) (machine_at (op_at (operators c.args.fixed.now) c.args.op)) c.auto_of-auto.ensures) c.first.ensures.lazy)
+    (visit_same (world_of (g.S.Sources.view c.args.s.now) c.args.growing.now) (operators c.args.fixed.now) c.requires.bench c.args.source c.args.start.now (spot_read c.requires.start c.index_mut-buffer.result.now (read_is c.args.growing.now.buffers.items c.args.source c.requires.start.buffer c.index_mut-buffer.result.now c.requires.start.there c.index_mut-buffer.ensures.value)) (machine_of c.auto_of-auto.result.now) (machine_at (op_at (operators c.args.fixed.now) c.args.op)) c.auto_of-auto.ensures) c.first.ensures.lazy)
 
 pub returns-in-Err-clause-asked : goal.returns-in-Err-clause-asked
 returns-in-Err-clause-asked g c =
     call_asked c.args.source c.index_mut-buffer.result.now c.first.new.b c.requires.bench (spot_read c.requires.start c.index_mut-buffer.result.now (read_is c.args.growing.now.buffers.items c.args.source c.requires.start.buffer c.index_mut-buffer.result.now c.requires.start.there c.index_mut-buffer.ensures.value)).there
     (g.met.S.Sources.keeps _ _ c.first.ensures.ran.came) c.first.ensures.ran refl refl
     (call_lazy (g.S.Sources.view c.args.s.now) (g.S.Sources.view c.first.new.s) c.args.growing.now.buffers.items c.args.growing.now.seen.items (operators c.args.fixed.now) c.requires.bench c.args.source c.index_mut-buffer.result.now c.first.new.b (spot_read c.requires.start c.index_mut-buffer.result.now (read_is c.args.growing.now.buffers.items c.args.source c.requires.start.buffer c.index_mut-buffer.result.now c.requires.start.there c.index_mut-buffer.ensures.value)).there c.requires.read (visit_below (machine_of c.auto_of-auto.result.now) (document_node (g.S.Sources.view c.args.s.now) (number_of c.index_mut-buffer.result.now)) (place_of c.index_mut-buffer.result.now c.args.start.now)) (visit_below (machine_at (op_at (operators c.args.fixed.now) c.args.op)) (tree [] (docs_of (world_of (g.S.Sources.view c.args.s.now) c.args.growing.now) c.args.source) none) (place_in (world_of (g.S.Sources.view c.args.s.now) c.args.growing.now) c.args.source c.args.start.now))
-      (visit_same (world_of (g.S.Sources.view c.args.s.now) c.args.growing.now) (operators c.args.fixed.now) c.requires.bench c.args.source c.args.start.now (spot_read c.requires.start c.index_mut-buffer.result.now (read_is c.args.growing.now.buffers.items c.args.source c.requires.start.buffer c.index_mut-buffer.result.now c.requires.start.there c.index_mut-buffer.ensures.value)) (machine_of c.auto_of-auto.result.now) (machine_at (op_at (operators c.args.fixed.now) c.args.op)) c.auto_of-auto.ensures) c.first.ensures.lazy)
+    (visit_same (world_of (g.S.Sources.view c.args.s.now) c.args.growing.now) (operators c.args.fixed.now) c.requires.bench c.args.source c.args.start.now (spot_read c.requires.start c.index_mut-buffer.result.now (read_is c.args.growing.now.buffers.items c.args.source c.requires.start.buffer c.index_mut-buffer.result.now c.requires.start.there c.index_mut-buffer.ensures.value)) (machine_of c.auto_of-auto.result.now) (machine_at (op_at (operators c.args.fixed.now) c.args.op)) c.auto_of-auto.ensures) c.first.ensures.lazy)
 
 pub returns-in-Ok-clause-answer : goal.returns-in-Ok-clause-answer
 returns-in-Ok-clause-answer g c =
@@ -46,4 +46,4 @@ pub returns-in-Err-clause-cause : goal.returns-in-Err-clause-cause
 returns-in-Err-clause-cause g c =
     subst (HasRose (operators c.args.fixed.now) (g.S.Sources.view c.args.s.now) (g.S.Sources.view c.first.new.s)) (sym c.of_source.ensures)
     (call_cause (g.S.Sources.view c.args.s.now) (g.S.Sources.view c.first.new.s) c.args.growing.now.buffers.items c.args.growing.now.seen.items (operators c.args.fixed.now) c.requires.bench c.args.source c.index_mut-buffer.result.now
-      (spot_read c.requires.start c.index_mut-buffer.result.now (read_is c.args.growing.now.buffers.items c.args.source c.requires.start.buffer c.index_mut-buffer.result.now c.requires.start.there c.index_mut-buffer.ensures.value)).there c.requires.read c.in-Err.fault (λ e. c.first.ensures.failed (c.in-Err.is ∙ ap Err e)))
+    (spot_read c.requires.start c.index_mut-buffer.result.now (read_is c.args.growing.now.buffers.items c.args.source c.requires.start.buffer c.index_mut-buffer.result.now c.requires.start.there c.index_mut-buffer.ensures.value)).there c.requires.read c.in-Err.fault (λ e. c.first.ensures.failed (c.in-Err.is ∙ ap Err e)))

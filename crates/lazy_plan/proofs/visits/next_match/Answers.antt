@@ -27,14 +27,14 @@ returns-in-Ok-clause-asked g c =
     call_asked c.args.source c.index_mut-buffer.result.now c.next.new.b c.requires.bench (match_read c.requires.at c.index_mut-buffer.result.now (read_is c.args.growing.now.buffers.items c.args.source c.requires.at.buffer c.index_mut-buffer.result.now c.requires.at.there c.index_mut-buffer.ensures.value)).there
     (g.met.S.Sources.keeps _ _ c.next.ensures.ran.came) c.next.ensures.ran refl refl
     (call_lazy (g.S.Sources.view c.args.s.now) (g.S.Sources.view c.next.new.s) c.args.growing.now.buffers.items c.args.growing.now.seen.items (operators c.args.fixed.now) c.requires.bench c.args.source c.index_mut-buffer.result.now c.next.new.b (match_read c.requires.at c.index_mut-buffer.result.now (read_is c.args.growing.now.buffers.items c.args.source c.requires.at.buffer c.index_mut-buffer.result.now c.requires.at.there c.index_mut-buffer.ensures.value)).there c.requires.read (ahead (g.S.Sources.view c.args.s.now) c.index_mut-buffer.result.now (machine_of c.auto_of-auto.result.now) c.args.at.now) (match_ahead (world_of (g.S.Sources.view c.args.s.now) c.args.growing.now) c.args.source (machine_at (op_at (operators c.args.fixed.now) c.args.op)) c.args.at.now)
-      (ahead_same (world_of (g.S.Sources.view c.args.s.now) c.args.growing.now) c.args.source c.args.at.now (match_read c.requires.at c.index_mut-buffer.result.now (read_is c.args.growing.now.buffers.items c.args.source c.requires.at.buffer c.index_mut-buffer.result.now c.requires.at.there c.index_mut-buffer.ensures.value)) (machine_of c.auto_of-auto.result.now) (machine_at (op_at (operators c.args.fixed.now) c.args.op)) c.auto_of-auto.ensures) c.next.ensures.lazy)
+    (ahead_same (world_of (g.S.Sources.view c.args.s.now) c.args.growing.now) c.args.source c.args.at.now (match_read c.requires.at c.index_mut-buffer.result.now (read_is c.args.growing.now.buffers.items c.args.source c.requires.at.buffer c.index_mut-buffer.result.now c.requires.at.there c.index_mut-buffer.ensures.value)) (machine_of c.auto_of-auto.result.now) (machine_at (op_at (operators c.args.fixed.now) c.args.op)) c.auto_of-auto.ensures) c.next.ensures.lazy)
 
 pub returns-in-Err-clause-asked : goal.returns-in-Err-clause-asked
 returns-in-Err-clause-asked g c =
     call_asked c.args.source c.index_mut-buffer.result.now c.next.new.b c.requires.bench (match_read c.requires.at c.index_mut-buffer.result.now (read_is c.args.growing.now.buffers.items c.args.source c.requires.at.buffer c.index_mut-buffer.result.now c.requires.at.there c.index_mut-buffer.ensures.value)).there
     (g.met.S.Sources.keeps _ _ c.next.ensures.ran.came) c.next.ensures.ran refl refl
     (call_lazy (g.S.Sources.view c.args.s.now) (g.S.Sources.view c.next.new.s) c.args.growing.now.buffers.items c.args.growing.now.seen.items (operators c.args.fixed.now) c.requires.bench c.args.source c.index_mut-buffer.result.now c.next.new.b (match_read c.requires.at c.index_mut-buffer.result.now (read_is c.args.growing.now.buffers.items c.args.source c.requires.at.buffer c.index_mut-buffer.result.now c.requires.at.there c.index_mut-buffer.ensures.value)).there c.requires.read (ahead (g.S.Sources.view c.args.s.now) c.index_mut-buffer.result.now (machine_of c.auto_of-auto.result.now) c.args.at.now) (match_ahead (world_of (g.S.Sources.view c.args.s.now) c.args.growing.now) c.args.source (machine_at (op_at (operators c.args.fixed.now) c.args.op)) c.args.at.now)
-      (ahead_same (world_of (g.S.Sources.view c.args.s.now) c.args.growing.now) c.args.source c.args.at.now (match_read c.requires.at c.index_mut-buffer.result.now (read_is c.args.growing.now.buffers.items c.args.source c.requires.at.buffer c.index_mut-buffer.result.now c.requires.at.there c.index_mut-buffer.ensures.value)) (machine_of c.auto_of-auto.result.now) (machine_at (op_at (operators c.args.fixed.now) c.args.op)) c.auto_of-auto.ensures) c.next.ensures.lazy)
+    (ahead_same (world_of (g.S.Sources.view c.args.s.now) c.args.growing.now) c.args.source c.args.at.now (match_read c.requires.at c.index_mut-buffer.result.now (read_is c.args.growing.now.buffers.items c.args.source c.requires.at.buffer c.index_mut-buffer.result.now c.requires.at.there c.index_mut-buffer.ensures.value)) (machine_of c.auto_of-auto.result.now) (machine_at (op_at (operators c.args.fixed.now) c.args.op)) c.auto_of-auto.ensures) c.next.ensures.lazy)
 
 pub returns-in-Ok-clause-answer : goal.returns-in-Ok-clause-answer
 returns-in-Ok-clause-answer g c =
@@ -46,4 +46,4 @@ pub returns-in-Err-clause-cause : goal.returns-in-Err-clause-cause
 returns-in-Err-clause-cause g c =
     subst (HasRose (operators c.args.fixed.now) (g.S.Sources.view c.args.s.now) (g.S.Sources.view c.next.new.s)) (sym c.of_source.ensures)
     (call_cause (g.S.Sources.view c.args.s.now) (g.S.Sources.view c.next.new.s) c.args.growing.now.buffers.items c.args.growing.now.seen.items (operators c.args.fixed.now) c.requires.bench c.args.source c.index_mut-buffer.result.now
-      (match_read c.requires.at c.index_mut-buffer.result.now (read_is c.args.growing.now.buffers.items c.args.source c.requires.at.buffer c.index_mut-buffer.result.now c.requires.at.there c.index_mut-buffer.ensures.value)).there c.requires.read c.in-Err.fault (λ e. c.next.ensures.failed (c.in-Err.is ∙ ap Err e)))
+    (match_read c.requires.at c.index_mut-buffer.result.now (read_is c.args.growing.now.buffers.items c.args.source c.requires.at.buffer c.index_mut-buffer.result.now c.requires.at.there c.index_mut-buffer.ensures.value)).there c.requires.read c.in-Err.fault (λ e. c.next.ensures.failed (c.in-Err.is ∙ ap Err e)))

@@ -20,10 +20,10 @@ returns-clause-bench g c =
     (c.in_ok-autos.ensures ∙ ap (map (λ (o : Op). table_in (op_of o))) c.deref.ensures.value) c.in_ok-buffers.ensures.buffers
     (let few = c.smaller-count.ensures.most in let most = c.count-most.ensures in let l = c.in_ok-buffers.ensures.length in omega (arith, few, most, l))
     (enough_buffers (length c.args.p.sources.items) (g.S.Sources.view c.args.s.now).count c.smaller-count.result
-      (subst (λ (m : ℕ). c.smaller-count.result ≤ m) names c.smaller-count.ensures.names) (subst (λ (m : ℕ). c.smaller-count.result ≤ m) c.count-most.ensures c.smaller-count.ensures.most)
-      (subst (λ (m : ℕ). (c.smaller-count.result ≡ length c.args.p.sources.items) ⊎ (c.smaller-count.result ≡ m)) c.count-most.ensures
-        (subst (λ (m : ℕ). (c.smaller-count.result ≡ m) ⊎ (c.smaller-count.result ≡ c.count-most.result)) names c.smaller-count.ensures.either))
-      (plan_value c.args.p).ops c.requires.valid.sources c.requires.sources (length c.in_ok-buffers.buffers.items) c.in_ok-buffers.ensures.length)
+    (subst (λ (m : ℕ). c.smaller-count.result ≤ m) names c.smaller-count.ensures.names) (subst (λ (m : ℕ). c.smaller-count.result ≤ m) c.count-most.ensures c.smaller-count.ensures.most)
+    (subst (λ (m : ℕ). (c.smaller-count.result ≡ length c.args.p.sources.items) ⊎ (c.smaller-count.result ≡ m)) c.count-most.ensures
+    (subst (λ (m : ℕ). (c.smaller-count.result ≡ m) ⊎ (c.smaller-count.result ≡ c.count-most.result)) names c.smaller-count.ensures.either))
+    (plan_value c.args.p).ops c.requires.valid.sources c.requires.sources (length c.in_ok-buffers.buffers.items) c.in_ok-buffers.ensures.length)
     (c.in_ok-seen.ensures.length ∙ search rules) c.in_ok-seen.ensures.none
   where
     names : c.len.result ≡ length c.args.p.sources.items
