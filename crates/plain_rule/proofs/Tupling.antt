@@ -8,7 +8,8 @@ use Rattle.mix_tree.specs.Nodes.{Documents, Node, document_node, kids_at}
 use Rattle.path_expr.specs.Form.{Form}
 use Rattle.path_expr.specs.Matches.{LeadsTo}
 use Rattle.path_expr.specs.Matches as matches
-use Rattle.xmas_rule.specs.Bindings.{Binding, node_of, passes, AreBindings}
+use Rattle.mix_tree.specs.Comparisons.{passes}
+use Rattle.xmas_rule.specs.Bindings.{Binding, node_of, AreBindings}
 use Rattle.xmas_rule.specs.Conditions.{Binder, from_source, from_var, binders, binder_vars, comparisons, components, flat}
 use Rattle.xmas_rule.specs.Rules.{RuleValue, IsAccepted}
 use Rattle.xmas_rule.specs.declared.condition.Cond.{Cond}

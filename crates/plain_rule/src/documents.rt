@@ -35,7 +35,7 @@ fn kids_below<'a>(kids: &'a [Tree], place: &[u64]) -> &'a [Tree]
     found
 }
 
-// The children of a node.
+/// The children of a node. Source number n is tree n of `docs`; a source without a tree has an empty document.
 pub fn kids_of<'a>(docs: &'a [Tree], node: &Node) -> &'a [Tree]
     ensures { forest_of result.now ≡ kids_at (documents_of docs.now) node.now }
 {
@@ -52,7 +52,7 @@ fn label_of_kid(alloc: Global, kids: &[Tree], at: u64) -> Result<Label, AllocErr
     }
 }
 
-// The label of a node.
+/// The label of a node; the empty one where nothing stands there.
 pub fn label_of(alloc: Global, docs: &[Tree], node: &Node) -> Result<Label, AllocError>
     ensures { IfOk result (λ label. label ≡ label_at (documents_of docs.now) node.now) }
 {

@@ -46,8 +46,8 @@ impl Part {
     }
 }
 
-// Whether two nodes are one node of one source.
-fn same_node(a: &Node, b: &Node) -> bool
+/// Whether two nodes are one node of one source.
+pub fn same_node(a: &Node, b: &Node) -> bool
     ensures { result ≡ is_same_node a.now b.now }
 {
     a.source() == b.source() && a.place().steps() == b.place().steps()

@@ -15,18 +15,18 @@ use mix_tree::{Key, Label, Tree, Var, keys_in_force};
 use std::alloc::{AllocError, Global};
 use xmas_rule::{Item, Template};
 
-// Another such tree.
+/// Another such tree.
 #[cycle(copying)]
-fn copy_tree(alloc: Global, tree: &Tree) -> Result<Tree, AllocError>
+pub fn copy_tree(alloc: Global, tree: &Tree) -> Result<Tree, AllocError>
     ensures { IfOk result (λ copy. copy ≡ tree.now) }
 {
     let label = tree.label().copy(alloc)?;
     Ok(Tree::new(label, copy_trees(alloc, tree.kids())?))
 }
 
-// Other such trees.
+/// Other such trees.
 #[cycle(copying)]
-fn copy_trees(alloc: Global, trees: &[Tree]) -> Result<Vec<Tree>, AllocError>
+pub fn copy_trees(alloc: Global, trees: &[Tree]) -> Result<Vec<Tree>, AllocError>
     ensures { IfOk result (λ copies. copies.items ≡ trees.now) }
 {
     let mut copies = Vec::new(alloc);

@@ -14,5 +14,9 @@ mod selecting;
 mod tuples;
 
 pub use binding::Binding;
+pub use documents::{kids_of, label_of};
 pub use finished::{bindings, finished_document};
+pub use grouping::same_node;
+pub use instances::{copy_tree, copy_trees};
+pub use matching::matches;
 pub use node::Node;

@@ -1,8 +1,9 @@
 // The comparisons of a body.
 ghost use Rattle.std.specs.Prelude.{◌≡◌, ◌++◌, ◌∷◌, [], cond, IfOk, OnOk};
 ghost use Rattle.std.specs.List.{filter};
+ghost use Rattle.mix_tree.specs.Comparisons.{operand_label, passes as passes_test};
 ghost use Rattle.mix_tree.specs.Nodes.{label_at};
-ghost use Rattle.xmas_rule.specs.Bindings.{node_of, operand_label, passes as passes_test};
+ghost use Rattle.xmas_rule.specs.Bindings.{node_of};
 ghost use Rattle.xmas_rule.specs.Conditions.{comparisons};
 ghost use Rattle.plan_make.proofs.Sorts.{passing};
 ghost use Rattle.plain_rule.specs.Documents.{documents_of};

@@ -1,7 +1,8 @@
 use Rattle.std.proofs.Common.{◌≡◌, ◌∷◌, ◌∙◌, [], ap, sym}
 use Rattle.std.proofs.lemmas.Result.{IfOk-weaker}
 use Rattle.std.specs.List.{filter}
-use Rattle.xmas_rule.specs.Bindings.{node_of, passes}
+use Rattle.mix_tree.specs.Comparisons.{passes}
+use Rattle.xmas_rule.specs.Bindings.{node_of}
 use Rattle.xmas_rule.specs.Conditions.{comparisons}
 use Rattle.plan_make.proofs.Sorts.{passing}
 use Rattle.plain_rule.specs.Documents.{documents_of}

@@ -1,6 +1,7 @@
 use Rattle.std.proofs.Common.{◌≡◌, ◌++◌, drop}
 use Rattle.std.specs.List.{filter}
-use Rattle.xmas_rule.specs.Bindings.{node_of, passes}
+use Rattle.mix_tree.specs.Comparisons.{passes}
+use Rattle.xmas_rule.specs.Bindings.{node_of}
 use Rattle.plain_rule.specs.Documents.{documents_of}
 use Rattle.plain_rule.proofs.selecting.keep_passing.Given as goal
 
