@@ -1,0 +1,4 @@
+pub mod Grouped
+pub mod Loops
+pub mod Places
+pub mod Tables

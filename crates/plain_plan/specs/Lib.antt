@@ -1,0 +1,4 @@
+pub mod Codes
+pub mod Orders
+pub mod Values
+pub mod Worlds
