@@ -8,4 +8,6 @@ mod reads;
 #[cfg(test)]
 mod run;
 #[cfg(test)]
+mod views;
+#[cfg(test)]
 mod walks;

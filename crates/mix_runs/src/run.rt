@@ -18,6 +18,24 @@ fn file(alloc: Global, path: &str, bytes: Vec<u8>) -> Result<MemFile, AllocError
     })
 }
 
+// Runs words over these files. The reads and the writes of these numbers, counted from 1, fail.
+fn run_files(
+    alloc: Global,
+    words: &[&str],
+    files: Vec<MemFile>,
+    failing: (&[u64], &[u64]),
+) -> Result<Outcome, AllocError> {
+    let mut owned = Vec::new(alloc);
+    for word in words {
+        owned.push(String::from_str(alloc, word)?)?;
+    }
+    let mut files = MemFiles::new(alloc, files, failing.0.to_vec(alloc)?)?;
+    let mut out = MemSink::new(alloc, failing.1.to_vec(alloc)?);
+    let status = mixq(alloc, &owned, &mut files, &mut out);
+    let written = out.bytes().to_vec(alloc)?;
+    Ok(Outcome { status, written })
+}
+
 /// Runs words over a document `doc` and a script `s`. The reads and the writes of these numbers, counted from 1, fail.
 pub fn run(
     alloc: Global,
@@ -26,17 +44,23 @@ pub fn run(
     script: &str,
     failing: (&[u64], &[u64]),
 ) -> Result<Outcome, AllocError> {
-    let mut owned = Vec::new(alloc);
-    for word in words {
-        owned.push(String::from_str(alloc, word)?)?;
-    }
     let files = vec![in alloc;
         file(alloc, "doc", document)?,
         file(alloc, "s", script.as_bytes().to_vec(alloc)?)?,
     ]?;
-    let mut files = MemFiles::new(alloc, files, failing.0.to_vec(alloc)?)?;
-    let mut out = MemSink::new(alloc, failing.1.to_vec(alloc)?);
-    let status = mixq(alloc, &owned, &mut files, &mut out);
-    let written = out.bytes().to_vec(alloc)?;
-    Ok(Outcome { status, written })
+    run_files(alloc, words, files, failing)
+}
+
+/// Runs words over files, each a path and a text. The reads and the writes of these numbers, counted from 1, fail.
+pub fn run_over(
+    alloc: Global,
+    words: &[&str],
+    texts: &[(&str, &str)],
+    failing: (&[u64], &[u64]),
+) -> Result<Outcome, AllocError> {
+    let mut files = Vec::new(alloc);
+    for (path, text) in texts {
+        files.push(file(alloc, path, text.as_bytes().to_vec(alloc)?)?)?;
+    }
+    run_files(alloc, words, files, failing)
 }

@@ -1,3 +1,6 @@
 pub mod Lines
+pub mod MountLaws
+pub mod Readiness
 pub mod SourceNames
+pub mod Sourced
 pub mod StopLaws

@@ -11,6 +11,11 @@ pub enum Command<'a> {
     Walk { file: &'a str, script: &'a str },
     Read { view: &'a str, catalog: &'a str },
     Plan { view: &'a str, catalog: &'a str },
+    Run {
+        view: &'a str,
+        catalog: &'a str,
+        script: &'a str,
+    },
     /// Words of no form.
     Unknown,
 }
@@ -33,6 +38,11 @@ pub fn read_words(words: &[String]) -> Command<'_>
         [word, view, catalog] if word.as_str() == "plan" => Command::Plan {
             view: view.as_str(),
             catalog: catalog.as_str(),
+        },
+        [word, view, catalog, script] if word.as_str() == "run" => Command::Run {
+            view: view.as_str(),
+            catalog: catalog.as_str(),
+            script: script.as_str(),
         },
         _ => Command::Unknown,
     }

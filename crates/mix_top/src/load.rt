@@ -35,8 +35,8 @@ fn load<F: Files>(alloc: Global, files: &mut F, path: &str) -> Result<Vec<u8>, S
     }
 }
 
-// The tree that a file spells. An error names the file and why it is refused; only want of memory has no cause.
-fn load_tree<F: Files>(alloc: Global, files: &mut F, path: &str) -> Result<Tree, Stop>
+/// The tree that a file spells. An error names the file and why it is refused; only want of memory has no cause.
+pub fn load_tree<F: Files>(alloc: Global, files: &mut F, path: &str) -> Result<Tree, Stop>
     ensures keeps { KeepsFiles (F.view files.new) (F.view files.old) }
     ensures steady { OnOk result ((p : List ℕ) → (F.view files.new).faults p ≡ (F.view files.old).faults p) }
     ensures ok { IfOk result (IsDocument (F.view files.old) path.now) }

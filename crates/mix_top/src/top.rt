@@ -97,6 +97,7 @@ fn run<F: Files, K: Sink>(
         Command::Walk { file, script } => walk(alloc, file, script, files, out),
         Command::Read { view, catalog } => read(alloc, view, catalog, files, out),
         Command::Plan { view, catalog } => plan(alloc, view, catalog, files, out),
+        Command::Run { .. } => Err(Stop::OutOfMemory),
         Command::Unknown => Err(unknown_words(alloc)),
     }
 }

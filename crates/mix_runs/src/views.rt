@@ -1,0 +1,187 @@
+// Runs of `run`, with answers worked out by hand. VIEW is the file `v`, CATALOG the file `cat`, and SCRIPT the file `s`.
+use crate::run::{Outcome, run_over};
+use std::alloc::{AllocError, Global};
+use std::test::Fail;
+
+const RUN: [&str; 4] = ["run", "v", "cat", "s"];
+
+const MED_HOME: &str = "CONSTRUCT <answer> <med_home> $H $S {$S} </med_home> {$H} </answer> {} WHERE homes homes.home $H AND $H zip._ $V1 AND schools schools.school $S AND $S zip._ $V2 AND $V1 = $V2";
+const TWO: &str = "source homes bracket h chunk 1\nsource schools bracket f chunk 1\n";
+const ONE: &str = "source s bracket f chunk 1\n";
+const HOMES: &str =
+    "homes[home[addr[\"La Jolla\"],zip[91220]],home[addr[\"El Cajon\"],zip[91223]]]";
+const SCHOOLS: &str =
+    "schools[school[dir[Smith],zip[91220]],school[dir[Bar],zip[91220]],school[dir[Hart],zip[91223]]]";
+
+// A view over at most two documents `h` and `f`, a script, and the status and the lines that answer it.
+struct Row {
+    catalog: &'static str,
+    view: &'static str,
+    homes: &'static str,
+    first: &'static str,
+    script: &'static str,
+    status: u8,
+    lines: &'static str,
+}
+
+const ROWS: [Row; 12] = [
+    // The homes with their schools: two answers, of which the first has a home and two schools. Old names are gone on from.
+    Row {
+        catalog: TWO,
+        view: MED_HOME,
+        homes: HOMES,
+        first: SCHOOLS,
+        script: "r = root\nm = down r\nn = right m\na = down m\nb = right a\nc = right b\nd = right c\ne = right a\nfetch e\n",
+        status: 0,
+        lines: "node\nnode\nnode\nnode\nnode\nnode\nnone\nnode\nlabel school\n",
+    },
+    // Every step from an old name, and a name that holds no node.
+    Row {
+        catalog: TWO,
+        view: MED_HOME,
+        homes: HOMES,
+        first: SCHOOLS,
+        script: "r = root\nm = down r\nn = right m\nh = down n\nz = down h\nfetch r\nfetch h\nt = down z\nfetch t\nh = down m\nn = right n\nfetch n\nt = right h\nd = down t\nt = down d\nfetch t\n",
+        status: 0,
+        lines: "node\nnode\nnode\nnode\nnode\nlabel answer\nlabel home\nnode\nlabel \"El Cajon\"\nnode\nnone\nno node\nnode\nnode\nnode\nlabel Smith\n",
+    },
+    // One home has no school.
+    Row {
+        catalog: TWO,
+        view: MED_HOME,
+        homes: HOMES,
+        first: "schools[school[dir[Smith],zip[91220]],school[dir[Bar],zip[91220]]]",
+        script: "r = root\nm = down r\nn = right m\nfetch m\n",
+        status: 0,
+        lines: "node\nnode\nnone\nlabel med_home\n",
+    },
+    // No schools at all.
+    Row {
+        catalog: TWO,
+        view: MED_HOME,
+        homes: HOMES,
+        first: "schools",
+        script: "r = root\nfetch r\nx = down r\n",
+        status: 0,
+        lines: "node\nlabel answer\nnone\n",
+    },
+    // Two homes of the same content are two groups.
+    Row {
+        catalog: TWO,
+        view: MED_HOME,
+        homes: "homes[home[zip[1]],home[zip[1]]]",
+        first: "schools[school[zip[1]]]",
+        script: "r = root\na = down r\nb = right a\nc = right b\nx = down b\nfetch x\n",
+        status: 0,
+        lines: "node\nnode\nnode\nnone\nnode\nlabel home\n",
+    },
+    // A node with two derivations is given once, and the next member is no sibling of it in the source.
+    Row {
+        catalog: ONE,
+        view: "CONSTRUCT <r> $X </r> WHERE s (a|c)*.(c|a.c) $X",
+        homes: "",
+        first: "a[c[c,a[c]],b[c]]",
+        script: "r = root\nx = down r\nfetch x\nx = right x\nfetch x\nx = right x\nfetch x\nx = right x\n",
+        status: 0,
+        lines: "node\nnode\nlabel c\nnode\nlabel c\nnode\nlabel c\nnone\n",
+    },
+    // Ordered by label, ties as they stood.
+    Row {
+        catalog: ONE,
+        view: "CONSTRUCT <o> $X </o> WHERE s l._ $X ORDER BY $X",
+        homes: "",
+        first: "l[x,10,9[a],010,9[b]]",
+        script: "r = root\nx = down r\nfetch x\ny = down x\nfetch y\nx = right x\nfetch x\ny = down x\nfetch y\nx = right x\nfetch x\nx = right x\nfetch x\nx = right x\nfetch x\nx = right x\n",
+        status: 0,
+        lines: "node\nnode\nlabel 9\nnode\nlabel a\nnode\nlabel 9\nnode\nlabel b\nnode\nlabel 010\nnode\nlabel 10\nnode\nlabel x\nnone\n",
+    },
+    // The same turned round, but for the ties.
+    Row {
+        catalog: ONE,
+        view: "CONSTRUCT <o> $X </o> WHERE s l._ $X ORDER BY $X DESC",
+        homes: "",
+        first: "l[x,9[a],9[b]]",
+        script: "r = root\nx = down r\nfetch x\nx = right x\ny = down x\nfetch y\nx = right x\ny = down x\nfetch y\nx = right x\n",
+        status: 0,
+        lines: "node\nnode\nlabel x\nnode\nnode\nlabel a\nnode\nnode\nlabel b\nnone\n",
+    },
+    // An element of a literal, over no binding.
+    Row {
+        catalog: ONE,
+        view: "CONSTRUCT <a> <b> \"x y\" </b> </a> WHERE s q $X",
+        homes: "",
+        first: "p",
+        script: "r = root\nb = down r\nt = down b\nfetch t\nu = right b\n",
+        status: 0,
+        lines: "node\nnode\nnode\nlabel \"x y\"\nnone\n",
+    },
+    // A file that is no document is refused.
+    Row {
+        catalog: TWO,
+        view: MED_HOME,
+        homes: HOMES,
+        first: "schools[",
+        script: "r = root\n",
+        status: 3,
+        lines: "f: ends too early\n",
+    },
+    // Of a source that the view does not name the file is not read.
+    Row {
+        catalog: TWO,
+        view: "CONSTRUCT <r> $X </r> WHERE homes homes.home $X",
+        homes: "homes[home]",
+        first: "schools[",
+        script: "r = root\nx = down r\nfetch x\ny = right x\n",
+        status: 0,
+        lines: "node\nnode\nlabel home\nnone\n",
+    },
+    // The view is refused before the script is read.
+    Row {
+        catalog: ONE,
+        view: "CONSTRUCT <a> $X </a> WHERE s a $Y",
+        homes: "",
+        first: "a",
+        script: "fly\n",
+        status: 3,
+        lines: "v: unbound variable at 14\n",
+    },
+];
+
+// Runs a row; the writes of these numbers fail.
+fn outcome(alloc: Global, row: &Row, failing: &[u64]) -> Result<Outcome, AllocError> {
+    let files = [
+        ("v", row.view),
+        ("cat", row.catalog),
+        ("s", row.script),
+        ("h", row.homes),
+        ("f", row.first),
+    ];
+    run_over(alloc, &RUN, &files, (&[], failing))
+}
+
+#[test]
+fn views_are_answered_step_by_step(rt: HostRuntime) -> Result<(), Fail> {
+    let alloc = rt.alloc();
+    for row in &ROWS {
+        let ended = outcome(alloc, row, &[])?;
+        assert_eq!(rt; ended.written.as_slice(), row.lines.as_bytes());
+        assert_eq!(rt; ended.status, row.status);
+    }
+    Ok(())
+}
+
+#[test]
+fn a_run_ends_with_its_cause(rt: HostRuntime) -> Result<(), Fail> {
+    let alloc = rt.alloc();
+    let ended = run_over(alloc, &RUN, &[("v", MED_HOME), ("s", "")], (&[], &[]))?;
+    assert_eq!(rt; ended.status, 4);
+    assert_eq!(rt; ended.written.as_slice(), b"cat: cannot be read\n".as_slice());
+    let files = [("v", MED_HOME), ("cat", TWO), ("s", ""), ("h", HOMES)];
+    let ended = run_over(alloc, &RUN, &files, (&[], &[]))?;
+    assert_eq!(rt; ended.status, 4);
+    assert_eq!(rt; ended.written.as_slice(), b"f: cannot be read\n".as_slice());
+    let ended = outcome(alloc, &ROWS[0], &[3])?;
+    assert_eq!(rt; ended.status, 5);
+    assert_eq!(rt; ended.written.as_slice(), b"node\nnode\nno".as_slice());
+    Ok(())
+}

@@ -1,0 +1,108 @@
+// The documents of the sources that a rule names, read and mounted one after another.
+ghost use Rattle.std.specs.Prelude.{◌≡◌, ◌<◌, List, ℕ, true, false, length, slice_get, Some, OnOk, IfOk, IfErr};
+ghost use Rattle.mix_catalog.specs.Sources.{IsCatalog, IsChunk};
+ghost use Rattle.mix_io.specs.Views.{FilesView, KeepsFiles};
+ghost use Rattle.mix_mount.specs.declared.mount.Mount.TheVariants.{Absent};
+ghost use Rattle.xmas_rule.specs.RuleMade.{rule_of};
+ghost use Rattle.mix_top.specs.Causes.{IsNoDocument};
+ghost use Rattle.mix_top.specs.Course.{file_of, is_of, names_source};
+ghost use Rattle.mix_top.specs.Mounting.{AreMounted, IsMountStop, IsMountedFile, IsMountFor, IsSourceStop};
+ghost use Rattle.mix_top.specs.Stops.{IsLoadStop};
+
+use crate::load::load_tree;
+use crate::refusal::Stop;
+use bracket_wrap::BracketDoc;
+use mix_catalog::{Catalog, SourceKind, SourceSpec};
+use mix_io::Files;
+use mix_mount::Mount;
+use mix_tree::Label;
+use std::alloc::Global;
+use std::str;
+use xmas_rule::{Cond, Rule};
+
+// Whether a condition binds a variable below the document node of a source.
+fn is_of(cond: &Cond, s: u32) -> bool
+    ensures { result ≡ is_of s cond.now }
+{
+    match cond {
+        Cond::FromSource { source, .. } => *source == s,
+        Cond::FromVar { .. } | Cond::Compare(_) => false,
+    }
+}
+
+// Whether a rule names a source.
+fn names_source(rule: &Rule, s: u32) -> bool
+    ensures { result ≡ names_source (rule_of rule.now) s }
+{
+    rule.conds.iter().any(|cond| is_of(cond, s))
+}
+
+// The path that a label is.
+fn path_of(file: &Label) -> &str
+    ensures { result.now ≡ file.now }
+{
+    match str::from_utf8(file.bytes()) {
+        Ok(path) => path,
+        Err(_) => unreachable!(),
+    }
+}
+
+// The document of a source's file. An error is as with a tree.
+fn mount_file<F: Files>(alloc: Global, files: &mut F, spec: &SourceSpec) -> Result<Mount, Stop>
+    requires { IsChunk spec.now.chunk }
+    ensures keeps { KeepsFiles (F.view files.new) (F.view files.old) }
+    ensures steady { OnOk result ((p : List ℕ) → (F.view files.new).faults p ≡ (F.view files.old).faults p) }
+    ensures ok { IfOk result (IsMountedFile (F.view files.old) (file_of spec.now.kind)) }
+    ensures err { IfErr result (IsLoadStop IsNoDocument (F.view files.old) (F.view files.new) (file_of spec.now.kind)) }
+{
+    match &spec.kind {
+        SourceKind::Bracket { file, deep } => {
+            let tree = load_tree(alloc, files, path_of(file))?;
+            Ok(Mount::Bracket(BracketDoc::open(
+                alloc, tree, spec.chunk, *deep,
+            )?))
+        }
+    }
+}
+
+// What stands behind the number of a source for a rule.
+fn mount_source<F: Files>(
+    alloc: Global,
+    files: &mut F,
+    rule: &Rule,
+    s: u32,
+    spec: &SourceSpec,
+) -> Result<Mount, Stop>
+    requires { IsChunk spec.now.chunk }
+    ensures keeps { KeepsFiles (F.view files.new) (F.view files.old) }
+    ensures steady { OnOk result ((p : List ℕ) → (F.view files.new).faults p ≡ (F.view files.old).faults p) }
+    ensures ok { IfOk result (IsMountFor (F.view files.old) (rule_of rule.now) s spec.now) }
+    ensures err { IfErr result (IsSourceStop (F.view files.old) (F.view files.new) (rule_of rule.now) s spec.now) }
+{
+    if names_source(rule, s) {
+        mount_file(alloc, files, spec)
+    } else {
+        Ok(Mount::Absent)
+    }
+}
+
+/// What stands behind the numbers of a catalog's sources for a rule: the documents of those that the rule names, read in the order of
+/// the catalog, each accepted before the next is read. An error names the first file that is refused.
+pub fn mount_sources<F: Files>(
+    alloc: Global,
+    files: &mut F,
+    catalog: &Catalog,
+    rule: &Rule,
+) -> Result<Vec<Mount>, Stop>
+    requires { (text : List ℕ) × IsCatalog text catalog.now }
+    ensures keeps { KeepsFiles (F.view files.new) (F.view files.old) }
+    ensures steady { OnOk result ((p : List ℕ) → (F.view files.new).faults p ≡ (F.view files.old).faults p) }
+    ensures ok { IfOk result (λ docs. AreMounted (F.view files.old) (rule_of rule.now) catalog.now docs.items) }
+    ensures err { IfErr result (IsMountStop (F.view files.old) (F.view files.new) (rule_of rule.now) catalog.now) }
+{
+    let mut docs = Vec::new(alloc);
+    for s in 0..catalog.len() {
+        docs.push(mount_source(alloc, files, rule, s, catalog.spec(s))?)?;
+    }
+    Ok(docs)
+}
