@@ -22,10 +22,10 @@ use Rattle.plan_core.specs.Valid.{kinds}
 use Rattle.plan_core.specs.Valid.{a_node}
 use Rattle.plan_core.specs.TolledRows.{trees as listed_trees, collected, of_source, source_node, row_node}
 use Rattle.lazy_plan.specs.declared.bench.Bench.{Bench}
-use Rattle.lazy_plan.specs.declared.position.Position.{Position, Start, Top, Whole, Found', Pass', First', Pair'}
+use Rattle.lazy_plan.specs.declared.position.Position.{Position, Start, Top, Whole, Found', Pass', First', Pair', End, Both', Sorted'}
 use Rattle.lazy_plan.specs.declared.parts.Growing.{Growing}
 use Rattle.lazy_plan.specs.World.{World, world, docs_of, of_buffer, buffer_at, place_in, IsBench}
-use Rattle.lazy_plan.specs.Cursors.{IsRead, spot_in, IsOf, has_row, binding, whole_row, shape, one_source, one_group, visits_below, event_for_event, first_by_keys, pairs_up}
+use Rattle.lazy_plan.specs.Cursors.{IsRead, spot_in, IsOf, has_row, binding, whole_row, shape, one_source, one_group, visits_below, event_for_event, first_by_keys, pairs_up, in_order}
 use Rattle.lazy_plan.specs.Keeping.{Keeps}
 use Rattle.lazy_plan.specs.Parts.{operators, world_of}
 use Rattle.lazy_plan.specs.Steps.{Ran as RanSteps, Asked}
@@ -278,3 +278,6 @@ all_groups st n c k input piece out e = at c k.of k.row
     at (Pass' q d) of row = let z : event_for_event ≡ one_group = sym of.0 ∙ shape_is in cc
     at (First' q d k) of row = let z : first_by_keys ≡ one_group = sym of.0 ∙ shape_is in cc
     at (Pair' q l q' r) of row = let z : pairs_up ≡ one_group = sym of.0 ∙ shape_is in cc
+    at End of row = cc
+    at (Both' q l q' r) of row = cc
+    at (Sorted' q c q' r) of row = let z : in_order ≡ one_group = sym of.0 ∙ shape_is in cc

@@ -17,7 +17,7 @@ use Rattle.plan_core.specs.Events.{RowEvents, events, distinct, keys_seen}
 use Rattle.plan_core.proofs.Distinct.{found-distinct_none, cost-distinct_le, IsNew, distinct_new, IsOld, distinct_old}
 use Rattle.lazy_plan.specs.declared.fault.WalkFault.{WalkFault}
 use Rattle.lazy_plan.specs.declared.key.KeyPart.{KeyPart}
-use Rattle.lazy_plan.specs.declared.position.Position.{Position, Start, Top, Whole, Found', Pass', First', Pair'}
+use Rattle.lazy_plan.specs.declared.position.Position.{Position, Start, Top, Whole, Found', Pass', First', Pair', End, Both', Sorted'}
 use Rattle.lazy_plan.specs.declared.step.Step.{Step}
 use Rattle.lazy_plan.specs.declared.step.Step.TheVariants.{Done, At, On}
 use Rattle.lazy_plan.specs.World.{World, world, docs_of, is_told, bound_of, seen_at, part_value, seen_values, IsPart, drops_by, IsBench}
@@ -78,6 +78,9 @@ module _ (ops : List Operator) (typed : IsTyped ops) (n : ℕ) (within : n < len
   firsts_below w (Pass' q c) h = h.1
   firsts_below w (First' q c k) h = h.1
   firsts_below w (Pair' q l q' r) h = h.1
+  firsts_below w End h = tt
+  firsts_below w (Both' q l q' r) h = tt
+  firsts_below w (Sorted' q c q' r) h = h.1
 
   -- no more keys were seen up to it than were seen
   pub firsts_count : (w : World) (c : Position) → IsOf w ops n c → count_of c ≤ length (seen_at w n)
@@ -88,6 +91,9 @@ module _ (ops : List Operator) (typed : IsTyped ops) (n : ℕ) (within : n < len
   firsts_count w (Pass' q c) h = omega arith
   firsts_count w (First' q c k) h = h.3
   firsts_count w (Pair' q l q' r) h = omega arith
+  firsts_count w End h = omega arith
+  firsts_count w (Both' q l q' r) h = omega arith
+  firsts_count w (Sorted' q c q' r) h = omega arith
 
   -- the events behind it are those of the input whose keys were not seen up to it
   pub firsts_ahead_is : (w : World) (c : Position) → IsOf w ops n c
@@ -99,6 +105,9 @@ module _ (ops : List Operator) (typed : IsTyped ops) (n : ℕ) (within : n < len
   firsts_ahead_is w (Pass' q c) h = absurd (let z = sym e ∙ h.0 in cc)
   firsts_ahead_is w (First' q c k) h = refl
   firsts_ahead_is w (Pair' q l q' r) h = absurd (let z = sym e ∙ h.0 in cc)
+  firsts_ahead_is w End h = absurd (let z = sym e ∙ h in cc)
+  firsts_ahead_is w (Both' q l q' r) h = absurd (let z = sym e ∙ h.0 in cc)
+  firsts_ahead_is w (Sorted' q c q' r) h = absurd (let z = sym e ∙ h.0 in cc)
 
   -- the keys that it sees there are those behind the ones that were seen
   firsts_keys : (w : World) (c : Position) → IsOf w ops n c → IsTrue (is_told w ops)
@@ -111,6 +120,9 @@ module _ (ops : List Operator) (typed : IsTyped ops) (n : ℕ) (within : n < len
   firsts_keys w (Pass' q c) h t = absurd (let z = sym e ∙ h.0 in cc)
   firsts_keys w (First' q c k) h t = h.4 t
   firsts_keys w (Pair' q l q' r) h t = absurd (let z = sym e ∙ h.0 in cc)
+  firsts_keys w End h t = absurd (let z = sym e ∙ h in cc)
+  firsts_keys w (Both' q l q' r) h t = absurd (let z = sym e ∙ h.0 in cc)
+  firsts_keys w (Sorted' q c q' r) h t = absurd (let z = sym e ∙ h.0 in cc)
 
   -- its number is the input's
   pub firsts_number_is : (w : World) (c : Position) → IsOf w ops n c → number w ops n c ≡ number w ops (input_of (op_at ops n)) (below c)
@@ -121,6 +133,9 @@ module _ (ops : List Operator) (typed : IsTyped ops) (n : ℕ) (within : n < len
   firsts_number_is w (Pass' q c) h = absurd (let z = sym e ∙ h.0 in cc)
   firsts_number_is w (First' q c k) h = refl
   firsts_number_is w (Pair' q l q' r) h = absurd (let z = sym e ∙ h.0 in cc)
+  firsts_number_is w End h = absurd (let z = sym e ∙ h in cc)
+  firsts_number_is w (Both' q l q' r) h = absurd (let z = sym e ∙ h.0 in cc)
+  firsts_number_is w (Sorted' q c q' r) h = absurd (let z = sym e ∙ h.0 in cc)
 
   -- a single one is over a single one
   pub firsts_single : IsTrue (single ops n) → IsTrue (single ops (input_of (op_at ops n)))

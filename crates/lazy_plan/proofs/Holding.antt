@@ -14,10 +14,10 @@ use Rattle.plan_core.specs.declared.plan.Piece.TheVariants.{Var as var_piece}
 use Rattle.plan_core.specs.Tolled.{ends}
 use Rattle.plan_core.specs.TolledRows.{TolledRow, TolledValue, of_source, element, trees, tolled_value, tolled_restrict, row_node, piece_items, all_items, collected}
 use Rattle.plan_core.specs.Events.{RowEvents, events, same_group}
-use Rattle.lazy_plan.specs.declared.position.Position.{Position, Start, Top, Whole, Found', Pass', First', Pair'}
+use Rattle.lazy_plan.specs.declared.position.Position.{Position, Start, Top, Whole, Found', Pass', First', Pair', End, Both', Sorted'}
 use Rattle.lazy_plan.specs.World.{World, docs_of, spot_node, match_place}
 use Rattle.lazy_plan.specs.Cursors.{input_of, right_of, top_row, whole_row, found_row, pass_row, first_row_of, binding, ahead, IsOf, has_row, shape, source_number, visits_below, event_for_event, first_by_keys, one_group}
-use Rattle.lazy_plan.proofs.Spots.{Lacks, lacks, kinds_at, pair_kind, input_within, right_within}
+use Rattle.lazy_plan.proofs.Spots.{Lacks, lacks, kinds_at, order_kind, pair_kind, input_within, right_within}
 
 -- a binding has a value of this variable, whatever is put behind it
 abbrev pub Holds : TolledRow → ℕ → Type 0
@@ -142,6 +142,10 @@ module _ (ops : List Operator) (typed : IsTyped ops) (w : World) where
       (λ g. holds (input_of (op_at ops n)) (input_within ops typed n h) c of.1 of.2 v k g)
   holds n h (First' q c m) of row v k e =
       first_holds (kinds ops) v k (docs_of w) (op_at ops n) of.0 (sym (ap (λ (g : Kinds). g v) (kinds_at ops typed n h)) ∙ e) (binding w ops (input_of (op_at ops n)) c) (ahead w ops (input_of (op_at ops n)) c)
+  holds n h End of row v k e = cc
+  holds n h (Both' q l q' r) of row v k e = cc
+  holds n h (Sorted' q c q' r) of row v k e =
+      holds (input_of (op_at ops n)) (input_within ops typed n h) c of.1 of.2 v k (sym (order_kind (kinds ops) v (op_at ops n) of.0) ∙ sym (ap (λ (g : Kinds). g v) (kinds_at ops typed n h)) ∙ e)
   holds n h (Pair' q l q' r) of row v k e =
       elim (either_kind_some (kinds ops (input_of (op_at ops n)) v) (kinds ops (right_of (op_at ops n)) v) k
       (sym (pair_kind (kinds ops) v (op_at ops n) of.0) ∙ sym (ap (λ (g : Kinds). g v) (kinds_at ops typed n h)) ∙ e)) [

@@ -11,6 +11,7 @@ pub mod Labels
 pub mod Low
 pub mod Matches
 pub mod Openings
+pub mod OrderSteps
 pub mod PairSteps
 pub mod PassSteps
 pub mod SameKeys
@@ -18,7 +19,9 @@ pub mod Seeking
 pub mod SeenLists
 pub mod Shapes
 pub mod Singles
+pub mod SortedRows
 pub mod Spots
+pub mod StableSorts
 pub mod Stay
 pub mod Unders
 pub mod VisitSteps

@@ -10,7 +10,7 @@ use Rattle.lazy_descend.proofs.Stay.{number_small as match_small}
 use Rattle.plan_core.specs.Plans.{Operator}
 use Rattle.plan_core.specs.ByNumber.{op_at}
 use Rattle.plan_core.specs.Typed.{IsTyped}
-use Rattle.lazy_plan.specs.declared.position.Position.{Position, Start, Top, Whole, Found', Pass', First', Pair'}
+use Rattle.lazy_plan.specs.declared.position.Position.{Position, Start, Top, Whole, Found', Pass', First', Pair', End, Both', Sorted'}
 use Rattle.lazy_plan.specs.World.{World, of_buffer, bound_of, IsMatchIn, match_number, IsBench}
 use Rattle.lazy_plan.specs.Cursors.{input_of, right_of, number, size, IsOf, has_row}
 use Rattle.lazy_plan.proofs.Shapes.{size_at, size_top, size_whole, size_visits, size_pass, size_firsts, size_pairs}
@@ -52,6 +52,9 @@ module _ (w : World) (ops : List Operator) (typed : IsTyped ops) (bench : IsBenc
       let e = size_at ops typed n h w ∙ size_firsts (bound_of w) (size w ops) (op_at ops n) of.0 in
       let i = number_low (input_of (op_at ops n)) (input_within ops typed n h) c of.1 of.2 in
       omega (arith, i, e)
+  number_low n h End of row = cc
+  number_low n h (Both' q l q' r) of row = cc
+  number_low n h (Sorted' q c q' r) of row = of.5
   number_low n h (Pair' q l q' r) of row =
       let e = size_at ops typed n h w ∙ size_pairs (bound_of w) (size w ops) (op_at ops n) of.0 in
       let i = number_low (input_of (op_at ops n)) (input_within ops typed n h) l of.1 of.2 in

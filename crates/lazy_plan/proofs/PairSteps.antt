@@ -12,7 +12,7 @@ use Rattle.plan_core.specs.Typed.{IsTyped}
 use Rattle.plan_core.specs.TolledRows.{TolledRow}
 use Rattle.plan_core.specs.Events.{RowEvents, events, pairs}
 use Rattle.plan_core.proofs.Found.{found-expand_none, found-expand_some, cost-expand_le, cost-expand_some, found-pairs_none, found-pairs_yes, found-pairs_no, cost-pairs_le, cost-pairs_no}
-use Rattle.lazy_plan.specs.declared.position.Position.{Position, Start, Top, Whole, Found', Pass', First', Pair'}
+use Rattle.lazy_plan.specs.declared.position.Position.{Position, Start, Top, Whole, Found', Pass', First', Pair', End, Both', Sorted'}
 use Rattle.lazy_plan.specs.World.{World, docs_of, is_told, is_forward, bound_of, IsBench}
 use Rattle.lazy_plan.specs.Cursors.{input_of, right_of, right_ahead, left_ahead, lets, binding, ahead, number, size, Shape, pairs_up, shape, IsOf, has_row}
 use Rattle.lazy_plan.specs.Keeping.{Keeps, Stays}

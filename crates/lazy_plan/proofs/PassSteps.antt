@@ -11,7 +11,7 @@ use Rattle.plan_core.specs.Typed.{IsTyped}
 use Rattle.plan_core.specs.TolledRows.{TolledRow, row_node}
 use Rattle.plan_core.specs.Events.{RowEvents, events, concatenated_row, element_row}
 use Rattle.plan_core.proofs.Found.{found-only_none, found-only_yes, found-only_no, cost-only_le, cost-only_no, found-each_row_none, found-each_row_some, cost-each_row}
-use Rattle.lazy_plan.specs.declared.position.Position.{Position, Start, Top, Whole, Found', Pass', First', Pair'}
+use Rattle.lazy_plan.specs.declared.position.Position.{Position, Start, Top, Whole, Found', Pass', First', Pair', End, Both', Sorted'}
 use Rattle.lazy_plan.specs.World.{World, docs_of, is_told, is_forward, bound_of, IsBench}
 use Rattle.lazy_plan.specs.Cursors.{input_of, pass_row, pass_ahead, lets, below, binding, ahead, number, size, Shape, event_for_event, shape, IsOf, has_row}
 use Rattle.lazy_plan.specs.Keeping.{Keeps}
@@ -90,6 +90,9 @@ module _ (ops : List Operator) (typed : IsTyped ops) (n : ℕ) (within : n < len
   pass_below w (Pass' q c) h = h.1
   pass_below w (First' q c k) h = h.1
   pass_below w (Pair' q l q' r) h = absurd (let z = sym e ∙ h.0 in cc)
+  pass_below w End h = tt
+  pass_below w (Both' q l q' r) h = tt
+  pass_below w (Sorted' q c q' r) h = h.1
 
   -- the events behind it are those of the input
   pub pass_ahead_is : (w : World) (c : Position) → IsOf w ops n c → ahead w ops n c ≡ pass_ahead (docs_of w) (op_at ops n) (ahead w ops (input_of (op_at ops n)) (below c))
@@ -100,6 +103,9 @@ module _ (ops : List Operator) (typed : IsTyped ops) (n : ℕ) (within : n < len
   pass_ahead_is w (Pass' q c) h = refl
   pass_ahead_is w (First' q c k) h = absurd (let z = sym e ∙ h.0 in cc)
   pass_ahead_is w (Pair' q l q' r) h = absurd (let z = sym e ∙ h.0 in cc)
+  pass_ahead_is w End h = absurd (let z = sym e ∙ h in cc)
+  pass_ahead_is w (Both' q l q' r) h = absurd (let z = sym e ∙ h.0 in cc)
+  pass_ahead_is w (Sorted' q c q' r) h = absurd (let z = sym e ∙ h.0 in cc)
 
   -- its number is the input's
   pub pass_number_is : (w : World) (c : Position) → IsOf w ops n c → number w ops n c ≡ number w ops (input_of (op_at ops n)) (below c)
@@ -110,6 +116,9 @@ module _ (ops : List Operator) (typed : IsTyped ops) (n : ℕ) (within : n < len
   pass_number_is w (Pass' q c) h = refl
   pass_number_is w (First' q c k) h = absurd (let z = sym e ∙ h.0 in cc)
   pass_number_is w (Pair' q l q' r) h = absurd (let z = sym e ∙ h.0 in cc)
+  pass_number_is w End h = absurd (let z = sym e ∙ h in cc)
+  pass_number_is w (Both' q l q' r) h = absurd (let z = sym e ∙ h.0 in cc)
+  pass_number_is w (Sorted' q c q' r) h = absurd (let z = sym e ∙ h.0 in cc)
 
   -- a single one is over a single one
   pub pass_single : IsTrue (single ops n) → IsTrue (single ops (input_of (op_at ops n)))

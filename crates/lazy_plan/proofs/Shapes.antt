@@ -18,6 +18,20 @@ use Rattle.lazy_plan.specs.World.{World, bound_of}
 use Rattle.lazy_plan.specs.Cursors.{input_of, right_of, keys_of, top_row, whole_row, first_row_of, pass_ahead, found_ahead, left_ahead, op_size, size, Shape, one_source, visits_below, pairs_up, event_for_event, first_by_keys, one_group, in_order, no_events, shape, source_number}
 use Rattle.lazy_plan.specs.Steps.{single}
 
+-- what is true of each orderBy is true of an operator in this shape
+pub order_case : (P : Operator → Type 0) → ((i v : ℕ) (desc : Bool) → P (over i (order_by v desc))) → (o : Operator) → shape o ≡ in_order → P o
+order_case P f (source s out) e = cc
+order_case P f (get_descendants i start path out) e = cc
+order_case P f (join l r tests) e = cc
+order_case P f (over i (select t)) e = cc
+order_case P f (over i (order_by v desc)) e = f i v desc
+order_case P f (over i (project keys)) e = cc
+order_case P f (over i (group_by [] p out)) e = cc
+order_case P f (over i (group_by (k ∷ keys) p out)) e = cc
+order_case P f (over i (concatenate ps out)) e = cc
+order_case P f (over i (create_element l v out)) e = cc
+order_case P f (tuple_destroy i v) e = cc
+
 module _ (docs : Documents) (of : ℕ → RowEvents) where
   -- event for event
   pub events_pass : (o : Operator) → shape o ≡ event_for_event → op_events docs o of ≡ pass_ahead docs o (of (input_of o))

@@ -14,7 +14,7 @@ use Rattle.plan_core.specs.Valid.{HasSource}
 use Rattle.plan_core.specs.ByNumber.{op_at}
 use Rattle.plan_core.specs.Typed.{IsTyped}
 use Rattle.plan_core.specs.Events.{RowEvents, events}
-use Rattle.lazy_plan.specs.declared.position.Position.{Position, Start, Top, Whole, Found', Pass', First', Pair'}
+use Rattle.lazy_plan.specs.declared.position.Position.{Position, Start, Top, Whole, Found', Pass', First', Pair', End, Both', Sorted'}
 use Rattle.lazy_plan.specs.World.{World, docs_of, is_told, spot_node, place_in, of_buffer, bound_of, IsSpotIn, IsBench}
 use Rattle.lazy_plan.specs.Cursors.{top_row, ahead, number, size, shape, one_group, no_events, source_number, IsOf}
 use Rattle.lazy_plan.specs.Steps.{Finds}
@@ -42,6 +42,9 @@ module _ (ops : List Operator) (typed : IsTyped ops) (n : ℕ) (within : n < len
     top_over w (Pass' q c) h ne = absurd (let z = sym (top_shape (op_at ops n) s e) ∙ h.0 in cc)
     top_over w (First' q c k) h ne = absurd (let z = sym (top_shape (op_at ops n) s e) ∙ h.0 in cc)
     top_over w (Pair' q l q' r) h ne = absurd (let z = sym (top_shape (op_at ops n) s e) ∙ h.0 in cc)
+    top_over w End h ne = refl
+    top_over w (Both' q l q' r) h ne = absurd (let z = sym (top_shape (op_at ops n) s e) ∙ h.0 in cc)
+    top_over w (Sorted' q c q' r) h ne = absurd (let z = sym (top_shape (op_at ops n) s e) ∙ h.0 in cc)
 
   module _ (e : shape (op_at ops n) ≡ one_group) where
     -- the only binding of a groupBy by no keys
@@ -62,6 +65,9 @@ module _ (ops : List Operator) (typed : IsTyped ops) (n : ℕ) (within : n < len
     whole_over w (Pass' q c) h ne = absurd (let z = sym e ∙ h.0 in cc)
     whole_over w (First' q c k) h ne = absurd (let z = sym e ∙ h.0 in cc)
     whole_over w (Pair' q l q' r) h ne = absurd (let z = sym e ∙ h.0 in cc)
+    whole_over w End h ne = refl
+    whole_over w (Both' q l q' r) h ne = absurd (let z = sym e ∙ h.0 in cc)
+    whole_over w (Sorted' q c q' r) h ne = absurd (let z = sym e ∙ h.0 in cc)
 
 -- the number of a source that an operator is, is that of a buffer
 source_has : (ops : List Operator) (n m : ℕ) → n < length ops → (s : ℕ) → source_number (op_at ops n) ≡ Some s → AllByRecursion (HasSource m) ops → s < m
@@ -94,3 +100,6 @@ end_over ops typed n h e w (Found' q c t d) of = absurd (let z = sym e ∙ of.0 
 end_over ops typed n h e w (Pass' q c) of = absurd (let z = sym e ∙ of.0 in cc)
 end_over ops typed n h e w (First' q c k) of = absurd (let z = sym e ∙ of.0 in cc)
 end_over ops typed n h e w (Pair' q l q' r) of = absurd (let z = sym e ∙ of.0 in cc)
+end_over ops typed n h e w End of = refl
+end_over ops typed n h e w (Both' q l q' r) of = absurd (let z = sym e ∙ of.0 in cc)
+end_over ops typed n h e w (Sorted' q c q' r) of = absurd (let z = sym e ∙ of.0 in cc)

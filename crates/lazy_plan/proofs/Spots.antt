@@ -22,9 +22,10 @@ use Rattle.plan_core.specs.TolledRows.{TolledRow, TolledValue, of_source, elemen
 use Rattle.plan_core.specs.Events.{RowEvents, events, same_group}
 use Rattle.plan_core.proofs.Numbers.{kinds-of}
 use Rattle.lazy_descend.proofs.Stay.{frame_spot}
-use Rattle.lazy_plan.specs.declared.position.Position.{Position, Start, Top, Whole, Found', Pass', First', Pair'}
+use Rattle.lazy_plan.specs.declared.position.Position.{Position, Start, Top, Whole, Found', Pass', First', Pair', End, Both', Sorted'}
 use Rattle.lazy_plan.specs.World.{World, docs_of, spot_node, match_place, IsSpotIn, IsMatchIn}
 use Rattle.lazy_plan.specs.Cursors.{input_of, right_of, keys_of, start_node, start_var, top_row, whole_row, found_row, pass_row, first_row_of, binding, ahead, spot_in, or_else, node_out, IsRead, IsOf, has_row, has_match, shape, source_number, one_source, visits_below, pairs_up, event_for_event, first_by_keys, one_group, in_order, no_events}
+use Rattle.lazy_plan.proofs.Shapes.{order_case}
 
 -- the spot of a variable that holds a node: it is one of its source, which some operator reads, and the node stands there
 pub record IsSpotOf (w : World) (ops : List Operator) (n : ℕ) (c : Position) (v : ℕ) : Type 0 where
@@ -251,6 +252,10 @@ module _ (of : ℕ → Kinds) (v : ℕ) where
   found_none (over i (create_element l w out)) e h = cc
   found_none (tuple_destroy i w) e h = cc
 
+  -- an orderBy binds what its input binds
+  pub order_kind : (o : Operator) → shape o ≡ in_order → op_kinds o of v ≡ of (input_of o) v
+  order_kind = order_case (λ o. op_kinds o of v ≡ of (input_of o) v) (λ i w desc. refl)
+
   -- what a join binds, its sides bind
   pub pair_kind : (o : Operator) → shape o ≡ pairs_up → op_kinds o of v ≡ either_kind (of (input_of o) v) (of (right_of o) v)
   pair_kind (source s out) e = cc
@@ -325,6 +330,10 @@ module _ (ops : List Operator) (typed : IsTyped ops) where
           ap (λ (b : Bool). cond b (spot_in ops (input_of (op_at ops n)) c v) None) z.0,
           z.1 (binding w ops (input_of (op_at ops n)) c) (ahead w ops (input_of (op_at ops n)) c),
         )
+    lacks n h End of row v k = cc
+    lacks n h (Both' q l q' r) of row v k = cc
+    lacks n h (Sorted' q c q' r) of row v k =
+        lacks (input_of (op_at ops n)) (input_within n h) c of.1 of.2 v (sym (order_kind (kinds ops) v (op_at ops n) of.0) ∙ sym (ap (λ (g : Kinds). g v) (kinds_at n h)) ∙ k)
     lacks n h (Pair' q l q' r) of row v k =
         let e : either_kind (kinds ops (input_of (op_at ops n)) v) (kinds ops (right_of (op_at ops n)) v) ≡ None =
         sym (pair_kind (kinds ops) v (op_at ops n) of.0) ∙ sym (ap (λ (g : Kinds). g v) (kinds_at n h)) ∙ k in
@@ -384,6 +393,11 @@ module _ (ops : List Operator) (typed : IsTyped ops) where
           known = y.known;
           value = z.2 (binding w ops (input_of (op_at ops n)) c) (ahead w ops (input_of (op_at ops n)) c) ∙ y.value;
         }
+    spot_is n h End of row v k = cc
+    spot_is n h (Both' q l q' r) of row v k = cc
+    spot_is n h (Sorted' q c q' r) of row v k =
+        let y = spot_is (input_of (op_at ops n)) (input_within n h) c of.1 of.2 v (sym (order_kind (kinds ops) v (op_at ops n) of.0) ∙ sym (ap (λ (g : Kinds). g v) (kinds_at n h)) ∙ k) in
+        record { source = y.source; spot = y.spot; is = y.is; read = y.read; known = y.known; value = y.value }
     spot_is n h (Pair' q l q' r) of row v k =
         let e : either_kind (kinds ops (input_of (op_at ops n)) v) (kinds ops (right_of (op_at ops n)) v) ≡ Some a_node =
         sym (pair_kind (kinds ops) v (op_at ops n) of.0) ∙ sym (ap (λ (g : Kinds). g v) (kinds_at n h)) ∙ k in

@@ -20,11 +20,16 @@ use Rattle.plan_core.specs.TolledRows.{TolledRow, row_node, KeyValue, by_node}
 use Rattle.plan_core.specs.Events.{RowEvents, events, keys_seen, nodes_found, distinct}
 use Rattle.lazy_plan.specs.declared.key.KeyPart.{KeyPart}
 use Rattle.lazy_plan.specs.declared.key.KeyPart.TheVariants.{Node as node_part, Label as label_part}
-use Rattle.lazy_plan.specs.declared.position.Position.{Position, Start, Top, Whole, Found', Pass', First', Pair'}
+use Rattle.lazy_plan.specs.declared.position.Position.{Position, Start, Top, Whole, Found', Pass', First', Pair', End, Both', Sorted'}
 use Rattle.lazy_plan.specs.World.{World, docs_of, is_told, of_buffer, buffer_at, place_in, spot_node, IsSpotIn, IsMatchIn, match_place, match_ahead, match_number, bound_of, seen_at, part_value, seen_values, IsPart, IsBench}
-use Rattle.lazy_plan.specs.Cursors.{input_of, right_of, keys_of, start_node, visit_ahead, visit_behind, visit_whole, found_ahead, found_binding, found_row, found_number, pass_row, pass_ahead, first_row_of, top_row, whole_row, right_ahead, left_ahead, Standing, standing, binding, ahead, size, number, IsRead, IsOf, has_row, has_match}
+use Rattle.lazy_plan.specs.Cursors.{input_of, right_of, keys_of, start_node, visit_ahead, visit_behind, visit_whole, found_ahead, found_binding, found_row, found_number, pass_row, pass_ahead, first_row_of, top_row, whole_row, right_ahead, left_ahead, Standing, standing, binding, ahead, size, number, IsRead, IsOf, has_row, has_match, onward, onward_number}
 use Rattle.lazy_plan.specs.Keeping.{GoesOn, Keeps, Stays, KeepsCursors}
 use Rattle.lazy_plan.proofs.Keep.{told-kept, docs_kept, bound_kept, spot_kept, place_kept, node_kept}
+
+-- no more from a position on where there are no more behind it
+onward_less : (t : Bool) (x y : ℕ) → x ≤ y → onward_number t x ≤ onward_number t y
+onward_less true x y h = omega (arith, h)
+onward_less false x y h = h
 
 module _ (a b : World) (k : Keeps a b) (ops : List Operator) (bench : IsBench a ops) where
   -- a cursor of a visit stays
@@ -154,6 +159,13 @@ module _ (a b : World) (k : Keeps a b) (ops : List Operator) (bench : IsBench a 
         row = x.row ++ y.row;
         ahead = right_ahead (docs_of w) (op_at ops n) x.row y.ahead ++ left_ahead (docs_of w) (op_at ops n) (events (docs_of w) ops (right_of (op_at ops n))) x.ahead;
       }
+  standing_kept n End h = refl
+  standing_kept n (Both' q l q' r) h =
+      ap (λ (z : Standing). record { row = []; ahead = onward (has_row l) z ++ onward (has_row r) (standing b ops n r) }) (standing_kept n l h.1)
+      ∙ ap (λ (z : Standing). record { row = []; ahead = onward (has_row l) (standing a ops n l) ++ onward (has_row r) z }) (standing_kept n r h.3)
+  standing_kept n (Sorted' q c q' r) h =
+      ap (λ (z : Standing). record { row = z.row; ahead = onward (has_row r) (standing b ops n r) }) (standing_kept (input_of (op_at ops n)) c h.1)
+      ∙ ap (λ (z : Standing). record { row = (standing a ops (input_of (op_at ops n)) c).row; ahead = onward (has_row r) z }) (standing_kept n r h.3)
 
   -- its number doesn't rise
   number_kept : (n : ℕ) (c : Position) → IsOf a ops n c → number b ops n c ≤ number a ops n c
@@ -172,6 +184,12 @@ module _ (a b : World) (k : Keeps a b) (ops : List Operator) (bench : IsBench a 
       let i = mul-le (number b ops (input_of (op_at ops n)) l) (suc (size a ops (right_of (op_at ops n)))) (number a ops (input_of (op_at ops n)) l) (suc (size a ops (right_of (op_at ops n)))) (number_kept (input_of (op_at ops n)) l h.1) (omega arith) in
       let j = number_kept (right_of (op_at ops n)) r h.3 in
       subst (λ (z : ℕ). number b ops (input_of (op_at ops n)) l * suc z + number b ops (right_of (op_at ops n)) r ≤ number a ops n (Pair' q l q' r)) (sym e) (omega (arith, i, j))
+  number_kept n End h = omega arith
+  number_kept n (Both' q l q' r) h =
+      let i = onward_less (has_row l) (number b ops n l) (number a ops n l) (number_kept n l h.1) in
+      let j = onward_less (has_row r) (number b ops n r) (number a ops n r) (number_kept n r h.3) in
+      omega (arith, i, j)
+  number_kept n (Sorted' q c q' r) h = onward_less (has_row r) (number b ops n r) (number a ops n r) (number_kept n r h.3)
 
   -- it is a cursor of the operator still
   cursor_kept : (n : ℕ) (c : Position) → IsOf a ops n c → IsOf b ops n c
@@ -203,6 +221,15 @@ module _ (a b : World) (k : Keeps a b) (ops : List Operator) (bench : IsBench a 
       let e = size_kept (right_of (op_at ops n)) in
       let j = number_kept (right_of (op_at ops n)) r h.3 in
       (h.0, cursor_kept (input_of (op_at ops n)) l h.1, h.2, cursor_kept (right_of (op_at ops n)) r h.3, omega (arith, e, j, h.4))
+  cursor_kept n End h = h
+  cursor_kept n (Both' q l q' r) h =
+      let e = size_kept n in
+      let i = number_kept n (Both' q l q' r) h in
+      (h.0, cursor_kept n l h.1, h.2, cursor_kept n r h.3, h.4, omega (arith, e, i, h.5))
+  cursor_kept n (Sorted' q c q' r) h =
+      let e = size_kept n in
+      let i = number_kept n (Sorted' q c q' r) h in
+      (h.0, cursor_kept (input_of (op_at ops n)) c h.1, h.2, cursor_kept n r h.3, h.4, omega (arith, e, i, h.5))
 
   -- each earlier cursor stays
   pub cursors_kept : KeepsCursors a b ops

@@ -17,11 +17,12 @@ use Rattle.plan_core.specs.TolledRows.{TolledRow, tolled_value, row_node, source
 use Rattle.plan_core.specs.Events.{RowEvents}
 use Rattle.mix_base.proofs.Firsts.{each_weaker}
 use Rattle.plan_core.proofs.Numbers.{ReadsInputs, by_number-is}
-use Rattle.lazy_plan.specs.declared.position.Position.{Position, Start, Top, Whole, Found', Pass', First', Pair'}
+use Rattle.lazy_plan.specs.declared.position.Position.{Position, Start, Top, Whole, Found', Pass', First', Pair', End, Both', Sorted'}
 use Rattle.lazy_plan.specs.World.{World, match_place, IsBench}
-use Rattle.lazy_plan.specs.Cursors.{input_of, right_of, keys_of, start_var, binding, ahead, found_row, pass_row, first_row_of, spot_in, or_else, node_out, IsOf, has_row, shape, source_number, visits_below, pairs_up, event_for_event, first_by_keys, one_group}
+use Rattle.lazy_plan.specs.Cursors.{input_of, right_of, keys_of, start_var, binding, ahead, found_row, pass_row, first_row_of, spot_in, or_else, node_out, IsOf, has_row, shape, source_number, visits_below, pairs_up, event_for_event, first_by_keys, one_group, in_order}
 use Rattle.lazy_plan.specs.Unders.{part_at, or_other, unary_source, op_source, source_var}
 use Rattle.lazy_plan.specs.Bench.{BenchState, ops_of, documents, IsMadeOf, HasUnder, AmongInputs, IsCursor, IsUnder, binding_at}
+use Rattle.lazy_plan.proofs.Shapes.{order_case}
 use Rattle.lazy_plan.proofs.Spots.{with_other, no_list, no_element, kinds_at, spot_is, lacks, input_within, right_within}
 use Rattle.lazy_plan.proofs.Labels.{start_spot}
 use Rattle.lazy_plan.proofs.Holding.{holds}
@@ -91,6 +92,10 @@ module _ (st : BenchState) (i : ℕ) (row : TolledRow) (es : RowEvents) where
   first_made (over j (concatenate ps out)) e h = cc
   first_made (over j (create_element l w out)) e h = cc
   first_made (tuple_destroy j w) e h = cc
+
+  -- a sorted binding
+  order_made : (o : Operator) → shape o ≡ in_order → AmongInputs i o → (i ≡ input_of o) × IsMadeOf st row i row es o
+  order_made = order_case (λ o. AmongInputs i o → (i ≡ input_of o) × IsMadeOf st row i row es o) (λ j w desc h. (h, refl))
 
 -- the inputs of a join, and what its bindings are made of
 pair_made : (st : BenchState) (i : ℕ) (row below : TolledRow) (es : RowEvents) (o : Operator) → shape o ≡ pairs_up → AmongInputs i o
@@ -167,6 +172,11 @@ module _ (st : BenchState) (typed : IsTyped (ops_of st)) (n : ℕ) (within : n <
   part_is (First' q c k) of row h a =
       let m = first_made st i (binding st.world (ops_of st) (input_of (op_at (ops_of st) n)) c) (ahead st.world (ops_of st) (input_of (op_at (ops_of st) n)) c) (op_at (ops_of st) n) of.0 a in
       one_part (binding st.world (ops_of st) n (First' q c k)) c (input_of (op_at (ops_of st) n)) m.0 (input_within (ops_of st) typed n within) of.1 of.2 m.1
+  part_is End of row h a = cc
+  part_is (Both' q l q' r) of row h a = cc
+  part_is (Sorted' q c q' r) of row h a =
+      let m = order_made st i (binding st.world (ops_of st) (input_of (op_at (ops_of st) n)) c) (ahead st.world (ops_of st) (input_of (op_at (ops_of st) n)) c) (op_at (ops_of st) n) of.0 a in
+      one_part (binding st.world (ops_of st) n (Sorted' q c q' r)) c (input_of (op_at (ops_of st) n)) m.0 (input_within (ops_of st) typed n within) of.1 of.2 m.1
   part_is (Pair' q l q' r) of row h a =
       elim (input_of (op_at (ops_of st) n) == i) as (λ t. (input_of (op_at (ops_of st) n) == i) ≡ t → IsPart (binding st.world (ops_of st) n (Pair' q l q' r)) (cond t l r)) [
         | true ↦ λ e. left_part l r of.0 of.1 of.2 (grind (arith, nat_tests, e)) a
@@ -319,6 +329,11 @@ module _ (ops : List Operator) (typed : IsTyped ops) (w : World) where
   source_is n h (First' q c k) of row v =
       first_source (source_var ops) v (op_at ops n) of.0 (spot_in ops (input_of (op_at ops n)) c v) (source_is (input_of (op_at ops n)) (input_within ops typed n h) c of.1 of.2 v)
       ∙ sym (source_var-of ops typed n h (op_at ops n) v refl)
+  source_is n h End of row v = cc
+  source_is n h (Both' q l q' r) of row v = cc
+  source_is n h (Sorted' q c q' r) of row v =
+      source_is (input_of (op_at ops n)) (input_within ops typed n h) c of.1 of.2 v
+      ∙ order_case (λ o. source_var ops (input_of o) v ≡ op_source o (source_var ops) v) (λ i u desc. refl) (op_at ops n) of.0 ∙ sym (source_var-of ops typed n h (op_at ops n) v refl)
   source_is n h (Pair' q l q' r) of row v =
       source_either (spot_in ops (input_of (op_at ops n)) l v) (spot_in ops (right_of (op_at ops n)) r v)
       ∙ ap (λ (z : Option ℕ). or_other z (source_in (spot_in ops (right_of (op_at ops n)) r v))) (source_is (input_of (op_at ops n)) (input_within ops typed n h) l of.1 of.2 v)

@@ -15,7 +15,7 @@ use Rattle.plan_core.specs.TolledRows.{TolledRow, row_node}
 use Rattle.plan_core.specs.Events.{RowEvents, events, descendants}
 use Rattle.plan_core.proofs.Found.{found-expand_none, found-expand_some, cost-expand_le, cost-expand_some}
 use Rattle.lazy_plan.specs.declared.parts.Growing.{Growing}
-use Rattle.lazy_plan.specs.declared.position.Position.{Position, Start, Top, Whole, Found', Pass', First', Pair'}
+use Rattle.lazy_plan.specs.declared.position.Position.{Position, Start, Top, Whole, Found', Pass', First', Pair', End, Both', Sorted'}
 use Rattle.lazy_plan.specs.World.{World, docs_of, is_told, is_forward, bound_of, IsMatchIn, match_place, match_number, IsBench}
 use Rattle.lazy_plan.specs.Cursors.{input_of, start_node, found_row, found_ahead, visit_whole, visit_behind, visit_ahead, found_number, binding, ahead, number, size, Shape, visits_below, shape, IsRead, IsOf, has_row}
 use Rattle.lazy_plan.specs.Keeping.{Keeps, Stays}

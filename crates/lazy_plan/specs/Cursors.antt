@@ -15,7 +15,7 @@ use Rattle.plan_core.specs.TolledRows.{of_source, trees, TolledRow, row_node, co
 use Rattle.plan_core.specs.Events.{RowEvents, events, expand, each_row, only, with_node, nodes_found, descendants, passes_all, pairs, distinct, keys_seen, projected, group_row, concatenated_row, element_row, unary_events}
 use Rattle.lazy_descend.specs.declared.cursor.DescCursor.{DescCursor}
 use Rattle.lazy_descend.specs.Cursors.{spot_of}
-use Rattle.lazy_plan.specs.declared.position.Position.{Position, Start, Top, Whole, Found', Pass', First', Pair'}
+use Rattle.lazy_plan.specs.declared.position.Position.{Position, Start, Top, Whole, Found', Pass', First', Pair', End, Both', Sorted'}
 use Rattle.lazy_plan.specs.World.{World, docs_of, is_told, spot_node, IsSpotIn, IsMatchIn, match_place, match_ahead, match_number, bound_of, seen_at, seen_values, place_in}
 
 -- the input of an operator; the left one of a join
@@ -203,6 +203,45 @@ pub record Standing : Type 0 where
   pub row : TolledRow
   pub ahead : RowEvents
 
+-- a cursor of a visit stands at a match
+abbrev pub has_match : Option DescCursor → Bool
+has_match None = false
+has_match (Some d) = true
+
+-- a cursor stands at a binding of its input, or of both
+abbrev pub has_row : Position → Bool
+has_row Start = false
+has_row (Top s x) = true
+has_row Whole = true
+has_row (Found' q c s d) = has_match d
+has_row (Pass' q c) = true
+has_row (First' q c k) = true
+has_row (Pair' q l q' r) = has_row r
+has_row End = false
+has_row (Both' q l q' r) = false
+has_row (Sorted' q c q' r) = true
+
+-- a position is not the one before all events
+abbrev pub is_begun : Position → Bool
+is_begun Start = false
+is_begun (Top s x) = true
+is_begun Whole = true
+is_begun (Found' q c s d) = true
+is_begun (Pass' q c) = true
+is_begun (First' q c k) = true
+is_begun (Pair' q l q' r) = true
+is_begun End = true
+is_begun (Both' q l q' r) = true
+is_begun (Sorted' q c q' r) = true
+
+-- the events from a position on: its binding, where it stands at one, and those behind it
+abbrev pub onward : Bool → Standing → RowEvents
+onward at s = cond at (bind s.row ∷ s.ahead) s.ahead
+
+-- how many they are, from how many are behind it
+abbrev pub onward_number : Bool → ℕ → ℕ
+onward_number at behind = cond at (suc behind) behind
+
 -- what a cursor of operator n stands for: its binding, and the events behind it
 abbrev pub standing : World → List Operator → ℕ → Position → Standing
 standing w ops n Start = record { row = []; ahead = events (docs_of w) ops n }
@@ -230,6 +269,9 @@ standing w ops n (Pair' q l q' r) =
       ahead = right_ahead (docs_of w) (op_at ops n) left.row right.ahead
           ++ left_ahead (docs_of w) (op_at ops n) (events (docs_of w) ops (right_of (op_at ops n))) left.ahead;
     }
+standing w ops n End = record { row = []; ahead = [] }
+standing w ops n (Both' q l q' r) = record { row = []; ahead = onward (has_row l) (standing w ops n l) ++ onward (has_row r) (standing w ops n r) }
+standing w ops n (Sorted' q c q' r) = record { row = (standing w ops (input_of (op_at ops n)) c).row; ahead = onward (has_row r) (standing w ops n r) }
 
 -- the binding at which a cursor stands
 abbrev pub binding : World → List Operator → ℕ → Position → TolledRow
@@ -272,6 +314,9 @@ number w ops n (Pass' q c) = number w ops (input_of (op_at ops n)) c
 number w ops n (First' q c k) = number w ops (input_of (op_at ops n)) c
 number w ops n (Pair' q l q' r) =
     number w ops (input_of (op_at ops n)) l * suc (size w ops (right_of (op_at ops n))) + number w ops (right_of (op_at ops n)) r
+number w ops n End = 0
+number w ops n (Both' q l q' r) = onward_number (has_row l) (number w ops n l) + onward_number (has_row r) (number w ops n r)
+number w ops n (Sorted' q c q' r) = onward_number (has_row r) (number w ops n r)
 
 -- how cursors of an operator look
 pub data Shape : Type 0 where
@@ -312,21 +357,6 @@ pub record IsRead (ops : List Operator) (s : ℕ) : Type 0 where
   pub within : number < length ops
   pub is : source_number (op_at ops number) ≡ Some s
 
--- a cursor of a visit stands at a match
-abbrev pub has_match : Option DescCursor → Bool
-has_match None = false
-has_match (Some d) = true
-
--- a cursor stands at a binding of its input, or of both
-abbrev pub has_row : Position → Bool
-has_row Start = false
-has_row (Top s x) = true
-has_row Whole = true
-has_row (Found' q c s d) = has_match d
-has_row (Pass' q c) = true
-has_row (First' q c k) = true
-has_row (Pair' q l q' r) = has_row r
-
 -- a cursor of operator n. Of a project and a groupBy it is also known that the keys ahead of it are those that its input has behind the ones
 -- seen up to it
 abbrev pub IsOf : World → List Operator → ℕ → Position → Type 0
@@ -341,6 +371,11 @@ IsOf w ops n (First' q c k) = (shape (op_at ops n) ≡ first_by_keys) × IsOf w 
     ≡ drop k (keys_seen (docs_of w) (keys_of (op_at ops n)) [] (events (docs_of w) ops (input_of (op_at ops n)))))
 IsOf w ops n (Pair' q l q' r) = (shape (op_at ops n) ≡ pairs_up) × IsOf w ops (input_of (op_at ops n)) l × IsTrue (has_row l)
     × IsOf w ops (right_of (op_at ops n)) r × (number w ops (right_of (op_at ops n)) r ≤ size w ops (right_of (op_at ops n)))
+IsOf w ops n End = shape (op_at ops n) ≡ in_order
+IsOf w ops n (Both' q l q' r) = (shape (op_at ops n) ≡ in_order) × IsOf w ops n l × IsTrue (is_begun l) × IsOf w ops n r × IsTrue (is_begun r)
+    × (number w ops n (Both' q l q' r) ≤ size w ops n)
+IsOf w ops n (Sorted' q c q' r) = (shape (op_at ops n) ≡ in_order) × IsOf w ops (input_of (op_at ops n)) c × IsTrue (has_row c) × IsOf w ops n r × IsTrue (is_begun r)
+    × (number w ops n (Sorted' q c q' r) < size w ops n)
 
 -- one spot, or else the other
 abbrev pub or_else : Option (ℕ × Spot) → Option (ℕ × Spot) → Option (ℕ × Spot)
@@ -369,6 +404,9 @@ spot_in ops n (Found' q c s d) v = found_spot (node_out (op_at ops n) v) s d (sp
 spot_in ops n (Pass' q c) v = spot_in ops (input_of (op_at ops n)) c v
 spot_in ops n (First' q c k) v = cond (has_var (keys_of (op_at ops n)) v) (spot_in ops (input_of (op_at ops n)) c v) None
 spot_in ops n (Pair' q l q' r) v = or_else (spot_in ops (input_of (op_at ops n)) l v) (spot_in ops (right_of (op_at ops n)) r v)
+spot_in ops n End v = None
+spot_in ops n (Both' q l q' r) v = None
+spot_in ops n (Sorted' q c q' r) v = spot_in ops (input_of (op_at ops n)) c v
 
 -- the position of the input in a position, or that of the left input
 abbrev pub below : Position → Position
@@ -379,6 +417,9 @@ below (Found' q c s d) = c
 below (Pass' q c) = c
 below (First' q c k) = c
 below (Pair' q l q' r) = l
+below End = Start
+below (Both' q l q' r) = Start
+below (Sorted' q c q' r) = c
 
 -- how many keys were seen up to a position
 abbrev pub count_of : Position → ℕ
@@ -389,3 +430,6 @@ count_of (Found' q c s d) = 0
 count_of (Pass' q c) = 0
 count_of (First' q c k) = k
 count_of (Pair' q l q' r) = 0
+count_of End = 0
+count_of (Both' q l q' r) = 0
+count_of (Sorted' q c q' r) = 0

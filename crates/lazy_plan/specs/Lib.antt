@@ -5,6 +5,7 @@ pub mod Keeping
 pub mod KeyLaws
 pub mod Keys
 pub mod Opening
+pub mod Orders
 pub mod Parts
 pub mod Steps
 pub mod Unders

@@ -8,7 +8,6 @@ use Rattle.plan_core.specs.ByNumber.{op_at}
 use Rattle.plan_core.specs.PlanMade.{op_of, plan_value}
 use Rattle.plan_core.specs.Typed.{IsTyped}
 use Rattle.lazy_plan.specs.World.{World, world}
-use Rattle.lazy_plan.specs.Cursors.{shape, in_order}
 use Rattle.lazy_plan.specs.declared.parts.Fixed.{Fixed}
 use Rattle.lazy_plan.specs.declared.parts.Growing.{Growing}
 
@@ -20,13 +19,8 @@ operators f = map op_of f.plan.ops.items
 abbrev pub world_of : View → Growing → World
 world_of v g = world v g.buffers.items g.seen.items
 
--- no operator orders its bindings
-abbrev pub AreUnordered : List Operator → Type 0
-AreUnordered ops = (n : ℕ) → n < length ops → shape (op_at ops n) ≡ in_order → ⊥
-
--- the plan is typed, each path has its automaton, and no operator orders its bindings
+-- the plan is typed, and each path has its automaton
 pub record IsFixed (f : Fixed) : Type 0 where
   pub typed : IsTyped (operators f)
-  pub unordered : AreUnordered (operators f)
   pub autos : (n i start : ℕ) (path : Form) (out : ℕ) → n < length (operators f) → op_at (operators f) n ≡ get_descendants i start path out
       → slice_get f.autos.items n ≡ Some (Some (table_of path))

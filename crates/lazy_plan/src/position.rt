@@ -26,6 +26,12 @@ pub enum Position {
     First(Rc<Position>, usize),
     /// At the event at which the right side stands, beside a binding of the left side.
     Pair(Rc<Position>, Rc<Position>),
+    /// Behind the last sorted binding.
+    End,
+    /// Before the sorted bindings of the first part, which those of the second follow.
+    Both(Rc<Position>, Rc<Position>),
+    /// At a binding of the input, which the sorted ones of the second part follow.
+    Sorted(Rc<Position>, Rc<Position>),
 }
 
 /// A position that can be shared.
@@ -64,5 +70,8 @@ pub(crate) fn inside(alloc: Global, at: &Rc<Position>) -> Result<Rc<Position>, W
         Position::Pass(below) => share(below),
         Position::First(below, _) => share(below),
         Position::Pair(l, _) => share(l),
+        Position::End => put(alloc, Position::Start),
+        Position::Both(_, _) => put(alloc, Position::Start),
+        Position::Sorted(below, _) => share(below),
     }
 }

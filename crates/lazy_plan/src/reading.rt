@@ -124,6 +124,9 @@ pub(crate) fn spot_of(fixed: &Fixed, n: usize, at: &Rc<Position>, v: Var) -> Opt
             Some(spot) => Some(spot),
             None => spot_of(fixed, right_input(fixed, n), r, v),
         },
+        Position::End => None,
+        Position::Both(_, _) => None,
+        Position::Sorted(below, _) => spot_of(fixed, left_input(fixed, n), below, v),
     }
 }
 

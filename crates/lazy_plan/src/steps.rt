@@ -3,21 +3,28 @@ ghost use Rattle.std.specs.Prelude.{◌≡◌, ◌+◌, ◌*◌, ◌<◌, ◌≤
 ghost use Rattle.mix_base.specs.Events.{found, nothing};
 ghost use Rattle.plan_core.specs.ByNumber.{op_at};
 ghost use Rattle.plan_core.specs.Plans.{source, get_descendants, join, over};
+ghost use Rattle.plan_core.specs.Unary.{order_by};
+ghost use Rattle.plan_core.specs.Valid.{kinds, a_node};
 ghost use Rattle.plan_core.specs.Events.{events, expand, pairs, descendants};
 ghost use Rattle.lazy_plan.specs.World.{IsBench, docs_of, is_told, bound_of, IsMatchIn};
 ghost use Rattle.lazy_plan.specs.Cursors.{binding, ahead, number, size, shape, event_for_event, first_by_keys, one_group, pairs_up, input_of, right_of, left_ahead, visits_below, start_node, source_number, visit_ahead, found_ahead, found_number, right_ahead, IsOf, IsRead, has_row};
 ghost use Rattle.lazy_plan.specs.Steps.{Steps, Finds, Ran, HasCause};
+ghost use Rattle.lazy_plan.specs.Orders.{AreAll, RanThrough};
 ghost use Rattle.lazy_plan.specs.Parts.{operators, world_of, IsFixed};
+ghost use Rattle.lazy_plan.specs.declared.position.Position.{Start};
 
 use crate::fault::WalkFault;
 use crate::firsts::{first_of_key, key_of, seen_up_to};
+use crate::labelled::{Labelled, sort_labelled};
 use crate::parts::{Fixed, Growing, operator};
 use crate::position::{Position, inside, put, share};
-use crate::reading::{lets_through, start_node};
+use crate::reading::{label_of, lets_through, start_node};
+use crate::sorted::{in_a_row, settle};
 use crate::step::Step;
 use crate::visits::seek;
 use lazy_descend::DescCursor;
 use lxp_core::Sources;
+use mix_tree::Var;
 use plan_core::Op;
 use std::alloc::Global;
 use std::rc::Rc;
@@ -99,7 +106,17 @@ fn next_event<S: Sources>(
                 step_firsts(alloc, fixed, growing, s, op, *input as usize, at)
             }
         }
-        Op::OrderBy { .. } => unreachable!(),
+        Op::OrderBy { input, var, desc } => step_order(
+            alloc,
+            fixed,
+            growing,
+            s,
+            op,
+            *input as usize,
+            *var,
+            *desc,
+            at,
+        ),
         Op::Concatenate { input, .. } => step_events(
             alloc,
             fixed,
@@ -447,6 +464,98 @@ fn step_firsts<S: Sources>(
         Some(below) => {
             let key = key_of(alloc, fixed, growing, op, input, &below)?;
             first_of_key(alloc, &mut growing.seen, op, key, below, count)
+        }
+    }
+}
+
+/// The first of the sorted bindings of the input, or the next one, which asks nothing.
+#[cycle(walk)]
+fn step_order<S: Sources>(
+    alloc: Global,
+    fixed: &Fixed,
+    growing: &mut Growing,
+    s: &mut S,
+    op: usize,
+    input: usize,
+    v: Var,
+    desc: bool,
+    at: &Rc<Position>,
+) -> Result<Step, WalkFault>
+    requires fixed { IsFixed fixed.now }
+    requires op { op < length (operators fixed.now) }
+    requires is { op_at (operators fixed.now) op ≡ over input (order_by v desc) }
+    requires bench { IsBench (world_of (S.view s.old) growing.old) (operators fixed.now) }
+    requires cursor { IsOf (world_of (S.view s.old) growing.old) (operators fixed.now) op at.now.value }
+    ensures ran { Ran S.view S.came_from (operators fixed.now) op (ahead (world_of (S.view s.old) growing.old) (operators fixed.now) op at.now.value) s.old growing.old s.new growing.new }
+    ensures cause { HasCause (operators fixed.now) (S.view s.old) (S.view s.new) result }
+    ensures answer { IfOk result (Steps (world_of (S.view s.old) growing.old) (world_of (S.view s.new) growing.new) (operators fixed.now) op (ahead (world_of (S.view s.old) growing.old) (operators fixed.now) op at.now.value) (number (world_of (S.view s.old) growing.old) (operators fixed.now) op at.now.value)) }
+{
+    let here: &Position = at;
+    match here {
+        Position::Start => first_in_order(alloc, fixed, growing, s, op, input, v, desc),
+        Position::Sorted(_, rest) => settle(alloc, rest),
+        Position::Both(_, _) => settle(alloc, at),
+        _ => Ok(Step::Done),
+    }
+}
+
+/// All bindings of the input, sorted; the first of them.
+#[cycle(walk)]
+fn first_in_order<S: Sources>(
+    alloc: Global,
+    fixed: &Fixed,
+    growing: &mut Growing,
+    s: &mut S,
+    op: usize,
+    input: usize,
+    v: Var,
+    desc: bool,
+) -> Result<Step, WalkFault>
+    requires fixed { IsFixed fixed.now }
+    requires op { op < length (operators fixed.now) }
+    requires is { op_at (operators fixed.now) op ≡ over input (order_by v desc) }
+    requires bench { IsBench (world_of (S.view s.old) growing.old) (operators fixed.now) }
+    ensures ran { Ran S.view S.came_from (operators fixed.now) op (ahead (world_of (S.view s.old) growing.old) (operators fixed.now) op Start) s.old growing.old s.new growing.new }
+    ensures cause { HasCause (operators fixed.now) (S.view s.old) (S.view s.new) result }
+    ensures answer { IfOk result (Steps (world_of (S.view s.old) growing.old) (world_of (S.view s.new) growing.new) (operators fixed.now) op (ahead (world_of (S.view s.old) growing.old) (operators fixed.now) op Start) (number (world_of (S.view s.old) growing.old) (operators fixed.now) op Start)) }
+{
+    let mut rows = labelled(alloc, fixed, growing, s, input, v)?;
+    sort_labelled(&mut rows, desc)?;
+    let first = in_a_row(alloc, &rows)?;
+    settle(alloc, &first)
+}
+
+/// The positions of an operator at all its bindings, each with the label of a variable's node.
+#[cycle(walk)]
+fn labelled<S: Sources>(
+    alloc: Global,
+    fixed: &Fixed,
+    growing: &mut Growing,
+    s: &mut S,
+    n: usize,
+    v: Var,
+) -> Result<Vec<Labelled>, WalkFault>
+    requires fixed { IsFixed fixed.now }
+    requires op { n < length (operators fixed.now) }
+    requires node { kinds (operators fixed.now) n v ≡ Some a_node }
+    requires bench { IsBench (world_of (S.view s.old) growing.old) (operators fixed.now) }
+    ensures ran { RanThrough S.view S.came_from (operators fixed.now) n s.old growing.old s.new growing.new }
+    ensures cause { HasCause (operators fixed.now) (S.view s.old) (S.view s.new) result }
+    ensures rows { IfOk result (λ r. AreAll (world_of (S.view s.old) growing.old) (world_of (S.view s.new) growing.new) (operators fixed.now) n v r.items) }
+{
+    let mut rows = Vec::new(alloc);
+    let mut at = put(alloc, Position::Start)?;
+    'events: loop {
+        match advance(alloc, fixed, growing, s, n, &at)? {
+            None => return Ok(rows),
+            Some(found) => {
+                let label = label_of(fixed, growing, n, &found, v).copy(alloc)?;
+                rows.push(Labelled {
+                    label,
+                    place: share(&found)?,
+                })?;
+                at = found;
+            }
         }
     }
 }

@@ -1,7 +1,9 @@
-use Rattle.std.proofs.Common.{rules, ◌≡◌, ◌+◌, ◌*◌, ◌<◌, ◌≤◌, IsTrue, ℕ, refl, ap, sym, subst, ◌∙◌, arith}
+use Rattle.std.proofs.lemmas.Result.{IfOk-weaker}
+use Rattle.std.proofs.Common.{rules, ◌≡◌, ◌+◌, ◌*◌, ◌<◌, ◌≤◌, IsTrue, ℕ, List, refl, ap, sym, subst, ◌∙◌, arith}
 use Rattle.plan_core.specs.PlanMade.{op_of}
 use Rattle.plan_core.specs.ByNumber.{op_at}
 use Rattle.plan_core.specs.Events.{events}
+use Rattle.lazy_plan.specs.declared.labelled.Labelled.{Labelled}
 use Rattle.lazy_plan.specs.declared.position.Position.{Position, Start}
 use Rattle.lazy_plan.specs.World.{docs_of, bound_of}
 use Rattle.lazy_plan.specs.Cursors.{binding, ahead, number, size, shape, input_of, right_of, found_ahead, left_ahead}
@@ -15,6 +17,7 @@ use Rattle.lazy_plan.proofs.VisitSteps.{visits_single, visits_begin, visits_cost
 use Rattle.lazy_plan.proofs.PairSteps.{pairs_begin, pairs_single, left_costs, left_done, left_on, right_costs, right_over, pair_is, right_at, right_on}
 use Rattle.lazy_plan.proofs.FirstSteps.{firsts_costs, firsts_done, firsts_single, firsts_bench, firsts_asks, firsts_result}
 use Rattle.lazy_plan.proofs.PassSteps.{pass_costs, pass_done, pass_is, pass_at, pass_on, pass_single}
+use Rattle.lazy_plan.proofs.OrderSteps.{Gathered, gathered_start, gathered_more, gathered_all, through_nothing, through, order_ran, order_shape, order_first, order_over, sorted_given, sorted_few}
 use Rattle.lazy_plan.proofs.steps.+walk.Goals as goal
 
 pub advance-events-init : goal.advance-events-init
@@ -258,5 +261,74 @@ step_firsts-returns-clause-answer g t c =
     let value = rw c.requires.input at (c.in_ok-key-in-Some.ensures.value _ k.bench h.cursor) in
     firsts_result (operators c.args.fixed.now) c.requires.fixed.typed c.args.op c.requires.op c.requires.is (world_of (g.S.Sources.view c.args.s.now) c.args.growing.now) c.args.at.now.value c.requires.cursor _ c.requires.bench k.asks _ f k.bench c.in_ok-key-in-Some.key.items parts value c.first_of_key.new.seen.items c.first_of_key.ensures.grows (rw c.seen_up_to-count.ensures at c.first_of_key.ensures.pushed) c.first_of_key.result (rw c.seen_up_to-count.ensures at c.first_of_key.ensures.answer)
 
-pub next_event-unreachable-requires : goal.next_event-unreachable-requires
-next_event-unreachable-requires g t c = c.requires.fixed.unordered c.args.op c.requires.op (ap shape (sym c.operator.ensures ∙ ap op_of c.in-OrderBy.is))
+pub first_in_order-returns-in_err-rows-clause-ran : goal.first_in_order-returns-in_err-rows-clause-ran
+first_in_order-returns-in_err-rows-clause-ran g t c = order_ran (operators c.args.fixed.now) c.requires.fixed.typed c.args.op c.requires.op c.args.input c.args.v c.args.desc c.requires.is Start refl c.labelled.ensures.ran
+
+pub first_in_order-returns-in_err-sort_labelled-clause-ran : goal.first_in_order-returns-in_err-sort_labelled-clause-ran
+first_in_order-returns-in_err-sort_labelled-clause-ran g t c = order_ran (operators c.args.fixed.now) c.requires.fixed.typed c.args.op c.requires.op c.args.input c.args.v c.args.desc c.requires.is Start refl c.labelled.ensures.ran
+
+pub first_in_order-returns-in_err-first-clause-ran : goal.first_in_order-returns-in_err-first-clause-ran
+first_in_order-returns-in_err-first-clause-ran g t c = order_ran (operators c.args.fixed.now) c.requires.fixed.typed c.args.op c.requires.op c.args.input c.args.v c.args.desc c.requires.is Start refl c.labelled.ensures.ran
+
+pub first_in_order-returns-clause-ran : goal.first_in_order-returns-clause-ran
+first_in_order-returns-clause-ran g t c = order_ran (operators c.args.fixed.now) c.requires.fixed.typed c.args.op c.requires.op c.args.input c.args.v c.args.desc c.requires.is Start refl c.labelled.ensures.ran
+
+pub first_in_order-settle-requires-clause-sorted : goal.first_in_order-settle-requires-clause-sorted
+first_in_order-settle-requires-clause-sorted g t c =
+    let row = c.in_ok-first.ensures.row (world_of (g.S.Sources.view c.labelled.new.s) c.labelled.new.growing) (operators c.args.fixed.now) c.args.op c.args.v (order_shape (operators c.args.fixed.now) c.requires.fixed.typed c.args.op c.requires.op c.args.input c.args.v c.args.desc c.requires.is) (sorted_given (operators c.args.fixed.now) c.requires.fixed.typed c.args.op c.requires.op c.args.input c.args.v c.args.desc c.requires.is (world_of (g.S.Sources.view c.args.s.now) c.args.growing.now) (world_of (g.S.Sources.view c.labelled.new.s) c.labelled.new.growing) c.labelled.ensures.ran.kept c.requires.bench c.in_ok-rows.rows.items c.deref.result.now c.in_ok-rows.ensures.rows (c.deref.ensures.value ∙ c.in_ok-sort_labelled.ensures)) (sorted_few (operators c.args.fixed.now) c.requires.fixed.typed c.args.op c.requires.op c.args.input c.args.v c.args.desc c.requires.is (world_of (g.S.Sources.view c.args.s.now) c.args.growing.now) (world_of (g.S.Sources.view c.labelled.new.s) c.labelled.new.growing) c.labelled.ensures.ran.kept c.requires.bench c.in_ok-rows.rows.items c.deref.result.now c.in_ok-rows.ensures.rows (c.deref.ensures.value ∙ c.in_ok-sort_labelled.ensures)) in
+    ((world_of (g.S.Sources.view c.labelled.new.s) c.labelled.new.growing), (operators c.args.fixed.now), c.args.op, order_shape (operators c.args.fixed.now) c.requires.fixed.typed c.args.op c.requires.op c.args.input c.args.v c.args.desc c.requires.is, row.of)
+
+pub first_in_order-returns-clause-answer : goal.first_in_order-returns-clause-answer
+first_in_order-returns-clause-answer g t c =
+    let row = c.in_ok-first.ensures.row (world_of (g.S.Sources.view c.labelled.new.s) c.labelled.new.growing) (operators c.args.fixed.now) c.args.op c.args.v (order_shape (operators c.args.fixed.now) c.requires.fixed.typed c.args.op c.requires.op c.args.input c.args.v c.args.desc c.requires.is) (sorted_given (operators c.args.fixed.now) c.requires.fixed.typed c.args.op c.requires.op c.args.input c.args.v c.args.desc c.requires.is (world_of (g.S.Sources.view c.args.s.now) c.args.growing.now) (world_of (g.S.Sources.view c.labelled.new.s) c.labelled.new.growing) c.labelled.ensures.ran.kept c.requires.bench c.in_ok-rows.rows.items c.deref.result.now c.in_ok-rows.ensures.rows (c.deref.ensures.value ∙ c.in_ok-sort_labelled.ensures)) (sorted_few (operators c.args.fixed.now) c.requires.fixed.typed c.args.op c.requires.op c.args.input c.args.v c.args.desc c.requires.is (world_of (g.S.Sources.view c.args.s.now) c.args.growing.now) (world_of (g.S.Sources.view c.labelled.new.s) c.labelled.new.growing) c.labelled.ensures.ran.kept c.requires.bench c.in_ok-rows.rows.items c.deref.result.now c.in_ok-rows.ensures.rows (c.deref.ensures.value ∙ c.in_ok-sort_labelled.ensures)) in
+    IfOk-weaker c.settle.result _ _ (λ r ok. order_first (operators c.args.fixed.now) c.requires.fixed.typed c.args.op c.requires.op c.args.input c.args.v c.args.desc c.requires.is (world_of (g.S.Sources.view c.args.s.now) c.args.growing.now) (world_of (g.S.Sources.view c.labelled.new.s) c.labelled.new.growing) c.labelled.ensures.ran.kept c.requires.bench c.in_ok-rows.rows.items c.deref.result.now c.in_ok-rows.ensures.rows (c.deref.ensures.value ∙ c.in_ok-sort_labelled.ensures) c.in_ok-first.first.value row Start refl r (ok (world_of (g.S.Sources.view c.labelled.new.s) c.labelled.new.growing) (operators c.args.fixed.now) c.args.op (order_shape (operators c.args.fixed.now) c.requires.fixed.typed c.args.op c.requires.op c.args.input c.args.v c.args.desc c.requires.is) row.of)) c.settle.ensures.ok
+
+pub labelled-returns-in_err-at-clause-ran : goal.labelled-returns-in_err-at-clause-ran
+labelled-returns-in_err-at-clause-ran g t c = through_nothing g.met.S.Sources.same c.args.n c.args.s.now c.args.growing.now c.requires.bench
+
+pub labelled-events-init : goal.labelled-events-init
+labelled-events-init g t c =
+    rw c.new-rows.ensures.items record { came = g.met.S.Sources.same c.args.s.now; gathered = gathered_start (world_of (g.S.Sources.view c.args.s.now) c.args.growing.now) (operators c.args.fixed.now) c.args.n c.args.v (keeps_same (world_of (g.S.Sources.view c.args.s.now) c.args.growing.now) (operators c.args.fixed.now) c.requires.bench) c.in_ok-at.at.value c.in_ok-at.ensures.ok; bench = c.requires.bench }
+
+pub labelled-events-preserved : goal.labelled-events-preserved
+labelled-events-preserved g t c =
+    let finds = rw c.in-Some.is at c.in_ok-advance.ensures.answer in
+    let place_is = c.in_ok-share-in-Some.ensures.ok in
+    record {
+      came = g.met.S.Sources.after _ _ _ c.events.invariant.came c.advance.ensures.ran.came;
+      gathered = subst (λ (rows : List Labelled). Gathered (world_of (g.S.Sources.view c.args.s.now) c.args.growing.now) (world_of (g.S.Sources.view c.advance.new.s) c.advance.new.growing) (operators c.args.fixed.now) c.args.n c.args.v rows c.in-Some.found.value) (sym c.in_ok-push-in-Some.ensures.items)
+          (gathered_more (world_of (g.S.Sources.view c.advance.new.s) c.advance.new.growing) c.events.invariant.gathered c.events.invariant.bench c.advance.ensures.ran.asks c.in-Some.found.value finds (record { label = c.in_ok-label-in-Some.label; place = c.in_ok-share-in-Some.field-0 }) place_is (λ u. c.in_ok-label-in-Some.ensures ∙ c.label_of.ensures (g.S.Sources.view c.advance.new.s) c.advance.ensures.ran.bench finds.cursor u));
+      bench = c.advance.ensures.ran.bench;
+    }
+
+pub labelled-returns-in_err-advance-clause-ran : goal.labelled-returns-in_err-advance-clause-ran
+labelled-returns-in_err-advance-clause-ran g t c = through g.met.S.Sources.after c.events.invariant.came c.events.invariant.gathered c.events.invariant.bench c.advance.ensures.ran
+
+pub labelled-returns-in-None-clause-ran : goal.labelled-returns-in-None-clause-ran
+labelled-returns-in-None-clause-ran g t c = through g.met.S.Sources.after c.events.invariant.came c.events.invariant.gathered c.events.invariant.bench c.advance.ensures.ran
+
+pub labelled-returns-in_err-label-in-Some-clause-ran : goal.labelled-returns-in_err-label-in-Some-clause-ran
+labelled-returns-in_err-label-in-Some-clause-ran g t c = through g.met.S.Sources.after c.events.invariant.came c.events.invariant.gathered c.events.invariant.bench c.advance.ensures.ran
+
+pub labelled-returns-in_err-share-in-Some-clause-ran : goal.labelled-returns-in_err-share-in-Some-clause-ran
+labelled-returns-in_err-share-in-Some-clause-ran g t c = through g.met.S.Sources.after c.events.invariant.came c.events.invariant.gathered c.events.invariant.bench c.advance.ensures.ran
+
+pub labelled-returns-in_err-push-in-Some-clause-ran : goal.labelled-returns-in_err-push-in-Some-clause-ran
+labelled-returns-in_err-push-in-Some-clause-ran g t c = through g.met.S.Sources.after c.events.invariant.came c.events.invariant.gathered c.events.invariant.bench c.advance.ensures.ran
+
+pub labelled-returns-in-None-clause-rows : goal.labelled-returns-in-None-clause-rows
+labelled-returns-in-None-clause-rows g t c =
+    gathered_all (world_of (g.S.Sources.view c.advance.new.s) c.advance.new.growing) c.events.invariant.gathered c.events.invariant.bench c.advance.ensures.ran.asks c.requires.bench (rw c.in-None.is at c.in_ok-advance.ensures.answer)
+
+pub step_order-returns-in-Sorted-clause-ran : goal.step_order-returns-in-Sorted-clause-ran
+step_order-returns-in-Sorted-clause-ran g t c = ran_nothing g.met.S.Sources.same c.args.op (ahead (world_of (g.S.Sources.view c.args.s.now) c.args.growing.now) (operators c.args.fixed.now) c.args.op c.args.at.now.value) c.args.s.now c.args.growing.now c.requires.bench
+
+pub step_order-returns-in-Both-clause-ran : goal.step_order-returns-in-Both-clause-ran
+step_order-returns-in-Both-clause-ran g t c = ran_nothing g.met.S.Sources.same c.args.op (ahead (world_of (g.S.Sources.view c.args.s.now) c.args.growing.now) (operators c.args.fixed.now) c.args.op c.args.at.now.value) c.args.s.now c.args.growing.now c.requires.bench
+
+pub step_order-returns-in_default : goal.step_order-returns-in_default
+step_order-returns-in_default g t c = record {
+  ran = ran_nothing g.met.S.Sources.same c.args.op (ahead (world_of (g.S.Sources.view c.args.s.now) c.args.growing.now) (operators c.args.fixed.now) c.args.op c.args.at.now.value) c.args.s.now c.args.growing.now c.requires.bench;
+  cause = tt;
+  answer = λ u. order_over (operators c.args.fixed.now) c.requires.fixed.typed c.args.op c.requires.op c.args.input c.args.v c.args.desc c.requires.is (world_of (g.S.Sources.view c.args.s.now) c.args.growing.now) c.args.at.now.value c.requires.cursor (λ e. c.in_default.not-Start (c.deref-here.ensures ∙ e)) (λ q q' l r e. c.in_default.not-Both (record { ptr = q.ptr; value = l }) (record { ptr = q'.ptr; value = r }) (c.deref-here.ensures ∙ e)) (λ q q' l r e. c.in_default.not-Sorted (record { ptr = q.ptr; value = l }) (record { ptr = q'.ptr; value = r }) (c.deref-here.ensures ∙ e));
+}

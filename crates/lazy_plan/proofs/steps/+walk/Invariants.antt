@@ -3,6 +3,7 @@ use Rattle.lazy_plan.specs.World.{IsBench}
 use Rattle.lazy_plan.specs.Cursors.{IsOf, ahead, number}
 use Rattle.lazy_plan.specs.Parts.{operators, world_of}
 use Rattle.lazy_plan.proofs.Goes.{Goes}
+use Rattle.lazy_plan.proofs.OrderSteps.{Gathered}
 use Rattle.lazy_plan.proofs.steps.+walk.Given as goal
 
 abbrev pub decreases-advance : goal.decreases-advance
@@ -48,3 +49,23 @@ invariant-advance-events g l = record {
 
 abbrev pub decreases-advance-events : goal.decreases-advance-events
 decreases-advance-events g l = number (world_of (g.S.Sources.view l.s) l.growing) (operators l.fixed) l.op l.at.value
+
+abbrev pub decreases-step_order : goal.decreases-step_order
+decreases-step_order g l = 6 * l.op + 3
+
+abbrev pub decreases-first_in_order : goal.decreases-first_in_order
+decreases-first_in_order g l = 6 * l.op + 2
+
+abbrev pub decreases-labelled : goal.decreases-labelled
+decreases-labelled g l = 6 * l.n + 6
+
+-- the bindings so far, and what they have cost
+abbrev pub invariant-labelled-events : goal.invariant-labelled-events
+invariant-labelled-events g l = record {
+  came : g.S.Sources.came_from l.s l.initial.s;
+  gathered : Gathered (world_of (g.S.Sources.view l.initial.s) l.initial.growing) (world_of (g.S.Sources.view l.s) l.growing) (operators l.fixed) l.n l.v l.rows.items l.at.value;
+  bench : IsBench (world_of (g.S.Sources.view l.s) l.growing) (operators l.fixed);
+}
+
+abbrev pub decreases-labelled-events : goal.decreases-labelled-events
+decreases-labelled-events g l = number (world_of (g.S.Sources.view l.s) l.growing) (operators l.fixed) l.n l.at.value
