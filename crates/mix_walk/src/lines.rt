@@ -18,7 +18,7 @@ use mix_io::Sink;
 use mix_script::{Answer, Names, Step, write_answer};
 use mix_tree::Label;
 use std::alloc::Global;
-use tree_buffer::{Buffer, Spot};
+use tree_buffer::{Buffer, Spot, no_call_runs, two_calls_run};
 
 // Whether an answer is a fault.
 fn marks(answer: &Answer) -> bool
@@ -79,6 +79,8 @@ pub fn walk_lines<S: Sources, K: Sink>(
         → EndsOn t names.now steps.now (K.view out.old).written (K.view out.new).written result }
     ensures count { (K.view out.old).faults ≤ (K.view out.new).faults }
 {
+    no_call_runs::<S>();
+    two_calls_run::<S>();
     let mut buffer = Buffer::open(alloc, s, number)?;
     let mut spots = Names::new(alloc);
     let mut marked = false;

@@ -12,16 +12,7 @@ use Rattle.xmas_rule.specs.Meaning.{instances, parts, shown_first}
 use Rattle.xmas_rule.specs.declared.template.Item.{Item}
 use Rattle.xmas_rule.specs.declared.template.Item.TheVariants as item
 use Rattle.plain_rule.proofs.Tupling.{drop_next, drop_past}
-
--- three lists of trees
-pub followed_assoc : (f g h : Forest) → followed (followed f g) h ≡ followed f (followed g h)
-followed_assoc none g h = refl
-followed_assoc (tree label kids rest) g h = ap (tree label kids) (followed_assoc rest g h)
-
--- nothing behind trees
-pub followed_none : (f : Forest) → followed f none ≡ f
-followed_none none = refl
-followed_none (tree label kids rest) = ap (tree label kids) (followed_none rest)
+use Rattle.mix_tree.proofs.Forests.{followed-none, followed_assoc}
 
 -- one tree more
 pub pushed : (ts more : List LabelledTree) (t u : LabelledTree) → more ≡ ts ++ t ∷ [] → t ≡ u → forest_of more ≡ followed (forest_of ts) (tree u.label u.kids none)
@@ -39,17 +30,17 @@ joined_next f xs i x some more h e m =
 
 -- behind the last member
 pub joined_end : {X : Type 0} (f : X → Forest) (xs : List X) (i : ℕ) (some : Forest) → length xs ≤ i → followed some (joined f (drop i xs)) ≡ some
-joined_end f xs i some h = ap (λ z. followed some (joined f z)) (drop_past xs i h) ∙ followed_none some
+joined_end f xs i some h = ap (λ z. followed some (joined f z)) (drop_past xs i h) ∙ followed-none some
 
 -- the instances of an item and of those behind it
 instances_before : (docs : Documents) (force : List Key) (x : Item) (rest : Items) (bs : List Binding)
     → instances docs force (item_before x rest) bs ≡ followed (instances docs force (item_before x done) bs) (instances docs force rest bs)
 instances_before docs force (item.Text label) rest bs = refl
 instances_before docs force (item.Node v keys) rest bs =
-    ap (λ z. followed z (instances docs force rest bs)) (sym (followed_none (joined (shown_first docs whole v) (parts docs force keys.items bs))))
+    ap (λ z. followed z (instances docs force rest bs)) (sym (followed-none (joined (shown_first docs whole v) (parts docs force keys.items bs))))
 instances_before docs force (item.LabelOf v keys) rest bs =
-    ap (λ z. followed z (instances docs force rest bs)) (sym (followed_none (joined (shown_first docs label_alone v) (parts docs force keys.items bs))))
-instances_before docs force (item.Element t) rest bs = ap (λ z. followed z (instances docs force rest bs)) (sym (followed_none _))
+    ap (λ z. followed z (instances docs force rest bs)) (sym (followed-none (joined (shown_first docs label_alone v) (parts docs force keys.items bs))))
+instances_before docs force (item.Element t) rest bs = ap (λ z. followed z (instances docs force rest bs)) (sym (followed-none _))
 
 -- the instances of one item more
 pub instances_next : (docs : Documents) (force : List Key) (items : List Item) (i : ℕ) (x : Item) (bs : List Binding) (some more : Forest) → i < length items → x ≡ get_or items i x
@@ -65,7 +56,7 @@ instances_next docs force items i x bs some more h e m =
 -- behind the last item
 pub instances_end : (docs : Documents) (force : List Key) (items : List Item) (i : ℕ) (bs : List Binding) (some : Forest) → length items ≤ i
     → followed some (instances docs force (items_of (drop i items)) bs) ≡ some
-instances_end docs force items i bs some h = ap (λ z. followed some (instances docs force (items_of z) bs)) (drop_past items i h) ∙ followed_none some
+instances_end docs force items i bs some h = ap (λ z. followed some (instances docs force (items_of z) bs)) (drop_past items i h) ∙ followed-none some
 
 -- an item has no more elements than all items
 pub item_small : (items : List Item) (i : ℕ) (x : Item) → i < length items → x ≡ get_or items i x → items_size (item_before x done) ≤ items_size (items_of items)
@@ -87,7 +78,7 @@ item_small (y ∷ items) (suc i) x h e = let k = item_small items i x (omega ari
 
 -- nothing is shown of no bindings
 pub shown_of_none : (docs : Documents) (shown : Shown) (v : ℕ) (bs : List Binding) (some : Forest) → length bs ≡ 0 → followed some (shown_first docs shown v bs) ≡ some
-shown_of_none docs shown v [] some e = followed_none some
+shown_of_none docs shown v [] some e = followed-none some
 shown_of_none docs shown v (b ∷ bs) some e = absurd (omega arith)
 
 -- the instances of a variable's item, part by part
@@ -96,7 +87,7 @@ pub shown_item : (docs : Documents) (force own : List Key) (shown : Shown) (v : 
 shown_item docs force own shown v bs found items old new e f n =
     n
     ∙ ap (λ z. followed old (joined (shown_first docs shown v) z)) e
-    ∙ ap (followed old) (sym (followed_none (joined (shown_first docs shown v) (parts docs force own bs))))
+    ∙ ap (followed old) (sym (followed-none (joined (shown_first docs shown v) (parts docs force own bs))))
     ∙ ap (λ z. followed old (instances docs force z bs)) (sym f)
 
 -- the instances of an element, part by part
@@ -107,5 +98,5 @@ element_item docs force own within label inside bs found items old new e g f n =
     n
     ∙ ap (λ z. followed old (joined (λ part. tree label (instances docs within inside part) none) z)) e
     ∙ ap (λ k. followed old (joined (λ part. tree label (instances docs k inside part) none) (parts docs force own bs))) g
-    ∙ ap (followed old) (sym (followed_none (joined (λ part. tree label (instances docs (in_force force own) inside part) none) (parts docs force own bs))))
+    ∙ ap (followed old) (sym (followed-none (joined (λ part. tree label (instances docs (in_force force own) inside part) none) (parts docs force own bs))))
     ∙ ap (λ z. followed old (instances docs force z bs)) (sym f)

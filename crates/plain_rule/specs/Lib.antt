@@ -1,4 +1,3 @@
 pub mod Documents
 pub mod Found
 pub mod Parts
-pub mod Worlds

@@ -12,6 +12,7 @@ use crate::ordering::in_order;
 use crate::selecting::select;
 use crate::tuples::body_tuples;
 use mix_tree::Tree;
+use rule_laws::tuples_are_bindings;
 use std::alloc::{AllocError, Global};
 use xmas_rule::Rule;
 
@@ -21,6 +22,7 @@ pub fn bindings(alloc: Global, rule: &Rule, docs: &[Tree]) -> Result<Vec<Binding
     requires { (sources : ℕ) × IsAccepted sources (rule_of rule.now) }
     ensures { IfOk result (λ found. AreBindings (documents_of docs.now) (rule_of rule.now).conds (rule_of rule.now).order found.items) }
 {
+    tuples_are_bindings();
     let all = body_tuples(alloc, docs, &rule.conds)?;
     let kept = select(alloc, docs, &rule.conds, all)?;
     in_order(alloc, docs, rule.order, kept)

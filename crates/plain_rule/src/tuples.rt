@@ -1,10 +1,9 @@
 // The tuples of which the binding conditions of a body hold.
 ghost use Rattle.std.specs.Prelude.{◌≡◌, ◌++◌, ◌∷◌, [], IfOk, OnOk, map};
 ghost use Rattle.xmas_rule.specs.Conditions.{binders, binder_vars, flat, from_source, from_var, has};
-ghost use Rattle.plan_core.specs.Plans.{World};
-ghost use Rattle.plan_make.specs.Reached.{reached, reaches, begun};
-ghost use Rattle.plan_make.proofs.Tuples.{extend, tuples};
-ghost use Rattle.plain_rule.specs.Worlds.{IsWorldOf};
+ghost use Rattle.rule_laws.specs.Reached.{reached, reaches, begun};
+ghost use Rattle.rule_laws.specs.Tuples.{MatchLists, AreMatchLists, extend, tuples};
+ghost use Rattle.plain_rule.specs.Documents.{documents_of};
 
 use crate::binding::{Binding, node_in, with_node};
 use crate::matching::matches;
@@ -42,7 +41,7 @@ fn push_longer(
     var: Var,
     longer: &mut Vec<Binding>,
 ) -> Result<(), AllocError>
-    ensures { (w : World) → IsWorldOf docs.now w → OnOk result (longer.new.items ≡ longer.old.items ++ map (λ q. binding.now ++ (var, record { source = start.now.source; place = q }) ∷ []) (w.matches path.now start.now)) }
+    ensures { (lists : MatchLists) → AreMatchLists (documents_of docs.now) lists → OnOk result (longer.new.items ≡ longer.old.items ++ map (λ q. binding.now ++ (var, record { source = start.now.source; place = q }) ∷ []) (lists path.now start.now)) }
 {
     let places = matches(alloc, docs, path, start)?;
     push_at_places(alloc, binding, var, start.source(), &places, longer)
@@ -57,7 +56,7 @@ fn extend_from_source(
     path: &Path,
     var: Var,
 ) -> Result<Vec<Binding>, AllocError>
-    ensures { IfOk result (λ longer. (w : World) → IsWorldOf docs.now w → longer.items ≡ extend w (from_source source path.now var) bindings.now) }
+    ensures { IfOk result (λ longer. (lists : MatchLists) → AreMatchLists (documents_of docs.now) lists → longer.items ≡ extend lists (from_source source path.now var) bindings.now) }
 {
     let start = Node::document(alloc, source);
     let mut longer = Vec::new(alloc);
@@ -76,7 +75,7 @@ fn extend_from_var(
     path: &Path,
     var: Var,
 ) -> Result<Vec<Binding>, AllocError>
-    ensures { IfOk result (λ longer. (w : World) → IsWorldOf docs.now w → longer.items ≡ extend w (from_var start path.now var) bindings.now) }
+    ensures { IfOk result (λ longer. (lists : MatchLists) → AreMatchLists (documents_of docs.now) lists → longer.items ≡ extend lists (from_var start path.now var) bindings.now) }
 {
     let mut longer = Vec::new(alloc);
     for binding in bindings {
@@ -103,7 +102,7 @@ fn extend_if_has(
     var: Var,
     bindings: Vec<Binding>,
 ) -> Result<Vec<Binding>, AllocError>
-    ensures tuples { IfOk result (λ longer. (w : World) → IsWorldOf docs.now w → longer.items ≡ tuples w bindings.items (reached vars.old.items (from_var start path.now var ∷ []))) }
+    ensures tuples { IfOk result (λ longer. (lists : MatchLists) → AreMatchLists (documents_of docs.now) lists → longer.items ≡ tuples lists bindings.items (reached vars.old.items (from_var start path.now var ∷ []))) }
     ensures vars { OnOk result (vars.new.items ≡ vars.old.items ++ binder_vars (reached vars.old.items (from_var start path.now var ∷ []))) }
 {
     if !has_var(vars, start) {
@@ -121,7 +120,7 @@ fn extend_if_reached(
     cond: &Cond,
     bindings: Vec<Binding>,
 ) -> Result<Vec<Binding>, AllocError>
-    ensures tuples { IfOk result (λ longer. (w : World) → IsWorldOf docs.now w → longer.items ≡ tuples w bindings.items (reached vars.old.items (binders (cond.now ∷ [])))) }
+    ensures tuples { IfOk result (λ longer. (lists : MatchLists) → AreMatchLists (documents_of docs.now) lists → longer.items ≡ tuples lists bindings.items (reached vars.old.items (binders (cond.now ∷ [])))) }
     ensures vars { OnOk result (vars.new.items ≡ vars.old.items ++ binder_vars (reached vars.old.items (binders (cond.now ∷ [])))) }
 {
     match cond {
@@ -141,7 +140,7 @@ fn extend_reached(
     conds: &[Cond],
     bindings: Vec<Binding>,
 ) -> Result<Vec<Binding>, AllocError>
-    ensures { IfOk result (λ longer. (w : World) → IsWorldOf docs.now w → longer.items ≡ tuples w bindings.items (reached (first ∷ []) (binders conds.now))) }
+    ensures { IfOk result (λ longer. (lists : MatchLists) → AreMatchLists (documents_of docs.now) lists → longer.items ≡ tuples lists bindings.items (reached (first ∷ []) (binders conds.now))) }
 {
     let mut vars = Vec::new(alloc);
     vars.push(first)?;
@@ -160,7 +159,7 @@ fn extend_begun(
     behind: &[Cond],
     bindings: Vec<Binding>,
 ) -> Result<Vec<Binding>, AllocError>
-    ensures { IfOk result (λ longer. (w : World) → IsWorldOf docs.now w → longer.items ≡ tuples w bindings.items (flat (begun cond.now (binders behind.now)))) }
+    ensures { IfOk result (λ longer. (lists : MatchLists) → AreMatchLists (documents_of docs.now) lists → longer.items ≡ tuples lists bindings.items (flat (begun cond.now (binders behind.now)))) }
 {
     match cond {
         Cond::FromSource { source, path, var } => {
@@ -174,7 +173,7 @@ fn extend_begun(
 
 // All tuples of the body's variables, component by component.
 pub fn body_tuples(alloc: Global, docs: &[Tree], conds: &[Cond]) -> Result<Vec<Binding>, AllocError>
-    ensures { IfOk result (λ all. (w : World) → IsWorldOf docs.now w → all.items ≡ tuples w ([] ∷ []) (flat (reaches (binders conds.now)))) }
+    ensures { IfOk result (λ all. (lists : MatchLists) → AreMatchLists (documents_of docs.now) lists → all.items ≡ tuples lists ([] ∷ []) (flat (reaches (binders conds.now)))) }
 {
     let mut all = Vec::new(alloc);
     all.push(Binding::new(Vec::new(alloc)))?;

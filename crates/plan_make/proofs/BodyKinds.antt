@@ -8,15 +8,15 @@ use Rattle.xmas_rule.specs.Conditions.{Binder, from_source, from_var, binder_var
 use Rattle.plan_core.specs.Plans.{Operator, source, join}
 use Rattle.plan_core.specs.Valid.{Kind, a_node, Kinds, no_kinds, with_kind, either_kind, op_kinds, IsFit}
 use Rattle.plan_core.proofs.Inputs.{AreValues, values-append}
-use Rattle.plan_make.specs.Operators.{descend_op, descend_ops, source_of, more_ops, more_last, body_ops, body_last}
+use Rattle.plan_make.specs.Operators.{descend_op, descend_ops, more_ops, more_last, body_ops, body_last}
 use Rattle.plan_make.proofs.BodyNumbers.{descend_ops-length}
-use Rattle.plan_make.proofs.ComponentRows.{AreApart, below}
-use Rattle.plan_make.proofs.Components.{or_left}
+use Rattle.plan_make.proofs.ComponentRows.{below}
 use Rattle.plan_make.proofs.Fitting.{kind-here}
-use Rattle.plan_make.proofs.KeyLaws.{or_false}
-use Rattle.plan_make.proofs.Members.{each-append, each_append, snoc-append}
-use Rattle.plan_make.proofs.TupleRows.{or_comm}
-use Rattle.plan_make.proofs.Tuples.{has-append, Follows, AreScoped, binder_vars-append}
+use Rattle.rule_laws.proofs.Components.{AreApart, or_left}
+use Rattle.rule_laws.proofs.KeyLaws.{or_false, or_comm}
+use Rattle.rule_laws.proofs.Members.{each-append, each_append, snoc-append}
+use Rattle.rule_laws.proofs.TupleLaws.{has-append, Follows, AreScoped, binder_vars-append}
+use Rattle.rule_laws.specs.Reached.{source_of}
 
 -- of the variables below a number, exactly these are bound, to nodes
 pub record HasNodes (top : ℕ) (kinds : Kinds) (vs : List ℕ) : Type 0 where

@@ -4,7 +4,8 @@ use Rattle.xmas_rule.specs.Conditions.{Binder, from_source, from_var}
 use Rattle.plan_core.proofs.RowLaws.{rows-stable, rows-last, snoc}
 use Rattle.plan_core.specs.Plans.{World, Operator, source, get_descendants, join, source_rows, descended, joined_rows, rows_of}
 use Rattle.plan_core.specs.Rows.{Row}
-use Rattle.plan_make.specs.Operators.{descend_op, descend_ops, source_of, more_ops, more_last, body_ops, body_last}
+use Rattle.plan_make.specs.Operators.{descend_op, descend_ops, more_ops, more_last, body_ops, body_last}
+use Rattle.rule_laws.specs.Reached.{source_of}
 
 -- the operators of a component
 unfoldable pub binder_rows : World → ℕ → Binder → List Row → List Row

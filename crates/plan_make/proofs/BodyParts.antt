@@ -8,14 +8,16 @@ use Rattle.xmas_rule.specs.Conditions.{Binder, from_source, from_var, binder_var
 use Rattle.plan_core.specs.Plans.{Operator, source, get_descendants, join, over, tuple_destroy}
 use Rattle.plan_core.specs.Valid.{inputs_of, HaveSmallerInputs, outs_of, AreDistinct}
 use Rattle.plan_core.proofs.Chained.{smaller_append, AreOnce, count-append, once_append, once_none, once_one}
-use Rattle.plan_make.specs.Operators.{descend_ops, source_of, more_ops, more_last, body_ops, body_last}
+use Rattle.plan_make.specs.Operators.{descend_ops, more_ops, more_last, body_ops, body_last}
 use Rattle.plan_make.proofs.BodyNumbers.{descend_ops-length}
-use Rattle.plan_make.proofs.ComponentRows.{AreApart, below}
-use Rattle.plan_make.proofs.Components.{has_flat, or_left}
-use Rattle.plan_make.proofs.Members.{each-append, each_append}
+use Rattle.plan_make.proofs.ComponentRows.{below}
 use Rattle.plan_make.proofs.Rising.{distinct_append}
-use Rattle.plan_make.proofs.TupleRows.{or_comm, follows-new}
-use Rattle.plan_make.proofs.Tuples.{has-append, AreScoped}
+use Rattle.plan_make.proofs.TupleRows.{follows-new}
+use Rattle.rule_laws.proofs.Components.{AreApart, has_flat, or_left}
+use Rattle.rule_laws.proofs.KeyLaws.{or_comm}
+use Rattle.rule_laws.proofs.Members.{each-append, each_append}
+use Rattle.rule_laws.proofs.TupleLaws.{has-append, AreScoped}
+use Rattle.rule_laws.specs.Reached.{source_of}
 
 -- the inputs of a component's conditions
 descend_smaller : (cs : List Binder) (d i : ℕ) → HaveSmallerInputs (suc i) (descend_ops d i cs)

@@ -16,7 +16,7 @@ use Rattle.plan_core.specs.Rows.{node, made, listed, Row, value, node_in, trees_
 use Rattle.plan_core.specs.Unary.{Unary, project, group_by, concatenate, create_element, piece_trees, restrict, grouped, concatenated, created, unary, run}
 use Rattle.plan_core.specs.declared.plan.Piece.TheVariants.{Var as var_piece}
 use Rattle.plan_make.proofs.Groupings.{value-restrict, RowsOf, project-of, grouped_as, grouped-of}
-use Rattle.plan_make.proofs.KeyLaws.{sameness, same_by-in_force, same_by-collects_not, has_var-in_force, HasKey, collects-has_key}
+use Rattle.rule_laws.proofs.KeyLaws.{sameness, same_by-in_force, same_by-collects_not, has_var-in_force, HasKey, collects-has_key}
 use Rattle.plan_make.proofs.Levels.{value-here, value-behind, applied, AreRows, run-rows, build-rows, build-next, keeps-element, build-keeps, Shows, AllCollected, collected_weaker, collected_none, shown_known, Holds, level}
 use Rattle.plan_make.specs.Translation.{shown_piece, Built, element_ops, build, Chain, nothing, found, or_else, level_ops, level_list, level_next, with_element, chain}
 

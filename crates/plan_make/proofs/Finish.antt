@@ -8,13 +8,14 @@ use Rattle.plan_core.specs.Unary.{Unary}
 use Rattle.plan_core.specs.Plans.{Operator, tuple_destroy, chained}
 use Rattle.plan_make.specs.Translation.{outer_build, template_ops, template_var}
 use Rattle.plan_make.specs.Operators.{body_ops, body_last, selects, orders, operators_of}
-use Rattle.plan_make.specs.Reached.{reaches, rest_ops}
 use Rattle.plan_make.specs.Making.{ops_of, Grows, Levels, IsAbove}
 use Rattle.plan_make.specs.declared.maker.Maker.{Maker}
 use Rattle.plan_make.proofs.BodyNumbers.{body-means}
 use Rattle.plan_make.proofs.Chaining.{levels_then}
-use Rattle.plan_make.proofs.Reaches.{components_reach}
-use Rattle.plan_make.proofs.Whole.{no_vars, nothing_apart}
+use Rattle.plan_make.specs.NextOps.{rest_ops}
+use Rattle.rule_laws.proofs.Components.{no_vars, nothing_apart}
+use Rattle.rule_laws.proofs.ReachLaws.{components_reach}
+use Rattle.rule_laws.specs.Reached.{reaches}
 
 -- the components of an accepted rule are those that are found
 pub components_are : (sources : ℕ) (r : RuleValue) → IsAccepted sources r → components r.conds ≡ reaches (binders r.conds)

@@ -11,7 +11,7 @@ use Rattle.plan_core.specs.Unary.{Unary, project, group_by, concatenate, create_
 use Rattle.plan_core.specs.Valid.{Kind, a_node, an_element, a_list, Kinds, with_kind, kept, unary_kinds, AreNodes, IsPiece, IsSinglePiece}
 use Rattle.plan_core.proofs.Chained.{kinds_after, AreUnaryFit}
 use Rattle.plan_make.specs.Translation.{shown_piece, Built, add_piece, element_ops, add_element, build, Chain, nothing, found, or_else, level_ops, level_list, level_next, with_element, chain, outer_ops, outer_next, outer_build, template_ops, template_var}
-use Rattle.plan_make.proofs.KeyLaws.{has_var-collects_not}
+use Rattle.rule_laws.proofs.KeyLaws.{has_var-collects_not}
 use Rattle.plan_make.proofs.Levels.{shown_known, build-next}
 use Rattle.plan_make.proofs.Chains.{inner_below, outer_var}
 

@@ -1,17 +1,19 @@
 -- Operators added to a plan under construction, some after others.
-use Rattle.std.proofs.Common.{◌≡◌, ℕ, zero, suc, ◌+◌, ◌-◌, ◌<◌, ◌≤◌, true, false, cond, List, [], ◌∷◌, ◌++◌, length, drop, get_or, vec_len, refl, ◌∙◌, sym, ap, arith, subst, append_assoc, length-append}
+use Rattle.std.proofs.Common.{◌≡◌, ℕ, zero, suc, ◌+◌, ◌-◌, ◌<◌, ◌≤◌, List, [], ◌∷◌, ◌++◌, length, drop, get_or, vec_len, refl, ◌∙◌, sym, ap, arith, subst, append_assoc, length-append}
 use Rattle.std.proofs.lemmas.List.{drop_more, drop_all}
 use Rattle.mix_base.proofs.Lists.{append_nil}
 use Rattle.path_expr.specs.Form.{Form}
-use Rattle.xmas_rule.specs.Conditions.{Binder, from_source, from_var, binder_vars, has, binders}
+use Rattle.xmas_rule.specs.Conditions.{Binder, from_source, binder_vars, binders}
 use Rattle.xmas_rule.specs.declared.condition.Cond.{Cond}
 use Rattle.xmas_rule.specs.declared.condition.Cond.TheVariants.{FromSource, FromVar, Compare}
 use Rattle.plan_core.specs.Plans.{Operator, source, get_descendants, join}
 use Rattle.plan_make.specs.Making.{ops_of, Grows}
-use Rattle.plan_make.specs.Operators.{descend_op, descend_ops, source_of, more_ops}
-use Rattle.plan_make.specs.Reached.{reached, reaches, begun, next_ops, first_ops, rest_ops}
+use Rattle.plan_make.specs.Operators.{descend_op, descend_ops, more_ops}
+use Rattle.plan_make.specs.NextOps.{next_ops, first_ops, rest_ops}
+use Rattle.rule_laws.specs.Reached.{source_of, reached, reaches, begun}
 use Rattle.plan_make.specs.declared.maker.Maker.{Maker}
 use Rattle.plan_make.proofs.BodyNumbers.{descend_ops-length}
+use Rattle.rule_laws.proofs.ReachLaws.{reached-more, reaches-begun}
 
 -- what was added so far, with what is still to be added, is the whole
 pub record Growing (m0 m : Maker) (rest all : List Operator) : Type 0 where
@@ -55,17 +57,6 @@ descend-append d i [] b = let e : i + length {A = Binder} [] ≡ i = omega arith
 descend-append d i (c ∷ a) b =
     let e : suc i + length a ≡ i + length (c ∷ a) = omega arith in
     ap (λ (z : List Operator). descend_op d i c ∷ z) (descend-append d (suc i) a b ∙ ap (λ (n : ℕ). descend_ops d (suc i) a ++ descend_ops d n b) e)
-
--- what is reached by one condition, and then by those behind it
-pub reached-more : (vs : List ℕ) (x : Cond) (xs : List Cond) →
-    reached vs (binders (x ∷ xs)) ≡ reached vs (binders (x ∷ [])) ++ reached (vs ++ binder_vars (reached vs (binders (x ∷ [])))) (binders xs)
-reached-more vs (FromSource s path v) xs = ap (λ (z : List ℕ). reached z (binders xs)) (sym (append_nil vs))
-reached-more vs (Compare t) xs = ap (λ (z : List ℕ). reached z (binders xs)) (sym (append_nil vs))
-reached-more vs (FromVar y path v) xs =
-    elim (has vs y) as (λ w.
-    cond w (from_var y path v ∷ reached (vs ++ v ∷ []) (binders xs)) (reached vs (binders xs))
-    ≡ cond w (from_var y path v ∷ []) [] ++ reached (vs ++ binder_vars (cond w (from_var y path v ∷ []) [])) (binders xs))
-    [ true ↦ refl | false ↦ ap (λ (z : List ℕ). reached z (binders xs)) (sym (append_nil vs)) ]
 
 -- the operators that are still to be added for the conditions that are reached from here on
 pub record Reaching (m0 m : Maker) (first : ℕ) (vs : List ℕ) (all rest : List Cond) : Type 0 where
@@ -190,12 +181,6 @@ rest-begun n d (Compare t) cs more = same n d more
         let e : n + length {A = Operator} [] ≡ n = omega arith in
         let f : d + length {A = List Binder} [] ≡ d = omega arith in
         ap (λ (z : ℕ). rest_ops z d more) (sym e) ∙ ap (λ (z : ℕ). rest_ops (n + length {A = Operator} []) z more) (sym f)
-
--- what a condition begins, then what those behind it do
-pub reaches-begun : (x : Cond) (xs : List Cond) → reaches (binders (x ∷ xs)) ≡ begun x (binders xs) ++ reaches (binders xs)
-reaches-begun (FromSource s path v) xs = refl
-reaches-begun (FromVar y path v) xs = refl
-reaches-begun (Compare t) xs = refl
 
 -- the components that are still to be added
 pub record Bodies (m0 m : Maker) (all rest : List Cond) : Type 0 where

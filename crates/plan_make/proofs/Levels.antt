@@ -13,7 +13,7 @@ use Rattle.xmas_rule.specs.Meaning.{same, shown_first, instances}
 use Rattle.plan_core.specs.Rows.{Value, made, listed, Row, value, node_in, trees_in}
 use Rattle.plan_core.specs.Unary.{Unary, select, order_by, project, group_by, concatenate, create_element, piece_trees, concatenated, created, run}
 use Rattle.plan_core.specs.declared.plan.Piece.TheVariants.{Var as var_piece}
-use Rattle.plan_make.proofs.KeyLaws.{has_var-stands, has_var-collects_not}
+use Rattle.rule_laws.proofs.KeyLaws.{has_var-stands, has_var-collects_not}
 use Rattle.plan_make.specs.Translation.{shown_piece, Built, add_piece, element_ops, add_element, build}
 
 -- the value of the variable that was bound last

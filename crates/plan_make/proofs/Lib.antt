@@ -4,22 +4,17 @@ mod BodyParts
 mod Building
 mod Chaining
 mod Chains
-pub mod ComponentRows
-pub mod Components
+mod ComponentRows
 mod Finish
 mod Fitting
 mod Groupings
-pub mod Growing
-pub mod KeyLaws
+mod Growing
 mod Levels
-pub mod Members
 mod OuterLevel
-pub mod Reaches
 mod Rising
 mod Selecting
-pub mod Sorts
-pub mod TupleRows
-pub mod Tuples
+mod Sorts
+mod TupleRows
 mod Validity
-pub mod Whole
+mod Whole
 mod WorkedRows

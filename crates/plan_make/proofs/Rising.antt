@@ -13,9 +13,9 @@ use Rattle.plan_core.specs.Unary.{Unary, select, order_by, project, group_by, co
 use Rattle.plan_core.specs.Valid.{unary_outs, AreDistinct}
 use Rattle.plan_core.proofs.Chained.{single_after}
 use Rattle.plan_make.specs.Translation.{shown_piece, Built, add_piece, element_ops, add_element, build, Chain, nothing, found, or_else, level_ops, level_list, level_next, with_element, chain, outer_ops, outer_next, outer_build, template_ops}
-use Rattle.plan_make.proofs.KeyLaws.{or_false}
 use Rattle.plan_make.proofs.Levels.{AreRows, build-rows, rows-element}
-use Rattle.plan_make.proofs.Tuples.{has-append}
+use Rattle.rule_laws.proofs.KeyLaws.{or_false}
+use Rattle.rule_laws.proofs.TupleLaws.{has-append}
 
 -- numbers of which none stands in both lists
 pub distinct_append : (a b : List ℕ) → AreDistinct a → AreDistinct b → ((v : ℕ) → has a v ≡ true → has b v ≡ false) → AreDistinct (a ++ b)

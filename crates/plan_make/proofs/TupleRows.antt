@@ -11,9 +11,10 @@ use Rattle.xmas_rule.specs.Bindings.{Binding, node_of}
 use Rattle.xmas_rule.specs.Conditions.{Binder, from_source, from_var, binder_var, binder_vars, has}
 use Rattle.plan_core.specs.Plans.{World, source_rows, descended, joined_rows}
 use Rattle.plan_core.specs.Rows.{node, Row, value, node_in, nodes_in}
-use Rattle.plan_make.proofs.KeyLaws.{or_assoc, or_false}
-use Rattle.plan_make.proofs.Members.{flat_map-map, map-flat_map, flat_map-flat_map, flat_map_same, filter-true}
-use Rattle.plan_make.proofs.Tuples.{next_nodes, longer, extend, tuples, vars_of, has-append, node_of-left, node_of-right, Follows, binder_vars-append, last_node}
+use Rattle.rule_laws.proofs.KeyLaws.{or_assoc, or_comm, or_false}
+use Rattle.rule_laws.proofs.Members.{flat_map-map, map-flat_map, flat_map-flat_map, flat_map_same, filter-true}
+use Rattle.rule_laws.proofs.TupleLaws.{vars_of, has-append, node_of-left, node_of-right, Follows, binder_vars-append, last_node}
+use Rattle.rule_laws.specs.Tuples.{next_nodes, longer, extend, tuples}
 
 -- the row has the variable
 unfoldable pub bound : Row → ℕ → Bool
@@ -32,10 +33,6 @@ pub has_parts : (ds : List Binder) (c : Binder) (v : ℕ) → has (binder_vars (
 has_parts ds c v = ap (λ (vs : List ℕ). has vs v) (binder_vars-append ds (c ∷ [])) ∙ has-append (binder_vars ds) (binder_var c ∷ []) v
     ∙ ap (λ (x : Bool). has (binder_vars ds) v || x) (or_false (binder_var c == v))
 
--- a disjunction turned round
-pub or_comm : (a b : Bool) → (a || b) ≡ (b || a)
-or_comm a b = elim a as (λ a. (a || b) ≡ (b || a)) [ true ↦ elim b as (λ b. (true || b) ≡ (b || true)) [ true ↦ refl | false ↦ refl ] | false ↦ elim b as (λ b. (false || b) ≡ (b || false)) [ true ↦ refl | false ↦ refl ] ]
-
 -- a condition that may follow binds a new variable
 pub follows-new : (vs : List ℕ) (c : Binder) → Follows vs c → has vs (binder_var c) ≡ false
 unfolding Follows
@@ -46,14 +43,14 @@ follows-new vs (from_var start path var) h = h.1
 unfoldable pub descend_step : (world : World) (top : ℕ) (ds : List Binder) (c : Binder) (bs : List Binding) (rows : List Row) (x : ℕ) (path : Form) (start : Binding → Node) →
     (i : IsBody world top ds bs rows) → AllByRecursion (λ b. vars_of b ≡ binder_vars ds) bs → Follows (binder_vars ds) c →
     ((b : Binding) → value (i.row b) x ≡ node (start b)) →
-    ((b : Binding) → next_nodes world c b ≡ map (λ q. record { source = (start b).source; place = q }) (world.matches path (start b))) →
-    IsBody world top (ds ++ c ∷ []) (extend world c bs) (descended world x path (binder_var c) rows)
+    ((b : Binding) → next_nodes world.matches c b ≡ map (λ q. record { source = (start b).source; place = q }) (world.matches path (start b))) →
+    IsBody world top (ds ++ c ∷ []) (extend world.matches c bs) (descended world x path (binder_var c) rows)
 unfolding extend longer bound
 descend_step world top ds c bs rows x path start i vars follows starts nexts =
     let v = binder_var c in
     let new : Binding → Row = λ b. (v, node (node_of b v)) ∷ i.row b in
     let below : Row → List Row = λ row. map (λ q. (v, node (record { source = (nodes_in row x).source; place = q })) ∷ row) (world.matches path (nodes_in row x)) in
-    let one : (b : Binding) → vars_of b ≡ binder_vars ds → below (i.row b) ≡ map new (map (λ m. b ++ (v, m) ∷ []) (next_nodes world c b)) = λ b e.
+    let one : (b : Binding) → vars_of b ≡ binder_vars ds → below (i.row b) ≡ map new (map (λ m. b ++ (v, m) ∷ []) (next_nodes world.matches c b)) = λ b e.
     let s : nodes_in (i.row b) x ≡ start b = ap node_in (starts b) in
     let fresh : has (vars_of b) v ≡ false = rw e (follows-new (binder_vars ds) c follows) in
     let rowed : (m : Node) → ((v, node m) ∷ i.row b) ≡ new (b ++ (v, m) ∷ []) = λ m.
@@ -64,13 +61,13 @@ descend_step world top ds c bs rows x path start i vars follows starts nexts =
     (each_all (λ q. ((v, node (record { source = (start b).source; place = q })) ∷ i.row b) ≡ new (b ++ (v, record { source = (start b).source; place = q }) ∷ [])) (λ q. rowed (record { source = (start b).source; place = q })) (world.matches path (start b)))
     ∙ sym (map-map (λ m. new (b ++ (v, m) ∷ [])) (λ q. record { source = (start b).source; place = q }) (world.matches path (start b)))
     ∙ ap (map (λ m. new (b ++ (v, m) ∷ []))) (sym (nexts b))
-    ∙ sym (map-map new (λ m. b ++ (v, m) ∷ []) (next_nodes world c b)) in
+    ∙ sym (map-map new (λ m. b ++ (v, m) ∷ []) (next_nodes world.matches c b)) in
     record {
       row = new;
       means = ap (flat_map below) i.means ∙ flat_map-map below i.row bs
-          ∙ flat_map_same (λ b. below (i.row b)) (λ b. map new (map (λ m. b ++ (v, m) ∷ []) (next_nodes world c b))) bs
-          (each_weaker (λ b. vars_of b ≡ binder_vars ds) (λ b. below (i.row b) ≡ map new (map (λ m. b ++ (v, m) ∷ []) (next_nodes world c b))) one bs vars)
-          ∙ sym (map-flat_map new (λ b. map (λ m. b ++ (v, m) ∷ []) (next_nodes world c b)) bs);
+          ∙ flat_map_same (λ b. below (i.row b)) (λ b. map new (map (λ m. b ++ (v, m) ∷ []) (next_nodes world.matches c b))) bs
+          (each_weaker (λ b. vars_of b ≡ binder_vars ds) (λ b. below (i.row b) ≡ map new (map (λ m. b ++ (v, m) ∷ []) (next_nodes world.matches c b))) one bs vars)
+          ∙ sym (map-flat_map new (λ b. map (λ m. b ++ (v, m) ∷ []) (next_nodes world.matches c b)) bs);
       nodes = λ b u h. elim (v == u) as (λ w. (v == u) ≡ w → (has (binder_vars ds) u || w) ≡ true → cond w (node (node_of b v)) (value (i.row b) u) ≡ node (node_of b u)) [
         | true ↦ λ e d. ap (λ (z : ℕ). node (node_of b z)) (eqb-true v u e)
         | false ↦ λ e d. i.nodes b u (sym (or_false (has (binder_vars ds) u)) ∙ d)
@@ -96,7 +93,7 @@ source_step world top s d h = record {
 pub descend_row : (world : World) (top : ℕ) (ds : List Binder) (c : Binder) (bs : List Binding) (rows : List Row) (x : ℕ) (path : Form) (start : Binding → Node) →
     (i : IsBody world top ds bs rows) (vars : AllByRecursion (λ b. vars_of b ≡ binder_vars ds) bs) (follows : Follows (binder_vars ds) c)
     (starts : (b : Binding) → value (i.row b) x ≡ node (start b))
-    (nexts : (b : Binding) → next_nodes world c b ≡ map (λ q. record { source = (start b).source; place = q }) (world.matches path (start b))) → (b : Binding) →
+    (nexts : (b : Binding) → next_nodes world.matches c b ≡ map (λ q. record { source = (start b).source; place = q }) (world.matches path (start b))) → (b : Binding) →
     (descend_step world top ds c bs rows x path start i vars follows starts nexts).row b ≡ (binder_var c, node (node_of b (binder_var c))) ∷ i.row b
 unfolding descend_step extend longer bound
 descend_row world top ds c bs rows x path start i vars follows starts nexts b = refl
@@ -111,33 +108,33 @@ Apart us (from_source source path var) = Unit {0}
 Apart us (from_var start path var) = has us start ≡ false
 
 -- the nodes that a condition allows depend on its own component alone
-next-apart : (world : World) (c : Binder) (l r : Binding) → Apart (vars_of l) c → next_nodes world c (l ++ r) ≡ next_nodes world c r
+next-apart : (world : World) (c : Binder) (l r : Binding) → Apart (vars_of l) c → next_nodes world.matches c (l ++ r) ≡ next_nodes world.matches c r
 unfolding next_nodes Apart
 next-apart world (from_source source path var) l r h = refl
 next-apart world (from_var start path var) l r h = rw (node_of-right l r start h) refl
 
 -- longer tuples of pairs
-extend-product : (world : World) (c : Binder) (us : List ℕ) (ls rs : List Binding) → AllByRecursion (λ l. vars_of l ≡ us) ls → Apart us c → extend world c (product ls rs) ≡ product ls (extend world c rs)
+extend-product : (world : World) (c : Binder) (us : List ℕ) (ls rs : List Binding) → AllByRecursion (λ l. vars_of l ≡ us) ls → Apart us c → extend world.matches c (product ls rs) ≡ product ls (extend world.matches c rs)
 unfolding extend longer product
 extend-product world c us ls rs vars apart =
-    flat_map-flat_map (longer world c) (λ l. map (λ r. l ++ r) rs) ls
-    ∙ flat_map_same (λ l. flat_map (longer world c) (map (λ r. l ++ r) rs)) (λ l. map (λ r. l ++ r) (flat_map (longer world c) rs)) ls
-    (each_weaker (λ l. vars_of l ≡ us) (λ l. flat_map (longer world c) (map (λ r. l ++ r) rs) ≡ map (λ r. l ++ r) (flat_map (longer world c) rs))
-    (λ l e. flat_map-map (longer world c) (λ r. l ++ r) rs
-    ∙ flat_map_same (λ r. longer world c (l ++ r)) (λ r. map (λ x. l ++ x) (longer world c r)) rs
-    (each_all (λ r. longer world c (l ++ r) ≡ map (λ x. l ++ x) (longer world c r)) (λ r.
+    flat_map-flat_map (longer world.matches c) (λ l. map (λ r. l ++ r) rs) ls
+    ∙ flat_map_same (λ l. flat_map (longer world.matches c) (map (λ r. l ++ r) rs)) (λ l. map (λ r. l ++ r) (flat_map (longer world.matches c) rs)) ls
+    (each_weaker (λ l. vars_of l ≡ us) (λ l. flat_map (longer world.matches c) (map (λ r. l ++ r) rs) ≡ map (λ r. l ++ r) (flat_map (longer world.matches c) rs))
+    (λ l e. flat_map-map (longer world.matches c) (λ r. l ++ r) rs
+    ∙ flat_map_same (λ r. longer world.matches c (l ++ r)) (λ r. map (λ x. l ++ x) (longer world.matches c r)) rs
+    (each_all (λ r. longer world.matches c (l ++ r) ≡ map (λ x. l ++ x) (longer world.matches c r)) (λ r.
     ap (map (λ m. (l ++ r) ++ (binder_var c, m) ∷ [])) (next-apart world c l r (rw e apart))
-    ∙ map_same (λ m. (l ++ r) ++ (binder_var c, m) ∷ []) (λ m. l ++ (r ++ (binder_var c, m) ∷ [])) (next_nodes world c r)
-    (each_all (λ m. ((l ++ r) ++ (binder_var c, m) ∷ []) ≡ (l ++ (r ++ (binder_var c, m) ∷ []))) (λ m. append_assoc l r ((binder_var c, m) ∷ [])) (next_nodes world c r))
-    ∙ sym (map-map (λ x. l ++ x) (λ m. r ++ (binder_var c, m) ∷ []) (next_nodes world c r))) rs)
-    ∙ sym (map-flat_map (λ x. l ++ x) (longer world c) rs)) ls vars)
+    ∙ map_same (λ m. (l ++ r) ++ (binder_var c, m) ∷ []) (λ m. l ++ (r ++ (binder_var c, m) ∷ [])) (next_nodes world.matches c r)
+    (each_all (λ m. ((l ++ r) ++ (binder_var c, m) ∷ []) ≡ (l ++ (r ++ (binder_var c, m) ∷ []))) (λ m. append_assoc l r ((binder_var c, m) ∷ [])) (next_nodes world.matches c r))
+    ∙ sym (map-map (λ x. l ++ x) (λ m. r ++ (binder_var c, m) ∷ []) (next_nodes world.matches c r))) rs)
+    ∙ sym (map-flat_map (λ x. l ++ x) (longer world.matches c) rs)) ls vars)
 
 -- tuples of pairs
-tuples-product : (world : World) (cs : List Binder) (us : List ℕ) (ls rs : List Binding) → AllByRecursion (λ l. vars_of l ≡ us) ls → AllByRecursion (Apart us) cs → tuples world (product ls rs) cs ≡ product ls (tuples world rs cs)
+tuples-product : (world : World) (cs : List Binder) (us : List ℕ) (ls rs : List Binding) → AllByRecursion (λ l. vars_of l ≡ us) ls → AllByRecursion (Apart us) cs → tuples world.matches (product ls rs) cs ≡ product ls (tuples world.matches rs cs)
 unfolding tuples
 tuples-product world [] us ls rs vars apart = refl
 tuples-product world (c ∷ cs) us ls rs vars apart =
-    ap (λ (z : List Binding). tuples world z cs) (extend-product world c us ls rs vars apart.0) ∙ tuples-product world cs us ls (extend world c rs) vars apart.1
+    ap (λ (z : List Binding). tuples world.matches z cs) (extend-product world c us ls rs vars apart.0) ∙ tuples-product world cs us ls (extend world.matches c rs) vars apart.1
 
 -- pairs with the empty tuple
 product-one : (ls : List Binding) → product ls ([] ∷ []) ≡ ls
@@ -146,17 +143,17 @@ product-one [] = refl
 product-one (l ∷ ls) = ap (λ (z : Binding). z ∷ product ls ([] ∷ [])) (append_nil l) ∙ ap (λ (z : List Binding). l ∷ z) (product-one ls)
 
 -- tuples of conditions, then of others
-pub tuples-append : (world : World) (ds cs : List Binder) (bs : List Binding) → tuples world bs (ds ++ cs) ≡ tuples world (tuples world bs ds) cs
+pub tuples-append : (world : World) (ds cs : List Binder) (bs : List Binding) → tuples world.matches bs (ds ++ cs) ≡ tuples world.matches (tuples world.matches bs ds) cs
 unfolding tuples
 tuples-append world [] cs bs = refl
-tuples-append world (d ∷ ds) cs bs = tuples-append world ds cs (extend world d bs)
+tuples-append world (d ∷ ds) cs bs = tuples-append world ds cs (extend world.matches d bs)
 
 -- the tuples of two components are the pairs of their tuples
-pub tuples_pairs : (world : World) (ds cs : List Binder) → AllByRecursion (λ l. vars_of l ≡ binder_vars ds) (tuples world ([] ∷ []) ds) → AllByRecursion (Apart (binder_vars ds)) cs →
-    tuples world ([] ∷ []) (ds ++ cs) ≡ product (tuples world ([] ∷ []) ds) (tuples world ([] ∷ []) cs)
+pub tuples_pairs : (world : World) (ds cs : List Binder) → AllByRecursion (λ l. vars_of l ≡ binder_vars ds) (tuples world.matches ([] ∷ []) ds) → AllByRecursion (Apart (binder_vars ds)) cs →
+    tuples world.matches ([] ∷ []) (ds ++ cs) ≡ product (tuples world.matches ([] ∷ []) ds) (tuples world.matches ([] ∷ []) cs)
 tuples_pairs world ds cs vars apart =
-    let ls : List Binding = tuples world ([] ∷ []) ds in
-    tuples-append world ds cs ([] ∷ []) ∙ ap (λ (z : List Binding). tuples world z cs) (sym (product-one ls)) ∙ tuples-product world cs (binder_vars ds) ls ([] ∷ []) vars apart
+    let ls : List Binding = tuples world.matches ([] ∷ []) ds in
+    tuples-append world ds cs ([] ∷ []) ∙ ap (λ (z : List Binding). tuples world.matches z cs) (sym (product-one ls)) ∙ tuples-product world cs (binder_vars ds) ls ([] ∷ []) vars apart
 
 -- the value of a variable of two rows
 value-append : (a b : Row) (v : ℕ) → value (a ++ b) v ≡ cond (bound a v) (value a v) (value b v)

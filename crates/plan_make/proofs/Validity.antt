@@ -18,13 +18,13 @@ use Rattle.plan_make.specs.Operators.{body_ops, body_last, selects, orders, unar
 use Rattle.plan_make.specs.Translation.{template_ops, template_var}
 use Rattle.plan_make.proofs.BodyKinds.{body_fit}
 use Rattle.plan_make.proofs.BodyParts.{body_smaller, body_once, IsInside, IsBelow, body_inside, bound_vars, body_outs, bound_once}
-use Rattle.plan_make.proofs.ComponentRows.{AreApart, below}
-use Rattle.plan_make.proofs.Components.{components-apart, components_each}
+use Rattle.plan_make.proofs.ComponentRows.{below}
 use Rattle.plan_make.proofs.Finish.{last_of_body}
 use Rattle.plan_make.proofs.Fitting.{after-append, fit-append, template_fits}
-use Rattle.plan_make.proofs.Members.{each_append}
 use Rattle.plan_make.proofs.Rising.{template_rising, single-append, template_single, distinct_append}
-use Rattle.plan_make.proofs.Whole.{all_below, no_vars, nothing_apart, chained-length}
+use Rattle.plan_make.proofs.Whole.{all_below, chained-length}
+use Rattle.rule_laws.proofs.Components.{AreApart, components-apart, components_each, no_vars, nothing_apart}
+use Rattle.rule_laws.proofs.Members.{each_append}
 
 -- selections are fit where all variables are nodes
 selects_fit : (kinds : Kinds) (top : ℕ) (ts : List Test) → ((v : ℕ) → v < top → kinds v ≡ Some a_node) → AreCompared top ts → AreUnaryFit kinds (selects ts) × (kinds_after kinds (selects ts) ≡ kinds)

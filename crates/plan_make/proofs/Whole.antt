@@ -5,8 +5,7 @@ use Rattle.std.specs.List.{AllByRecursion, last_or}
 use Rattle.std.proofs.lemmas.Bool.{eq-eqb}
 use Rattle.xmas_rule.specs.Conditions.{Binder, binder_var, binder_vars, has, flat, binders, comparisons, components}
 use Rattle.xmas_rule.specs.Rules.{RuleValue, IsAccepted, variables}
-use Rattle.mix_tree.specs.Comparisons.{passes}
-use Rattle.xmas_rule.specs.Bindings.{Binding, node_of, Binds, AreBindings}
+use Rattle.xmas_rule.specs.Bindings.{Binding, node_of, AreBindings}
 use Rattle.xmas_rule.specs.Meaning.{finished, IsFinished}
 use Rattle.xmas_rule.proofs.Unique.{one_finished}
 use Rattle.plan_core.specs.Rows.{node, Row, value}
@@ -14,17 +13,21 @@ use Rattle.plan_core.specs.Unary.{Unary, run}
 use Rattle.plan_core.specs.Plans.{World, AreMatches, Operator, tuple_destroy, rows_of, source_rows, element_in, element_of, destroyed, document, chained}
 use Rattle.plan_core.proofs.RowLaws.{run-append, rows-stable, chained-means}
 use Rattle.plan_make.specs.Translation.{template_ops, template_var}
-use Rattle.plan_make.specs.Operators.{source_of, body_ops, body_last, selects, orders, unaries, operators_of}
+use Rattle.plan_make.specs.Operators.{body_ops, body_last, selects, orders, unaries, operators_of}
 use Rattle.plan_make.specs.Law.{HasFinishedDocument}
-use Rattle.plan_make.proofs.Members.{each-append}
 use Rattle.plan_make.proofs.Groupings.{RowsOf}
 use Rattle.plan_make.proofs.OuterLevel.{template_ok}
-use Rattle.plan_make.proofs.Tuples.{vars_of, tuples, tuples-ascend, AreScoped, Exact, tuples-exact, exact_none}
-use Rattle.plan_make.proofs.TupleRows.{or_comm}
 use Rattle.plan_make.proofs.BodyNumbers.{body-means, component_rows}
-use Rattle.plan_make.proofs.ComponentRows.{AreApart, component_body, components_body}
-use Rattle.plan_make.proofs.Components.{Same, components-apart, components_each, each_components, apart-scoped}
-use Rattle.plan_make.proofs.Sorts.{passing, among-passing, among_passing, passing-ascends, selects-run, in_order_of, among-order, order-ascends, orders-run}
+use Rattle.plan_make.proofs.ComponentRows.{component_body, components_body}
+use Rattle.plan_make.proofs.Sorts.{selects-run, orders-run}
+use Rattle.rule_laws.proofs.Components.{AreApart, components-apart}
+use Rattle.rule_laws.proofs.KeyLaws.{or_comm}
+use Rattle.rule_laws.proofs.Members.{each-append}
+use Rattle.rule_laws.specs.Reached.{source_of}
+use Rattle.rule_laws.specs.Tuples.{tuples, passing, in_order_of}
+use Rattle.rule_laws.specs.Tuples.{AreMatchLists}
+use Rattle.rule_laws.proofs.Components.{no_vars, nothing_apart}
+use Rattle.rule_laws.proofs.Bindings.{bindings_ok}
 
 -- conditions of which all variables are below a number
 pub all_below : (top : ℕ) (cs : List Binder) → ((v : ℕ) → has (binder_vars cs) v ≡ true → v < top) → AllByRecursion (λ c. binder_var c < top) cs
@@ -35,7 +38,7 @@ all_below top (c ∷ cs) h =
 -- the last operator of a body gives one row for each tuple of its components
 record IsBodyOf (world : World) (top : ℕ) (comps : List (List Binder)) : Type 0 where
   row : Binding → Row
-  means : rows_of world (body_ops top comps) (body_last comps) ≡ map row (tuples world ([] ∷ []) (flat comps))
+  means : rows_of world (body_ops top comps) (body_last comps) ≡ map row (tuples world.matches ([] ∷ []) (flat comps))
   nodes : (b : Binding) (v : ℕ) → has (binder_vars (flat comps)) v ≡ true → value (row b) v ≡ node (node_of b v)
   last : suc (body_last comps) ≡ length (body_ops top comps)
 
@@ -60,39 +63,12 @@ pub chained-length : (i : ℕ) (us : List Unary) → length (chained i us) ≡ l
 chained-length i [] = refl
 chained-length i (u ∷ us) = let h = chained-length (suc i) us in omega (arith, h)
 
--- no components have no variables
-pub no_vars : Same [] []
-unfolding Same
-no_vars = λ v. refl
-
--- no components stand apart
-pub nothing_apart : AreApart []
-unfolding AreApart
-nothing_apart = tt
-
--- the tuples of the body, filtered and sorted, are its bindings
-pub bindings_ok : (world : World) (sources : ℕ) (r : RuleValue) → AreMatches world → IsAccepted sources r → AreApart (components r.conds) →
-    AreBindings world.docs r.conds r.order (in_order_of world.docs r.order (passing world.docs (comparisons r.conds) (tuples world ([] ∷ []) (flat (components r.conds)))))
-unfolding Exact vars_of
-bindings_ok world sources r d a apart =
-    let ds : List Binder = flat (components r.conds) in
-    let all : List Binding = tuples world ([] ∷ []) ds in
-    let ts = comparisons r.conds in
-    let scoped : AreScoped [] ds = apart-scoped (components r.conds) [] apart (λ v h. refl) in
-    let exact : Exact world ds all = tuples-exact world d ds [] ([] ∷ []) tt scoped (exact_none world) in
-    record {
-      ascending = order-ascends world.docs r.order (passing world.docs ts all) (passing-ascends world.docs ts all (tuples-ascend world ds ([] ∷ []) d (tt, tt)));
-      exactly = λ b. (
-        (λ m.
-            let p = among-passing world.docs ts b all ((among-order world.docs r.order b (passing world.docs ts all)).0 m) in
-            let s = (exact b).0 p.0 in
-            record { vars = s.vars; bound = (each_components (Binds world.docs b) (binders r.conds) [] [] no_vars a.bound s.each).1; compared = p.1 }),
-        (λ s.
-            let q = components_each (Binds world.docs b) (binders r.conds) [] [] no_vars a.bound tt s.bound in
-            (among-order world.docs r.order b (passing world.docs ts all)).1
-            (among_passing world.docs ts b all ((exact b).1 (record { vars = s.vars; each = q })) s.compared)),
-      );
-    }
+-- the lists of a world whose lists are the matches are match lists
+match_lists : (world : World) → AreMatches world → AreMatchLists world.docs world.matches
+match_lists world are path start = record {
+  ascending = are.ascending path start;
+  exactly = λ q. ((λ m. ((are.exactly path start q).0 m).1), (λ h. (are.exactly path start q).1 (refl, h)));
+}
 
 -- the plan's document is the outer element over the body's bindings
 pub plan_ok : (world : World) (sources : ℕ) (r : RuleValue) → AreMatches world → IsAccepted sources r →
@@ -107,7 +83,7 @@ plan_ok world sources r d a =
     let small : AllByRecursion (λ c. binder_var c < top) (flat comps) = all_below top (flat comps) (λ v h. (a.all v).1 h) in
     let i = body_ok world top comps apart ((a.all 0).0 a.some) small in
     let rows : RowsOf top i.row = λ b v h. i.nodes b v ((a.all v).0 h) in
-    let all : List Binding = tuples world ([] ∷ []) (flat comps) in
+    let all : List Binding = tuples world.matches ([] ∷ []) (flat comps) in
     let bs : List Binding = in_order_of docs r.order (passing docs ts all) in
     let n : ℕ = top + length comps in
     let us : List Unary = unaries r in
@@ -128,7 +104,7 @@ plan_ok world sources r d a =
     ∙ chained-means world us body at l
     ∙ ap (run docs us) i.means ∙ top_run ∙ t.1 in (
       bs,
-      bindings_ok world sources r d a apart,
+      bindings_ok world.docs world.matches sources r (match_lists world d) a apart,
       ap (destroyed (rows_of world (operators_of r))) (last-snoc None front end)
           ∙ ap (element_of (template_var r.items n)) inside
           ∙ ap element_in t.2,

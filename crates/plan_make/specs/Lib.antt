@@ -1,5 +1,5 @@
 pub mod Law
 pub mod Making
+pub mod NextOps
 pub mod Operators
-pub mod Reached
 pub mod Translation

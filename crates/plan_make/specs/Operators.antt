@@ -7,6 +7,7 @@ use Rattle.xmas_rule.specs.declared.condition.OrderBy.{OrderBy}
 use Rattle.plan_core.specs.Plans.{Operator, source, get_descendants, join, tuple_destroy, PlanValue, chained}
 use Rattle.plan_core.specs.Unary.{Unary, select, order_by}
 use Rattle.plan_make.specs.Translation.{template_ops, template_var}
+use Rattle.rule_laws.specs.Reached.{source_of}
 
 -- a condition that binds, over operator i; d is the variable of the document node
 abbrev pub descend_op : ℕ → ℕ → Binder → Operator
@@ -17,12 +18,6 @@ descend_op d i (from_var start path var) = get_descendants i start path var
 abbrev pub descend_ops : ℕ → ℕ → List Binder → List Operator
 descend_ops d i [] = []
 descend_ops d i (c ∷ cs) = descend_op d i c ∷ descend_ops d (suc i) cs
-
--- the source of a component
-abbrev pub source_of : List Binder → ℕ
-source_of [] = 0
-source_of (from_source s path var ∷ cs) = s
-source_of (from_var start path var ∷ cs) = 0
 
 -- the further components, each joined to all so far; i is the last operator so far
 abbrev pub more_ops : ℕ → ℕ → List (List Binder) → List Operator

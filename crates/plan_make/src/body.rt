@@ -4,7 +4,8 @@ ghost use Rattle.xmas_rule.specs.Conditions.{has, binders, binder_vars, from_sou
 ghost use Rattle.plan_core.specs.Plans.{source, get_descendants, join};
 ghost use Rattle.plan_make.specs.Making.{Grows};
 ghost use Rattle.plan_make.specs.Operators.{descend_ops};
-ghost use Rattle.plan_make.specs.Reached.{reached, reaches, begun, next_ops, first_ops, rest_ops};
+ghost use Rattle.plan_make.specs.NextOps.{next_ops, first_ops, rest_ops};
+ghost use Rattle.rule_laws.specs.Reached.{reached, reaches, begun};
 
 use crate::maker::{Maker, last_of, new_var};
 use mix_tree::Var;

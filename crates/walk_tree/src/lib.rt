@@ -13,7 +13,7 @@ ghost use Rattle.walk_tree.specs.Walk.{first_labels, labels_from, left};
 use lxp_core::Sources;
 use mix_tree::Label;
 use std::alloc::Global;
-use tree_buffer::{Buffer, BufferFault, Spot};
+use tree_buffer::{Buffer, BufferFault, Spot, two_calls_run};
 
 /// Puts the labels of the subtree of a node behind `out`, in document order. A node takes one step down, and one to the
 /// right for each node but the first; over a forward source each step asks at most one fill. `Failed`: the source failed.
@@ -41,6 +41,7 @@ pub fn walk<S: Sources>(
     ensures failed { IsErrOf result BufferFault.Failed
         → HasRisen ((S.view s.old).faults (number_of b.old)) ((S.view s.new).faults (number_of b.old)) }
 {
+    two_calls_run::<S>();
     let label = b.label(p).copy(alloc)?;
     out.push(label)?;
     let first = b.down(alloc, s, p)?;
@@ -67,6 +68,7 @@ fn walk_from<S: Sources>(
     ensures failed { IsErrOf result BufferFault.Failed
         → HasRisen ((S.view s.old).faults (number_of b.old)) ((S.view s.new).faults (number_of b.old)) }
 {
+    two_calls_run::<S>();
     let mut at = first;
     while let Some(spot) = at {
         walk(alloc, s, b, &spot, out)?;

@@ -7,13 +7,12 @@ use Rattle.mix_tree.specs.Place.{trees_at}
 use Rattle.lxp_core.specs.View.{Keeps}
 use Rattle.tree_buffer.specs.Document.{document_node}
 use Rattle.tree_buffer.specs.Buffer.{IsSpot, IsNextSpot, number_of, place_of, label_of, below, after}
-use Rattle.tree_buffer.proofs.Laws.{ran_twice}
 use Rattle.walk_tree.specs.Walk.{first_labels, labels_from, left}
 use Rattle.walk_tree.proofs.Steps.{left_le, if_some_weaker, labels_down, labels_right}
 use Rattle.walk_tree.proofs.+walking.Goals as goal
 
 pub walk-returns-clause-ran : goal.walk-returns-clause-ran
-walk-returns-clause-ran g t c = ran_twice g.met.S.Sources.after c.down.ensures.ran c.walk_from.ensures.ran
+walk-returns-clause-ran g t c = c.two_calls_run.ensures _ _ _ _ _ _ c.down.ensures.ran c.walk_from.ensures.ran
 
 pub walk-returns-clause-labels : goal.walk-returns-clause-labels
 walk-returns-clause-labels g t c =
@@ -51,16 +50,16 @@ walk-returns-clause-failed g t c = λ e.
     (subst (λ n. HasRisen ((g.S.Sources.view c.down.new.s).faults n) ((g.S.Sources.view c.walk_from.new.s).faults n)) c.down.ensures.ran.goes.number (c.walk_from.ensures.failed e))
 
 pub walk_from-returns-in_err-walk-clause-ran : goal.walk_from-returns-in_err-walk-clause-ran
-walk_from-returns-in_err-walk-clause-ran g t c = ran_twice g.met.S.Sources.after c.loop-at.invariant.ran c.walk.ensures.ran
+walk_from-returns-in_err-walk-clause-ran g t c = c.two_calls_run.ensures _ _ _ _ _ _ c.loop-at.invariant.ran c.walk.ensures.ran
 
 pub walk_from-returns-in_err-at-clause-ran : goal.walk_from-returns-in_err-at-clause-ran
 walk_from-returns-in_err-at-clause-ran g t c =
-    ran_twice g.met.S.Sources.after (ran_twice g.met.S.Sources.after c.loop-at.invariant.ran c.walk.ensures.ran) c.right.ensures.ran
+    c.two_calls_run.ensures _ _ _ _ _ _ (c.two_calls_run.ensures _ _ _ _ _ _ c.loop-at.invariant.ran c.walk.ensures.ran) c.right.ensures.ran
 
 pub walk_from-returns-in_err-at-clause-lazy : goal.walk_from-returns-in_err-at-clause-lazy
 walk_from-returns-in_err-at-clause-lazy g t c = λ forward.
     let before = c.loop-at.invariant.ran in
-    let both = ran_twice g.met.S.Sources.after before c.walk.ensures.ran in
+    let both = c.two_calls_run.ensures _ _ _ _ _ _ before c.walk.ensures.ran in
     omega (
       arith,
       c.loop-at.invariant.lazy forward,
@@ -70,7 +69,7 @@ walk_from-returns-in_err-at-clause-lazy g t c = λ forward.
 
 pub walk_from-returns-in_err-at-clause-failed : goal.walk_from-returns-in_err-at-clause-failed
 walk_from-returns-in_err-at-clause-failed g t c = λ e.
-    let both = ran_twice g.met.S.Sources.after c.loop-at.invariant.ran c.walk.ensures.ran in
+    let both = c.two_calls_run.ensures _ _ _ _ _ _ c.loop-at.invariant.ran c.walk.ensures.ran in
     let keeps : Keeps (g.S.Sources.view c.walk.new.s) (g.S.Sources.view c.args.s.now) = g.met.S.Sources.keeps _ _ both.came in
     let risen : HasRisen ((g.S.Sources.view c.walk.new.s).faults (number_of c.walk.new.b)) ((g.S.Sources.view c.right.new.s).faults (number_of c.walk.new.b)) = search rules in
     risen_before _ _ _ (keeps.faults (number_of c.args.b.now))
@@ -93,14 +92,14 @@ walk_from-loop-at-preserved g t c =
     let x = c.in-Some.spot in
     let r = c.in_ok-at.at in
     let so_far = c.loop-at.invariant in
-    let both = ran_twice g.met.S.Sources.after so_far.ran c.walk.ensures.ran in
+    let both = c.two_calls_run.ensures _ _ _ _ _ _ so_far.ran c.walk.ensures.ran in
     let spot : IsSpot c.loop-at.b c.in-Some.spot = rw c.in-Some.is at so_far.spot in
     let next = left_le u c.right.new.self r _ c.in_ok-at.ensures.smaller in
     let behind = c.walk.ensures.ran.goes.after x spot in
     let here : left (g.S.Sources.view c.loop-at.s) c.loop-at.b c.loop-at.at ≡ 1 + below (g.S.Sources.view c.loop-at.s) c.loop-at.b c.in-Some.spot + after (g.S.Sources.view c.loop-at.s) c.loop-at.b c.in-Some.spot =
     ap (left (g.S.Sources.view c.loop-at.s) c.loop-at.b) c.in-Some.is in
     record {
-      ran = ran_twice g.met.S.Sources.after both c.right.ensures.ran;
+      ran = c.two_calls_run.ensures _ _ _ _ _ _ both c.right.ensures.ran;
       spot = if_some_weaker r (IsNextSpot c.right.new.self x) (IsSpot c.right.new.self) (λ y h. h.spot) c.in_ok-at.ensures.next;
       less = omega (arith, next, behind, here, so_far.less);
       few = omega (arith, next, behind, here, so_far.few, c.walk.ensures.few);

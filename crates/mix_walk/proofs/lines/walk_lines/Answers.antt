@@ -3,7 +3,6 @@ use Rattle.std.proofs.lemmas.List.{drop_all}
 use Rattle.std.proofs.lemmas.Result.{err_from_is_err_and}
 use Rattle.lxp_core.specs.View.{Keeps}
 use Rattle.tree_buffer.specs.Buffer.{number_of}
-use Rattle.tree_buffer.proofs.Laws.{ran_same, ran_twice}
 use Rattle.mix_script.specs.Names.{held}
 use Rattle.mix_walk.proofs.Walked.{so_far_start, so_far_at, same_source, so_far_step, so_far_whole, cut_ends}
 use Rattle.mix_walk.specs.Told.{ends_on, nothing_on}
@@ -13,7 +12,7 @@ pub loop-step-init : goal.loop-step-init
 loop-step-init g c =
     let old = g.S.Sources.view c.args.s.now in
     record {
-      ran = ran_same g.met.S.Sources.same c.args.s.now c.in_ok-buffer.buffer c.in_ok-buffer.ensures.sources;
+      ran = c.no_call_runs.ensures c.args.s.now c.in_ok-buffer.buffer c.in_ok-buffer.ensures.sources;
       count = omega arith;
       so_far = so_far_start old c.args.number c.args.names.now c.args.steps.now (g.K.Sink.view c.args.out.now).written c.in_ok-buffer.buffer (held c.new-spots.result) c.new-spots.ensures;
     }
@@ -47,7 +46,7 @@ loop-step-preserved g c =
     let more = so_far_step old now (view c.write_step.new.s) c.args.number c.args.names.now c.args.steps.now step later before done c.loop-step.buffer c.write_step.new.buffer (held c.loop-step.spots) (held c.write_step.new.names) c.loop-step.marked
     so number keeps same keeps_step c.write_step.ensures.fills line.a line.answer (sink c.write_step.new.out).written line.written in
     record {
-      ran = ran_twice g.met.S.Sources.after ran c.write_step.ensures.ran;
+      ran = c.two_calls_run.ensures _ _ _ _ _ _ ran c.write_step.ensures.ran;
       count = omega (arith, c.loop-step.invariant.count, c.write_step.ensures.count);
       so_far = rw line.marks more;
     }
@@ -86,7 +85,7 @@ returns-in_err-buffer-clause-told g c = λ t told one.
     rw p.1 (nothing_on t c.args.names.now c.args.steps.now (g.K.Sink.view c.args.out.now).written p.0)
 
 pub returns-in_err-fault-clause-came : goal.returns-in_err-fault-clause-came
-returns-in_err-fault-clause-came g c = (ran_twice g.met.S.Sources.after c.loop-step.invariant.ran c.write_step.ensures.ran).came
+returns-in_err-fault-clause-came g c = (c.two_calls_run.ensures _ _ _ _ _ _ c.loop-step.invariant.ran c.write_step.ensures.ran).came
 
 pub returns-in_err-fault-clause-told : goal.returns-in_err-fault-clause-told
 returns-in_err-fault-clause-told g c = λ t told one.

@@ -1,26 +1,25 @@
 use Rattle.std.proofs.Common.{◌≡◌, ◌∷◌, ◌∙◌, [], ap, sym}
 use Rattle.std.proofs.lemmas.Result.{IfOk-weaker}
 use Rattle.xmas_rule.specs.Conditions.{binders, flat}
-use Rattle.plan_core.specs.Plans.{World}
-use Rattle.plan_make.specs.Reached.{reached, begun}
-use Rattle.plan_make.proofs.Tuples.{tuples}
-use Rattle.plain_rule.specs.Worlds.{IsWorldOf}
+use Rattle.rule_laws.specs.Reached.{reached, begun}
+use Rattle.rule_laws.specs.Tuples.{MatchLists, AreMatchLists, tuples}
+use Rattle.plain_rule.specs.Documents.{documents_of}
 use Rattle.plain_rule.proofs.Tupling.{begun_source, tuples_none}
 use Rattle.plain_rule.proofs.tuples.extend_begun.Goals as goal
 
 pub returns-in_ok-begun-in-FromSource : goal.returns-in_ok-begun-in-FromSource
 returns-in_ok-begun-in-FromSource c =
     IfOk-weaker c.extend_reached.result
-    (λ longer. (w : World) → IsWorldOf c.args.docs.now w → longer.items ≡ tuples w c.in_ok-begun-in-FromSource.begun.items (reached (c.in-FromSource.var ∷ []) (binders c.args.behind.now)))
-    (λ longer. (w : World) → IsWorldOf c.args.docs.now w → longer.items ≡ tuples w c.args.bindings.items (flat (begun c.args.cond.now (binders c.args.behind.now))))
-    (λ longer h. λ w is.
-    h w is
-    ∙ begun_source w c.in-FromSource.source c.in-FromSource.path c.in-FromSource.var (binders c.args.behind.now) c.args.bindings.items c.deref.result.now c.in_ok-begun-in-FromSource.begun.items c.deref.ensures.value (c.in_ok-begun-in-FromSource.ensures w is)
-    ∙ ap (λ z. tuples w c.args.bindings.items (flat (begun z (binders c.args.behind.now)))) (sym c.in-FromSource.is))
+    (λ longer. (lists : MatchLists) → AreMatchLists (documents_of c.args.docs.now) lists → longer.items ≡ tuples lists c.in_ok-begun-in-FromSource.begun.items (reached (c.in-FromSource.var ∷ []) (binders c.args.behind.now)))
+    (λ longer. (lists : MatchLists) → AreMatchLists (documents_of c.args.docs.now) lists → longer.items ≡ tuples lists c.args.bindings.items (flat (begun c.args.cond.now (binders c.args.behind.now))))
+    (λ longer h. λ lists is.
+    h lists is
+    ∙ begun_source lists c.in-FromSource.source c.in-FromSource.path c.in-FromSource.var (binders c.args.behind.now) c.args.bindings.items c.deref.result.now c.in_ok-begun-in-FromSource.begun.items c.deref.ensures.value (c.in_ok-begun-in-FromSource.ensures lists is)
+    ∙ ap (λ z. tuples lists c.args.bindings.items (flat (begun z (binders c.args.behind.now)))) (sym c.in-FromSource.is))
     c.extend_reached.ensures
 
 pub returns-in-FromVar : goal.returns-in-FromVar
-returns-in-FromVar c = λ w is. sym (ap (λ z. tuples w c.args.bindings.items (flat (begun z (binders c.args.behind.now)))) c.in-FromVar.is ∙ tuples_none w c.args.bindings.items)
+returns-in-FromVar c = λ lists is. sym (ap (λ z. tuples lists c.args.bindings.items (flat (begun z (binders c.args.behind.now)))) c.in-FromVar.is ∙ tuples_none lists c.args.bindings.items)
 
 pub returns-in-Compare : goal.returns-in-Compare
-returns-in-Compare c = λ w is. sym (ap (λ z. tuples w c.args.bindings.items (flat (begun z (binders c.args.behind.now)))) c.in-Compare.is ∙ tuples_none w c.args.bindings.items)
+returns-in-Compare c = λ lists is. sym (ap (λ z. tuples lists c.args.bindings.items (flat (begun z (binders c.args.behind.now)))) c.in-Compare.is ∙ tuples_none lists c.args.bindings.items)

@@ -1,9 +1,8 @@
 use Rattle.std.proofs.Common.{◌≡◌, ◌++◌, drop}
 use Rattle.xmas_rule.specs.Conditions.{from_source}
-use Rattle.plan_core.specs.Plans.{World}
-use Rattle.plan_make.proofs.Tuples.{extend}
-use Rattle.plain_rule.specs.Worlds.{IsWorldOf}
+use Rattle.rule_laws.specs.Tuples.{MatchLists, AreMatchLists, extend}
+use Rattle.plain_rule.specs.Documents.{documents_of}
 use Rattle.plain_rule.proofs.tuples.extend_from_source.Given as goal
 
 abbrev pub invariant-loop-binding : goal.invariant-loop-binding
-invariant-loop-binding l = (w : World) → IsWorldOf l.docs w → l.longer.items ++ extend w (from_source l.source l.path l.var) (drop l.binding-index l.bindings) ≡ extend w (from_source l.source l.path l.var) l.bindings
+invariant-loop-binding l = (lists : MatchLists) → AreMatchLists (documents_of l.docs) lists → l.longer.items ++ extend lists (from_source l.source l.path l.var) (drop l.binding-index l.bindings) ≡ extend lists (from_source l.source l.path l.var) l.bindings

@@ -5,7 +5,8 @@ use Rattle.xmas_rule.specs.RuleMade.{rule_of}
 use Rattle.xmas_rule.specs.declared.condition.Cond.{Cond}
 use Rattle.plan_core.specs.PlanMade.{op_of}
 use Rattle.plan_make.specs.Making.{Grows}
-use Rattle.plan_make.specs.Reached.{reaches, rest_ops}
+use Rattle.plan_make.specs.NextOps.{rest_ops}
+use Rattle.rule_laws.specs.Reached.{reaches}
 use Rattle.plan_make.proofs.Finish.{some_added, operators_made}
 use Rattle.plan_make.proofs.make.make_ops.Goals as goal
 

@@ -2,13 +2,11 @@
 use Rattle.std.proofs.Common.{◌≡◌, ℕ, Bool, true, false, cond, List, [], ◌∷◌, ◌++◌, not, refl, ◌∙◌, sym, ap, inl, inr}
 use Rattle.std.specs.List.{list_any, list_all}
 use Rattle.std.specs.Prelude.{◌==◌, ◌&&◌, ◌||◌}
-use Rattle.std.specs.Str.{bytes_eq}
 use Rattle.std.proofs.lemmas.Bool.{and_parts, and_from, or_cases, eqb-true, eq-eqb}
-use Rattle.std.proofs.lemmas.Slice.Eq.{bytes_eq-Decides}
 use Rattle.mix_base.proofs.Firsts.{IsSameness}
 use Rattle.mix_tree.proofs.SameKeys.{same_node-true, bytes_eq-refl, same_by-refl, same_by-alike}
 use Rattle.mix_tree.specs.Keys.{key_var, has_var, key_eq, gives, stands, collects, in_force, same_key, same_by}
-use Rattle.mix_tree.specs.Nodes.{Documents, Node, same_node, label_at}
+use Rattle.mix_tree.specs.Nodes.{Documents, Node, label_at}
 use Rattle.mix_tree.specs.declared.var.Key.{Key}
 use Rattle.mix_tree.specs.declared.var.Key.TheVariants.{Node as node_key, LabelOf as label_key}
 use Rattle.xmas_rule.specs.Bindings.{node_of}
@@ -21,6 +19,10 @@ and_assoc a b c = elim a as (λ a. ((a && b) && c) ≡ (a && (b && c))) [ true �
 -- a disjunction of three
 pub or_assoc : (a b c : Bool) → ((a || b) || c) ≡ (a || (b || c))
 or_assoc a b c = elim a as (λ a. ((a || b) || c) ≡ (a || (b || c))) [ true ↦ refl | false ↦ refl ]
+
+-- a disjunction turned round
+pub or_comm : (a b : Bool) → (a || b) ≡ (b || a)
+or_comm a b = elim a as (λ a. (a || b) ≡ (b || a)) [ true ↦ elim b as (λ b. (true || b) ≡ (b || true)) [ true ↦ refl | false ↦ refl ] | false ↦ elim b as (λ b. (false || b) ≡ (b || false)) [ true ↦ refl | false ↦ refl ] ]
 
 -- truth beside a truth
 pub and_true : (a : Bool) → (a && true) ≡ a

@@ -1,44 +1,25 @@
 -- The tuples that satisfy binding conditions, one condition after another: ascending, and exactly these.
 use Rattle.std.proofs.Common.{◌≡◌, ◌↔◌, ℕ, true, false, cond, List, [], ◌∷◌, ◌++◌, map, refl, ◌∙◌, sym, ap, subst, inl, inr}
-use Rattle.std.specs.List.{flat_map, AllByRecursion}
+use Rattle.std.specs.List.{AllByRecursion}
 use Rattle.std.specs.Prelude.{◌==◌, ◌||◌}
 use Rattle.std.proofs.lemmas.Bool.{eq-eqb}
 use Rattle.mix_base.proofs.Firsts.{each_weaker}
 use Rattle.mix_base.proofs.Lists.{append_nil}
 use Rattle.mix_base.specs.Ascents.{Among, Ascending}
-use Rattle.mix_tree.specs.Nodes.{Node, document_node, PlaceBefore}
+use Rattle.mix_tree.specs.Nodes.{Documents, Node, document_node, PlaceBefore}
 use Rattle.path_expr.specs.Form.{Form}
 use Rattle.path_expr.specs.Matches.{IsMatch}
 use Rattle.xmas_rule.specs.Bindings.{Binding, node_of, Binds, TupleBefore}
 use Rattle.xmas_rule.specs.Conditions.{Binder, from_source, from_var, binder_var, binder_vars, has}
-use Rattle.plan_core.specs.Plans.{World, AreMatches}
-use Rattle.plan_make.proofs.KeyLaws.{or_assoc}
-use Rattle.plan_make.proofs.Members.{among-map, among_map, among-flat_map, among_flat_map, ascending-map, ascending-flat_map, each-append, each_append, snoc-append}
-
--- the nodes that a condition allows beside a tuple
-unfoldable pub next_nodes : World → Binder → Binding → List Node
-next_nodes world (from_source source path var) b = map (λ q. record { source = source; place = q }) (world.matches path (document_node source))
-next_nodes world (from_var start path var) b = map (λ q. record { source = (node_of b start).source; place = q }) (world.matches path (node_of b start))
-
--- the tuple with each node that a condition allows beside it
-unfoldable pub longer : World → Binder → Binding → List Binding
-unfolding next_nodes
-longer world c b = map (λ m. b ++ (binder_var c, m) ∷ []) (next_nodes world c b)
-
--- all tuples, each so
-unfoldable pub extend : World → Binder → List Binding → List Binding
-extend world c bs = flat_map (longer world c) bs
-
--- the tuples with nodes for conditions, one condition after another
-unfoldable pub tuples : World → List Binding → List Binder → List Binding
-tuples world bs [] = bs
-tuples world bs (c ∷ cs) = tuples world (extend world c bs) cs
+use Rattle.rule_laws.proofs.KeyLaws.{or_assoc}
+use Rattle.rule_laws.proofs.Members.{among-map, among_map, among-flat_map, among_flat_map, ascending-map, ascending-flat_map, each-append, each_append, snoc-append}
+use Rattle.rule_laws.specs.Tuples.{MatchLists, AreMatchLists, next_nodes, longer, extend, tuples}
 
 -- the nodes that a condition allows ascend
-nodes-ascend : (world : World) (c : Binder) (b : Binding) → AreMatches world → Ascending (λ m n. PlaceBefore m.place n.place) (next_nodes world c b)
+nodes-ascend : (docs : Documents) (lists : MatchLists) (c : Binder) (b : Binding) → AreMatchLists docs lists → Ascending (λ m n. PlaceBefore m.place n.place) (next_nodes lists c b)
 unfolding next_nodes
-nodes-ascend world (from_source source path var) b h = ascending-map PlaceBefore (λ (m n : Node). PlaceBefore m.place n.place) (λ q. record { source = source; place = q }) (λ x y r. r) (world.matches path (document_node source)) (h.ascending path (document_node source))
-nodes-ascend world (from_var start path var) b h = ascending-map PlaceBefore (λ (m n : Node). PlaceBefore m.place n.place) (λ q. record { source = (node_of b start).source; place = q }) (λ x y r. r) (world.matches path (node_of b start)) (h.ascending path (node_of b start))
+nodes-ascend docs lists (from_source source path var) b h = ascending-map PlaceBefore (λ (m n : Node). PlaceBefore m.place n.place) (λ q. record { source = source; place = q }) (λ x y r. r) (lists path (document_node source)) ((h path (document_node source)).ascending)
+nodes-ascend docs lists (from_var start path var) b h = ascending-map PlaceBefore (λ (m n : Node). PlaceBefore m.place n.place) (λ q. record { source = (node_of b start).source; place = q }) (λ x y r. r) (lists path (node_of b start)) ((h path (node_of b start)).ascending)
 
 -- tuples in order, whatever stands behind them
 before-append : (a b c d : Binding) → TupleBefore a b → TupleBefore (a ++ c) (b ++ d)
@@ -53,22 +34,22 @@ before-last [] v m n h = inl h
 before-last (x ∷ b) v m n h = inr (refl, before-last b v m n h)
 
 -- longer tuples ascend
-pub extend-ascends : (world : World) (c : Binder) (bs : List Binding) → AreMatches world → Ascending TupleBefore bs → Ascending TupleBefore (extend world c bs)
+pub extend-ascends : (docs : Documents) (lists : MatchLists) (c : Binder) (bs : List Binding) → AreMatchLists docs lists → Ascending TupleBefore bs → Ascending TupleBefore (extend lists c bs)
 unfolding extend longer
-extend-ascends world c bs h k =
-    ascending-flat_map TupleBefore TupleBefore (λ b. map (λ m. b ++ (binder_var c, m) ∷ []) (next_nodes world c b))
-    (λ b. ascending-map (λ (m n : Node). PlaceBefore m.place n.place) TupleBefore (λ m. b ++ (binder_var c, m) ∷ []) (λ m n r. before-last b (binder_var c) m n r) (next_nodes world c b) (nodes-ascend world c b h))
+extend-ascends docs lists c bs h k =
+    ascending-flat_map TupleBefore TupleBefore (λ b. map (λ m. b ++ (binder_var c, m) ∷ []) (next_nodes lists c b))
+    (λ b. ascending-map (λ (m n : Node). PlaceBefore m.place n.place) TupleBefore (λ m. b ++ (binder_var c, m) ∷ []) (λ m n r. before-last b (binder_var c) m n r) (next_nodes lists c b) (nodes-ascend docs lists c b h))
     (λ a b r x y m n.
-    let p = among-map (λ z. a ++ (binder_var c, z) ∷ []) x (next_nodes world c a) m in
-    let q = among-map (λ z. b ++ (binder_var c, z) ∷ []) y (next_nodes world c b) n in
+    let p = among-map (λ z. a ++ (binder_var c, z) ∷ []) x (next_nodes lists c a) m in
+    let q = among-map (λ z. b ++ (binder_var c, z) ∷ []) y (next_nodes lists c b) n in
     rw (p.2, q.2) (before-append a b ((binder_var c, p.0) ∷ []) ((binder_var c, q.0) ∷ []) r))
     bs k
 
 -- so do the tuples of conditions
-pub tuples-ascend : (world : World) (cs : List Binder) (bs : List Binding) → AreMatches world → Ascending TupleBefore bs → Ascending TupleBefore (tuples world bs cs)
+pub tuples-ascend : (docs : Documents) (lists : MatchLists) (cs : List Binder) (bs : List Binding) → AreMatchLists docs lists → Ascending TupleBefore bs → Ascending TupleBefore (tuples lists bs cs)
 unfolding tuples
-tuples-ascend world [] bs h k = k
-tuples-ascend world (c ∷ cs) bs h k = tuples-ascend world cs (extend world c bs) h (extend-ascends world c bs h k)
+tuples-ascend docs lists [] bs h k = k
+tuples-ascend docs lists (c ∷ cs) bs h k = tuples-ascend docs lists cs (extend lists c bs) h (extend-ascends docs lists c bs h k)
 
 -- the variables of a tuple
 unfoldable pub vars_of : Binding → List ℕ
@@ -113,11 +94,11 @@ AreScoped vs [] = Unit {0}
 AreScoped vs (c ∷ cs) = Follows vs c × AreScoped (vs ++ binder_var c ∷ []) cs
 
 -- what a condition says of a front of the tuple
-binds-front : (world : World) (a b : Binding) (c : Binder) → Uses (vars_of a) c → Binds world.docs (a ++ b) c ↔ Binds world.docs a c
+binds-front : (docs : Documents) (a b : Binding) (c : Binder) → Uses (vars_of a) c → Binds docs (a ++ b) c ↔ Binds docs a c
 unfolding Uses
-binds-front world a b (from_source source path var) h =
+binds-front docs a b (from_source source path var) h =
     let e = node_of-left a b var h in ((λ k. rw e at k), (λ k. rw (← e) at k))
-binds-front world a b (from_var start path var) h =
+binds-front docs a b (from_var start path var) h =
     let e = node_of-left a b var h.1 in let f = node_of-left a b start h.0 in
     ((λ k. rw f at (rw e at k)), (λ k. rw (← f) at (rw (← e) at k)))
 
@@ -163,78 +144,78 @@ pub last_node : (a : Binding) (v : ℕ) (m : Node) → has (vars_of a) v ≡ fal
 last_node a v m h = node_of-right a ((v, m) ∷ []) v h ∙ node_of-here v m
 
 -- what the list holds, the path leads to
-match_is : (world : World) → AreMatches world → (path : Form) (start n : Node) → (n.source ≡ start.source) × Among n.place (world.matches path start) → IsMatch world.docs path start n
-match_is world are path start n h = (h.0, ((are.exactly path start n.place).0 h.1).1)
+match_is : (docs : Documents) (lists : MatchLists) → AreMatchLists docs lists → (path : Form) (start n : Node) → (n.source ≡ start.source) × Among n.place (lists path start) → IsMatch docs path start n
+match_is docs lists are path start n h = (h.0, ((are path start).exactly n.place).0 h.1)
 
 -- what the path leads to, the list holds
-is_match : (world : World) → AreMatches world → (path : Form) (start n : Node) → IsMatch world.docs path start n → Among n.place (world.matches path start)
-is_match world are path start n h = (are.exactly path start n.place).1 (refl, h.1)
+is_match : (docs : Documents) (lists : MatchLists) → AreMatchLists docs lists → (path : Form) (start n : Node) → IsMatch docs path start n → Among n.place (lists path start)
+is_match docs lists are path start n h = ((are path start).exactly n.place).1 h.1
 
 -- a node that a condition allows makes it hold
-binds-last : (world : World) → AreMatches world → (a : Binding) (c : Binder) (m : Node) → Follows (vars_of a) c → Among m (next_nodes world c a) → Binds world.docs (a ++ (binder_var c, m) ∷ []) c
+binds-last : (docs : Documents) (lists : MatchLists) → AreMatchLists docs lists → (a : Binding) (c : Binder) (m : Node) → Follows (vars_of a) c → Among m (next_nodes lists c a) → Binds docs (a ++ (binder_var c, m) ∷ []) c
 unfolding Follows next_nodes
-binds-last world are a (from_source source path var) m f h =
-    let e = last_node a var m f in rw e (match_is world are path (document_node source) m (among-nodes source (world.matches path (document_node source)) m h))
-binds-last world are a (from_var start path var) m f h =
+binds-last docs lists are a (from_source source path var) m f h =
+    let e = last_node a var m f in rw e (match_is docs lists are path (document_node source) m (among-nodes source (lists path (document_node source)) m h))
+binds-last docs lists are a (from_var start path var) m f h =
     let e = last_node a var m f.1 in let g = node_of-left a ((var, m) ∷ []) start f.0 in
-    rw (e, g) (match_is world are path (node_of a start) m (among-nodes (node_of a start).source (world.matches path (node_of a start)) m h))
+    rw (e, g) (match_is docs lists are path (node_of a start) m (among-nodes (node_of a start).source (lists path (node_of a start)) m h))
 
 -- a node that makes it hold is allowed
-last_binds : (world : World) → AreMatches world → (a : Binding) (c : Binder) (m : Node) → Follows (vars_of a) c → Binds world.docs (a ++ (binder_var c, m) ∷ []) c → Among m (next_nodes world c a)
+last_binds : (docs : Documents) (lists : MatchLists) → AreMatchLists docs lists → (a : Binding) (c : Binder) (m : Node) → Follows (vars_of a) c → Binds docs (a ++ (binder_var c, m) ∷ []) c → Among m (next_nodes lists c a)
 unfolding Follows next_nodes
-last_binds world are a (from_source source path var) m f h =
-    let e = last_node a var m f in let k : IsMatch world.docs path (document_node source) m = rw e at h in
-    among_nodes source (world.matches path (document_node source)) m k.0 (is_match world are path (document_node source) m k)
-last_binds world are a (from_var start path var) m f h =
+last_binds docs lists are a (from_source source path var) m f h =
+    let e = last_node a var m f in let k : IsMatch docs path (document_node source) m = rw e at h in
+    among_nodes source (lists path (document_node source)) m k.0 (is_match docs lists are path (document_node source) m k)
+last_binds docs lists are a (from_var start path var) m f h =
     let e = last_node a var m f.1 in let g = node_of-left a ((var, m) ∷ []) start f.0 in
-    let k : IsMatch world.docs path (node_of a start) m = rw (e, g) at h in
-    among_nodes (node_of a start).source (world.matches path (node_of a start)) m k.0 (is_match world are path (node_of a start) m k)
+    let k : IsMatch docs path (node_of a start) m = rw (e, g) at h in
+    among_nodes (node_of a start).source (lists path (node_of a start)) m k.0 (is_match docs lists are path (node_of a start) m k)
 
 -- a tuple of the conditions' variables for which they hold
-pub record Sat (world : World) (cs : List Binder) (b : Binding) : Type 0 where
+pub record Sat (docs : Documents) (cs : List Binder) (b : Binding) : Type 0 where
   pub vars : vars_of b ≡ binder_vars cs
-  pub each : AllByRecursion (Binds world.docs b) cs
+  pub each : AllByRecursion (Binds docs b) cs
 
 -- the list holds exactly the tuples of which the conditions hold
-unfoldable pub Exact : World → List Binder → List Binding → Type 0
-Exact world cs bs = (b : Binding) → Among b bs ↔ Sat world cs b
+unfoldable pub Exact : Documents → List Binder → List Binding → Type 0
+Exact docs cs bs = (b : Binding) → Among b bs ↔ Sat docs cs b
 
 -- conditions that hold of a front hold of the tuple
-front_each : (world : World) (a b : Binding) (cs : List Binder) → AllByRecursion (Uses (vars_of a)) cs → AllByRecursion (Binds world.docs a) cs → AllByRecursion (Binds world.docs (a ++ b)) cs
-front_each world a b [] u h = tt
-front_each world a b (c ∷ cs) u h = ((binds-front world a b c u.0).1 h.0, front_each world a b cs u.1 h.1)
+front_each : (docs : Documents) (a b : Binding) (cs : List Binder) → AllByRecursion (Uses (vars_of a)) cs → AllByRecursion (Binds docs a) cs → AllByRecursion (Binds docs (a ++ b)) cs
+front_each docs a b [] u h = tt
+front_each docs a b (c ∷ cs) u h = ((binds-front docs a b c u.0).1 h.0, front_each docs a b cs u.1 h.1)
 
 -- conditions of the front's variables that hold of the tuple hold of it
-each_front : (world : World) (a b : Binding) (cs : List Binder) → AllByRecursion (Uses (vars_of a)) cs → AllByRecursion (Binds world.docs (a ++ b)) cs → AllByRecursion (Binds world.docs a) cs
-each_front world a b [] u h = tt
-each_front world a b (c ∷ cs) u h = ((binds-front world a b c u.0).0 h.0, each_front world a b cs u.1 h.1)
+each_front : (docs : Documents) (a b : Binding) (cs : List Binder) → AllByRecursion (Uses (vars_of a)) cs → AllByRecursion (Binds docs (a ++ b)) cs → AllByRecursion (Binds docs a) cs
+each_front docs a b [] u h = tt
+each_front docs a b (c ∷ cs) u h = ((binds-front docs a b c u.0).0 h.0, each_front docs a b cs u.1 h.1)
 
 -- longer tuples are exactly those of one condition more
-extend-exact : (world : World) → AreMatches world → (ds : List Binder) (c : Binder) (bs : List Binding) → AllByRecursion (Uses (binder_vars ds)) ds → Follows (binder_vars ds) c → Exact world ds bs → Exact world (ds ++ c ∷ []) (extend world c bs)
+extend-exact : (docs : Documents) (lists : MatchLists) → AreMatchLists docs lists → (ds : List Binder) (c : Binder) (bs : List Binding) → AllByRecursion (Uses (binder_vars ds)) ds → Follows (binder_vars ds) c → Exact docs ds bs → Exact docs (ds ++ c ∷ []) (extend lists c bs)
 unfolding Exact extend longer vars_of
-extend-exact world are ds c bs u f h = λ b. (
+extend-exact docs lists are ds c bs u f h = λ b. (
   (λ m.
-      let p = among-flat_map (λ a. map (λ n. a ++ (binder_var c, n) ∷ []) (next_nodes world c a)) b bs m in
+      let p = among-flat_map (λ a. map (λ n. a ++ (binder_var c, n) ∷ []) (next_nodes lists c a)) b bs m in
       let a = p.0 in
-      let q = among-map (λ n. a ++ (binder_var c, n) ∷ []) b (next_nodes world c a) p.2 in
+      let q = among-map (λ n. a ++ (binder_var c, n) ∷ []) b (next_nodes lists c a) p.2 in
       let s = (h a).0 p.1 in
       let v = s.vars in
       let ua : AllByRecursion (Uses (vars_of a)) ds = rw v u in
       let fa : Follows (vars_of a) c = rw v f in
       rw q.2 (record {
         vars = vars-append a ((binder_var c, q.0) ∷ []) ∙ last_vars a (binder_var c) q.0 (binder_vars ds) v ∙ sym (binder_vars-append ds (c ∷ []));
-        each = each_append (Binds world.docs (a ++ (binder_var c, q.0) ∷ [])) ds (c ∷ []) (front_each world a ((binder_var c, q.0) ∷ []) ds ua s.each) (binds-last world are a c q.0 fa q.1, tt);
+        each = each_append (Binds docs (a ++ (binder_var c, q.0) ∷ [])) ds (c ∷ []) (front_each docs a ((binder_var c, q.0) ∷ []) ds ua s.each) (binds-last docs lists are a c q.0 fa q.1, tt);
       })),
   (λ s.
       let r = unsnoc b (binder_vars ds) (binder_var c) (s.vars ∙ binder_vars-append ds (c ∷ [])) in
       let a = r.0 in let m = r.1 in let v = r.3 in
       let ua : AllByRecursion (Uses (vars_of a)) ds = rw v u in
       let fa : Follows (vars_of a) c = rw v f in
-      let e : AllByRecursion (Binds world.docs (a ++ (binder_var c, m) ∷ [])) (ds ++ c ∷ []) = rw r.2 at s.each in
-      let g = each-append (Binds world.docs (a ++ (binder_var c, m) ∷ [])) ds (c ∷ []) e in
-      let t : Sat world ds a = record { vars = v; each = each_front world a ((binder_var c, m) ∷ []) ds ua g.0 } in
-      rw r.2 (among_flat_map (λ a. map (λ n. a ++ (binder_var c, n) ∷ []) (next_nodes world c a)) a (a ++ (binder_var c, m) ∷ []) bs ((h a).1 t)
-      (among_map (λ n. a ++ (binder_var c, n) ∷ []) m (next_nodes world c a) (last_binds world are a c m fa g.1.0)))),
+      let e : AllByRecursion (Binds docs (a ++ (binder_var c, m) ∷ [])) (ds ++ c ∷ []) = rw r.2 at s.each in
+      let g = each-append (Binds docs (a ++ (binder_var c, m) ∷ [])) ds (c ∷ []) e in
+      let t : Sat docs ds a = record { vars = v; each = each_front docs a ((binder_var c, m) ∷ []) ds ua g.0 } in
+      rw r.2 (among_flat_map (λ a. map (λ n. a ++ (binder_var c, n) ∷ []) (next_nodes lists c a)) a (a ++ (binder_var c, m) ∷ []) bs ((h a).1 t)
+      (among_map (λ n. a ++ (binder_var c, n) ∷ []) m (next_nodes lists c a) (last_binds docs lists are a c m fa g.1.0)))),
 )
   where
     last_vars : (a : Binding) (v : ℕ) (m : Node) (us : List ℕ) → vars_of a ≡ us → vars_of a ++ vars_of ((v, m) ∷ []) ≡ us ++ v ∷ []
@@ -261,18 +242,18 @@ uses-next ds c u f =
     (each_append (Uses (binder_vars ds ++ binder_var c ∷ [])) ds (c ∷ []) (each_weaker (Uses (binder_vars ds)) (Uses (binder_vars ds ++ binder_var c ∷ [])) (λ d h. uses-more (binder_vars ds) (binder_var c ∷ []) d h) ds u) (follows-uses (binder_vars ds) c f, tt))
 
 -- the tuples of conditions are exactly those of which they hold
-pub tuples-exact : (world : World) → AreMatches world → (cs ds : List Binder) (bs : List Binding) → AllByRecursion (Uses (binder_vars ds)) ds → AreScoped (binder_vars ds) cs → Exact world ds bs → Exact world (ds ++ cs) (tuples world bs cs)
+pub tuples-exact : (docs : Documents) (lists : MatchLists) → AreMatchLists docs lists → (cs ds : List Binder) (bs : List Binding) → AllByRecursion (Uses (binder_vars ds)) ds → AreScoped (binder_vars ds) cs → Exact docs ds bs → Exact docs (ds ++ cs) (tuples lists bs cs)
 unfolding tuples AreScoped
-tuples-exact world are [] ds bs u s h = subst (λ (zs : List Binder). Exact world zs bs) (sym (append_nil ds)) h
-tuples-exact world are (c ∷ cs) ds bs u s h =
+tuples-exact docs lists are [] ds bs u s h = subst (λ (zs : List Binder). Exact docs zs bs) (sym (append_nil ds)) h
+tuples-exact docs lists are (c ∷ cs) ds bs u s h =
     let t : AreScoped (binder_vars (ds ++ c ∷ [])) cs = subst (λ (vs : List ℕ). AreScoped vs cs) (sym (binder_vars-append ds (c ∷ []))) s.1 in
-    subst (λ (zs : List Binder). Exact world zs (tuples world (extend world c bs) cs)) (snoc-append ds c cs)
-    (tuples-exact world are cs (ds ++ c ∷ []) (extend world c bs) (uses-next ds c u s.0) t (extend-exact world are ds c bs u s.0 h))
+    subst (λ (zs : List Binder). Exact docs zs (tuples lists (extend lists c bs) cs)) (snoc-append ds c cs)
+    (tuples-exact docs lists are cs (ds ++ c ∷ []) (extend lists c bs) (uses-next ds c u s.0) t (extend-exact docs lists are ds c bs u s.0 h))
 
 -- without conditions there is the empty tuple
-pub exact_none : (world : World) → Exact world [] ([] ∷ [])
+pub exact_none : (docs : Documents) → Exact docs [] ([] ∷ [])
 unfolding Exact vars_of
-exact_none world = λ b. ((λ m. elim m [ inl e ↦ rw e (record { vars = refl; each = tt }) | inr e ↦ absurd e ]), (λ s. empty_among b s.vars))
+exact_none docs = λ b. ((λ m. elim m [ inl e ↦ rw e (record { vars = refl; each = tt }) | inr e ↦ absurd e ]), (λ s. empty_among b s.vars))
   where
     empty_among : (b : Binding) → vars_of b ≡ [] → Among b ([] ∷ [])
     empty_among [] h = inl refl

@@ -3,11 +3,14 @@ use Rattle.std.proofs.Common.{◌≡◌, ℕ, true, false, cond, List, [], ◌�
 use Rattle.mix_base.proofs.Lists.{append_nil}
 use Rattle.path_expr.specs.Form.{Form}
 use Rattle.xmas_rule.specs.Conditions.{Binder, from_source, from_var, binder_vars, has, flat, add_to, with_binder, components_from, AreBound}
-use Rattle.plan_make.specs.Reached.{reached, reaches}
-use Rattle.plan_make.proofs.Members.{map-append, snoc-append}
-use Rattle.plan_make.proofs.Tuples.{binder_vars-append}
-use Rattle.plan_make.proofs.ComponentRows.{AreApart}
-use Rattle.plan_make.proofs.Components.{Same, has_flat, or_left, bound-follows, same_next, apart_with}
+use Rattle.rule_laws.proofs.Components.{AreApart, Same, has_flat, or_left, bound-follows, same_next, apart_with}
+use Rattle.rule_laws.proofs.Members.{map-append, snoc-append}
+use Rattle.rule_laws.proofs.TupleLaws.{binder_vars-append}
+use Rattle.rule_laws.specs.Reached.{reached, reaches}
+use Rattle.xmas_rule.specs.Conditions.{binders}
+use Rattle.xmas_rule.specs.declared.condition.Cond.{Cond}
+use Rattle.xmas_rule.specs.declared.condition.Cond.TheVariants.{FromSource, FromVar, Compare}
+use Rattle.rule_laws.specs.Reached.{begun}
 
 -- components that don't bind a variable reach nothing that starts there
 skip-map : (x : ℕ) (path : Form) (v : ℕ) (cs : List Binder) (comps : List (List Binder)) → has (binder_vars (flat comps)) x ≡ false →
@@ -57,3 +60,20 @@ components_reach (from_var x path v ∷ cs) vs comps m a p =
     let b = bound-follows vs comps c cs m a in
     components_reach cs (vs ++ v ∷ []) (with_binder c comps) (same_next vs comps c m b.0) b.1 (apart_with c comps b.0 p)
     ∙ ap (λ (z : List (List Binder)). z ++ reaches cs) (add-map x path v cs comps p)
+
+-- what is reached by one condition, and then by those behind it
+pub reached-more : (vs : List ℕ) (x : Cond) (xs : List Cond) →
+    reached vs (binders (x ∷ xs)) ≡ reached vs (binders (x ∷ [])) ++ reached (vs ++ binder_vars (reached vs (binders (x ∷ [])))) (binders xs)
+reached-more vs (FromSource s path v) xs = ap (λ (z : List ℕ). reached z (binders xs)) (sym (append_nil vs))
+reached-more vs (Compare t) xs = ap (λ (z : List ℕ). reached z (binders xs)) (sym (append_nil vs))
+reached-more vs (FromVar y path v) xs =
+    elim (has vs y) as (λ w.
+    cond w (from_var y path v ∷ reached (vs ++ v ∷ []) (binders xs)) (reached vs (binders xs))
+    ≡ cond w (from_var y path v ∷ []) [] ++ reached (vs ++ binder_vars (cond w (from_var y path v ∷ []) [])) (binders xs))
+    [ true ↦ refl | false ↦ ap (λ (z : List ℕ). reached z (binders xs)) (sym (append_nil vs)) ]
+
+-- what a condition begins, then what those behind it do
+pub reaches-begun : (x : Cond) (xs : List Cond) → reaches (binders (x ∷ xs)) ≡ begun x (binders xs) ++ reaches (binders xs)
+reaches-begun (FromSource s path v) xs = refl
+reaches-begun (FromVar y path v) xs = refl
+reaches-begun (Compare t) xs = refl

@@ -6,12 +6,21 @@ use Rattle.std.proofs.lemmas.Bool.{or_cases, eqb-true, eq-eqb, ne_eqb}
 use Rattle.mix_base.proofs.Lists.{append_nil}
 use Rattle.path_expr.specs.Form.{Form}
 use Rattle.xmas_rule.specs.Conditions.{Binder, from_source, from_var, binder_var, binder_vars, has, add_to, with_binder, components_from, flat, AreBound}
-use Rattle.plan_make.proofs.ComponentRows.{FromSource, AreApart}
-use Rattle.plan_make.proofs.KeyLaws.{or_assoc, or_false}
-use Rattle.plan_make.proofs.Members.{each-append, each_append, snoc-append}
-use Rattle.plan_make.proofs.TupleRows.{or_comm}
-use Rattle.plan_make.proofs.Tuples.{has-append, Follows, AreScoped, binder_vars-append}
-use Rattle.plan_make.specs.Operators.{source_of}
+use Rattle.rule_laws.proofs.KeyLaws.{or_assoc, or_false, or_comm}
+use Rattle.rule_laws.proofs.Members.{each-append, each_append, snoc-append}
+use Rattle.rule_laws.proofs.TupleLaws.{has-append, Follows, AreScoped, binder_vars-append}
+use Rattle.rule_laws.specs.Reached.{source_of}
+
+-- a condition of a component of this source
+unfoldable pub FromSource : ℕ → Binder → Type 0
+FromSource s (from_source t path var) = t ≡ s
+FromSource s (from_var start path var) = Unit {0}
+
+-- components as a rule has them: each of one source and by itself, no variable in two of them
+unfoldable pub AreApart : List (List Binder) → Type 0
+AreApart [] = Unit {0}
+AreApart (comp ∷ comps) =
+    AllByRecursion (FromSource (source_of comp)) comp × AreScoped [] comp × ((v : ℕ) → has (binder_vars comp) v ≡ true → has (binder_vars (flat comps)) v ≡ false) × AreApart comps
 
 -- a variable of two lists of conditions
 pub has_flat : (a b : List Binder) (v : ℕ) → has (binder_vars (a ++ b)) v ≡ (has (binder_vars a) v || has (binder_vars b) v)
@@ -235,3 +244,13 @@ apart-scoped (comp ∷ comps) vs a f =
     append_nil : (zs : List ℕ) → zs ++ [] ≡ zs
     append_nil [] = refl
     append_nil (z ∷ zs) = ap (λ (ws : List ℕ). z ∷ ws) (append_nil zs)
+
+-- no components have no variables
+pub no_vars : Same [] []
+unfolding Same
+no_vars = λ v. refl
+
+-- no components stand apart
+pub nothing_apart : AreApart []
+unfolding AreApart
+nothing_apart = tt

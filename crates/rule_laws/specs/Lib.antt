@@ -1,0 +1,4 @@
+pub mod Law
+pub mod Reached
+pub mod Sorted
+pub mod Tuples
