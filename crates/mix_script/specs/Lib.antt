@@ -4,5 +4,6 @@ pub mod Finished
 pub mod Forms
 pub mod Holding
 pub mod Names
+pub mod Stepped
 pub mod Steps
 pub mod Transcript
