@@ -1,3 +1,7 @@
+pub mod Answering
+pub mod Finished
+pub mod Found
 pub mod Held
+pub mod Holding
 pub mod Reading
 pub mod WorkedRow

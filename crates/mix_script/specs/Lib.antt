@@ -1,5 +1,9 @@
+pub mod Allowed
 pub mod Answers
+pub mod Finished
 pub mod Forms
+pub mod Holding
 pub mod Names
+pub mod Stepped
 pub mod Steps
 pub mod Transcript

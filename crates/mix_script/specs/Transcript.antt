@@ -48,12 +48,12 @@ answer_of t names mark client (Down name from) = if_held (names client from) (un
 answer_of t names mark client (Right name from) = if_held (names client from) (unless_marked mark (move_answer t (goal_of names client (Right name from))))
 answer_of t names mark client (Fetch from) = label_answer (option_and_then (tree_at t) (names client from))
 
--- the names where the one that an act names, if any, holds this
-abbrev pub with_named : Names → List ℕ → Act → Option (List ℕ) → Names
-with_named names client (Root name) place = with_name names client name place
-with_named names client (Down name from) place = with_name names client name place
-with_named names client (Right name from) place = with_name names client name place
-with_named names client (Fetch from) place = names
+-- what names hold where the one that an act names, if any, holds this
+abbrev pub with_named : {V : Type 0} → NamesOf V → List ℕ → Act → Option V → NamesOf V
+with_named names client (Root name) value = with_name names client name value
+with_named names client (Down name from) value = with_name names client name value
+with_named names client (Right name from) value = with_name names client name value
+with_named names client (Fetch from) value = names
 
 -- the names after an answer: the act's name holds the place that was found or none, or all hold what they held
 abbrev pub names_after : Names → List ℕ → Act → Answer → Names

@@ -1,6 +1,3 @@
 mod Answered
-mod Found
-mod Hold
-mod Named
 pub mod Unmarked
 mod Walked

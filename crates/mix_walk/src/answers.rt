@@ -4,7 +4,8 @@ ghost use Rattle.mix_script.specs.Names.{held};
 ghost use Rattle.mix_script.specs.declared.step.Act.TheVariants.{Root, Down, Right, Fetch};
 ghost use Rattle.lxp_core.specs.View.{View};
 ghost use Rattle.tree_buffer.specs.Buffer.{IsSourcesOf, Ran, number_of};
-ghost use Rattle.mix_walk.specs.Stepped.{IsFound, spots_after, AreSpots, IsAnswered, IsFrugal};
+ghost use Rattle.mix_script.specs.Holding.{IsFound, names_found};
+ghost use Rattle.mix_walk.specs.Stepped.{IsRefusal, AreSpots, IsAnswered, IsFrugal};
 
 use lxp_core::Sources;
 use mix_script::{Act, Answer, Names, Step};
@@ -21,8 +22,8 @@ fn take_found(
     number: u32,
     found: Result<Option<Spot>, BufferFault>,
 ) -> Result<Answer, AllocError>
-    ensures answer { IfOk result (IsFound number found) }
-    ensures names { IfOk result (λ _. held names.new ≡ spots_after (held names.old) client.now name.now found) }
+    ensures answer { IfOk result (IsFound (IsRefusal number) found) }
+    ensures names { IfOk result (λ _. held names.new ≡ names_found (held names.old) client.now name.now found) }
 {
     match found {
         Ok(Some(spot)) => {

@@ -2,11 +2,10 @@
 #![tactic(auto)]
 
 mod answers;
-mod fault;
 mod lines;
 
-pub use fault::LinesFault;
 pub use lines::walk_lines;
+pub use mix_lines::LinesFault;
 
 #[cfg(test)]
 mod tests;

@@ -5,30 +5,19 @@ ghost use Rattle.mix_tree.specs.Forest.{LabelledTree, alone};
 ghost use Rattle.lxp_core.specs.View.{View, document};
 ghost use Rattle.mix_script.specs.Names.{held};
 ghost use Rattle.tree_buffer.specs.Buffer.{IsSourcesOf, Ran, number_of};
-ghost use Rattle.mix_walk.specs.Allowed.{is_fault};
 ghost use Rattle.mix_walk.specs.Stepped.{AreSpots, IsAnswered, IsFrugal};
-ghost use Rattle.mix_walk.specs.Cuts.{WroteLine, IsStepCut};
+ghost use Rattle.mix_lines.specs.Cuts.{WroteLine, IsStepCut};
+ghost use Rattle.mix_lines.specs.Told.{EndsOn};
 ghost use Rattle.mix_walk.specs.Lines.{Ends};
-ghost use Rattle.mix_walk.specs.Told.{EndsOn};
 
-use crate::LinesFault;
 use crate::answers::answer;
 use lxp_core::Sources;
 use mix_io::Sink;
-use mix_script::{Answer, Names, Step, write_answer};
+use mix_lines::{LinesFault, write_line};
+use mix_script::{Names, Step};
 use mix_tree::Label;
 use std::alloc::Global;
 use tree_buffer::{Buffer, Spot, no_call_runs, two_calls_run};
-
-// Whether an answer is a fault.
-fn marks(answer: &Answer) -> bool
-    ensures { result ≡ is_fault answer.now }
-{
-    match answer {
-        Answer::Fault(_) => true,
-        Answer::Node | Answer::None | Answer::Label(_) | Answer::NoNode => false,
-    }
-}
 
 // Answers a step and writes its line. Tells whether it is a fault line.
 fn write_step<S: Sources, K: Sink>(
@@ -54,9 +43,7 @@ fn write_step<S: Sources, K: Sink>(
     ensures count { (K.view out.old).faults ≤ (K.view out.new).faults }
 {
     let answer = answer(alloc, s, buffer, names, step)?;
-    let line = write_answer(alloc, step, &answer, sources)?;
-    out.write(alloc, &line)?;
-    Ok(marks(&answer))
+    write_line(alloc, step, &answer, sources, out)
 }
 
 /// Answers steps on the document of one source, each by a line in one write; `names` has the sources' names. True: a fault
@@ -76,7 +63,7 @@ pub fn walk_lines<S: Sources, K: Sink>(
     ensures came { S.came_from s.new s.old }
     ensures ends { Ends (S.view s.old) (S.view s.new) number names.now steps.now (K.view out.old) (K.view out.new) result }
     ensures told { (t : LabelledTree) → (S.view s.old).told number ≡ true → document (S.view s.old) number ≡ alone t
-        → EndsOn t names.now steps.now (K.view out.old).written (K.view out.new).written result }
+        → EndsOn true t names.now steps.now (K.view out.old).written (K.view out.new).written result }
     ensures count { (K.view out.old).faults ≤ (K.view out.new).faults }
 {
     no_call_runs::<S>();

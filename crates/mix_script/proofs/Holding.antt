@@ -1,13 +1,8 @@
 -- What names hold in two ways at once.
-use Rattle.std.proofs.Common.{◌≡◌, ◌∙◌, ℕ, Bool, true, false, cond, ◌&&◌, List, Option, Some, None, refl, subst}
+use Rattle.std.proofs.Common.{◌≡◌, Bool, true, false, cond, ◌&&◌, List, ℕ, Option, Some, None, refl, subst}
 use Rattle.std.specs.Str.{bytes_eq}
-use Rattle.tree_buffer.specs.declared.buffer.Buffer.{Buffer}
-use Rattle.tree_buffer.specs.declared.spot.Spot.{Spot}
-use Rattle.lxp_core.specs.View.{View}
-use Rattle.tree_buffer.specs.Buffer.{Goes}
 use Rattle.mix_script.specs.Names.{NamesOf, no_names, with_name}
-use Rattle.mix_walk.specs.Allowed.{Nodes}
-use Rattle.mix_walk.specs.Held.{Both, HoldBoth, IsNode, IsPlace, HoldNodes, HoldPlaces}
+use Rattle.mix_script.specs.Holding.{Both, HoldBoth}
 
 module _ {V W : Type 0} where
   -- names that hold nothing
@@ -45,12 +40,3 @@ module _ {V W : Type 0} where
   some_other With None p v e h = cc
   some_other With (Some u) None v e h = absurd h
   some_other With (Some u) (Some w) v e h = let same : u ≡ v = cc in (w, refl, subst (λ x. With x w) same h)
-
--- names hold nodes of a buffer that goes on
-pub nodes_go : (v v' : View) (b b' : Buffer) (spots : NamesOf Spot) (nodes : Nodes) → Goes v b v' b' → HoldNodes b spots nodes → HoldNodes b' spots nodes
-nodes_go v v' b b' spots nodes goes hold = hold_weaker (IsNode b) (IsNode b') spots nodes (λ x n h. goes.spot x h) hold
-
--- names hold places of a buffer that goes on
-pub places_go : (v v' : View) (b b' : Buffer) (spots : NamesOf Spot) (places : NamesOf (List ℕ)) → Goes v b v' b' → HoldPlaces b spots places → HoldPlaces b' spots places
-places_go v v' b b' spots places goes hold =
-    hold_weaker (IsPlace b) (IsPlace b') spots places (λ x p h. (goes.spot x h.0, goes.place x h.0 ∙ h.1)) hold

@@ -1,11 +1,11 @@
-// Why a walk was cut short.
+// Why lines were cut short.
 ghost use Rattle.std.specs.Prelude.{◌≡◌};
-ghost use Rattle.mix_walk.specs.declared.fault.LinesFault.TheVariants.{OutOfMemory};
+ghost use Rattle.mix_lines.specs.declared.fault.LinesFault.TheVariants.{OutOfMemory};
 
 use mix_io::SinkFault;
 use std::alloc::AllocError;
 
-/// Why a walk was cut short.
+/// Why the lines of a run were cut short.
 #[derive(Clone, Copy, Debug, PartialEq, Eq)]
 pub enum LinesFault {
     /// The sink failed. This comes only where its count of faults rose.
@@ -22,7 +22,7 @@ impl From<AllocError> for LinesFault {
 }
 
 impl From<SinkFault> for LinesFault {
-    ghost use Rattle.mix_walk.specs.Cuts.{fault_of};
+    ghost use Rattle.mix_lines.specs.Cuts.{fault_of};
 
     ghost from_gives = { λ fault e. e ≡ fault_of fault };
 

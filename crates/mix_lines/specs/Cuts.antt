@@ -1,4 +1,4 @@
--- What one step of a walk writes.
+-- What one step of a run writes.
 use Rattle.std.specs.Prelude.{◌≡◌, ◌⊎◌, ℕ, Bool, List}
 use Rattle.mix_base.specs.Counts.{HasRisen}
 use Rattle.mix_io.specs.Views.{SinkView}
@@ -7,11 +7,11 @@ use Rattle.mix_io.specs.declared.sink.SinkFault.{SinkFault}
 use Rattle.mix_io.specs.declared.sink.SinkFault.TheVariants as sink
 use Rattle.mix_script.specs.Answers.{line_of}
 use Rattle.mix_script.specs.declared.answer.Answer.{Answer}
-use Rattle.mix_walk.specs.declared.fault.LinesFault.{LinesFault}
-use Rattle.mix_walk.specs.declared.fault.LinesFault.TheVariants.{SinkFailed, OutOfMemory}
-use Rattle.mix_walk.specs.Allowed.{is_fault}
+use Rattle.mix_lines.specs.declared.fault.LinesFault.{LinesFault}
+use Rattle.mix_lines.specs.declared.fault.LinesFault.TheVariants.{SinkFailed, OutOfMemory}
+use Rattle.mix_script.specs.Allowed.{is_fault}
 
--- the cause of a cut walk that a fault of the sink is
+-- the cause of a cut that a fault of the sink is
 abbrev pub fault_of : SinkFault → LinesFault
 fault_of sink.Failed = SinkFailed
 fault_of sink.OutOfMemory = OutOfMemory

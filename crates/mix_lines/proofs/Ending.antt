@@ -1,0 +1,89 @@
+-- How a run ends.
+use Rattle.std.proofs.Common.{◌≡◌, ◌∙◌, inl, inr, ℕ, ◌+◌, ◌≤◌, Bool, List, [], ◌∷◌, ◌++◌, Option, Some, None, Err, ap, sym, subst, arith, length, take, append_assoc}
+use Rattle.mix_base.proofs.Lists.{append_nil, take_append}
+use Rattle.mix_tree.specs.Forest.{LabelledTree}
+use Rattle.mix_io.specs.Views.{SinkView}
+use Rattle.mix_io.specs.Contents.{Appends, AppendsFront}
+use Rattle.mix_script.specs.Names.{NamesOf, no_names}
+use Rattle.mix_script.specs.Answers.{line_of}
+use Rattle.mix_script.specs.Allowed.{AreAnswers, answer_lines}
+use Rattle.mix_script.specs.Finished.{AreOf}
+use Rattle.mix_script.specs.declared.step.Step.{Step}
+use Rattle.mix_script.specs.declared.answer.Answer.{Answer}
+use Rattle.mix_lines.specs.declared.fault.LinesFault.{LinesFault}
+use Rattle.mix_lines.specs.declared.fault.LinesFault.TheVariants.{SinkFailed, OutOfMemory}
+use Rattle.mix_lines.specs.Cuts.{WroteLine, WroteFront, IsStepCut}
+use Rattle.mix_lines.specs.Lines.{IsRun, IsWhole, EndsWithin, Ends}
+use Rattle.mix_lines.specs.Written.{AreWritten, IsSoFar}
+use Rattle.mix_lines.proofs.Stepping.{line_more}
+
+-- a line of the answer is one of an answer that has this property
+pub wrote_as : (a : Answer) (IsAnswer : Answer → Type 0) (names : List (List ℕ)) (client : List ℕ) (before after : SinkView) (marked : Bool) → IsAnswer a → WroteLine (λ x. x ≡ a) names client before after marked → WroteLine IsAnswer names client before after marked
+wrote_as a IsAnswer names client before after marked is w = record { a = w.a; answer = subst IsAnswer (sym w.answer) is; marks = w.marks; written = w.written }
+
+-- so is a front of it
+front_as : (a : Answer) (IsAnswer : Answer → Type 0) (names : List (List ℕ)) (client : List ℕ) (before after : SinkView) → IsAnswer a → WroteFront (λ x. x ≡ a) names client before after → WroteFront IsAnswer names client before after
+front_as a IsAnswer names client before after is w = record { a = w.a; answer = subst IsAnswer (sym w.answer) is; written = w.written }
+
+-- a step that was cut in the answer's line was cut in one of an answer that has this property
+pub cut_as : (a : Answer) (IsAnswer : Answer → Type 0) (names : List (List ℕ)) (client : List ℕ) (before after : SinkView) (fault : LinesFault) → IsAnswer a → IsStepCut (λ x. x ≡ a) names client before after fault → IsStepCut IsAnswer names client before after fault
+cut_as a IsAnswer names client before after SinkFailed is h = (h.0, front_as a IsAnswer names client before after is h.1)
+cut_as a IsAnswer names client before after OutOfMemory is (inl e) = inl e
+cut_as a IsAnswer names client before after OutOfMemory is (inr w) = inr (front_as a IsAnswer names client before after is w)
+
+-- the answers so far are those of a run
+pub so_far_run : {V : Type 0} (roots : Bool) (MayFail : ℕ → Type 0) (Is : V → Unit {0} → Type 0) (At : V → List ℕ → Type 0) (IsDocument : LabelledTree → Type 0) (faults now last : ℕ → ℕ) (values : NamesOf V) (steps later : List Step) (answers : List Answer)
+    → IsSoFar roots MayFail Is At IsDocument faults now values steps later answers → ((s : ℕ) → now s ≤ last s) → IsRun roots MayFail IsDocument faults last steps answers
+so_far_run roots MayFail Is At IsDocument faults now last values steps later answers so rises = record {
+  allowed = subst (λ xs. AreAnswers roots MayFail no_names xs steps) (append_nil answers) (so.allowed [] (nothing later));
+  told = λ t one. subst (λ xs. AreOf t no_names xs steps) (append_nil answers) ((so.told t one).then [] (nothing later));
+  counted = λ s. let h = so.counted s in let k = rises s in omega (arith, h, k);
+}
+  where
+    nothing : List Step → Unit {0}
+    nothing xs = tt
+
+-- what was written, with a front of a line
+front : (names : List (List ℕ)) (steps : List Step) (step : Step) (answers : List Answer) (a : Answer) → answer_lines names (answers ++ a ∷ []) steps ≡ answer_lines names answers steps ++ line_of names step.client a
+    → (o now after : Option (List ℕ)) → Appends o now (answer_lines names answers steps) → AppendsFront now after (line_of names step.client a)
+    → (count : ℕ) × Appends o after (take (length (answer_lines names answers steps) + count) (answer_lines names (answers ++ a ∷ []) steps))
+front names steps step answers a more None now after h k = (0, subst (λ (m : Option (List ℕ)). AppendsFront m after (line_of names step.client a)) h k)
+front names steps step answers a more (Some w) now after h k =
+    let lines = answer_lines names answers steps in
+    let line = line_of names step.client a in
+    let cut : (n : ℕ) × (after ≡ Some ((w ++ answer_lines names answers steps) ++ take n (line_of names step.client a))) =
+    subst (λ (m : Option (List ℕ)). AppendsFront m after (line_of names step.client a)) h k in (
+      cut.0,
+      cut.1 ∙ ap Some (append_assoc w lines (take cut.0 line) ∙ ap (λ r. w ++ r) (sym (take_append lines line cut.0) ∙ ap (take (length lines + cut.0)) (sym more))),
+    )
+
+module _ (Are Cost : List Answer → Type 0) (names : List (List ℕ)) (steps later : List Step) (sink mid sink' : SinkView) (marked : Bool) (answers : List Answer) where
+  -- all steps were answered
+  pub run_whole : later ≡ [] → AreWritten names steps later sink.written mid.written marked answers → Are answers → Cost answers → IsWhole Are Cost names steps sink mid marked
+  run_whole none so are cost = record {
+    answers = answers;
+    are = are;
+    all = let e = so.count in let l : length later ≡ 0 = ap (λ (xs : List Step). length xs) none in omega (arith, e, l);
+    written = so.written;
+    cost = cost;
+    marks = so.marks;
+  }
+
+  -- a step was cut short
+  pub run_cut : (step : Step) → AreWritten names steps (step ∷ later) sink.written mid.written marked answers → (IsAnswer : Answer → Type 0) → Are answers → ((a : Answer) → IsAnswer a → Are (answers ++ a ∷ [])) → Cost answers
+      → sink.faults ≤ mid.faults → (fault : LinesFault) → IsStepCut IsAnswer names step.client mid sink' fault → Ends Are Cost names steps sink sink' (Err fault)
+  run_cut step so IsAnswer are more cost count SinkFailed h = (omega (arith, h.0, count), within h.1)
+    where
+      within : WroteFront IsAnswer names step.client mid sink' → EndsWithin Are Cost names steps sink sink'
+      within w =
+          let cut = front names steps step answers w.a (line_more names steps step later sink.written mid.written marked answers so w.a) sink.written mid.written sink'.written so.written w.written in
+          record { answers = answers; last = w.a; are = more w.a w.answer; count = cut.0; written = cut.1; cost = cost }
+  run_cut step so IsAnswer are more cost count OutOfMemory (inl e) = inl record {
+    answers = answers;
+    are = are;
+    written = subst (λ (x : SinkView). Appends sink.written x.written (answer_lines names answers steps)) (sym e) so.written;
+    cost = cost;
+  }
+  run_cut step so IsAnswer are more cost count OutOfMemory (inr w) =
+      let cut = front names steps step answers w.a (line_more names steps step later sink.written mid.written marked answers so w.a) sink.written mid.written sink'.written so.written w.written in
+      inr record { answers = answers; last = w.a; are = more w.a w.answer; count = cut.0; written = cut.1; cost = cost }

@@ -1,0 +1,126 @@
+-- A run begins, and comes one step further.
+use Rattle.std.proofs.Common.{◌≡◌, ◌∙◌, ℕ, ◌+◌, ◌<◌, ◌≤◌, Bool, false, ◌||◌, List, [], ◌∷◌, ◌++◌, Option, Some, None, refl, ap, sym, subst, arith, length, drop, get_or, append_assoc}
+use Rattle.std.proofs.lemmas.List.{length_push, drop_more}
+use Rattle.mix_base.proofs.Lists.{append_nil}
+use Rattle.mix_tree.specs.Forest.{LabelledTree}
+use Rattle.mix_io.specs.Contents.{Appends}
+use Rattle.mix_io.proofs.Written.{one_more}
+use Rattle.mix_script.specs.Names.{NamesOf, no_names}
+use Rattle.mix_script.specs.Answers.{line_of}
+use Rattle.mix_script.specs.Transcript.{answered, names_after}
+use Rattle.mix_script.specs.Allowed.{nodes_after, AreAnswers, answer_lines, mark_of, is_fault, begun}
+use Rattle.mix_script.specs.Finished.{AreOf}
+use Rattle.mix_script.specs.Holding.{HoldBoth}
+use Rattle.mix_script.specs.Stepped.{IsAnswered}
+use Rattle.mix_script.specs.declared.step.Act.{Act}
+use Rattle.mix_script.specs.declared.step.Step.{Step}
+use Rattle.mix_script.specs.declared.answer.Answer.{Answer}
+use Rattle.mix_script.proofs.Answering.{faults_push, has_fault_push}
+use Rattle.mix_script.proofs.Holding.{hold_none}
+use Rattle.mix_lines.specs.Written.{AreWritten, IsOnTree, IsSoFar, IsSpent}
+
+-- nothing was written
+appends_nothing : (before : Option (List ℕ)) → Appends before before []
+appends_nothing None = refl
+appends_nothing (Some w) = ap Some (sym (append_nil w))
+
+-- no line is written yet
+pub written_start : (names : List (List ℕ)) (steps : List Step) (before : Option (List ℕ)) → AreWritten names steps steps before before false []
+written_start names steps before = record { count = omega arith; lines = λ more. refl; written = appends_nothing before; marks = refl }
+
+-- no step is answered yet
+pub so_far_start : {V : Type 0} (roots : Bool) (MayFail : ℕ → Type 0) (Is : V → Unit {0} → Type 0) (At : V → List ℕ → Type 0) (IsDocument : LabelledTree → Type 0) (faults : ℕ → ℕ) (values : NamesOf V) (steps : List Step) → values ≡ no_names
+    → IsSoFar roots MayFail Is At IsDocument faults faults values steps steps []
+so_far_start {V} roots MayFail Is At IsDocument faults values steps none = record {
+  nodes = no_names;
+  hold = subst (λ (s : NamesOf V). HoldBoth Is s no_names) (sym none) (hold_none Is);
+  allowed = λ more h. h;
+  told = λ t one. record { places = no_names; hold = subst (λ (s : NamesOf V). HoldBoth At s no_names) (sym none) (hold_none At); then = λ more h. h };
+  counted = λ s. omega arith;
+}
+
+-- nothing is asked yet
+pub spent_start : {V W : Type 0} (With : V → W → Type 0) (cost : NamesOf W → List ℕ → Act → ℕ) (after : NamesOf W → List ℕ → Act → Answer → NamesOf W) (asked : ℕ) (values : NamesOf V) (steps : List Step) → values ≡ no_names
+    → IsSpent With cost after asked asked values steps steps []
+spent_start {V} With cost after asked values steps none = record {
+  names = no_names;
+  hold = subst (λ (s : NamesOf V). HoldBoth With s no_names) (sym none) (hold_none With);
+  spent = λ more. omega arith;
+}
+
+-- the step at an index comes first of those from there on
+pub later_at : (steps : List Step) (i : ℕ) (step : Step) → i < length steps → step ≡ get_or steps i step → drop i steps ≡ step ∷ drop (i + 1) steps
+later_at steps i step h is = drop_more steps i step h ∙ ap (λ s. s ∷ drop (i + 1) steps) (sym is)
+
+-- answers, and one more before those to come
+behind : (answers : List Answer) (a : Answer) (more : List Answer) → (answers ++ a ∷ []) ++ more ≡ answers ++ a ∷ more
+behind answers a more = append_assoc answers (a ∷ []) more
+
+-- the lines so far, and one more
+lines_push : (xs l ys : List ℕ) → xs ++ (l ++ ys) ≡ (xs ++ (l ++ [])) ++ ys
+lines_push xs l ys = ap (λ r. xs ++ (r ++ ys)) (sym (append_nil l)) ∙ sym (append_assoc xs (l ++ []) ys)
+
+module _ (names : List (List ℕ)) (steps : List Step) (step : Step) (later : List Step) (before now : Option (List ℕ)) (marked : Bool) (answers : List Answer) (so : AreWritten names steps (step ∷ later) before now marked answers) (a : Answer) where
+  -- the lines of the answers with this one
+  pub line_more : answer_lines names (answers ++ a ∷ []) steps ≡ answer_lines names answers steps ++ line_of names step.client a
+  line_more = so.lines (a ∷ []) ∙ ap (λ l. answer_lines names answers steps ++ l) (append_nil (line_of names step.client a))
+
+  -- the line of one answer more was written
+  pub written_step : (after : Option (List ℕ)) → Appends now after (line_of names step.client a) → AreWritten names steps later before after (marked || is_fault a) (answers ++ a ∷ [])
+  written_step after wrote = record {
+    count = omega (arith, so.count, length_push answers a);
+    lines = λ more.
+        ap (λ xs. answer_lines names xs steps) (behind answers a more) ∙ so.lines (a ∷ more)
+        ∙ lines_push (answer_lines names answers steps) (line_of names step.client a) (answer_lines names more later)
+        ∙ ap (λ l. l ++ answer_lines names more later) (sym (so.lines (a ∷ [])));
+    written = subst (Appends before after) (sym line_more) (one_more before now after (answer_lines names answers steps) (line_of names step.client a) so.written wrote);
+    marks = ap (λ m. m || is_fault a) so.marks ∙ sym (has_fault_push answers a);
+  }
+
+module _ {V : Type 0} (roots : Bool) (MayFail : ℕ → Type 0) (Is Is' : V → Unit {0} → Type 0) (At At' : V → List ℕ → Type 0) (IsDocument : LabelledTree → Type 0) (first faults faults' : ℕ → ℕ) (values values' : NamesOf V)
+    (steps : List Step) (step : Step) (later : List Step) (answers : List Answer) (so : IsSoFar roots MayFail Is At IsDocument first faults values steps (step ∷ later) answers)
+    (a : Answer) (is : IsAnswered roots MayFail Is Is' At At' IsDocument faults faults' values values' step.client step.act a) where
+  on_tree : (t : LabelledTree) → IsDocument t → IsOnTree At' t values' steps later (answers ++ a ∷ [])
+  on_tree t one =
+      let on = so.told t one in
+      let both = is.told t one on.places on.hold in
+      record {
+        places = (answered t on.places (mark_of a) step).1;
+        hold = subst (λ x. HoldBoth At' values' (names_after on.places step.client step.act x)) both.0 both.1;
+        then = λ more h. subst (λ xs. AreOf t no_names xs steps) (sym (behind answers a more)) (on.then (a ∷ more) (both.0, h));
+      }
+
+  -- one step more was answered
+  pub so_far_step : IsSoFar roots MayFail Is' At' IsDocument first faults' values' steps later (answers ++ a ∷ [])
+  so_far_step =
+      let both = is.allowed so.nodes so.hold in
+      record {
+        nodes = nodes_after so.nodes step.client step.act a;
+        hold = both.1;
+        allowed = λ more h. subst (λ xs. AreAnswers roots MayFail no_names xs steps) (sym (behind answers a more)) (so.allowed (a ∷ more) (both.0, h));
+        told = on_tree;
+        counted = λ s. let old = so.counted s in let new = is.counted s in omega (arith, old, new, faults_push s answers a);
+      }
+
+-- one step more was paid for
+pub spent_step : {V W : Type 0} (With With' : V → W → Type 0) (cost : NamesOf W → List ℕ → Act → ℕ) (after : NamesOf W → List ℕ → Act → Answer → NamesOf W) (first asked asked' : ℕ) (values values' : NamesOf V)
+    (steps : List Step) (step : Step) (later : List Step) (answers : List Answer) (a : Answer) (so : IsSpent With cost after first asked values steps (step ∷ later) answers)
+    → asked' ≤ asked + cost so.names step.client step.act → HoldBoth With' values' (after so.names step.client step.act a) → IsSpent With' cost after first asked' values' steps later (answers ++ a ∷ [])
+spent_step With With' cost after first asked asked' values values' steps step later answers a so paid hold = record {
+  names = after so.names step.client step.act a;
+  hold = hold;
+  spent = λ more. let h = so.spent (a ∷ more) in let e = ap (λ xs. begun cost after no_names xs steps) (behind answers a more) in omega (arith, h, paid, e);
+}
+
+-- what was asked for a step that was begun
+pub spent_begun : {V W : Type 0} (With : V → W → Type 0) (cost : NamesOf W → List ℕ → Act → ℕ) (after : NamesOf W → List ℕ → Act → Answer → NamesOf W) (first asked asked' : ℕ) (values : NamesOf V)
+    (steps : List Step) (step : Step) (later : List Step) (answers : List Answer) (so : IsSpent With cost after first asked values steps (step ∷ later) answers)
+    → asked' ≤ asked + cost so.names step.client step.act → asked' ≤ first + begun cost after no_names answers steps
+spent_begun With cost after first asked asked' values steps step later answers so paid =
+    let h = so.spent [] in let e = ap (λ xs. begun cost after no_names xs steps) (append_nil answers) in omega (arith, h, paid, e)
+
+-- what was asked for all steps
+pub spent_whole : {V W : Type 0} (With : V → W → Type 0) (cost : NamesOf W → List ℕ → Act → ℕ) (after : NamesOf W → List ℕ → Act → Answer → NamesOf W) (first asked : ℕ) (values : NamesOf V)
+    (steps later : List Step) (answers : List Answer) → IsSpent With cost after first asked values steps later answers → asked ≤ first + begun cost after no_names answers steps
+spent_whole With cost after first asked values steps later answers so =
+    let h = so.spent [] in let e = ap (λ xs. begun cost after no_names xs steps) (append_nil answers) in omega (arith, h, e)

@@ -1,0 +1,43 @@
+-- How far a run has come.
+use Rattle.std.specs.Prelude.{◌≡◌, ℕ, ◌+◌, ◌≤◌, Bool, List, ◌++◌, Option, length}
+use Rattle.mix_base.specs.Counts.{HasRisenBy}
+use Rattle.mix_tree.specs.Forest.{LabelledTree}
+use Rattle.mix_io.specs.Contents.{Appends}
+use Rattle.mix_script.specs.Names.{NamesOf, no_names}
+use Rattle.mix_script.specs.Transcript.{Names}
+use Rattle.mix_script.specs.Allowed.{Nodes, AreAnswers, answer_lines, has_fault, faults_of, begun}
+use Rattle.mix_script.specs.Finished.{AreOf}
+use Rattle.mix_script.specs.Holding.{HoldBoth}
+use Rattle.mix_script.specs.declared.step.Act.{Act}
+use Rattle.mix_script.specs.declared.step.Step.{Step}
+use Rattle.mix_script.specs.declared.answer.Answer.{Answer}
+
+-- the lines of answers to the steps before the later ones were written; this tells whether one of them is a fault
+pub record AreWritten (names : List (List ℕ)) (steps later : List Step) (before after : Option (List ℕ)) (marked : Bool) (answers : List Answer) : Type 0 where
+  pub count : length answers + length later ≡ length steps
+  pub lines : (more : List Answer) → answer_lines names (answers ++ more) steps ≡ answer_lines names answers steps ++ answer_lines names more later
+  pub written : Appends before after (answer_lines names answers steps)
+  pub marks : marked ≡ has_fault answers
+
+-- what the names hold goes together with places of a tree; and answers to the later steps that are the tree's from there on,
+-- behind those so far, are the tree's
+pub record IsOnTree {V : Type 0} (At : V → List ℕ → Type 0) (t : LabelledTree) (values : NamesOf V) (steps later : List Step) (answers : List Answer) : Type 0 where
+  pub places : Names
+  pub hold : HoldBoth At values places
+  pub then : (more : List Answer) → AreOf t places more later → AreOf t no_names (answers ++ more) steps
+
+-- the answers so far are those of a run, and the names hold what they should
+pub record IsSoFar {V : Type 0} (roots : Bool) (MayFail : ℕ → Type 0) (Is : V → Unit {0} → Type 0) (At : V → List ℕ → Type 0) (IsDocument : LabelledTree → Type 0) (faults faults' : ℕ → ℕ)
+    (values : NamesOf V) (steps later : List Step) (answers : List Answer) : Type 0 where
+  pub nodes : Nodes
+  pub hold : HoldBoth Is values nodes
+  pub allowed : (more : List Answer) → AreAnswers roots MayFail nodes more later → AreAnswers roots MayFail no_names (answers ++ more) steps
+  pub told : (t : LabelledTree) → IsDocument t → IsOnTree At t values steps later answers
+  pub counted : (s : ℕ) → HasRisenBy (faults_of s answers) (faults s) (faults' s)
+
+-- what was asked so far, and what the later steps may cost, is no more than the steps may cost; the names hold this
+pub record IsSpent {V W : Type 0} (With : V → W → Type 0) (cost : NamesOf W → List ℕ → Act → ℕ) (after : NamesOf W → List ℕ → Act → Answer → NamesOf W) (asked asked' : ℕ)
+    (values : NamesOf V) (steps later : List Step) (answers : List Answer) : Type 0 where
+  pub names : NamesOf W
+  pub hold : HoldBoth With values names
+  pub spent : (more : List Answer) → asked' + begun cost after names more later ≤ asked + begun cost after no_names (answers ++ more) steps

@@ -1,0 +1,108 @@
+-- Which answers steps may have, whatever the document is.
+use Rattle.std.specs.Prelude.{◌≡◌, ℕ, ◌+◌, ◌==◌, Bool, true, false, ◌||◌, List, [], ◌∷◌, ◌++◌, Option, Some, None, is_some, cond}
+use Rattle.mix_script.specs.Names.{NamesOf}
+use Rattle.mix_script.specs.Answers.{line_of}
+use Rattle.mix_script.specs.Transcript.{with_named}
+use Rattle.mix_script.specs.declared.step.Act.{Act}
+use Rattle.mix_script.specs.declared.step.Act.TheVariants.{Root, Down, Right, Fetch}
+use Rattle.mix_script.specs.declared.step.Step.{Step}
+use Rattle.mix_script.specs.declared.answer.Answer.{Answer}
+use Rattle.mix_script.specs.declared.answer.Answer.TheVariants as answer
+
+-- which names of each client hold a node
+abbrev pub Nodes : Type 0
+Nodes = NamesOf (Unit {0})
+
+-- the answers to a command that seeks a node: a node, or none, or a fault of a source that has this property
+abbrev pub MayFind : (ℕ → Type 0) → Answer → Type 0
+MayFind MayFail answer.Node = Unit {0}
+MayFind MayFail answer.None = Unit {0}
+MayFind MayFail (answer.Label l) = ⊥
+MayFind MayFail answer.NoNode = ⊥
+MayFind MayFail (answer.Fault s) = MayFail s
+
+-- the answers to a command that goes to the root: where the root is sought in a source those of any search, and else a node
+abbrev pub MayFindRoot : Bool → (ℕ → Type 0) → Answer → Type 0
+MayFindRoot true MayFail a = MayFind MayFail a
+MayFindRoot false MayFail a = a ≡ answer.Node
+
+-- the answers to a command that reads a label
+abbrev pub MayRead : Answer → Type 0
+MayRead answer.Node = ⊥
+MayRead answer.None = ⊥
+MayRead (answer.Label l) = Unit {0}
+MayRead answer.NoNode = ⊥
+MayRead (answer.Fault s) = ⊥
+
+-- no node is answered exactly where the operand's name holds none
+abbrev pub WhereHeld : Option (Unit {0}) → (Answer → Type 0) → Answer → Type 0
+WhereHeld None May a = a ≡ answer.NoNode
+WhereHeld (Some node) May a = May a
+
+-- the answers to a client's act, where names hold nodes like this; whether the root is sought in a source
+abbrev pub MayAnswer : Bool → (ℕ → Type 0) → Nodes → List ℕ → Act → Answer → Type 0
+MayAnswer roots MayFail nodes client (Root name) a = MayFindRoot roots MayFail a
+MayAnswer roots MayFail nodes client (Down name from) a = WhereHeld (nodes client from) (MayFind MayFail) a
+MayAnswer roots MayFail nodes client (Right name from) a = WhereHeld (nodes client from) (MayFind MayFail) a
+MayAnswer roots MayFail nodes client (Fetch from) a = WhereHeld (nodes client from) MayRead a
+
+-- which names hold a node after an answer: the act's name after a node and after none, else those that did
+abbrev pub nodes_after : Nodes → List ℕ → Act → Answer → Nodes
+nodes_after nodes client act answer.Node = with_named nodes client act (Some tt)
+nodes_after nodes client act answer.None = with_named nodes client act None
+nodes_after nodes client act (answer.Label l) = nodes
+nodes_after nodes client act answer.NoNode = nodes
+nodes_after nodes client act (answer.Fault s) = nodes
+
+-- answers to the first of these steps, each of which its step may have after those before it
+abbrev pub AreAnswers : Bool → (ℕ → Type 0) → Nodes → List Answer → List Step → Type 0
+AreAnswers roots MayFail nodes [] steps = Unit {0}
+AreAnswers roots MayFail nodes (a ∷ answers) [] = ⊥
+AreAnswers roots MayFail nodes (a ∷ answers) (step ∷ steps) =
+    MayAnswer roots MayFail nodes step.client step.act a × AreAnswers roots MayFail (nodes_after nodes step.client step.act a) answers steps
+
+-- the lines that tell answers to the first of these steps
+abbrev pub answer_lines : List (List ℕ) → List Answer → List Step → List ℕ
+answer_lines names [] steps = []
+answer_lines names (a ∷ answers) [] = []
+answer_lines names (a ∷ answers) (step ∷ steps) = line_of names step.client a ++ answer_lines names answers steps
+
+-- the source that an answer says has failed
+abbrev pub mark_of : Answer → Option ℕ
+mark_of answer.Node = None
+mark_of answer.None = None
+mark_of (answer.Label l) = None
+mark_of answer.NoNode = None
+mark_of (answer.Fault s) = Some s
+
+-- the marks that answers show
+abbrev pub marks_of : List Answer → List (Option ℕ)
+marks_of [] = []
+marks_of (a ∷ answers) = mark_of a ∷ marks_of answers
+
+-- whether an answer is a fault
+abbrev pub is_fault : Answer → Bool
+is_fault a = is_some (mark_of a)
+
+-- whether one of these answers is a fault
+abbrev pub has_fault : List Answer → Bool
+has_fault [] = false
+has_fault (a ∷ answers) = is_fault a || has_fault answers
+
+-- whether a mark names this source
+abbrev pub is_mark_of : ℕ → Option ℕ → Bool
+is_mark_of s None = false
+is_mark_of s (Some n) = n == s
+
+-- how many of these answers are faults of this source
+abbrev pub faults_of : ℕ → List Answer → ℕ
+faults_of s [] = 0
+faults_of s (a ∷ answers) = cond (is_mark_of s (mark_of a)) 1 0 + faults_of s answers
+
+-- the sum of what the first of these steps cost, which were answered so, and the step behind them, which was begun, where
+-- names hold this before them; an act's cost and the names after it are given
+abbrev pub begun : {V : Type 0} → (NamesOf V → List ℕ → Act → ℕ) → (NamesOf V → List ℕ → Act → Answer → NamesOf V) → NamesOf V → List Answer → List Step → ℕ
+begun cost after names [] [] = 0
+begun cost after names [] (step ∷ steps) = cost names step.client step.act
+begun cost after names (a ∷ answers) [] = 0
+begun cost after names (a ∷ answers) (step ∷ steps) = cost names step.client step.act + begun cost after (after names step.client step.act a) answers steps
