@@ -1,3 +1,4 @@
+pub mod Chunks
 pub mod Lines
 pub mod MountLaws
 pub mod Readiness

@@ -24,6 +24,10 @@ pub record IsSteady (old new : FilesView) : Type 0 where
   pub keeps : KeepsFiles new old
   pub faults : (p : List ℕ) → new.faults p ≡ old.faults p
 
+-- so it is where a call says both
+pub is_steady : (old new : FilesView) → KeepsFiles new old → ((p : List ℕ) → new.faults p ≡ old.faults p) → IsSteady old new
+is_steady old new keeps faults = record { keeps = keeps; faults = faults }
+
 -- so it is between three
 pub steady_twice : (old mid new : FilesView) → IsSteady old mid → IsSteady mid new → IsSteady old new
 steady_twice old mid new a b = record { keeps = keeps_files_twice old mid new a.keeps b.keeps; faults = λ p. b.faults p ∙ a.faults p }

@@ -10,7 +10,8 @@ use Rattle.xmas_rule.specs.Conditions.{Binder, from_source, from_var, binder_var
 use Rattle.xmas_rule.specs.Rules.{RuleValue, IsAccepted, variables}
 use Rattle.plan_core.specs.Plans.{Operator, source, get_descendants, join, over, tuple_destroy, chained}
 use Rattle.plan_core.specs.Unary.{Unary}
-use Rattle.plan_make.specs.Operators.{source_of, descend_ops, more_ops, body_ops, body_last, unaries, operators_of}
+use Rattle.rule_laws.specs.Reached.{source_of}
+use Rattle.plan_make.specs.Operators.{descend_ops, more_ops, body_ops, body_last, unaries, operators_of}
 use Rattle.plan_make.specs.Translation.{template_var}
 use Rattle.lazy_plan.specs.World.{reads}
 use Rattle.mix_top.specs.Course.{is_of, names_source}
