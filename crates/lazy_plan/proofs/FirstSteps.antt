@@ -15,6 +15,7 @@ use Rattle.plan_core.specs.Typed.{IsTyped}
 use Rattle.plan_core.specs.TolledRows.{TolledRow, KeyValue, key_values, is_seen}
 use Rattle.plan_core.specs.Events.{RowEvents, events, distinct, keys_seen}
 use Rattle.plan_core.proofs.Distinct.{found-distinct_none, cost-distinct_le, IsNew, distinct_new, IsOld, distinct_old}
+use Rattle.tree_buffer.specs.Law.{SpotsAreOne}
 use Rattle.lazy_plan.specs.declared.fault.WalkFault.{WalkFault}
 use Rattle.lazy_plan.specs.declared.key.KeyPart.{KeyPart}
 use Rattle.lazy_plan.specs.declared.position.Position.{Position, Start, Top, Whole, Found', Pass', First', Pair', End, Both', Sorted'}
@@ -158,7 +159,7 @@ module _ (ops : List Operator) (typed : IsTyped ops) (n : ℕ) (within : n < len
     module _ (b : World) (bench : IsBench a ops) (k : Asks a b ops (input_of (op_at ops n)) (ahead a ops (input_of (op_at ops n)) (below c)))
         (d : Position) (f : Finds a b ops (input_of (op_at ops n)) (ahead a ops (input_of (op_at ops n)) (below c)) (number a ops (input_of (op_at ops n)) (below c)) d)
         (late : IsBench b ops) (key : List KeyPart) (parts : AllByRecursion (IsPart b) key)
-        (val : IsTrue (is_told b ops) → map (part_value b) key ≡ key_values (docs_of b) (keys_of (op_at ops n)) (binding b ops (input_of (op_at ops n)) d)) where
+        (val : IsTrue (is_told b ops) → map (part_value b) key ≡ key_values (docs_of b) (keys_of (op_at ops n)) (binding b ops (input_of (op_at ops n)) d)) (ones : SpotsAreOne) where
       -- the documents are the same
       same_docs : docs_of b ≡ docs_of a
       same_docs = docs_kept k.kept ops bench
@@ -181,7 +182,7 @@ module _ (ops : List Operator) (typed : IsTyped ops) (n : ℕ) (within : n < len
       same_test t =
           ap (λ (z : List KeyValue). is_seen z (up_to a n (count_of c))) (sym (key_is (still_told k.kept ops t)))
           ∙ ap (is_seen (map (part_value b) key)) (sym same_seen)
-          ∙ sym (was_seen-is b key (take (count_of c) (seen_at b n)) parts (all_take (AllByRecursion (IsPart b)) (seen_at b n) (count_of c) (late.parts n)))
+          ∙ sym (was_seen-is ones b key (take (count_of c) (seen_at b n)) parts (all_take (AllByRecursion (IsPart b)) (seen_at b n) (count_of c) (late.parts n)))
 
       -- the events behind the binding, with no new key
       later_same : first_events (docs_of b) (op_at ops n) (up_to b n (count_of c)) (ahead b ops (input_of (op_at ops n)) d)
@@ -250,7 +251,7 @@ module _ (ops : List Operator) (typed : IsTyped ops) (n : ℕ) (within : n < len
           (pushed : length (slice_index_or seen n []) ≡ length (seen_at b n) + 1 → (count_of c ≡ length (seen_at b n)) × (was_seen key (take (count_of c) (seen_at b n)) ≡ false)) where
         -- what the growing list keeps
         kept_here : Keeps b (world b.view b.buffers seen)
-        kept_here = grows_keeps b ops late seen n key g
+        kept_here = grows_keeps b seen n key g
 
         -- where the list grew, it did so by a new key at the end of those seen up to the position
         at_end : slice_index_or seen n [] ≡ seen_at b n ++ key ∷ [] → (count_of c ≡ length (seen_at b n)) × (was_seen key (take (count_of c) (seen_at b n)) ≡ false)

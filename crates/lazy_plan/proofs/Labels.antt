@@ -1,5 +1,5 @@
 -- Labels of spots.
-use Rattle.std.proofs.Common.{◌≡◌, ◌<◌, ◌≤◌, ◌+◌, ℕ, zero, suc, Bool, true, false, cond, ◌&&◌, List, [], ◌∷◌, Option, Some, None, length, refl, ◌∙◌, sym, ap, subst, arith}
+use Rattle.std.proofs.Common.{◌≡◌, ◌<◌, ℕ, zero, suc, Bool, true, cond, List, [], ◌∷◌, Some, length, ◌∙◌, sym, ap, subst, arith}
 use Rattle.std.proofs.Common.{get_or}
 use Rattle.std.proofs.lemmas.Option.{get_or_from_slice_get}
 use Rattle.std.specs.Prelude.{IsTrue, nat_lt, slice_get}
@@ -8,21 +8,22 @@ use Rattle.std.proofs.lemmas.Bool.Decides.{nat_tests}
 use Rattle.mix_base.proofs.Choices.{and_parts}
 use Rattle.mix_tree.specs.Forest.{Forest, none, tree, first_label}
 use Rattle.mix_tree.specs.Place.{trees_at}
-use Rattle.mix_tree.specs.Nodes.{Documents, Node, label_at, label_of_first}
-use Rattle.lxp_core.specs.View.{View, document}
+use Rattle.mix_tree.specs.Nodes.{label_at, label_of_first}
+use Rattle.lxp_core.specs.View.{document}
 use Rattle.tree_buffer.specs.declared.buffer.Buffer.{Buffer}
 use Rattle.tree_buffer.specs.declared.spot.Spot.{Spot}
 use Rattle.tree_buffer.specs.Document.{document_node}
-use Rattle.tree_buffer.specs.Buffer.{IsSpot, IsSourcesOf, number_of, place_of, label_of}
+use Rattle.tree_buffer.specs.Buffer.{number_of, place_of, label_of}
 use Rattle.plan_core.specs.Plans.{Operator, source, get_descendants, join, over, tuple_destroy}
 use Rattle.plan_core.specs.ByNumber.{op_at}
-use Rattle.plan_core.specs.TolledRows.{TolledRow, of_source, tolled_value, row_node, source_node}
+use Rattle.plan_core.specs.TolledRows.{row_node, source_node}
 use Rattle.lazy_plan.specs.declared.position.Position.{Position}
-use Rattle.lazy_plan.specs.World.{World, docs_of, reads, is_told, is_forward, of_buffer, buffer_at, place_in, spot_node, IsSpotIn, IsBench}
+use Rattle.lazy_plan.specs.World.{World, docs_of, reads, is_told, is_forward, of_buffer, buffer_at, spot_node, IsSpotIn, IsBench}
 use Rattle.plan_core.specs.Typed.{IsTyped}
 use Rattle.plan_core.specs.Valid.{kinds, a_node}
 use Rattle.lazy_plan.specs.Cursors.{IsRead, IsOf, has_row, input_of, start_var, shape, visits_below, source_number, binding, spot_in}
-use Rattle.lazy_plan.proofs.Spots.{IsSpotOf, spot_is, input_within, start_kind}
+use Rattle.lazy_plan.proofs.Bound.{input_within, start_kind}
+use Rattle.lazy_plan.proofs.Spots.{IsSpotOf, spot_is}
 
 -- what is read at an index is what is there
 pub read_is : {X : Type 0} (xs : List X) (i : ℕ) (x y : X) → slice_get xs i ≡ Some x → y ≡ get_or xs i y → y ≡ x

@@ -1,20 +1,19 @@
 -- A step of an operator that goes event for event.
-use Rattle.std.proofs.Common.{◌≡◌, ◌<◌, ◌≤◌, ◌+◌, ℕ, suc, Bool, true, false, List, [], ◌∷◌, length, refl, ◌∙◌, sym, ap, subst, arith}
+use Rattle.std.proofs.Common.{◌≡◌, ◌<◌, ◌≤◌, ◌+◌, ℕ, true, false, List, [], ◌∷◌, length, refl, ◌∙◌, sym, ap, subst, arith}
 use Rattle.std.specs.Prelude.{IsTrue}
-use Rattle.mix_base.specs.Events.{Event, skip, bind, nothing, finds, found, cost}
+use Rattle.mix_base.specs.Events.{nothing, finds, found, cost}
 use Rattle.mix_tree.specs.Comparisons.{passes}
 use Rattle.mix_tree.specs.Nodes.{Documents}
 use Rattle.plan_core.specs.Plans.{Operator, source, get_descendants, join, over, tuple_destroy}
-use Rattle.plan_core.specs.Unary.{Unary, select, order_by, project, group_by, concatenate, create_element}
+use Rattle.plan_core.specs.Unary.{select, order_by, project, group_by, concatenate, create_element}
 use Rattle.plan_core.specs.ByNumber.{op_at}
 use Rattle.plan_core.specs.Typed.{IsTyped}
 use Rattle.plan_core.specs.TolledRows.{TolledRow, row_node}
 use Rattle.plan_core.specs.Events.{RowEvents, events, concatenated_row, element_row}
 use Rattle.plan_core.proofs.Found.{found-only_none, found-only_yes, found-only_no, cost-only_le, cost-only_no, found-each_row_none, found-each_row_some, cost-each_row}
 use Rattle.lazy_plan.specs.declared.position.Position.{Position, Start, Top, Whole, Found', Pass', First', Pair', End, Both', Sorted'}
-use Rattle.lazy_plan.specs.World.{World, docs_of, is_told, is_forward, bound_of, IsBench}
-use Rattle.lazy_plan.specs.Cursors.{input_of, pass_row, pass_ahead, lets, below, binding, ahead, number, size, Shape, event_for_event, shape, IsOf, has_row}
-use Rattle.lazy_plan.specs.Keeping.{Keeps}
+use Rattle.lazy_plan.specs.World.{World, docs_of, is_told, bound_of, IsBench}
+use Rattle.lazy_plan.specs.Cursors.{input_of, pass_row, pass_ahead, lets, below, binding, ahead, number, size, event_for_event, shape, IsOf}
 use Rattle.lazy_plan.specs.Steps.{single, Asks, Finds, Moves}
 use Rattle.lazy_plan.proofs.Keep.{docs_kept}
 use Rattle.lazy_plan.proofs.Shapes.{events_pass, events_at, size_pass, size_at, single_pass, single_at, top_shape}

@@ -23,7 +23,8 @@ use Rattle.lazy_plan.specs.Cursors.{input_of, right_of, keys_of, start_var, bind
 use Rattle.lazy_plan.specs.Unders.{part_at, or_other, unary_source, op_source, source_var}
 use Rattle.lazy_plan.specs.Bench.{BenchState, ops_of, documents, IsMadeOf, HasUnder, AmongInputs, IsCursor, IsUnder, binding_at}
 use Rattle.lazy_plan.proofs.Shapes.{order_case}
-use Rattle.lazy_plan.proofs.Spots.{with_other, no_list, no_element, kinds_at, spot_is, lacks, input_within, right_within}
+use Rattle.lazy_plan.proofs.Bound.{with_other, no_list, no_element, kinds_at, input_within, right_within}
+use Rattle.lazy_plan.proofs.Spots.{spot_is, lacks}
 use Rattle.lazy_plan.proofs.Labels.{start_spot}
 use Rattle.lazy_plan.proofs.Holding.{holds}
 use Rattle.lazy_plan.proofs.Low.{number_low}

@@ -1,6 +1,6 @@
 -- What a cursor of an operator stands for.
-use Rattle.std.specs.Prelude.{◌≡◌, ◌<◌, ◌≤◌, ◌+◌, ◌*◌, ℕ, suc, Bool, true, false, IsTrue, cond, ◌==◌, Option, Some, None, List, [], ◌∷◌, ◌++◌, map, take, drop, length, MatchOption}
-use Rattle.mix_base.specs.Events.{Event, skip, bind}
+use Rattle.std.specs.Prelude.{◌≡◌, ◌<◌, ◌≤◌, ◌+◌, ◌*◌, ℕ, suc, Bool, true, false, IsTrue, cond, ◌==◌, Option, Some, None, List, [], ◌∷◌, ◌++◌, take, drop, length, MatchOption}
+use Rattle.mix_base.specs.Events.{bind}
 use Rattle.mix_tree.specs.Comparisons.{passes}
 use Rattle.mix_tree.specs.Keys.{has_var}
 use Rattle.mix_tree.specs.Nodes.{Documents, Node}
@@ -8,11 +8,11 @@ use Rattle.mix_tree.specs.declared.var.Key.{Key}
 use Rattle.path_auto.specs.Automaton.{Machine, Table, machine_of, table_of}
 use Rattle.tree_buffer.specs.declared.spot.Spot.{Spot}
 use Rattle.plan_core.specs.Plans.{Operator, source, get_descendants, join, over, tuple_destroy}
-use Rattle.plan_core.specs.Unary.{Unary, select, order_by, project, group_by, concatenate, create_element}
+use Rattle.plan_core.specs.Unary.{select, order_by, project, group_by, concatenate, create_element}
 use Rattle.plan_core.specs.ByNumber.{op_at, by_number}
 use Rattle.plan_core.specs.Tolled.{ends}
 use Rattle.plan_core.specs.TolledRows.{of_source, trees, TolledRow, row_node, collected}
-use Rattle.plan_core.specs.Events.{RowEvents, events, expand, each_row, only, with_node, nodes_found, descendants, passes_all, pairs, distinct, keys_seen, projected, group_row, concatenated_row, element_row, unary_events}
+use Rattle.plan_core.specs.Events.{RowEvents, events, expand, with_node, nodes_found, descendants, passes_all, pairs, distinct, keys_seen, projected, group_row, concatenated_row, element_row, unary_events}
 use Rattle.lazy_descend.specs.declared.cursor.DescCursor.{DescCursor}
 use Rattle.lazy_descend.specs.Cursors.{spot_of}
 use Rattle.lazy_plan.specs.declared.position.Position.{Position, Start, Top, Whole, Found', Pass', First', Pair', End, Both', Sorted'}

@@ -21,6 +21,7 @@ use lxp_core::Sources;
 use plan_core::Op;
 use std::alloc::Global;
 use std::rc::Rc;
+use tree_buffer::spots_are_one;
 
 /// The first binding behind a position, step by step.
 #[cycle(walk)]
@@ -194,6 +195,7 @@ fn step_firsts<S: Sources>(
         None => Ok(Step::Done),
         Some(below) => {
             let key = key_of(alloc, fixed, growing, op, input, &below)?;
+            spots_are_one();
             first_of_key(alloc, &mut growing.seen, op, key, below, count)
         }
     }
