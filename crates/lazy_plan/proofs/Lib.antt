@@ -1,4 +1,5 @@
 pub mod Benches
+pub mod Bound
 pub mod Buffers
 pub mod FirstLists
 pub mod FirstSteps

@@ -1,20 +1,20 @@
 -- A step of a join: the next binding of the right side beside that of the left, or the next of the left.
-use Rattle.std.proofs.Common.{◌≡◌, ◌<◌, ◌≤◌, ◌+◌, ◌*◌, ℕ, suc, Bool, true, false, List, [], ◌∷◌, ◌++◌, length, refl, ◌∙◌, sym, ap, subst, arith}
+use Rattle.std.proofs.Common.{◌≡◌, ◌<◌, ◌≤◌, ◌+◌, ◌*◌, ℕ, suc, Bool, true, false, List, [], ◌∷◌, ◌++◌, length, ◌∙◌, sym, ap, subst, arith}
 use Rattle.std.specs.Prelude.{IsTrue}
 use Rattle.std.proofs.lemmas.Nat.{mul-le}
-use Rattle.mix_base.specs.Events.{Event, skip, bind, nothing, finds, found, cost}
+use Rattle.mix_base.specs.Events.{nothing, finds, found, cost}
 use Rattle.mix_base.proofs.EventLaws.{found-append_none, found-append_some, found-append_both, cost-append_none, cost-append_le, cost-append_both}
 use Rattle.mix_tree.specs.Nodes.{Documents}
 use Rattle.plan_core.specs.Plans.{Operator, source, get_descendants, join, over, tuple_destroy}
-use Rattle.plan_core.specs.Unary.{Unary, select, order_by, project, group_by, concatenate, create_element}
+use Rattle.plan_core.specs.Unary.{select, order_by, project, group_by, concatenate, create_element}
 use Rattle.plan_core.specs.ByNumber.{op_at}
 use Rattle.plan_core.specs.Typed.{IsTyped}
 use Rattle.plan_core.specs.TolledRows.{TolledRow}
 use Rattle.plan_core.specs.Events.{RowEvents, events, pairs}
 use Rattle.plan_core.proofs.Found.{found-expand_none, found-expand_some, cost-expand_le, cost-expand_some, found-pairs_none, found-pairs_yes, found-pairs_no, cost-pairs_le, cost-pairs_no}
-use Rattle.lazy_plan.specs.declared.position.Position.{Position, Start, Top, Whole, Found', Pass', First', Pair', End, Both', Sorted'}
-use Rattle.lazy_plan.specs.World.{World, docs_of, is_told, is_forward, bound_of, IsBench}
-use Rattle.lazy_plan.specs.Cursors.{input_of, right_of, right_ahead, left_ahead, lets, binding, ahead, number, size, Shape, pairs_up, shape, IsOf, has_row}
+use Rattle.lazy_plan.specs.declared.position.Position.{Position, Start, Pair'}
+use Rattle.lazy_plan.specs.World.{World, docs_of, is_told, bound_of, IsBench}
+use Rattle.lazy_plan.specs.Cursors.{input_of, right_of, right_ahead, left_ahead, lets, binding, ahead, number, size, pairs_up, shape, IsOf, has_row}
 use Rattle.lazy_plan.specs.Keeping.{Keeps, Stays}
 use Rattle.lazy_plan.specs.Steps.{single, Asks, Finds, Moves}
 use Rattle.lazy_plan.proofs.Keep.{keeps_same, docs_kept}

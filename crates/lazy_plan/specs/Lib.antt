@@ -7,6 +7,7 @@ pub mod Keys
 pub mod Opening
 pub mod Orders
 pub mod Parts
+pub mod Reading
 pub mod Steps
 pub mod Unders
 pub mod World
