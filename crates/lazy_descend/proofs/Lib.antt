@@ -3,3 +3,4 @@ pub mod Events
 pub mod Next
 pub mod Progress
 pub mod Stay
+mod WorkedVisit
