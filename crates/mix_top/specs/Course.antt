@@ -144,7 +144,7 @@ abbrev pub Runs : FilesView → FilesView → List ℕ → List ℕ → List ℕ
 Runs old new view catalog script status lines =
     IsRunRefused old new view catalog script status lines
     ⊎ ((sources : List SourceSpec) × (v : RuleValue) × (steps : List Step) × (docs : Documents) × (t : LabelledTree)
-      × IsRun old view catalog script sources v steps docs t × (status ≡ 0) × (lines ≡ transcript t (names_of_sources sources) [] steps))
+      × IsRun old view catalog script sources v steps docs t × (status ≡ 0) × (lines ≡ transcript t [] [] steps))
 
 -- the lines that a command writes where nothing cuts it short, and its status then
 abbrev pub IsCourse : FilesView → FilesView → Command → ℕ → List ℕ → Type 0
