@@ -5,11 +5,16 @@ use std::test::Fail;
 
 const RUN: [&str; 4] = ["run", "v", "cat", "s"];
 
-const MED_HOME: &str = "CONSTRUCT <answer> <med_home> $H $S {$S} </med_home> {$H} </answer> {} WHERE homes homes.home $H AND $H zip._ $V1 AND schools schools.school $S AND $S zip._ $V2 AND $V1 = $V2";
+const MED_HOME: &str =
+    "CONSTRUCT <answer> <med_home> $H $S {$S} </med_home> {$H} </answer> {} WHERE homes homes.home $H AND $H zip._ $V1 AND schools schools.school $S AND $S zip._ $V2 AND $V1 = $V2";
+
 const TWO: &str = "source homes bracket h chunk 1\nsource schools bracket f chunk 1\n";
+
 const ONE: &str = "source s bracket f chunk 1\n";
+
 const HOMES: &str =
     "homes[home[addr[\"La Jolla\"],zip[91220]],home[addr[\"El Cajon\"],zip[91223]]]";
+
 const SCHOOLS: &str =
     "schools[school[dir[Smith],zip[91220]],school[dir[Bar],zip[91220]],school[dir[Hart],zip[91223]]]";
 
@@ -175,7 +180,10 @@ fn a_run_ends_with_its_cause(rt: HostRuntime) -> Result<(), Fail> {
     let alloc = rt.alloc();
     let ended = run_over(alloc, &RUN, &[("v", MED_HOME), ("s", "")], (&[], &[]))?;
     assert_eq!(rt; ended.status, 4);
-    assert_eq!(rt; ended.written.as_slice(), b"cat: cannot be read\n".as_slice());
+    assert_eq!(rt;
+        ended.written.as_slice(),
+        b"cat: cannot be read\n".as_slice()
+    );
     let files = [("v", MED_HOME), ("cat", TWO), ("s", ""), ("h", HOMES)];
     let ended = run_over(alloc, &RUN, &files, (&[], &[]))?;
     assert_eq!(rt; ended.status, 4);
@@ -183,5 +191,36 @@ fn a_run_ends_with_its_cause(rt: HostRuntime) -> Result<(), Fail> {
     let ended = outcome(alloc, &ROWS[0], &[3])?;
     assert_eq!(rt; ended.status, 5);
     assert_eq!(rt; ended.written.as_slice(), b"node\nnode\nno".as_slice());
+    Ok(())
+}
+
+// So many times a text.
+fn repeated(alloc: Global, text: &str, times: usize) -> Result<String, AllocError> {
+    let mut all = String::new(alloc);
+    for _ in 0..times {
+        all.push_str(text)?;
+    }
+    Ok(all)
+}
+
+#[test]
+fn a_run_goes_down_to_the_last_level(rt: HostRuntime) -> Result<(), Fail> {
+    let alloc = rt.alloc();
+    let open = repeated(alloc, "a[", 199)?;
+    let close = repeated(alloc, "]", 199)?;
+    let document = format!(in alloc; "{open}z{close}")?;
+    let steps = repeated(alloc, "x = down x\n", 199)?;
+    let script = format!(in alloc; "r = root\nx = down r\n{steps}fetch x\ny = down x\n")?;
+    let files = [
+        ("v", "CONSTRUCT <r> $X </r> WHERE s a $X"),
+        ("cat", ONE),
+        ("s", script.as_str()),
+        ("f", document.as_str()),
+    ];
+    let ended = run_over(alloc, &RUN, &files, (&[], &[]))?;
+    assert_eq!(rt; ended.status, 0);
+    let nodes = repeated(alloc, "node\n", 201)?;
+    let lines = format!(in alloc; "{nodes}label z\nnone\n")?;
+    assert_eq!(rt; ended.written.as_slice(), lines.as_bytes());
     Ok(())
 }
