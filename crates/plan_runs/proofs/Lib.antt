@@ -1,0 +1,2 @@
+pub mod KindsHeld
+pub mod Runs
