@@ -221,6 +221,7 @@ extend-exact docs lists are ds c bs u f h = λ b. (
     last_vars : (a : Binding) (v : ℕ) (m : Node) (us : List ℕ) → vars_of a ≡ us → vars_of a ++ vars_of ((v, m) ∷ []) ≡ us ++ v ∷ []
     last_vars a v m us e = ap (λ (zs : List ℕ). zs ++ v ∷ []) e
 
+-- what a condition speaks of among these, it speaks of among more
 pub uses-more : (vs ws : List ℕ) (c : Binder) → Uses vs c → Uses (vs ++ ws) c
 unfolding Uses
 uses-more vs ws (from_source source path var) h = has-append vs ws var ∙ rw h refl
@@ -236,6 +237,7 @@ unfolding Uses Follows
 follows-uses vs (from_source source path var) h = has_last vs var
 follows-uses vs (from_var start path var) h = (has-append vs (var ∷ []) start ∙ rw h.0 refl, has_last vs var)
 
+-- conditions and one that may follow them speak of their own variables
 pub uses-next : (ds : List Binder) (c : Binder) → AllByRecursion (Uses (binder_vars ds)) ds → Follows (binder_vars ds) c → AllByRecursion (Uses (binder_vars (ds ++ c ∷ []))) (ds ++ c ∷ [])
 uses-next ds c u f =
     rw (binder_vars-append ds (c ∷ []))
