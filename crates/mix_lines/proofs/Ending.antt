@@ -12,7 +12,7 @@ use Rattle.mix_script.specs.declared.step.Step.{Step}
 use Rattle.mix_script.specs.declared.answer.Answer.{Answer}
 use Rattle.mix_lines.specs.declared.fault.LinesFault.{LinesFault}
 use Rattle.mix_lines.specs.declared.fault.LinesFault.TheVariants.{SinkFailed, OutOfMemory}
-use Rattle.mix_lines.specs.Cuts.{WroteLine, WroteFront, IsStepCut}
+use Rattle.mix_lines.specs.Cuts.{WroteFront, IsStepCut}
 use Rattle.mix_lines.specs.Lines.{IsRun, IsWhole, EndsWithin, Ends}
 use Rattle.mix_lines.specs.Written.{AreWritten, IsSoFar}
 use Rattle.mix_lines.proofs.Stepping.{line_more}
