@@ -17,20 +17,6 @@ use Rattle.mix_lines.specs.Lines.{IsRun, IsWhole, EndsWithin, Ends}
 use Rattle.mix_lines.specs.Written.{AreWritten, IsSoFar}
 use Rattle.mix_lines.proofs.Stepping.{line_more}
 
--- a line of the answer is one of an answer that has this property
-pub wrote_as : (a : Answer) (IsAnswer : Answer → Type 0) (names : List (List ℕ)) (client : List ℕ) (before after : SinkView) (marked : Bool) → IsAnswer a → WroteLine (λ x. x ≡ a) names client before after marked → WroteLine IsAnswer names client before after marked
-wrote_as a IsAnswer names client before after marked is w = record { a = w.a; answer = subst IsAnswer (sym w.answer) is; marks = w.marks; written = w.written }
-
--- so is a front of it
-front_as : (a : Answer) (IsAnswer : Answer → Type 0) (names : List (List ℕ)) (client : List ℕ) (before after : SinkView) → IsAnswer a → WroteFront (λ x. x ≡ a) names client before after → WroteFront IsAnswer names client before after
-front_as a IsAnswer names client before after is w = record { a = w.a; answer = subst IsAnswer (sym w.answer) is; written = w.written }
-
--- a step that was cut in the answer's line was cut in one of an answer that has this property
-pub cut_as : (a : Answer) (IsAnswer : Answer → Type 0) (names : List (List ℕ)) (client : List ℕ) (before after : SinkView) (fault : LinesFault) → IsAnswer a → IsStepCut (λ x. x ≡ a) names client before after fault → IsStepCut IsAnswer names client before after fault
-cut_as a IsAnswer names client before after SinkFailed is h = (h.0, front_as a IsAnswer names client before after is h.1)
-cut_as a IsAnswer names client before after OutOfMemory is (inl e) = inl e
-cut_as a IsAnswer names client before after OutOfMemory is (inr w) = inr (front_as a IsAnswer names client before after is w)
-
 -- the answers so far are those of a run
 pub so_far_run : {V : Type 0} (roots : Bool) (MayFail : ℕ → Type 0) (Is : V → Unit {0} → Type 0) (At : V → List ℕ → Type 0) (IsDocument : LabelledTree → Type 0) (faults now last : ℕ → ℕ) (values : NamesOf V) (steps later : List Step) (answers : List Answer)
     → IsSoFar roots MayFail Is At IsDocument faults now values steps later answers → ((s : ℕ) → now s ≤ last s) → IsRun roots MayFail IsDocument faults last steps answers

@@ -15,7 +15,7 @@ use Rattle.lazy_plan.specs.declared.fault.WalkFault.TheVariants as walk
 use Rattle.lazy_value.specs.declared.ids.NodeId.{NodeId}
 use Rattle.lazy_value.specs.Places.{IsAt, GivesNode, GivesPlace, IsLabelAt}
 use Rattle.lazy_value.specs.Mediators.{NodesStay}
-use Rattle.mix_script.specs.Names.{NamesOf, with_name}
+use Rattle.mix_script.specs.Names.{NamesOf, no_names, with_name}
 use Rattle.mix_script.specs.Transcript.{Names, move_answer, label_answer, if_held, answer_of}
 use Rattle.mix_script.specs.Allowed.{Nodes, nodes_after, MayFind, MayRead, WhereHeld, faults_of}
 use Rattle.mix_script.specs.Holding.{Both, IsFound, names_found}
@@ -25,7 +25,7 @@ use Rattle.mix_script.specs.declared.answer.Answer.{Answer}
 use Rattle.mix_script.specs.declared.answer.Answer.TheVariants as answer
 use Rattle.mix_script.proofs.Answering.{counted_answer}
 use Rattle.mix_script.proofs.Found.{IsFaultOf, IsMoved, nodes_found, places_found}
-use Rattle.mix_script.proofs.Holding.{some_other, none_other, hold_with, hold_weaker}
+use Rattle.mix_script.proofs.Holding.{hold_none, some_other, none_other, hold_with, hold_weaker}
 use Rattle.mix_session.specs.Held.{IsHeldNode, HoldNodes, HoldPlaces, AreNodes}
 use Rattle.mix_session.specs.Stepped.{IsRefusal, IsDocument, IsStep, held_toll}
 
@@ -188,3 +188,7 @@ step_nodes old new ids ids' client act (Err e) stay nodes is still = (nodes.0, s
 -- where nothing was asked all is as it was
 pub stay_same : (st : BenchState) → NodesStay st st
 stay_same st = record { node = λ n h. h; place = λ n p h. h; left = λ n h. omega arith }
+
+-- names that hold nothing hold no wrong node
+pub no_nodes : (st : BenchState) (ids : NamesOf NodeId) → ids ≡ no_names → AreNodes st ids
+no_nodes st ids none = (no_names, subst (λ s. HoldNodes st s no_names) (sym none) (hold_none (IsHeldNode st)))

@@ -15,6 +15,8 @@ pub struct Session {
 
 impl Session {
     ghost use Rattle.std.specs.Prelude.{◌≡◌, IfOk, OnErr};
+    ghost use Rattle.lxp_core.specs.View.{View};
+    ghost use Rattle.lazy_value.specs.Mediators.{IsMediatorOf};
     ghost use Rattle.mix_script.specs.Names.{no_names};
     ghost use Rattle.mix_session.specs.Sessions.{mediator_of, ids_of, state_of, IsSessionOf, SessionRan};
     ghost use Rattle.mix_session.specs.Stepped.{IsStep, IsTolled};
@@ -23,6 +25,7 @@ impl Session {
     pub fn open(alloc: Global, m: Mediator) -> Session
         ensures mediator { mediator_of result ≡ m }
         ensures names { ids_of result ≡ no_names }
+        ensures session { (v : View) → IsMediatorOf v m → IsSessionOf v result }
     {
         Session {
             mediator: m,
