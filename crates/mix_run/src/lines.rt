@@ -1,5 +1,5 @@
 // The steps of a script, answered a line each.
-ghost use Rattle.std.specs.Prelude.{◌≡◌, ◌≤◌, length, IfOk, IfErr};
+ghost use Rattle.std.specs.Prelude.{◌≡◌, ◌≤◌, false, length, IfOk, IfErr};
 ghost use Rattle.mix_tree.specs.Forest.{LabelledTree};
 ghost use Rattle.mix_io.specs.Views.{SinkView};
 ghost use Rattle.lxp_core.specs.View.{View};
@@ -9,7 +9,6 @@ ghost use Rattle.mix_lines.specs.Told.{EndsOn};
 ghost use Rattle.mix_session.specs.Sessions.{ids_of, state_of, IsSessionOf, SessionRan};
 ghost use Rattle.mix_session.specs.Stepped.{IsDocument, IsStep, IsTolled};
 ghost use Rattle.mix_run.specs.Lines.{Ends};
-ghost use Rattle.std.specs.Prelude.{false};
 
 use lazy_plan::benches_keep_on;
 use lazy_value::Mediator;
@@ -48,7 +47,7 @@ fn write_step<S: Sources, K: Sink>(
 
 /// Answers steps on the document of a mediator's plan, each by a line in one write; `names` has the sources' names by their
 /// numbers. True: a fault line was written. The sources are asked piece by piece, as the steps need it (docs/MEANING.md,
-/// "Runs over a plan").
+/// "Lines of runs and walks").
 ///
 /// `SinkFailed`: the sink failed. After either error whole lines were written and at most a front of the next.
 pub fn run_lines<S: Sources, K: Sink>(

@@ -16,7 +16,7 @@ use Rattle.lazy_value.specs.declared.ids.NodeId.{NodeId}
 use Rattle.lazy_value.specs.Places.{IsAt, GivesNode, GivesPlace, IsLabelAt}
 use Rattle.lazy_value.specs.Mediators.{NodesStay}
 use Rattle.mix_script.specs.Names.{NamesOf, no_names, with_name}
-use Rattle.mix_script.specs.Transcript.{Names, move_answer, label_answer, if_held, answer_of}
+use Rattle.mix_script.specs.Transcript.{Names, move_answer, label_answer, if_held, answer_of, with_named}
 use Rattle.mix_script.specs.Allowed.{Nodes, nodes_after, MayFind, MayRead, WhereHeld, faults_of}
 use Rattle.mix_script.specs.Holding.{Both, IsFound, names_found}
 use Rattle.mix_script.specs.declared.step.Act.{Act}
@@ -27,7 +27,7 @@ use Rattle.mix_script.proofs.Answering.{counted_answer}
 use Rattle.mix_script.proofs.Found.{IsFaultOf, IsMoved, nodes_found, places_found}
 use Rattle.mix_script.proofs.Holding.{hold_none, some_other, none_other, hold_with, hold_weaker}
 use Rattle.mix_session.specs.Held.{IsHeldNode, HoldNodes, HoldPlaces, AreNodes}
-use Rattle.mix_session.specs.Stepped.{IsRefusal, IsDocument, IsStep, held_toll}
+use Rattle.mix_session.specs.Stepped.{IsRefusal, IsDocument, IsStep, NamesGiven, held_toll}
 
 -- names hold nodes still
 pub nodes_stay : (old new : BenchState) (ids : NamesOf NodeId) (nodes : Nodes) → NodesStay old new → HoldNodes old ids nodes → HoldNodes new ids nodes
@@ -192,3 +192,11 @@ stay_same st = record { node = λ n h. h; place = λ n p h. h; left = λ n h. om
 -- names that hold nothing hold no wrong node
 pub no_nodes : (st : BenchState) (ids : NamesOf NodeId) → ids ≡ no_names → AreNodes st ids
 no_nodes st ids none = (no_names, subst (λ s. HoldNodes st s no_names) (sym none) (hold_none (IsHeldNode st)))
+
+-- the names after what was found
+pub names_given : (ids ids' : NamesOf NodeId) (client name : List ℕ) (act : Act) (found : Result (Option NodeId) WalkFault) (a : Answer) → ((value : Option NodeId) → with_named ids client act value ≡ with_name ids client name value)
+    → IsFound IsRefusal found a → ids' ≡ names_found ids client name found → NamesGiven ids ids' client act a
+names_given ids ids' client name act (Ok None) a same is after = subst (NamesGiven ids ids' client act) (sym is) (after ∙ sym (same None))
+names_given ids ids' client name act (Ok (Some n)) a same is after = subst (NamesGiven ids ids' client act) (sym is) (n, after ∙ sym (same (Some n)))
+names_given ids ids' client name act (Err (walk.Failed s)) a same is after = subst (NamesGiven ids ids' client act) (sym is) after
+names_given ids ids' client name act (Err walk.OutOfMemory) a same is after = absurd is

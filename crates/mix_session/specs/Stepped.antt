@@ -10,7 +10,7 @@ use Rattle.lazy_plan.specs.declared.fault.WalkFault.TheVariants as walk
 use Rattle.lazy_value.specs.declared.ids.NodeId.{NodeId}
 use Rattle.lazy_value.specs.Places.{IsAt, plan_document, down_toll, right_toll}
 use Rattle.mix_script.specs.Names.{NamesOf}
-use Rattle.mix_script.specs.Transcript.{Names}
+use Rattle.mix_script.specs.Transcript.{Names, with_named}
 use Rattle.mix_script.specs.Stepped as script
 use Rattle.mix_script.specs.declared.step.Act.{Act}
 use Rattle.mix_script.specs.declared.step.Act.TheVariants.{Root, Down, Right, Fetch}
@@ -33,6 +33,15 @@ IsDocument st t = IsTrue (told st) × (plan_document st ≡ Some t)
 abbrev pub IsStep : BenchState → BenchState → NamesOf NodeId → NamesOf NodeId → List ℕ → Act → Answer → Type 0
 IsStep old new ids ids' client act a =
     script.IsAnswered false (IsRead (ops_of old)) (IsHeldNode old) (IsHeldNode new) (IsAt old) (IsAt new) (IsDocument old) old.world.view.faults new.world.view.faults ids ids' client act a
+
+-- what names hold after an answer: the act's name holds a node that was found, or nothing where there is none; after every
+-- other answer all hold what they held
+abbrev pub NamesGiven : NamesOf NodeId → NamesOf NodeId → List ℕ → Act → Answer → Type 0
+NamesGiven ids ids' client act answer.Node = (n : NodeId) × (ids' ≡ with_named ids client act (Some n))
+NamesGiven ids ids' client act answer.None = ids' ≡ with_named ids client act None
+NamesGiven ids ids' client act (answer.Label l) = ids' ≡ ids
+NamesGiven ids ids' client act answer.NoNode = ids' ≡ ids
+NamesGiven ids ids' client act (answer.Fault s) = ids' ≡ ids
 
 -- the toll of a move from what a name holds, and none where it holds nothing
 abbrev pub held_toll : (List ℕ → ℕ) → Option (List ℕ) → ℕ

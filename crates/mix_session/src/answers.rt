@@ -6,7 +6,7 @@ ghost use Rattle.mix_script.specs.Names.{held};
 ghost use Rattle.mix_script.specs.Holding.{IsFound, names_found};
 ghost use Rattle.mix_script.specs.declared.step.Act.TheVariants.{Root, Down, Right, Fetch};
 ghost use Rattle.mix_session.specs.Held.{AreNodes};
-ghost use Rattle.mix_session.specs.Stepped.{IsRefusal, IsStep, IsTolled};
+ghost use Rattle.mix_session.specs.Stepped.{IsRefusal, IsStep, NamesGiven, IsTolled};
 
 use lazy_plan::{WalkFault, benches_keep_on};
 use lazy_value::{Mediator, NodeId};
@@ -52,6 +52,7 @@ pub fn answer_root(
     requires { (v : View) × IsMediatorOf v mediator.now }
     ensures answer { IfOk result (λ a. (v : View) → IsMediatorOf v mediator.now
         → IsStep (state_of v mediator.now) (state_of v mediator.now) (held names.old) (held names.new) client.now (Root name.now) a) }
+    ensures names { IfOk result (NamesGiven (held names.old) (held names.new) client.now (Root name.now)) }
     ensures still { OnErr result (held names.new ≡ held names.old) }
 {
     let root = mediator.root();
@@ -73,6 +74,7 @@ pub fn answer_down<S: Sources>(
     requires nodes { AreNodes (state_of (S.view s.old) mediator.old) (held names.old) }
     ensures walked { MediatorWalked S.view S.came_from s.old mediator.old s.new mediator.new }
     ensures answer { IfOk result (IsStep (state_of (S.view s.old) mediator.old) (state_of (S.view s.new) mediator.new) (held names.old) (held names.new) client.now (Down name.now from.now)) }
+    ensures names { IfOk result (NamesGiven (held names.old) (held names.new) client.now (Down name.now from.now)) }
     ensures still { OnErr result (held names.new ≡ held names.old) }
     ensures toll { IsTolled (state_of (S.view s.old) mediator.old) (state_of (S.view s.new) mediator.new) (held names.old) client.now (Down name.now from.now) }
 {
@@ -98,6 +100,7 @@ pub fn answer_right<S: Sources>(
     requires nodes { AreNodes (state_of (S.view s.old) mediator.old) (held names.old) }
     ensures walked { MediatorWalked S.view S.came_from s.old mediator.old s.new mediator.new }
     ensures answer { IfOk result (IsStep (state_of (S.view s.old) mediator.old) (state_of (S.view s.new) mediator.new) (held names.old) (held names.new) client.now (Right name.now from.now)) }
+    ensures names { IfOk result (NamesGiven (held names.old) (held names.new) client.now (Right name.now from.now)) }
     ensures still { OnErr result (held names.new ≡ held names.old) }
     ensures toll { IsTolled (state_of (S.view s.old) mediator.old) (state_of (S.view s.new) mediator.new) (held names.old) client.now (Right name.now from.now) }
 {
@@ -118,8 +121,9 @@ pub fn answer_fetch(
     from: &Label,
 ) -> Result<Answer, AllocError>
     requires { (v : View) × IsMediatorOf v mediator.now × AreNodes (state_of v mediator.now) (held names.now) }
-    ensures { IfOk result (λ a. (v : View) → IsMediatorOf v mediator.now
+    ensures answer { IfOk result (λ a. (v : View) → IsMediatorOf v mediator.now
         → IsStep (state_of v mediator.now) (state_of v mediator.now) (held names.now) (held names.now) client.now (Fetch from.now) a) }
+    ensures names { IfOk result (NamesGiven (held names.now) (held names.now) client.now (Fetch from.now)) }
 {
     let Some(node) = names.get(client, from) else {
         return Ok(Answer::NoNode);

@@ -19,7 +19,7 @@ impl Session {
     ghost use Rattle.lazy_value.specs.Mediators.{IsMediatorOf};
     ghost use Rattle.mix_script.specs.Names.{no_names};
     ghost use Rattle.mix_session.specs.Sessions.{mediator_of, ids_of, state_of, IsSessionOf, SessionRan};
-    ghost use Rattle.mix_session.specs.Stepped.{IsStep, IsTolled};
+    ghost use Rattle.mix_session.specs.Stepped.{IsStep, NamesGiven, IsTolled};
 
     /// A session over the document of a mediator, in which no name holds anything. No fill is asked.
     pub fn open(alloc: Global, m: Mediator) -> Session
@@ -45,6 +45,7 @@ impl Session {
         requires { IsSessionOf (S.view s.old) self.old }
         ensures ran { SessionRan S.view S.came_from s.old self.old s.new self.new }
         ensures answer { IfOk result (IsStep (state_of (S.view s.old) self.old) (state_of (S.view s.new) self.new) (ids_of self.old) (ids_of self.new) step.now.client step.now.act) }
+        ensures names { IfOk result (NamesGiven (ids_of self.old) (ids_of self.new) step.now.client step.now.act) }
         ensures still { OnErr result (ids_of self.new ≡ ids_of self.old) }
         ensures toll { IsTolled (state_of (S.view s.old) self.old) (state_of (S.view s.new) self.new) (ids_of self.old) step.now.client step.now.act }
     {

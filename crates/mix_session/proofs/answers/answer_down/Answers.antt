@@ -5,8 +5,8 @@ use Rattle.mix_script.specs.Names.{held}
 use Rattle.mix_script.specs.Holding.{IsFound, names_found}
 use Rattle.mix_script.specs.declared.step.Act.TheVariants.{Down}
 use Rattle.mix_script.proofs.Found.{if_ok_both}
-use Rattle.mix_session.specs.Stepped.{IsRefusal, IsStep}
-use Rattle.mix_session.proofs.Moving.{down_step}
+use Rattle.mix_session.specs.Stepped.{IsRefusal, IsStep, NamesGiven}
+use Rattle.mix_session.proofs.Moving.{down_step, names_given}
 use Rattle.mix_session.proofs.answers.answer_down.Goals as goal
 
 pub returns-clause-answer : goal.returns-clause-answer
@@ -26,3 +26,13 @@ returns-clause-answer g c =
     (λ a is e. down_step (view c.args.s.now) (view c.down-found.new.s) old new refl refl walked.nodes keeps.faults before after client name found a is e c.down-found.ensures.cause c.down-found.ensures.node
     c.args.from.now c.in-Some.node.now here (λ p at. c.down-found.ensures.place p at))
     c.take_found.ensures.answer c.take_found.ensures.names
+
+pub returns-clause-names : goal.returns-clause-names
+returns-clause-names g c =
+    let before = held c.args.names.now in
+    let after = held c.take_found.new.names in
+    let client = c.args.client.now in
+    let name = c.args.name.now in
+    let found = c.down-found.result in
+    if_ok_both c.take_found.result (IsFound IsRefusal found) (λ _. after ≡ names_found before client name found) (NamesGiven before after client (Down c.args.name.now c.args.from.now))
+    (λ a is e. names_given before after client name (Down c.args.name.now c.args.from.now) found a (λ value. refl) is e) c.take_found.ensures.answer c.take_found.ensures.names
