@@ -11,6 +11,7 @@ ghost use Rattle.mix_top.specs.Texts.{read_help, plan_help, help_help, version_h
 use crate::command::{Command, read_words};
 use crate::reading::{plan, read};
 use crate::refusal::{Refusal, Stop};
+use crate::running::run as run_view;
 use crate::walk::walk;
 use mix_io::{Files, Sink, SinkFault};
 use std::alloc::Global;
@@ -97,7 +98,11 @@ fn run<F: Files, K: Sink>(
         Command::Walk { file, script } => walk(alloc, file, script, files, out),
         Command::Read { view, catalog } => read(alloc, view, catalog, files, out),
         Command::Plan { view, catalog } => plan(alloc, view, catalog, files, out),
-        Command::Run { .. } => Err(Stop::OutOfMemory),
+        Command::Run {
+            view,
+            catalog,
+            script,
+        } => run_view(alloc, view, catalog, script, files, out),
         Command::Unknown => Err(unknown_words(alloc)),
     }
 }
