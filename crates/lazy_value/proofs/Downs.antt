@@ -71,8 +71,8 @@ root_walked {view = view} after s t u b d e input v op c at x h ran none first z
   bench = w.bench;
   kept = keeps_on.twice (state_of (view s) b) (state_of (view t) d) (state_of (view u) e) ran.kept w.kept;
   asks = λ y f. (
-    let q = ap toll (root_trees (state_of (view s) b) (state_of (view t) d) input v op c at h _ (first.found y) (subst (IsOriginOf (state_of (view t) d) input c v) z o)) in
-    let i = w.asks (still_told ran.kept y) (still_forward ran.kept f) in
-    let n = none h.single in
-    omega (arith, q, i, n));
+      let q = ap toll (root_trees (state_of (view s) b) (state_of (view t) d) input v op c at h _ (first.found y) (subst (IsOriginOf (state_of (view t) d) input c v) z o)) in
+      let i = w.asks (still_told ran.kept y) (still_forward ran.kept f) in
+      let n = none h.single in
+      omega (arith, q, i, n));
 }

@@ -26,21 +26,21 @@ module _ (st : BenchState) (behind : Rest) (h : IsRest st behind) where
   enter_joined op at q s =
       on_same st _ _ (Pieces' op at 0 q behind) (s, omega arith, h) (omega arith)
       (all_followed (documents st) (pieces_of (op_at (ops_of st) op)) (binding_at st (input_at (ops_of st) op) at) (ends 0) (rest_trees st behind)
-       ∙ ap (all_items (documents st) (pieces_of (op_at (ops_of st) op)) (binding_at st (input_at (ops_of st) op) at)) nothing_before)
+      ∙ ap (all_items (documents st) (pieces_of (op_at (ops_of st) op)) (binding_at st (input_at (ops_of st) op) at)) nothing_before)
 
   enter_all : (op : ℕ) (q : _) → GathersAll st op
       → GoesOn st st (value_trees (documents st) (value_of st (All op)) (rest_trees st behind)) (suc (origin_size st (All op) + weight st behind)) (Members' op None q behind)
   enter_all op q s =
       on_same st _ _ (Members' op None q behind) (s, tt, h) (omega arith)
       (collected_followed (documents st) (piece_of (ops_of st) op) (events_of st (input_at (ops_of st) op)) (ends 0) (rest_trees st behind)
-       ∙ ap (collected (documents st) (piece_of (ops_of st) op) (events_of st (input_at (ops_of st) op))) nothing_before)
+      ∙ ap (collected (documents st) (piece_of (ops_of st) op) (events_of st (input_at (ops_of st) op))) nothing_before)
 
   group_before : (op : ℕ) (c : Position)
       → value_trees (documents st) (value_of st (Same op c)) (rest_trees st behind) ≡ member_trees st op c (group_trees st op c c (rest_trees st behind))
   group_before op c =
       piece_followed (documents st) (piece_of (ops_of st) op) (binding_at st (input_at (ops_of st) op) c) (group_trees st op c c (ends 0)) (rest_trees st behind)
       ∙ ap (member_trees st op c) (collected_followed (documents st) (piece_of (ops_of st) op) (group_ahead st op c c) (ends 0) (rest_trees st behind)
-        ∙ ap (group_trees st op c c) nothing_before)
+      ∙ ap (group_trees st op c c) nothing_before)
 
 module _ (st : BenchState) (origin : Origin) (behind x : Rest) (o : IsOrigin st origin) (h : IsRest st behind) where
   -- a concatenation, and what is behind it
@@ -50,7 +50,7 @@ module _ (st : BenchState) (origin : Origin) (behind x : Rest) (o : IsOrigin st 
       let z : x ≡ Pieces' op at 0 q behind = f ∙ ap (λ (r : Rest). Pieces' op there 0 q r) g ∙ ap (λ (c : Position). Pieces' op c 0 q behind) i in
       subst (λ (r : Rest). GoesOn st st (value_trees (documents st) (value_of st origin) (rest_trees st behind)) (suc (origin_size st origin + weight st behind)) r) (sym z)
       (subst (λ (w : Origin). GoesOn st st (value_trees (documents st) (value_of st w) (rest_trees st behind)) (suc (origin_size st w + weight st behind)) (Pieces' op at 0 q behind)) (sym e)
-       (enter_joined st behind h op at q (subst (λ (w : Origin). IsOrigin st w) e o)))
+      (enter_joined st behind h op at q (subst (λ (w : Origin). IsOrigin st w) e o)))
 
   -- a list of all bindings, and what is behind it
   pub all_goes : (op : ℕ) (q : _) (up : Rest) → origin ≡ All op → x ≡ Members' op None q up → up ≡ behind
@@ -59,7 +59,7 @@ module _ (st : BenchState) (origin : Origin) (behind x : Rest) (o : IsOrigin st 
       let z : x ≡ Members' op None q behind = f ∙ ap (λ (r : Rest). Members' op None q r) g in
       subst (λ (r : Rest). GoesOn st st (value_trees (documents st) (value_of st origin) (rest_trees st behind)) (suc (origin_size st origin + weight st behind)) r) (sym z)
       (subst (λ (w : Origin). GoesOn st st (value_trees (documents st) (value_of st w) (rest_trees st behind)) (suc (origin_size st w + weight st behind)) (Members' op None q behind)) (sym e)
-       (enter_all st behind h op q (subst (λ (w : Origin). IsOrigin st w) e o)))
+      (enter_all st behind h op q (subst (λ (w : Origin). IsOrigin st w) e o)))
 
   -- a group, and what is behind it
   pub group_stands : (op : ℕ) (c : Position) (n : Site) → origin ≡ Same op c

@@ -33,9 +33,9 @@ module _ (a c : BenchState) (k : KeepsBench a c) (op : ℕ) (up : Rest) (h : IsR
   gathers_some es row later e =
       collected_finds (documents a) (piece_of (ops_of a) op) es (rest_trees a up) row later e
       ∙ ap (dearer (cost es)) (
-        ap (λ (f : Tolled). piece_items (documents a) (piece_of (ops_of a) op) row (collected (documents a) (piece_of (ops_of a) op) later f)) (sym (rest_trees-kept a c k up h))
-        ∙ ap (λ (d : Documents). piece_items d (piece_of (ops_of a) op) row (collected d (piece_of (ops_of a) op) later (rest_trees c up))) (sym k.documents)
-        ∙ ap (λ (ops : List Operator). piece_items (documents c) (piece_of ops op) row (collected (documents c) (piece_of ops op) later (rest_trees c up))) (sym (ops_kept a c k)))
+      ap (λ (f : Tolled). piece_items (documents a) (piece_of (ops_of a) op) row (collected (documents a) (piece_of (ops_of a) op) later f)) (sym (rest_trees-kept a c k up h))
+      ∙ ap (λ (d : Documents). piece_items d (piece_of (ops_of a) op) row (collected d (piece_of (ops_of a) op) later (rest_trees c up))) (sym k.documents)
+      ∙ ap (λ (ops : List Operator). piece_items (documents c) (piece_of ops op) row (collected (documents c) (piece_of ops op) later (rest_trees c up))) (sym (ops_kept a c k)))
 
   -- a list that is at its end
   gathers_over : (es : RowEvents) → AsksAtMost a c (cost es) → (IsTrue (told a) → found es ≡ nothing) → (x : Rest) → x ≡ up
@@ -54,7 +54,7 @@ module _ {S : Type 0} {view : S → View} {came_from : S → S → Type 0} (s t 
   members_walked =
       walked_less (cost (ahead_from (state_of (view s) b) input at)) (toll (members_trees (state_of (view s) b) op at (rest_trees (state_of (view s) b) up))) walked
       (subst (λ (n : ℕ). cost (ahead_from (state_of (view s) b) n at) ≤ toll (members_trees (state_of (view s) b) op at (rest_trees (state_of (view s) b) up))) (sym i)
-       (toll_collected (documents (state_of (view s) b)) (piece_of (ops_of (state_of (view s) b)) op) (ahead_from (state_of (view s) b) (input_at (ops_of (state_of (view s) b)) op) at) (rest_trees (state_of (view s) b) up)))
+      (toll_collected (documents (state_of (view s) b)) (piece_of (ops_of (state_of (view s) b)) op) (ahead_from (state_of (view s) b) (input_at (ops_of (state_of (view s) b)) op) at) (rest_trees (state_of (view s) b) up)))
 
   asked : AsksAtMost (state_of (view s) b) (state_of (view t) d) (cost (ahead_from (state_of (view s) b) (input_at (ops_of (state_of (view s) b)) op) at))
   asked = subst (λ (n : ℕ). AsksAtMost (state_of (view s) b) (state_of (view t) d) (cost (ahead_from (state_of (view s) b) n at))) i walked.asks

@@ -82,7 +82,7 @@ module _ (a b c : BenchState) (whole : RowEvents) (op : ℕ) (first at : Positio
       falls = (let z = falls_same in omega (arith, z, low));
       found = λ y. g.found y
           ∙ found-only_yes (passes b op first) (ahead_at b (input_at (ops_of b) op) at) _ _ (finds_it y)
-            (sym (passes_kept b c k op first h (binding_at c (input_at (ops_of c) op) d)) ∙ t (still_told goes_kept y))
+          (sym (passes_kept b c k op first h (binding_at c (input_at (ops_of c) op) d)) ∙ t (still_told goes_kept y))
           ∙ ap (finds (binding_at c (input_at (ops_of c) op) d)) (only_kept b c k op first h (ahead_at c (input_at (ops_of c) op) d));
     }
 
@@ -92,11 +92,11 @@ module _ (a b c : BenchState) (whole : RowEvents) (op : ℕ) (first at : Positio
       kept = goes_kept;
       found = λ y. g.found y
           ∙ found-only_no (passes b op first) (ahead_at b (input_at (ops_of b) op) at) _ _ (finds_it y)
-            (sym (passes_kept b c k op first h (binding_at c (input_at (ops_of c) op) d)) ∙ t (still_told goes_kept y))
+          (sym (passes_kept b c k op first h (binding_at c (input_at (ops_of c) op) d)) ∙ t (still_told goes_kept y))
           ∙ ap found (only_kept b c k op first h (ahead_at c (input_at (ops_of c) op) d));
       asks = λ y w. (let i = e (still_told g.kept y) (still_forward g.kept w) in let j = g.asks y w in
           let l = cost-only_no (passes b op first) (ahead_at b (input_at (ops_of b) op) at) _ _ (finds_it y)
-            (sym (passes_kept b c k op first h (binding_at c (input_at (ops_of c) op) d)) ∙ t (still_told goes_kept y)) in
+          (sym (passes_kept b c k op first h (binding_at c (input_at (ops_of c) op) d)) ∙ t (still_told goes_kept y)) in
           let m = ap cost (only_kept b c k op first h (ahead_at c (input_at (ops_of c) op) d)) in
           omega (arith, i, j, l, m));
     }

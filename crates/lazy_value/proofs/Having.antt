@@ -49,9 +49,14 @@ module _ (docs : Documents) (sg : ℕ → Bool) (of : ℕ → RowEvents) where
   op_one (join l r []) e h =
       let both = and_parts (sg l) (sg r) e in
       let a = h.0 both.0 in
-      let b = h.1.0 both.1 in
-      (_, (_, found-expand_some (pairs docs [] (of r)) (of l) a.0 a.1.0 a.1.1
-        ∙ found_front (pairs docs [] (of r) a.0) (expand (pairs docs [] (of r)) a.1.0) _ _ (found-pairs_yes docs [] (of r) a.0 b.0 b.1.0 b.1.1 refl)))
+      let b = h.1.0 both.1 in (
+        _,
+        (
+          _,
+          found-expand_some (pairs docs [] (of r)) (of l) a.0 a.1.0 a.1.1
+              ∙ found_front (pairs docs [] (of r) a.0) (expand (pairs docs [] (of r)) a.1.0) _ _ (found-pairs_yes docs [] (of r) a.0 b.0 b.1.0 b.1.1 refl),
+        ),
+      )
   op_one (join l r (t ∷ tests)) e h = cc
   op_one (over i (select t)) e h = cc
   op_one (over i (order_by w desc)) e h = cc

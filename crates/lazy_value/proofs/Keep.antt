@@ -180,8 +180,8 @@ module _ (a b : BenchState) (k : KeepsBench a b) where
   left-kept End h = omega arith
   left-kept (Pieces' op at next q up) h =
       let e : pieces_count (extent (size_of b) (ops_of b) (input_at (ops_of b) op)) (drop next (pieces_of (op_at (ops_of b) op))) ≡ pieces_count (extent (size_of a) (ops_of a) (input_at (ops_of a) op)) (drop next (pieces_of (op_at (ops_of a) op))) =
-          ap (λ (f : ℕ → ℕ). pieces_count (extent f (ops_of b) (input_at (ops_of b) op)) (drop next (pieces_of (op_at (ops_of b) op)))) sizes_kept
-          ∙ ap (λ (ops : List Operator). pieces_count (extent (size_of a) ops (input_at ops op)) (drop next (pieces_of (op_at ops op)))) ops_kept in
+      ap (λ (f : ℕ → ℕ). pieces_count (extent f (ops_of b) (input_at (ops_of b) op)) (drop next (pieces_of (op_at (ops_of b) op)))) sizes_kept
+      ∙ ap (λ (ops : List Operator). pieces_count (extent (size_of a) ops (input_at ops op)) (drop next (pieces_of (op_at ops op)))) ops_kept in
       let i = left-kept up h.2 in omega (arith, e, i)
   left-kept (Members' op at q up) h = let i = left-kept up h.2 in let j = number_from-kept op at h.1 in omega (arith, i, j)
   left-kept (Group' op first at q up) h = let i = left-kept up h.2 in let j = number_kept op at h.1.cursor in omega (arith, i, j)

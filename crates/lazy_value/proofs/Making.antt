@@ -147,7 +147,7 @@ module _ (st : BenchState) (typed : IsTyped (ops_of st)) (n : ℕ) (within : n <
         origin = (stands_over o gathers_groups d e (groups_form i keys piece out some) u.cursor, subst (λ (p : Operator). number_at st (input_of p) d ≤ size_of st (input_of p)) e u.low);
         value = ap (λ (r : TolledRow). tolled_value r v) (made_by o d e u) ∙ cond_true (out == v) _ _ t
             ∙ ap (λ (p : Operator). trees (piece_items (documents st) (slice_index_or (pieces_of p) 0 (text_piece [])) (binding_at st (input_of p) d)
-              (collected (documents st) (slice_index_or (pieces_of p) 0 (text_piece [])) (same_group (documents st) (keys_of p) (binding_at st (input_of p) d) (ahead_at st (input_of p) d)) (ends 0)))) e;
+            (collected (documents st) (slice_index_or (pieces_of p) 0 (text_piece [])) (same_group (documents st) (keys_of p) (binding_at st (input_of p) d) (ahead_at st (input_of p) d)) (ends 0)))) e;
         kind = k ∙ cond_true (out == v) _ _ t;
         size = omega (arith, s);
         extent = (let y : size_of st (input_at (ops_of st) n) ≡ size_of st i = ap (λ (p : Operator). size_of st (input_of p)) (sym e) in omega (arith, x, y));

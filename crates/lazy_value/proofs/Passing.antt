@@ -193,7 +193,7 @@ module _ (p : Plan) (typed : IsTyped (plan_value p).ops) (n : ℕ) (within : n <
         | true ↦ λ t. makes_it (over i (group_by keys piece out)) e t
         | false ↦ λ t. made_node (over i (group_by keys piece out)) e (cond_false (out == v) (Some a_list) (kept keys (kinds (plan_value p).ops i) v) t
             ∙ key_node i keys (subst (λ (o : Operator). IsFit o (kinds (plan_value p).ops)) (sym e) (typed.fit n within)).0 k.0
-              (sym (cond_false (out == v) (Some a_list) (kept keys (kinds (plan_value p).ops i) v) t) ∙ sym (kind_of (plan_value p).ops typed n within (over i (group_by keys piece out)) e v) ∙ k.1))
+            (sym (cond_false (out == v) (Some a_list) (kept keys (kinds (plan_value p).ops i) v) t) ∙ sym (kind_of (plan_value p).ops typed n within (over i (group_by keys piece out)) e v) ∙ k.1))
       ] refl
 
   pub made_list : (i : ℕ) (pieces : List Piece) (out : ℕ) → over i (concatenate pieces out) ≡ op_at (plan_value p).ops n → (out == v) ≡ true → IsMadeHere p n v

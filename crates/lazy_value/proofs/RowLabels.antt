@@ -68,7 +68,7 @@ fits_both : (k l : Labels) (a b : TolledRow) → Fits k a → Fits l b → Fits 
 fits_both k l a b h i v =
     subst (λ (s : Bool). Holds (either_label (k v) (l v)) s (tolled_value (a ++ b) v)) (sym (stands-append a b v))
     (subst (λ (x : TolledValue). Holds (either_label (k v) (l v)) (stands_in a v || stands_in b v) x) (sym (value-append a b v))
-     (both (k v) (l v) (stands_in a v) (stands_in b v) (tolled_value a v) (tolled_value b v) (h v) (i v)))
+    (both (k v) (l v) (stands_in a v) (stands_in b v) (tolled_value a v) (tolled_value b v) (h v) (i v)))
 
 -- the variables of keys, each of which is a node
 stands-restrict : (keys : List Key) (row : TolledRow) (v : ℕ) → stands_in (tolled_restrict keys row) v ≡ has_var keys v
@@ -171,7 +171,7 @@ module _ (docs : Documents) (ks : ℕ → Kinds) (ls : ℕ → Labels) (of : ℕ
   op_rows (join l r tests) fit h n =
       each_expand (Fits (ls l)) (Fits (op_labels (join l r tests) ls)) (pairs docs tests (of r))
       (λ a k. each_only (Fits (op_labels (join l r tests) ls)) (passes_all docs tests) (each_row (λ row. a ++ row) (of r))
-        (each_made (Fits (ls r)) (Fits (op_labels (join l r tests) ls)) (λ row. a ++ row) (λ b i. fits_both (ls l) (ls r) a b k i) (of r) h.1.0)) (of l) h.0
+      (each_made (Fits (ls r)) (Fits (op_labels (join l r tests) ls)) (λ row. a ++ row) (λ b i. fits_both (ls l) (ls r) a b k i) (of r) h.1.0)) (of l) h.0
   op_rows (over i (select t)) fit h n = each_only (Fits (ls i)) _ (of i) h.0
   op_rows (over i (order_by w desc)) fit h n =
       each_append (Fits (ls i)) (skips (of i)) (map bind (sorted_rows docs w desc (of i))) (each_skips (Fits (ls i)) (of i))
@@ -205,8 +205,8 @@ rows_fit docs ops typed n h = below (suc n) n (omega arith) h
     below (suc m) n l h =
         let rows = each_weaker (λ i. i < n) (λ i. EachRow (Fits (labels ops i)) (events docs ops i)) (λ i k. below m i (omega (arith, l, k)) (omega (arith, h, k))) (inputs_of (op_at ops n)) (typed.inputs n h) in
         let nodes = each_weaker (λ i. i < n) (λ i. (v : ℕ) → kinds ops i v ≡ Some a_node → labels ops i v ≡ Some None)
-            (λ i k v e. node_none (kinds ops i v) (labels ops i v) (labels_fit ops typed i v (omega (arith, h, k))) e) (inputs_of (op_at ops n)) (typed.inputs n h) in
+        (λ i k v e. node_none (kinds ops i v) (labels ops i v) (labels_fit ops typed i v (omega (arith, h, k))) e) (inputs_of (op_at ops n)) (typed.inputs n h) in
         subst (EachRow (Fits (labels ops n))) (sym (events-of docs ops n (op_at ops n) refl (typed.inputs n h)))
         (each_as (Fits (op_labels (op_at ops n) (labels ops))) (Fits (labels ops n))
-          (λ row k v. subst (λ (x : Option (Option (List ℕ))). Holds x (stands_in row v) (tolled_value row v)) (sym (labels_of ops typed n h (op_at ops n) refl v)) (k v))
-          (op_events docs (op_at ops n) (events docs ops)) (op_rows docs (kinds ops) (labels ops) (events docs ops) (op_at ops n) (typed.fit n h) rows nodes))
+        (λ row k v. subst (λ (x : Option (Option (List ℕ))). Holds x (stands_in row v) (tolled_value row v)) (sym (labels_of ops typed n h (op_at ops n) refl v)) (k v))
+        (op_events docs (op_at ops n) (events docs ops)) (op_rows docs (kinds ops) (labels ops) (events docs ops) (op_at ops n) (typed.fit n h) rows nodes))

@@ -50,9 +50,11 @@ module _ {a b c : BenchState} {f g : Tolled} (p : Paid a b f g) where
   pub paid_on : KeepsBench b c → (w : ℕ) (r : Rest) → GoesOn b c g w r → Paid a c f (rest_trees c r)
   paid_on k w r h = record {
     kept = keeps_on.twice a b c p.kept k;
-    trees = λ y. (let q = p.trees y in let z = h.trees (still_told p.kept y) in
-        (q.0 + z.0, q.1 ∙ ap (dearer q.0) z.1 ∙ dearer_twice q.0 z.0 (rest_trees c r),
-         λ v. (let i = q.2 v in let j = z.2 (still_forward p.kept v) in omega (arith, i, j))));
+    trees = λ y. (let q = p.trees y in let z = h.trees (still_told p.kept y) in (
+      q.0 + z.0,
+      q.1 ∙ ap (dearer q.0) z.1 ∙ dearer_twice q.0 z.0 (rest_trees c r),
+      λ v. (let i = q.2 v in let j = z.2 (still_forward p.kept v) in omega (arith, i, j)),
+    ));
   }
 
 module _ {a b : BenchState} {f g : Tolled} (p : Paid a b f g) where

@@ -43,7 +43,7 @@ fn same_by_key(bench: &Bench, op: u32, first: &Cursor, c: &Cursor, key: Key) -> 
     requires node { kinds (plan_value (plan_of bench.now)).ops op (key_var key) ≡ Some a_node }
     ensures { (view : View) → IsBenchOf view bench.now → IsCursor (state_of view bench.now) op first.now → IsCursor (state_of view bench.now) op c.now → IsTrue (told (state_of view bench.now))
         → result ≡ same_value (key_value (documents (state_of view bench.now)) (row_node (binding_at (state_of view bench.now) op first.now)) key)
-            (key_value (documents (state_of view bench.now)) (row_node (binding_at (state_of view bench.now) op c.now)) key) }
+        (key_value (documents (state_of view bench.now)) (row_node (binding_at (state_of view bench.now) op c.now)) key) }
 {
     match key {
         Key::Node(v) => Buffer::same_spot(&bench.spot(op, first, v), &bench.spot(op, c, v)),
@@ -58,7 +58,7 @@ fn same_by_keys(bench: &Bench, op: u32, first: &Cursor, c: &Cursor, keys: &[Key]
     requires nodes { AreNodes keys.now (kinds (plan_value (plan_of bench.now)).ops op) }
     ensures { (view : View) → IsBenchOf view bench.now → IsCursor (state_of view bench.now) op first.now → IsCursor (state_of view bench.now) op c.now → IsTrue (told (state_of view bench.now))
         → result ≡ same_values (key_values (documents (state_of view bench.now)) keys.now (binding_at (state_of view bench.now) op first.now))
-            (key_values (documents (state_of view bench.now)) keys.now (binding_at (state_of view bench.now) op c.now)) }
+        (key_values (documents (state_of view bench.now)) keys.now (binding_at (state_of view bench.now) op c.now)) }
 {
     for key in keys {
         if !same_by_key(bench, op, first, c, *key) {

@@ -31,10 +31,10 @@ returns-then-same_by_keys-clause-answer g c =
     member_found g.met.S.Sources.after c.args.s.now c.members.s c.next.new.s c.args.bench.now c.members.bench c.next.new.self (group_ahead (state_of (g.S.Sources.view c.args.s.now) c.args.bench.now) c.args.op c.args.first.now c.args.from.now) c.args.op c.input_of-input.result c.args.first.now c.members.at
     c.members.invariant.came c.members.invariant.goes (c.input_of-input.ensures ∙ ap (λ (p : Plan). input_at (plan_value p).ops c.args.op) c.plan.ensures ∙ sym (input_kept (state_of (g.S.Sources.view c.args.s.now) c.args.bench.now) (state_of (g.S.Sources.view c.members.s) c.members.bench) c.members.invariant.goes.kept c.args.op)) c.next.ensures.ran c.next.ensures.lazy c.members.invariant.first.cursor c.in-Some.c (rw c.in-Some.is at c.in_ok-next.ensures.answer) _ c.members.invariant.low
     (λ y. test_is (state_of (g.S.Sources.view c.next.new.s) c.next.new.self) c.args.op c.input_of-input.result c.args.first.now c.in-Some.c c.group_keys.result.now c.same_by_keys.result true
-      (input_after g.met.S.Sources.after c.args.s.now c.members.s c.next.new.s c.args.bench.now c.members.bench c.next.new.self (group_ahead (state_of (g.S.Sources.view c.args.s.now) c.args.bench.now) c.args.op c.args.first.now c.args.from.now) c.args.op c.input_of-input.result c.args.first.now c.members.at
+    (input_after g.met.S.Sources.after c.args.s.now c.members.s c.next.new.s c.args.bench.now c.members.bench c.next.new.self (group_ahead (state_of (g.S.Sources.view c.args.s.now) c.args.bench.now) c.args.op c.args.first.now c.args.from.now) c.args.op c.input_of-input.result c.args.first.now c.members.at
     c.members.invariant.came c.members.invariant.goes (c.input_of-input.ensures ∙ ap (λ (p : Plan). input_at (plan_value p).ops c.args.op) c.plan.ensures ∙ sym (input_kept (state_of (g.S.Sources.view c.args.s.now) c.args.bench.now) (state_of (g.S.Sources.view c.members.s) c.members.bench) c.members.invariant.goes.kept c.args.op)) c.next.ensures.ran c.next.ensures.lazy)
-      (c.group_keys.ensures ∙ ap (λ (p : Plan). keys_of (op_at (plan_value p).ops c.args.op)) c.plan-in-Some.ensures)
-      (c.same_by_keys.ensures (g.S.Sources.view c.next.new.s) c.next.ensures.ran.bench (subst (λ (n : ℕ). IsCursor (state_of (g.S.Sources.view c.next.new.s) c.next.new.self) n c.args.first.now) (sym (input_after g.met.S.Sources.after c.args.s.now c.members.s c.next.new.s c.args.bench.now c.members.bench c.next.new.self (group_ahead (state_of (g.S.Sources.view c.args.s.now) c.args.bench.now) c.args.op c.args.first.now c.args.from.now) c.args.op c.input_of-input.result c.args.first.now c.members.at
+    (c.group_keys.ensures ∙ ap (λ (p : Plan). keys_of (op_at (plan_value p).ops c.args.op)) c.plan-in-Some.ensures)
+    (c.same_by_keys.ensures (g.S.Sources.view c.next.new.s) c.next.ensures.ran.bench (subst (λ (n : ℕ). IsCursor (state_of (g.S.Sources.view c.next.new.s) c.next.new.self) n c.args.first.now) (sym (input_after g.met.S.Sources.after c.args.s.now c.members.s c.next.new.s c.args.bench.now c.members.bench c.next.new.self (group_ahead (state_of (g.S.Sources.view c.args.s.now) c.args.bench.now) c.args.op c.args.first.now c.args.from.now) c.args.op c.input_of-input.result c.args.first.now c.members.at
     c.members.invariant.came c.members.invariant.goes (c.input_of-input.ensures ∙ ap (λ (p : Plan). input_at (plan_value p).ops c.args.op) c.plan.ensures ∙ sym (input_kept (state_of (g.S.Sources.view c.args.s.now) c.args.bench.now) (state_of (g.S.Sources.view c.members.s) c.members.bench) c.members.invariant.goes.kept c.args.op)) c.next.ensures.ran c.next.ensures.lazy)) (Stands-kept (state_of (g.S.Sources.view c.members.s) c.members.bench) (state_of (g.S.Sources.view c.next.new.s) c.next.new.self) c.next.ensures.ran.kept c.args.op gathers_groups c.args.first.now c.members.invariant.first).cursor) (let f = rw c.in-Some.is at c.in_ok-next.ensures.answer in f.cursor) y) c.if-same_by_keys.true)
 
 pub members-preserved : goal.members-preserved
@@ -43,16 +43,20 @@ members-preserved g c = record {
   bench = c.next.ensures.ran.bench;
   first = Stands-kept (state_of (g.S.Sources.view c.members.s) c.members.bench) (state_of (g.S.Sources.view c.next.new.s) c.next.new.self) c.next.ensures.ran.kept c.args.op gathers_groups c.args.first.now c.members.invariant.first;
   at = (let s = Stands-kept (state_of (g.S.Sources.view c.members.s) c.members.bench) (state_of (g.S.Sources.view c.next.new.s) c.next.new.self) c.next.ensures.ran.kept c.args.op gathers_groups c.args.first.now c.members.invariant.first in
-    record { within = s.within; is = s.is; cursor = found_cursor g.met.S.Sources.after c.args.s.now c.members.s c.next.new.s c.args.bench.now c.members.bench c.next.new.self (group_ahead (state_of (g.S.Sources.view c.args.s.now) c.args.bench.now) c.args.op c.args.first.now c.args.from.now) c.args.op c.input_of-input.result c.args.first.now c.members.at
-    c.members.invariant.came c.members.invariant.goes (c.input_of-input.ensures ∙ ap (λ (p : Plan). input_at (plan_value p).ops c.args.op) c.plan.ensures ∙ sym (input_kept (state_of (g.S.Sources.view c.args.s.now) c.args.bench.now) (state_of (g.S.Sources.view c.members.s) c.members.bench) c.members.invariant.goes.kept c.args.op)) c.next.ensures.ran c.next.ensures.lazy c.members.invariant.first.cursor c.in-Some.c (rw c.in-Some.is at c.in_ok-next.ensures.answer) });
+      record {
+        within = s.within;
+        is = s.is;
+        cursor = found_cursor g.met.S.Sources.after c.args.s.now c.members.s c.next.new.s c.args.bench.now c.members.bench c.next.new.self (group_ahead (state_of (g.S.Sources.view c.args.s.now) c.args.bench.now) c.args.op c.args.first.now c.args.from.now) c.args.op c.input_of-input.result c.args.first.now c.members.at
+            c.members.invariant.came c.members.invariant.goes (c.input_of-input.ensures ∙ ap (λ (p : Plan). input_at (plan_value p).ops c.args.op) c.plan.ensures ∙ sym (input_kept (state_of (g.S.Sources.view c.args.s.now) c.args.bench.now) (state_of (g.S.Sources.view c.members.s) c.members.bench) c.members.invariant.goes.kept c.args.op)) c.next.ensures.ran c.next.ensures.lazy c.members.invariant.first.cursor c.in-Some.c (rw c.in-Some.is at c.in_ok-next.ensures.answer);
+      });
   goes = goes_on g.met.S.Sources.after c.args.s.now c.members.s c.next.new.s c.args.bench.now c.members.bench c.next.new.self (group_ahead (state_of (g.S.Sources.view c.args.s.now) c.args.bench.now) c.args.op c.args.first.now c.args.from.now) c.args.op c.input_of-input.result c.args.first.now c.members.at
-    c.members.invariant.came c.members.invariant.goes (c.input_of-input.ensures ∙ ap (λ (p : Plan). input_at (plan_value p).ops c.args.op) c.plan.ensures ∙ sym (input_kept (state_of (g.S.Sources.view c.args.s.now) c.args.bench.now) (state_of (g.S.Sources.view c.members.s) c.members.bench) c.members.invariant.goes.kept c.args.op)) c.next.ensures.ran c.next.ensures.lazy c.members.invariant.first.cursor c.in-Some.c (rw c.in-Some.is at c.in_ok-next.ensures.answer)
-    (λ y. test_is (state_of (g.S.Sources.view c.next.new.s) c.next.new.self) c.args.op c.input_of-input.result c.args.first.now c.in-Some.c c.group_keys.result.now c.same_by_keys.result false
+      c.members.invariant.came c.members.invariant.goes (c.input_of-input.ensures ∙ ap (λ (p : Plan). input_at (plan_value p).ops c.args.op) c.plan.ensures ∙ sym (input_kept (state_of (g.S.Sources.view c.args.s.now) c.args.bench.now) (state_of (g.S.Sources.view c.members.s) c.members.bench) c.members.invariant.goes.kept c.args.op)) c.next.ensures.ran c.next.ensures.lazy c.members.invariant.first.cursor c.in-Some.c (rw c.in-Some.is at c.in_ok-next.ensures.answer)
+      (λ y. test_is (state_of (g.S.Sources.view c.next.new.s) c.next.new.self) c.args.op c.input_of-input.result c.args.first.now c.in-Some.c c.group_keys.result.now c.same_by_keys.result false
       (input_after g.met.S.Sources.after c.args.s.now c.members.s c.next.new.s c.args.bench.now c.members.bench c.next.new.self (group_ahead (state_of (g.S.Sources.view c.args.s.now) c.args.bench.now) c.args.op c.args.first.now c.args.from.now) c.args.op c.input_of-input.result c.args.first.now c.members.at
-    c.members.invariant.came c.members.invariant.goes (c.input_of-input.ensures ∙ ap (λ (p : Plan). input_at (plan_value p).ops c.args.op) c.plan.ensures ∙ sym (input_kept (state_of (g.S.Sources.view c.args.s.now) c.args.bench.now) (state_of (g.S.Sources.view c.members.s) c.members.bench) c.members.invariant.goes.kept c.args.op)) c.next.ensures.ran c.next.ensures.lazy)
+      c.members.invariant.came c.members.invariant.goes (c.input_of-input.ensures ∙ ap (λ (p : Plan). input_at (plan_value p).ops c.args.op) c.plan.ensures ∙ sym (input_kept (state_of (g.S.Sources.view c.args.s.now) c.args.bench.now) (state_of (g.S.Sources.view c.members.s) c.members.bench) c.members.invariant.goes.kept c.args.op)) c.next.ensures.ran c.next.ensures.lazy)
       (c.group_keys.ensures ∙ ap (λ (p : Plan). keys_of (op_at (plan_value p).ops c.args.op)) c.plan-in-Some.ensures)
       (c.same_by_keys.ensures (g.S.Sources.view c.next.new.s) c.next.ensures.ran.bench (subst (λ (n : ℕ). IsCursor (state_of (g.S.Sources.view c.next.new.s) c.next.new.self) n c.args.first.now) (sym (input_after g.met.S.Sources.after c.args.s.now c.members.s c.next.new.s c.args.bench.now c.members.bench c.next.new.self (group_ahead (state_of (g.S.Sources.view c.args.s.now) c.args.bench.now) c.args.op c.args.first.now c.args.from.now) c.args.op c.input_of-input.result c.args.first.now c.members.at
-    c.members.invariant.came c.members.invariant.goes (c.input_of-input.ensures ∙ ap (λ (p : Plan). input_at (plan_value p).ops c.args.op) c.plan.ensures ∙ sym (input_kept (state_of (g.S.Sources.view c.args.s.now) c.args.bench.now) (state_of (g.S.Sources.view c.members.s) c.members.bench) c.members.invariant.goes.kept c.args.op)) c.next.ensures.ran c.next.ensures.lazy)) (Stands-kept (state_of (g.S.Sources.view c.members.s) c.members.bench) (state_of (g.S.Sources.view c.next.new.s) c.next.new.self) c.next.ensures.ran.kept c.args.op gathers_groups c.args.first.now c.members.invariant.first).cursor) (let f = rw c.in-Some.is at c.in_ok-next.ensures.answer in f.cursor) y) c.if-same_by_keys.false);
+      c.members.invariant.came c.members.invariant.goes (c.input_of-input.ensures ∙ ap (λ (p : Plan). input_at (plan_value p).ops c.args.op) c.plan.ensures ∙ sym (input_kept (state_of (g.S.Sources.view c.args.s.now) c.args.bench.now) (state_of (g.S.Sources.view c.members.s) c.members.bench) c.members.invariant.goes.kept c.args.op)) c.next.ensures.ran c.next.ensures.lazy)) (Stands-kept (state_of (g.S.Sources.view c.members.s) c.members.bench) (state_of (g.S.Sources.view c.next.new.s) c.next.new.self) c.next.ensures.ran.kept c.args.op gathers_groups c.args.first.now c.members.invariant.first).cursor) (let f = rw c.in-Some.is at c.in_ok-next.ensures.answer in f.cursor) y) c.if-same_by_keys.false);
   low = (let f = found_falls g.met.S.Sources.after c.args.s.now c.members.s c.next.new.s c.args.bench.now c.members.bench c.next.new.self (group_ahead (state_of (g.S.Sources.view c.args.s.now) c.args.bench.now) c.args.op c.args.first.now c.args.from.now) c.args.op c.input_of-input.result c.args.first.now c.members.at
-    c.members.invariant.came c.members.invariant.goes (c.input_of-input.ensures ∙ ap (λ (p : Plan). input_at (plan_value p).ops c.args.op) c.plan.ensures ∙ sym (input_kept (state_of (g.S.Sources.view c.args.s.now) c.args.bench.now) (state_of (g.S.Sources.view c.members.s) c.members.bench) c.members.invariant.goes.kept c.args.op)) c.next.ensures.ran c.next.ensures.lazy c.members.invariant.first.cursor c.in-Some.c (rw c.in-Some.is at c.in_ok-next.ensures.answer) in let l = c.members.invariant.low in omega (arith, f, l));
+      c.members.invariant.came c.members.invariant.goes (c.input_of-input.ensures ∙ ap (λ (p : Plan). input_at (plan_value p).ops c.args.op) c.plan.ensures ∙ sym (input_kept (state_of (g.S.Sources.view c.args.s.now) c.args.bench.now) (state_of (g.S.Sources.view c.members.s) c.members.bench) c.members.invariant.goes.kept c.args.op)) c.next.ensures.ran c.next.ensures.lazy c.members.invariant.first.cursor c.in-Some.c (rw c.in-Some.is at c.in_ok-next.ensures.answer) in let l = c.members.invariant.low in omega (arith, f, l));
 }

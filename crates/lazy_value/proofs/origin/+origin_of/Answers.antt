@@ -12,7 +12,7 @@ returns-in_ok-below-in-Some t c =
     if_ok c.origin_of.result (λ r. (view : View) → IsBenchOf view c.args.bench.now → IsCursor (state_of view c.args.bench.now) c.in-Some.input c.in_ok-below-in-Some.below → IsOriginOf (state_of view c.args.bench.now) c.in-Some.input c.in_ok-below-in-Some.below c.args.v r)
     (λ r. (view : View) → IsBenchOf view c.args.bench.now → IsCursor (state_of view c.args.bench.now) c.args.op c.args.c.now → IsOriginOf (state_of view c.args.bench.now) c.args.op c.args.c.now c.args.v r)
     (λ r k view h i.
-      let u = c.in_ok-below-in-Some.ensures view h i in
-      origin_passed (state_of view c.args.bench.now) c.args.op c.in-Some.input c.args.v c.args.c.now c.in_ok-below-in-Some.below r
-      (subst (λ (p : Plan). IsPassedOn p c.args.op c.args.v c.in-Some.input) c.plan.ensures c.in-Some.ensures) u (k view h u.cursor))
+    let u = c.in_ok-below-in-Some.ensures view h i in
+    origin_passed (state_of view c.args.bench.now) c.args.op c.in-Some.input c.args.v c.args.c.now c.in_ok-below-in-Some.below r
+    (subst (λ (p : Plan). IsPassedOn p c.args.op c.args.v c.in-Some.input) c.plan.ensures c.in-Some.ensures) u (k view h u.cursor))
     c.origin_of.ensures
