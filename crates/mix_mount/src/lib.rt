@@ -9,5 +9,3 @@ pub use mounted::Mounted;
 
 #[cfg(test)]
 mod tests;
-#[cfg(test)]
-mod tests;

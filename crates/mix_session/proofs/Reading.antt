@@ -16,4 +16,4 @@ bench_within v b is s read =
 
 -- so is each that the plan of a mediator reads
 pub mediator_within : (v : View) (m : Mediator) → IsMediatorOf v m → (s : ℕ) → IsRead (bench.ops_of (state_of v m)) s → s < v.count
-mediator_within v m is s read = bench_within v m.bench is.bench s read
+mediator_within v m is s read = bench_within v m.bench is s read

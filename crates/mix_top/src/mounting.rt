@@ -58,9 +58,7 @@ fn mount_file<F: Files>(alloc: Global, files: &mut F, spec: &SourceSpec) -> Resu
     match &spec.kind {
         SourceKind::Bracket { file, deep } => {
             let tree = load_tree(alloc, files, path_of(file))?;
-            Ok(Mount::Bracket(BracketDoc::open(
-                alloc, tree, spec.chunk, *deep,
-            )?))
+            Ok(Mount::Bracket(BracketDoc::open(alloc, tree, spec.chunk, *deep)?))
         }
     }
 }

@@ -1,0 +1,71 @@
+-- Values and what is behind them.
+use Rattle.std.proofs.Common.{◌≡◌, ◌<◌, ◌≤◌, ◌+◌, ℕ, suc, Option, Some, None, length, drop, refl, ◌∙◌, sym, ap, subst, arith}
+use Rattle.plan_core.specs.ByNumber.{op_at}
+use Rattle.plan_core.specs.Tolled.{Tolled, ends, tolled_followed}
+use Rattle.plan_core.specs.TolledRows.{value_trees, piece_items, all_items, collected}
+use Rattle.lazy_plan.specs.Bench.{BenchState, ops_of, documents, binding_at, events_of}
+use Rattle.lazy_plan.specs.declared.position.Position.{Position}
+use Rattle.lazy_value.specs.Forms.{input_at, pieces_of, piece_of, makes_list, gathers_groups}
+use Rattle.lazy_value.specs.Ids.{pieces_trees, members_trees, group_ahead, group_trees, member_trees, Stands, GathersAll, IsOrigin, value_of, IsRest, rest_trees, weight}
+use Rattle.lazy_value.specs.Origins.{origin_size}
+use Rattle.lazy_value.specs.Steps.{StandsFor, GoesOn}
+use Rattle.lazy_value.specs.declared.ids.Origin.{Origin}
+use Rattle.lazy_value.specs.declared.ids.Origin.TheVariants.{Joined, All, Group as Same}
+use Rattle.lazy_value.specs.declared.ids.Rest.{Rest, Pieces', Members'}
+use Rattle.lazy_value.specs.declared.ids.Site.{Site}
+use Rattle.lazy_value.proofs.Laws.{dearer_zero, all_followed, piece_followed, collected_followed}
+use Rattle.lazy_value.proofs.Turns.{on_same}
+
+module _ (st : BenchState) (behind : Rest) (h : IsRest st behind) where
+  -- no trees before others are those
+  nothing_before : tolled_followed (ends 0) (rest_trees st behind) ≡ rest_trees st behind
+  nothing_before = dearer_zero (rest_trees st behind)
+
+  enter_joined : (op : ℕ) (at : Position) (q : _) → Stands st op makes_list at
+      → GoesOn st st (value_trees (documents st) (value_of st (Joined op at)) (rest_trees st behind)) (suc (origin_size st (Joined op at) + weight st behind)) (Pieces' op at 0 q behind)
+  enter_joined op at q s =
+      on_same st _ _ (Pieces' op at 0 q behind) (s, omega arith, h) (omega arith)
+      (all_followed (documents st) (pieces_of (op_at (ops_of st) op)) (binding_at st (input_at (ops_of st) op) at) (ends 0) (rest_trees st behind)
+      ∙ ap (all_items (documents st) (pieces_of (op_at (ops_of st) op)) (binding_at st (input_at (ops_of st) op) at)) nothing_before)
+
+  enter_all : (op : ℕ) (q : _) → GathersAll st op
+      → GoesOn st st (value_trees (documents st) (value_of st (All op)) (rest_trees st behind)) (suc (origin_size st (All op) + weight st behind)) (Members' op None q behind)
+  enter_all op q s =
+      on_same st _ _ (Members' op None q behind) (s, tt, h) (omega arith)
+      (collected_followed (documents st) (piece_of (ops_of st) op) (events_of st (input_at (ops_of st) op)) (ends 0) (rest_trees st behind)
+      ∙ ap (collected (documents st) (piece_of (ops_of st) op) (events_of st (input_at (ops_of st) op))) nothing_before)
+
+  group_before : (op : ℕ) (c : Position)
+      → value_trees (documents st) (value_of st (Same op c)) (rest_trees st behind) ≡ member_trees st op c (group_trees st op c c (rest_trees st behind))
+  group_before op c =
+      piece_followed (documents st) (piece_of (ops_of st) op) (binding_at st (input_at (ops_of st) op) c) (group_trees st op c c (ends 0)) (rest_trees st behind)
+      ∙ ap (member_trees st op c) (collected_followed (documents st) (piece_of (ops_of st) op) (group_ahead st op c c) (ends 0) (rest_trees st behind)
+      ∙ ap (group_trees st op c c) nothing_before)
+
+module _ (st : BenchState) (origin : Origin) (behind x : Rest) (o : IsOrigin st origin) (h : IsRest st behind) where
+  -- a concatenation, and what is behind it
+  pub joined_goes : (op : ℕ) (at there : Position) (q : _) (up : Rest) → origin ≡ Joined op at → x ≡ Pieces' op there 0 q up → up ≡ behind → there ≡ at
+      → GoesOn st st (value_trees (documents st) (value_of st origin) (rest_trees st behind)) (suc (origin_size st origin + weight st behind)) x
+  joined_goes op at there q up e f g i =
+      let z : x ≡ Pieces' op at 0 q behind = f ∙ ap (λ (r : Rest). Pieces' op there 0 q r) g ∙ ap (λ (c : Position). Pieces' op c 0 q behind) i in
+      subst (λ (r : Rest). GoesOn st st (value_trees (documents st) (value_of st origin) (rest_trees st behind)) (suc (origin_size st origin + weight st behind)) r) (sym z)
+      (subst (λ (w : Origin). GoesOn st st (value_trees (documents st) (value_of st w) (rest_trees st behind)) (suc (origin_size st w + weight st behind)) (Pieces' op at 0 q behind)) (sym e)
+      (enter_joined st behind h op at q (subst (λ (w : Origin). IsOrigin st w) e o)))
+
+  -- a list of all bindings, and what is behind it
+  pub all_goes : (op : ℕ) (q : _) (up : Rest) → origin ≡ All op → x ≡ Members' op None q up → up ≡ behind
+      → GoesOn st st (value_trees (documents st) (value_of st origin) (rest_trees st behind)) (suc (origin_size st origin + weight st behind)) x
+  all_goes op q up e f g =
+      let z : x ≡ Members' op None q behind = f ∙ ap (λ (r : Rest). Members' op None q r) g in
+      subst (λ (r : Rest). GoesOn st st (value_trees (documents st) (value_of st origin) (rest_trees st behind)) (suc (origin_size st origin + weight st behind)) r) (sym z)
+      (subst (λ (w : Origin). GoesOn st st (value_trees (documents st) (value_of st w) (rest_trees st behind)) (suc (origin_size st w + weight st behind)) (Members' op None q behind)) (sym e)
+      (enter_all st behind h op q (subst (λ (w : Origin). IsOrigin st w) e o)))
+
+  -- a group, and what is behind it
+  pub group_stands : (op : ℕ) (c : Position) (n : Site) → origin ≡ Same op c
+      → (Stands st op gathers_groups c → Stands st op gathers_groups c → IsRest st behind → StandsFor st st (member_trees st op c (group_trees st op c c (rest_trees st behind))) n)
+      → StandsFor st st (value_trees (documents st) (value_of st origin) (rest_trees st behind)) n
+  group_stands op c n e k =
+      let s = (subst (λ (w : Origin). IsOrigin st w) e o).0 in
+      subst (λ (w : Origin). StandsFor st st (value_trees (documents st) (value_of st w) (rest_trees st behind)) n) (sym e)
+      (subst (λ (f : Tolled). StandsFor st st f n) (sym (group_before st behind h op c)) (k s s h))

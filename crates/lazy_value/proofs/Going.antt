@@ -1,0 +1,158 @@
+-- How far the search for the next member of a group has come.
+use Rattle.std.proofs.Common.{◌≡◌, ◌<◌, ◌≤◌, ◌+◌, ℕ, suc, Bool, true, false, List, refl, ◌∙◌, sym, ap, subst, arith}
+use Rattle.std.specs.Prelude.{IsTrue}
+use Rattle.mix_base.specs.Events.{nothing, finds, found, cost}
+use Rattle.mix_tree.specs.Nodes.{Documents}
+use Rattle.mix_tree.specs.declared.var.Key.{Key}
+use Rattle.lxp_core.specs.View.{View}
+use Rattle.plan_core.specs.Plans.{Operator}
+use Rattle.plan_core.specs.ByNumber.{op_at}
+use Rattle.plan_core.specs.TolledRows.{TolledRow, key_values, same_values}
+use Rattle.plan_core.specs.Events.{RowEvents, only, same_group}
+use Rattle.plan_core.proofs.Found.{found-only_none, found-only_yes, found-only_no, cost-only_le, cost-only_no}
+use Rattle.lazy_plan.specs.declared.bench.Bench.{Bench}
+use Rattle.lazy_plan.specs.Bench.{BenchState, state_of, IsBenchOf, told, forward, fills_of, ops_of, documents, IsCursor, binding_at, ahead_at, number_at, KeepsBench, AsksAtMost, IsFirstOf, BenchRan}
+use Rattle.lazy_plan.specs.declared.position.Position.{Position}
+use Rattle.lazy_plan.proofs.Benches.{keeps_on}
+use Rattle.lazy_value.specs.Forms.{input_at, keys_of, gathers_groups}
+use Rattle.lazy_value.specs.Ids.{Stands, group_ahead}
+use Rattle.lazy_value.specs.Steps.{Walked, IsMember}
+use Rattle.lazy_value.proofs.Keep.{ops_kept, input_kept, binding_kept}
+use Rattle.lazy_value.proofs.Sames.{same_by}
+use Rattle.lazy_value.proofs.Turns.{still_told, still_forward}
+
+-- of these events of a group the later ones are left, behind what was passed
+pub record Goes (a b : BenchState) (whole now : RowEvents) : Type 0 where
+  pub kept : KeepsBench a b
+  pub found : IsTrue (told a) → found whole ≡ found now
+  pub asks : IsTrue (told a) → IsTrue (forward a) → fills_of b + cost now ≤ fills_of a + cost whole
+
+-- at the beginning
+pub goes_start : (a : BenchState) (whole : RowEvents) → Goes a a whole whole
+goes_start a whole = record { kept = keeps_on.same a; found = λ y. refl; asks = λ y w. omega arith }
+
+-- the test that a group's members pass
+abbrev passes : BenchState → ℕ → Position → TolledRow → Bool
+passes st op first row = same_by (documents st) (binding_at st (input_at (ops_of st) op) first) row (keys_of (op_at (ops_of st) op))
+
+module _ (b c : BenchState) (k : KeepsBench b c) (op : ℕ) (first : Position) (h : IsCursor b (input_at (ops_of b) op) first) where
+  -- it is the same after calls
+  passes_kept : (row : TolledRow) → passes c op first row ≡ passes b op first row
+  passes_kept row =
+      ap (λ (d : Documents). same_by d (binding_at c (input_at (ops_of c) op) first) row (keys_of (op_at (ops_of c) op))) k.documents
+      ∙ ap (λ (ops : List Operator). same_by (documents b) (binding_at c (input_at (ops_of c) op) first) row (keys_of (op_at ops op))) (ops_kept b c k)
+      ∙ ap (λ (r : TolledRow). same_by (documents b) r row (keys_of (op_at (ops_of b) op))) (binding_kept b c k op first h)
+
+  only_kept : (es : RowEvents) → only (passes b op first) es ≡ same_group (documents c) (keys_of (op_at (ops_of c) op)) (binding_at c (input_at (ops_of c) op) first) es
+  only_kept es = ap {B = RowEvents} (λ (test : TolledRow → Bool). only test es) (λ i row. sym (passes_kept row) i)
+
+module _ (a b c : BenchState) (whole : RowEvents) (op : ℕ) (first at : Position) (g : Goes a b whole (group_ahead b op first at)) (k : KeepsBench b c)
+    (e : AsksAtMost b c (cost (ahead_at b (input_at (ops_of b) op) at))) where
+  pub goes_kept : KeepsBench a c
+  goes_kept = keeps_on.twice a b c g.kept k
+
+  -- what is asked is within what is allowed
+  pub goes_asks : AsksAtMost a c (cost whole)
+  goes_asks y w =
+      let i = e (still_told g.kept y) (still_forward g.kept w) in let j = g.asks y w in
+      let l = cost-only_le (passes b op first) (ahead_at b (input_at (ops_of b) op) at) in omega (arith, i, j, l)
+
+  -- no further binding is no further member
+  pub goes_done : (IsTrue (told b) → found (ahead_at b (input_at (ops_of b) op) at) ≡ nothing) → IsTrue (told a) → found whole ≡ nothing
+  goes_done h y = g.found y ∙ found-only_none (passes b op first) (ahead_at b (input_at (ops_of b) op) at) (h (still_told g.kept y))
+
+  module _ (h : IsCursor b (input_at (ops_of b) op) first) (d : Position) (f : IsFirstOf b c (input_at (ops_of b) op) (ahead_at b (input_at (ops_of b) op) at) (number_at b (input_at (ops_of b) op) at) d) where
+    input_same : input_at (ops_of c) op ≡ input_at (ops_of b) op
+    input_same = input_kept b c k op
+
+    pub cursor_same : IsCursor c (input_at (ops_of c) op) d
+    cursor_same = subst (λ (n : ℕ). IsCursor c n d) (sym input_same) f.cursor
+
+    pub falls_same : number_at c (input_at (ops_of c) op) d < number_at b (input_at (ops_of b) op) at
+    falls_same = subst (λ (n : ℕ). number_at c n d < number_at b (input_at (ops_of b) op) at) (sym input_same) f.falls
+
+    -- what is found
+    finds_it : IsTrue (told a) → found (ahead_at b (input_at (ops_of b) op) at) ≡ finds (binding_at c (input_at (ops_of c) op) d) (ahead_at c (input_at (ops_of c) op) d)
+    finds_it y = f.found (still_told g.kept y) ∙ ap (λ (n : ℕ). finds (binding_at c n d) (ahead_at c n d)) (sym input_same)
+
+    -- a binding of the group is the next member
+    pub goes_yes : (top : ℕ) → number_at b (input_at (ops_of b) op) at ≤ top → (IsTrue (told c) → passes c op first (binding_at c (input_at (ops_of c) op) d) ≡ true) → IsMember a c op first whole top d
+    goes_yes top low t = record {
+      cursor = cursor_same;
+      falls = (let z = falls_same in omega (arith, z, low));
+      found = λ y. g.found y
+          ∙ found-only_yes (passes b op first) (ahead_at b (input_at (ops_of b) op) at) _ _ (finds_it y)
+          (sym (passes_kept b c k op first h (binding_at c (input_at (ops_of c) op) d)) ∙ t (still_told goes_kept y))
+          ∙ ap (finds (binding_at c (input_at (ops_of c) op) d)) (only_kept b c k op first h (ahead_at c (input_at (ops_of c) op) d));
+    }
+
+    -- another one is passed
+    pub goes_no : (IsTrue (told c) → passes c op first (binding_at c (input_at (ops_of c) op) d) ≡ false) → Goes a c whole (group_ahead c op first d)
+    goes_no t = record {
+      kept = goes_kept;
+      found = λ y. g.found y
+          ∙ found-only_no (passes b op first) (ahead_at b (input_at (ops_of b) op) at) _ _ (finds_it y)
+          (sym (passes_kept b c k op first h (binding_at c (input_at (ops_of c) op) d)) ∙ t (still_told goes_kept y))
+          ∙ ap found (only_kept b c k op first h (ahead_at c (input_at (ops_of c) op) d));
+      asks = λ y w. (let i = e (still_told g.kept y) (still_forward g.kept w) in let j = g.asks y w in
+          let l = cost-only_no (passes b op first) (ahead_at b (input_at (ops_of b) op) at) _ _ (finds_it y)
+          (sym (passes_kept b c k op first h (binding_at c (input_at (ops_of c) op) d)) ∙ t (still_told goes_kept y)) in
+          let m = ap cost (only_kept b c k op first h (ahead_at c (input_at (ops_of c) op) d)) in
+          omega (arith, i, j, l, m));
+    }
+
+-- what the code compared is the test
+pub test_is : (c : BenchState) (op input : ℕ) (first d : Position) (keys : List Key) (b t : Bool) → input ≡ input_at (ops_of c) op → keys ≡ keys_of (op_at (ops_of c) op)
+    → b ≡ same_by (documents c) (binding_at c input first) (binding_at c input d) keys → b ≡ t → passes c op first (binding_at c (input_at (ops_of c) op) d) ≡ t
+test_is c op input first d keys b t i k e f =
+    ap (same_by (documents c) (binding_at c (input_at (ops_of c) op) first) (binding_at c (input_at (ops_of c) op) d)) (sym k)
+    ∙ ap (λ (n : ℕ). same_by (documents c) (binding_at c n first) (binding_at c n d) keys) (sym i) ∙ sym e ∙ f
+
+module _ {S : Type 0} {view : S → View} {came_from : S → S → Type 0} (after : (x y z : S) → came_from y x → came_from z y → came_from z x) (s t u : S) (p q r : Bench) (whole : RowEvents) (op input : ℕ) (first at : Position)
+    (came : came_from t s) (g : Goes (state_of (view s) p) (state_of (view t) q) whole (group_ahead (state_of (view t) q) op first at)) (i : input ≡ input_at (ops_of (state_of (view t) q)) op)
+    (ran : BenchRan view came_from t q u r) (e : AsksAtMost (state_of (view t) q) (state_of (view u) r) (cost (ahead_at (state_of (view t) q) input at))) where
+  asked : AsksAtMost (state_of (view t) q) (state_of (view u) r) (cost (ahead_at (state_of (view t) q) (input_at (ops_of (state_of (view t) q)) op) at))
+  asked = subst (λ (n : ℕ). AsksAtMost (state_of (view t) q) (state_of (view u) r) (cost (ahead_at (state_of (view t) q) n at))) i e
+
+  -- the input is the same after the call
+  pub input_after : input ≡ input_at (ops_of (state_of (view u) r)) op
+  input_after = i ∙ sym (input_kept (state_of (view t) q) (state_of (view u) r) ran.kept op)
+
+  -- what the calls so far leave
+  pub goes_walked : Walked view came_from s p u r (cost whole)
+  goes_walked = record {
+    came = after s t u came ran.came;
+    bench = ran.bench;
+    kept = goes_kept (state_of (view s) p) (state_of (view t) q) (state_of (view u) r) whole op first at g ran.kept asked;
+    asks = goes_asks (state_of (view s) p) (state_of (view t) q) (state_of (view u) r) whole op first at g ran.kept asked;
+  }
+
+  -- no further binding is no further member
+  pub none_left : (IsTrue (told (state_of (view t) q)) → found (ahead_at (state_of (view t) q) input at) ≡ nothing) → IsTrue (told (state_of (view s) p)) → found whole ≡ nothing
+  none_left h =
+      goes_done (state_of (view s) p) (state_of (view t) q) (state_of (view u) r) whole op first at g ran.kept asked
+      (subst (λ (n : ℕ). IsTrue (told (state_of (view t) q)) → found (ahead_at (state_of (view t) q) n at) ≡ nothing) i h)
+
+  module _ (h : IsCursor (state_of (view t) q) (input_at (ops_of (state_of (view t) q)) op) first) (d : Position)
+      (f : IsFirstOf (state_of (view t) q) (state_of (view u) r) input (ahead_at (state_of (view t) q) input at) (number_at (state_of (view t) q) input at) d) where
+    first_found : IsFirstOf (state_of (view t) q) (state_of (view u) r) (input_at (ops_of (state_of (view t) q)) op) (ahead_at (state_of (view t) q) (input_at (ops_of (state_of (view t) q)) op) at)
+        (number_at (state_of (view t) q) (input_at (ops_of (state_of (view t) q)) op) at) d
+    first_found = subst (λ (n : ℕ). IsFirstOf (state_of (view t) q) (state_of (view u) r) n (ahead_at (state_of (view t) q) n at) (number_at (state_of (view t) q) n at) d) i f
+
+    -- the cursor that was found is one of the input
+    pub found_cursor : IsCursor (state_of (view u) r) (input_at (ops_of (state_of (view u) r)) op) d
+    found_cursor = cursor_same (state_of (view s) p) (state_of (view t) q) (state_of (view u) r) whole op first at g ran.kept asked h d first_found
+
+    pub found_falls : number_at (state_of (view u) r) (input_at (ops_of (state_of (view u) r)) op) d < number_at (state_of (view t) q) (input_at (ops_of (state_of (view t) q)) op) at
+    found_falls = falls_same (state_of (view s) p) (state_of (view t) q) (state_of (view u) r) whole op first at g ran.kept asked h d first_found
+
+    -- a binding of the group is the next member
+    pub member_found : (top : ℕ) → number_at (state_of (view t) q) (input_at (ops_of (state_of (view t) q)) op) at ≤ top
+        → (IsTrue (told (state_of (view u) r)) → passes (state_of (view u) r) op first (binding_at (state_of (view u) r) (input_at (ops_of (state_of (view u) r)) op) d) ≡ true)
+        → IsMember (state_of (view s) p) (state_of (view u) r) op first whole top d
+    member_found = goes_yes (state_of (view s) p) (state_of (view t) q) (state_of (view u) r) whole op first at g ran.kept asked h d first_found
+
+    -- another one is passed
+    pub goes_on : (IsTrue (told (state_of (view u) r)) → passes (state_of (view u) r) op first (binding_at (state_of (view u) r) (input_at (ops_of (state_of (view u) r)) op) d) ≡ false)
+        → Goes (state_of (view s) p) (state_of (view u) r) whole (group_ahead (state_of (view u) r) op first d)
+    goes_on = goes_no (state_of (view s) p) (state_of (view t) q) (state_of (view u) r) whole op first at g ran.kept asked h d first_found

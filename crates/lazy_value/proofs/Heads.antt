@@ -1,0 +1,43 @@
+-- The trees of pieces that are no lists.
+use Rattle.std.proofs.Common.{◌≡◌, ℕ, List, refl, ◌∙◌, sym, ap, subst}
+use Rattle.std.specs.Prelude.{Result, Ok, Err, IfOk}
+use Rattle.mix_tree.specs.Nodes.{Node, label_at}
+use Rattle.tree_buffer.specs.declared.spot.Spot.{Spot}
+use Rattle.plan_core.specs.declared.plan.Piece.{Piece}
+use Rattle.plan_core.specs.declared.plan.Piece.TheVariants.{Var as var_piece, LabelOf as label_piece, Text as text_piece}
+use Rattle.plan_core.specs.Tolled.{Tolled, ends, item}
+use Rattle.plan_core.specs.TolledRows.{TolledValue, TolledRow, tolled_value, row_node, source_node, value_trees, piece_items}
+use Rattle.lazy_plan.specs.Bench.{BenchState, ops_of, documents, binding_at, IsSpotAt, IsSpotOf, node_at}
+use Rattle.lazy_plan.specs.declared.position.Position.{Position}
+use Rattle.lazy_value.specs.Forms.{input_at, piece_at}
+use Rattle.lazy_value.specs.Ids.{head_label, head_trees}
+use Rattle.lazy_value.specs.Origins.{IsOriginOf, IsHeadOf}
+use Rattle.lazy_value.specs.declared.ids.Head.TheVariants.{Whole, Leaf}
+use Rattle.lazy_value.specs.declared.ids.Origin.TheVariants.{Node as node_origin}
+
+-- what is said of an answer, where something that follows from it is asked
+pub if_ok : {T E : Type 0} (r : Result T E) (P Q : T → Type 0) → ((x : T) → P x → Q x) → IfOk r P → IfOk r Q
+if_ok (Ok x) P Q f h = f x h
+if_ok (Err e) P Q f h = tt
+
+module _ (st : BenchState) (op index input : ℕ) (c : Position) (p : Piece) (v : ℕ) (e : p ≡ piece_at (ops_of st) op index) (i : input ≡ input_at (ops_of st) op) where
+  -- the trees of a piece, over a binding of the input
+  items_are : (q : Piece) → p ≡ q → (rest : Tolled) → piece_items (documents st) (piece_at (ops_of st) op index) (binding_at st (input_at (ops_of st) op) c) rest ≡ piece_items (documents st) q (binding_at st input c) rest
+  items_are q z rest =
+      ap (λ (k : ℕ). piece_items (documents st) (piece_at (ops_of st) op index) (binding_at st k c) rest) (sym i)
+      ∙ ap (λ (k : Piece). piece_items (documents st) k (binding_at st input c) rest) (sym e ∙ z)
+
+  -- a leaf with the label of a node
+  pub leaf_head : (s : ℕ) (x : Spot) → p ≡ label_piece v → s ≡ (row_node (binding_at st input c) v).source → IsSpotOf st input c v (row_node (binding_at st input c) v).source x → IsHeadOf st op index c (Leaf s x)
+  leaf_head s x z k h = record {
+    head = subst (λ (r : ℕ). IsSpotAt st r x) (sym k) h.spot;
+    trees = λ rest. items_are (label_piece v) z rest
+        ∙ ap (λ (n : Node). item 0 (label_at (documents st) n) (ends 0) rest) (ap source_node h.value ∙ ap (λ (r : ℕ). node_at st r x) (sym k));
+  }
+
+  -- a node with all below it
+  pub node_head : (s : ℕ) (x : Spot) → p ≡ var_piece v → IsOriginOf st input c v (node_origin s x) → IsHeadOf st op index c (Whole s x)
+  node_head s x z o = record {
+    head = o.origin;
+    trees = λ rest. items_are (var_piece v) z rest ∙ ap (λ (t : TolledValue). value_trees (documents st) t rest) o.value;
+  }

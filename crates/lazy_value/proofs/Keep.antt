@@ -1,0 +1,196 @@
+-- Each earlier identifier stays.
+use Rattle.std.proofs.Common.{◌≡◌, ◌<◌, ◌≤◌, ◌+◌, ℕ, suc, Bool, List, [], ◌∷◌, Option, Some, None, length, drop, refl, ◌∙◌, sym, ap, subst, arith}
+use Rattle.std.specs.Prelude.{IsTrue, MatchOption}
+use Rattle.mix_tree.specs.Forest.{Forest, first_kids, behind}
+use Rattle.mix_tree.specs.Nodes.{Documents, Node, label_at, kids_at, label_of_first, node_trees}
+use Rattle.plan_core.specs.declared.plan.Plan.{Plan}
+use Rattle.plan_core.specs.PlanMade.{plan_value}
+use Rattle.plan_core.specs.Plans.{Operator}
+use Rattle.plan_core.specs.ByNumber.{op_at}
+use Rattle.plan_core.specs.Tolled.{Tolled, ends, item, charged}
+use Rattle.plan_core.specs.TolledRows.{TolledRow, piece_items, all_items, collected}
+use Rattle.plan_core.specs.Events.{RowEvents, events, same_group, tolled_document}
+use Rattle.lazy_plan.specs.Bench.{BenchState, ops_of, documents, events_of, size_of, IsCursor, CursorStays, binding_at, ahead_at, number_at, IsSpotAt, node_at, after_at, KeepsBench}
+use Rattle.lazy_plan.specs.declared.position.Position.{Position}
+use Rattle.lazy_value.specs.Forms.{Form, makes_list, makes_element, gathers_groups, form, input_at, pieces_of, keys_of, label_in, piece_at, piece_of}
+use Rattle.lazy_value.specs.Sizes.{pieces_count, size, extent}
+use Rattle.lazy_value.specs.Ids.{element_trees, pieces_trees, ahead_from, members_trees, group_ahead, group_trees, Stands, GathersAll, IsText, IsHead, head_label, head_trees, text_of, is_text, IsRest, rest_trees, here, IsSite, weight, number_from, left, site_left}
+use Rattle.lazy_value.specs.Steps.{Stays, KeepsSites}
+use Rattle.lazy_value.specs.declared.ids.Head.{Head}
+use Rattle.lazy_value.specs.declared.ids.Head.TheVariants.{Whole, Built, Leaf, Text}
+use Rattle.lazy_value.specs.declared.ids.Rest.{Rest, End, Pieces', Members', Group'}
+use Rattle.lazy_value.specs.declared.ids.Site.{Site}
+use Rattle.lazy_value.specs.declared.ids.Site.TheVariants.{Root, Inside, Item}
+
+module _ (a b : BenchState) (k : KeepsBench a b) where
+  -- the operators are the same
+  pub ops_kept : ops_of b ≡ ops_of a
+  ops_kept = ap (λ (p : Plan). (plan_value p).ops) k.plan
+
+  -- so is the input of each
+  pub input_kept : (op : ℕ) → input_at (ops_of b) op ≡ input_at (ops_of a) op
+  input_kept op = ap (λ (ops : List Operator). input_at ops op) ops_kept
+
+  -- a cursor of an input stays
+  cursor_in : (op : ℕ) (c : Position) → IsCursor a (input_at (ops_of a) op) c → CursorStays a b (input_at (ops_of a) op) c
+  cursor_in op c h = k.cursors (input_at (ops_of a) op) c h
+
+  -- it is one of the input still
+  pub cursor_kept : (op : ℕ) (c : Position) → IsCursor a (input_at (ops_of a) op) c → IsCursor b (input_at (ops_of b) op) c
+  cursor_kept op c h = subst (λ (n : ℕ). IsCursor b n c) (sym (input_kept op)) (cursor_in op c h).cursor
+
+  -- at the same binding
+  pub binding_kept : (op : ℕ) (c : Position) → IsCursor a (input_at (ops_of a) op) c → binding_at b (input_at (ops_of b) op) c ≡ binding_at a (input_at (ops_of a) op) c
+  binding_kept op c h = ap (λ (n : ℕ). binding_at b n c) (input_kept op) ∙ (cursor_in op c h).binding
+
+  -- before the same events
+  pub ahead_kept : (op : ℕ) (c : Position) → IsCursor a (input_at (ops_of a) op) c → ahead_at b (input_at (ops_of b) op) c ≡ ahead_at a (input_at (ops_of a) op) c
+  ahead_kept op c h = ap (λ (n : ℕ). ahead_at b n c) (input_kept op) ∙ (cursor_in op c h).ahead
+
+  -- with no greater number
+  pub number_kept : (op : ℕ) (c : Position) → IsCursor a (input_at (ops_of a) op) c → number_at b (input_at (ops_of b) op) c ≤ number_at a (input_at (ops_of a) op) c
+  number_kept op c h = subst (λ (n : ℕ). number_at b n c ≤ number_at a (input_at (ops_of a) op) c) (sym (input_kept op)) (cursor_in op c h).number
+
+  -- events are the same
+  pub events_kept : (n : ℕ) → events_of b n ≡ events_of a n
+  events_kept n = ap (λ (d : Documents). events d (ops_of b) n) k.documents ∙ ap (λ (ops : List Operator). events (documents a) ops n) ops_kept
+
+  pub Stands-kept : (op : ℕ) (f : Form) (c : Position) → Stands a op f c → Stands b op f c
+  Stands-kept op f c h = record {
+    within = subst (λ (ops : List Operator). op < length ops) (sym ops_kept) h.within;
+    is = ap (λ (ops : List Operator). form (op_at ops op)) ops_kept ∙ h.is;
+    cursor = cursor_kept op c h.cursor;
+  }
+
+  pub GathersAll-kept : (op : ℕ) → GathersAll a op → GathersAll b op
+  GathersAll-kept op h = record {
+    within = subst (λ (ops : List Operator). op < length ops) (sym ops_kept) h.within;
+    is = ap (λ (ops : List Operator). form (op_at ops op)) ops_kept ∙ h.is;
+  }
+
+  element-kept : (op : ℕ) (c : Position) → Stands a op makes_element c → element_trees b op c ≡ element_trees a op c
+  element-kept op c h =
+      ap (λ (d : Documents). piece_items d (piece_of (ops_of b) op) (binding_at b (input_at (ops_of b) op) c) (ends 0)) k.documents
+      ∙ ap (λ (ops : List Operator). piece_items (documents a) (piece_of ops op) (binding_at b (input_at (ops_of b) op) c) (ends 0)) ops_kept
+      ∙ ap (λ (row : TolledRow). piece_items (documents a) (piece_of (ops_of a) op) row (ends 0)) (binding_kept op c h.cursor)
+
+  pieces-kept : (op : ℕ) (c : Position) (next : ℕ) (f : Tolled) → Stands a op makes_list c → pieces_trees b op c next f ≡ pieces_trees a op c next f
+  pieces-kept op c next f h =
+      ap (λ (d : Documents). all_items d (drop next (pieces_of (op_at (ops_of b) op))) (binding_at b (input_at (ops_of b) op) c) f) k.documents
+      ∙ ap (λ (ops : List Operator). all_items (documents a) (drop next (pieces_of (op_at ops op))) (binding_at b (input_at (ops_of b) op) c) f) ops_kept
+      ∙ ap (λ (row : TolledRow). all_items (documents a) (drop next (pieces_of (op_at (ops_of a) op))) row f) (binding_kept op c h.cursor)
+
+  pub ahead_from-kept : (op : ℕ) (at : Option Position) → MatchOption at (Unit {0}) (λ c. IsCursor a (input_at (ops_of a) op) c) → ahead_from b (input_at (ops_of b) op) at ≡ ahead_from a (input_at (ops_of a) op) at
+  ahead_from-kept op None h = ap (λ (n : ℕ). events_of b n) (input_kept op) ∙ events_kept (input_at (ops_of a) op)
+  ahead_from-kept op (Some c) h = ahead_kept op c h
+
+  at-kept : (op : ℕ) (at : Option Position) → MatchOption at (Unit {0}) (λ c. IsCursor a (input_at (ops_of a) op) c) → MatchOption at (Unit {0}) (λ c. IsCursor b (input_at (ops_of b) op) c)
+  at-kept op None h = tt
+  at-kept op (Some c) h = cursor_kept op c h
+
+  -- what is collected with the piece of an operator
+  collected-kept : (op : ℕ) (es fs : RowEvents) (f : Tolled) → es ≡ fs → collected (documents b) (piece_of (ops_of b) op) es f ≡ collected (documents a) (piece_of (ops_of a) op) fs f
+  collected-kept op es fs f e =
+      ap (λ (d : Documents). collected d (piece_of (ops_of b) op) es f) k.documents
+      ∙ ap (λ (ops : List Operator). collected (documents a) (piece_of ops op) es f) ops_kept
+      ∙ ap (λ (z : RowEvents). collected (documents a) (piece_of (ops_of a) op) z f) e
+
+  pub group_ahead-kept : (op : ℕ) (first at : Position) → Stands a op gathers_groups first → Stands a op gathers_groups at → group_ahead b op first at ≡ group_ahead a op first at
+  group_ahead-kept op first at h i =
+      ap (λ (d : Documents). same_group d (keys_of (op_at (ops_of b) op)) (binding_at b (input_at (ops_of b) op) first) (ahead_at b (input_at (ops_of b) op) at)) k.documents
+      ∙ ap (λ (ops : List Operator). same_group (documents a) (keys_of (op_at ops op)) (binding_at b (input_at (ops_of b) op) first) (ahead_at b (input_at (ops_of b) op) at)) ops_kept
+      ∙ ap (λ (row : TolledRow). same_group (documents a) (keys_of (op_at (ops_of a) op)) row (ahead_at b (input_at (ops_of b) op) at)) (binding_kept op first h.cursor)
+      ∙ ap (λ (z : RowEvents). same_group (documents a) (keys_of (op_at (ops_of a) op)) (binding_at a (input_at (ops_of a) op) first) z) (ahead_kept op at i.cursor)
+
+  pub IsRest-kept : (r : Rest) → IsRest a r → IsRest b r
+  IsRest-kept End h = tt
+  IsRest-kept (Pieces' op at next q up) h =
+      (Stands-kept op makes_list at h.0, subst (λ (ops : List Operator). next ≤ length (pieces_of (op_at ops op))) (sym ops_kept) h.1, IsRest-kept up h.2)
+  IsRest-kept (Members' op at q up) h = (GathersAll-kept op h.0, at-kept op at h.1, IsRest-kept up h.2)
+  IsRest-kept (Group' op first at q up) h = (Stands-kept op gathers_groups first h.0, Stands-kept op gathers_groups at h.1, IsRest-kept up h.2)
+
+  pub rest_trees-kept : (r : Rest) → IsRest a r → rest_trees b r ≡ rest_trees a r
+  rest_trees-kept End h = refl
+  rest_trees-kept (Pieces' op at next q up) h = ap (pieces_trees b op at next) (rest_trees-kept up h.2) ∙ pieces-kept op at next (rest_trees a up) h.0
+  rest_trees-kept (Members' op at q up) h =
+      ap (members_trees b op at) (rest_trees-kept up h.2) ∙ collected-kept op (ahead_from b (input_at (ops_of b) op) at) (ahead_from a (input_at (ops_of a) op) at) (rest_trees a up) (ahead_from-kept op at h.1)
+  rest_trees-kept (Group' op first at q up) h =
+      ap (group_trees b op first at) (rest_trees-kept up h.2) ∙ collected-kept op (group_ahead b op first at) (group_ahead a op first at) (rest_trees a up) (group_ahead-kept op first at h.0 h.1)
+
+  pub weight-kept : (r : Rest) → IsRest a r → weight b r ≡ weight a r
+  weight-kept End h = refl
+  weight-kept (Pieces' op at next q up) h =
+      ap (λ (ops : List Operator). suc (pieces_count (λ v. suc (size ops (input_at ops op) v)) (drop next (pieces_of (op_at ops op))) + weight b up)) ops_kept
+      ∙ ap (λ (n : ℕ). suc (pieces_count (λ v. suc (size (ops_of a) (input_at (ops_of a) op) v)) (drop next (pieces_of (op_at (ops_of a) op))) + n)) (weight-kept up h.2)
+  weight-kept (Members' op at q up) h = ap suc (weight-kept up h.2)
+  weight-kept (Group' op first at q up) h = ap suc (weight-kept up h.2)
+
+  IsHead-kept : (x : Head) → IsHead a x → IsHead b x
+  IsHead-kept (Whole s p) h = (k.spots s p h).spot
+  IsHead-kept (Built op at) h = Stands-kept op makes_element at h
+  IsHead-kept (Leaf s p) h = (k.spots s p h).spot
+  IsHead-kept (Text op index) h = record {
+    within = subst (λ (ops : List Operator). op < length ops) (sym ops_kept) h.within;
+    piece = subst (λ (ops : List Operator). index < length (pieces_of (op_at ops op))) (sym ops_kept) h.piece;
+    is = subst (λ (ops : List Operator). IsTrue (is_text (piece_at ops op index))) (sym ops_kept) h.is;
+  }
+
+  -- the trees at a node
+  node-kept : {A : Type 0} (f : Documents → Node → A) (s : ℕ) (p : _) → IsSpotAt a s p → f (documents b) (node_at b s p) ≡ f (documents a) (node_at a s p)
+  node-kept f s p h = ap (λ (d : Documents). f d (node_at b s p)) k.documents ∙ ap (f (documents a)) (k.spots s p h).node
+
+  head_label-kept : (x : Head) → IsHead a x → head_label b x ≡ head_label a x
+  head_label-kept (Whole s p) h = node-kept label_at s p h
+  head_label-kept (Built op at) h = ap (λ (ops : List Operator). label_in (op_at ops op)) ops_kept
+  head_label-kept (Leaf s p) h = node-kept label_at s p h
+  head_label-kept (Text op index) h = ap (λ (ops : List Operator). text_of (piece_at ops op index)) ops_kept
+
+  head_trees-kept : (x : Head) → IsHead a x → head_trees b x ≡ head_trees a x
+  head_trees-kept (Whole s p) h = ap charged (node-kept kids_at s p h)
+  head_trees-kept (Built op at) h = element-kept op at h
+  head_trees-kept (Leaf s p) h = refl
+  head_trees-kept (Text op index) h = refl
+
+  IsSite-kept : (n : Site) → IsSite a n → IsSite b n
+  IsSite-kept Root h = tt
+  IsSite-kept (Inside s p) h = (k.spots s p h).spot
+  IsSite-kept (Item x r) h = (IsHead-kept x h.0, IsRest-kept r.value h.1)
+
+  -- a place inside a source
+  abbrev inside : Forest → Tolled
+  inside f = item 0 (label_of_first f) (charged (first_kids f)) (charged (behind f))
+
+  here-kept : (n : Site) → IsSite a n → here b n ≡ here a n
+  here-kept Root h = ap (λ (d : Documents). tolled_document d (ops_of b)) k.documents ∙ ap (tolled_document (documents a)) ops_kept
+  here-kept (Inside s p) h = ap inside (node-kept node_trees s p h)
+  here-kept (Item x r) h =
+      ap (λ (l : List ℕ). item 0 l (head_trees b x) (rest_trees b r.value)) (head_label-kept x h.0)
+      ∙ ap (λ (t : Tolled). item 0 (head_label a x) t (rest_trees b r.value)) (head_trees-kept x h.0)
+      ∙ ap (item 0 (head_label a x) (head_trees a x)) (rest_trees-kept r.value h.1)
+
+  number_from-kept : (op : ℕ) (at : Option Position) → MatchOption at (Unit {0}) (λ c. IsCursor a (input_at (ops_of a) op) c) → number_from b (input_at (ops_of b) op) at ≤ number_from a (input_at (ops_of a) op) at
+  number_from-kept op None h = let e : size_of b (input_at (ops_of b) op) ≡ size_of a (input_at (ops_of a) op) = ap (λ (n : ℕ). size_of b n) (input_kept op) ∙ k.size (input_at (ops_of a) op) in omega (arith, e)
+  number_from-kept op (Some c) h = number_kept op c h
+
+  -- whole numbers are the same
+  sizes_kept : ◌≡◌ {A = ℕ → ℕ} (size_of b) (size_of a)
+  sizes_kept = λ i n. k.size n i
+
+  pub left-kept : (r : Rest) → IsRest a r → left b r ≤ left a r
+  left-kept End h = omega arith
+  left-kept (Pieces' op at next q up) h =
+      let e : pieces_count (extent (size_of b) (ops_of b) (input_at (ops_of b) op)) (drop next (pieces_of (op_at (ops_of b) op))) ≡ pieces_count (extent (size_of a) (ops_of a) (input_at (ops_of a) op)) (drop next (pieces_of (op_at (ops_of a) op))) =
+      ap (λ (f : ℕ → ℕ). pieces_count (extent f (ops_of b) (input_at (ops_of b) op)) (drop next (pieces_of (op_at (ops_of b) op)))) sizes_kept
+      ∙ ap (λ (ops : List Operator). pieces_count (extent (size_of a) ops (input_at ops op)) (drop next (pieces_of (op_at ops op)))) ops_kept in
+      let i = left-kept up h.2 in omega (arith, e, i)
+  left-kept (Members' op at q up) h = let i = left-kept up h.2 in let j = number_from-kept op at h.1 in omega (arith, i, j)
+  left-kept (Group' op first at q up) h = let i = left-kept up h.2 in let j = number_kept op at h.1.cursor in omega (arith, i, j)
+
+  site_left-kept : (n : Site) → IsSite a n → site_left b n ≤ site_left a n
+  site_left-kept Root h = omega arith
+  site_left-kept (Inside s p) h = (k.spots s p h).after
+  site_left-kept (Item x r) h = left-kept r.value h.1
+
+  -- each earlier identifier stays
+  pub keeps_sites : KeepsSites a b
+  keeps_sites n h = record { node = IsSite-kept n h; here = here-kept n h; left = site_left-kept n h }

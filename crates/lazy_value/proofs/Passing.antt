@@ -1,0 +1,203 @@
+-- Where the value of a variable comes from, by the form of the operator.
+use Rattle.std.proofs.Common.{◌≡◌, ◌<◌, ◌≤◌, ◌+◌, ◌⊎◌, inl, inr, ◌||◌, ◌&&◌, ℕ, suc, Bool, true, false, cond, List, [], ◌∷◌, Option, Some, None, length, refl, ◌∙◌, sym, ap, subst, arith}
+use Rattle.std.specs.Prelude.{◌==◌, is_some}
+use Rattle.path_expr.specs.Form.{Form}
+use Rattle.mix_tree.specs.Keys.{has_var}
+use Rattle.mix_tree.specs.declared.var.Key.{Key}
+use Rattle.mix_tree.specs.declared.comparing.Test.{Test}
+use Rattle.plan_core.specs.declared.plan.Piece.{Piece}
+use Rattle.plan_core.specs.declared.plan.Plan.{Plan}
+use Rattle.plan_core.specs.PlanMade.{plan_value}
+use Rattle.plan_core.specs.Plans.{Operator, source, get_descendants, join, over, tuple_destroy}
+use Rattle.plan_core.specs.Unary.{Unary, select, order_by, project, group_by, concatenate, create_element}
+use Rattle.plan_core.specs.ByNumber.{op_at}
+use Rattle.plan_core.specs.Typed.{IsTyped}
+use Rattle.plan_core.specs.Valid.{Kind, a_node, an_element, a_list, Kinds, kinds, kept, op_kinds, either_kind, IsFit, AreNodes}
+use Rattle.plan_core.specs.TolledRows.{TolledRow, TolledValue, tolled_value}
+use Rattle.plan_core.specs.Events.{RowEvents}
+use Rattle.lazy_plan.specs.World.{World}
+use Rattle.lazy_plan.specs.Bench.{IsMadeOf, HasUnder, AmongInputs}
+use Rattle.lazy_value.specs.Labels.{labels, op_labels, either_label}
+use Rattle.lazy_value.specs.Sizes.{size, op_size, extent, op_extent}
+use Rattle.lazy_value.specs.Origins.{IsPassedOn, IsMadeHere, makes}
+use Rattle.lazy_value.proofs.Numbering.{inputs_below, kind_of, size_of, extent_of, labels_of, labels_fit, fits_some, fits_none}
+
+-- WHAT AN OPERATOR BINDS
+
+-- a variable that is bound anew
+pub bound_out : (b r : Bool) (k : Kind) (z : Option Kind) → r ≡ b → r ≡ true → r ≡ is_some (cond b (Some k) z)
+bound_out true r k z e h = h
+bound_out false r k z e h = cc
+
+-- another one
+pub bound_other : (b t r : Bool) (k : Kind) (z : Option Kind) → t ≡ b → t ≡ false → r ≡ is_some z → r ≡ is_some (cond b (Some k) z)
+bound_other true t r k z e h i = cc
+bound_other false t r k z e h i = i
+
+-- the only one
+pub bound_only : (b r : Bool) (k : Kind) → r ≡ b → r ≡ is_some (cond b (Some k) None)
+bound_only true r k e = e
+bound_only false r k e = e
+
+-- one of the keys
+pub bound_key : (b t r : Bool) (z : Option Kind) → t ≡ b → t ≡ true → r ≡ is_some z → r ≡ is_some (cond b z None)
+bound_key true t r z e h i = i
+bound_key false t r z e h i = cc
+
+-- one that is none of them
+pub bound_no_key : (b t : Bool) (z : Option Kind) → t ≡ b → t ≡ false → t ≡ is_some (cond b z None)
+bound_no_key true t z e h = cc
+bound_no_key false t z e h = h
+
+-- of one side
+pub bound_left : (r : Bool) (j k : Option Kind) → r ≡ is_some j → r ≡ true → r ≡ is_some (either_kind j k)
+bound_left r None k e h = cc
+bound_left r (Some j) k e h = e
+
+-- or of the other
+pub bound_right : (l r : Bool) (j k : Option Kind) → l ≡ is_some j → l ≡ false → r ≡ is_some k → r ≡ is_some (either_kind j k)
+bound_right l r None k e h i = i
+bound_right l r (Some j) k e h i = cc
+
+module _ (ops : List Operator) (typed : IsTyped ops) (n : ℕ) (within : n < length ops) (o : Operator) (e : o ≡ op_at ops n) where
+  -- whether an operator binds a variable
+  pub bound_at : (v : ℕ) (b : Bool) → b ≡ is_some (op_kinds o (kinds ops) v) → b ≡ is_some (kinds ops n v)
+  bound_at v b h = h ∙ sym (ap is_some (kind_of ops typed n within o e v))
+
+-- no variable is bound here
+pub none_bound : (j : Option Kind) (k : Kind) → j ≡ None → j ≡ Some k → ⊥
+none_bound j k e h = cc
+
+-- WHERE A VALUE COMES FROM
+
+-- the same choice on both sides
+pub cond_false : {A : Type 0} (b : Bool) (x y : A) → b ≡ false → cond b x y ≡ y
+cond_false true x y h = cc
+cond_false false x y h = refl
+
+cond_le : (b : Bool) (x y : ℕ) → b ≡ false → y ≤ cond b x y
+cond_le true x y h = cc
+cond_le false x y h = omega arith
+
+module _ (p : Plan) (typed : IsTyped (plan_value p).ops) (n : ℕ) (within : n < length (plan_value p).ops) (v : ℕ) where
+  -- from one input
+  passed : (o : Operator) → o ≡ op_at (plan_value p).ops n → (i : ℕ) → i < n → AmongInputs i o → HasUnder o
+      → op_kinds o (kinds (plan_value p).ops) v ≡ kinds (plan_value p).ops i v
+      → size (plan_value p).ops i v ≤ op_size o (size (plan_value p).ops) v
+      → ((bound : ℕ → ℕ) → extent bound (plan_value p).ops i v ≤ op_extent bound o (extent bound (plan_value p).ops) v)
+      → op_labels o (labels (plan_value p).ops) v ≡ labels (plan_value p).ops i v
+      → ((w : World) (row below : TolledRow) (es : RowEvents) → IsMadeOf (record { world = w; plan = p }) row i below es o → tolled_value row v ≡ tolled_value below v)
+      → IsPassedOn p n v i
+  passed o e i l a u k s x b m = record {
+    within = l;
+    input = subst (λ (q : Operator). AmongInputs i q) e a;
+    under = subst (λ (q : Operator). HasUnder q) e u;
+    kind = kind_of (plan_value p).ops typed n within o e v ∙ k;
+    size = (let z = size_of (plan_value p).ops typed n within o e v in omega (arith, z, s));
+    extent = λ bound. (let z = extent_of (plan_value p).ops typed n within o e bound v in let y = x bound in omega (arith, z, y));
+    labels = labels_of (plan_value p).ops typed n within o e v ∙ b;
+    value = λ w row below es h. m w row below es (subst (λ (q : Operator). IsMadeOf (record { world = w; plan = p }) row i below es q) (sym e) h);
+  }
+
+  pub passed_visit : (i start : ℕ) (path : Form) (out : ℕ) → get_descendants i start path out ≡ op_at (plan_value p).ops n → (out == v) ≡ false → IsPassedOn p n v i
+  passed_visit i start path out e t =
+      passed (get_descendants i start path out) e i (inputs_below (plan_value p).ops typed n within (get_descendants i start path out) e).0 refl tt
+      (cond_false (out == v) (Some a_node) (kinds (plan_value p).ops i v) t)
+      (cond_le (out == v) _ (size (plan_value p).ops i v) t)
+      (λ bound. cond_le (out == v) _ (extent bound (plan_value p).ops i v) t)
+      (cond_false (out == v) (Some None) (labels (plan_value p).ops i v) t)
+      (λ w row below es h. ap (λ (r : TolledRow). tolled_value r v) h.1 ∙ cond_false (out == v) _ (tolled_value below v) t)
+
+  pub passed_select : (i : ℕ) (test : Test) → over i (select test) ≡ op_at (plan_value p).ops n → IsPassedOn p n v i
+  passed_select i test e =
+      passed (over i (select test)) e i (inputs_below (plan_value p).ops typed n within (over i (select test)) e).0 refl tt refl (omega arith) (λ bound. omega arith) refl
+      (λ w row below es h. ap (λ (r : TolledRow). tolled_value r v) h)
+
+  pub passed_order : (i u : ℕ) (desc : Bool) → over i (order_by u desc) ≡ op_at (plan_value p).ops n → IsPassedOn p n v i
+  passed_order i u desc e =
+      passed (over i (order_by u desc)) e i (inputs_below (plan_value p).ops typed n within (over i (order_by u desc)) e).0 refl tt refl (omega arith) (λ bound. omega arith) refl
+      (λ w row below es h. ap (λ (r : TolledRow). tolled_value r v) h)
+
+  pub passed_list : (i : ℕ) (pieces : List Piece) (out : ℕ) → over i (concatenate pieces out) ≡ op_at (plan_value p).ops n → (out == v) ≡ false → IsPassedOn p n v i
+  passed_list i pieces out e t =
+      passed (over i (concatenate pieces out)) e i (inputs_below (plan_value p).ops typed n within (over i (concatenate pieces out)) e).0 refl tt
+      (cond_false (out == v) (Some a_list) (kinds (plan_value p).ops i v) t)
+      (cond_le (out == v) _ (size (plan_value p).ops i v) t)
+      (λ bound. cond_le (out == v) _ (extent bound (plan_value p).ops i v) t)
+      (cond_false (out == v) (Some None) (labels (plan_value p).ops i v) t)
+      (λ w row below es h. ap (λ (r : TolledRow). tolled_value r v) h ∙ cond_false (out == v) _ (tolled_value below v) t)
+
+  pub passed_element : (i : ℕ) (label : List ℕ) (list out : ℕ) → over i (create_element label list out) ≡ op_at (plan_value p).ops n → (out == v) ≡ false → IsPassedOn p n v i
+  passed_element i label list out e t =
+      passed (over i (create_element label list out)) e i (inputs_below (plan_value p).ops typed n within (over i (create_element label list out)) e).0 refl tt
+      (cond_false (out == v) (Some an_element) (kinds (plan_value p).ops i v) t)
+      (cond_le (out == v) _ (size (plan_value p).ops i v) t)
+      (λ bound. cond_le (out == v) _ (extent bound (plan_value p).ops i v) t)
+      (cond_false (out == v) (Some (Some label)) (labels (plan_value p).ops i v) t)
+      (λ w row below es h. ap (λ (r : TolledRow). tolled_value r v) h ∙ cond_false (out == v) _ (tolled_value below v) t)
+
+  -- the kind on the left side
+  some_kind : (j : Option Kind) → true ≡ is_some j → (k : Kind) × (j ≡ Some k)
+  some_kind None e = cc
+  some_kind (Some k) e = (k, refl)
+
+  none_kind : (j : Option Kind) → false ≡ is_some j → j ≡ None
+  none_kind None e = refl
+  none_kind (Some k) e = cc
+
+  pub passed_left : (l r : ℕ) (tests : List Test) → join l r tests ≡ op_at (plan_value p).ops n → true ≡ is_some (kinds (plan_value p).ops l v) → IsPassedOn p n v l
+  passed_left l r tests e t =
+      let below = inputs_below (plan_value p).ops typed n within (join l r tests) e in
+      let k = some_kind (kinds (plan_value p).ops l v) t in
+      let x = fits_some (kinds (plan_value p).ops l v) (labels (plan_value p).ops l v) k.0 (labels_fit (plan_value p).ops typed l v (let z = below.0 in omega (arith, z, within))) k.1 in
+      passed (join l r tests) e l below.0 (inl refl) tt
+      (rw k.1 refl) (omega arith) (λ bound. omega arith) (rw x.1 refl)
+      (λ w row row' es h. h.0 refl v k.0 k.1)
+
+  pub passed_right : (l r : ℕ) (tests : List Test) → join l r tests ≡ op_at (plan_value p).ops n → false ≡ is_some (kinds (plan_value p).ops l v) → (k : Kind) × (kinds (plan_value p).ops n v ≡ Some k) → IsPassedOn p n v r
+  passed_right l r tests e t k =
+      let below = inputs_below (plan_value p).ops typed n within (join l r tests) e in
+      let none = none_kind (kinds (plan_value p).ops l v) t in
+      let x = fits_none (kinds (plan_value p).ops l v) (labels (plan_value p).ops l v) (labels_fit (plan_value p).ops typed l v (let z = below.0 in omega (arith, z, within))) none in
+      let right : kinds (plan_value p).ops r v ≡ Some k.0 = ap (λ (j : Option Kind). either_kind j (kinds (plan_value p).ops r v)) (sym none) ∙ sym (kind_of (plan_value p).ops typed n within (join l r tests) e v) ∙ k.1 in
+      passed (join l r tests) e r below.1.0 (inr refl) tt
+      (rw none refl) (omega arith) (λ bound. omega arith) (rw x refl)
+      (λ w row row' es h. h.1 (λ same. (let z : kinds (plan_value p).ops l v ≡ Some k.0 = ap (λ (m : ℕ). kinds (plan_value p).ops m v) (sym same) ∙ right in cc)) v none)
+
+  -- MADE HERE
+
+  made_node : (o : Operator) → o ≡ op_at (plan_value p).ops n → op_kinds o (kinds (plan_value p).ops) v ≡ Some a_node → IsMadeHere p n v
+  made_node o e h = inl (kind_of (plan_value p).ops typed n within o e v ∙ h)
+
+  makes_it : (o : Operator) → o ≡ op_at (plan_value p).ops n → makes o v ≡ true → IsMadeHere p n v
+  makes_it o e h = inr (subst (λ (q : Operator). makes q v ≡ true) e h)
+
+  pub made_source : (s out : ℕ) → source s out ≡ op_at (plan_value p).ops n → (k : Kind) × (kinds (plan_value p).ops n v ≡ Some k) → IsMadeHere p n v
+  made_source s out e k =
+      made_node (source s out) e (elim (out == v) as (λ t. cond t (Some a_node) None ≡ Some k.0 → cond t (Some a_node) None ≡ Some a_node) [ true ↦ λ g. refl | false ↦ λ g. cc ] (sym (kind_of (plan_value p).ops typed n within (source s out) e v) ∙ k.1))
+
+  pub made_visit : (i start : ℕ) (path : Form) (out : ℕ) → get_descendants i start path out ≡ op_at (plan_value p).ops n → (out == v) ≡ true → IsMadeHere p n v
+  made_visit i start path out e t = made_node (get_descendants i start path out) e (rw t refl)
+
+  -- a variable of keys holds a node
+  key_node : (i : ℕ) (keys : List Key) → AreNodes keys (kinds (plan_value p).ops i) → (k : Kind) → kept keys (kinds (plan_value p).ops i) v ≡ Some k → kept keys (kinds (plan_value p).ops i) v ≡ Some a_node
+  key_node i keys nodes k h = elim (has_var keys v) as (λ t. has_var keys v ≡ t → cond t (kinds (plan_value p).ops i v) None ≡ Some k → cond t (kinds (plan_value p).ops i v) None ≡ Some a_node) [ true ↦ λ g f. nodes v g | false ↦ λ g f. cc ] refl h
+
+  pub made_project : (i : ℕ) (keys : List Key) → over i (project keys) ≡ op_at (plan_value p).ops n → (k : Kind) × (kinds (plan_value p).ops n v ≡ Some k) → IsMadeHere p n v
+  made_project i keys e k =
+      made_node (over i (project keys)) e (key_node i keys (subst (λ (o : Operator). IsFit o (kinds (plan_value p).ops)) (sym e) (typed.fit n within)) k.0 (sym (kind_of (plan_value p).ops typed n within (over i (project keys)) e v) ∙ k.1))
+
+  pub made_group : (i : ℕ) (keys : List Key) (piece : Piece) (out : ℕ) → over i (group_by keys piece out) ≡ op_at (plan_value p).ops n → (k : Kind) × (kinds (plan_value p).ops n v ≡ Some k) → IsMadeHere p n v
+  made_group i keys piece out e k =
+      elim (out == v) as (λ t. (out == v) ≡ t → IsMadeHere p n v) [
+        | true ↦ λ t. makes_it (over i (group_by keys piece out)) e t
+        | false ↦ λ t. made_node (over i (group_by keys piece out)) e (cond_false (out == v) (Some a_list) (kept keys (kinds (plan_value p).ops i) v) t
+            ∙ key_node i keys (subst (λ (o : Operator). IsFit o (kinds (plan_value p).ops)) (sym e) (typed.fit n within)).0 k.0
+            (sym (cond_false (out == v) (Some a_list) (kept keys (kinds (plan_value p).ops i) v) t) ∙ sym (kind_of (plan_value p).ops typed n within (over i (group_by keys piece out)) e v) ∙ k.1))
+      ] refl
+
+  pub made_list : (i : ℕ) (pieces : List Piece) (out : ℕ) → over i (concatenate pieces out) ≡ op_at (plan_value p).ops n → (out == v) ≡ true → IsMadeHere p n v
+  made_list i pieces out e t = makes_it (over i (concatenate pieces out)) e t
+
+  pub made_element : (i : ℕ) (label : List ℕ) (list out : ℕ) → over i (create_element label list out) ≡ op_at (plan_value p).ops n → (out == v) ≡ true → IsMadeHere p n v
+  made_element i label list out e t = makes_it (over i (create_element label list out)) e t

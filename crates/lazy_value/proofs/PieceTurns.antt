@@ -1,0 +1,132 @@
+-- Turns over the pieces of a concatenation.
+use Rattle.std.specs.declared.rc.Rc.{Rc}
+use Rattle.std.proofs.Common.{Global, drop-cons, add-one, ◌≡◌, ◌<◌, ◌≤◌, ◌+◌, ℕ, suc, List, [], ◌∷◌, Option, Some, None, length, drop, get_or, refl, ◌∙◌, sym, ap, subst, arith}
+use Rattle.std.specs.Prelude.{IsTrue, slice_index_or}
+use Rattle.plan_core.specs.declared.plan.Piece.{Piece}
+use Rattle.plan_core.specs.declared.plan.Piece.TheVariants.{Var as var_piece, LabelOf as label_piece, Text as text_piece}
+use Rattle.plan_core.specs.ByNumber.{op_at}
+use Rattle.plan_core.specs.Tolled.{Tolled, item, is_item, paid}
+use Rattle.plan_core.specs.TolledRows.{TolledValue, tolled_value, value_trees, piece_items, all_items}
+use Rattle.lazy_plan.specs.Bench.{BenchState, ops_of, documents, binding_at, size_of}
+use Rattle.lazy_plan.specs.declared.position.Position.{Position}
+use Rattle.lazy_value.specs.Forms.{input_at, pieces_of, piece_at, makes_list}
+use Rattle.lazy_value.specs.Sizes.{piece_count, pieces_count, size, extent}
+use Rattle.lazy_value.specs.Ids.{pieces_trees, Stands, IsOrigin, value_of, IsHead, head_label, head_trees, IsRest, rest_trees, weight, left, site_left}
+use Rattle.lazy_value.specs.Origins.{origin_size, origin_extent, IsOriginOf, IsHeadOf}
+use Rattle.lazy_value.specs.Steps.{StandsFor, GoesOn, Turns, Falls}
+use Rattle.lazy_value.specs.declared.ids.Head.{Head}
+use Rattle.lazy_value.specs.declared.ids.Origin.{Origin}
+use Rattle.lazy_value.specs.declared.ids.Rest.{Rest, Pieces'}
+use Rattle.lazy_value.specs.declared.ids.Site.TheVariants.{Item}
+use Rattle.lazy_value.specs.declared.ids.Turn.{Turn}
+use Rattle.lazy_value.specs.declared.ids.Turn.TheVariants.{Over, At, On}
+
+-- a turn below a smaller number is one below a greater
+turns_more : (a b : BenchState) (f : Tolled) (v w : ℕ) (t : Turn) → v ≤ w → Turns a b f v t → Turns a b f w t
+turns_more a b f v w Over l h = h
+turns_more a b f v w (At n) l h = h
+turns_more a b f v w (On r) l h = record { rest = h.rest; falls = (let z = h.falls in omega (arith, z, l)); trees = h.trees }
+
+falls_more : (b : BenchState) (v w : ℕ) (t : Turn) → v ≤ w → Falls b v t → Falls b w t
+falls_more b v w Over l h = tt
+falls_more b v w (At n) l h = omega (arith, l, h)
+falls_more b v w (On r) l h = omega (arith, l, h)
+
+-- one piece further
+one_on : {X : Type 0} (xs : List X) (i : ℕ) (d : X) → i < length xs → drop i xs ≡ slice_index_or xs i d ∷ drop (i + 1) xs
+one_on xs i d h = rw add-one (drop-cons xs i d h)
+
+module _ (st : BenchState) (op next : ℕ) (at : Position) (up : Rest) (there : next < length (pieces_of (op_at (ops_of st) op))) (s : Stands st op makes_list at) (h : IsRest st up) (q : Rc (Unit {0}) Global) where
+  -- the pieces from here on
+  pieces_on : drop next (pieces_of (op_at (ops_of st) op)) ≡ piece_at (ops_of st) op next ∷ drop (next + 1) (pieces_of (op_at (ops_of st) op))
+  pieces_on = one_on (pieces_of (op_at (ops_of st) op)) next (text_piece []) there
+
+  -- their trees
+  trees_on : pieces_trees st op at next (rest_trees st up) ≡ piece_items (documents st) (piece_at (ops_of st) op next) (binding_at st (input_at (ops_of st) op) at) (pieces_trees st op at (next + 1) (rest_trees st up))
+  trees_on = ap (λ (ps : List Piece). all_items (documents st) ps (binding_at st (input_at (ops_of st) op) at) (rest_trees st up)) pieces_on
+
+  -- their number, each counting for so much
+  count_on : (of : ℕ → ℕ) → pieces_count of (drop next (pieces_of (op_at (ops_of st) op))) ≡ piece_count of (piece_at (ops_of st) op next) + pieces_count of (drop (next + 1) (pieces_of (op_at (ops_of st) op)))
+  count_on of = ap (pieces_count of) pieces_on
+
+  -- what is behind this one is a rest
+  rest_on : IsRest st (Pieces' op at (next + 1) q up)
+  rest_on = (s, omega (arith, there), h)
+
+  module _ (v : ℕ) (origin : Origin) (input : ℕ) (i : input ≡ input_at (ops_of st) op) (p : piece_at (ops_of st) op next ≡ var_piece v) (o : IsOriginOf st input at v origin) where
+    values_on : value_trees (documents st) (value_of st origin) (rest_trees st (Pieces' op at (next + 1) q up)) ≡ pieces_trees st op at next (rest_trees st up)
+    values_on = sym (trees_on
+        ∙ ap (λ (x : Piece). piece_items (documents st) x (binding_at st (input_at (ops_of st) op) at) (pieces_trees st op at (next + 1) (rest_trees st up))) p
+        ∙ ap (λ (x : TolledValue). value_trees (documents st) x (pieces_trees st op at (next + 1) (rest_trees st up))) (ap (λ (n : ℕ). tolled_value (binding_at st n at) v) (sym i) ∙ o.value))
+
+    -- a turn into the value of a piece is one over the pieces
+    var_turns : (t : Turn) → Turns st st (value_trees (documents st) (value_of st origin) (rest_trees st (Pieces' op at (next + 1) q up))) (suc (origin_size st origin + weight st (Pieces' op at (next + 1) q up))) t
+        → Turns st st (pieces_trees st op at next (rest_trees st up)) (suc (pieces_count (λ v. suc (size (ops_of st) (input_at (ops_of st) op) v)) (drop next (pieces_of (op_at (ops_of st) op))) + weight st up)) t
+    var_turns t w =
+        let c = count_on (λ v. suc (size (ops_of st) (input_at (ops_of st) op) v)) in
+        let d = ap (piece_count (λ v. suc (size (ops_of st) (input_at (ops_of st) op) v))) p in
+        let e : origin_size st origin ≤ size (ops_of st) (input_at (ops_of st) op) v = subst (λ (n : ℕ). origin_size st origin ≤ size (ops_of st) n v) i o.size in
+        turns_more st st (pieces_trees st op at next (rest_trees st up)) _ _ t (omega (arith, c, d, e))
+        (subst (λ (f : Tolled). Turns st st f (suc (origin_size st origin + weight st (Pieces' op at (next + 1) q up))) t) values_on w)
+
+    -- the same, where the rest is put together apart
+    pub var_turned : (x : Rest) → x ≡ Pieces' op at (next + 1) q up → (t : Turn)
+        → (IsOrigin st origin → IsRest st x → Turns st st (value_trees (documents st) (value_of st origin) (rest_trees st x)) (suc (origin_size st origin + weight st x)) t)
+        → Turns st st (pieces_trees st op at next (rest_trees st up)) (suc (pieces_count (λ v. suc (size (ops_of st) (input_at (ops_of st) op) v)) (drop next (pieces_of (op_at (ops_of st) op))) + weight st up)) t
+    var_turned x e t f =
+        var_turns t (subst (λ (r : Rest). Turns st st (value_trees (documents st) (value_of st origin) (rest_trees st r)) (suc (origin_size st origin + weight st r)) t) e
+        (f o.origin (subst (λ (r : Rest). IsRest st r) (sym e) rest_on)))
+
+    var_falls : (t : Turn) → Falls st (origin_extent st origin + left st (Pieces' op at (next + 1) q up)) t
+        → Falls st (pieces_count (extent (size_of st) (ops_of st) (input_at (ops_of st) op)) (drop next (pieces_of (op_at (ops_of st) op))) + left st up) t
+    var_falls t w =
+        let c = count_on (extent (size_of st) (ops_of st) (input_at (ops_of st) op)) in
+        let d = ap (piece_count (extent (size_of st) (ops_of st) (input_at (ops_of st) op))) p in
+        let e : origin_extent st origin ≤ extent (size_of st) (ops_of st) (input_at (ops_of st) op) v = subst (λ (n : ℕ). origin_extent st origin ≤ extent (size_of st) (ops_of st) n v) i o.extent in
+        falls_more st _ _ t (omega (arith, c, d, e)) w
+
+    -- the same, where the rest is put together apart
+    pub var_fallen : (x : Rest) → x ≡ Pieces' op at (next + 1) q up → (t : Turn) → (IsOrigin st origin → IsRest st x → Falls st (origin_extent st origin + left st x) t)
+        → Falls st (pieces_count (extent (size_of st) (ops_of st) (input_at (ops_of st) op)) (drop next (pieces_of (op_at (ops_of st) op))) + left st up) t
+    var_fallen x e t f =
+        var_falls t (subst (λ (r : Rest). Falls st (origin_extent st origin + left st r) t) e (f o.origin (subst (λ (r : Rest). IsRest st r) (sym e) rest_on)))
+
+  module _ (x : Head) (k : IsHeadOf st op next at x) where
+    -- the tree of a piece that is no list is the first of the pieces
+    pub head_stands : (r : Rc Rest Global) → r.value ≡ Pieces' op at (next + 1) q up → StandsFor st st (pieces_trees st op at next (rest_trees st up)) (Item x r)
+    head_stands r e =
+        let z = trees_on ∙ k.trees (pieces_trees st op at (next + 1) (rest_trees st up)) in
+        record {
+          node = (k.head, subst (λ (w : Rest). IsRest st w) (sym e) rest_on);
+          here = λ y. ap (λ (w : Rest). item 0 (head_label st x) (head_trees st x) (rest_trees st w)) e ∙ sym (ap paid z);
+          tree = λ y. ap is_item z;
+        }
+
+    pub head_falls : ((v : ℕ) → piece_at (ops_of st) op next ≡ var_piece v → ⊥) → (r : Rest) → r ≡ Pieces' op at (next + 1) q up
+        → left st r < pieces_count (extent (size_of st) (ops_of st) (input_at (ops_of st) op)) (drop next (pieces_of (op_at (ops_of st) op))) + left st up
+    head_falls other r e =
+        let c = count_on (extent (size_of st) (ops_of st) (input_at (ops_of st) op)) in
+        let l = ap (left st) e in
+        let d = one (piece_at (ops_of st) op next) other in
+        omega (arith, c, d, l)
+      where
+        one : (p : Piece) → ((v : ℕ) → p ≡ var_piece v → ⊥) → piece_count (extent (size_of st) (ops_of st) (input_at (ops_of st) op)) p ≡ 1
+        one (var_piece v) f = absurd (f v refl)
+        one (label_piece v) f = refl
+        one (text_piece l) f = refl
+
+-- what is behind a piece, as it was put together
+pub behind_is : (x : Rest) (op next : ℕ) (at here : Position) (q : _) (u up : Rest) → x ≡ Pieces' op here next q u → u ≡ up → here ≡ at → x ≡ Pieces' op at next q up
+behind_is x op next at here q u up e f g = e ∙ ap (λ (r : Rest). Pieces' op here next q r) f ∙ ap (λ (c : Position). Pieces' op c next q up) g
+
+-- a piece that is not behind the last one
+pub there_is : (n m r k : ℕ) → n ≤ m → r ≡ k → k ≡ m → (n ≡ r → ⊥) → n < m
+there_is n m r k l e p d = omega (arith, l, e, p, d)
+
+-- a turn over a rest is one over the pieces that it begins with
+pub rest_turns : (st : BenchState) (x : Rest) (op next : ℕ) (at : Position) (q : _) (up : Rest) (t : Turn) → x ≡ Pieces' op at next q up → IsRest st x
+    → (Stands st op makes_list at → IsRest st up → Turns st st (pieces_trees st op at next (rest_trees st up)) (suc (pieces_count (λ v. suc (size (ops_of st) (input_at (ops_of st) op) v)) (drop next (pieces_of (op_at (ops_of st) op))) + weight st up)) t)
+    → Turns st st (rest_trees st x) (weight st x) t
+rest_turns st x op next at q up t e h f =
+    let k = subst (λ (r : Rest). IsRest st r) e h in
+    subst (λ (r : Rest). Turns st st (rest_trees st r) (weight st r) t) (sym e) (f k.0 k.2)

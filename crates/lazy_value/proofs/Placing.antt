@@ -1,0 +1,264 @@
+-- Identifiers and the places of the plan's document.
+use Rattle.std.proofs.Common.{◌≡◌, ℕ, zero, suc, ◌+◌, ◌<◌, ◌≤◌, Bool, true, false, List, [], ◌∷◌, ◌++◌, Option, Some, None, refl, ◌∙◌, sym, ap, subst, add-one, arith}
+use Rattle.std.specs.Prelude.{IsTrue, is_some, option_map, MatchOption}
+use Rattle.std.specs.List.{last_or}
+use Rattle.mix_tree.specs.Forest.{Forest, none, tree, LabelledTree, alone, first_tree, first_label, first_kids, behind, from}
+use Rattle.mix_tree.specs.Place.{trees_at, has_place, tree_at, child_place, next_place}
+use Rattle.mix_tree.specs.Nodes.{Documents}
+use Rattle.plan_core.specs.declared.plan.Plan.{Plan}
+use Rattle.plan_core.specs.PlanMade.{plan_value}
+use Rattle.plan_core.specs.Plans.{Operator, source, get_descendants, join, over, tuple_destroy, document}
+use Rattle.plan_core.specs.Tolled.{Tolled, ends, item, toll, is_item, item_label, trees_below, trees_behind, paid, plain, trees_from, tolled_at}
+use Rattle.plan_core.specs.TolledRows.{TolledValue, of_source, element, trees}
+use Rattle.plan_core.specs.Events.{RowEvents, events, visited, element_alone, tolled_destroyed, tolled_document}
+use Rattle.lazy_plan.specs.Bench.{BenchState, ops_of, documents, told, KeepsBench, AsksAtMost}
+use Rattle.lazy_value.specs.Ids.{here, IsSite}
+use Rattle.lazy_value.specs.Steps.{StandsFor, Reaches}
+use Rattle.lazy_value.specs.Places.{plan_document, down_toll, right_toll, HasPlace, HasNoPlace, IsLabelAt, IsNode, IsAt, IsThere, GivesNode, GivesPlace}
+use Rattle.lazy_value.specs.Mediators.{NodesStay}
+use Rattle.lazy_value.specs.declared.ids.NodeId.{NodeId}
+use Rattle.lazy_value.specs.declared.ids.Site.{Site}
+use Rattle.lazy_value.specs.declared.ids.Site.TheVariants.{Root}
+use Rattle.lazy_value.proofs.Keep.{keeps_sites}
+
+-- LISTS OF TREES BY PLACES
+
+-- what is below and behind a tree doesn't change when it is reached
+below_paid : (f : Tolled) → trees_below (paid f) ≡ trees_below f
+below_paid (ends t) = refl
+below_paid (item t x d r) = refl
+
+behind_paid : (f : Tolled) → trees_behind (paid f) ≡ trees_behind f
+behind_paid (ends t) = refl
+behind_paid (item t x d r) = refl
+
+is_item_paid : (f : Tolled) → is_item (paid f) ≡ is_item f
+is_item_paid (ends t) = refl
+is_item_paid (item t x d r) = refl
+
+label_paid : (f : Tolled) → item_label (paid f) ≡ item_label f
+label_paid (ends t) = refl
+label_paid (item t x d r) = refl
+
+-- the first child is the first of the trees below
+at_down : (f : Tolled) (p : List ℕ) → tolled_at f (child_place p) ≡ trees_below (tolled_at f p)
+at_down f [] = refl
+at_down f (k ∷ p) = at_down (trees_from k (trees_below f)) p
+
+from_behind : (k : ℕ) (f : Tolled) → trees_from k (trees_behind f) ≡ trees_behind (trees_from k f)
+from_behind zero f = refl
+from_behind (suc k) f = from_behind k (trees_behind f)
+
+-- the next sibling is the first of the trees behind
+at_right : (f : Tolled) (p q : List ℕ) → next_place p ≡ Some q → tolled_at f q ≡ trees_behind (tolled_at f p)
+at_right f [] q e = cc
+at_right f (i ∷ []) q e =
+    let d : q ≡ suc i ∷ [] = rw add-one at (let z : q ≡ (i + 1) ∷ [] = cc in z) in
+    rw d (from_behind i (trees_below f))
+at_right f (i ∷ j ∷ p) q e = deeper (next_place (j ∷ p)) (λ r z. at_right (trees_from i (trees_below f)) (j ∷ p) r z) refl e
+  where
+    deeper : (o : Option (List ℕ)) → ((r : List ℕ) → next_place (j ∷ p) ≡ Some r → tolled_at (trees_from i (trees_below f)) r ≡ trees_behind (tolled_at f (i ∷ j ∷ p)))
+        → next_place (j ∷ p) ≡ o → option_map (λ r. i ∷ r) o ≡ Some q → tolled_at f q ≡ trees_behind (tolled_at f (i ∷ j ∷ p))
+    deeper None h z d = cc
+    deeper (Some r) h z d = let y : q ≡ i ∷ r = cc in rw y (h r z)
+
+-- only the root has no next sibling
+never_none : (c : ℕ) (r : List ℕ) → next_place (c ∷ r) ≡ None → ⊥
+never_none c [] e = absurd cc
+never_none c (d ∷ r) e = elim (next_place (d ∷ r)) as (λ o. next_place (d ∷ r) ≡ o → option_map (λ s. c ∷ s) o ≡ None → ⊥) [ None ↦ λ u v. never_none d r u | Some s ↦ λ u v. cc ] refl e
+
+-- a tree with nothing behind it has none
+alone_place : (r : List ℕ) → next_place r ≡ None → (f : Tolled) → trees_behind f ≡ ends 0 → is_item (trees_behind (tolled_at f r)) ≡ true → ⊥
+alone_place [] e f g j = let c : false ≡ true = ap is_item (sym g) ∙ j in cc
+alone_place (c ∷ r) e f g j = never_none c r e
+
+-- WITHOUT TOLLS
+
+plain_from : (k : ℕ) (f : Tolled) → plain (trees_from k f) ≡ from k (plain f)
+plain_from zero f = refl
+plain_from (suc k) (ends t) = plain_from k (ends 0)
+plain_from (suc k) (item t x d r) = plain_from k r
+
+plain_below : (f : Tolled) → plain (trees_below f) ≡ first_kids (plain f)
+plain_below (ends t) = refl
+plain_below (item t x d r) = refl
+
+-- the trees at a place
+plain_at : (f : Tolled) (p : List ℕ) → plain (tolled_at f p) ≡ trees_at (plain f) p
+plain_at f [] = refl
+plain_at f (k ∷ p) = plain_at (trees_from k (trees_below f)) p ∙ ap (λ (g : Forest). trees_at g p) (plain_from k (trees_below f) ∙ ap (from k) (plain_below f))
+
+-- whether there is one
+plain_some : (f : Tolled) → is_some (first_label (plain f)) ≡ is_item f
+plain_some (ends t) = refl
+plain_some (item t x d r) = refl
+
+-- its label
+plain_label : (f : Tolled) → is_item f ≡ true → (u : LabelledTree) × (first_tree (plain f) ≡ Some u) × (item_label f ≡ u.label)
+plain_label (ends t) h = cc
+plain_label (item t x d r) h = (record { label = x; kids = plain d }, refl, refl)
+
+-- a tree with nothing behind it
+plain_alone : (f : Tolled) → trees_behind f ≡ ends 0 → (t : LabelledTree) → first_tree (plain f) ≡ Some t → plain f ≡ alone t
+plain_alone (ends u) b t e = cc
+plain_alone (item u x d r) b t e =
+    let i : record { label = x; kids = plain d } ≡ t = cc in
+    subst (λ (s : LabelledTree). plain (item u x d r) ≡ alone s) i (ap (λ (g : Tolled). tree x (plain d) (plain g)) b)
+
+-- THE DOCUMENT
+
+alone_value : (v : TolledValue) → trees_behind (element_alone v) ≡ ends 0
+alone_value (of_source n) = refl
+alone_value (element x k) = refl
+alone_value (trees f) = refl
+
+alone_last : (of : ℕ → RowEvents) (o : Option Operator) → trees_behind (tolled_destroyed of o) ≡ ends 0
+alone_last of None = refl
+alone_last of (Some (source s out)) = refl
+alone_last of (Some (get_descendants i start path out)) = refl
+alone_last of (Some (join l r tests)) = refl
+alone_last of (Some (over i op)) = refl
+alone_last of (Some (tuple_destroy i v)) = alone_value _
+
+paid_value : (v : TolledValue) → paid (element_alone v) ≡ element_alone v
+paid_value (of_source n) = refl
+paid_value (element x k) = refl
+paid_value (trees f) = refl
+
+paid_last : (of : ℕ → RowEvents) (o : Option Operator) → paid (tolled_destroyed of o) ≡ tolled_destroyed of o
+paid_last of None = refl
+paid_last of (Some (source s out)) = refl
+paid_last of (Some (get_descendants i start path out)) = refl
+paid_last of (Some (join l r tests)) = refl
+paid_last of (Some (over i op)) = refl
+paid_last of (Some (tuple_destroy i v)) = paid_value _
+
+-- the document with its tolls
+abbrev tolled : BenchState → Tolled
+tolled st = tolled_document (documents st) (ops_of st)
+
+-- the document is that one without its tolls
+abbrev pub IsTolled : BenchState → Type 0
+IsTolled st = plan_document st ≡ first_tree (plain (tolled st))
+
+module _ (st : BenchState) (law : IsTolled st) (t : LabelledTree) (e : plan_document st ≡ Some t) where
+  -- the document without its tolls
+  document_is : plain (tolled st) ≡ alone t
+  document_is = plain_alone (tolled st) (alone_last (events (documents st) (ops_of st)) (last_or None (ops_of st))) t
+      (sym law ∙ e)
+
+  -- its places
+  has_is : (p : List ℕ) → has_place (alone t) p ≡ is_item (tolled_at (tolled st) p)
+  has_is p = ap (λ (f : Forest). is_some (first_label f)) (ap (λ (f : Forest). trees_at f p) (sym document_is) ∙ sym (plain_at (tolled st) p)) ∙ plain_some (tolled_at (tolled st) p)
+
+  -- the label at a place
+  label_is : (p : List ℕ) → is_item (tolled_at (tolled st) p) ≡ true → (u : LabelledTree) × (tree_at t p ≡ Some u) × (item_label (tolled_at (tolled st) p) ≡ u.label)
+  label_is p h =
+      let k = plain_label (tolled_at (tolled st) p) h in
+      (k.0, ap (λ (f : Forest). first_tree f) (ap (λ (f : Forest). trees_at f p) (sym document_is) ∙ sym (plain_at (tolled st) p)) ∙ k.1, k.2)
+
+-- IDENTIFIERS
+
+-- the root stands at the empty place
+pub root_at : (st : BenchState) (n : NodeId) → n.site ≡ Root → IsAt st n []
+root_at st n e = record {
+  node = subst (λ (x : Site). IsSite st x) (sym e) tt;
+  place = λ y t d. refl;
+  here = λ y. ap (here st) e ∙ sym (paid_last (events (documents st) (ops_of st)) (last_or None (ops_of st)));
+}
+
+module _ (a b : BenchState) (k : KeepsBench a b) where
+  ops_same : ops_of b ≡ ops_of a
+  ops_same = ap (λ (p : Plan). (plan_value p).ops) k.plan
+
+  -- the document is the same
+  document_same : plan_document b ≡ plan_document a
+  document_same = ap (λ (d : Documents). document (visited d) (ops_of b)) k.documents ∙ ap (λ (ops : List Operator). document (visited (documents a)) ops) ops_same
+
+  tolled_same : tolled b ≡ tolled a
+  tolled_same = ap (λ (d : Documents). tolled_document d (ops_of b)) k.documents ∙ ap (tolled_document (documents a)) ops_same
+
+  -- so are its places
+  has_same : (p : List ℕ) → HasPlace a p → HasPlace b p
+  has_same p h t e = h t (sym document_same ∙ e)
+
+  at_same : (n : NodeId) (p : List ℕ) → IsAt a n p → IsAt b n p
+  at_same n p h = record {
+    node = (keeps_sites a b k n.site h.node).node;
+    place = λ y. has_same p (h.place (sym k.told ∙ y));
+    here = λ y. (keeps_sites a b k n.site h.node).here ∙ h.here (sym k.told ∙ y) ∙ ap (λ (f : Tolled). paid (tolled_at f p)) (sym tolled_same);
+  }
+
+  -- each earlier identifier stays
+  pub nodes_stay : NodesStay a b
+  nodes_stay = record {
+    node = λ n h. (keeps_sites a b k n.site h).node;
+    place = at_same;
+    left = λ n h. (keeps_sites a b k n.site h).left;
+  }
+
+module _ (st : BenchState) (law : IsTolled st) (n : NodeId) (p : List ℕ) (h : IsAt st n p) where
+  -- the trees below an identifier are those below its place
+  pub below_at : IsTrue (told st) → trees_below (here st n.site) ≡ tolled_at (tolled st) (child_place p)
+  below_at y = ap trees_below (h.here y) ∙ below_paid (tolled_at (tolled st) p) ∙ sym (at_down (tolled st) p)
+
+  behind_here : IsTrue (told st) → trees_behind (here st n.site) ≡ trees_behind (tolled_at (tolled st) p)
+  behind_here y = ap trees_behind (h.here y) ∙ behind_paid (tolled_at (tolled st) p)
+
+  -- what is asked for the trees below is the toll of the place
+  pub down_asks : (b : BenchState) → AsksAtMost st b (toll (trees_below (here st n.site))) → AsksAtMost st b (down_toll (documents st) (ops_of st) p)
+  down_asks b k y w = let e = ap toll (ap trees_below (h.here y) ∙ below_paid (tolled_at (tolled st) p)) in let i = k y w in omega (arith, e, i)
+
+  -- so for the trees behind
+  pub right_asks : (b : BenchState) → AsksAtMost st b (toll (trees_behind (here st n.site))) → AsksAtMost st b (right_toll (documents st) (ops_of st) p)
+  right_asks b k y w = let e = ap toll (behind_here y) in let i = k y w in omega (arith, e, i)
+
+  -- the label of an identifier is that at its place
+  pub label_there : IsTrue (told st) → (l : List ℕ) → (IsTrue (is_item (here st n.site)) → l ≡ item_label (here st n.site)) → IsLabelAt st p l
+  label_there y l k t e =
+      let i : is_item (tolled_at (tolled st) p) ≡ true = sym (has_is st law t e p) ∙ h.place y t e in
+      let u = label_is st law t e p i in
+      (u.0, u.1, k (ap is_item (h.here y) ∙ is_item_paid (tolled_at (tolled st) p) ∙ i) ∙ ap item_label (h.here y) ∙ label_paid (tolled_at (tolled st) p) ∙ u.2)
+
+module _ (a b : BenchState) (k : KeepsBench a b) (law : IsTolled a) (f : Tolled) (q : List ℕ) (y : IsTrue (told a)) (e : f ≡ tolled_at (tolled a) q) where
+  -- what is reached of the trees at a place stands there
+  reached_there : (x : Site) (n : NodeId) → n.site ≡ x → StandsFor a b f x → IsThere a b (Some q) n
+  reached_there x n z h =
+      let has : HasPlace a q = λ t d. has_is a law t d q ∙ ap is_item (sym e) ∙ h.tree y in
+      record {
+        place = q;
+        asked = refl;
+        has = has;
+        at = record {
+          node = subst (λ (s : Site). IsSite b s) (sym z) h.node;
+          place = λ w. has_same a b k q has;
+          here = λ w. ap (here b) z ∙ h.here y ∙ ap paid e ∙ ap (λ (g : Tolled). paid (tolled_at g q)) (sym (tolled_same a b k));
+        };
+      }
+
+  reached_none : is_item f ≡ false → HasNoPlace a (Some q)
+  reached_none h t d p z = let i : q ≡ p = cc in ap (has_place (alone t)) (sym i) ∙ has_is a law t d q ∙ ap is_item (sym e) ∙ h
+
+module _ (a b : BenchState) (k : KeepsBench a b) (law : IsTolled a) (n : NodeId) (p : List ℕ) (h : IsAt a n p) where
+  -- no first child
+  pub down_none : Reaches a b (trees_below (here a n.site)) None → IsTrue (told a) → HasNoPlace a (Some (child_place p))
+  down_none i y = reached_none a b k law (trees_below (here a n.site)) (child_place p) y (below_at a law n p h y) (i y)
+
+  -- the first child
+  pub down_some : (x : Site) (m : NodeId) → m.site ≡ x → StandsFor a b (trees_below (here a n.site)) x → IsTrue (told a) → IsThere a b (Some (child_place p)) m
+  down_some x m z i y = reached_there a b k law (trees_below (here a n.site)) (child_place p) y (below_at a law n p h y) x m z i
+
+  -- no next sibling
+  pub right_none : Reaches a b (trees_behind (here a n.site)) None → IsTrue (told a) → HasNoPlace a (next_place p)
+  right_none i y t d q z = reached_none a b k law (trees_behind (here a n.site)) q y (behind_here a law n p h y ∙ sym (at_right (tolled a) p q z)) (i y) t d q refl
+
+  -- the next sibling
+  pub right_some : (x : Site) (m : NodeId) → m.site ≡ x → StandsFor a b (trees_behind (here a n.site)) x → IsTrue (told a) → IsThere a b (next_place p) m
+  right_some x m z i y = goes (next_place p) refl
+    where
+      tree_there : is_item (trees_behind (tolled_at (tolled a) p)) ≡ true
+      tree_there = ap is_item (sym (behind_here a law n p h y)) ∙ i.tree y
+
+      goes : (o : Option (List ℕ)) → next_place p ≡ o → IsThere a b o m
+      goes None u = absurd (alone_place p u (tolled a) (alone_last (events (documents a) (ops_of a)) (last_or None (ops_of a))) tree_there)
+      goes (Some q) u = reached_there a b k law (trees_behind (here a n.site)) q y (behind_here a law n p h y ∙ sym (at_right (tolled a) p q u)) x m z i

@@ -1,0 +1,37 @@
+-- What one step inside a source comes to.
+use Rattle.std.proofs.Common.{◌≡◌, ◌<◌, ◌≤◌, ◌+◌, ℕ, suc, Bool, true, false, List, Option, Some, None, refl, ◌∙◌, sym, ap, subst, arith}
+use Rattle.std.specs.Prelude.{IsTrue, MatchOption}
+use Rattle.mix_tree.specs.Forest.{Forest, none, tree, first_kids, behind}
+use Rattle.mix_tree.specs.Nodes.{label_of_first}
+use Rattle.tree_buffer.specs.declared.spot.Spot.{Spot}
+use Rattle.plan_core.specs.Tolled.{Tolled, item, charged, toll, is_item, paid}
+use Rattle.lazy_plan.specs.Bench.{BenchState, told, AsksAtMost, IsSpotFor, trees_at_spot}
+use Rattle.lazy_value.specs.Steps.{StandsFor}
+use Rattle.lazy_value.specs.declared.ids.Site.TheVariants.{Inside}
+
+-- a step inside a source costs one
+pub asks_charged : (a b : BenchState) (f : Forest) → AsksAtMost a b 1 → AsksAtMost a b (toll (charged f))
+asks_charged a b none k = k
+asks_charged a b (tree x d r) k = k
+
+-- a list of trees, the first of them reached already
+charged_paid : (f : Forest) → (f ≡ none → ⊥) → item 0 (label_of_first f) (charged (first_kids f)) (charged (behind f)) ≡ paid (charged f)
+charged_paid none h = absurd (h refl)
+charged_paid (tree x d r) h = refl
+
+-- there is one
+charged_some : (f : Forest) → (f ≡ none → ⊥) → is_item (charged f) ≡ true
+charged_some none h = absurd (h refl)
+charged_some (tree x d r) h = refl
+
+-- no trees
+pub charged_none : (f : Forest) → f ≡ none → is_item (charged f) ≡ false
+charged_none f e = ap (λ (g : Forest). is_item (charged g)) e
+
+-- the node at a spot stands for the first of these trees
+pub spot_stands : (a b : BenchState) (s : ℕ) (f : Forest) (there : Option (List ℕ)) (top : ℕ) (q : Spot) → IsSpotFor a b s f there top q → StandsFor a b (charged f) (Inside s q)
+spot_stands a b s f there top q h = record {
+  node = h.spot;
+  here = λ y. ap (λ (g : Forest). item 0 (label_of_first g) (charged (first_kids g)) (charged (behind g))) (h.trees y) ∙ charged_paid f (h.some y);
+  tree = λ y. charged_some f (h.some y);
+}

@@ -1,0 +1,27 @@
+use Rattle.std.proofs.Common.{◌≡◌, ℕ, ◌∙◌, sym, ap, subst}
+use Rattle.plan_core.specs.declared.plan.Plan.{Plan}
+use Rattle.plan_core.specs.PlanMade.{plan_value}
+use Rattle.plan_core.specs.ByNumber.{op_at}
+use Rattle.plan_core.specs.Tolled.{Tolled}
+use Rattle.lazy_plan.specs.Bench.{state_of, IsCursor}
+use Rattle.lazy_value.specs.Forms.{input_at, pieces_of}
+use Rattle.lazy_value.specs.Ids.{element_trees, rest_trees}
+use Rattle.lazy_value.specs.Steps.{StandsFor, Reaches}
+use Rattle.lazy_value.proofs.Heads.{if_ok}
+use Rattle.lazy_value.proofs.Turns.{walked_then}
+use Rattle.lazy_value.proofs.Downs.{element_is, end_rest, goes_as, on_paid, on_reaches}
+use Rattle.lazy_value.proofs.down.down_element.Goals as goal
+
+pub returns-in-At-clause-answer : goal.returns-in-At-clause-answer
+returns-in-At-clause-answer g c = subst (λ (f : Tolled). StandsFor (state_of (g.S.Sources.view c.args.s.now) c.args.bench.now) (state_of (g.S.Sources.view c.args.s.now) c.args.bench.now) f c.in-At.n) (element_is (state_of (g.S.Sources.view c.args.s.now) c.args.bench.now) c.args.op c.element_list-list.result c.input_of-input.result c.args.at.now c.in_ok-origin.origin c.in_ok-end.end.value (ap (λ (p : Plan). pieces_of (op_at (plan_value p).ops c.args.op)) (sym c.plan-2.ensures) ∙ c.element_list-list.ensures) (c.input_of-input.ensures ∙ ap (λ (p : Plan). input_at (plan_value p).ops c.args.op) c.plan.ensures) (c.in_ok-origin.ensures (g.S.Sources.view c.args.s.now) c.requires.bench (subst (λ (n : ℕ). IsCursor (state_of (g.S.Sources.view c.args.s.now) c.args.bench.now) n c.args.at.now) (sym (c.input_of-input.ensures ∙ ap (λ (p : Plan). input_at (plan_value p).ops c.args.op) c.plan.ensures)) c.requires.stands.cursor)) c.in_ok-end.ensures) (rw c.in-At.is at (let o = (c.in_ok-origin.ensures (g.S.Sources.view c.args.s.now) c.requires.bench (subst (λ (n : ℕ). IsCursor (state_of (g.S.Sources.view c.args.s.now) c.args.bench.now) n c.args.at.now) (sym (c.input_of-input.ensures ∙ ap (λ (p : Plan). input_at (plan_value p).ops c.args.op) c.plan.ensures)) c.requires.stands.cursor)) in c.in_ok-enter.ensures.answer (g.S.Sources.view c.args.s.now) c.requires.bench o.origin (end_rest (state_of (g.S.Sources.view c.args.s.now) c.args.bench.now) c.in_ok-end.end.value c.in_ok-end.ensures)))
+
+pub front-requires-clause-rest : goal.front-requires-clause-rest
+front-requires-clause-rest g c = (let h = rw c.in-On.is at (let o = (c.in_ok-origin.ensures (g.S.Sources.view c.args.s.now) c.requires.bench (subst (λ (n : ℕ). IsCursor (state_of (g.S.Sources.view c.args.s.now) c.args.bench.now) n c.args.at.now) (sym (c.input_of-input.ensures ∙ ap (λ (p : Plan). input_at (plan_value p).ops c.args.op) c.plan.ensures)) c.requires.stands.cursor)) in c.in_ok-enter.ensures.answer (g.S.Sources.view c.args.s.now) c.requires.bench o.origin (end_rest (state_of (g.S.Sources.view c.args.s.now) c.args.bench.now) c.in_ok-end.end.value c.in_ok-end.ensures)) in h.rest)
+
+pub returns-clause-walked : goal.returns-clause-walked
+returns-clause-walked g c = walked_then g.met.S.Sources.after (g.met.S.Sources.same c.args.s.now) (on_paid (state_of (g.S.Sources.view c.args.s.now) c.args.bench.now) (element_trees (state_of (g.S.Sources.view c.args.s.now) c.args.bench.now) c.args.op c.args.at.now) _ c.in-On.rest.value (goes_as (state_of (g.S.Sources.view c.args.s.now) c.args.bench.now) _ (element_trees (state_of (g.S.Sources.view c.args.s.now) c.args.bench.now) c.args.op c.args.at.now) _ c.in-On.rest.value (element_is (state_of (g.S.Sources.view c.args.s.now) c.args.bench.now) c.args.op c.element_list-list.result c.input_of-input.result c.args.at.now c.in_ok-origin.origin c.in_ok-end.end.value (ap (λ (p : Plan). pieces_of (op_at (plan_value p).ops c.args.op)) (sym c.plan-2.ensures) ∙ c.element_list-list.ensures) (c.input_of-input.ensures ∙ ap (λ (p : Plan). input_at (plan_value p).ops c.args.op) c.plan.ensures) (c.in_ok-origin.ensures (g.S.Sources.view c.args.s.now) c.requires.bench (subst (λ (n : ℕ). IsCursor (state_of (g.S.Sources.view c.args.s.now) c.args.bench.now) n c.args.at.now) (sym (c.input_of-input.ensures ∙ ap (λ (p : Plan). input_at (plan_value p).ops c.args.op) c.plan.ensures)) c.requires.stands.cursor)) c.in_ok-end.ensures) (rw c.in-On.is at (let o = (c.in_ok-origin.ensures (g.S.Sources.view c.args.s.now) c.requires.bench (subst (λ (n : ℕ). IsCursor (state_of (g.S.Sources.view c.args.s.now) c.args.bench.now) n c.args.at.now) (sym (c.input_of-input.ensures ∙ ap (λ (p : Plan). input_at (plan_value p).ops c.args.op) c.plan.ensures)) c.requires.stands.cursor)) in c.in_ok-enter.ensures.answer (g.S.Sources.view c.args.s.now) c.requires.bench o.origin (end_rest (state_of (g.S.Sources.view c.args.s.now) c.args.bench.now) c.in_ok-end.end.value c.in_ok-end.ensures))))) c.front.ensures.walked
+
+pub returns-clause-answer : goal.returns-clause-answer
+returns-clause-answer g c =
+    if_ok c.front.result (Reaches (state_of (g.S.Sources.view c.args.s.now) c.args.bench.now) (state_of (g.S.Sources.view c.front.new.s) c.front.new.bench) (rest_trees (state_of (g.S.Sources.view c.args.s.now) c.args.bench.now) c.in-On.rest.value)) (Reaches (state_of (g.S.Sources.view c.args.s.now) c.args.bench.now) (state_of (g.S.Sources.view c.front.new.s) c.front.new.bench) (element_trees (state_of (g.S.Sources.view c.args.s.now) c.args.bench.now) c.args.op c.args.at.now))
+    (on_reaches (state_of (g.S.Sources.view c.args.s.now) c.args.bench.now) (state_of (g.S.Sources.view c.front.new.s) c.front.new.bench) (element_trees (state_of (g.S.Sources.view c.args.s.now) c.args.bench.now) c.args.op c.args.at.now) (rest_trees (state_of (g.S.Sources.view c.args.s.now) c.args.bench.now) c.in-On.rest.value) (on_paid (state_of (g.S.Sources.view c.args.s.now) c.args.bench.now) (element_trees (state_of (g.S.Sources.view c.args.s.now) c.args.bench.now) c.args.op c.args.at.now) _ c.in-On.rest.value (goes_as (state_of (g.S.Sources.view c.args.s.now) c.args.bench.now) _ (element_trees (state_of (g.S.Sources.view c.args.s.now) c.args.bench.now) c.args.op c.args.at.now) _ c.in-On.rest.value (element_is (state_of (g.S.Sources.view c.args.s.now) c.args.bench.now) c.args.op c.element_list-list.result c.input_of-input.result c.args.at.now c.in_ok-origin.origin c.in_ok-end.end.value (ap (λ (p : Plan). pieces_of (op_at (plan_value p).ops c.args.op)) (sym c.plan-2.ensures) ∙ c.element_list-list.ensures) (c.input_of-input.ensures ∙ ap (λ (p : Plan). input_at (plan_value p).ops c.args.op) c.plan.ensures) (c.in_ok-origin.ensures (g.S.Sources.view c.args.s.now) c.requires.bench (subst (λ (n : ℕ). IsCursor (state_of (g.S.Sources.view c.args.s.now) c.args.bench.now) n c.args.at.now) (sym (c.input_of-input.ensures ∙ ap (λ (p : Plan). input_at (plan_value p).ops c.args.op) c.plan.ensures)) c.requires.stands.cursor)) c.in_ok-end.ensures) (rw c.in-On.is at (let o = (c.in_ok-origin.ensures (g.S.Sources.view c.args.s.now) c.requires.bench (subst (λ (n : ℕ). IsCursor (state_of (g.S.Sources.view c.args.s.now) c.args.bench.now) n c.args.at.now) (sym (c.input_of-input.ensures ∙ ap (λ (p : Plan). input_at (plan_value p).ops c.args.op) c.plan.ensures)) c.requires.stands.cursor)) in c.in_ok-enter.ensures.answer (g.S.Sources.view c.args.s.now) c.requires.bench o.origin (end_rest (state_of (g.S.Sources.view c.args.s.now) c.args.bench.now) c.in_ok-end.end.value c.in_ok-end.ensures)))))) c.front.ensures.answer

@@ -1,0 +1,31 @@
+use Rattle.std.proofs.Common.{refl}
+use Rattle.plan_core.specs.PlanMade.{plan_value}
+use Rattle.lazy_plan.specs.Bench.{documents}
+use Rattle.lazy_plan.specs.Bench as bench
+use Rattle.lazy_value.specs.Mediators.{state_of, plan_of}
+use Rattle.lazy_value.proofs.Placing.{nodes_stay, right_asks, right_none, right_some}
+use Rattle.lazy_value.proofs.mediator.Mediator.right.Goals as goal
+
+pub returns-in_err-next_sibling-clause-walked : goal.returns-in_err-next_sibling-clause-walked
+returns-in_err-next_sibling-clause-walked g c = (let w = c.next_sibling.ensures.walked in record { came = w.came; mediator = w.bench; kept = w.kept; nodes = nodes_stay (state_of (g.S.Sources.view c.args.s.now) c.args.self.now) (bench.state_of (g.S.Sources.view c.next_sibling.new.s) c.next_sibling.new.bench) w.kept })
+
+pub returns-in_err-next_sibling-clause-lazy : goal.returns-in_err-next_sibling-clause-lazy
+returns-in_err-next_sibling-clause-lazy g c = λ p h. right_asks (state_of (g.S.Sources.view c.args.s.now) c.args.self.now) (c.tolled_is_document.ensures (plan_value (plan_of c.args.self.now)) c.requires.mediator.valid (documents (state_of (g.S.Sources.view c.args.s.now) c.args.self.now))) c.args.n.now p h (bench.state_of (g.S.Sources.view c.next_sibling.new.s) c.next_sibling.new.bench) c.next_sibling.ensures.walked.asks
+
+pub returns-in-None-clause-walked : goal.returns-in-None-clause-walked
+returns-in-None-clause-walked g c = (let w = c.next_sibling.ensures.walked in record { came = w.came; mediator = w.bench; kept = w.kept; nodes = nodes_stay (state_of (g.S.Sources.view c.args.s.now) c.args.self.now) (bench.state_of (g.S.Sources.view c.next_sibling.new.s) c.next_sibling.new.bench) w.kept })
+
+pub returns-in-None-clause-lazy : goal.returns-in-None-clause-lazy
+returns-in-None-clause-lazy g c = λ p h. right_asks (state_of (g.S.Sources.view c.args.s.now) c.args.self.now) (c.tolled_is_document.ensures (plan_value (plan_of c.args.self.now)) c.requires.mediator.valid (documents (state_of (g.S.Sources.view c.args.s.now) c.args.self.now))) c.args.n.now p h (bench.state_of (g.S.Sources.view c.next_sibling.new.s) c.next_sibling.new.bench) c.next_sibling.ensures.walked.asks
+
+pub returns-in-Some-clause-walked : goal.returns-in-Some-clause-walked
+returns-in-Some-clause-walked g c = (let w = c.next_sibling.ensures.walked in record { came = w.came; mediator = w.bench; kept = w.kept; nodes = nodes_stay (state_of (g.S.Sources.view c.args.s.now) c.args.self.now) (bench.state_of (g.S.Sources.view c.next_sibling.new.s) c.next_sibling.new.bench) w.kept })
+
+pub returns-in-Some-clause-lazy : goal.returns-in-Some-clause-lazy
+returns-in-Some-clause-lazy g c = λ p h. right_asks (state_of (g.S.Sources.view c.args.s.now) c.args.self.now) (c.tolled_is_document.ensures (plan_value (plan_of c.args.self.now)) c.requires.mediator.valid (documents (state_of (g.S.Sources.view c.args.s.now) c.args.self.now))) c.args.n.now p h (bench.state_of (g.S.Sources.view c.next_sibling.new.s) c.next_sibling.new.bench) c.next_sibling.ensures.walked.asks
+
+pub returns-in-None-clause-place : goal.returns-in-None-clause-place
+returns-in-None-clause-place g c = λ p h y. right_none (state_of (g.S.Sources.view c.args.s.now) c.args.self.now) (bench.state_of (g.S.Sources.view c.next_sibling.new.s) c.next_sibling.new.bench) c.next_sibling.ensures.walked.kept (c.tolled_is_document.ensures (plan_value (plan_of c.args.self.now)) c.requires.mediator.valid (documents (state_of (g.S.Sources.view c.args.s.now) c.args.self.now))) c.args.n.now p h (rw c.in-None.is at c.in_ok-next_sibling.ensures.answer) y
+
+pub returns-in-Some-clause-place : goal.returns-in-Some-clause-place
+returns-in-Some-clause-place g c = λ p h y. right_some (state_of (g.S.Sources.view c.args.s.now) c.args.self.now) (bench.state_of (g.S.Sources.view c.next_sibling.new.s) c.next_sibling.new.bench) c.next_sibling.ensures.walked.kept (c.tolled_is_document.ensures (plan_value (plan_of c.args.self.now)) c.requires.mediator.valid (documents (state_of (g.S.Sources.view c.args.s.now) c.args.self.now))) c.args.n.now p h c.in-Some.site (record { site = c.in-Some.site }) refl (rw c.in-Some.is at c.in_ok-next_sibling.ensures.answer) y

@@ -1,0 +1,21 @@
+use Rattle.std.proofs.Common.{◌≤◌}
+use Rattle.lazy_plan.specs.Bench.{state_of, IsBenchOf, ops_of, number_at}
+use Rattle.lazy_value.specs.Forms.{input_at, gathers_groups}
+use Rattle.lazy_value.specs.Ids.{Stands, group_ahead}
+use Rattle.lazy_value.proofs.Going.{Goes}
+use Rattle.lazy_value.proofs.members.next_of_group.Given as goal
+
+abbrev pub invariant-members : goal.invariant-members
+invariant-members g l = record {
+  came : g.S.Sources.came_from l.s l.fn.s;
+  bench : IsBenchOf (g.S.Sources.view l.s) l.bench;
+  first : Stands (state_of (g.S.Sources.view l.s) l.bench) l.op gathers_groups l.first;
+  at : Stands (state_of (g.S.Sources.view l.s) l.bench) l.op gathers_groups l.at;
+  goes : Goes (state_of (g.S.Sources.view l.fn.s) l.fn.bench) (state_of (g.S.Sources.view l.s) l.bench)
+      (group_ahead (state_of (g.S.Sources.view l.fn.s) l.fn.bench) l.op l.fn.first l.fn.from) (group_ahead (state_of (g.S.Sources.view l.s) l.bench) l.op l.first l.at);
+  low : number_at (state_of (g.S.Sources.view l.s) l.bench) (input_at (ops_of (state_of (g.S.Sources.view l.s) l.bench)) l.op) l.at
+      ≤ number_at (state_of (g.S.Sources.view l.fn.s) l.fn.bench) (input_at (ops_of (state_of (g.S.Sources.view l.fn.s) l.fn.bench)) l.op) l.fn.from;
+}
+
+abbrev pub decreases-members : goal.decreases-members
+decreases-members g l = number_at (state_of (g.S.Sources.view l.s) l.bench) (input_at (ops_of (state_of (g.S.Sources.view l.s) l.bench)) l.op) l.at

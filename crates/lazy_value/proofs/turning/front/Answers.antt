@@ -1,0 +1,24 @@
+use Rattle.std.proofs.Common.{arith}
+use Rattle.lazy_plan.specs.Bench.{state_of}
+use Rattle.lazy_value.proofs.Turns.{walked_then, paid_on}
+use Rattle.lazy_value.proofs.turning.front.Goals as goal
+
+pub returns-in_err-turn-clause-walked : goal.returns-in_err-turn-clause-walked
+returns-in_err-turn-clause-walked g c = walked_then g.met.S.Sources.after c.turns.invariant.came c.turns.invariant.paid c.turn.ensures.walked
+
+pub returns-in-Over-clause-walked : goal.returns-in-Over-clause-walked
+returns-in-Over-clause-walked g c = walked_then g.met.S.Sources.after c.turns.invariant.came c.turns.invariant.paid c.turn.ensures.walked
+
+pub returns-in-At-clause-walked : goal.returns-in-At-clause-walked
+returns-in-At-clause-walked g c = walked_then g.met.S.Sources.after c.turns.invariant.came c.turns.invariant.paid c.turn.ensures.walked
+
+pub turns-preserved : goal.turns-preserved
+turns-preserved g c =
+    let h = rw c.in-On.is at c.in_ok-turn.ensures.answer in
+    record {
+      came = g.met.S.Sources.after c.args.s.now c.turns.s c.turn.new.s c.turns.invariant.came c.turn.ensures.walked.came;
+      bench = c.turn.ensures.walked.bench;
+      rest = h.rest;
+      paid = paid_on c.turns.invariant.paid c.turn.ensures.walked.kept _ _ h;
+      left = (let f = rw c.in-On.is at c.in_ok-turn.ensures.left in let l = c.turns.invariant.left in omega (arith, f, l));
+    }

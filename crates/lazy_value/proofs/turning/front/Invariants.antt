@@ -1,0 +1,18 @@
+use Rattle.std.proofs.Common.{◌≤◌}
+use Rattle.lazy_plan.specs.Bench.{state_of, IsBenchOf}
+use Rattle.lazy_value.specs.Ids.{IsRest, rest_trees, weight, left}
+use Rattle.lazy_value.proofs.Turns.{Paid}
+use Rattle.lazy_value.proofs.turning.front.Given as goal
+
+abbrev pub invariant-turns : goal.invariant-turns
+invariant-turns g l = record {
+  came : g.S.Sources.came_from l.s l.fn.s;
+  bench : IsBenchOf (g.S.Sources.view l.s) l.bench;
+  rest : IsRest (state_of (g.S.Sources.view l.s) l.bench) l.now.value;
+  paid : Paid (state_of (g.S.Sources.view l.fn.s) l.fn.bench) (state_of (g.S.Sources.view l.s) l.bench)
+      (rest_trees (state_of (g.S.Sources.view l.fn.s) l.fn.bench) l.fn.rest.value) (rest_trees (state_of (g.S.Sources.view l.s) l.bench) l.now.value);
+  left : left (state_of (g.S.Sources.view l.s) l.bench) l.now.value ≤ left (state_of (g.S.Sources.view l.fn.s) l.fn.bench) l.fn.rest.value;
+}
+
+abbrev pub decreases-turns : goal.decreases-turns
+decreases-turns g l = weight (state_of (g.S.Sources.view l.s) l.bench) l.now.value

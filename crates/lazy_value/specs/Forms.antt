@@ -1,0 +1,93 @@
+-- What each operator makes lists and elements of.
+use Rattle.std.specs.Prelude.{◌≡◌, ℕ, List, [], ◌∷◌, slice_index_or}
+use Rattle.mix_tree.specs.declared.var.Key.{Key}
+use Rattle.plan_core.specs.declared.plan.Piece.{Piece}
+use Rattle.plan_core.specs.declared.plan.Piece.TheVariants.{Var as var_piece, Text as text_piece}
+use Rattle.plan_core.specs.Plans.{Operator, source, get_descendants, join, over, tuple_destroy}
+use Rattle.plan_core.specs.Unary.{Unary, select, order_by, project, group_by, concatenate, create_element}
+use Rattle.plan_core.specs.ByNumber.{op_at}
+
+-- what an operator makes
+pub data Form : Type 0 where
+  makes_list : Form
+  makes_element : Form
+  gathers_all : Form
+  gathers_groups : Form
+  makes_nothing : Form
+
+-- what an operator makes
+abbrev pub form : Operator → Form
+form (source s out) = makes_nothing
+form (get_descendants input start path out) = makes_nothing
+form (join left right tests) = makes_nothing
+form (over input (select test)) = makes_nothing
+form (over input (order_by v desc)) = makes_nothing
+form (over input (project keys)) = makes_nothing
+form (over input (group_by [] piece out)) = gathers_all
+form (over input (group_by (k ∷ keys) piece out)) = gathers_groups
+form (over input (concatenate pieces out)) = makes_list
+form (over input (create_element label list out)) = makes_element
+form (tuple_destroy input element) = makes_nothing
+
+-- the input of an operator with one input
+abbrev pub input_of : Operator → ℕ
+input_of (source s out) = 0
+input_of (get_descendants input start path out) = input
+input_of (join left right tests) = left
+input_of (over input op) = input
+input_of (tuple_destroy input element) = input
+
+-- the pieces of a list, or the one of a group's or of an element
+abbrev pub pieces_of : Operator → List Piece
+pieces_of (source s out) = []
+pieces_of (get_descendants input start path out) = []
+pieces_of (join left right tests) = []
+pieces_of (over input (select test)) = []
+pieces_of (over input (order_by v desc)) = []
+pieces_of (over input (project keys)) = []
+pieces_of (over input (group_by keys piece out)) = piece ∷ []
+pieces_of (over input (concatenate pieces out)) = pieces
+pieces_of (over input (create_element label list out)) = var_piece list ∷ []
+pieces_of (tuple_destroy input element) = []
+
+-- the keys of groups
+abbrev pub keys_of : Operator → List Key
+keys_of (source s out) = []
+keys_of (get_descendants input start path out) = []
+keys_of (join left right tests) = []
+keys_of (over input (select test)) = []
+keys_of (over input (order_by v desc)) = []
+keys_of (over input (project keys)) = []
+keys_of (over input (group_by keys piece out)) = keys
+keys_of (over input (concatenate pieces out)) = []
+keys_of (over input (create_element label list out)) = []
+keys_of (tuple_destroy input element) = []
+
+-- the label of the elements
+abbrev pub label_in : Operator → List ℕ
+label_in (source s out) = []
+label_in (get_descendants input start path out) = []
+label_in (join left right tests) = []
+label_in (over input (select test)) = []
+label_in (over input (order_by v desc)) = []
+label_in (over input (project keys)) = []
+label_in (over input (group_by keys piece out)) = []
+label_in (over input (concatenate pieces out)) = []
+label_in (over input (create_element label list out)) = label
+label_in (tuple_destroy input element) = []
+
+-- a piece of a number
+abbrev pub piece_at : List Operator → ℕ → ℕ → Piece
+piece_at ops op index = slice_index_or (pieces_of (op_at ops op)) index (text_piece [])
+
+-- the first one
+abbrev pub piece_of : List Operator → ℕ → Piece
+piece_of ops op = piece_at ops op 0
+
+-- the input of operator n
+abbrev pub input_at : List Operator → ℕ → ℕ
+input_at ops n = input_of (op_at ops n)
+
+-- the pieces of the operator are written in it: it is no createElement
+abbrev pub IsWritten : Operator → Type 0
+IsWritten o = form o ≡ makes_element → ⊥

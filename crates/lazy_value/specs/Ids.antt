@@ -1,0 +1,187 @@
+-- What an identifier stands for.
+use Rattle.std.specs.Prelude.{◌≡◌, ℕ, suc, ◌+◌, ◌<◌, ◌≤◌, Bool, true, false, IsTrue, Option, Some, None, List, [], ◌∷◌, length, drop, MatchOption}
+use Rattle.mix_tree.specs.Forest.{first_kids, behind}
+use Rattle.mix_tree.specs.Nodes.{label_at, kids_at, label_of_first}
+use Rattle.tree_buffer.specs.declared.spot.Spot.{Spot}
+use Rattle.plan_core.specs.declared.plan.Piece.{Piece}
+use Rattle.plan_core.specs.declared.plan.Piece.TheVariants.{Var as var_piece, LabelOf as label_piece, Text as text_piece}
+use Rattle.std.specs.List.{last_or}
+use Rattle.plan_core.specs.Plans.{Operator, tuple_destroy}
+use Rattle.plan_core.specs.Valid.{kinds}
+use Rattle.plan_core.specs.Valid.{an_element}
+use Rattle.lazy_plan.specs.Steps.{single}
+use Rattle.plan_core.specs.ByNumber.{op_at}
+use Rattle.plan_core.specs.Tolled.{Tolled, ends, item, charged, paid, is_item}
+use Rattle.plan_core.specs.TolledRows.{TolledRow, TolledValue, of_source, element, trees, tolled_value, piece_items, all_items, collected}
+use Rattle.plan_core.specs.Events.{RowEvents, same_group, tolled_document}
+use Rattle.lazy_plan.specs.Bench.{BenchState, ops_of, told, forward, documents, fills_of, events_of, size_of, IsCursor, binding_at, ahead_at, number_at, IsSpotAt, node_at, trees_at_spot, after_at}
+use Rattle.lazy_plan.specs.declared.position.Position.{Position}
+use Rattle.lazy_value.specs.Forms.{Form, makes_list, makes_element, gathers_all, gathers_groups, form, input_at, pieces_of, keys_of, label_in, piece_at, piece_of}
+use Rattle.lazy_value.specs.Sizes.{pieces_count, size, extent}
+use Rattle.lazy_value.specs.declared.ids.Origin.{Origin}
+use Rattle.lazy_value.specs.declared.ids.Origin.TheVariants.{Node, Element, Joined, All, Group as Same}
+use Rattle.lazy_value.specs.declared.ids.Head.{Head}
+use Rattle.lazy_value.specs.declared.ids.Head.TheVariants.{Whole, Built, Leaf, Text}
+use Rattle.lazy_value.specs.declared.ids.Rest.{Rest, End, Pieces', Members', Group'}
+use Rattle.lazy_value.specs.declared.ids.Site.{Site}
+use Rattle.lazy_value.specs.declared.ids.Site.TheVariants.{Root, Inside, Item}
+
+-- LISTS AND ELEMENTS BY THEIR OPERATOR
+
+-- what an element's operator makes below it
+abbrev pub element_trees : BenchState → ℕ → Position → Tolled
+element_trees st op at = piece_items (documents st) (piece_of (ops_of st) op) (binding_at st (input_at (ops_of st) op) at) (ends 0)
+
+-- the pieces of a concatenation from one on, and what is behind them
+abbrev pub pieces_trees : BenchState → ℕ → Position → ℕ → Tolled → Tolled
+pieces_trees st op at next rest = all_items (documents st) (drop next (pieces_of (op_at (ops_of st) op))) (binding_at st (input_at (ops_of st) op) at) rest
+
+-- the events behind a cursor, or all of them
+abbrev pub ahead_from : BenchState → ℕ → Option Position → RowEvents
+ahead_from st n None = events_of st n
+ahead_from st n (Some c) = ahead_at st n c
+
+-- the members of a list of all bindings behind a cursor
+abbrev pub members_trees : BenchState → ℕ → Option Position → Tolled → Tolled
+members_trees st op at rest = collected (documents st) (piece_of (ops_of st) op) (ahead_from st (input_at (ops_of st) op) at) rest
+
+-- the events of a group behind a cursor
+abbrev pub group_ahead : BenchState → ℕ → Position → Position → RowEvents
+group_ahead st op first at =
+    same_group (documents st) (keys_of (op_at (ops_of st) op)) (binding_at st (input_at (ops_of st) op) first) (ahead_at st (input_at (ops_of st) op) at)
+
+-- the members of a group behind a cursor
+abbrev pub group_trees : BenchState → ℕ → Position → Position → Tolled → Tolled
+group_trees st op first at rest = collected (documents st) (piece_of (ops_of st) op) (group_ahead st op first at) rest
+
+-- the trees of the member at a cursor, and those behind them
+abbrev pub member_trees : BenchState → ℕ → Position → Tolled → Tolled
+member_trees st op at rest = piece_items (documents st) (piece_of (ops_of st) op) (binding_at st (input_at (ops_of st) op) at) rest
+
+-- an operator of this form, and a cursor of its input
+pub record Stands (st : BenchState) (op : ℕ) (f : Form) (at : Position) : Type 0 where
+  pub within : op < length (ops_of st)
+  pub is : form (op_at (ops_of st) op) ≡ f
+  pub cursor : IsCursor st (input_at (ops_of st) op) at
+
+-- an operator that gathers all bindings of its input
+pub record GathersAll (st : BenchState) (op : ℕ) : Type 0 where
+  pub within : op < length (ops_of st)
+  pub is : form (op_at (ops_of st) op) ≡ gathers_all
+
+-- WHERE A VALUE IS MADE
+
+-- the value
+abbrev pub value_of : BenchState → Origin → TolledValue
+value_of st (Node s p) = of_source (node_at st s p)
+value_of st (Element op at) = element (label_in (op_at (ops_of st) op)) (element_trees st op at)
+value_of st (Joined op at) = trees (pieces_trees st op at 0 (ends 0))
+value_of st (All op) = trees (members_trees st op None (ends 0))
+value_of st (Same op c) = trees (member_trees st op c (group_trees st op c c (ends 0)))
+
+-- it is one that is made
+abbrev pub IsOrigin : BenchState → Origin → Type 0
+IsOrigin st (Node s p) = IsSpotAt st s p
+IsOrigin st (Element op at) = Stands st op makes_element at
+IsOrigin st (Joined op at) = Stands st op makes_list at
+IsOrigin st (All op) = GathersAll st op
+IsOrigin st (Same op c) = Stands st op gathers_groups c × (number_at st (input_at (ops_of st) op) c ≤ size_of st (input_at (ops_of st) op))
+
+-- IDENTIFIERS
+
+-- the text of a piece
+abbrev pub text_of : Piece → List ℕ
+text_of (var_piece v) = []
+text_of (label_piece v) = []
+text_of (text_piece label) = label
+
+-- whether a piece is a text
+abbrev pub is_text : Piece → Bool
+is_text (var_piece v) = false
+is_text (label_piece v) = false
+is_text (text_piece label) = true
+
+-- a piece that is a text
+pub record IsText (st : BenchState) (op index : ℕ) : Type 0 where
+  pub within : op < length (ops_of st)
+  pub piece : index < length (pieces_of (op_at (ops_of st) op))
+  pub is : IsTrue (is_text (piece_at (ops_of st) op index))
+
+-- the label of a node
+abbrev pub head_label : BenchState → Head → List ℕ
+head_label st (Whole s p) = label_at (documents st) (node_at st s p)
+head_label st (Built op at) = label_in (op_at (ops_of st) op)
+head_label st (Leaf s p) = label_at (documents st) (node_at st s p)
+head_label st (Text op index) = text_of (piece_at (ops_of st) op index)
+
+-- the trees below it
+abbrev pub head_trees : BenchState → Head → Tolled
+head_trees st (Whole s p) = charged (kids_at (documents st) (node_at st s p))
+head_trees st (Built op at) = element_trees st op at
+head_trees st (Leaf s p) = ends 0
+head_trees st (Text op index) = ends 0
+
+-- it is one of the bench's
+abbrev pub IsHead : BenchState → Head → Type 0
+IsHead st (Whole s p) = IsSpotAt st s p
+IsHead st (Built op at) = Stands st op makes_element at
+IsHead st (Leaf s p) = IsSpotAt st s p
+IsHead st (Text op index) = IsText st op index
+
+-- the trees of what is behind a node
+abbrev pub rest_trees : BenchState → Rest → Tolled
+rest_trees st End = ends 0
+rest_trees st (Pieces' op at next q up) = pieces_trees st op at next (rest_trees st up)
+rest_trees st (Members' op at q up) = members_trees st op at (rest_trees st up)
+rest_trees st (Group' op first at q up) = group_trees st op first at (rest_trees st up)
+
+-- it is one of the bench's
+abbrev pub IsRest : BenchState → Rest → Type 0
+IsRest st End = Unit {0}
+IsRest st (Pieces' op at next q up) = Stands st op makes_list at × (next ≤ length (pieces_of (op_at (ops_of st) op))) × IsRest st up
+IsRest st (Members' op at q up) = GathersAll st op × MatchOption at (Unit {0}) (λ c. IsCursor st (input_at (ops_of st) op) c) × IsRest st up
+IsRest st (Group' op first at q up) = Stands st op gathers_groups first × Stands st op gathers_groups at × IsRest st up
+
+-- where an identifier stands: its tree, reached already, and those behind it
+abbrev pub here : BenchState → Site → Tolled
+here st Root = tolled_document (documents st) (ops_of st)
+here st (Inside s p) = item 0 (label_of_first (trees_at_spot st s p)) (charged (first_kids (trees_at_spot st s p))) (charged (behind (trees_at_spot st s p)))
+here st (Item head rest) = item 0 (head_label st head) (head_trees st head) (rest_trees st rest.value)
+
+-- it is one of the bench's
+abbrev pub IsSite : BenchState → Site → Type 0
+IsSite st Root = Unit {0}
+IsSite st (Inside s p) = IsSpotAt st s p
+IsSite st (Item head rest) = IsHead st head × IsRest st rest.value
+
+-- how many lists and pieces are still to be entered
+abbrev pub weight : BenchState → Rest → ℕ
+weight st End = 0
+weight st (Pieces' op at next q up) = suc (pieces_count (λ v. suc (size (ops_of st) (input_at (ops_of st) op) v)) (drop next (pieces_of (op_at (ops_of st) op))) + weight st up)
+weight st (Members' op at q up) = suc (weight st up)
+weight st (Group' op first at q up) = suc (weight st up)
+
+-- how many bindings are behind a cursor, or in all, at most
+abbrev pub number_from : BenchState → ℕ → Option Position → ℕ
+number_from st n None = size_of st n
+number_from st n (Some c) = number_at st n c
+
+-- how many trees are behind a node at most
+abbrev pub left : BenchState → Rest → ℕ
+left st End = 0
+left st (Pieces' op at next q up) = pieces_count (extent (size_of st) (ops_of st) (input_at (ops_of st) op)) (drop next (pieces_of (op_at (ops_of st) op))) + left st up
+left st (Members' op at q up) = number_from st (input_at (ops_of st) op) at + left st up
+left st (Group' op first at q up) = number_at st (input_at (ops_of st) op) at + left st up
+
+-- a number of an identifier that no call raises, and that falls with each step to the right
+abbrev pub site_left : BenchState → Site → ℕ
+site_left st Root = 0
+site_left st (Inside s p) = after_at st s p
+site_left st (Item head rest) = left st rest.value
+
+-- the last operator makes the document of the element in the single binding of its input
+pub record IsLast (ops : List Operator) (input element : ℕ) : Type 0 where
+  pub within : input < length ops
+  pub kind : kinds ops input element ≡ Some an_element
+  pub single : IsTrue (single ops input)
+  pub last : last_or None ops ≡ Some (tuple_destroy input element)

@@ -1,0 +1,87 @@
+-- Where the value of a variable is made.
+use Rattle.std.specs.Prelude.{Bool, false, ◌==◌, IsTrue, ◌≡◌, ◌⊎◌, ℕ, suc, ◌<◌, ◌≤◌, List, [], Option, Some, None, length}
+use Rattle.plan_core.specs.declared.plan.Plan.{Plan}
+use Rattle.plan_core.specs.PlanMade.{plan_value}
+use Rattle.plan_core.specs.Plans.{Operator, source, get_descendants, join, over, tuple_destroy}
+use Rattle.plan_core.specs.Unary.{select, order_by, project, group_by, concatenate, create_element}
+use Rattle.plan_core.specs.ByNumber.{op_at}
+use Rattle.plan_core.specs.Valid.{kinds}
+use Rattle.plan_core.specs.Valid.{Kind, a_node, an_element, a_list}
+use Rattle.plan_core.specs.Tolled.{Tolled, item}
+use Rattle.plan_core.specs.TolledRows.{TolledRow, tolled_value, piece_items}
+use Rattle.plan_core.specs.Events.{RowEvents}
+use Rattle.lazy_plan.specs.World.{World}
+use Rattle.lazy_plan.specs.Bench.{BenchState, ops_of, size_of, documents, binding_at, IsMadeOf, HasUnder, AmongInputs}
+use Rattle.lazy_plan.specs.declared.position.Position.{Position}
+use Rattle.lazy_value.specs.Forms.{pieces_of, input_at, piece_at}
+use Rattle.lazy_value.specs.Labels as of
+use Rattle.lazy_value.specs.Sizes.{pieces_count, size, extent}
+use Rattle.lazy_value.specs.Ids.{IsOrigin, value_of, IsHead, head_label, head_trees}
+use Rattle.lazy_value.specs.declared.ids.Head.{Head}
+use Rattle.lazy_value.specs.declared.ids.Origin.{Origin}
+use Rattle.lazy_value.specs.declared.ids.Origin.TheVariants.{Node, Element, Joined, All, Group as Same}
+
+-- the kind of what is made there
+abbrev pub origin_kind : Origin → Kind
+origin_kind (Node s p) = a_node
+origin_kind (Element op at) = an_element
+origin_kind (Joined op at) = a_list
+origin_kind (All op) = a_list
+origin_kind (Same op c) = a_list
+
+-- how many lists and pieces are entered on the way through it
+abbrev pub origin_size : BenchState → Origin → ℕ
+origin_size st (Node s p) = 0
+origin_size st (Element op at) = 0
+origin_size st (Joined op at) = suc (suc (pieces_count (λ v. suc (size (ops_of st) (input_at (ops_of st) op) v)) (pieces_of (op_at (ops_of st) op))))
+origin_size st (All op) = 2
+origin_size st (Same op c) = 2
+
+-- how many trees it has at most
+abbrev pub origin_extent : BenchState → Origin → ℕ
+origin_extent st (Node s p) = 1
+origin_extent st (Element op at) = 1
+origin_extent st (Joined op at) = pieces_count (extent (size_of st) (ops_of st) (input_at (ops_of st) op)) (pieces_of (op_at (ops_of st) op))
+origin_extent st (All op) = size_of st (input_at (ops_of st) op)
+origin_extent st (Same op c) = suc (size_of st (input_at (ops_of st) op))
+
+-- the value of a variable in a cursor's binding is made there
+pub record IsOriginOf (st : BenchState) (n : ℕ) (c : Position) (v : ℕ) (r : Origin) : Type 0 where
+  pub origin : IsOrigin st r
+  pub value : tolled_value (binding_at st n c) v ≡ value_of st r
+  pub kind : kinds (ops_of st) n v ≡ Some (origin_kind r)
+  pub size : origin_size st r ≤ size (ops_of st) n v
+  pub extent : origin_extent st r ≤ extent (size_of st) (ops_of st) n v
+
+-- the value of a variable is that in the binding of input i
+pub record IsPassedOn (p : Plan) (n v i : ℕ) : Type 0 where
+  pub within : i < n
+  pub input : AmongInputs i (op_at (plan_value p).ops n)
+  pub under : HasUnder (op_at (plan_value p).ops n)
+  pub kind : kinds (plan_value p).ops n v ≡ kinds (plan_value p).ops i v
+  pub size : size (plan_value p).ops i v ≤ size (plan_value p).ops n v
+  pub extent : (bound : ℕ → ℕ) → extent bound (plan_value p).ops i v ≤ extent bound (plan_value p).ops n v
+  pub labels : of.labels (plan_value p).ops n v ≡ of.labels (plan_value p).ops i v
+  pub value : (w : World) (row below : TolledRow) (es : RowEvents) → IsMadeOf (record { world = w; plan = p }) row i below es (op_at (plan_value p).ops n) → tolled_value row v ≡ tolled_value below v
+
+-- an operator makes the value of a variable
+abbrev pub makes : Operator → ℕ → Bool
+makes (source s out) v = false
+makes (get_descendants input start path out) v = false
+makes (join left right tests) v = false
+makes (over input (select test)) v = false
+makes (over input (order_by w desc)) v = false
+makes (over input (project keys)) v = false
+makes (over input (group_by keys piece out)) v = out == v
+makes (over input (concatenate pieces out)) v = out == v
+makes (over input (create_element label list out)) v = out == v
+makes (tuple_destroy input element) v = false
+
+-- the variable holds a node, or the operator makes its value
+abbrev pub IsMadeHere : Plan → ℕ → ℕ → Type 0
+IsMadeHere p n v = (kinds (plan_value p).ops n v ≡ Some a_node) ⊎ IsTrue (makes (op_at (plan_value p).ops n) v)
+
+-- a node with the trees below it is the one tree of a piece
+pub record IsHeadOf (st : BenchState) (op index : ℕ) (c : Position) (h : Head) : Type 0 where
+  pub head : IsHead st h
+  pub trees : (rest : Tolled) → piece_items (documents st) (piece_at (ops_of st) op index) (binding_at st (input_at (ops_of st) op) c) rest ≡ item 0 (head_label st h) (head_trees st h) rest

@@ -1,0 +1,68 @@
+-- What steps over a document come to.
+use Rattle.std.specs.Prelude.{◌≡◌, ℕ, ◌+◌, ◌<◌, ◌≤◌, Bool, false, IsTrue, Option, MatchOption}
+use Rattle.mix_base.specs.Events.{Find, nothing, finds, found}
+use Rattle.lxp_core.specs.View.{View}
+use Rattle.plan_core.specs.Events.{RowEvents, same_group}
+use Rattle.plan_core.specs.Tolled.{Tolled, dearer, paid, is_item}
+use Rattle.plan_core.specs.ByNumber.{op_at}
+use Rattle.lazy_plan.specs.declared.bench.Bench.{Bench}
+use Rattle.lazy_plan.specs.declared.position.Position.{Position}
+use Rattle.lazy_plan.specs.Bench.{BenchState, state_of, IsBenchOf, told, forward, fills_of, ops_of, documents, IsCursor, binding_at, ahead_at, number_at, KeepsBench, AsksAtMost}
+use Rattle.lazy_value.specs.Forms.{input_at, keys_of}
+use Rattle.lazy_value.specs.Ids.{here, IsSite, rest_trees, IsRest, weight, left, site_left}
+use Rattle.lazy_value.specs.declared.ids.Site.{Site}
+use Rattle.lazy_value.specs.declared.ids.Rest.{Rest}
+use Rattle.lazy_value.specs.declared.ids.Turn.{Turn}
+use Rattle.lazy_value.specs.declared.ids.Turn.TheVariants.{Over, At, On}
+
+-- what a call leaves, whatever it answers: it keeps what every call keeps, and asks at most so many fills
+pub record Walked {S : Type 0} (view : S → View) (came_from : S → S → Type 0) (s : S) (b : Bench) (s' : S) (b' : Bench) (most : ℕ) : Type 0 where
+  pub came : came_from s' s
+  pub bench : IsBenchOf (view s') b'
+  pub kept : KeepsBench (state_of (view s) b) (state_of (view s') b')
+  pub asks : AsksAtMost (state_of (view s) b) (state_of (view s') b') most
+
+-- an identifier stands for the first of these trees
+pub record StandsFor (old new : BenchState) (f : Tolled) (n : Site) : Type 0 where
+  pub node : IsSite new n
+  pub here : IsTrue (told old) → here new n ≡ paid f
+  pub tree : IsTrue (told old) → IsTrue (is_item f)
+
+-- there is none of these trees, or the identifier stands for the first
+abbrev pub Reaches : BenchState → BenchState → Tolled → Option Site → Type 0
+Reaches old new f r = MatchOption r (IsTrue (told old) → is_item f ≡ false) (StandsFor old new f)
+
+-- an earlier identifier stands for the same tree, with the same trees behind it, and its number did not rise
+pub record Stays (old new : BenchState) (n : Site) : Type 0 where
+  pub node : IsSite new n
+  pub here : here new n ≡ here old n
+  pub left : site_left new n ≤ site_left old n
+
+-- so does each earlier identifier
+abbrev pub KeepsSites : BenchState → BenchState → Type 0
+KeepsSites old new = (n : Site) → IsSite old n → Stays old new n
+
+-- a rest of these trees, and what it cost to come to it
+pub record GoesOn (old new : BenchState) (f : Tolled) (w : ℕ) (r : Rest) : Type 0 where
+  pub rest : IsRest new r
+  pub falls : weight new r < w
+  pub trees : IsTrue (told old) → (t : ℕ) × (f ≡ dearer t (rest_trees new r)) × (IsTrue (forward old) → fills_of new ≤ fills_of old + t)
+
+-- what one turn over these trees comes to
+abbrev pub Turns : BenchState → BenchState → Tolled → ℕ → Turn → Type 0
+Turns old new f w Over = IsTrue (told old) → is_item f ≡ false
+Turns old new f w (At n) = StandsFor old new f n
+Turns old new f w (On r) = GoesOn old new f w r.value
+
+-- how many trees are left after it
+abbrev pub Falls : BenchState → ℕ → Turn → Type 0
+Falls st w Over = Unit {0}
+Falls st w (At n) = site_left st n < w
+Falls st w (On r) = left st r.value ≤ w
+
+-- the cursor stands at the first binding of these events of a group
+pub record IsMember (old new : BenchState) (op : ℕ) (first : Position) (es : RowEvents) (top : ℕ) (c : Position) : Type 0 where
+  pub cursor : IsCursor new (input_at (ops_of new) op) c
+  pub falls : number_at new (input_at (ops_of new) op) c < top
+  pub found : IsTrue (told old) → found es ≡ finds (binding_at new (input_at (ops_of new) op) c)
+      (same_group (documents new) (keys_of (op_at (ops_of new) op)) (binding_at new (input_at (ops_of new) op) first) (ahead_at new (input_at (ops_of new) op) c))
