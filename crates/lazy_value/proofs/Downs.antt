@@ -1,7 +1,6 @@
 -- The first child of made elements, and of the root.
-use Rattle.std.proofs.Common.{◌≡◌, ◌<◌, ◌≤◌, ◌+◌, ℕ, suc, List, [], ◌∷◌, Option, Some, None, length, refl, ◌∙◌, sym, ap, subst, arith}
-use Rattle.std.specs.Prelude.{IsTrue, slice_index_or}
-use Rattle.std.specs.List.{last_or}
+use Rattle.std.proofs.Common.{◌≡◌, ℕ, List, [], ◌∷◌, Option, Some, None, ◌∙◌, sym, ap, subst, arith}
+use Rattle.std.specs.Prelude.{slice_index_or}
 use Rattle.mix_base.specs.Events.{Find, finds, found}
 use Rattle.lxp_core.specs.View.{View}
 use Rattle.plan_core.specs.declared.plan.Piece.{Piece}
@@ -9,21 +8,21 @@ use Rattle.plan_core.specs.declared.plan.Piece.TheVariants.{Var as var_piece, Te
 use Rattle.plan_core.specs.Plans.{Operator}
 use Rattle.plan_core.specs.ByNumber.{op_at}
 use Rattle.plan_core.specs.Tolled.{Tolled, ends, toll, trees_below}
-use Rattle.plan_core.specs.TolledRows.{TolledValue, TolledRow, tolled_value, value_trees, piece_items, element}
+use Rattle.plan_core.specs.TolledRows.{TolledValue, TolledRow, tolled_value, value_trees, piece_items}
 use Rattle.plan_core.specs.Events.{RowEvents, events, first_row, element_alone, tolled_destroyed, tolled_document}
 use Rattle.lazy_plan.specs.declared.bench.Bench.{Bench}
-use Rattle.lazy_plan.specs.Bench.{BenchState, state_of, told, ops_of, documents, events_of, size_of, binding_at, ahead_at, AsksNoneOnSingle, IsFirstOf, BenchRan}
+use Rattle.lazy_plan.specs.Bench.{BenchState, state_of, ops_of, documents, events_of, size_of, binding_at, AsksNoneOnSingle, IsFirstOf, BenchRan}
 use Rattle.lazy_plan.specs.declared.position.Position.{Position}
 use Rattle.lazy_plan.proofs.Benches.{keeps_on}
-use Rattle.lazy_value.specs.Forms.{input_at, pieces_of, label_in}
-use Rattle.lazy_value.specs.Ids.{element_trees, value_of, IsOrigin, IsRest, rest_trees, IsLast}
+use Rattle.lazy_value.specs.Forms.{input_at, pieces_of}
+use Rattle.lazy_value.specs.Ids.{element_trees, value_of, IsRest, rest_trees, IsLast}
 use Rattle.lazy_value.specs.Origins.{IsOriginOf}
-use Rattle.lazy_value.specs.Steps.{Walked, StandsFor, Reaches, GoesOn}
+use Rattle.lazy_value.specs.Steps.{Walked, Reaches, GoesOn}
 use Rattle.lazy_value.specs.declared.ids.Origin.{Origin}
 use Rattle.lazy_value.specs.declared.ids.Origin.TheVariants.{Element}
 use Rattle.lazy_value.specs.declared.ids.Rest.{Rest, End}
 use Rattle.lazy_value.specs.declared.ids.Site.{Site}
-use Rattle.lazy_value.proofs.Turns.{still_told, still_forward, Paid, paid_start, paid_on, paid_at, paid_over, walked_then}
+use Rattle.lazy_value.proofs.Turns.{still_told, still_forward, Paid, paid_start, paid_on, paid_at, paid_over}
 
 -- the trees of an element are those of its list
 pub element_is : (st : BenchState) (op list input : ℕ) (at : Position) (origin : Origin) (r : Rest) → pieces_of (op_at (ops_of st) op) ≡ var_piece list ∷ [] → input ≡ input_at (ops_of st) op

@@ -1,12 +1,12 @@
 -- Values and what is behind them.
-use Rattle.std.proofs.Common.{◌≡◌, ◌<◌, ◌≤◌, ◌+◌, ℕ, suc, Option, Some, None, length, drop, refl, ◌∙◌, sym, ap, subst, arith}
+use Rattle.std.proofs.Common.{◌≡◌, ◌+◌, ℕ, suc, None, ◌∙◌, sym, ap, subst, arith}
 use Rattle.plan_core.specs.ByNumber.{op_at}
 use Rattle.plan_core.specs.Tolled.{Tolled, ends, tolled_followed}
-use Rattle.plan_core.specs.TolledRows.{value_trees, piece_items, all_items, collected}
+use Rattle.plan_core.specs.TolledRows.{value_trees, all_items, collected}
 use Rattle.lazy_plan.specs.Bench.{BenchState, ops_of, documents, binding_at, events_of}
 use Rattle.lazy_plan.specs.declared.position.Position.{Position}
 use Rattle.lazy_value.specs.Forms.{input_at, pieces_of, piece_of, makes_list, gathers_groups}
-use Rattle.lazy_value.specs.Ids.{pieces_trees, members_trees, group_ahead, group_trees, member_trees, Stands, GathersAll, IsOrigin, value_of, IsRest, rest_trees, weight}
+use Rattle.lazy_value.specs.Ids.{group_ahead, group_trees, member_trees, Stands, GathersAll, IsOrigin, value_of, IsRest, rest_trees, weight}
 use Rattle.lazy_value.specs.Origins.{origin_size}
 use Rattle.lazy_value.specs.Steps.{StandsFor, GoesOn}
 use Rattle.lazy_value.specs.declared.ids.Origin.{Origin}

@@ -1,19 +1,18 @@
 -- Lists that are gathered from the events of an operator's input.
-use Rattle.std.proofs.Common.{◌≡◌, ◌<◌, ◌≤◌, ◌+◌, ℕ, suc, List, Option, Some, None, length, refl, ◌∙◌, sym, ap, subst, arith}
+use Rattle.std.proofs.Common.{◌≡◌, ◌<◌, ◌≤◌, ◌+◌, ℕ, suc, List, Option, Some, ◌∙◌, sym, ap, subst, arith}
 use Rattle.std.specs.Prelude.{IsTrue}
 use Rattle.mix_base.specs.Events.{nothing, finds, found, cost}
 use Rattle.mix_tree.specs.Nodes.{Documents}
 use Rattle.lxp_core.specs.View.{View}
 use Rattle.plan_core.specs.Plans.{Operator}
-use Rattle.plan_core.specs.ByNumber.{op_at}
 use Rattle.plan_core.specs.Tolled.{Tolled, toll, dearer}
 use Rattle.plan_core.specs.TolledRows.{TolledRow, piece_items, collected}
 use Rattle.plan_core.specs.Events.{RowEvents}
 use Rattle.lazy_plan.specs.declared.bench.Bench.{Bench}
-use Rattle.lazy_plan.specs.Bench.{BenchState, state_of, told, ops_of, documents, IsCursor, binding_at, ahead_at, number_at, KeepsBench, AsksAtMost, IsFirstOf}
+use Rattle.lazy_plan.specs.Bench.{BenchState, state_of, told, ops_of, documents, number_at, KeepsBench, AsksAtMost, IsFirstOf}
 use Rattle.lazy_plan.specs.declared.position.Position.{Position}
-use Rattle.lazy_value.specs.Forms.{form, input_at, piece_of, gathers_all, gathers_groups}
-use Rattle.lazy_value.specs.Ids.{ahead_from, number_from, members_trees, group_ahead, group_trees, member_trees, Stands, GathersAll, IsRest, rest_trees, weight, left, site_left}
+use Rattle.lazy_value.specs.Forms.{input_at, piece_of, gathers_all}
+use Rattle.lazy_value.specs.Ids.{ahead_from, number_from, members_trees, group_ahead, group_trees, member_trees, Stands, GathersAll, IsRest, rest_trees, weight, left}
 use Rattle.lazy_value.specs.Steps.{Walked, StandsFor, GoesOn, IsMember}
 use Rattle.lazy_value.specs.declared.ids.Rest.{Rest}
 use Rattle.lazy_value.specs.declared.ids.Site.{Site}

@@ -1,5 +1,5 @@
 -- How far the search for the next member of a group has come.
-use Rattle.std.proofs.Common.{◌≡◌, ◌<◌, ◌≤◌, ◌+◌, ℕ, suc, Bool, true, false, List, refl, ◌∙◌, sym, ap, subst, arith}
+use Rattle.std.proofs.Common.{◌≡◌, ◌<◌, ◌≤◌, ◌+◌, ℕ, Bool, true, false, List, refl, ◌∙◌, sym, ap, subst, arith}
 use Rattle.std.specs.Prelude.{IsTrue}
 use Rattle.mix_base.specs.Events.{nothing, finds, found, cost}
 use Rattle.mix_tree.specs.Nodes.{Documents}
@@ -7,15 +7,15 @@ use Rattle.mix_tree.specs.declared.var.Key.{Key}
 use Rattle.lxp_core.specs.View.{View}
 use Rattle.plan_core.specs.Plans.{Operator}
 use Rattle.plan_core.specs.ByNumber.{op_at}
-use Rattle.plan_core.specs.TolledRows.{TolledRow, key_values, same_values}
+use Rattle.plan_core.specs.TolledRows.{TolledRow}
 use Rattle.plan_core.specs.Events.{RowEvents, only, same_group}
 use Rattle.plan_core.proofs.Found.{found-only_none, found-only_yes, found-only_no, cost-only_le, cost-only_no}
 use Rattle.lazy_plan.specs.declared.bench.Bench.{Bench}
-use Rattle.lazy_plan.specs.Bench.{BenchState, state_of, IsBenchOf, told, forward, fills_of, ops_of, documents, IsCursor, binding_at, ahead_at, number_at, KeepsBench, AsksAtMost, IsFirstOf, BenchRan}
+use Rattle.lazy_plan.specs.Bench.{BenchState, state_of, told, forward, fills_of, ops_of, documents, IsCursor, binding_at, ahead_at, number_at, KeepsBench, AsksAtMost, IsFirstOf, BenchRan}
 use Rattle.lazy_plan.specs.declared.position.Position.{Position}
 use Rattle.lazy_plan.proofs.Benches.{keeps_on}
-use Rattle.lazy_value.specs.Forms.{input_at, keys_of, gathers_groups}
-use Rattle.lazy_value.specs.Ids.{Stands, group_ahead}
+use Rattle.lazy_value.specs.Forms.{input_at, keys_of}
+use Rattle.lazy_value.specs.Ids.{group_ahead}
 use Rattle.lazy_value.specs.Steps.{Walked, IsMember}
 use Rattle.lazy_value.proofs.Keep.{ops_kept, input_kept, binding_kept}
 use Rattle.lazy_value.proofs.Sames.{same_by}

@@ -1,7 +1,7 @@
 -- Valid plans have documents, and what is static of their roots.
-use Rattle.std.proofs.Common.{inl, inr, ◌≡◌, ◌<◌, ◌≤◌, ℕ, zero, suc, Bool, true, false, ◌&&◌, List, [], ◌∷◌, ◌++◌, Option, Some, None, length, refl, ◌∙◌, sym, ap, subst, arith}
+use Rattle.std.proofs.Common.{inl, inr, ◌≡◌, ◌<◌, ℕ, zero, suc, Bool, true, false, List, [], ◌∷◌, ◌++◌, Option, Some, length, refl, ◌∙◌, sym, ap, subst, arith}
 use Rattle.std.specs.Prelude.{IsTrue, ◌==◌}
-use Rattle.std.specs.List.{AllByRecursion, last_or}
+use Rattle.std.specs.List.{AllByRecursion}
 use Rattle.mix_base.specs.Events.{skip, bind, Find, nothing, finds, found}
 use Rattle.mix_base.proofs.Choices.{and_parts}
 use Rattle.mix_base.proofs.Firsts.{each_weaker}
@@ -10,13 +10,13 @@ use Rattle.mix_tree.specs.Nodes.{Documents}
 use Rattle.plan_core.specs.declared.plan.Plan.{Plan}
 use Rattle.plan_core.specs.PlanMade.{plan_value}
 use Rattle.plan_core.specs.Plans.{Operator, source, get_descendants, join, over, tuple_destroy, PlanValue, document}
-use Rattle.plan_core.specs.Unary.{Unary, select, order_by, project, group_by, concatenate, create_element}
+use Rattle.plan_core.specs.Unary.{select, order_by, project, group_by, concatenate, create_element}
 use Rattle.plan_core.specs.ByNumber.{op_at}
 use Rattle.plan_core.specs.Typed.{IsTyped}
 use Rattle.plan_core.specs.Valid.{Kinds, kinds, op_kinds, kept, a_list, an_element, inputs_of, is_single, IsValid}
 use Rattle.plan_core.specs.Tolled.{Tolled, ends, item, is_item, item_label, plain}
-use Rattle.plan_core.specs.TolledRows.{TolledRow, TolledValue, element, tolled_value}
-use Rattle.plan_core.specs.Events.{RowEvents, expand, pairs, distinct, projected, concatenated_row, element_row, op_events, events, visited, first_row, element_alone, tolled_destroyed, tolled_document, TolledIsDocument}
+use Rattle.plan_core.specs.TolledRows.{TolledRow, tolled_value}
+use Rattle.plan_core.specs.Events.{RowEvents, expand, pairs, projected, concatenated_row, element_row, op_events, events, visited, first_row, element_alone, tolled_destroyed, tolled_document, TolledIsDocument}
 use Rattle.plan_core.proofs.Distinct.{distinct_new}
 use Rattle.plan_core.proofs.Found.{found-expand_some, found-pairs_yes, found-each_row_some}
 use Rattle.plan_core.proofs.Numbers.{events-of}

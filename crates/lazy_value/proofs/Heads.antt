@@ -1,16 +1,15 @@
 -- The trees of pieces that are no lists.
-use Rattle.std.proofs.Common.{◌≡◌, ℕ, List, refl, ◌∙◌, sym, ap, subst}
+use Rattle.std.proofs.Common.{◌≡◌, ℕ, ◌∙◌, sym, ap, subst}
 use Rattle.std.specs.Prelude.{Result, Ok, Err, IfOk}
 use Rattle.mix_tree.specs.Nodes.{Node, label_at}
 use Rattle.tree_buffer.specs.declared.spot.Spot.{Spot}
 use Rattle.plan_core.specs.declared.plan.Piece.{Piece}
-use Rattle.plan_core.specs.declared.plan.Piece.TheVariants.{Var as var_piece, LabelOf as label_piece, Text as text_piece}
+use Rattle.plan_core.specs.declared.plan.Piece.TheVariants.{Var as var_piece, LabelOf as label_piece}
 use Rattle.plan_core.specs.Tolled.{Tolled, ends, item}
-use Rattle.plan_core.specs.TolledRows.{TolledValue, TolledRow, tolled_value, row_node, source_node, value_trees, piece_items}
+use Rattle.plan_core.specs.TolledRows.{TolledValue, row_node, source_node, value_trees, piece_items}
 use Rattle.lazy_plan.specs.Bench.{BenchState, ops_of, documents, binding_at, IsSpotAt, IsSpotOf, node_at}
 use Rattle.lazy_plan.specs.declared.position.Position.{Position}
 use Rattle.lazy_value.specs.Forms.{input_at, piece_at}
-use Rattle.lazy_value.specs.Ids.{head_label, head_trees}
 use Rattle.lazy_value.specs.Origins.{IsOriginOf, IsHeadOf}
 use Rattle.lazy_value.specs.declared.ids.Head.TheVariants.{Whole, Leaf}
 use Rattle.lazy_value.specs.declared.ids.Origin.TheVariants.{Node as node_origin}

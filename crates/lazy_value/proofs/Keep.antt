@@ -1,5 +1,5 @@
 -- Each earlier identifier stays.
-use Rattle.std.proofs.Common.{◌≡◌, ◌<◌, ◌≤◌, ◌+◌, ℕ, suc, Bool, List, [], ◌∷◌, Option, Some, None, length, drop, refl, ◌∙◌, sym, ap, subst, arith}
+use Rattle.std.proofs.Common.{◌≡◌, ◌<◌, ◌≤◌, ◌+◌, ℕ, suc, List, Option, Some, None, length, drop, refl, ◌∙◌, sym, ap, subst, arith}
 use Rattle.std.specs.Prelude.{IsTrue, MatchOption}
 use Rattle.mix_tree.specs.Forest.{Forest, first_kids, behind}
 use Rattle.mix_tree.specs.Nodes.{Documents, Node, label_at, kids_at, label_of_first, node_trees}
@@ -10,12 +10,12 @@ use Rattle.plan_core.specs.ByNumber.{op_at}
 use Rattle.plan_core.specs.Tolled.{Tolled, ends, item, charged}
 use Rattle.plan_core.specs.TolledRows.{TolledRow, piece_items, all_items, collected}
 use Rattle.plan_core.specs.Events.{RowEvents, events, same_group, tolled_document}
-use Rattle.lazy_plan.specs.Bench.{BenchState, ops_of, documents, events_of, size_of, IsCursor, CursorStays, binding_at, ahead_at, number_at, IsSpotAt, node_at, after_at, KeepsBench}
+use Rattle.lazy_plan.specs.Bench.{BenchState, ops_of, documents, events_of, size_of, IsCursor, CursorStays, binding_at, ahead_at, number_at, IsSpotAt, node_at, KeepsBench}
 use Rattle.lazy_plan.specs.declared.position.Position.{Position}
 use Rattle.lazy_value.specs.Forms.{Form, makes_list, makes_element, gathers_groups, form, input_at, pieces_of, keys_of, label_in, piece_at, piece_of}
 use Rattle.lazy_value.specs.Sizes.{pieces_count, size, extent}
-use Rattle.lazy_value.specs.Ids.{element_trees, pieces_trees, ahead_from, members_trees, group_ahead, group_trees, Stands, GathersAll, IsText, IsHead, head_label, head_trees, text_of, is_text, IsRest, rest_trees, here, IsSite, weight, number_from, left, site_left}
-use Rattle.lazy_value.specs.Steps.{Stays, KeepsSites}
+use Rattle.lazy_value.specs.Ids.{element_trees, pieces_trees, ahead_from, members_trees, group_ahead, group_trees, Stands, GathersAll, IsHead, head_label, head_trees, text_of, is_text, IsRest, rest_trees, here, IsSite, weight, number_from, left, site_left}
+use Rattle.lazy_value.specs.Steps.{KeepsSites}
 use Rattle.lazy_value.specs.declared.ids.Head.{Head}
 use Rattle.lazy_value.specs.declared.ids.Head.TheVariants.{Whole, Built, Leaf, Text}
 use Rattle.lazy_value.specs.declared.ids.Rest.{Rest, End, Pieces', Members', Group'}

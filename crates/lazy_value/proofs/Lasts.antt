@@ -1,15 +1,13 @@
 -- The last operator of a valid plan.
-use Rattle.std.proofs.Common.{◌≡◌, ◌<◌, ◌≤◌, ◌-◌, ℕ, zero, suc, Bool, true, false, List, [], ◌∷◌, Option, Some, None, length, refl, ◌∙◌, sym, ap, subst, arith}
-use Rattle.std.specs.Prelude.{IsTrue, slice_index_or}
+use Rattle.std.proofs.Common.{◌≡◌, ◌<◌, ◌-◌, ℕ, suc, Bool, true, List, [], ◌∷◌, Option, Some, None, length, refl, ◌∙◌, sym, ap, subst, arith}
 use Rattle.std.specs.List.{last_or}
 use Rattle.plan_core.specs.declared.plan.Op.{Op}
 use Rattle.plan_core.specs.declared.plan.Op.TheVariants as op
 use Rattle.plan_core.specs.PlanMade.{op_of}
 use Rattle.plan_core.specs.Plans.{Operator, source, get_descendants, join, over, tuple_destroy, PlanValue}
-use Rattle.plan_core.specs.ByNumber.{op_at, by_number}
+use Rattle.plan_core.specs.ByNumber.{op_at}
 use Rattle.plan_core.specs.Typed.{IsTyped}
 use Rattle.plan_core.specs.Valid.{kinds, an_element, IsFit, EndsSingle, is_single_at, IsValid}
-use Rattle.lazy_plan.specs.Steps.{single}
 use Rattle.lazy_value.specs.Ids.{IsLast}
 use Rattle.lazy_value.proofs.Numbering.{inputs_below}
 
@@ -37,11 +35,6 @@ ends_are of (get_descendants i start path out ∷ ops) d h = before of (get_desc
 ends_are of (join l r tests ∷ ops) d h = before of (join l r tests) ops d (ends_are of ops (Some (join l r tests)) h)
 ends_are of (over i u ∷ ops) d h = before of (over i u) ops d (ends_are of ops (Some (over i u)) h)
 
--- the two say the same
-same_single : (ops : List Operator) (n : ℕ) → is_single_at ops n ≡ single ops n
-unfolding single is_single_at
-same_single ops n = refl
-
 module _ (p : PlanValue) (valid : IsValid p) where
   -- how a valid plan ends
   pub valid_ends : Ends (is_single_at p.ops) p.ops None
@@ -64,7 +57,7 @@ module _ (p : PlanValue) (valid : IsValid p) where
       record {
         within = (let z = b.0 in omega (arith, z, h));
         kind = fit f valid_ends.is;
-        single = sym (same_single p.ops valid_ends.input) ∙ valid_ends.alone;
+        single = valid_ends.alone;
         last = valid_ends.last;
       }
     where

@@ -1,6 +1,6 @@
 -- Lists of trees with tolls.
-use Rattle.std.proofs.Common.{◌≡◌, ℕ, zero, suc, ◌+◌, ◌<◌, ◌≤◌, Bool, true, false, List, [], ◌∷◌, refl, ◌∙◌, sym, ap, arith}
-use Rattle.mix_base.specs.Events.{Event, skip, bind, nothing, finds, found, cost}
+use Rattle.std.proofs.Common.{◌≡◌, ℕ, ◌+◌, ◌≤◌, List, [], ◌∷◌, refl, ◌∙◌, sym, ap, arith}
+use Rattle.mix_base.specs.Events.{skip, bind, nothing, finds, found, cost}
 use Rattle.mix_tree.specs.Nodes.{Documents}
 use Rattle.plan_core.specs.declared.plan.Piece.{Piece}
 use Rattle.plan_core.specs.declared.plan.Piece.TheVariants.{Var as var_piece, LabelOf as label_piece, Text as text_piece}

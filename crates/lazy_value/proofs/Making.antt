@@ -1,36 +1,34 @@
 -- Values where an operator makes them.
-use Rattle.std.proofs.Common.{◌≡◌, ◌<◌, ◌≤◌, ◌+◌, ◌⊎◌, inl, inr, ℕ, zero, suc, Bool, true, false, cond, List, [], ◌∷◌, Option, Some, None, length, refl, ◌∙◌, sym, ap, subst, arith}
+use Rattle.std.proofs.Common.{◌≡◌, ◌<◌, ◌≤◌, ◌+◌, inl, inr, ℕ, zero, suc, Bool, true, false, cond, List, [], ◌∷◌, Option, Some, None, length, refl, ◌∙◌, sym, ap, subst, arith}
 use Rattle.std.specs.Prelude.{◌==◌, slice_index_or}
 use Rattle.std.specs.List.{AllByRecursion}
 use Rattle.std.proofs.lemmas.Bool.Decides.{nat_tests}
 use Rattle.mix_base.proofs.Firsts.{each_weaker}
 use Rattle.mix_tree.specs.Keys.{has_var}
-use Rattle.mix_tree.specs.Nodes.{Documents}
 use Rattle.mix_tree.specs.declared.var.Key.{Key}
 use Rattle.tree_buffer.specs.declared.spot.Spot.{Spot}
 use Rattle.plan_core.specs.declared.plan.Piece.{Piece}
-use Rattle.plan_core.specs.declared.plan.Piece.TheVariants.{Var as var_piece, Text as text_piece}
+use Rattle.plan_core.specs.declared.plan.Piece.TheVariants.{Text as text_piece}
 use Rattle.plan_core.specs.declared.plan.Plan.{Plan}
 use Rattle.plan_core.specs.PlanMade.{plan_value}
 use Rattle.plan_core.specs.Plans.{Operator, source, get_descendants, join, over, tuple_destroy}
-use Rattle.plan_core.specs.Unary.{Unary, select, order_by, project, group_by, concatenate, create_element}
+use Rattle.plan_core.specs.Unary.{select, order_by, project, group_by, concatenate, create_element}
 use Rattle.plan_core.specs.ByNumber.{op_at}
 use Rattle.plan_core.specs.Typed.{IsTyped}
 use Rattle.plan_core.specs.Valid.{Kind, a_node, an_element, a_list, Kinds, kinds, kept, op_kinds, either_kind, inputs_of}
-use Rattle.plan_core.specs.Tolled.{Tolled, ends}
-use Rattle.plan_core.specs.TolledRows.{TolledRow, TolledValue, of_source, element, trees, tolled_value, row_node, piece_items, all_items, collected}
-use Rattle.plan_core.specs.Events.{RowEvents, same_group, group_row, concatenated_row, element_row}
+use Rattle.plan_core.specs.Tolled.{ends}
+use Rattle.plan_core.specs.TolledRows.{TolledRow, of_source, element, trees, tolled_value, row_node, piece_items, all_items, collected}
+use Rattle.plan_core.specs.Events.{same_group}
 use Rattle.lazy_plan.specs.Bench.{BenchState, ops_of, documents, events_of, size_of, IsCursor, binding_at, ahead_at, number_at, IsSpotAt, IsSpotOf, node_at, IsUnder, IsMadeOf}
 use Rattle.lazy_plan.specs.declared.position.Position.{Position}
 use Rattle.lazy_plan.proofs.Benches.{all_groups}
-use Rattle.lazy_value.specs.Forms.{Form, form, input_of, pieces_of, keys_of, label_in, input_at, piece_of, makes_list, makes_element, gathers_all, gathers_groups}
-use Rattle.lazy_value.specs.Sizes.{pieces_count, size, op_size, extent, op_extent}
-use Rattle.lazy_value.specs.Ids.{Stands, GathersAll, IsOrigin, value_of}
-use Rattle.lazy_value.specs.Origins.{origin_kind, origin_size, origin_extent, IsOriginOf, IsPassedOn, IsMadeHere, makes}
+use Rattle.lazy_value.specs.Forms.{Form, form, input_of, pieces_of, keys_of, label_in, input_at, makes_list, makes_element, gathers_groups}
+use Rattle.lazy_value.specs.Sizes.{pieces_count, size, extent, op_extent}
+use Rattle.lazy_value.specs.Ids.{Stands}
+use Rattle.lazy_value.specs.Origins.{IsOriginOf, IsPassedOn, IsMadeHere, makes}
 use Rattle.lazy_value.specs.declared.ids.Origin.{Origin}
 use Rattle.lazy_value.specs.declared.ids.Origin.TheVariants.{Node, Element, Joined, All, Group as Same}
 use Rattle.lazy_value.proofs.Numbering as numbering
-use Rattle.lazy_value.proofs.Passing.{cond_false}
 
 -- a choice whose test holds
 pub cond_true : {A : Type 0} (b : Bool) (x y : A) → b ≡ true → cond b x y ≡ x

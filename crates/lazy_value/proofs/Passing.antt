@@ -1,5 +1,5 @@
 -- Where the value of a variable comes from, by the form of the operator.
-use Rattle.std.proofs.Common.{◌≡◌, ◌<◌, ◌≤◌, ◌+◌, ◌⊎◌, inl, inr, ◌||◌, ◌&&◌, ℕ, suc, Bool, true, false, cond, List, [], ◌∷◌, Option, Some, None, length, refl, ◌∙◌, sym, ap, subst, arith}
+use Rattle.std.proofs.Common.{◌≡◌, ◌<◌, ◌≤◌, inl, inr, ℕ, Bool, true, false, cond, List, Option, Some, None, length, refl, ◌∙◌, sym, ap, subst, arith}
 use Rattle.std.specs.Prelude.{◌==◌, is_some}
 use Rattle.path_expr.specs.Form.{Form}
 use Rattle.mix_tree.specs.Keys.{has_var}
@@ -8,16 +8,16 @@ use Rattle.mix_tree.specs.declared.comparing.Test.{Test}
 use Rattle.plan_core.specs.declared.plan.Piece.{Piece}
 use Rattle.plan_core.specs.declared.plan.Plan.{Plan}
 use Rattle.plan_core.specs.PlanMade.{plan_value}
-use Rattle.plan_core.specs.Plans.{Operator, source, get_descendants, join, over, tuple_destroy}
-use Rattle.plan_core.specs.Unary.{Unary, select, order_by, project, group_by, concatenate, create_element}
+use Rattle.plan_core.specs.Plans.{Operator, source, get_descendants, join, over}
+use Rattle.plan_core.specs.Unary.{select, order_by, project, group_by, concatenate, create_element}
 use Rattle.plan_core.specs.ByNumber.{op_at}
 use Rattle.plan_core.specs.Typed.{IsTyped}
-use Rattle.plan_core.specs.Valid.{Kind, a_node, an_element, a_list, Kinds, kinds, kept, op_kinds, either_kind, IsFit, AreNodes}
-use Rattle.plan_core.specs.TolledRows.{TolledRow, TolledValue, tolled_value}
+use Rattle.plan_core.specs.Valid.{Kind, a_node, an_element, a_list, kinds, kept, op_kinds, either_kind, IsFit, AreNodes}
+use Rattle.plan_core.specs.TolledRows.{TolledRow, tolled_value}
 use Rattle.plan_core.specs.Events.{RowEvents}
 use Rattle.lazy_plan.specs.World.{World}
 use Rattle.lazy_plan.specs.Bench.{IsMadeOf, HasUnder, AmongInputs}
-use Rattle.lazy_value.specs.Labels.{labels, op_labels, either_label}
+use Rattle.lazy_value.specs.Labels.{labels, op_labels}
 use Rattle.lazy_value.specs.Sizes.{size, op_size, extent, op_extent}
 use Rattle.lazy_value.specs.Origins.{IsPassedOn, IsMadeHere, makes}
 use Rattle.lazy_value.proofs.Numbering.{inputs_below, kind_of, size_of, extent_of, labels_of, labels_fit, fits_some, fits_none}

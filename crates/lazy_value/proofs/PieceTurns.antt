@@ -1,7 +1,7 @@
 -- Turns over the pieces of a concatenation.
 use Rattle.std.specs.declared.rc.Rc.{Rc}
-use Rattle.std.proofs.Common.{Global, drop-cons, add-one, ◌≡◌, ◌<◌, ◌≤◌, ◌+◌, ℕ, suc, List, [], ◌∷◌, Option, Some, None, length, drop, get_or, refl, ◌∙◌, sym, ap, subst, arith}
-use Rattle.std.specs.Prelude.{IsTrue, slice_index_or}
+use Rattle.std.proofs.Common.{Global, drop-cons, add-one, ◌≡◌, ◌<◌, ◌≤◌, ◌+◌, ℕ, suc, List, [], ◌∷◌, length, drop, refl, ◌∙◌, sym, ap, subst, arith}
+use Rattle.std.specs.Prelude.{slice_index_or}
 use Rattle.plan_core.specs.declared.plan.Piece.{Piece}
 use Rattle.plan_core.specs.declared.plan.Piece.TheVariants.{Var as var_piece, LabelOf as label_piece, Text as text_piece}
 use Rattle.plan_core.specs.ByNumber.{op_at}
@@ -11,9 +11,9 @@ use Rattle.lazy_plan.specs.Bench.{BenchState, ops_of, documents, binding_at, siz
 use Rattle.lazy_plan.specs.declared.position.Position.{Position}
 use Rattle.lazy_value.specs.Forms.{input_at, pieces_of, piece_at, makes_list}
 use Rattle.lazy_value.specs.Sizes.{piece_count, pieces_count, size, extent}
-use Rattle.lazy_value.specs.Ids.{pieces_trees, Stands, IsOrigin, value_of, IsHead, head_label, head_trees, IsRest, rest_trees, weight, left, site_left}
+use Rattle.lazy_value.specs.Ids.{pieces_trees, Stands, IsOrigin, value_of, head_label, head_trees, IsRest, rest_trees, weight, left}
 use Rattle.lazy_value.specs.Origins.{origin_size, origin_extent, IsOriginOf, IsHeadOf}
-use Rattle.lazy_value.specs.Steps.{StandsFor, GoesOn, Turns, Falls}
+use Rattle.lazy_value.specs.Steps.{StandsFor, Turns, Falls}
 use Rattle.lazy_value.specs.declared.ids.Head.{Head}
 use Rattle.lazy_value.specs.declared.ids.Origin.{Origin}
 use Rattle.lazy_value.specs.declared.ids.Rest.{Rest, Pieces'}

@@ -1,8 +1,8 @@
 -- Identifiers and the places of the plan's document.
-use Rattle.std.proofs.Common.{◌≡◌, ℕ, zero, suc, ◌+◌, ◌<◌, ◌≤◌, Bool, true, false, List, [], ◌∷◌, ◌++◌, Option, Some, None, refl, ◌∙◌, sym, ap, subst, add-one, arith}
-use Rattle.std.specs.Prelude.{IsTrue, is_some, option_map, MatchOption}
+use Rattle.std.proofs.Common.{◌≡◌, ℕ, zero, suc, ◌+◌, true, false, List, [], ◌∷◌, Option, Some, None, refl, ◌∙◌, sym, ap, subst, add-one, arith}
+use Rattle.std.specs.Prelude.{IsTrue, is_some, option_map}
 use Rattle.std.specs.List.{last_or}
-use Rattle.mix_tree.specs.Forest.{Forest, none, tree, LabelledTree, alone, first_tree, first_label, first_kids, behind, from}
+use Rattle.mix_tree.specs.Forest.{Forest, tree, LabelledTree, alone, first_tree, first_label, first_kids, from}
 use Rattle.mix_tree.specs.Place.{trees_at, has_place, tree_at, child_place, next_place}
 use Rattle.mix_tree.specs.Nodes.{Documents}
 use Rattle.plan_core.specs.declared.plan.Plan.{Plan}
@@ -14,7 +14,7 @@ use Rattle.plan_core.specs.Events.{RowEvents, events, visited, element_alone, to
 use Rattle.lazy_plan.specs.Bench.{BenchState, ops_of, documents, told, KeepsBench, AsksAtMost}
 use Rattle.lazy_value.specs.Ids.{here, IsSite}
 use Rattle.lazy_value.specs.Steps.{StandsFor, Reaches}
-use Rattle.lazy_value.specs.Places.{plan_document, down_toll, right_toll, HasPlace, HasNoPlace, IsLabelAt, IsNode, IsAt, IsThere, GivesNode, GivesPlace}
+use Rattle.lazy_value.specs.Places.{plan_document, down_toll, right_toll, HasPlace, HasNoPlace, IsLabelAt, IsAt, IsThere}
 use Rattle.lazy_value.specs.Mediators.{NodesStay}
 use Rattle.lazy_value.specs.declared.ids.NodeId.{NodeId}
 use Rattle.lazy_value.specs.declared.ids.Site.{Site}

@@ -1,11 +1,10 @@
 -- What one step inside a source comes to.
-use Rattle.std.proofs.Common.{◌≡◌, ◌<◌, ◌≤◌, ◌+◌, ℕ, suc, Bool, true, false, List, Option, Some, None, refl, ◌∙◌, sym, ap, subst, arith}
-use Rattle.std.specs.Prelude.{IsTrue, MatchOption}
+use Rattle.std.proofs.Common.{◌≡◌, ℕ, true, false, List, Option, refl, ◌∙◌, ap}
 use Rattle.mix_tree.specs.Forest.{Forest, none, tree, first_kids, behind}
 use Rattle.mix_tree.specs.Nodes.{label_of_first}
 use Rattle.tree_buffer.specs.declared.spot.Spot.{Spot}
-use Rattle.plan_core.specs.Tolled.{Tolled, item, charged, toll, is_item, paid}
-use Rattle.lazy_plan.specs.Bench.{BenchState, told, AsksAtMost, IsSpotFor, trees_at_spot}
+use Rattle.plan_core.specs.Tolled.{item, charged, toll, is_item, paid}
+use Rattle.lazy_plan.specs.Bench.{BenchState, AsksAtMost, IsSpotFor}
 use Rattle.lazy_value.specs.Steps.{StandsFor}
 use Rattle.lazy_value.specs.declared.ids.Site.TheVariants.{Inside}
 

@@ -1,7 +1,7 @@
 -- In each binding of an operator, the variables that it binds hold what is said of them.
-use Rattle.std.proofs.Common.{◌≡◌, ◌<◌, ◌≤◌, ℕ, zero, suc, Bool, true, false, cond, ◌||◌, List, [], ◌∷◌, ◌++◌, map, Option, Some, None, length, refl, ◌∙◌, sym, ap, subst, arith}
+use Rattle.std.proofs.Common.{◌≡◌, ◌<◌, ℕ, zero, suc, Bool, true, false, cond, ◌||◌, List, [], ◌∷◌, ◌++◌, map, Option, Some, None, length, refl, sym, ap, subst, arith}
 use Rattle.std.specs.Prelude.{◌==◌}
-use Rattle.std.specs.List.{AllByRecursion, list_any}
+use Rattle.std.specs.List.{AllByRecursion}
 use Rattle.mix_base.specs.Events.{Event, skip, bind, finds, found, without_skips}
 use Rattle.mix_base.proofs.Firsts.{each_weaker}
 use Rattle.mix_tree.specs.Keys.{has_var, key_var}
@@ -11,7 +11,7 @@ use Rattle.mix_tree.specs.declared.var.Key.{Key}
 use Rattle.plan_core.specs.declared.plan.Piece.TheVariants.{Var as var_piece}
 use Rattle.plan_core.specs.Sorted.{insert_by, sorted_by}
 use Rattle.plan_core.specs.Plans.{Operator, source, get_descendants, join, over, tuple_destroy}
-use Rattle.plan_core.specs.Unary.{Unary, select, order_by, project, group_by, concatenate, create_element}
+use Rattle.plan_core.specs.Unary.{select, order_by, project, group_by, concatenate, create_element}
 use Rattle.plan_core.specs.ByNumber.{op_at}
 use Rattle.plan_core.specs.Typed.{IsTyped}
 use Rattle.plan_core.specs.Valid.{Kind, Kinds, kinds, a_node, an_element, a_list, IsFit, inputs_of}

@@ -1,7 +1,6 @@
 -- When bindings are the same by keys.
-use Rattle.std.proofs.Common.{drop-cons, ◌≡◌, ℕ, suc, ◌<◌, Bool, true, false, ◌&&◌, List, [], ◌∷◌, Some, length, drop, get_or, refl, ◌∙◌, sym, ap, subst}
-use Rattle.std.proofs.Math.Numerals.{add-one}
-use Rattle.std.specs.Prelude.{◌==◌, ◌↔◌, IsTrue, ◌+◌}
+use Rattle.std.proofs.Common.{◌≡◌, ℕ, ◌<◌, Bool, true, false, ◌&&◌, List, [], ◌∷◌, Some, length, refl, ◌∙◌, sym, ap, subst}
+use Rattle.std.specs.Prelude.{◌↔◌, IsTrue}
 use Rattle.std.specs.Str.{bytes_eq}
 use Rattle.std.specs.Cmp.{both_ways, unsigned_Decides}
 use Rattle.std.specs.Cmp.Lexicographic.{bytes_decides}
@@ -14,7 +13,7 @@ use Rattle.plan_core.specs.Typed.{IsTyped}
 use Rattle.plan_core.specs.Valid.{a_node, kinds}
 use Rattle.plan_core.specs.TolledRows.{TolledRow, row_node, source_node, key_value, key_values, same_value, same_values}
 use Rattle.lazy_plan.specs.World.{of_buffer, place_in, IsSpotIn}
-use Rattle.lazy_plan.specs.Bench.{BenchState, ops_of, IsCursor, binding_at, IsSpotAt, IsSpotOf, node_at}
+use Rattle.lazy_plan.specs.Bench.{BenchState, ops_of, IsCursor, binding_at, IsSpotOf, node_at}
 use Rattle.lazy_plan.specs.declared.position.Position.{Position}
 use Rattle.lazy_plan.proofs.Unders.{node_source, same_some}
 

@@ -1,17 +1,17 @@
 -- Several turns, one after another, and what they cost.
-use Rattle.std.proofs.Common.{◌≡◌, ◌<◌, ◌≤◌, ◌+◌, ℕ, suc, Bool, true, false, Option, Some, None, refl, ◌∙◌, sym, ap, subst, arith}
+use Rattle.std.proofs.Common.{◌≡◌, ◌<◌, ◌≤◌, ◌+◌, ℕ, suc, false, ◌∙◌, sym, ap, arith}
 use Rattle.std.specs.Prelude.{IsTrue}
 use Rattle.lxp_core.specs.View.{View}
 use Rattle.plan_core.specs.Tolled.{Tolled, toll, is_item, paid, dearer}
 use Rattle.lazy_plan.specs.declared.bench.Bench.{Bench}
-use Rattle.lazy_plan.specs.Bench.{BenchState, state_of, IsBenchOf, told, forward, fills_of, KeepsBench, KeepsOn, AsksAtMost, BenchRan}
+use Rattle.lazy_plan.specs.Bench.{BenchState, state_of, IsBenchOf, told, forward, fills_of, KeepsBench, AsksAtMost, BenchRan}
 use Rattle.lazy_plan.proofs.Benches.{keeps_on}
-use Rattle.lazy_value.specs.Ids.{IsRest, rest_trees, weight, left}
-use Rattle.lazy_value.specs.Steps.{Walked, StandsFor, Reaches, GoesOn, Turns}
+use Rattle.lazy_value.specs.Ids.{IsRest, rest_trees, weight}
+use Rattle.lazy_value.specs.Steps.{Walked, StandsFor, GoesOn}
 use Rattle.lazy_value.specs.declared.ids.Site.{Site}
 use Rattle.lazy_value.specs.declared.ids.Rest.{Rest}
 use Rattle.lazy_value.proofs.Laws.{dearer_zero, dearer_twice, toll_dearer, is_item_dearer, paid_dearer}
-use Rattle.lazy_value.proofs.Keep.{IsRest-kept, rest_trees-kept, weight-kept, left-kept}
+use Rattle.lazy_value.proofs.Keep.{IsRest-kept, rest_trees-kept, weight-kept}
 
 -- told sources are told after calls
 pub still_told : {a b : BenchState} → KeepsBench a b → IsTrue (told a) → IsTrue (told b)

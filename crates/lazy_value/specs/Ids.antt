@@ -1,8 +1,7 @@
 -- What an identifier stands for.
-use Rattle.std.specs.Prelude.{◌≡◌, ℕ, suc, ◌+◌, ◌<◌, ◌≤◌, Bool, true, false, IsTrue, Option, Some, None, List, [], ◌∷◌, length, drop, MatchOption}
+use Rattle.std.specs.Prelude.{◌≡◌, ℕ, suc, ◌+◌, ◌<◌, ◌≤◌, Bool, true, false, IsTrue, Option, Some, None, List, [], length, drop, MatchOption}
 use Rattle.mix_tree.specs.Forest.{first_kids, behind}
 use Rattle.mix_tree.specs.Nodes.{label_at, kids_at, label_of_first}
-use Rattle.tree_buffer.specs.declared.spot.Spot.{Spot}
 use Rattle.plan_core.specs.declared.plan.Piece.{Piece}
 use Rattle.plan_core.specs.declared.plan.Piece.TheVariants.{Var as var_piece, LabelOf as label_piece, Text as text_piece}
 use Rattle.std.specs.List.{last_or}
@@ -11,10 +10,10 @@ use Rattle.plan_core.specs.Valid.{kinds}
 use Rattle.plan_core.specs.Valid.{an_element}
 use Rattle.lazy_plan.specs.Steps.{single}
 use Rattle.plan_core.specs.ByNumber.{op_at}
-use Rattle.plan_core.specs.Tolled.{Tolled, ends, item, charged, paid, is_item}
-use Rattle.plan_core.specs.TolledRows.{TolledRow, TolledValue, of_source, element, trees, tolled_value, piece_items, all_items, collected}
+use Rattle.plan_core.specs.Tolled.{Tolled, ends, item, charged}
+use Rattle.plan_core.specs.TolledRows.{TolledValue, of_source, element, trees, piece_items, all_items, collected}
 use Rattle.plan_core.specs.Events.{RowEvents, same_group, tolled_document}
-use Rattle.lazy_plan.specs.Bench.{BenchState, ops_of, told, forward, documents, fills_of, events_of, size_of, IsCursor, binding_at, ahead_at, number_at, IsSpotAt, node_at, trees_at_spot, after_at}
+use Rattle.lazy_plan.specs.Bench.{BenchState, ops_of, documents, events_of, size_of, IsCursor, binding_at, ahead_at, number_at, IsSpotAt, node_at, trees_at_spot, after_at}
 use Rattle.lazy_plan.specs.declared.position.Position.{Position}
 use Rattle.lazy_value.specs.Forms.{Form, makes_list, makes_element, gathers_all, gathers_groups, form, input_at, pieces_of, keys_of, label_in, piece_at, piece_of}
 use Rattle.lazy_value.specs.Sizes.{pieces_count, size, extent}

@@ -1,5 +1,5 @@
 -- Where the value of a variable is made.
-use Rattle.std.specs.Prelude.{Bool, false, ◌==◌, IsTrue, ◌≡◌, ◌⊎◌, ℕ, suc, ◌<◌, ◌≤◌, List, [], Option, Some, None, length}
+use Rattle.std.specs.Prelude.{Bool, false, ◌==◌, IsTrue, ◌≡◌, ◌⊎◌, ℕ, suc, ◌<◌, ◌≤◌, Some}
 use Rattle.plan_core.specs.declared.plan.Plan.{Plan}
 use Rattle.plan_core.specs.PlanMade.{plan_value}
 use Rattle.plan_core.specs.Plans.{Operator, source, get_descendants, join, over, tuple_destroy}

@@ -1,5 +1,5 @@
 -- The places of a plan's document at which identifiers stand.
-use Rattle.std.specs.Prelude.{◌≡◌, ℕ, Bool, false, IsTrue, List, Option, Some, MatchOption}
+use Rattle.std.specs.Prelude.{◌≡◌, ℕ, false, IsTrue, List, Option, Some, MatchOption}
 use Rattle.mix_tree.specs.Forest.{LabelledTree, alone}
 use Rattle.mix_tree.specs.Place.{has_place, tree_at}
 use Rattle.mix_tree.specs.Nodes.{Documents}

@@ -1,6 +1,6 @@
 -- What steps over a document come to.
-use Rattle.std.specs.Prelude.{◌≡◌, ℕ, ◌+◌, ◌<◌, ◌≤◌, Bool, false, IsTrue, Option, MatchOption}
-use Rattle.mix_base.specs.Events.{Find, nothing, finds, found}
+use Rattle.std.specs.Prelude.{◌≡◌, ℕ, ◌+◌, ◌<◌, ◌≤◌, false, IsTrue, Option, MatchOption}
+use Rattle.mix_base.specs.Events.{finds, found}
 use Rattle.lxp_core.specs.View.{View}
 use Rattle.plan_core.specs.Events.{RowEvents, same_group}
 use Rattle.plan_core.specs.Tolled.{Tolled, dearer, paid, is_item}

@@ -1,7 +1,6 @@
-use Rattle.std.proofs.Common.{◌∙◌, sym, ap, subst}
+use Rattle.std.proofs.Common.{subst}
 use Rattle.plan_core.specs.declared.plan.Plan.{Plan}
 use Rattle.plan_core.specs.PlanMade.{plan_value}
-use Rattle.lazy_plan.specs.Bench.{state_of}
 use Rattle.lazy_value.specs.Ids.{IsLast}
 use Rattle.lazy_value.proofs.Downs.{root_walked}
 use Rattle.lazy_value.proofs.down.down_root.Goals as goal

@@ -1,8 +1,8 @@
-use Rattle.std.proofs.Common.{◌≡◌, ℕ, true, false, ◌∙◌, sym, ap, subst, arith}
+use Rattle.std.proofs.Common.{ℕ, true, false, ◌∙◌, sym, ap, subst, arith}
 use Rattle.plan_core.specs.declared.plan.Plan.{Plan}
 use Rattle.plan_core.specs.PlanMade.{plan_value}
 use Rattle.plan_core.specs.ByNumber.{op_at}
-use Rattle.lazy_plan.specs.Bench.{state_of, ops_of, IsCursor}
+use Rattle.lazy_plan.specs.Bench.{state_of, IsCursor}
 use Rattle.lazy_value.specs.Forms.{input_at, keys_of, gathers_groups}
 use Rattle.lazy_value.specs.Ids.{group_ahead}
 use Rattle.lazy_value.proofs.Keep.{input_kept, Stands-kept}

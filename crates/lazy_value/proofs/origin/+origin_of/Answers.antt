@@ -1,4 +1,4 @@
-use Rattle.std.proofs.Common.{ap, subst}
+use Rattle.std.proofs.Common.{subst}
 use Rattle.lxp_core.specs.View.{View}
 use Rattle.plan_core.specs.declared.plan.Plan.{Plan}
 use Rattle.lazy_plan.specs.Bench.{state_of, IsBenchOf, IsCursor}

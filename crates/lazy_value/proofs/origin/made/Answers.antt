@@ -1,9 +1,9 @@
-use Rattle.std.proofs.Common.{◌≡◌, [], refl, ◌∙◌, sym, ap}
+use Rattle.std.proofs.Common.{◌∙◌, sym, ap}
 use Rattle.plan_core.specs.declared.plan.Plan.{Plan}
 use Rattle.plan_core.specs.PlanMade.{op_of, plan_value}
 use Rattle.plan_core.specs.Plans.{Operator}
 use Rattle.plan_core.specs.ByNumber.{op_at}
-use Rattle.lazy_plan.specs.Bench.{state_of, plan_of}
+use Rattle.lazy_plan.specs.Bench.{state_of}
 use Rattle.lazy_value.specs.Origins.{makes}
 use Rattle.lazy_value.proofs.Making.{no_items, some_items, all_made, group_made, list_made, element_made}
 use Rattle.lazy_value.proofs.origin.made.Goals as goal

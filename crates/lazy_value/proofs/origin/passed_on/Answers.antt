@@ -1,4 +1,4 @@
-use Rattle.std.proofs.Common.{refl, ◌∙◌, sym, ap}
+use Rattle.std.proofs.Common.{◌∙◌, sym, ap}
 use Rattle.plan_core.specs.PlanMade.{op_of, plan_value}
 use Rattle.lazy_value.proofs.Numbering.{kind_of}
 use Rattle.lazy_value.proofs.Passing.{passed_visit, passed_select, passed_order, passed_list, passed_element, passed_left, passed_right, made_source, made_visit, made_project, made_group, none_bound}

@@ -1,5 +1,4 @@
 use Rattle.std.proofs.Common.{arith}
-use Rattle.lazy_plan.specs.Bench.{state_of}
 use Rattle.lazy_value.proofs.Turns.{walked_then, paid_on}
 use Rattle.lazy_value.proofs.turning.front.Goals as goal
 

@@ -1,14 +1,9 @@
-use Rattle.std.proofs.Common.{◌≡◌, ◌<◌, ◌+◌, ℕ, suc, length, ◌∙◌, sym, ap, subst}
+use Rattle.std.proofs.Common.{◌+◌, ℕ, length, ◌∙◌, sym, ap, subst}
 use Rattle.plan_core.specs.declared.plan.Plan.{Plan}
 use Rattle.plan_core.specs.PlanMade.{plan_value}
 use Rattle.plan_core.specs.ByNumber.{op_at}
-use Rattle.plan_core.specs.TolledRows.{value_trees}
-use Rattle.lazy_plan.specs.Bench.{state_of, documents, IsCursor}
+use Rattle.lazy_plan.specs.Bench.{state_of, IsCursor}
 use Rattle.lazy_value.specs.Forms.{input_at, pieces_of, piece_at}
-use Rattle.lazy_value.specs.Ids.{value_of, IsRest, rest_trees, weight, left}
-use Rattle.lazy_value.specs.Origins.{origin_size, origin_extent}
-use Rattle.lazy_value.specs.Steps.{Turns, Falls}
-use Rattle.lazy_value.specs.declared.ids.Rest.{Rest}
 use Rattle.lazy_value.proofs.Heads.{if_ok}
 use Rattle.lazy_value.proofs.PieceTurns.{behind_is, there_is, var_turned, var_fallen, head_stands, head_falls}
 use Rattle.lazy_value.proofs.turning.pieces.Goals as goal
