@@ -1,5 +1,6 @@
 // What runs over views write, with lines worked out by hand.
-use crate::run::{Setting, run};
+use crate::run::{Setting, run, run_on, trees};
+use std::alloc::{AllocError, Global};
 use std::test::Fail;
 
 const CATALOG: &str =
@@ -214,5 +215,39 @@ fn down_asks_at_most_its_toll(rt: HostRuntime) -> Result<(), Fail> {
         b"node\nlabel answer\nnone\n".as_slice()
     );
     assert!(rt; done.fills <= 24);
+    Ok(())
+}
+
+// So many times a text, with commas between.
+fn listed(alloc: Global, text: &str, times: usize) -> Result<String, AllocError> {
+    let mut all = String::new(alloc);
+    for i in 0..times {
+        if i > 0 {
+            all.push_str(",")?;
+        }
+        all.push_str(text)?;
+    }
+    Ok(all)
+}
+
+#[test]
+fn a_first_screen_asks_the_same_of_any_documents(rt: HostRuntime) -> Result<(), Fail> {
+    let alloc = rt.alloc();
+    let script =
+        "r = root\nm = down r\na = down m\na = right a\na = right a\na = right a\nfetch a\n";
+    for count in [4, 40, 400] {
+        let homes = listed(alloc, "home[zip[1]]", count)?;
+        let schools = listed(alloc, "school[zip[1]]", count)?;
+        let homes = format!(in alloc; "homes[{homes}]")?;
+        let schools = format!(in alloc; "schools[{schools}]")?;
+        let docs = trees(alloc, &[homes.as_str(), schools.as_str()])?;
+        let done = run_on(alloc, &HOMES_FORWARD, docs, &[], script)?;
+        assert_eq!(rt;
+            done.lines.as_slice(),
+            b"node\nnode\nnode\nnode\nnode\nnode\nlabel school\n".as_slice()
+        );
+        // Four to the label in the first home, four to that in the first school, and three for each of two schools more.
+        assert_eq!(rt; done.fills, 14);
+    }
     Ok(())
 }

@@ -38,8 +38,8 @@ pub struct Outcome {
     pub fills: u64,
 }
 
-// The trees that these texts spell.
-fn trees(alloc: Global, docs: &[&str]) -> Result<Vec<Tree>, Fail> {
+/// The trees that these texts spell.
+pub fn trees(alloc: Global, docs: &[&str]) -> Result<Vec<Tree>, Fail> {
     let mut trees = Vec::new(alloc);
     for doc in docs {
         match read_tree(alloc, doc.as_bytes()) {
@@ -61,17 +61,17 @@ fn source_names(alloc: Global, catalog: &Catalog) -> Result<Vec<Label>, AllocErr
     Ok(names)
 }
 
-// The documents of a setting as sources, as many as there are names.
+// Documents as sources that come as a setting says, as many as there are names.
 fn sources(
     alloc: Global,
     setting: &Setting,
+    docs: Vec<Tree>,
     failing: &[u64],
     count: usize,
 ) -> Result<MemSources, Fail>
     requires { count < 2 ^ 32 }
     ensures { IfOk result (λ s. (memory_view s).count ≡ count) }
 {
-    let docs = trees(alloc, setting.docs)?;
     if docs.len() != count {
         return Err("a source has no document".into());
     }
@@ -102,6 +102,18 @@ pub fn run(
     failing: &[u64],
     script: &str,
 ) -> Result<Outcome, Fail> {
+    let docs = trees(alloc, setting.docs)?;
+    run_on(alloc, setting, docs, failing, script)
+}
+
+/// The same over other documents.
+pub fn run_on(
+    alloc: Global,
+    setting: &Setting,
+    docs: Vec<Tree>,
+    failing: &[u64],
+    script: &str,
+) -> Result<Outcome, Fail> {
     let Ok(catalog) = read_catalog(alloc, setting.catalog.as_bytes()) else {
         return Err("the catalog is refused".into());
     };
@@ -110,7 +122,7 @@ pub fn run(
     };
     let steps = read_script(alloc, script.as_bytes())?;
     let names = source_names(alloc, &catalog)?;
-    let mut s = sources(alloc, setting, failing, names.len())?;
+    let mut s = sources(alloc, setting, docs, failing, names.len())?;
     let m = opened(alloc, &s, &rule, &names)?;
     let mut out = MemSink::new(alloc, Vec::new(alloc));
     let answer = run_lines(alloc, &mut s, m, &steps, &names, &mut out);
