@@ -1,7 +1,7 @@
 use Rattle.std.proofs.Common.{◌≤◌, ◌-◌, IsTrue, length, slice_range}
 use Rattle.std.specs.List.{list_all}
 use Rattle.mix_tree.specs.Spelling.{is_bare}
-use Rattle.mix_tree.proofs.label_reader.bare_end.Given as goal
+use Rattle.mix_tree.proofs.label_scan.bare_end.Given as goal
 
 abbrev pub invariant-loop-end : goal.invariant-loop-end
 invariant-loop-end l = record {

@@ -3,7 +3,7 @@ use Rattle.std.specs.List.{list_all}
 use Rattle.mix_base.proofs.Choices.{list_all-push}
 use Rattle.mix_base.proofs.Slices.{slice_more}
 use Rattle.mix_tree.specs.Spelling.{is_bare}
-use Rattle.mix_tree.proofs.label_reader.bare_end.Goals as goal
+use Rattle.mix_tree.proofs.label_scan.bare_end.Goals as goal
 
 pub loop-end-preserved : goal.loop-end-preserved
 loop-end-preserved c =
