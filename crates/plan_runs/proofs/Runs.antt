@@ -1,7 +1,7 @@
 -- What walks over a bench keep.
 use Rattle.std.proofs.Common.{◌≡◌, ◌<◌, ◌++◌, ℕ, zero, suc, List, [], ◌∷◌, length, get_or, sym, subst, arith}
 use Rattle.std.specs.List.{AllByRecursion}
-use Rattle.lxp_core.specs.declared.memory.MemSources.{MemSources}
+use Rattle.lxp_memory.specs.declared.memory.MemSources.{MemSources}
 use Rattle.plan_core.specs.PlanMade.{plan_value}
 use Rattle.plan_core.specs.declared.plan.Plan.{Plan}
 use Rattle.lazy_plan.specs.declared.bench.Bench.{Bench}

@@ -1,8 +1,8 @@
 -- What walks over a bench leave.
 use Rattle.std.specs.Prelude.{ℕ, List}
 use Rattle.std.specs.List.{AllByRecursion}
-use Rattle.lxp_core.specs.declared.memory.MemSources.{MemSources}
-use Rattle.lxp_core.specs.Memory.{memory_view}
+use Rattle.lxp_memory.specs.declared.memory.MemSources.{MemSources}
+use Rattle.lxp_memory.specs.Memory.{memory_view}
 use Rattle.lazy_plan.specs.declared.bench.Bench.{Bench}
 use Rattle.lazy_plan.specs.declared.position.Position.{Position}
 use Rattle.lazy_plan.specs.Bench.{BenchState, state_of, IsBenchOf, KeepsBench, IsCursor}

@@ -1,13 +1,14 @@
 // Benches of the plans of views, over documents in memory.
 ghost use Rattle.std.specs.Prelude.{IfOk};
-ghost use Rattle.lxp_core.specs.Memory.{memory_view};
+ghost use Rattle.lxp_memory.specs.Memory.{memory_view};
 ghost use Rattle.plan_core.specs.PlanMade.{plan_value};
 ghost use Rattle.plan_core.specs.Valid.{IsValid};
 ghost use Rattle.lazy_plan.specs.Bench.{IsBenchOf};
 
 use bracket_text::read_tree;
 use lazy_plan::Bench;
-use lxp_core::{MemSources, Sources};
+use lxp_core::Sources;
+use lxp_memory::MemSources;
 use mix_catalog::read_catalog;
 use mix_tree::{Label, Tree};
 use plan_core::Plan;

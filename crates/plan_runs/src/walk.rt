@@ -1,6 +1,6 @@
 // Walks over a bench. A call of it that fails is made once more.
 ghost use Rattle.std.specs.Prelude.{◌≡◌, ◌<◌, length, Some, IfOk, OnOk, IfSome, MatchOption};
-ghost use Rattle.lxp_core.specs.Memory.{memory_view};
+ghost use Rattle.lxp_memory.specs.Memory.{memory_view};
 ghost use Rattle.plan_core.specs.PlanMade.{plan_value};
 ghost use Rattle.plan_core.specs.Valid.{kinds, a_node};
 ghost use Rattle.lazy_plan.specs.Bench.{plan_of, IsBenchOf, IsCursor, IsSpotAt};
@@ -8,7 +8,7 @@ ghost use Rattle.plan_runs.specs.Runs.{state, Ran, AreCursors};
 
 use crate::kind::{Held, held_by};
 use lazy_plan::{Bench, Cursor, WalkFault, benches_keep_on};
-use lxp_core::MemSources;
+use lxp_memory::MemSources;
 use mix_tree::{Label, Var};
 use plan_core::{Op, valid_plans_are_typed};
 use std::alloc::Global;

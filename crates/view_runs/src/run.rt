@@ -1,6 +1,6 @@
 // A script over a view of documents in memory, from their texts to the lines.
 ghost use Rattle.std.specs.Prelude.{◌≡◌, ◌<◌, ◌^◌, length, IfOk};
-ghost use Rattle.lxp_core.specs.Memory.{memory_view};
+ghost use Rattle.lxp_memory.specs.Memory.{memory_view};
 ghost use Rattle.xmas_read.specs.Results.{names_of_sources};
 ghost use Rattle.xmas_rule.specs.RuleMade.{rule_of};
 ghost use Rattle.xmas_rule.specs.Rules.{IsAccepted};
@@ -8,7 +8,7 @@ ghost use Rattle.lazy_value.specs.Mediators.{IsMediatorOf};
 
 use bracket_text::read_tree;
 use lazy_value::Mediator;
-use lxp_core::MemSources;
+use lxp_memory::MemSources;
 use mix_catalog::{Catalog, read_catalog};
 use mix_io::MemSink;
 use mix_run::{LinesFault, run_lines};

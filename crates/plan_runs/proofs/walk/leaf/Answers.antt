@@ -1,4 +1,4 @@
-use Rattle.lxp_core.specs.Memory.{memory_view}
+use Rattle.lxp_memory.specs.Memory.{memory_view}
 use Rattle.plan_runs.proofs.Runs.{ran_twice}
 use Rattle.plan_runs.proofs.walk.leaf.Goals as goal
 

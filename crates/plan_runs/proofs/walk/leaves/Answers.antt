@@ -1,5 +1,5 @@
 use Rattle.std.proofs.Common.{ℕ, sym, subst}
-use Rattle.lxp_core.specs.Memory.{memory_view}
+use Rattle.lxp_memory.specs.Memory.{memory_view}
 use Rattle.lazy_plan.specs.Bench.{IsCursor, IsSpotAt}
 use Rattle.plan_runs.specs.Runs.{state}
 use Rattle.plan_runs.proofs.Runs.{each_at, ran_twice}

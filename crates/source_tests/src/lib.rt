@@ -1,0 +1,13 @@
+//! Tests of files and sinks in memory, of sources in memory, of buffers, and of walks.
+#![tactic(auto)]
+
+#[cfg(test)]
+mod buffers;
+#[cfg(test)]
+mod documents;
+#[cfg(test)]
+mod files;
+#[cfg(test)]
+mod memory;
+#[cfg(test)]
+mod walks;
