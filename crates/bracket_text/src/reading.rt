@@ -5,11 +5,12 @@ ghost use Rattle.mix_tree.specs.Forest.{LabelledTree};
 ghost use Rattle.bracket_text.specs.Grammar.{SpellsShallow};
 ghost use Rattle.bracket_text.specs.Machine.{empty, verdict};
 ghost use Rattle.bracket_text.specs.ReaderState.{GivesDocument};
-ghost use Rattle.bracket_text.specs.Results.{AnswersDocument, IsDocumentOf};
+ghost use Rattle.bracket_text.specs.Results.{Answers, AnswersDocument, IsDocumentOf, IsTree};
 
 use crate::BracketFault;
 use crate::reader::Reader;
 use document_store::Store;
+use mix_tree::Tree;
 use std::alloc::Global;
 use std::str;
 
@@ -39,4 +40,16 @@ pub fn read_document(alloc: Global, text: &[u8]) -> Result<Store, BracketFault>
         Ok(_) => read(alloc, text),
         Err(error) => Err(BracketFault::NotUtf8(error.valid_up_to())),
     }
+}
+
+/// The tree that a text spells. It fails as `read_document` does.
+pub fn read_tree(alloc: Global, text: &[u8]) -> Result<Tree, BracketFault>
+    // The answer is that of the text: the tree that it spells, or why there is none.
+    ensures answers { Answers text.now result }
+
+    // A tree that is spelled is read, unless memory runs out.
+    ensures only { (t : LabelledTree) → IsUtf8 text.now → SpellsShallow text.now t → IsTree result t }
+{
+    let document = read_document(alloc, text)?;
+    Ok(document.tree(alloc)?)
 }
