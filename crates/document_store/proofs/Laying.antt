@@ -3,6 +3,7 @@ use Rattle.std.proofs.Common.{◌≡◌, ◌∙◌, ℕ, List, [], ◌∷◌, �
 use Rattle.mix_base.proofs.Lists.{append_nil}
 use Rattle.mix_tree.specs.Forest.{Forest, none, tree, LabelledTree, forest_of, alone, followed}
 use Rattle.mix_tree.specs.Weight.{nodes_of}
+use Rattle.mix_tree.proofs.Forests.{forest_of-append}
 use Rattle.document_store.specs.Laid.{LaidNode, laid}
 
 -- of two lists of trees, the nodes of the second come first
@@ -20,11 +21,6 @@ length-laid (tree label kids rest) =
     let outer = length-append (laid rest) (laid kids ++ n ∷ []) in
     let inner = length-append (laid kids) (n ∷ []) in
     omega (arith, outer, inner, length-laid kids, length-laid rest)
-
--- the trees of two lists
-forest_of-append : (xs ys : List LabelledTree) → forest_of (xs ++ ys) ≡ followed (forest_of xs) (forest_of ys)
-forest_of-append [] ys = refl
-forest_of-append (x ∷ xs) ys = ap (tree x.label x.kids) (forest_of-append xs ys)
 
 -- the nodes of trees, the last one of which is laid first
 pub laid-last : (ts : List LabelledTree) (t : LabelledTree) → laid (forest_of (ts ++ t ∷ [])) ≡ laid (alone t) ++ laid (forest_of ts)

@@ -2,7 +2,7 @@
 -- before those the nodes of its later siblings.
 use Rattle.std.specs.Prelude.{◌≡◌, ℕ, List, [], ◌∷◌, ◌++◌, length}
 use Rattle.std.proofs.Common.{get_or}
-use Rattle.mix_tree.specs.Forest.{Forest, none, tree}
+use Rattle.mix_tree.specs.Forest.{Forest, none, tree, LabelledTree, alone}
 use Rattle.mix_tree.specs.Weight.{nodes_of}
 
 -- a node: its label, and how many nodes are below it
@@ -31,3 +31,7 @@ longer piece (n ∷ v) = record { label = n.label ++ piece; below = n.below } �
 -- the node before which so many stand in document order gets all nodes behind it
 abbrev pub Closes : List LaidNode → ℕ → List LaidNode → Type 0
 Closes old place new = (xs ys : List LaidNode) (n : LaidNode) → old ≡ xs ++ n ∷ ys → length ys ≡ place → new ≡ xs ++ record { label = n.label; below = length xs } ∷ ys
+
+-- the nodes are those of a tree, below the document node
+abbrev pub IsDocument : List LaidNode → LabelledTree → Type 0
+IsDocument nodes t = nodes ≡ laid (alone (record { label = []; kids = alone t }))

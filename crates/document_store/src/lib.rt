@@ -5,5 +5,6 @@
 mod room;
 mod spots;
 mod store;
+mod trees;
 
 pub use store::Store;
