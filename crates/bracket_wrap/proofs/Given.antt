@@ -5,7 +5,7 @@ use Rattle.mix_tree.specs.Forest.{Forest, none, tree, followed}
 use Rattle.mix_tree.specs.Weight.{nodes_of}
 use Rattle.lxp_core.specs.declared.open_tree.HoleId.{HoleId}
 use Rattle.lxp_core.specs.Open.{Open, nil, node, hole, closed, weight_of, AllHoles, IsApart, IsProgress, is_nil, has_node, begins_with_hole, without_holes}
-use Rattle.lxp_core.proofs.CutLaws.{closed-without_holes, AllHoles-without_holes, IsApart-without_holes}
+use Rattle.lxp_core.proofs.Opens.{closed-without_holes, AllHoles-without_holes, IsApart-without_holes}
 use Rattle.mix_tree.proofs.Forests.{followed-none}
 use Rattle.lxp_core.proofs.Opens.{nodes_of-closed}
 use Rattle.bracket_wrap.specs.declared.layout.LaidNode.{LaidNode}

@@ -6,7 +6,7 @@ use Rattle.mix_base.proofs.Lists.{append_nil}
 use Rattle.mix_tree.specs.Forest.{Forest, none, tree, LabelledTree, forest_of, alone, followed}
 use Rattle.mix_tree.specs.Weight.{nodes_of, tree_nodes}
 use Rattle.lxp_core.proofs.Opens.{nodes_of-followed}
-use Rattle.lxp_core.proofs.NodeLaws.{forest_of-append}
+use Rattle.lxp_core.proofs.Opens.{forest_of-append}
 use Rattle.bracket_wrap.specs.declared.layout.LaidNode.{LaidNode}
 use Rattle.bracket_wrap.specs.Layout.{laid, node_at, below, before, fits, between}
 use Rattle.bracket_wrap.proofs.Between.{fits_none, between_none, between_first}
