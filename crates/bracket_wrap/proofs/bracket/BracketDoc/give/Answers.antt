@@ -1,22 +1,23 @@
-use Rattle.std.proofs.Common.{◌≡◌, ◌∙◌, ◌-◌, ◌≤◌, true, ap, sym, arith}
+use Rattle.std.proofs.Common.{◌≡◌, ◌∙◌, ◌-◌, true, ap, sym, arith}
 use Rattle.lxp_core.specs.Open.{node}
 use Rattle.lxp_core.specs.Plain.{put_all}
-use Rattle.bracket_wrap.specs.Layout.{node_at, before, fits}
+use Rattle.document_store.specs.Laid.{node_at}
+use Rattle.document_store.specs.Between.{before, fits}
 use Rattle.bracket_wrap.specs.Holes.{kids_given, given_from}
 use Rattle.bracket_wrap.proofs.Given.{given-some, given-rest}
-use Rattle.bracket_wrap.proofs.layout.Layout.give.Goals as goal
+use Rattle.bracket_wrap.proofs.bracket.BracketDoc.give.Goals as goal
 
 pub loop-left-preserved : goal.loop-left-preserved
 loop-left-preserved c =
-    let ns = c.args.self.now.nodes.items in
+    let ns = c.args.self.now.nodes in
     let whole = c.args.whole in
     let parent = c.args.rest.node in
     let i = c.in-Some.i in
     let list = c.loop-left.list.items in
     let first = c.in-Some.ensures in
     let less = c.loop-left.left - 1 in
-    let here : fits c.args.self.now.nodes.items (before c.args.self.now.nodes.items c.args.rest.node) c.loop-left.to ≡ true =
-    ap (λ f. fits c.args.self.now.nodes.items f c.loop-left.to) (sym c.before-from.ensures) ∙ first.0 in
+    let here : fits c.args.self.now.nodes (before c.args.self.now.nodes c.args.rest.node) c.loop-left.to ≡ true =
+    ap (λ f. fits c.args.self.now.nodes f c.loop-left.to) (sym c.before-from.ensures) ∙ first.0 in
     record {
       within = omega (arith, c.before-to.ensures, first.1, c.loop-left.invariant.within);
       from = omega (arith, c.before-to.ensures, c.before-from.ensures, first.2);
@@ -30,7 +31,7 @@ loop-left-preserved c =
 
 pub returns : goal.returns
 returns c =
-    let ns = c.args.self.now.nodes.items in
+    let ns = c.args.self.now.nodes in
     let list = c.loop-left.list.items in
     c.in_ok-push_rest.ensures
     ∙ ap (put_all list) (sym (given-rest ns c.args.whole c.args.rest.node c.loop-left.left c.loop-left.to (omega arith)))

@@ -1,13 +1,14 @@
-use Rattle.std.proofs.Common.{◌≡◌, ◌∙◌, ◌≤◌, ap, sym, arith}
+use Rattle.std.proofs.Common.{◌∙◌, ap, sym, arith}
 use Rattle.lxp_core.specs.Open.{node, without_holes}
 use Rattle.lxp_core.specs.Plain.{put_all}
-use Rattle.bracket_wrap.specs.Layout.{node_at, before, between}
-use Rattle.bracket_wrap.proofs.Between.{between_first}
-use Rattle.bracket_wrap.proofs.layout.Layout.+whole.Goals as goal
+use Rattle.document_store.specs.Laid.{node_at}
+use Rattle.document_store.specs.Between.{before, between}
+use Rattle.document_store.proofs.Between.{between_first}
+use Rattle.bracket_wrap.proofs.bracket.BracketDoc.+whole.Goals as goal
 
 pub loop-i-preserved : goal.loop-i-preserved
 loop-i-preserved t c =
-    let ns = c.args.self.now.nodes.items in
+    let ns = c.args.self.now.nodes in
     let i = c.in-Some.i in
     let list = c.loop-i.list.items in
     let first = c.in-Some.ensures in
