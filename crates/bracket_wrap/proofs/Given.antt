@@ -5,9 +5,8 @@ use Rattle.mix_tree.specs.Forest.{tree}
 use Rattle.mix_tree.specs.Weight.{nodes_of}
 use Rattle.lxp_core.specs.declared.open_tree.HoleId.{HoleId}
 use Rattle.lxp_core.specs.Open.{Open, nil, node, hole, closed, weight_of, AllHoles, IsApart, IsProgress, is_nil, has_node, begins_with_hole}
-use Rattle.lxp_core.proofs.CutLaws.{closed-without_holes, AllHoles-without_holes, IsApart-without_holes}
+use Rattle.lxp_core.proofs.Opens.{closed-without_holes, AllHoles-without_holes, IsApart-without_holes, nodes_of-closed}
 use Rattle.mix_tree.proofs.Forests.{followed-none}
-use Rattle.lxp_core.proofs.Opens.{nodes_of-closed}
 use Rattle.document_store.specs.Laid.{LaidNode}
 use Rattle.bracket_wrap.specs.declared.holes.Rest.{Rest}
 use Rattle.document_store.specs.Laid.{node_at}

@@ -11,6 +11,7 @@ pub mod LabelText
 pub mod Names
 pub mod Nodes
 pub mod Place
+pub mod Signs
 pub mod Spelling
 pub mod Tables
 pub mod Weight

@@ -28,6 +28,3 @@ pub use place::Place;
 pub use spelling::{push_label, push_quoted, write_label};
 pub use tree::Tree;
 pub use var::{Key, Var};
-
-#[cfg(test)]
-mod tests;

@@ -14,10 +14,10 @@ use Rattle.xmas_rule.specs.Rules.{RuleValue, IsAccepted}
 use Rattle.xmas_rule.specs.declared.condition.Cond.{Cond}
 use Rattle.xmas_rule.specs.declared.condition.Cond.TheVariants as cond
 use Rattle.mix_tree.specs.declared.comparing.Test.{Test}
-use Rattle.rule_laws.specs.Law.{TuplesAreBindings}
-use Rattle.rule_laws.proofs.ReachLaws.{reached-more, reaches-begun}
-use Rattle.rule_laws.specs.Reached.{reached, reaches, begun}
-use Rattle.rule_laws.specs.Tuples.{MatchLists, AreMatchLists, longer, extend, tuples, next_nodes, passing, in_order_of}
+use Rattle.xmas_rule.specs.Law.{TuplesAreBindings}
+use Rattle.xmas_rule.proofs.ReachLaws.{reached-more, reaches-begun}
+use Rattle.xmas_rule.specs.Reached.{reached, reaches, begun}
+use Rattle.xmas_rule.specs.Tuples.{MatchLists, AreMatchLists, longer, extend, tuples, next_nodes, passing, in_order_of}
 use Rattle.plain_rule.specs.Documents.{documents_of}
 use Rattle.plain_rule.specs.Found.{found_in}
 use Rattle.plain_rule.proofs.Deciding.{test_of, tests}

@@ -5,7 +5,7 @@ ghost use Rattle.mix_tree.specs.Comparisons.{operand_label, passes as passes_tes
 ghost use Rattle.mix_tree.specs.Nodes.{label_at};
 ghost use Rattle.xmas_rule.specs.Bindings.{node_of};
 ghost use Rattle.xmas_rule.specs.Conditions.{comparisons};
-ghost use Rattle.rule_laws.specs.Tuples.{passing};
+ghost use Rattle.xmas_rule.specs.Tuples.{passing};
 ghost use Rattle.plain_rule.specs.Documents.{documents_of};
 
 use crate::binding::{Binding, copy_binding, node_in};

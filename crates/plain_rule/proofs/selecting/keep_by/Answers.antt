@@ -4,7 +4,7 @@ use Rattle.std.specs.List.{filter}
 use Rattle.mix_tree.specs.Comparisons.{passes}
 use Rattle.xmas_rule.specs.Bindings.{node_of}
 use Rattle.xmas_rule.specs.Conditions.{comparisons}
-use Rattle.rule_laws.specs.Tuples.{passing}
+use Rattle.xmas_rule.specs.Tuples.{passing}
 use Rattle.plain_rule.specs.Documents.{documents_of}
 use Rattle.plain_rule.proofs.Tupling.{passing_one, passing_none}
 use Rattle.plain_rule.proofs.selecting.keep_by.Goals as goal
