@@ -5,11 +5,13 @@ pub mod Keys
 pub mod LabelGrammar
 pub mod LabelMachine
 pub mod LabelOrder
+pub mod LabelPieces
 pub mod LabelReads
 pub mod LabelText
 pub mod Names
 pub mod Nodes
 pub mod Place
+pub mod Signs
 pub mod Spelling
 pub mod Tables
 pub mod Weight

@@ -2,6 +2,7 @@
 use Rattle.std.specs.Prelude.{◌≡◌, ◌<◌, ◌≤◌, ℕ, Bool, true, false, cond, List, [], ◌∷◌, ◌++◌, ◌==◌, map, Option, Some, None}
 use Rattle.std.specs.List.{list_any, AllByRecursion}
 use Rattle.path_expr.specs.Form.{Form, positions_in}
+use Rattle.mix_tree.specs.Comparisons.{compares_nodes}
 use Rattle.mix_tree.specs.declared.comparing.Operand.{Operand}
 use Rattle.mix_tree.specs.declared.comparing.Operand.TheVariants.{Var as var_operand, Text as text_operand}
 use Rattle.mix_tree.specs.declared.comparing.Test.{Test}
@@ -74,14 +75,18 @@ AreBound vs [] = Unit {0}
 AreBound vs (from_source source path var ∷ cs) = (has vs var ≡ false) × AreBound (vs ++ var ∷ []) cs
 AreBound vs (from_var start path var ∷ cs) = (has vs start ≡ true) × (has vs var ≡ false) × AreBound (vs ++ var ∷ []) cs
 
--- a comparison is of variables below n
+-- what is compared with is a text, or a variable below n
 abbrev pub OperandBelow : ℕ → Operand → Type 0
 OperandBelow n (var_operand v) = v < n
 OperandBelow n (text_operand label) = Unit {0}
 
--- comparisons are of variables below n
+-- a comparison is of variables below n, and of labels: nodes are compared in plans alone
+abbrev pub IsCompared : ℕ → Test → Type 0
+IsCompared n t = (t.left < n) × OperandBelow n t.right × (compares_nodes t.op ≡ false)
+
+-- so is each of these
 abbrev pub AreCompared : ℕ → List Test → Type 0
-AreCompared n tests = AllByRecursion (λ t. (t.left < n) × OperandBelow n t.right) tests
+AreCompared n tests = AllByRecursion (IsCompared n) tests
 
 -- the sources of the conditions are below n
 abbrev pub AreSources : ℕ → List Binder → Type 0

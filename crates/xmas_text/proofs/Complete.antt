@@ -9,7 +9,7 @@ use Rattle.xmas_text.specs.Lexical.{is_blank, IsBlanks, IsGap, IsVar}
 use Rattle.xmas_text.specs.Machine.{State, at, run, rule_at, whole, start, read_of}
 use Rattle.xmas_text.specs.Spots.{Frame, Head, at_first, at_more, Before, first_cond, also_cond, Start, by_name, by_var, Spot, beginning, items, labelled, keys, key_comma, key_label, cond_start, cond_from, cond_path, cond_done, compared, ordering, ordering_by, sorted, has_blank, item_gap, may_group, is_none, takes, with_group, push_cond, cond_of, shift}
 use Rattle.xmas_text.specs.Tokens.{Token, fixed, open_tag, close_tag, word, var, quoted, path, comparison, kind_of, token_text}
-use Rattle.mix_tree.specs.declared.comparing.TestOp.{TestOp}
+use Rattle.xmas_text.specs.declared.cond.Comparison.{Comparison}
 use Rattle.xmas_text.specs.declared.token.Mark.TheVariants as mark
 use Rattle.xmas_text.specs.declared.token.Kind.TheVariants as kind
 use Rattle.path_expr.specs.Grammar as paths
@@ -182,7 +182,7 @@ cond_text_parts : (g n e p t : List ℕ) → (g ++ n) ++ ((e ++ p) ++ t) ≡ g +
 cond_text_parts g n e p t = simp append_assoc
 
 -- an operand
-operand_reads : (r : Head) (b : Before) (g v e : List ℕ) (o : TestOp) (h : List ℕ) (a : Operand) → IsBlanks h → IsOperand a → Reads (compared r b g v e o) (h ++ operand_text a) (cond_done r (push_cond b g (compare v e o h a)))
+operand_reads : (r : Head) (b : Before) (g v e : List ℕ) (o : Comparison) (h : List ℕ) (a : Operand) → IsBlanks h → IsOperand a → Reads (compared r b g v e o) (h ++ operand_text a) (cond_done r (push_cond b g (compare v e o h a)))
 operand_reads r b g v e o h (a_variable u) ih i = token (compared r b g v e o) h (var u) ih i refl
 operand_reads r b g v e o h (a_text ps) ih i = token (compared r b g v e o) h (quoted ps) ih i refl
 

@@ -2,7 +2,7 @@
 use Rattle.std.proofs.Common.{◌≡◌, ◌∙◌, ◌+◌, ℕ, IsTrue, reverse, List, [], ◌∷◌, ◌++◌, None, refl, sym, ap, arith, length}
 use Rattle.std.proofs.lemmas.List.{reverse-append, reverse-reverse}
 use Rattle.path_expr.specs.Grammar as paths
-use Rattle.mix_tree.specs.declared.comparing.TestOp.{TestOp}
+use Rattle.xmas_text.specs.declared.cond.Comparison.{Comparison}
 use Rattle.xmas_text.specs.declared.token.Mark.TheVariants as mark
 use Rattle.xmas_text.specs.declared.element.ItemText.{ItemText}
 use Rattle.xmas_text.specs.declared.var.KeyText.TheVariants as keyed
@@ -142,7 +142,7 @@ path_drafts r b e s f p g (var v) h = path_of r b e s f p g v
 path_drafts r b e s f p g t h = cc
 
 -- behind an operator
-compared_drafts : (r : Head) (b : Before) (e v f : List ℕ) (o : TestOp) (g : List ℕ) (t : Token) → IsTrue (takes (compared r b e v f o) g (kind_of t)) → Drafts (compared r b e v f o) g t
+compared_drafts : (r : Head) (b : Before) (e v f : List ℕ) (o : Comparison) (g : List ℕ) (t : Token) → IsTrue (takes (compared r b e v f o) g (kind_of t)) → Drafts (compared r b e v f o) g t
 compared_drafts r b e v f o g (var u) h = ap (λ cs. draft (in_conds r cs None) pending.Done) (pushed (head_place r) b e (compare v f o g (a_variable u)))
 compared_drafts r b e v f o g (quoted ps) h = ap (λ cs. draft (in_conds r cs None) pending.Done) (pushed (head_place r) b e (compare v f o g (a_text ps)))
 compared_drafts r b e v f o g t h = cc

@@ -4,7 +4,7 @@ use Rattle.xmas_text.specs.declared.token.Mark.TheVariants as mark
 use Rattle.xmas_text.specs.declared.stage.Last.TheVariants as last
 use Rattle.xmas_text.specs.declared.stage.Stage.TheVariants as stage
 use Rattle.path_expr.specs.Grammar.{Spelled}
-use Rattle.mix_tree.specs.declared.comparing.TestOp.{TestOp}
+use Rattle.xmas_text.specs.declared.cond.Comparison.{Comparison}
 use Rattle.xmas_text.specs.Grammar.{Conds, braced, Items, nothing, variable, literal, element, Keys, Key, Order, ordered}
 use Rattle.xmas_text.specs.Levels.{levels}
 use Rattle.xmas_text.specs.Tokens.{Token, fixed, open_tag, close_tag, word, var, quoted, path, comparison, kind_of}
@@ -112,7 +112,7 @@ path_moves r b e s f p g (var v) h = record { stage = refl; depth = refl; deep =
 path_moves r b e s f p g t h = cc
 
 -- behind an operator
-compared_moves : (r : Head) (b : Before) (e v f : List ℕ) (o : TestOp) (g : List ℕ) (t : Token) → IsTrue (takes (compared r b e v f o) g (kind_of t)) → Moves (compared r b e v f o) g t
+compared_moves : (r : Head) (b : Before) (e v f : List ℕ) (o : Comparison) (g : List ℕ) (t : Token) → IsTrue (takes (compared r b e v f o) g (kind_of t)) → Moves (compared r b e v f o) g t
 compared_moves r b e v f o g (var u) h = record { stage = refl; depth = refl; deep = refl }
 compared_moves r b e v f o g (quoted ps) h = record { stage = refl; depth = refl; deep = refl }
 compared_moves r b e v f o g t h = cc

@@ -7,7 +7,7 @@ use Rattle.xmas_text.specs.Grammar.{quoted_text, Key, node, label, Keys, none, f
 use Rattle.xmas_text.specs.Lexical.{IsBlanks, IsGap, IsVar}
 use Rattle.xmas_text.specs.Spots.{Frame, Head, Place, at_first, at_more, Before, first_cond, also_cond, Start, by_name, by_var, Spot, beginning, items, labelled, keys, key_comma, key_label, cond_start, cond_from, cond_path, cond_done, compared, ordering, ordering_by, sorted, has_blank, item_gap, may_group, is_nothing, is_none, takes, with_group, push_key, push_cond, cond_of, shift}
 use Rattle.xmas_text.specs.Tokens.{Token, fixed, open_tag, close_tag, word, var, quoted, path, comparison, kind_of, token_text}
-use Rattle.mix_tree.specs.declared.comparing.TestOp.{TestOp}
+use Rattle.xmas_text.specs.declared.cond.Comparison.{Comparison}
 use Rattle.xmas_text.specs.declared.token.Mark.TheVariants as mark
 use Rattle.path_expr.specs.Grammar as paths
 use Rattle.xmas_text.proofs.Texts.{outer_text, base, head_text, label_text, place_text, before_text, start_text, spot_text, IsTop, Level, IsPlace, IsBefore, IsStart, IsSpot}
@@ -335,7 +335,7 @@ from_shifts r c e (by_var v) g (comparison o) s b i h = record { is = (s.0, s.1,
 from_shifts r c e a g t s b i h = cc
 
 -- an operand
-operand_shifts : (r : Head) (c : Before) (e v f : List ℕ) (o : TestOp) (g : List ℕ) (a : Operand) → IsSpot (compared r c e v f o) → IsBlanks g → IsOperand a
+operand_shifts : (r : Head) (c : Before) (e v f : List ℕ) (o : Comparison) (g : List ℕ) (a : Operand) → IsSpot (compared r c e v f o) → IsBlanks g → IsOperand a
     → IsSpot (cond_done r (push_cond c e (compare v f o g a))) × (spot_text (cond_done r (push_cond c e (compare v f o g a))) ≡ spot_text (compared r c e v f o) ++ (g ++ operand_text a))
 operand_shifts r c e v f o g a s b i = (
   (s.0, conds_are c e (compare v f o g a) s.1 s.2 (s.3, s.4, b, i)),
@@ -343,7 +343,7 @@ operand_shifts r c e v f o g a s b i = (
 )
 
 -- behind an operator
-compared_shifts : (r : Head) (c : Before) (e v f : List ℕ) (o : TestOp) (g : List ℕ) (t : Token) → IsSpot (compared r c e v f o) → IsBlanks g → IsToken t → Taken (compared r c e v f o) g t → Shifts (compared r c e v f o) g t
+compared_shifts : (r : Head) (c : Before) (e v f : List ℕ) (o : Comparison) (g : List ℕ) (t : Token) → IsSpot (compared r c e v f o) → IsBlanks g → IsToken t → Taken (compared r c e v f o) g t → Shifts (compared r c e v f o) g t
 compared_shifts r c e v f o g (var u) s b i h = let k = operand_shifts r c e v f o g (a_variable u) s b i in record { is = k.0; text = k.1 }
 compared_shifts r c e v f o g (quoted ps) s b i h = let k = operand_shifts r c e v f o g (a_text ps) s b i in record { is = k.0; text = k.1 }
 compared_shifts r c e v f o g t s b i h = cc

@@ -10,10 +10,10 @@ use Rattle.xmas_text.specs.Lexer.{Lex, marking, angle, naming, dollar, varying, 
 use Rattle.xmas_text.specs.Lexical.{is_blank, is_word_byte, IsVar}
 use Rattle.xmas_text.specs.Spots.{Frame, Head, Place, at_first, at_more, Before, Start, by_var, Spot, beginning, items, labelled, keys, key_comma, key_label, cond_start, cond_from, cond_path, cond_done, compared, ordering, ordering_by, sorted, has_blank, item_gap, is_nothing, is_none, takes, push_key, shift}
 use Rattle.xmas_text.specs.Tokens.{Token, fixed, open_tag, close_tag, word, var, quoted, path, comparison, kind_of, mark_first, mark_rest}
-use Rattle.mix_tree.specs.declared.comparing.TestOp.{TestOp}
+use Rattle.xmas_text.specs.declared.cond.Comparison.{Comparison}
 use Rattle.xmas_text.specs.declared.token.Mark.{Mark}
 use Rattle.xmas_text.specs.declared.token.Sign.{Sign}
-use Rattle.mix_tree.specs.declared.comparing.TestOp.TheVariants as op
+use Rattle.xmas_text.specs.declared.cond.Comparison.TheVariants as op
 use Rattle.xmas_text.specs.declared.token.Mark.TheVariants as mark
 use Rattle.xmas_text.specs.declared.token.Sign.TheVariants as sign
 use Rattle.path_expr.specs.Grammar as paths
@@ -291,7 +291,7 @@ no_equal_quiet k b h = by_cases (b == 61) _ (and_parts (is_apart b) (not (b == 6
     by_cases false x h = refl
 
 -- an operator
-comparison_reading : (r : Head) (c : Before) (e v h : List ℕ) (o : TestOp) → Reading (cond_from r c e (by_var v)) h (comparison o)
+comparison_reading : (r : Head) (c : Before) (e v h : List ℕ) (o : Comparison) → Reading (cond_from r c e (by_var v)) h (comparison o)
 comparison_reading r c e v h op.Eq = record { first = 61; rest = []; text = refl; solid = refl; may = λ n. refl; lex = ready (comparison op.Eq); begins = refl; last = ready (comparison op.Eq); reads = refl; ends = refl; quiet = λ b f. refl }
 comparison_reading r c e v h op.Ne = record { first = 33; rest = 61 ∷ []; text = refl; solid = refl; may = λ n. refl; lex = comparing sign.Bang; begins = refl; last = ready (comparison op.Ne); reads = refl; ends = refl; quiet = λ b f. refl }
 comparison_reading r c e v h op.Lt = record { first = 60; rest = []; text = refl; solid = refl; may = λ n. refl; lex = comparing sign.Less; begins = refl; last = comparing sign.Less; reads = refl; ends = refl; quiet = λ b f. no_equal_quiet sign.Less b f }
@@ -363,7 +363,7 @@ from_reading r c e (by_var v) h (comparison o) i k = comparison_reading r c e v 
 from_reading r c e a h t i k = cc
 
 -- behind an operator
-compared_reading : (r : Head) (c : Before) (e v f : List ℕ) (o : TestOp) (h : List ℕ) (t : Token) → IsToken t → Taken (compared r c e v f o) h t → Reading (compared r c e v f o) h t
+compared_reading : (r : Head) (c : Before) (e v f : List ℕ) (o : Comparison) (h : List ℕ) (t : Token) → IsToken t → Taken (compared r c e v f o) h t → Reading (compared r c e v f o) h t
 compared_reading r c e v f o h (var u) i k = var_reading (compared r c e v f o) h u i refl refl (λ n. refl)
 compared_reading r c e v f o h (quoted ps) i k = quoted_reading (compared r c e v f o) h ps i refl (λ n. refl)
 compared_reading r c e v f o h t i k = cc

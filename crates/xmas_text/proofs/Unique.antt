@@ -4,8 +4,8 @@ use Rattle.std.proofs.lemmas.List.{append_cancel_right}
 use Rattle.mix_tree.specs.LabelGrammar.{Piece, ArePieces, meaning}
 use Rattle.path_expr.specs.Grammar as paths
 use Rattle.path_expr.proofs.Verdicts.{one_spelled}
-use Rattle.mix_tree.specs.declared.comparing.TestOp.{TestOp}
-use Rattle.mix_tree.specs.declared.comparing.TestOp.TheVariants as op
+use Rattle.xmas_text.specs.declared.cond.Comparison.{Comparison}
+use Rattle.xmas_text.specs.declared.cond.Comparison.TheVariants as op
 use Rattle.xmas_text.specs.declared.token.Mark.{Mark}
 use Rattle.xmas_text.specs.declared.draft.Lexeme.{Lexeme}
 use Rattle.xmas_text.specs.declared.draft.Lexeme.TheVariants as lexeme
@@ -16,7 +16,7 @@ use Rattle.xmas_text.specs.Drafted.{lexeme_of}
 use Rattle.xmas_text.specs.Lexemes.{IsLexeme, op_by}
 
 -- an operator's text stands for it
-op_again : (o : TestOp) → op_by (slice_index (op_text o) 0) (nat_lt 1 (length (op_text o))) ≡ o
+op_again : (o : Comparison) → op_by (slice_index (op_text o) 0) (nat_lt 1 (length (op_text o))) ≡ o
 op_again op.Eq = refl
 op_again op.Ne = refl
 op_again op.Lt = refl
@@ -25,7 +25,7 @@ op_again op.Gt = refl
 op_again op.Ge = refl
 
 -- two operators of one text
-same_op : (o p : TestOp) → op_text o ≡ op_text p → o ≡ p
+same_op : (o p : Comparison) → op_text o ≡ op_text p → o ≡ p
 same_op o p h = sym (op_again o) ∙ ap (λ x. op_by (slice_index x 0) (nat_lt 1 (length x))) h ∙ op_again p
 
 -- two marks of one kind

@@ -3,8 +3,8 @@ use Rattle.std.specs.Prelude.{◌≡◌, ℕ, List, [], ◌∷◌, ◌++◌}
 use Rattle.mix_tree.specs.LabelGrammar.{Piece, ArePieces, inside_quotes}
 use Rattle.mix_tree.specs.Names.{IsName}
 use Rattle.path_expr.specs.Grammar as paths
-use Rattle.mix_tree.specs.declared.comparing.TestOp.{TestOp}
-use Rattle.mix_tree.specs.declared.comparing.TestOp.TheVariants as op
+use Rattle.xmas_text.specs.declared.cond.Comparison.{Comparison}
+use Rattle.xmas_text.specs.declared.cond.Comparison.TheVariants as op
 use Rattle.xmas_text.specs.Lexical.{IsBlanks, IsGap, IsVar}
 
 -- a variable, or `label`, a gap and a variable
@@ -102,7 +102,7 @@ pub data Operand : Type 0 where
   a_text : List Piece → Operand
 
 -- the text of an operator
-abbrev pub op_text : TestOp → List ℕ
+abbrev pub op_text : Comparison → List ℕ
 op_text op.Eq = 61 ∷ []
 op_text op.Ne = 33 ∷ 61 ∷ []
 op_text op.Lt = 60 ∷ []
@@ -125,7 +125,7 @@ IsOperand (a_text ps) = ArePieces ps
 pub data Cond : Type 0 where
   source : List ℕ → List ℕ → paths.Spelled → List ℕ → List ℕ → Cond
   walk : List ℕ → List ℕ → paths.Spelled → List ℕ → List ℕ → Cond
-  compare : List ℕ → List ℕ → TestOp → List ℕ → Operand → Cond
+  compare : List ℕ → List ℕ → Comparison → List ℕ → Operand → Cond
 
 -- conditions, each behind a gap, and all but the first behind AND and another one
 pub data Conds : Type 0 where

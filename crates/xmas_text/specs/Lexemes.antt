@@ -3,8 +3,8 @@ use Rattle.std.specs.Prelude.{◌≡◌, ℕ, Bool, true, false, cond, ◌==◌,
 use Rattle.mix_tree.specs.LabelGrammar.{Piece, ArePieces, meaning}
 use Rattle.path_expr.specs.Form.{Form}
 use Rattle.path_expr.specs.Grammar as paths
-use Rattle.mix_tree.specs.declared.comparing.TestOp.{TestOp}
-use Rattle.mix_tree.specs.declared.comparing.TestOp.TheVariants as op
+use Rattle.xmas_text.specs.declared.cond.Comparison.{Comparison}
+use Rattle.xmas_text.specs.declared.cond.Comparison.TheVariants as op
 use Rattle.xmas_text.specs.declared.cond.PathLimit.{PathLimit}
 use Rattle.xmas_text.specs.declared.token.Kind.{Kind}
 use Rattle.xmas_text.specs.declared.draft.Lexeme.{Lexeme}
@@ -38,6 +38,6 @@ abbrev pub SpellsPath : List ℕ → Result Form PathLimit → Type 0
 SpellsPath x r = (p : paths.Spelled) × paths.Writes x p × (path_form p ≡ r)
 
 -- the operator that begins by a byte, and has another one or not
-abbrev pub op_by : ℕ → Bool → TestOp
+abbrev pub op_by : ℕ → Bool → Comparison
 op_by b true = cond (b == 33) op.Ne (cond (b == 60) op.Le op.Ge)
 op_by b false = cond (b == 61) op.Eq (cond (b == 60) op.Lt op.Gt)

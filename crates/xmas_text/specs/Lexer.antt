@@ -4,7 +4,7 @@ use Rattle.mix_tree.specs.LabelGrammar.{Piece, plain, escape, is_escape}
 use Rattle.mix_tree.specs.Names.{is_name_byte}
 use Rattle.path_expr.specs.Grammar.{Spelled}
 use Rattle.path_expr.specs.Machine as paths
-use Rattle.mix_tree.specs.declared.comparing.TestOp.TheVariants as op
+use Rattle.xmas_text.specs.declared.cond.Comparison.TheVariants as op
 use Rattle.xmas_text.specs.declared.token.Mark.{Mark}
 use Rattle.xmas_text.specs.declared.token.Mark.TheVariants as mark
 use Rattle.xmas_text.specs.declared.token.Sign.{Sign}

@@ -7,7 +7,7 @@ use Rattle.xmas_text.specs.declared.var.KeyText.{KeyText}
 use Rattle.xmas_text.specs.declared.var.KeyText.TheVariants as keyed
 use Rattle.xmas_text.specs.declared.element.ItemText.{ItemText}
 use Rattle.xmas_text.specs.declared.element.ItemText.TheVariants as item
-use Rattle.mix_tree.specs.declared.comparing.TestOp.{TestOp}
+use Rattle.xmas_text.specs.declared.cond.Comparison.{Comparison}
 use Rattle.xmas_text.specs.declared.cond.PathLimit.{PathLimit}
 use Rattle.xmas_text.specs.declared.cond.OperandText.TheVariants as operand
 use Rattle.xmas_text.specs.declared.cond.CondText.{CondText}
@@ -108,7 +108,7 @@ cond_shifted b at (lexeme.Var name) = draft b (pending.CondFrom (begins.Var (var
 cond_shifted b at w = draft b pending.Cond
 
 -- an operator behind the first word of a condition
-abbrev pub operator_behind : StartText → TestOp → Pending
+abbrev pub operator_behind : StartText → Comparison → Pending
 operator_behind (begins.Var v) o = pending.Compared v o
 operator_behind (begins.Source at name) o = pending.CondFrom (begins.Source at name)
 
@@ -133,7 +133,7 @@ path_shifted b s p at (lexeme.Var name) = with_cond b (cond_by s p (var_at at na
 path_shifted b s p at w = draft b (pending.CondPath s p)
 
 -- a token behind an operator
-abbrev pub compared_shifted : BuiltForm → VarText → TestOp → ℕ → Lexeme → DraftForm
+abbrev pub compared_shifted : BuiltForm → VarText → Comparison → ℕ → Lexeme → DraftForm
 compared_shifted b v o at (lexeme.Var name) = with_cond b (condition.Compare v o (operand.Var (var_at at name)))
 compared_shifted b v o at (lexeme.Quoted label) = with_cond b (condition.Compare v o (operand.Text label))
 compared_shifted b v o at w = draft b (pending.Compared v o)

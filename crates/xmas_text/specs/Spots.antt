@@ -1,7 +1,7 @@
 -- Where in a rule a token stands, with all that was read before it.
 use Rattle.std.specs.Prelude.{ℕ, Bool, true, false, List, [], ◌∷◌}
 use Rattle.path_expr.specs.Grammar.{Spelled}
-use Rattle.mix_tree.specs.declared.comparing.TestOp.{TestOp}
+use Rattle.xmas_text.specs.declared.cond.Comparison.{Comparison}
 use Rattle.xmas_text.specs.declared.token.Mark.TheVariants as mark
 use Rattle.xmas_text.specs.declared.token.Kind.{Kind}
 use Rattle.xmas_text.specs.declared.stage.Last.{Last}
@@ -51,7 +51,7 @@ pub data Spot : Type 0 where
   cond_from : Head → Before → List ℕ → Start → Spot
   cond_path : Head → Before → List ℕ → Start → List ℕ → Spelled → Spot
   cond_done : Head → Conds → Spot
-  compared : Head → Before → List ℕ → List ℕ → List ℕ → TestOp → Spot
+  compared : Head → Before → List ℕ → List ℕ → List ℕ → Comparison → Spot
   ordering : Head → Conds → List ℕ → Spot
   ordering_by : Head → Conds → List ℕ → List ℕ → Spot
   sorted : Head → Conds → Order → Spot

@@ -4,8 +4,8 @@ use Rattle.mix_tree.specs.LabelGrammar.{Piece, ArePieces}
 use Rattle.path_expr.specs.Grammar.{Spelled, text_of, Is, a_path}
 use Rattle.mix_tree.specs.Names.{IsName}
 use Rattle.xmas_text.specs.Lexical.{IsVar}
-use Rattle.mix_tree.specs.declared.comparing.TestOp.{TestOp}
-use Rattle.mix_tree.specs.declared.comparing.TestOp.TheVariants as op
+use Rattle.xmas_text.specs.declared.cond.Comparison.{Comparison}
+use Rattle.xmas_text.specs.declared.cond.Comparison.TheVariants as op
 use Rattle.xmas_text.specs.declared.token.Mark.{Mark}
 use Rattle.xmas_text.specs.declared.token.Mark.TheVariants as mark
 use Rattle.xmas_text.specs.declared.token.Sign.{Sign}
@@ -23,7 +23,7 @@ pub data Token : Type 0 where
   var : List ℕ → Token
   quoted : List Piece → Token
   path : Spelled → Token
-  comparison : TestOp → Token
+  comparison : Comparison → Token
 
 -- its kind
 abbrev pub kind_of : Token → Kind
@@ -73,7 +73,7 @@ sign_byte sign.Less = 60
 sign_byte sign.Greater = 62
 
 -- the operator of a sign with = behind it
-abbrev pub with_equal : Sign → TestOp
+abbrev pub with_equal : Sign → Comparison
 with_equal sign.Bang = op.Ne
 with_equal sign.Less = op.Le
 with_equal sign.Greater = op.Ge

@@ -1,6 +1,6 @@
 // Conditions.
 use crate::var::VarText;
-use mix_tree::{Label, TestOp};
+use mix_tree::Label;
 use path_expr::Path;
 
 /// What a path has too much of.
@@ -14,6 +14,23 @@ pub enum PathLimit {
 
 /// A path, or the limit that it passes.
 pub type PathText = Result<Path, PathLimit>;
+
+/// How a rule's text compares two labels (docs/FORMATS.md, "Rules").
+#[derive(Clone, Copy, PartialEq, Eq)]
+pub enum Comparison {
+    /// `=`.
+    Eq,
+    /// `!=`.
+    Ne,
+    /// `<`.
+    Lt,
+    /// `<=`.
+    Le,
+    /// `>`.
+    Gt,
+    /// `>=`.
+    Ge,
+}
 
 /// What stands behind an operator.
 #[derive(Drop)]
@@ -52,7 +69,7 @@ pub enum CondText {
         /// The variable.
         left: VarText,
         /// The operator.
-        op: TestOp,
+        op: Comparison,
         /// The operand.
         right: OperandText,
     },

@@ -2,12 +2,12 @@
 ghost use Rattle.std.specs.Prelude.{◌≡◌};
 ghost use Rattle.xmas_text.specs.Drafts as drafts;
 
-use crate::cond::{CondText, PathText};
+use crate::cond::{Comparison, CondText, PathText};
 use crate::element::ItemText;
 use crate::rule::OrderText;
 use crate::token::Mark;
 use crate::var::{GroupText, VarText};
-use mix_tree::{Label, TestOp};
+use mix_tree::Label;
 use std::alloc::Global;
 
 /// A token with what it says.
@@ -28,7 +28,7 @@ pub enum Lexeme {
     /// A path.
     Path(PathText),
     /// An operator.
-    Operator(TestOp),
+    Operator(Comparison),
 }
 
 /// What a condition begins with.
@@ -69,7 +69,7 @@ pub enum Pending {
     /// The same, and a path.
     CondPath(StartText, PathText),
     /// A variable and an operator.
-    Compared(VarText, TestOp),
+    Compared(VarText, Comparison),
     /// Nothing, behind a condition.
     Done,
 }

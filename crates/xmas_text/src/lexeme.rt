@@ -2,10 +2,10 @@
 ghost use Rattle.std.specs.Prelude.{◌≡◌, ◌<◌, ◌≤◌, nat_lt, length, slice_index, slice_range, IfOk, IsUtf8};
 ghost use Rattle.xmas_text.specs.Lexemes.{IsWritten, IsLexeme, IsQuotedText, Quotes, IsPathText, SpellsPath, op_by};
 
-use crate::cond::{PathLimit, PathText};
+use crate::cond::{Comparison, PathLimit, PathText};
 use crate::draft::Lexeme;
 use crate::token::Kind;
-use mix_tree::{Label, LabelRead, TestOp, read_label};
+use mix_tree::{Label, LabelRead, read_label};
 use path_expr::{PathFault, read_path};
 use std::alloc::{AllocError, Global};
 
@@ -50,22 +50,22 @@ fn path_text(alloc: Global, text: &[u8]) -> Result<PathText, AllocError>
 }
 
 // The operator that is written so.
-fn operator(text: &[u8]) -> TestOp
+fn operator(text: &[u8]) -> Comparison
     requires { 0 < length text.now }
     ensures { result ≡ op_by (slice_index text.now 0) (nat_lt 1 (length text.now)) }
 {
     let first = text[0];
     if text.len() > 1 {
         return match first {
-            b'!' => TestOp::Ne,
-            b'<' => TestOp::Le,
-            _ => TestOp::Ge,
+            b'!' => Comparison::Ne,
+            b'<' => Comparison::Le,
+            _ => Comparison::Ge,
         };
     }
     match first {
-        b'=' => TestOp::Eq,
-        b'<' => TestOp::Lt,
-        _ => TestOp::Gt,
+        b'=' => Comparison::Eq,
+        b'<' => Comparison::Lt,
+        _ => Comparison::Gt,
     }
 }
 

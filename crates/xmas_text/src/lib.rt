@@ -19,7 +19,7 @@ mod stage;
 mod token;
 mod var;
 
-pub use cond::{CondText, OperandText, PathLimit, PathText};
+pub use cond::{Comparison, CondText, OperandText, PathLimit, PathText};
 pub use element::{ElementText, ItemText};
 pub use fault::TextFault;
 pub use law::no_text_spells_two_rules;

@@ -3,12 +3,11 @@ ghost use Rattle.std.specs.Prelude.{◌≡◌, IfOk};
 ghost use Rattle.xmas_text.specs.Drafts as drafts;
 ghost use Rattle.xmas_text.specs.Shifted as shifted;
 
-use crate::cond::{CondText, OperandText, PathText};
+use crate::cond::{Comparison, CondText, OperandText, PathText};
 use crate::draft::{Built, Draft, Lexeme, Pending, StartText};
 use crate::rule::OrderText;
 use crate::token::Mark;
 use crate::var::VarText;
-use mix_tree::TestOp;
 use std::alloc::AllocError;
 
 /// A token where a condition begins.
@@ -24,7 +23,7 @@ pub fn shift_cond(built: Built, at: usize, token: Lexeme) -> Draft
 }
 
 // An operator behind the first word of a condition.
-fn compared(start: StartText, op: TestOp) -> Pending
+fn compared(start: StartText, op: Comparison) -> Pending
     ensures { result ≡ shifted.operator_behind start op }
 {
     match start {
@@ -101,7 +100,7 @@ pub fn shift_path(
 pub fn shift_compared(
     built: Built,
     left: VarText,
-    op: TestOp,
+    op: Comparison,
     at: usize,
     token: Lexeme,
 ) -> Result<Draft, AllocError>

@@ -1,9 +1,9 @@
 // What the contracts leave to tests: that texts are read, and trees worked out by hand.
 use crate::{
-    CondText, GroupText, ItemText, KeyText, OperandText, PathLimit, RuleText, TextFault, VarText,
-    no_text_spells_two_rules, parse_rule,
+    Comparison, CondText, GroupText, ItemText, KeyText, OperandText, PathLimit, RuleText,
+    TextFault, VarText, no_text_spells_two_rules, parse_rule,
 };
-use mix_tree::{Label, TestOp};
+use mix_tree::Label;
 use std::alloc::{AllocError, Global};
 use std::test::Fail;
 
@@ -232,7 +232,7 @@ fn is_second_cond(cond: &CondText) -> bool {
 fn is_third_cond(cond: &CondText) -> bool {
     let CondText::Compare {
         left,
-        op: TestOp::Le,
+        op: Comparison::Le,
         right: OperandText::Text(label),
     } = cond
     else {
