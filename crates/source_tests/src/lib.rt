@@ -10,7 +10,7 @@ mod files;
 #[cfg(test)]
 mod memory;
 #[cfg(test)]
-mod mounted;
+mod mounts;
 #[cfg(test)]
 mod visits;
 #[cfg(test)]

@@ -10,6 +10,8 @@ mod labels;
 #[cfg(test)]
 mod paths;
 #[cfg(test)]
+mod rules;
+#[cfg(test)]
 mod scripts;
 #[cfg(test)]
 mod words;

@@ -1,11 +1,11 @@
 // What the contracts leave to tests: that texts are read, and trees worked out by hand.
-use crate::{
-    Comparison, CondText, GroupText, ItemText, KeyText, OperandText, PathLimit, RuleText,
-    TextFault, VarText, no_text_spells_two_rules, parse_rule,
-};
 use mix_tree::Label;
 use std::alloc::{AllocError, Global};
 use std::test::Fail;
+use xmas_text::{
+    Comparison, CondText, GroupText, ItemText, KeyText, OperandText, PathLimit, RuleText,
+    TextFault, VarText, no_text_spells_two_rules, parse_rule,
+};
 
 // Whether a text is read.
 fn is_read(alloc: Global, text: &str) -> bool {
