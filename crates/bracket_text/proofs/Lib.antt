@@ -1,5 +1,6 @@
 pub mod Complete
 pub mod Fronts
+pub mod Held
 pub mod Levels
 pub mod Runs
 pub mod Sound

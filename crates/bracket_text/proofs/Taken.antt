@@ -7,10 +7,7 @@ use Rattle.mix_tree.specs.Forest.{LabelledTree}
 use Rattle.mix_tree.specs.LabelMachine as spelled
 use Rattle.bracket_text.specs.Grammar.{is_blank}
 use Rattle.bracket_text.specs.Machine.{Frame, Mode, start, first, spelling, named, closed, State, at, leaf, after_tree, after_tree_in, after_label, or_other, behind, begins, is_deep_in, is_deep, step, whole_in, Verdict, unexpected, too_deep, ends, at_end, or_stop, verdict}
-use Rattle.bracket_text.specs.ReaderState as reader
-use Rattle.bracket_text.specs.ReaderState.{GivesStop, GivesFault, mode_of}
-use Rattle.bracket_text.specs.declared.reader.Mode as declared
-use Rattle.bracket_text.specs.declared.reader.Mode.TheVariants.{Start, First, Named, Closed}
+use Rattle.bracket_text.specs.ReaderState.{GivesStop, GivesFault}
 use Rattle.bracket_text.specs.declared.fault.BracketFault.{BracketFault}
 use Rattle.bracket_text.specs.declared.fault.BracketFault.TheVariants.{NotUtf8, Unexpected, TooDeep, Ends, OutOfMemory}
 use Rattle.bracket_text.proofs.Runs.{MayBegin, begin_step, begins_not_blank}
@@ -65,13 +62,6 @@ begin_verdict o m i b x h few k =
     ∙ ap (or_stop (λ t. verdict t (i + 1) x) (unexpected i)) (begin_step o m b h k)
     ∙ byte_same o i b x (spelled.step spelled.start b) None (λ t. label_verdict x o t (i + 1))
 
--- the reader's modes are the machine's
-pub may : (m : declared.Mode) → reader.MayBegin m → MayBegin (mode_of m)
-may Start h = tt
-may First h = tt
-may (Named l) h = absurd h
-may (Closed t) h = absurd h
-
 -- a label of a text is read as it is seen
 pub label_at : (o : List Frame) (m : Mode) (text : List ℕ) (i : ℕ) (z : spelled.Seen) → MayBegin m → length o < 200 → i < length text → IsTrue (begins (slice_index text i))
     → spelled.seen_from spelled.start i (drop i text) ≡ z → verdict (at o m) i (drop i text) ≡ behind_label o z
@@ -118,21 +108,14 @@ tree_in_refuses (f ∷ o) t b h =
     rw (c, d) refl
 
 -- nor behind any tree
-tree_refuses : (o : List Frame) (t : LabelledTree) (b : ℕ) → IsTrue (begins b) → after_tree o t b ≡ None
+pub tree_refuses : (o : List Frame) (t : LabelledTree) (b : ℕ) → IsTrue (begins b) → after_tree o t b ≡ None
 tree_refuses o t b h = rw (begins_not_blank b h) (tree_in_refuses o t b h)
 
 -- nor behind a label
-label_refuses : (o : List Frame) (l : List ℕ) (b : ℕ) → IsTrue (begins b) → after_label o l b ≡ None
+pub label_refuses : (o : List Frame) (l : List ℕ) (b : ℕ) → IsTrue (begins b) → after_label o l b ≡ None
 label_refuses o l b h =
     let c : (b == 91) ≡ false = grind (arith, nat_tests) in
     rw (begins_not_blank b h, c) (tree_in_refuses o (leaf l) b h)
-
--- no label stands behind a label or a tree
-pub no_label : (o : List Frame) (m : declared.Mode) (text : List ℕ) (i : ℕ) → ¬ reader.MayBegin m → i < length text → IsTrue (begins (slice_index text i)) → verdict (at o (mode_of m)) i (drop i text) ≡ unexpected i
-no_label o Start text i h inside k = absurd (h tt)
-no_label o First text i h inside k = absurd (h tt)
-no_label o (Named l) text i h inside k = step_stops (at o (named l)) text i inside refl (label_refuses o l (slice_index text i) k)
-no_label o (Closed t) text i h inside k = step_stops (at o (closed t)) text i inside refl (tree_refuses o t (slice_index text i) k)
 
 -- a byte that is no bare character and no quote is ASCII
 pub other_ascii : (b : ℕ) → begins b ≡ false → b < 128

@@ -1,40 +1,67 @@
 -- The reader's values as states of the machine, and what its calls do to them.
-use Rattle.std.specs.Prelude.{◌≡◌, ℕ, ◌<◌, ◌≤◌, List, length, drop, Option, Some, None, Result, Ok, Err, map, reverse}
+use Rattle.std.specs.Prelude.{◌≡◌, ℕ, ◌<◌, ◌≤◌, List, [], ◌∷◌, ◌++◌, length, drop, Option, Some, None, Result, Ok, Err}
 use Rattle.std.specs.Str.{IsCharBoundary}
-use Rattle.mix_tree.specs.Forest.{LabelledTree}
+use Rattle.mix_tree.specs.Forest.{Forest, LabelledTree, forest_of, alone}
+use Rattle.mix_tree.specs.LabelMachine as spelled
+use Rattle.document_store.specs.Laid.{LaidNode, laid, IsDocument}
 use Rattle.bracket_text.specs.Machine as machine
-use Rattle.bracket_text.specs.declared.reader.Open.{Open}
 use Rattle.bracket_text.specs.declared.reader.Mode.{Mode}
 use Rattle.bracket_text.specs.declared.reader.Mode.TheVariants.{Start, First, Named, Closed}
 use Rattle.bracket_text.specs.declared.reader.Reader.{Reader}
 use Rattle.bracket_text.specs.declared.fault.BracketFault.{BracketFault}
 use Rattle.bracket_text.specs.declared.fault.BracketFault.TheVariants.{NotUtf8, Unexpected, TooDeep, Ends, OutOfMemory}
 
--- an open tree
-abbrev pub frame_of : Open → machine.Frame
-frame_of f = record { label = f.label; kids = f.kids.items }
+-- a node below which nothing is known to be
+abbrev pub bare_node : List ℕ → LaidNode
+bare_node label = record { label = label; below = 0 }
 
--- the open trees, the innermost first
-abbrev pub open_of : List Open → List machine.Frame
-open_of o = reverse (map frame_of o)
+-- the nodes of the open trees and of their whole children, behind the document node
+abbrev pub open_nodes : List machine.Frame → List LaidNode
+open_nodes [] = bare_node [] ∷ []
+open_nodes (f ∷ o) = laid (forest_of f.kids) ++ bare_node f.label ∷ open_nodes o
 
--- a mode
-abbrev pub mode_of : Mode → machine.Mode
-mode_of Start = machine.start
-mode_of First = machine.first
-mode_of (Named label) = machine.named label
-mode_of (Closed t) = machine.closed t
+-- the places of the open trees, counted from the document node
+abbrev pub places : List machine.Frame → List ℕ
+places [] = []
+places (f ∷ o) = places o ++ length (open_nodes o) ∷ []
 
--- a reader
-abbrev pub state_of : Reader → machine.State
-state_of r = record { open' = open_of r.open.items; mode = mode_of r.mode }
+-- some nodes lie behind those of the open trees
+pub record Lies (nodes : List LaidNode) (opened : List ℕ) (hand : List LaidNode) (o : List machine.Frame) : Type 0 where
+  pub nodes_are : nodes ≡ hand ++ open_nodes o
+  pub places_are : opened ≡ places o
+
+-- all children of the innermost open tree are whole
+pub record Shuts (nodes : List LaidNode) (opened : List ℕ) (label : List ℕ) (kids : Forest) (o : List machine.Frame) : Type 0 where
+  pub nodes_are : nodes ≡ laid kids ++ bare_node label ∷ open_nodes o
+  pub places_are : opened ≡ places o ++ length (open_nodes o) ∷ []
+
+-- the nodes of the tree at hand
+abbrev pub hand_nodes : machine.Mode → List LaidNode
+hand_nodes machine.start = []
+hand_nodes machine.first = []
+hand_nodes (machine.spelling s) = []
+hand_nodes (machine.named l) = bare_node l ∷ []
+hand_nodes (machine.closed t) = laid (alone t)
+
+-- the modes are the same
+abbrev pub SameMode : Mode → machine.Mode → Type 0
+SameMode m machine.start = m ≡ Start
+SameMode m machine.first = m ≡ First
+SameMode m (machine.spelling s) = ⊥
+SameMode m (machine.named l) = m ≡ Named
+SameMode m (machine.closed t) = m ≡ Closed
+
+-- the reader holds what the machine has read
+pub record Holds (r : Reader) (o : List machine.Frame) (m : machine.Mode) : Type 0 where
+  pub lies : Lies r.store r.«open».items (hand_nodes m) o
+  pub same : SameMode r.mode m
 
 -- a tree may begin
 abbrev pub MayBegin : Mode → Type 0
 MayBegin Start = Unit {0}
 MayBegin First = Unit {0}
-MayBegin (Named label) = ⊥
-MayBegin (Closed t) = ⊥
+MayBegin Named = ⊥
+MayBegin Closed = ⊥
 
 -- the byte at the place does not fit, unless memory ran out
 abbrev pub GivesStop : BracketFault → ℕ → Option machine.State → Type 0
@@ -44,10 +71,10 @@ GivesStop (TooDeep i) at given = ⊥
 GivesStop Ends at given = ⊥
 GivesStop OutOfMemory at given = Unit {0}
 
--- a call leaves the state that the machine gives, or names the byte at the place
-abbrev pub Gives : Result Unit BracketFault → ℕ → machine.State → Option machine.State → Type 0
-Gives (Ok u) at s given = given ≡ Some s
-Gives (Err e) at s given = GivesStop e at given
+-- a call leaves what the machine's state says, or names the byte at the place
+abbrev pub Gives : Result Unit BracketFault → ℕ → Reader → Option machine.State → Type 0
+Gives (Ok u) at r given = (t : machine.State) × (given ≡ Some t) × Holds r t.open' t.mode
+Gives (Err e) at r given = GivesStop e at given
 
 -- the fault is what the machine says, unless memory ran out
 abbrev pub GivesFault : BracketFault → machine.Verdict → Type 0
@@ -62,8 +89,43 @@ abbrev pub GivesVerdict : Result LabelledTree BracketFault → machine.Verdict �
 GivesVerdict (Ok t) said = said ≡ machine.reads t
 GivesVerdict (Err e) said = GivesFault e said
 
--- what a call takes of a text leaves what the machine says in the end
-abbrev pub Goes : List ℕ → ℕ → Result ℕ BracketFault → machine.State → machine.State → Type 0
-Goes text at (Ok next) old new =
-    (at < next) × (next ≤ length text) × IsCharBoundary text next × (machine.verdict old at (drop at text) ≡ machine.verdict new next (drop next text))
-Goes text at (Err e) old new = GivesFault e (machine.verdict old at (drop at text))
+-- the result is the document of what the machine says, unless memory ran out
+abbrev pub GivesDocument : Result (List LaidNode) BracketFault → machine.Verdict → Type 0
+GivesDocument (Ok d) said = (t : LabelledTree) × (said ≡ machine.reads t) × IsDocument d t
+GivesDocument (Err e) said = GivesFault e said
+
+-- what a call took of a text leaves what the machine says in the end
+pub record Went (text : List ℕ) (at next : ℕ) (s : machine.State) (r : Reader) : Type 0 where
+  pub state : machine.State
+  pub order : at < next
+  pub inside : next ≤ length text
+  pub boundary : IsCharBoundary text next
+  pub same : machine.verdict s at (drop at text) ≡ machine.verdict state next (drop next text)
+  pub holds : Holds r state.open' state.mode
+
+-- the same, or the fault is what the machine says
+abbrev pub Goes : List ℕ → ℕ → Result ℕ BracketFault → machine.State → Reader → Type 0
+Goes text at (Ok next) s r = Went text at next s r
+Goes text at (Err e) s r = GivesFault e (machine.verdict s at (drop at text))
+
+-- the fault is what is seen of a label, unless memory ran out
+abbrev pub IsSeenFault : BracketFault → spelled.Seen → Type 0
+IsSeenFault (NotUtf8 i) seen = ⊥
+IsSeenFault (Unexpected i) seen = seen ≡ spelled.unexpected i
+IsSeenFault (TooDeep i) seen = ⊥
+IsSeenFault Ends seen = seen ≡ spelled.ends
+IsSeenFault OutOfMemory seen = Unit {0}
+
+-- the label that is seen of a text was put in behind some nodes
+pub record Pushed (text : List ℕ) (at end : ℕ) (seen : spelled.Seen) (old new : List LaidNode) : Type 0 where
+  pub label : List ℕ
+  pub nodes : new ≡ bare_node label ∷ old
+  pub next : at < end
+  pub inside : end ≤ length text
+  pub boundary : IsCharBoundary text end
+  pub seen_is : seen ≡ spelled.got label end (drop end text)
+
+-- the same, or why not
+abbrev pub Pushes : List ℕ → ℕ → spelled.Seen → Result ℕ BracketFault → List LaidNode → List LaidNode → Type 0
+Pushes text at seen (Ok end) old new = Pushed text at end seen old new
+Pushes text at seen (Err e) old new = IsSeenFault e seen

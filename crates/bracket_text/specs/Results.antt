@@ -1,9 +1,10 @@
--- What reading a tree answers.
+-- What reading answers: the tree that a text spells, or the document of it.
 use Rattle.std.specs.Prelude.{◌≡◌, ℕ, ◌+◌, ◌<◌, List, length, take, Result, Ok, Err}
 use Rattle.std.specs.Str.{IsUtf8}
 use Rattle.std.specs.Str.Lossy.{utf8_valid_len}
 use Rattle.mix_base.specs.Reading.{IsFront, IsUnexpected, IsCut}
 use Rattle.mix_tree.specs.Forest.{LabelledTree}
+use Rattle.document_store.specs.Laid.{LaidNode, IsDocument}
 use Rattle.bracket_text.specs.Grammar.{Spells, SpellsShallow}
 use Rattle.bracket_text.specs.declared.fault.BracketFault.{BracketFault}
 use Rattle.bracket_text.specs.declared.fault.BracketFault.TheVariants.{NotUtf8, Unexpected, TooDeep, Ends, OutOfMemory}
@@ -41,3 +42,13 @@ IsWantOfMemory OutOfMemory = Unit {0}
 abbrev pub IsTree : Result LabelledTree BracketFault → LabelledTree → Type 0
 IsTree (Ok u) t = u ≡ t
 IsTree (Err e) t = IsWantOfMemory e
+
+-- the document of the tree that the text spells, or why there is none
+abbrev pub AnswersDocument : List ℕ → Result (List LaidNode) BracketFault → Type 0
+AnswersDocument x (Ok d) = (t : LabelledTree) × IsDocument d t × IsUtf8 x × SpellsShallow x t
+AnswersDocument x (Err e) = Refuses x e
+
+-- the result is the document of this tree, unless memory ran out
+abbrev pub IsDocumentOf : Result (List LaidNode) BracketFault → LabelledTree → Type 0
+IsDocumentOf (Ok d) t = IsDocument d t
+IsDocumentOf (Err e) t = IsWantOfMemory e

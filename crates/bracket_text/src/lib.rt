@@ -9,8 +9,5 @@ mod writing;
 
 pub use fault::BracketFault;
 pub use law::no_text_spells_two;
-pub use reading::read_tree;
+pub use reading::{read_document, read_tree};
 pub use writing::{push_tree, write_tree};
-
-#[cfg(test)]
-mod tests;

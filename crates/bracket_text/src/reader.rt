@@ -1,136 +1,183 @@
-// A reader of bracket text: the brackets that are open, and the tree at hand.
-ghost use Rattle.std.specs.Prelude.{◌≡◌, ◌<◌, ◌≤◌, [], ◌∷◌, ◌++◌, OnOk, OnErr, IsErrOf, length, drop, slice_index, ◌↔◌, false, IsTrue};
+// A reader of bracket text that puts the nodes of a document in where they are met.
+ghost use Rattle.std.specs.Prelude.{◌≡◌, ◌<◌, ◌≤◌, ◌↔◌, [], ◌∷◌, ◌++◌, List, ℕ, length, false, true, cond, ◌==◌, None, slice_index, drop, IsTrue, IfOk};
 ghost use Rattle.std.specs.Str.{IsUtf8, IsCharBoundary};
+ghost use Rattle.mix_tree.specs.Forest.{Forest, LabelledTree, alone};
+ghost use Rattle.mix_tree.specs.LabelMachine.{in_quotes, seen_from, start as start_label};
+ghost use Rattle.document_store.specs.Laid.{laid, Closes};
 ghost use Rattle.bracket_text.specs.Grammar.{is_blank};
-ghost use Rattle.bracket_text.specs.Machine.{begins, close_empty, after_tree, after_label, step, whole, at_end};
-ghost use Rattle.bracket_text.specs.ReaderState.{Gives, GivesVerdict, Goes, MayBegin, open_of, state_of};
+ghost use Rattle.bracket_text.specs.Machine.{Frame, begins, after_tree, after_label, close_empty, leaf, step_in, whole_in, at_end, start, closed, Mode as Hand, at as state_at};
+ghost use Rattle.bracket_text.specs.ReaderState.{Lies, Shuts, Holds, Gives, Goes, GivesDocument, MayBegin, Pushes};
 
 use crate::BracketFault;
-use mix_tree::{Label, LabelRead, Tree, begins_label, read_label};
+use document_store::Store;
+use mix_tree::{LabelPiece, begins_label, next_piece, plain_label};
 use std::alloc::{AllocError, Global};
-use std::mem;
 
 /// The most levels that a tree may have.
 pub const LEVELS: usize = 200;
 
-/// A tree whose brackets are open.
-#[derive(Drop)]
-pub struct Open {
-    pub label: Label,
-    pub kids: Vec<Tree>,
-}
-
 /// What has been read of the tree at hand.
-#[derive(Drop)]
+#[derive(Clone, Copy)]
 pub enum Mode {
     /// A tree has to come.
     Start,
     /// A bracket was opened: a tree or the closing bracket has to come.
     First,
     /// The label has ended, and a bracket may come.
-    Named(Label),
+    Named,
     /// The tree is whole.
-    Closed(Tree),
+    Closed,
 }
 
-/// A reader of bracket text. After an error it has no meaning.
+/// A reader of bracket text: the nodes that were met, and the places of those whose brackets are open. After an error it has
+/// no meaning.
 #[derive(Drop)]
 pub struct Reader {
-    pub open: Vec<Open>,
+    pub store: Store,
+    pub open: Vec<usize>,
     pub mode: Mode,
 }
 
 // Whether a byte is a blank.
+#[inline]
 fn is_blank_byte(byte: u8) -> bool
     ensures { result ≡ is_blank byte }
 {
     matches!(byte, b' ' | b'\t' | b'\n' | b'\r')
 }
 
-// Adds a tree to a list, which often has no other.
-fn add_kid(kids: &mut Vec<Tree>, tree: Tree) -> Result<(), AllocError>
-    ensures { OnOk result (kids.new.items ≡ kids.old.items ++ tree ∷ []) }
+// Puts in the node of a label between quotes, of which a place behind the opening one is given, with its escapes.
+fn push_escaped(store: &mut Store, text: &[u8], from: usize) -> Result<usize, BracketFault>
+    requires inside { from ≤ length text.now }
+    requires utf8 { IsUtf8 text.now }
+    requires boundary { IsCharBoundary text.now from }
+    ensures { Pushes text.now from (seen_from (in_quotes []) from (drop from text.now)) result store.old store.new }
 {
-    if kids.len() == kids.capacity() {
-        kids.reserve_exact(kids.len().max(1))?;
+    store.push(b"")?;
+    let mut at = from;
+    loop {
+        match next_piece(text, at) {
+            LabelPiece::Escape { to, byte } => {
+                store.extend(&text[at..to])?;
+                store.extend(&[byte])?;
+                at = to + 2;
+            }
+            LabelPiece::Quote { to } => {
+                store.extend(&text[at..to])?;
+                return Ok(to + 1);
+            }
+            LabelPiece::Unexpected(at) => return Err(BracketFault::Unexpected(at)),
+            LabelPiece::Ends => return Err(BracketFault::Ends),
+        }
     }
-    kids.push(tree)?;
-    Ok(())
+}
+
+// Puts in the node of the label that begins at a place, and answers the place behind its spelling.
+#[inline]
+fn push_label(store: &mut Store, text: &[u8], at: usize) -> Result<usize, BracketFault>
+    requires inside { at < length text.now }
+    requires utf8 { IsUtf8 text.now }
+    requires boundary { IsCharBoundary text.now at }
+    requires label { IsTrue (begins (slice_index text.now at)) }
+    ensures { Pushes text.now at (seen_from start_label at (drop at text.now)) result store.old store.new }
+{
+    if let Some(plain) = plain_label(text, at) {
+        store.push(&text[plain.from..plain.to])?;
+        return Ok(plain.end);
+    }
+    push_escaped(store, text, at + 1)
+}
+
+// The whole document: all nodes are below the document node.
+fn shut_document(mut store: Store) -> Store
+    ensures { Closes store 0 result }
+{
+    store.close(0);
+    store.shrink();
+    store
 }
 
 impl Reader {
-    /// A reader that has read nothing.
-    pub fn new(alloc: Global) -> Reader
-        ensures open { result.open.items ≡ [] }
-        ensures mode { result.mode ≡ Mode.Start }
+    /// A reader that has read nothing: its only node is the document node.
+    pub fn new(alloc: Global) -> Result<Reader, AllocError>
+        ensures { IfOk result (λ r. Holds r [] start) }
     {
-        Reader {
+        let mut store = Store::new(alloc);
+        store.push(b"")?;
+        Ok(Reader {
+            store,
             open: Vec::new(alloc),
             mode: Mode::Start,
+        })
+    }
+
+    // Takes a closing bracket behind the children of the innermost open tree.
+    fn shut(&mut self)
+        ensures { (label : List ℕ) (kids : Forest) (o : List Frame) → Shuts self.old.store self.old.open.items label kids o → Holds self.new o (closed (record { label = label; kids = kids })) }
+    {
+        let Some(place) = self.open.pop() else {
+            return;
+        };
+        self.store.close(place);
+        self.mode = Mode::Closed;
+    }
+
+    // Takes a byte that is no blank right behind an opening bracket.
+    fn close_empty(&mut self, at: usize, byte: u8) -> Result<(), BracketFault>
+        ensures { (o : List Frame) → Lies self.old.store self.old.open.items [] o → Gives result at self.new (cond (byte == 93) (close_empty o) None) }
+    {
+        if self.open.is_empty() {
+            return Err(BracketFault::Unexpected(at));
         }
+        if byte == b']' {
+            self.shut();
+            return Ok(());
+        }
+        Err(BracketFault::Unexpected(at))
     }
 
     // Takes a byte behind a whole tree.
-    fn close_tree(&mut self, tree: Tree, at: usize, byte: u8) -> Result<(), BracketFault>
-        ensures { Gives result at (state_of self.new) (after_tree (open_of self.old.open.items) tree byte) }
+    #[inline]
+    fn close_tree(&mut self, at: usize, byte: u8) -> Result<(), BracketFault>
+        ensures { (o : List Frame) (t : LabelledTree) → Lies self.old.store self.old.open.items (laid (alone t)) o → Gives result at self.new (after_tree o t byte) }
     {
         if is_blank_byte(byte) {
-            self.mode = Mode::Closed(tree);
+            self.mode = Mode::Closed;
             return Ok(());
         }
-        let Some(mut frame) = self.open.pop() else {
+        if self.open.is_empty() {
             return Err(BracketFault::Unexpected(at));
-        };
-        add_kid(&mut frame.kids, tree)?;
-        match byte {
-            b',' => {
-                self.open.push(frame)?;
-                self.mode = Mode::Start;
-                Ok(())
-            }
-            b']' => {
-                self.mode = Mode::Closed(Tree::new(frame.label, frame.kids));
-                Ok(())
-            }
-            _ => Err(BracketFault::Unexpected(at)),
         }
+        if byte == b',' {
+            self.mode = Mode::Start;
+            return Ok(());
+        }
+        if byte == b']' {
+            self.shut();
+            return Ok(());
+        }
+        Err(BracketFault::Unexpected(at))
     }
 
     // Takes a byte behind a label.
-    fn close_label(
-        &mut self,
-        alloc: Global,
-        label: Label,
-        at: usize,
-        byte: u8,
-    ) -> Result<(), BracketFault>
-        ensures { Gives result at (state_of self.new) (after_label (open_of self.old.open.items) label byte) }
+    #[inline]
+    fn close_label(&mut self, at: usize, byte: u8) -> Result<(), BracketFault>
+        ensures { (o : List Frame) (l : List ℕ) → Lies self.old.store self.old.open.items (laid (alone (leaf l))) o → Gives result at self.new (after_label o l byte) }
     {
         if is_blank_byte(byte) {
-            self.mode = Mode::Named(label);
+            self.mode = Mode::Named;
             return Ok(());
         }
         if byte == b'[' {
-            let kids = Vec::new(alloc);
-            self.open.push(Open { label, kids })?;
+            self.open.push(self.store.len().saturating_sub(1))?;
             self.mode = Mode::First;
             return Ok(());
         }
-        self.close_tree(Tree::new(label, Vec::new(alloc)), at, byte)
-    }
-
-    // Takes a closing bracket right behind the opening one.
-    fn close_empty_brackets(&mut self, at: usize) -> Result<(), BracketFault>
-        ensures { Gives result at (state_of self.new) (close_empty (open_of self.old.open.items)) }
-    {
-        let Some(frame) = self.open.pop() else {
-            return Err(BracketFault::Unexpected(at));
-        };
-        self.mode = Mode::Closed(Tree::new(frame.label, frame.kids));
-        Ok(())
+        self.close_tree(at, byte)
     }
 
     // Whether a label may begin.
+    #[inline]
     fn may_begin(&self) -> bool
         ensures { IsTrue result ↔ MayBegin self.now.mode }
     {
@@ -138,79 +185,74 @@ impl Reader {
     }
 
     // Takes a byte that begins no label.
-    fn take_byte(&mut self, alloc: Global, at: usize, byte: u8) -> Result<(), BracketFault>
+    #[inline]
+    fn take_byte(&mut self, at: usize, byte: u8) -> Result<(), BracketFault>
         requires { begins byte ≡ false }
-        ensures { Gives result at (state_of self.new) (step (state_of self.old) byte) }
+        ensures { (o : List Frame) (m : Hand) → Holds self.old o m → Gives result at self.new (step_in o m byte) }
     {
-        match mem::replace(&mut self.mode, Mode::Start) {
+        match self.mode {
             Mode::Start if is_blank_byte(byte) => Ok(()),
             Mode::Start => Err(BracketFault::Unexpected(at)),
-            Mode::First if is_blank_byte(byte) => {
-                self.mode = Mode::First;
-                Ok(())
-            }
-            Mode::First if byte == b']' => self.close_empty_brackets(at),
-            Mode::First => Err(BracketFault::Unexpected(at)),
-            Mode::Named(label) => self.close_label(alloc, label, at, byte),
-            Mode::Closed(tree) => self.close_tree(tree, at, byte),
+            Mode::First if is_blank_byte(byte) => Ok(()),
+            Mode::First => self.close_empty(at, byte),
+            Mode::Named => self.close_label(at, byte),
+            Mode::Closed => self.close_tree(at, byte),
         }
     }
 
     // Takes the label that begins at a place, and the byte behind it.
-    fn take_label(&mut self, alloc: Global, text: &[u8], at: usize) -> Result<usize, BracketFault>
+    #[inline]
+    fn take_label(&mut self, text: &[u8], at: usize) -> Result<usize, BracketFault>
         requires inside { at < length text.now }
         requires utf8 { IsUtf8 text.now }
         requires boundary { IsCharBoundary text.now at }
         requires mode { MayBegin self.old.mode }
         requires label { IsTrue (begins (slice_index text.now at)) }
-        ensures { Goes text.now at result (state_of self.old) (state_of self.new) }
+        ensures { (o : List Frame) (m : Hand) → Holds self.old o m → Goes text.now at result (state_at o m) self.new }
     {
         if self.open.len() >= LEVELS {
             return Err(BracketFault::TooDeep(at));
         }
-        let (label, end) = match read_label(alloc, text, at)? {
-            LabelRead::Got { label, end } => (label, end),
-            LabelRead::Unexpected(at) => return Err(BracketFault::Unexpected(at)),
-            LabelRead::Ends => return Err(BracketFault::Ends),
-        };
-        if end == text.len() {
-            self.mode = Mode::Named(label);
+        let end = push_label(&mut self.store, text, at)?;
+        if end >= text.len() {
+            self.mode = Mode::Named;
             return Ok(end);
         }
-        self.close_label(alloc, label, end, text[end])?;
+        self.close_label(end, text[end])?;
         Ok(end + 1)
     }
 
     /// Takes a label or a byte at a place, and answers the place behind.
-    pub fn take(&mut self, alloc: Global, text: &[u8], at: usize) -> Result<usize, BracketFault>
+    #[inline]
+    pub fn take(&mut self, text: &[u8], at: usize) -> Result<usize, BracketFault>
         requires inside { at < length text.now }
         requires utf8 { IsUtf8 text.now }
         requires boundary { IsCharBoundary text.now at }
-        ensures { Goes text.now at result (state_of self.old) (state_of self.new) }
+        ensures { (o : List Frame) (m : Hand) → Holds self.old o m → Goes text.now at result (state_at o m) self.new }
     {
         let byte = text[at];
         if !begins_label(byte) {
-            self.take_byte(alloc, at, byte)?;
+            self.take_byte(at, byte)?;
             return Ok(at + 1);
         }
         if self.may_begin() {
-            return self.take_label(alloc, text, at);
+            return self.take_label(text, at);
         }
         Err(BracketFault::Unexpected(at))
     }
 
-    /// The tree that has been read, at the end of the text.
-    pub fn finish(self, alloc: Global) -> Result<Tree, BracketFault>
-        ensures { GivesVerdict result (at_end (whole (state_of self))) }
+    /// The document that has been read, at the end of the text.
+    pub fn finish(self) -> Result<Store, BracketFault>
+        ensures { (o : List Frame) (m : Hand) → Holds self o m → GivesDocument result (at_end (whole_in o m)) }
     {
-        let Reader { open, mode } = self;
+        let Reader { store, open, mode } = self;
         if !open.is_empty() {
             return Err(BracketFault::Ends);
         }
         match mode {
             Mode::Start | Mode::First => Err(BracketFault::Ends),
-            Mode::Named(label) => Ok(Tree::new(label, Vec::new(alloc))),
-            Mode::Closed(tree) => Ok(tree),
+            Mode::Named => Ok(shut_document(store)),
+            Mode::Closed => Ok(shut_document(store)),
         }
     }
 }

@@ -16,6 +16,7 @@ pub mod OrderSteps
 pub mod PairSteps
 pub mod PassSteps
 pub mod SameKeys
+pub mod SameNodes
 pub mod Seeking
 pub mod SeenLists
 pub mod Shapes

@@ -1,9 +1,9 @@
 -- Lists with holes: one behind another, and what their holes stand for changed.
-use Rattle.std.proofs.Common.{◌≡◌, ℕ, ◌+◌, Bool, true, false, refl, ap, sym, ◌∙◌, arith}
-use Rattle.mix_tree.specs.Forest.{Forest, none, tree, followed}
+use Rattle.std.proofs.Common.{◌≡◌, ℕ, ◌+◌, Bool, true, false, List, [], ◌∷◌, ◌++◌, refl, ap, sym, ◌∙◌, arith}
+use Rattle.mix_tree.specs.Forest.{Forest, none, tree, followed, LabelledTree, forest_of}
 use Rattle.mix_tree.specs.Weight.{nodes_of}
 use Rattle.lxp_core.specs.declared.open_tree.HoleId.{HoleId}
-use Rattle.lxp_core.specs.Open.{Open, nil, node, hole, closed, weight_of, AllHoles, begins_with_hole, IsApart, open_followed}
+use Rattle.lxp_core.specs.Open.{Open, nil, node, hole, closed, weight_of, AllHoles, begins_with_hole, IsApart, open_followed, without_holes}
 use Rattle.mix_tree.proofs.Forests.{followed_assoc}
 
 -- of three lists, the first two or the last two may be joined first
@@ -64,6 +64,28 @@ pub AllHoles-weaker : (test weaker : HoleId → Bool) → ((h : HoleId) → test
 AllHoles-weaker test weaker more nil p = tt
 AllHoles-weaker test weaker more (node label kids rest) p = (AllHoles-weaker test weaker more kids p.0, AllHoles-weaker test weaker more rest p.1)
 AllHoles-weaker test weaker more (hole id rest) p = (more id p.0, AllHoles-weaker test weaker more rest p.1)
+
+-- a list without holes closes to itself
+pub closed-without_holes : (forest : HoleId → Forest) (f : Forest) → closed forest (without_holes f) ≡ f
+closed-without_holes forest none = refl
+closed-without_holes forest (tree label kids rest) =
+    ap (λ f. tree label f (closed forest (without_holes rest))) (closed-without_holes forest kids)
+    ∙ ap (tree label kids) (closed-without_holes forest rest)
+
+-- and its holes pass any test
+pub AllHoles-without_holes : (test : HoleId → Bool) (f : Forest) → AllHoles test (without_holes f)
+AllHoles-without_holes test none = tt
+AllHoles-without_holes test (tree label kids rest) = (AllHoles-without_holes test kids, AllHoles-without_holes test rest)
+
+-- and none stand side by side
+pub IsApart-without_holes : (f : Forest) → IsApart (without_holes f)
+IsApart-without_holes none = tt
+IsApart-without_holes (tree label kids rest) = (IsApart-without_holes kids, IsApart-without_holes rest)
+
+-- the trees of two lists, one behind another
+pub forest_of-append : (xs ys : List LabelledTree) → forest_of (xs ++ ys) ≡ followed (forest_of xs) (forest_of ys)
+forest_of-append [] ys = refl
+forest_of-append (x ∷ xs) ys = ap (tree x.label x.kids) (forest_of-append xs ys)
 
 -- the nodes of two lists of trees add up
 pub nodes_of-followed : (f g : Forest) → nodes_of (followed f g) ≡ nodes_of f + nodes_of g

@@ -1,11 +1,3 @@
-pub mod Choice
-pub mod Cut
-pub mod DocumentHoles
-pub mod Documents
-pub mod Memory
-pub mod MemoryLaws
 pub mod Open
 pub mod Plain
-pub mod Span
-pub mod Nodes
 pub mod View

@@ -13,6 +13,3 @@ pub use catalog::Catalog;
 pub use fault::CatalogFault;
 pub use reading::read_catalog;
 pub use source::{SourceKind, SourceSpec};
-
-#[cfg(test)]
-mod tests;

@@ -7,8 +7,6 @@ mod mem_sink;
 mod os_files;
 mod sink;
 mod std_sink;
-#[cfg(test)]
-mod tests;
 mod whole;
 
 pub use files::{Files, ReadAtFault};

@@ -6,6 +6,3 @@ mod line;
 
 pub use fault::LinesFault;
 pub use line::write_line;
-
-#[cfg(test)]
-mod tests;

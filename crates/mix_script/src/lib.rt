@@ -10,6 +10,3 @@ pub use answer::{Answer, write_answer};
 pub use names::Names;
 pub use script::{ScriptFault, read_script};
 pub use step::{Act, Step};
-
-#[cfg(test)]
-mod tests;

@@ -11,7 +11,7 @@ use Rattle.mix_base.proofs.Slices.{slice_then, slice_length, drop_end}
 use Rattle.mix_tree.specs.Spelling.{is_bare}
 use Rattle.mix_tree.specs.LabelGrammar.{is_plain, is_escape, escaped_byte}
 use Rattle.mix_tree.specs.LabelMachine.{Spot, start, in_bare, in_quotes, in_escape, behind_quote, step, got, unexpected, ends, or_stop, seen_from}
-use Rattle.mix_tree.specs.LabelReads.{escape_of}
+use Rattle.mix_tree.specs.LabelPieces.{escape_of}
 use Rattle.mix_tree.proofs.LabelComplete.{plain_step}
 
 -- a byte that goes on
@@ -165,7 +165,7 @@ no_bare x end h inside = by_rest (drop end x) refl
         subst (λ c. is_bare c ≡ false) same (h more)
 
 -- a bare character is passed
-passed : (x : List ℕ) (from end : ℕ) → from ≤ end → IsTrue (is_bare (slice_index x from)) → from < length x → (end < length x → is_bare (slice_index x end) ≡ false) → from < end
+pub passed : (x : List ℕ) (from end : ℕ) → from ≤ end → IsTrue (is_bare (slice_index x from)) → from < length x → (end < length x → is_bare (slice_index x end) ≡ false) → from < end
 passed x from end order bare inside h = by_cases (same_or_less from end order)
   where
     same_or_less : (i j : ℕ) → i ≤ j → (i < j) ⊎ (i ≡ j)

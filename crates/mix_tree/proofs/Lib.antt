@@ -1,3 +1,4 @@
+pub mod Compared
 pub mod Forests
 pub mod Kids
 pub mod LabelAnswers

@@ -1,12 +1,10 @@
 -- What reading a label at a place of a text answers.
-use Rattle.std.specs.Prelude.{◌≡◌, ℕ, ◌-◌, ◌≤◌, ◌<◌, cond, Option, Some, None, List, length, take, drop, slice_range}
+use Rattle.std.specs.Prelude.{ℕ, ◌-◌, ◌≤◌, ◌<◌, List, length, take, drop, slice_range}
 use Rattle.std.specs.Str.{IsUtf8, IsCharBoundary}
 use Rattle.mix_base.specs.Reading.{IsFront, IsUnexpected}
-use Rattle.mix_tree.specs.LabelGrammar.{is_escape, escaped_byte, SpellsLabel}
-use Rattle.mix_tree.specs.LabelMachine.{in_quotes, seen_from, Seen, got, unexpected, ends}
+use Rattle.mix_tree.specs.LabelGrammar.{SpellsLabel}
+use Rattle.mix_tree.specs.LabelMachine.{Seen, got, unexpected, ends}
 use Rattle.mix_tree.specs.declared.label_read.LabelRead.{LabelRead}
-use Rattle.mix_tree.specs.declared.label_reader.Taken.{Taken}
-use Rattle.mix_tree.specs.declared.label_reader.Taken.TheVariants.{Part, All}
 use Rattle.mix_tree.specs.declared.label_read.LabelRead.TheVariants.{Got, Unexpected, Ends}
 
 -- no front of the text that is a text itself spells a label
@@ -44,13 +42,3 @@ abbrev pub seen_of : List ℕ → LabelRead → Seen
 seen_of x (Got label end) = got label end (drop end x)
 seen_of x (Unexpected at) = unexpected at
 seen_of x Ends = ends
-
--- the byte that is meant by one behind a backslash, where that is an escape
-abbrev pub escape_of : ℕ → Option ℕ
-escape_of b = cond (is_escape b) (Some (escaped_byte b)) None
-
--- what is taken between quotes leaves what is seen in the end
-abbrev pub Takes : List ℕ → ℕ → List ℕ → List ℕ → Taken → Type 0
-Takes x at old new (Part next) =
-    (at < next) × (next ≤ length x) × IsCharBoundary x next × IsUtf8 new × (seen_from (in_quotes old) at (drop at x) ≡ seen_from (in_quotes new) next (drop next x))
-Takes x at old new (All read) = seen_from (in_quotes old) at (drop at x) ≡ seen_of x read

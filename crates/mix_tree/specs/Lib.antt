@@ -5,6 +5,7 @@ pub mod Keys
 pub mod LabelGrammar
 pub mod LabelMachine
 pub mod LabelOrder
+pub mod LabelPieces
 pub mod LabelReads
 pub mod LabelText
 pub mod Names

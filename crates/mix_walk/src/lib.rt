@@ -6,6 +6,3 @@ mod lines;
 
 pub use lines::walk_lines;
 pub use mix_lines::LinesFault;
-
-#[cfg(test)]
-mod tests;

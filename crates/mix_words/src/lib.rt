@@ -2,6 +2,4 @@
 #![tactic(auto)]
 
 pub mod lines;
-#[cfg(test)]
-mod tests;
 pub mod words;

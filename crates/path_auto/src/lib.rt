@@ -7,6 +7,3 @@ mod sets;
 
 pub use auto::Auto;
 pub use law::{bindings_are_matches, visits_are_matches};
-
-#[cfg(test)]
-mod tests;

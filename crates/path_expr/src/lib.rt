@@ -20,6 +20,3 @@ pub use positions::count_positions;
 pub use reading::read_path;
 pub use scan::{Scan, is_escaped, is_name, may_end_scan, scan_byte};
 pub use writing::{push_path, write_path};
-
-#[cfg(test)]
-mod tests;

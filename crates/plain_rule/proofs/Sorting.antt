@@ -3,10 +3,10 @@ use Rattle.std.proofs.Common.{◌≡◌, ◌∙◌, ◌<◌, ◌+◌, ℕ, Bool,
 use Rattle.mix_tree.specs.Nodes.{Documents}
 use Rattle.xmas_rule.specs.Bindings.{Binding, label_of, sorts_before}
 use Rattle.xmas_rule.specs.declared.condition.OrderBy.{OrderBy}
-use Rattle.rule_laws.specs.Tuples.{in_order_of}
+use Rattle.xmas_rule.specs.Tuples.{in_order_of}
 use Rattle.std.proofs.Math.Seq.{take-length}
 use Rattle.std.proofs.lemmas.List.{take_more}
-use Rattle.rule_laws.specs.Sorted.{insert_by, sorted_by}
+use Rattle.xmas_rule.specs.Sorted.{insert_by, sorted_by}
 
 -- each of the first list is put into the second, the last first
 abbrev pub put_all : {X : Type 0} → (X → X → Bool) → List X → List X → List X

@@ -1,5 +1,5 @@
 -- Tuples that are extended condition by condition, and what they are in the end: the bindings of a body.
-use Rattle.std.proofs.Common.{◌≡◌, ◌∙◌, ◌<◌, ◌≤◌, ◌+◌, ℕ, zero, suc, List, [], ◌∷◌, ◌++◌, length, map, drop, get_or, refl, sym, ap, subst, add-one, drop-cons, append_assoc, arith}
+use Rattle.std.proofs.Common.{◌≡◌, ◌∙◌, ◌<◌, ◌≤◌, ◌+◌, ℕ, zero, suc, Bool, true, false, cond, List, [], ◌∷◌, ◌++◌, length, map, drop, get_or, refl, sym, ap, subst, add-one, drop-cons, append_assoc, arith}
 use Rattle.std.specs.List.{filter}
 use Rattle.mix_base.proofs.Firsts.{map-map}
 use Rattle.mix_base.proofs.Lists.{append_nil}
@@ -14,10 +14,10 @@ use Rattle.xmas_rule.specs.Rules.{RuleValue, IsAccepted}
 use Rattle.xmas_rule.specs.declared.condition.Cond.{Cond}
 use Rattle.xmas_rule.specs.declared.condition.Cond.TheVariants as cond
 use Rattle.mix_tree.specs.declared.comparing.Test.{Test}
-use Rattle.rule_laws.specs.Law.{TuplesAreBindings}
-use Rattle.rule_laws.proofs.ReachLaws.{reached-more, reaches-begun}
-use Rattle.rule_laws.specs.Reached.{reached, reaches, begun}
-use Rattle.rule_laws.specs.Tuples.{MatchLists, AreMatchLists, longer, extend, tuples, next_nodes, passing, in_order_of}
+use Rattle.xmas_rule.specs.Law.{TuplesAreBindings}
+use Rattle.xmas_rule.proofs.ReachLaws.{reached-more, reaches-begun}
+use Rattle.xmas_rule.specs.Reached.{reached, reaches, begun}
+use Rattle.xmas_rule.specs.Tuples.{MatchLists, AreMatchLists, longer, extend, tuples, next_nodes, passing, in_order_of}
 use Rattle.plain_rule.specs.Documents.{documents_of}
 use Rattle.plain_rule.specs.Found.{found_in}
 use Rattle.plain_rule.proofs.Deciding.{test_of, tests}
@@ -33,6 +33,18 @@ drop_past [] zero h = refl
 drop_past [] (suc i) h = refl
 drop_past (x ∷ xs) zero h = absurd (omega arith)
 drop_past (x ∷ xs) (suc i) h = drop_past xs i (omega arith)
+
+-- one member more that a test keeps
+pub kept_next : {X : Type 0} (p : X → Bool) (xs : List X) (i : ℕ) (x : X) (some more : List X) → i < length xs → x ≡ get_or xs i x → more ≡ some ++ cond (p x) (x ∷ []) []
+    → more ++ filter p (drop (i + 1) xs) ≡ some ++ filter p (drop i xs)
+kept_next {X} p xs i x some more h e m =
+    ap (λ (z : List X). z ++ filter p (drop (i + 1) xs)) m
+    ∙ append_assoc some (cond (p x) (x ∷ []) []) (filter p (drop (i + 1) xs))
+    ∙ ap (λ (z : List X). some ++ z) (one (p x) (filter p (drop (i + 1) xs)) ∙ ap (filter p) (sym (drop_next xs i x h e)))
+  where
+    one : (b : Bool) (ys : List X) → cond b (x ∷ []) [] ++ ys ≡ cond b (x ∷ ys) ys
+    one true ys = refl
+    one false ys = refl
 
 -- one image more
 pub map_next : {X Y : Type 0} (f : X → Y) (xs : List X) (i : ℕ) (x : X) (some more : List Y) → i < length xs → x ≡ get_or xs i x → more ≡ some ++ f x ∷ []

@@ -12,9 +12,8 @@ use crate::ordering::in_order;
 use crate::selecting::select;
 use crate::tuples::body_tuples;
 use mix_tree::Tree;
-use rule_laws::tuples_are_bindings;
 use std::alloc::{AllocError, Global};
-use xmas_rule::Rule;
+use xmas_rule::{Rule, tuples_are_bindings};
 
 /// The bindings of the body of an accepted rule, in its order. Source number n of the rule is tree n of `docs`; a source without a
 /// tree has an empty document.

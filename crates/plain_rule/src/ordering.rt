@@ -1,8 +1,8 @@
 // The order of a body's bindings.
 ghost use Rattle.std.specs.Prelude.{◌≡◌, ◌≤◌, ◌++◌, ◌∷◌, IfOk, OnOk, length, take, drop};
 ghost use Rattle.xmas_rule.specs.Bindings.{label_of, sorts_before};
-ghost use Rattle.rule_laws.specs.Sorted.{insert_by, sorted_by};
-ghost use Rattle.rule_laws.specs.Tuples.{in_order_of};
+ghost use Rattle.xmas_rule.specs.Sorted.{insert_by, sorted_by};
+ghost use Rattle.xmas_rule.specs.Tuples.{in_order_of};
 ghost use Rattle.plain_rule.specs.Documents.{documents_of};
 
 use crate::binding::{Binding, copy_binding};

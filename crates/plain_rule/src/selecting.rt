@@ -1,11 +1,11 @@
 // The comparisons of a body.
-ghost use Rattle.std.specs.Prelude.{◌≡◌, ◌++◌, ◌∷◌, [], cond, IfOk, OnOk};
+ghost use Rattle.std.specs.Prelude.{◌≡◌, ◌++◌, ◌∷◌, [], ℕ, false, cond, IfOk, OnOk};
 ghost use Rattle.std.specs.List.{filter};
-ghost use Rattle.mix_tree.specs.Comparisons.{operand_label, passes as passes_test};
+ghost use Rattle.mix_tree.specs.Comparisons.{compares_nodes, operand_label, passes as passes_test};
 ghost use Rattle.mix_tree.specs.Nodes.{label_at};
 ghost use Rattle.xmas_rule.specs.Bindings.{node_of};
-ghost use Rattle.xmas_rule.specs.Conditions.{comparisons};
-ghost use Rattle.rule_laws.specs.Tuples.{passing};
+ghost use Rattle.xmas_rule.specs.Conditions.{comparisons, AreCompared};
+ghost use Rattle.xmas_rule.specs.Tuples.{passing};
 ghost use Rattle.plain_rule.specs.Documents.{documents_of};
 
 use crate::binding::{Binding, copy_binding, node_in};
@@ -42,8 +42,9 @@ fn right_label(
     }
 }
 
-// Whether a comparison holds of a binding.
+// Whether a comparison holds of a binding. A rule compares labels alone.
 fn passes(alloc: Global, docs: &[Tree], test: &Test, binding: &Binding) -> Result<bool, AllocError>
+    requires { compares_nodes test.now.op ≡ false }
     ensures { IfOk result (λ holds. holds ≡ passes_test (documents_of docs.now) test.now (node_of binding.now)) }
 {
     let left = label_in(alloc, docs, binding, test.left)?;
@@ -59,6 +60,7 @@ fn keep_if_passing(
     binding: &Binding,
     kept: &mut Vec<Binding>,
 ) -> Result<(), AllocError>
+    requires { compares_nodes test.now.op ≡ false }
     ensures { OnOk result (kept.new.items ≡ kept.old.items ++ cond (passes_test (documents_of docs.now) test.now (node_of binding.now)) (binding.now ∷ []) []) }
 {
     if passes(alloc, docs, test, binding)? {
@@ -74,6 +76,7 @@ fn keep_passing(
     test: &Test,
     bindings: &[Binding],
 ) -> Result<Vec<Binding>, AllocError>
+    requires { compares_nodes test.now.op ≡ false }
     ensures { IfOk result (λ kept. kept.items ≡ filter (λ b. passes_test (documents_of docs.now) test.now (node_of b)) bindings.now) }
 {
     let mut kept = Vec::new(alloc);
@@ -90,6 +93,7 @@ fn keep_by(
     cond: &Cond,
     bindings: Vec<Binding>,
 ) -> Result<Vec<Binding>, AllocError>
+    requires { (variables : ℕ) × AreCompared variables (comparisons (cond.now ∷ [])) }
     ensures { IfOk result (λ kept. kept.items ≡ passing (documents_of docs.now) (comparisons (cond.now ∷ [])) bindings.items) }
 {
     match cond {
@@ -106,6 +110,7 @@ pub fn select(
     conds: &[Cond],
     bindings: Vec<Binding>,
 ) -> Result<Vec<Binding>, AllocError>
+    requires { (variables : ℕ) × AreCompared variables (comparisons conds.now) }
     ensures { IfOk result (λ kept. kept.items ≡ passing (documents_of docs.now) (comparisons conds.now) bindings.items) }
 {
     let mut kept = bindings;

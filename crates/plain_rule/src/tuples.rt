@@ -1,8 +1,8 @@
 // The tuples of which the binding conditions of a body hold.
 ghost use Rattle.std.specs.Prelude.{◌≡◌, ◌++◌, ◌∷◌, [], IfOk, OnOk, map};
 ghost use Rattle.xmas_rule.specs.Conditions.{binders, binder_vars, flat, from_source, from_var, has};
-ghost use Rattle.rule_laws.specs.Reached.{reached, reaches, begun};
-ghost use Rattle.rule_laws.specs.Tuples.{MatchLists, AreMatchLists, extend, tuples};
+ghost use Rattle.xmas_rule.specs.Reached.{reached, reaches, begun};
+ghost use Rattle.xmas_rule.specs.Tuples.{MatchLists, AreMatchLists, extend, tuples};
 ghost use Rattle.plain_rule.specs.Documents.{documents_of};
 
 use crate::binding::{Binding, node_in, with_node};

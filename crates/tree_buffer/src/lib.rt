@@ -13,6 +13,3 @@ pub use buffer::Buffer;
 pub use fault::BufferFault;
 pub use law::{buffers_are_kept, no_call_runs, spots_are_one, two_calls_run};
 pub use spot::Spot;
-
-#[cfg(test)]
-mod tests;

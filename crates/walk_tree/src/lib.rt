@@ -126,6 +126,3 @@ pub fn walk_two<S: Sources>(
     walk(alloc, s, &mut right, &top, &mut others)?;
     Ok((labels, others))
 }
-
-#[cfg(test)]
-mod tests;

@@ -1,2 +1,9 @@
+pub mod Bindings
+pub mod Components
 pub mod Kept
+pub mod KeyLaws
+pub mod Members
+pub mod ReachLaws
+pub mod SortLaws
+pub mod TupleLaws
 pub mod Unique

@@ -2,8 +2,12 @@ pub mod Bindings
 pub mod Codes
 pub mod Conditions
 pub mod Items
+pub mod Law
 pub mod Made
 pub mod Meaning
+pub mod Reached
 pub mod RuleMade
 pub mod Rules
+pub mod Sorted
+pub mod Tuples
 pub mod Weight

@@ -7,6 +7,6 @@ mod rule;
 mod template;
 
 pub use condition::{Cond, OrderBy};
-pub use law::one_finished_document;
+pub use law::{one_finished_document, tuples_are_bindings};
 pub use rule::Rule;
 pub use template::{Item, Template};

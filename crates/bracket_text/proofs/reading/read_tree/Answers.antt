@@ -1,12 +1,8 @@
-use Rattle.std.proofs.Common.{rules}
-use Rattle.std.specs.Str.{IsUtf8}
-use Rattle.bracket_text.proofs.Verdicts.{answers, only_tree}
+use Rattle.std.proofs.Common.{sym, subst}
+use Rattle.bracket_text.specs.Grammar.{SpellsShallow}
 use Rattle.bracket_text.proofs.reading.read_tree.Goals as goal
 
-pub returns-in-Ok-clause-answers : goal.returns-in-Ok-clause-answers
-returns-in-Ok-clause-answers c = let u : IsUtf8 c.args.text.now = search rules in answers c.args.text.now c.read.result u c.read.ensures
-
-pub returns-in-Ok-clause-only : goal.returns-in-Ok-clause-only
-returns-in-Ok-clause-only c =
-    let u : IsUtf8 c.args.text.now = search rules in
-    λ t v s. only_tree c.args.text.now c.read.result t (answers c.args.text.now c.read.result u c.read.ensures) v s
+pub returns-clause-answers : goal.returns-clause-answers
+returns-clause-answers c =
+    let found = c.in_ok-document.ensures.answers in
+    (found.2, subst (SpellsShallow c.args.text.now) (sym (c.in_ok-tree.ensures found.0 found.1)) found.3)

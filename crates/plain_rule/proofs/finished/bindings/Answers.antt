@@ -4,8 +4,8 @@ use Rattle.mix_tree.specs.Nodes.{Documents}
 use Rattle.xmas_rule.specs.Bindings.{AreBindings}
 use Rattle.xmas_rule.specs.Conditions.{binders, comparisons, flat}
 use Rattle.xmas_rule.specs.RuleMade.{rule_of}
-use Rattle.rule_laws.specs.Reached.{reaches}
-use Rattle.rule_laws.specs.Tuples.{passing, in_order_of, tuples}
+use Rattle.xmas_rule.specs.Reached.{reaches}
+use Rattle.xmas_rule.specs.Tuples.{passing, in_order_of, tuples}
 use Rattle.plain_rule.specs.Documents.{documents_of}
 use Rattle.plain_rule.proofs.Tupling.{body_bindings}
 use Rattle.plain_rule.proofs.finished.bindings.Goals as goal

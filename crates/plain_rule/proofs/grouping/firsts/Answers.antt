@@ -1,6 +1,6 @@
 use Rattle.std.proofs.Common.{◌∙◌, sym}
 use Rattle.mix_base.proofs.Seen.{distinct_all}
-use Rattle.rule_laws.proofs.KeyLaws.{sameness}
+use Rattle.xmas_rule.proofs.KeyLaws.{sameness}
 use Rattle.xmas_rule.specs.Meaning.{same}
 use Rattle.plain_rule.specs.Documents.{documents_of}
 use Rattle.plain_rule.proofs.Distinct.{distinct_next, distinct_end}

@@ -1,8 +1,8 @@
 use Rattle.std.proofs.Common.{◌≡◌, ◌∙◌, refl}
 use Rattle.std.proofs.lemmas.Result.{IfOk-weaker}
 use Rattle.xmas_rule.specs.Bindings.{label_of, sorts_before}
-use Rattle.rule_laws.specs.Sorted.{sorted_by}
-use Rattle.rule_laws.specs.Tuples.{in_order_of}
+use Rattle.xmas_rule.specs.Sorted.{sorted_by}
+use Rattle.xmas_rule.specs.Tuples.{in_order_of}
 use Rattle.plain_rule.specs.Documents.{documents_of}
 use Rattle.plain_rule.proofs.Sorting.{ordered_some, ordered_none}
 use Rattle.plain_rule.proofs.ordering.in_order.Goals as goal

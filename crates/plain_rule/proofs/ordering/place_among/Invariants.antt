@@ -1,6 +1,6 @@
 use Rattle.std.proofs.Common.{◌≡◌, ◌++◌, take, drop}
 use Rattle.xmas_rule.specs.Bindings.{label_of, sorts_before}
-use Rattle.rule_laws.specs.Sorted.{insert_by}
+use Rattle.xmas_rule.specs.Sorted.{insert_by}
 use Rattle.plain_rule.specs.Documents.{documents_of}
 use Rattle.plain_rule.proofs.ordering.place_among.Given as goal
 

@@ -1,6 +1,6 @@
 use Rattle.std.proofs.Common.{◌≡◌, ◌≤◌, length, take}
 use Rattle.xmas_rule.specs.Bindings.{label_of, sorts_before}
-use Rattle.rule_laws.specs.Sorted.{sorted_by}
+use Rattle.xmas_rule.specs.Sorted.{sorted_by}
 use Rattle.plain_rule.specs.Documents.{documents_of}
 use Rattle.plain_rule.proofs.Sorting.{put_all}
 use Rattle.plain_rule.proofs.ordering.sort_by_label.Given as goal

@@ -1,13 +1,17 @@
-use Rattle.std.proofs.Common.{◌≡◌, ◌∷◌, ◌∙◌, [], ap, sym}
+use Rattle.std.proofs.Common.{◌≡◌, ◌∷◌, ◌∙◌, [], ap, sym, subst}
 use Rattle.std.proofs.lemmas.Result.{IfOk-weaker}
 use Rattle.std.specs.List.{filter}
 use Rattle.mix_tree.specs.Comparisons.{passes}
 use Rattle.xmas_rule.specs.Bindings.{node_of}
-use Rattle.xmas_rule.specs.Conditions.{comparisons}
-use Rattle.rule_laws.specs.Tuples.{passing}
+use Rattle.xmas_rule.specs.Conditions.{comparisons, AreCompared}
+use Rattle.xmas_rule.specs.declared.condition.Cond.{Cond}
+use Rattle.xmas_rule.specs.Tuples.{passing}
 use Rattle.plain_rule.specs.Documents.{documents_of}
 use Rattle.plain_rule.proofs.Tupling.{passing_one, passing_none}
 use Rattle.plain_rule.proofs.selecting.keep_by.Goals as goal
+
+pub keep_passing-requires : goal.keep_passing-requires
+keep_passing-requires c = (subst (λ (x : Cond). AreCompared c.requires.0 (comparisons (x ∷ []))) c.in-Compare.is c.requires.1).0.2
 
 pub returns-in-Compare : goal.returns-in-Compare
 returns-in-Compare c =

@@ -1,7 +1,11 @@
 use Rattle.std.proofs.Common.{◌∙◌, sym}
 use Rattle.plain_rule.specs.Documents.{documents_of}
 use Rattle.plain_rule.proofs.Tupling.{passing_next, passing_end}
+use Rattle.plain_rule.proofs.Compared.{compared_at}
 use Rattle.plain_rule.proofs.selecting.select.Goals as goal
+
+pub keep_by-requires : goal.keep_by-requires
+keep_by-requires c = (c.requires.0, compared_at c.requires.0 c.args.conds.now c.loop-cond.cond-index c.cond-item.result c.loop-cond-test.true c.cond-item.is c.requires.1)
 
 pub loop-cond-preserved : goal.loop-cond-preserved
 loop-cond-preserved c =

@@ -1,6 +1,6 @@
 use Rattle.std.proofs.Common.{◌≡◌, drop}
 use Rattle.xmas_rule.specs.Conditions.{comparisons}
-use Rattle.rule_laws.specs.Tuples.{passing}
+use Rattle.xmas_rule.specs.Tuples.{passing}
 use Rattle.plain_rule.specs.Documents.{documents_of}
 use Rattle.plain_rule.proofs.selecting.select.Given as goal
 

@@ -1,7 +1,7 @@
 use Rattle.std.proofs.Common.{◌∙◌, ap, sym}
 use Rattle.xmas_rule.specs.Conditions.{binders, flat}
-use Rattle.rule_laws.specs.Reached.{reaches}
-use Rattle.rule_laws.specs.Tuples.{tuples}
+use Rattle.xmas_rule.specs.Reached.{reaches}
+use Rattle.xmas_rule.specs.Tuples.{tuples}
 use Rattle.plain_rule.proofs.Tupling.{body_next, body_end}
 use Rattle.plain_rule.proofs.tuples.body_tuples.Goals as goal
 

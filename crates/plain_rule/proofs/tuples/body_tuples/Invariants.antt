@@ -1,7 +1,7 @@
 use Rattle.std.proofs.Common.{◌≡◌, ◌∷◌, [], length}
 use Rattle.xmas_rule.specs.Conditions.{binders, flat}
-use Rattle.rule_laws.specs.Reached.{reaches}
-use Rattle.rule_laws.specs.Tuples.{MatchLists, AreMatchLists, tuples}
+use Rattle.xmas_rule.specs.Reached.{reaches}
+use Rattle.xmas_rule.specs.Tuples.{MatchLists, AreMatchLists, tuples}
 use Rattle.plain_rule.specs.Documents.{documents_of}
 use Rattle.plain_rule.proofs.tuples.body_tuples.Given as goal
 

@@ -1,8 +1,8 @@
 use Rattle.std.proofs.Common.{◌≡◌, ◌∷◌, ◌∙◌, [], ap, sym}
 use Rattle.std.proofs.lemmas.Result.{IfOk-weaker}
 use Rattle.xmas_rule.specs.Conditions.{binders, flat}
-use Rattle.rule_laws.specs.Reached.{reached, begun}
-use Rattle.rule_laws.specs.Tuples.{MatchLists, AreMatchLists, tuples}
+use Rattle.xmas_rule.specs.Reached.{reached, begun}
+use Rattle.xmas_rule.specs.Tuples.{MatchLists, AreMatchLists, tuples}
 use Rattle.plain_rule.specs.Documents.{documents_of}
 use Rattle.plain_rule.proofs.Tupling.{begun_source, tuples_none}
 use Rattle.plain_rule.proofs.tuples.extend_begun.Goals as goal

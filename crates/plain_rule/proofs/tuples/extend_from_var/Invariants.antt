@@ -1,6 +1,6 @@
 use Rattle.std.proofs.Common.{◌≡◌, ◌++◌, drop}
 use Rattle.xmas_rule.specs.Conditions.{from_var}
-use Rattle.rule_laws.specs.Tuples.{MatchLists, AreMatchLists, extend}
+use Rattle.xmas_rule.specs.Tuples.{MatchLists, AreMatchLists, extend}
 use Rattle.plain_rule.specs.Documents.{documents_of}
 use Rattle.plain_rule.proofs.tuples.extend_from_var.Given as goal
 

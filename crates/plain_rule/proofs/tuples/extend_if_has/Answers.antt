@@ -1,7 +1,7 @@
 use Rattle.std.proofs.Common.{◌≡◌, ◌∷◌, ◌∙◌, [], false, true, cond, ap, sym}
 use Rattle.std.proofs.lemmas.Result.{IfOk-weaker}
 use Rattle.xmas_rule.specs.Conditions.{from_var, has}
-use Rattle.rule_laws.specs.Tuples.{MatchLists, AreMatchLists, extend, tuples}
+use Rattle.xmas_rule.specs.Tuples.{MatchLists, AreMatchLists, extend, tuples}
 use Rattle.plain_rule.specs.Documents.{documents_of}
 use Rattle.plain_rule.proofs.Tupling.{tuples_none, tuples_one}
 use Rattle.plain_rule.proofs.tuples.extend_if_has.Goals as goal

@@ -1,7 +1,7 @@
 use Rattle.std.proofs.Common.{◌∷◌, ◌∙◌, [], ap, sym}
 use Rattle.xmas_rule.specs.Conditions.{binders}
-use Rattle.rule_laws.specs.Reached.{reached}
-use Rattle.rule_laws.specs.Tuples.{tuples}
+use Rattle.xmas_rule.specs.Reached.{reached}
+use Rattle.xmas_rule.specs.Tuples.{tuples}
 use Rattle.plain_rule.proofs.Tupling.{tuples_none}
 use Rattle.plain_rule.proofs.tuples.extend_if_reached.Goals as goal
 

@@ -1,7 +1,7 @@
 use Rattle.std.proofs.Common.{◌≡◌, ◌∷◌, [], drop}
 use Rattle.xmas_rule.specs.Conditions.{binders}
-use Rattle.rule_laws.specs.Reached.{reached}
-use Rattle.rule_laws.specs.Tuples.{MatchLists, AreMatchLists, tuples}
+use Rattle.xmas_rule.specs.Reached.{reached}
+use Rattle.xmas_rule.specs.Tuples.{MatchLists, AreMatchLists, tuples}
 use Rattle.plain_rule.specs.Documents.{documents_of}
 use Rattle.plain_rule.proofs.tuples.extend_reached.Given as goal
 

@@ -1,66 +1,63 @@
-use Rattle.std.proofs.Common.{◌<◌, ◌∙◌, length, slice_index, refl, subst, ap, arith, map}
-use Rattle.std.proofs.lemmas.List.{length-map, length-reverse}
+use Rattle.std.proofs.Common.{◌<◌, ◌≤◌, ◌∙◌, length, slice_index, refl, arith}
 use Rattle.std.proofs.lemmas.Result.{err_from_is_err_and}
 use Rattle.std.proofs.lemmas.Str.{IsCharBoundary-after_ascii}
-use Rattle.mix_tree.specs.LabelReads.{IsLongest, ReadsLabel, seen_of}
 use Rattle.bracket_text.specs.Machine.{at, named}
-use Rattle.bracket_text.specs.ReaderState.{frame_of, open_of, mode_of, state_of}
-use Rattle.bracket_text.proofs.Taken.{may, label_at, step_goes, fault_stops, ascii_behind}
+use Rattle.bracket_text.proofs.Taken.{label_at, step_goes, fault_stops, ascii_behind}
+use Rattle.bracket_text.proofs.Held.{may, few_open, deep_at, seen_fault, label_lies}
 use Rattle.bracket_text.proofs.reader.Reader.take_label.Goals as goal
 
-pub returns-in-Unexpected : goal.returns-in-Unexpected
-returns-in-Unexpected c =
-    let items = c.args.self.now.«open».items in
-    let few : length (open_of items) < 200 = omega (arith, length-reverse (map frame_of items), length-map items frame_of, c.args.self.now.«open».ok.0) in
-    let seen = c.in_ok-label.ensures.seen c.requires.boundary ∙ ap (seen_of c.args.text.now) c.in-Unexpected.is in
-    label_at (open_of items) (mode_of c.args.self.now.mode) c.args.text.now c.args.at _ (may _ c.requires.mode) few c.requires.inside c.requires.label seen
+pub returns-then-len-ge-LEVELS : goal.returns-then-len-ge-LEVELS
+returns-then-len-ge-LEVELS c = λ o m h.
+    let many : 200 ≤ length o = omega (arith, few_open c.args.self.now o m h, c.args.self.now.«open».ok.0, c.len.ensures, c.if-len-ge-LEVELS.true) in
+    deep_at o m c.args.text.now c.args.at (may c.args.self.now o m h c.requires.mode) many c.requires.inside c.requires.label
 
-pub returns-in-Ends : goal.returns-in-Ends
-returns-in-Ends c =
-    let items = c.args.self.now.«open».items in
-    let few : length (open_of items) < 200 = omega (arith, length-reverse (map frame_of items), length-map items frame_of, c.args.self.now.«open».ok.0) in
-    let seen = c.in_ok-label.ensures.seen c.requires.boundary ∙ ap (seen_of c.args.text.now) c.in-Ends.is in
-    label_at (open_of items) (mode_of c.args.self.now.mode) c.args.text.now c.args.at _ (may _ c.requires.mode) few c.requires.inside c.requires.label seen
+pub returns-in_err-end : goal.returns-in_err-end
+returns-in_err-end c = λ o m h.
+    let few : length o < 200 = omega (arith, few_open c.args.self.now o m h, c.args.self.now.«open».ok.0, c.len.ensures, c.if-len-ge-LEVELS.false) in
+    let p = err_from_is_err_and c.from_residual.result c.from_residual.ensures.1 in
+    rw (p.1, p.2) (seen_fault o m c.args.text.now c.args.at _ (may c.args.self.now o m h c.requires.mode) few c.requires.inside c.requires.label c.in_err-end.ensures)
 
 pub returns-then-end-text : goal.returns-then-end-text
-returns-then-end-text c =
-    let text = c.args.text.now in
-    let items = c.args.self.now.«open».items in
-    let few : length (open_of items) < 200 = omega (arith, length-reverse (map frame_of items), length-map items frame_of, c.args.self.now.«open».ok.0) in
-    let found : IsLongest text c.args.at c.in-Got.label c.in-Got.end = subst (ReadsLabel text c.args.at) c.in-Got.is c.in_ok-label.ensures.reads in
-    let seen = c.in_ok-label.ensures.seen c.requires.boundary ∙ ap (seen_of text) c.in-Got.is in (
-      found.order,
-      found.inside,
-      found.boundary,
-      label_at (open_of items) (mode_of c.args.self.now.mode) text c.args.at _ (may _ c.requires.mode) few c.requires.inside c.requires.label seen,
-    )
+returns-then-end-text c = λ o m h.
+    let few : length o < 200 = omega (arith, few_open c.args.self.now o m h, c.args.self.now.«open».ok.0, c.len.ensures, c.if-len-ge-LEVELS.false) in
+    let put = c.in_ok-end.ensures in
+    let begun = may c.args.self.now o m h c.requires.mode in
+    record {
+      state = at o (named put.label);
+      order = put.next;
+      inside = put.inside;
+      boundary = put.boundary;
+      same = label_at o m c.args.text.now c.args.at _ begun few c.requires.inside c.requires.label put.seen_is;
+      holds = record { lies = label_lies c.args.self.now o m _ put.label h begun put.nodes; same = refl };
+    }
 
 pub returns-in_err-close_label : goal.returns-in_err-close_label
-returns-in_err-close_label c =
+returns-in_err-close_label c = λ o m h.
+    let few : length o < 200 = omega (arith, few_open c.args.self.now o m h, c.args.self.now.«open».ok.0, c.len.ensures, c.if-len-ge-LEVELS.false) in
     let text = c.args.text.now in
-    let items = c.args.self.now.«open».items in
-    let few : length (open_of items) < 200 = omega (arith, length-reverse (map frame_of items), length-map items frame_of, c.args.self.now.«open».ok.0) in
-    let found : IsLongest text c.args.at c.in-Got.label c.in-Got.end = subst (ReadsLabel text c.args.at) c.in-Got.is c.in_ok-label.ensures.reads in
-    let seen = c.in_ok-label.ensures.seen c.requires.boundary ∙ ap (seen_of text) c.in-Got.is in
-    let taken = label_at (open_of items) (mode_of c.args.self.now.mode) text c.args.at _ (may _ c.requires.mode) few c.requires.inside c.requires.label seen in
-    let inside : c.in-Got.end < length text = omega (arith, found.inside, c.if-end-text.false) in
+    let put = c.in_ok-end.ensures in
+    let begun = may c.args.self.now o m h c.requires.mode in
+    let taken = label_at o m text c.args.at _ begun few c.requires.inside c.requires.label put.seen_is in
+    let inside : c.in_ok-end.end < length text = omega (arith, put.inside, c.if-end-text.false) in
     let p = err_from_is_err_and c.from_residual-in_err-close_label.result c.from_residual-in_err-close_label.ensures.1 in
-    rw (p.1, p.2) (fault_stops (at (open_of items) (named c.in-Got.label)) text c.in-Got.end _ _ taken inside refl c.in_err-close_label.ensures)
+    rw (p.1, p.2) (fault_stops (at o (named put.label)) text c.in_ok-end.end _ _ taken inside refl (c.in_err-close_label.ensures o put.label (label_lies c.args.self.now o m _ put.label h begun put.nodes)))
 
 pub returns : goal.returns
-returns c =
+returns c = λ o m h.
+    let few : length o < 200 = omega (arith, few_open c.args.self.now o m h, c.args.self.now.«open».ok.0, c.len.ensures, c.if-len-ge-LEVELS.false) in
     let text = c.args.text.now in
-    let end = c.in-Got.end in
-    let items = c.args.self.now.«open».items in
-    let o = open_of items in
-    let few : length o < 200 = omega (arith, length-reverse (map frame_of items), length-map items frame_of, c.args.self.now.«open».ok.0) in
-    let found : IsLongest text c.args.at c.in-Got.label end = subst (ReadsLabel text c.args.at) c.in-Got.is c.in_ok-label.ensures.reads in
-    let seen = c.in_ok-label.ensures.seen c.requires.boundary ∙ ap (seen_of text) c.in-Got.is in
-    let taken = label_at o (mode_of c.args.self.now.mode) text c.args.at _ (may _ c.requires.mode) few c.requires.inside c.requires.label seen in
-    let inside : end < length text = omega (arith, found.inside, c.if-end-text.false) in
-    let low : slice_index text end < 128 = ascii_behind o c.in-Got.label (slice_index text end) _ c.in_ok-close_label.ensures in (
-      omega (arith, found.order),
-      omega (arith, inside),
-      IsCharBoundary-after_ascii text end c.requires.utf8 inside low,
-      taken ∙ step_goes (at o (named c.in-Got.label)) (state_of c.close_label.new.self) text end inside refl c.in_ok-close_label.ensures,
-    )
+    let put = c.in_ok-end.ensures in
+    let end = c.in_ok-end.end in
+    let begun = may c.args.self.now o m h c.requires.mode in
+    let taken = label_at o m text c.args.at _ begun few c.requires.inside c.requires.label put.seen_is in
+    let inside : c.in_ok-end.end < length text = omega (arith, put.inside, c.if-end-text.false) in
+    let given = c.in_ok-close_label.ensures o put.label (label_lies c.args.self.now o m _ put.label h begun put.nodes) in
+    let low : slice_index text end < 128 = ascii_behind o put.label (slice_index text end) given.0 given.1 in
+    record {
+      state = given.0;
+      order = omega (arith, put.next);
+      inside = omega (arith, inside);
+      boundary = IsCharBoundary-after_ascii text end c.requires.utf8 inside low;
+      same = taken ∙ step_goes (at o (named put.label)) given.0 text end inside refl given.1;
+      holds = given.2;
+    }

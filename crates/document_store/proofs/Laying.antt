@@ -1,0 +1,34 @@
+-- The nodes of trees that are put in one after another.
+use Rattle.std.proofs.Common.{◌≡◌, ◌∙◌, ℕ, List, [], ◌∷◌, ◌++◌, length, length-append, append_assoc, refl, ap, sym, arith}
+use Rattle.mix_base.proofs.Lists.{append_nil}
+use Rattle.mix_tree.specs.Forest.{Forest, none, tree, LabelledTree, forest_of, alone, followed}
+use Rattle.mix_tree.specs.Weight.{nodes_of}
+use Rattle.mix_tree.proofs.Forests.{forest_of-append}
+use Rattle.document_store.specs.Laid.{LaidNode, laid}
+
+-- of two lists of trees, the nodes of the second come first
+pub laid-followed : (f g : Forest) → laid (followed f g) ≡ laid g ++ laid f
+laid-followed none g = sym (append_nil (laid g))
+laid-followed (tree label kids rest) g =
+    ap (λ ns. ns ++ (laid kids ++ record { label = label; below = nodes_of kids } ∷ [])) (laid-followed rest g)
+    ∙ append_assoc (laid g) (laid rest) (laid kids ++ record { label = label; below = nodes_of kids } ∷ [])
+
+-- there are as many as the trees have
+pub length-laid : (f : Forest) → length (laid f) ≡ nodes_of f
+length-laid none = refl
+length-laid (tree label kids rest) =
+    let n : LaidNode = record { label = label; below = nodes_of kids } in
+    let outer = length-append (laid rest) (laid kids ++ n ∷ []) in
+    let inner = length-append (laid kids) (n ∷ []) in
+    omega (arith, outer, inner, length-laid kids, length-laid rest)
+
+-- the nodes of trees, the last one of which is laid first
+pub laid-last : (ts : List LabelledTree) (t : LabelledTree) → laid (forest_of (ts ++ t ∷ [])) ≡ laid (alone t) ++ laid (forest_of ts)
+laid-last ts t = ap laid (forest_of-append ts (t ∷ [])) ∙ laid-followed (forest_of ts) (alone t)
+
+-- the nodes of a tree are those of its children, and its own
+pub laid-alone : (label : List ℕ) (kids : Forest) (above : ℕ) (others : List LaidNode) → above ≡ nodes_of kids
+    → laid kids ++ record { label = label; below = above } ∷ others ≡ laid (alone (record { label = label; kids = kids })) ++ others
+laid-alone label kids above others e =
+    let last : ℕ → List LaidNode → List LaidNode = λ n r. record { label = label; below = n } ∷ r in
+    ap (λ n. laid kids ++ last n others) e ∙ sym (append_assoc (laid kids) (last (nodes_of kids) []) others)

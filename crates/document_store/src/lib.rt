@@ -1,0 +1,10 @@
+//! Documents as they lie in memory: the bytes of the labels one after another, and for each node where its label ends and how
+//! many nodes are below it.
+#![tactic(auto)]
+
+mod room;
+mod spots;
+mod store;
+mod trees;
+
+pub use store::Store;

@@ -1,0 +1,25 @@
+// How lists that only grow get their room.
+ghost use Rattle.std.specs.Prelude.{◌≡◌, ◌+◌, ◌≤◌, vec_len, vec_capacity, OnOk, OnErr};
+
+use std::alloc::AllocError;
+
+// How many more items than are asked for get room at least.
+const STEP: usize = 4096;
+
+/// Makes room for more items behind a list. Where it has none, it gets an eighth of its length more than is asked for: a
+/// list that grows item by item never has twice its room.
+#[inline]
+pub fn make_room<T>(list: &mut Vec<T>, more: usize) -> Result<(), AllocError>
+    ensures items { list.new.items ≡ list.old.items }
+    ensures room { OnOk result (vec_len list.new + more ≤ vec_capacity list.new) }
+{
+    let spare = list.capacity() - list.len();
+    if more <= spare {
+        return Ok(());
+    }
+    let ahead = list.len() / 8 + STEP;
+    if list.reserve_exact(more.saturating_add(ahead)).is_err() {
+        return list.reserve_exact(more);
+    }
+    Ok(())
+}

@@ -1,5 +1,0 @@
-use Rattle.lxp_core.proofs.DocumentLaws.{documents_at}
-use Rattle.lxp_core.proofs.memory.MemSources.new.Goals as goal
-
-pub returns-clause-documents : goal.returns-clause-documents
-returns-clause-documents c = documents_at c.in_ok-documents_of.field-0.items c.args.docs.items c.in_ok-documents_of.ensures

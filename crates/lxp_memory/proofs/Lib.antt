@@ -1,0 +1,5 @@
+pub mod ChunkLaws
+pub mod CutLaws
+pub mod CutSteps
+pub mod DocumentLaws
+pub mod NodeLaws

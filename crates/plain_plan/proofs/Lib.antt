@@ -1,4 +1,0 @@
-pub mod Grouped
-pub mod Loops
-pub mod Places
-pub mod Tables

@@ -1,4 +1,0 @@
-pub mod Codes
-pub mod Orders
-pub mod Values
-pub mod Worlds

@@ -1,0 +1,4 @@
+use Rattle.plan_tests.proofs.kind.+held_by.Given as goal
+
+abbrev pub decreases-held_by : goal.decreases-held_by
+decreases-held_by l = l.n

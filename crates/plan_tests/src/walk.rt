@@ -1,0 +1,210 @@
+// Walks over a bench. A call of it that fails is made once more.
+ghost use Rattle.std.specs.Prelude.{◌≡◌, ◌<◌, length, Some, IfOk, OnOk, IfSome, MatchOption};
+ghost use Rattle.lxp_memory.specs.Memory.{memory_view};
+ghost use Rattle.plan_core.specs.PlanMade.{plan_value};
+ghost use Rattle.plan_core.specs.Valid.{kinds, a_node};
+ghost use Rattle.lazy_plan.specs.Bench.{plan_of, IsBenchOf, IsCursor, IsSpotAt};
+ghost use Rattle.plan_tests.specs.Runs.{state, Ran, AreCursors};
+
+use crate::kind::{Held, held_by};
+use lazy_plan::{Bench, Cursor, WalkFault, benches_keep_on};
+use lxp_memory::MemSources;
+use mix_tree::{Label, Var};
+use plan_core::{Op, valid_plans_are_typed};
+use std::alloc::Global;
+use std::test::Fail;
+use tree_buffer::Spot;
+
+// The first binding of an operator.
+fn first(
+    alloc: Global,
+    bench: &mut Bench,
+    s: &mut MemSources,
+    op: u32,
+) -> Result<Option<Cursor>, WalkFault>
+    requires op { op < length (plan_value (plan_of bench.old)).ops }
+    requires bench { IsBenchOf (memory_view s.old) bench.old }
+    ensures ran { Ran s.old bench.old s.new bench.new }
+    ensures cursor { IfOk result (λ r. IfSome r (IsCursor (state s.new bench.new) op)) }
+{
+    benches_keep_on();
+    match bench.first(alloc, s, op) {
+        Err(WalkFault::Failed(_)) => bench.first(alloc, s, op),
+        answer => answer,
+    }
+}
+
+// The next binding of an operator.
+fn next(
+    alloc: Global,
+    bench: &mut Bench,
+    s: &mut MemSources,
+    op: u32,
+    c: &Cursor,
+) -> Result<Option<Cursor>, WalkFault>
+    requires op { op < length (plan_value (plan_of bench.old)).ops }
+    requires bench { IsBenchOf (memory_view s.old) bench.old }
+    requires cursor { IsCursor (state s.old bench.old) op c.now }
+    ensures ran { Ran s.old bench.old s.new bench.new }
+    ensures cursor { IfOk result (λ r. IfSome r (IsCursor (state s.new bench.new) op)) }
+{
+    benches_keep_on();
+    match bench.next(alloc, s, op, c) {
+        Err(WalkFault::Failed(_)) => bench.next(alloc, s, op, c),
+        answer => answer,
+    }
+}
+
+// The first child of a node.
+fn down(
+    alloc: Global,
+    bench: &mut Bench,
+    s: &mut MemSources,
+    source: u32,
+    p: &Spot,
+) -> Result<Option<Spot>, WalkFault>
+    requires bench { IsBenchOf (memory_view s.old) bench.old }
+    requires spot { IsSpotAt (state s.old bench.old) source p.now }
+    ensures ran { Ran s.old bench.old s.new bench.new }
+    ensures spot { IfOk result (λ r. IfSome r (IsSpotAt (state s.new bench.new) source)) }
+{
+    benches_keep_on();
+    match bench.spot_down(alloc, s, source, p) {
+        Err(WalkFault::Failed(_)) => bench.spot_down(alloc, s, source, p),
+        answer => answer,
+    }
+}
+
+/// The bindings of an operator, in order.
+pub fn bindings(
+    alloc: Global,
+    bench: &mut Bench,
+    s: &mut MemSources,
+    op: u32,
+) -> Result<Vec<Cursor>, Fail>
+    requires { IsBenchOf (memory_view s.old) bench.old }
+    ensures ran { OnOk result (Ran s.old bench.old s.new bench.new) }
+    ensures cursors { IfOk result (λ cs. AreCursors (state s.new bench.new) op cs.items) }
+{
+    benches_keep_on();
+    if op as usize >= bench.plan().ops.len() {
+        return Err("no such operator".into());
+    }
+    let mut found = Vec::new(alloc);
+    let mut at = first(alloc, bench, s, op)?;
+    'events: for _ in 0..99 {
+        let Some(cursor) = at else {
+            return Ok(found);
+        };
+        at = next(alloc, bench, s, op, &cursor)?;
+        found.push(cursor)?;
+    }
+    Err("too many bindings".into())
+}
+
+// The label of the first leaf below a node.
+fn leaf(
+    alloc: Global,
+    bench: &mut Bench,
+    s: &mut MemSources,
+    source: u32,
+    p: Spot,
+) -> Result<Label, Fail>
+    requires bench { IsBenchOf (memory_view s.old) bench.old }
+    requires spot { IsSpotAt (state s.old bench.old) source p }
+    ensures { OnOk result (Ran s.old bench.old s.new bench.new) }
+{
+    benches_keep_on();
+    let mut at = p;
+    'levels: for _ in 0..9 {
+        match down(alloc, bench, s, source, &at)? {
+            Some(below) => at = below,
+            None => return Ok(bench.label(source, &at).copy(alloc)?),
+        }
+    }
+    Err("too deep".into())
+}
+
+/// The labels of the first leaves below the nodes of a variable at these bindings, each with a blank behind it.
+pub fn leaves(
+    alloc: Global,
+    bench: &mut Bench,
+    s: &mut MemSources,
+    op: u32,
+    v: Var,
+    cursors: &[Cursor],
+) -> Result<Vec<u8>, Fail>
+    requires bench { IsBenchOf (memory_view s.old) bench.old }
+    requires cursors { AreCursors (state s.old bench.old) op cursors.now }
+    ensures { OnOk result (Ran s.old bench.old s.new bench.new) }
+{
+    benches_keep_on();
+    valid_plans_are_typed();
+    if op as usize >= bench.plan().ops.len() {
+        return Err("no such operator".into());
+    }
+    if held_by(bench.plan(), op as usize, v) != Held::Node {
+        return Err("no node".into());
+    }
+    let mut text = Vec::new(alloc);
+    for cursor in cursors {
+        let spot = bench.spot(op, cursor, v);
+        let source = bench.source_of(op, v);
+        let label = leaf(alloc, bench, s, source, spot)?;
+        text.extend_from_slice(label.bytes())?;
+        text.push(b' ')?;
+    }
+    Ok(text)
+}
+
+/// The binding behind one of these, where there is one.
+pub fn behind(
+    alloc: Global,
+    bench: &mut Bench,
+    s: &mut MemSources,
+    op: u32,
+    cursors: &[Cursor],
+    i: usize,
+) -> Result<Vec<Cursor>, Fail>
+    requires bench { IsBenchOf (memory_view s.old) bench.old }
+    requires cursors { AreCursors (state s.old bench.old) op cursors.now }
+    ensures ran { OnOk result (Ran s.old bench.old s.new bench.new) }
+    ensures cursors { IfOk result (λ cs. AreCursors (state s.new bench.new) op cs.items) }
+{
+    if op as usize >= bench.plan().ops.len() || i >= cursors.len() {
+        return Err("no such binding".into());
+    }
+    let mut found = Vec::new(alloc);
+    if let Some(cursor) = next(alloc, bench, s, op, &cursors[i])? {
+        found.push(cursor)?;
+    }
+    Ok(found)
+}
+
+/// The input of a groupBy by keys, and its binding of which one of these is made.
+pub fn beneath(
+    alloc: Global,
+    bench: &Bench,
+    s: &MemSources,
+    op: u32,
+    cursors: &[Cursor],
+    i: usize,
+) -> Result<(u32, Vec<Cursor>), Fail>
+    requires bench { IsBenchOf (memory_view s.now) bench.now }
+    requires cursors { AreCursors (state s.now bench.now) op cursors.now }
+    ensures { IfOk result (λ r. AreCursors (state s.now bench.now) r.0 r.1.items) }
+{
+    if op as usize >= bench.plan().ops.len() || i >= cursors.len() {
+        return Err("no such binding".into());
+    }
+    match &bench.plan().ops[op as usize] {
+        Op::GroupBy { input, keys, .. } => {
+            if keys.is_empty() {
+                return Err("no keys".into());
+            }
+            let below = bench.under(alloc, op, &cursors[i], *input)?;
+            Ok((*input, vec![in alloc; below]?))
+        }
+        _ => Err("no groupBy".into()),
+    }
+}

@@ -1,4 +1,0 @@
-pub mod Law
-pub mod Reached
-pub mod Sorted
-pub mod Tuples

@@ -1,0 +1,13 @@
+//! Tests of whole runs of the top call, over files and a sink in memory.
+#![tactic(auto)]
+
+#[cfg(test)]
+mod plans;
+#[cfg(test)]
+mod reads;
+#[cfg(test)]
+mod run;
+#[cfg(test)]
+mod views;
+#[cfg(test)]
+mod walks;

@@ -1,0 +1,17 @@
+//! Tests of files and sinks in memory, of sources in memory and mounted ones, of buffers, of visits, and of walks.
+#![tactic(auto)]
+
+#[cfg(test)]
+mod buffers;
+#[cfg(test)]
+mod documents;
+#[cfg(test)]
+mod files;
+#[cfg(test)]
+mod memory;
+#[cfg(test)]
+mod mounts;
+#[cfg(test)]
+mod visits;
+#[cfg(test)]
+mod walks;

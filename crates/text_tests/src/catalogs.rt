@@ -1,0 +1,171 @@
+// What the contracts leave to tests: that calls succeed, and values worked out by hand.
+use mix_catalog::{Catalog, CatalogFault, SourceKind, read_catalog};
+use mix_tree::Label;
+use std::alloc::{AllocError, Global};
+use std::process::Abort;
+use std::test::Fail;
+
+// How many sources a text has, or why it is no catalog.
+fn count(alloc: Global, text: &[u8]) -> Result<u32, CatalogFault> {
+    Ok(read_catalog(alloc, text)?.len())
+}
+
+// Reads each text and compares.
+fn check(rt: &impl Abort, alloc: Global, rows: &[(&[u8], Result<u32, CatalogFault>)]) {
+    for (text, want) in rows {
+        assert_eq!(rt; count(alloc, text), *want);
+    }
+}
+
+#[test]
+fn lines_are_of_the_bracket_forms(rt: HostRuntime) {
+    let rows = [
+        (b"".as_slice(), Ok(0)),
+        (b"# \xff\n \t\n\n  #\r\n".as_slice(), Ok(0)),
+        (
+            b"source a bracket f chunk 1\r\n\t source  b\tbracket f chunk 2 deep \r\n".as_slice(),
+            Ok(2),
+        ),
+        (b"source - bracket \"a \\\"b\" chunk 1".as_slice(), Ok(1)),
+        (
+            b"source a bracket \"f\"chunk 1".as_slice(),
+            Err(CatalogFault::Line(1)),
+        ),
+        (
+            b"source a bracket \"f chunk 1".as_slice(),
+            Err(CatalogFault::Line(1)),
+        ),
+        (
+            b"source a bracket f, chunk 1".as_slice(),
+            Err(CatalogFault::Line(1)),
+        ),
+        (
+            b"\n#\nsource a\xff bracket f chunk 1".as_slice(),
+            Err(CatalogFault::Line(3)),
+        ),
+        (
+            b"source a bracket f\xff chunk 1".as_slice(),
+            Err(CatalogFault::Line(1)),
+        ),
+        (
+            b"source a.b bracket f chunk 1".as_slice(),
+            Err(CatalogFault::Line(1)),
+        ),
+        (
+            b"source a csv f columns id chunk 1".as_slice(),
+            Err(CatalogFault::Line(1)),
+        ),
+        (
+            b"source a bracket f chunk 1 flat".as_slice(),
+            Err(CatalogFault::Line(1)),
+        ),
+        (
+            b"source a bracket f chunk 1 deep deep".as_slice(),
+            Err(CatalogFault::Line(1)),
+        ),
+        (b"source a bracket f".as_slice(), Err(CatalogFault::Line(1))),
+        (
+            b"\xef\xbb\xbfsource a bracket f chunk 1".as_slice(),
+            Err(CatalogFault::Line(1)),
+        ),
+    ];
+    check(&rt, rt.alloc(), &rows);
+}
+
+#[test]
+fn the_first_fault_is_named(rt: HostRuntime) {
+    let rows = [
+        (
+            b"source a bracket f chunk 0".as_slice(),
+            Err(CatalogFault::Chunk(1)),
+        ),
+        (b"source a bracket f chunk 007".as_slice(), Ok(1)),
+        (b"source a bracket f chunk 1000".as_slice(), Ok(1)),
+        (
+            b"source a bracket f chunk 1001".as_slice(),
+            Err(CatalogFault::Chunk(1)),
+        ),
+        (
+            b"source a bracket f chunk 999999999".as_slice(),
+            Err(CatalogFault::Chunk(1)),
+        ),
+        (
+            b"source a bracket f chunk 0000000001".as_slice(),
+            Err(CatalogFault::Line(1)),
+        ),
+        (
+            b"source a bracket f chunk -1".as_slice(),
+            Err(CatalogFault::Line(1)),
+        ),
+        (
+            b"source a bracket f chunk 1\nsource b bracket f chunk 1\n\nsource a bracket g chunk 2".as_slice(),
+            Err(CatalogFault::NameTwice(4)),
+        ),
+        (
+            b"source a bracket f chunk 1\nsource a bracket f chunk 0".as_slice(),
+            Err(CatalogFault::Chunk(2)),
+        ),
+        (
+            b"source a bracket f chunk 0\nfly".as_slice(),
+            Err(CatalogFault::Chunk(1)),
+        ),
+        (
+            b"fly\nsource a bracket f chunk 0".as_slice(),
+            Err(CatalogFault::Line(1)),
+        ),
+    ];
+    check(&rt, rt.alloc(), &rows);
+}
+
+// A text of so many sources.
+fn sources(alloc: Global, count: u32) -> Result<String, AllocError> {
+    let mut text = String::new(alloc);
+    for number in 0..count {
+        text.push_str(format!(in alloc; "source s{number} bracket f chunk 1\n")?.as_str())?;
+    }
+    Ok(text)
+}
+
+#[test]
+fn a_catalog_has_at_most_32_sources(rt: HostRuntime) -> Result<(), Fail> {
+    let alloc = rt.alloc();
+    let mut text = sources(alloc, 32)?;
+    assert_eq!(rt; count(alloc, text.as_bytes()), Ok(32));
+    text.push_str("source s31 bracket f chunk 1")?;
+    assert_eq!(rt;
+        count(alloc, text.as_bytes()),
+        Err(CatalogFault::NameTwice(33))
+    );
+    let text = sources(alloc, 33)?;
+    assert_eq!(rt;
+        count(alloc, text.as_bytes()),
+        Err(CatalogFault::TooMany(33))
+    );
+    Ok(())
+}
+
+// The number of the source of a name.
+fn find(alloc: Global, catalog: &Catalog, name: &str) -> Result<Option<u32>, AllocError> {
+    Ok(catalog.find(&Label::of_text(alloc, name.as_bytes())?))
+}
+
+#[test]
+fn sources_are_found_by_their_names(rt: HostRuntime) -> Result<(), Fail> {
+    let alloc = rt.alloc();
+    let text = b"source a-1 bracket \"my homes\\n\" chunk 007\nsource b bracket f chunk 1 deep";
+    let catalog = read_catalog(alloc, text)?;
+    assert_eq!(rt; find(alloc, &catalog, "a-1")?, Some(0));
+    assert_eq!(rt; find(alloc, &catalog, "b")?, Some(1));
+    assert_eq!(rt; find(alloc, &catalog, "a")?, None);
+    assert_eq!(rt; catalog.len(), 2);
+    let first = catalog.spec(0);
+    assert_eq!(rt; first.name.bytes(), b"a-1".as_slice());
+    assert_eq!(rt; first.chunk, 7);
+    let SourceKind::Bracket { file, deep } = &first.kind;
+    assert_eq!(rt; file.bytes(), b"my homes\n".as_slice());
+    assert!(rt; !*deep);
+    let SourceKind::Bracket { file, deep } = &catalog.spec(1).kind;
+    assert_eq!(rt; file.bytes(), b"f".as_slice());
+    assert!(rt; *deep);
+    Ok(())
+}

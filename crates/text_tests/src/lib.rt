@@ -1,0 +1,17 @@
+//! Tests of labels, bracket text, paths, catalogs, scripts and rules as text.
+#![tactic(auto)]
+
+#[cfg(test)]
+mod brackets;
+#[cfg(test)]
+mod catalogs;
+#[cfg(test)]
+mod labels;
+#[cfg(test)]
+mod paths;
+#[cfg(test)]
+mod rules;
+#[cfg(test)]
+mod scripts;
+#[cfg(test)]
+mod words;

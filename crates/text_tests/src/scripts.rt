@@ -1,0 +1,105 @@
+// What the contracts leave to tests: that calls succeed, and values worked out by hand.
+ghost use Rattle.std.specs.Prelude.{length};
+ghost use Rattle.mix_script.specs.Answers.{IsNamed};
+
+use mix_script::{Act, Answer, Names, ScriptFault, Step, read_script, write_answer};
+use mix_tree::Label;
+use std::alloc::{AllocError, Global};
+use std::test::Fail;
+
+// A label of a text.
+fn label(alloc: Global, text: &str) -> Result<Label, AllocError> {
+    Label::of_text(alloc, text.as_bytes())
+}
+
+// How many steps a script has.
+fn count(alloc: Global, text: &[u8]) -> Result<usize, ScriptFault> {
+    Ok(read_script(alloc, text)?.len())
+}
+
+#[test]
+fn the_first_line_of_no_form_is_named(rt: HostRuntime) {
+    let scripts = [
+        (b"".as_slice(), Ok(0)),
+        (b"r = root".as_slice(), Ok(1)),
+        (
+            b"# \xff\n \t\n\nr = root\r\n\tx_1  =\tdown r \nfetch x_1".as_slice(),
+            Ok(3),
+        ),
+        (b"fly".as_slice(), Err(ScriptFault::Line(1))),
+        (
+            b"r = root\n\nfetch r\r".as_slice(),
+            Err(ScriptFault::Line(3)),
+        ),
+        (b"#\nx=right r\nfly\n".as_slice(), Err(ScriptFault::Line(2))),
+        (b"1 = root".as_slice(), Err(ScriptFault::Line(1))),
+        (b"fetch r #".as_slice(), Err(ScriptFault::Line(1))),
+        (b"ann: r = root".as_slice(), Err(ScriptFault::Line(1))),
+    ];
+    for (text, want) in scripts {
+        assert_eq!(rt; count(rt.alloc(), text), want);
+    }
+}
+
+// The line of an answer.
+fn told(
+    alloc: Global,
+    client: &str,
+    answer: &Answer,
+    sources: &[Label],
+) -> Result<Vec<u8>, AllocError>
+    requires { IsNamed (length sources.now) answer.now }
+{
+    let step = Step {
+        client: label(alloc, client)?,
+        act: Act::Root {
+            name: label(alloc, "r")?,
+        },
+    };
+    write_answer(alloc, &step, answer, sources)
+}
+
+#[test]
+fn answers_are_told(rt: HostRuntime) -> Result<(), Fail> {
+    let alloc = rt.alloc();
+    let sources = vec![in alloc; label(alloc, "homes")?, label(alloc, "schools")?]?;
+    assert_eq!(rt;
+        told(alloc, "", &Answer::Node, &sources)?.as_slice(),
+        b"node\n".as_slice()
+    );
+    assert_eq!(rt;
+        told(alloc, "ann", &Answer::None, &sources)?.as_slice(),
+        b"ann: none\n".as_slice()
+    );
+    assert_eq!(rt;
+        told(alloc, "", &Answer::NoNode, &sources)?.as_slice(),
+        b"no node\n".as_slice()
+    );
+    let label = Answer::Label(label(alloc, "La Jolla")?);
+    assert_eq!(rt;
+        told(alloc, "", &label, &sources)?.as_slice(),
+        b"label \"La Jolla\"\n".as_slice()
+    );
+    assert_eq!(rt;
+        told(alloc, "bob", &Answer::Fault(1), &sources)?.as_slice(),
+        b"bob: fault schools\n".as_slice()
+    );
+    Ok(())
+}
+
+#[test]
+fn each_client_has_names_of_its_own(rt: HostRuntime) -> Result<(), Fail> {
+    let alloc = rt.alloc();
+    let (ann, bob) = (label(alloc, "ann")?, label(alloc, "bob")?);
+    let (x, y) = (label(alloc, "x")?, label(alloc, "y")?);
+    let mut names: Names<u64> = Names::new(alloc);
+    names.set(alloc, &ann, &x, Some(1))?;
+    names.set(alloc, &bob, &x, Some(2))?;
+    names.set(alloc, &bob, &y, Some(3))?;
+    names.set(alloc, &bob, &x, None)?;
+    names.set(alloc, &bob, &y, Some(4))?;
+    assert_eq!(rt; names.get(&ann, &x).copied(), Some(1));
+    assert_eq!(rt; names.get(&bob, &x).copied(), None);
+    assert_eq!(rt; names.get(&bob, &y).copied(), Some(4));
+    Ok(())
+}
