@@ -5,7 +5,6 @@ mod checks;
 mod conds;
 mod fault;
 mod law;
-mod lists;
 mod loose;
 mod names;
 mod reading;

@@ -84,14 +84,6 @@ fn refusals_name_their_places(rt: HostRuntime) -> Result<(), Fail> {
             "CONSTRUCT <a> label $X {$Y} </a> WHERE s a $X AND s b $Y",
             XmasFault::Loose(14),
         ),
-        (
-            "CONSTRUCT <a> $H $S </a> WHERE homes homes.home $H AND schools schools.school $S",
-            XmasFault::TwoLists(17),
-        ),
-        (
-            "CONSTRUCT <a> <b> $X <c> $Y </c> </b> </a> WHERE s a $X AND s b $Y",
-            XmasFault::TwoLists(25),
-        ),
     ];
     for (text, fault) in refusals {
         match canonical(alloc, &catalog, text) {
