@@ -14,4 +14,6 @@ mod rules;
 #[cfg(test)]
 mod scripts;
 #[cfg(test)]
+mod views;
+#[cfg(test)]
 mod words;

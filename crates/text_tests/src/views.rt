@@ -1,8 +1,8 @@
 // What the contracts leave to tests: that rules are read and written with ample memory, with places worked out by hand.
-use crate::{Large, XmasFault, read_rule, write_rule};
 use mix_catalog::{Catalog, read_catalog};
 use std::alloc::Global;
 use std::test::Fail;
+use xmas_read::{Large, XmasFault, read_rule, write_rule};
 
 // A catalog of a few sources.
 fn catalog(alloc: Global) -> Result<Catalog, Fail> {
