@@ -1,18 +1,18 @@
 -- The lists that holes are answered with keep what a source promises.
-use Rattle.std.proofs.Common.{◌≡◌, ◌∙◌, ℕ, zero, suc, ◌+◌, ◌-◌, ◌<◌, ◌≤◌, Bool, true, false, cond, nat_lt, nat_le, ◌&&◌, ◌==◌, List, length, slice_index, if◌then◌else◌, refl, ap, sym, subst, arith}
+use Rattle.std.proofs.Common.{◌≡◌, ◌∙◌, ℕ, zero, suc, ◌+◌, ◌-◌, ◌<◌, ◌≤◌, Bool, true, false, cond, nat_lt, nat_le, ◌&&◌, ◌==◌, List, length, slice_index, refl, ap, sym, arith}
 use Rattle.std.proofs.lemmas.Bool.Decides.{nat_tests}
-use Rattle.mix_tree.specs.Forest.{Forest, none, tree, followed}
+use Rattle.mix_tree.specs.Forest.{tree}
 use Rattle.mix_tree.specs.Weight.{nodes_of}
 use Rattle.lxp_core.specs.declared.open_tree.HoleId.{HoleId}
-use Rattle.lxp_core.specs.Open.{Open, nil, node, hole, closed, weight_of, AllHoles, IsApart, IsProgress, is_nil, has_node, begins_with_hole, without_holes}
-use Rattle.lxp_core.proofs.Opens.{closed-without_holes, AllHoles-without_holes, IsApart-without_holes}
+use Rattle.lxp_core.specs.Open.{Open, nil, node, hole, closed, weight_of, AllHoles, IsApart, IsProgress, is_nil, has_node, begins_with_hole}
+use Rattle.lxp_core.proofs.Opens.{closed-without_holes, AllHoles-without_holes, IsApart-without_holes, nodes_of-closed}
 use Rattle.mix_tree.proofs.Forests.{followed-none}
-use Rattle.lxp_core.proofs.Opens.{nodes_of-closed}
-use Rattle.bracket_wrap.specs.declared.layout.LaidNode.{LaidNode}
+use Rattle.document_store.specs.Laid.{LaidNode}
 use Rattle.bracket_wrap.specs.declared.holes.Rest.{Rest}
-use Rattle.bracket_wrap.specs.Layout.{node_at, below, before, fits, between}
-use Rattle.bracket_wrap.specs.Holes.{rest_hole, hole_rest, all_of, is_there, is_known, hole_trees, rest_given, kids_given, given_from}
-use Rattle.bracket_wrap.proofs.Between.{fits_some, between_none, between_some}
+use Rattle.document_store.specs.Laid.{node_at}
+use Rattle.document_store.specs.Between.{before, fits, between}
+use Rattle.bracket_wrap.specs.Holes.{rest_hole, all_of, is_known, hole_trees, rest_given, kids_given, given_from}
+use Rattle.document_store.proofs.Between.{fits_some, between_none, between_some}
 
 -- a choice by a test
 by_test : (P : Open → Type 0) (b : Bool) (x y : Open) → (b ≡ true → P x) → (b ≡ false → P y) → P (cond b x y)

@@ -7,7 +7,7 @@ use Rattle.mix_tree.specs.Weight.{nodes_of}
 use Rattle.lxp_core.specs.declared.open_tree.HoleId.{HoleId}
 use Rattle.lxp_core.specs.Open.{Open}
 use Rattle.bracket_wrap.specs.declared.bracket.BracketDoc.{BracketDoc}
-use Rattle.bracket_wrap.specs.Layout.{below}
+use Rattle.document_store.specs.Laid.{below}
 use Rattle.bracket_wrap.specs.Holes.{rest_hole, all_of, is_known, hole_trees, given_from}
 
 -- how many children a list has at most
@@ -20,11 +20,11 @@ deep_of d = d.deep
 
 -- whether a document knows a hole
 abbrev pub knows : BracketDoc → HoleId → Bool
-knows d = is_known d.layout.nodes.items
+knows d = is_known d.nodes
 
 -- the trees that a hole stands for
 abbrev pub forest : BracketDoc → HoleId → Forest
-forest d = hole_trees d.layout.nodes.items
+forest d = hole_trees d.nodes
 
 -- the weight of a hole: the number of nodes that it stands for
 abbrev pub weight : BracketDoc → HoleId → ℕ
@@ -32,7 +32,7 @@ weight d h = nodes_of (forest d h)
 
 -- the hole of the root: all children of the document node, which is the last one in memory
 abbrev pub root_hole : BracketDoc → HoleId
-root_hole d = rest_hole (all_of (length d.layout.nodes.items - 1))
+root_hole d = rest_hole (all_of (length d.nodes - 1))
 
 -- the whole document
 abbrev pub document : BracketDoc → Forest
@@ -41,11 +41,11 @@ document d = forest d (root_hole d)
 -- the list of a hole: the next children, at most a chunk, whole where the document is deep, and a hole behind them
 -- exactly where more remain
 abbrev pub given : BracketDoc → HoleId → Open
-given d h = given_from d.layout.nodes.items d.deep (slice_index h.words 0) d.chunk (slice_index h.words 1)
+given d h = given_from d.nodes d.deep (slice_index h.words 0) d.chunk (slice_index h.words 1)
 
 -- the hole of the root is known
 pub root_known : (d : BracketDoc) → knows d (root_hole d) ≡ true
-root_known d = there (length d.layout.nodes.items) (below d.layout.nodes.items (length d.layout.nodes.items - 1)) d.layout.some
+root_known d = there (length d.nodes) (below d.nodes (length d.nodes - 1)) d.rooted
   where
     there : (n b : ℕ) → 0 < n → (0 == 0) && (nat_lt (n - 1) n && (nat_le (n - 1 - b) (n - 1) && nat_le (n - 1) (n - 1))) ≡ true
     there n b h = grind (arith, nat_tests)

@@ -1,12 +1,12 @@
 -- What the holes of a document mean, and the lists with which it answers.
-use Rattle.std.specs.Prelude.{ℕ, zero, suc, ◌-◌, Bool, true, false, ◌&&◌, ◌==◌, cond, nat_lt, nat_le, List, [], ◌∷◌, length, slice_index, if◌then◌else◌}
+use Rattle.std.specs.Prelude.{ℕ, zero, suc, ◌-◌, Bool, ◌&&◌, ◌==◌, cond, nat_lt, nat_le, List, [], ◌∷◌, length, slice_index, if◌then◌else◌}
 use Rattle.mix_tree.specs.Forest.{Forest}
-use Rattle.mix_tree.specs.Weight.{nodes_of}
 use Rattle.lxp_core.specs.declared.open_tree.HoleId.{HoleId}
 use Rattle.lxp_core.specs.Open.{Open, nil, node, hole, without_holes}
-use Rattle.bracket_wrap.specs.declared.layout.LaidNode.{LaidNode}
+use Rattle.document_store.specs.Laid.{LaidNode}
 use Rattle.bracket_wrap.specs.declared.holes.Rest.{Rest}
-use Rattle.bracket_wrap.specs.Layout.{node_at, before, fits, between}
+use Rattle.document_store.specs.Laid.{node_at}
+use Rattle.document_store.specs.Between.{before, fits, between}
 
 -- the hole that stands for some last children of a node
 abbrev pub rest_hole : Rest → HoleId

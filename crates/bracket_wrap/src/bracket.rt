@@ -1,11 +1,10 @@
 // Bracket documents, given so many children at a time.
-ghost use Rattle.std.specs.Prelude.{◌≤◌};
+ghost use Rattle.std.specs.Prelude.{◌≤◌, ◌<◌, length};
 
 use crate::holes::Rest;
-use crate::layout::Layout;
+use document_store::Store;
 use lxp_core::{HoleId, OpenTree, SourceFault};
-use mix_tree::Tree;
-use std::alloc::{AllocError, Global};
+use std::alloc::Global;
 
 /// A document that is given so many children at a time.
 ///
@@ -15,39 +14,38 @@ use std::alloc::{AllocError, Global};
 /// same two ways. No list begins with a hole.
 #[derive(Drop)]
 pub struct BracketDoc {
-    layout: Layout,
+    pub(crate) nodes: Store,
     chunk: u32,
     deep: bool,
     ghost some: { 1 ≤ chunk },
+    ghost rooted: { 0 < length nodes },
 }
 
 impl BracketDoc {
-    ghost use Rattle.std.specs.Prelude.{◌≡◌, ◌≤◌, false, IfOk, IsErrOf};
-    ghost use Rattle.mix_tree.specs.Forest.{alone};
+    ghost use Rattle.std.specs.Prelude.{◌≡◌, false, IfOk, IsErrOf};
+    ghost use Rattle.mix_tree.specs.Forest.{LabelledTree, alone};
+    ghost use Rattle.document_store.specs.Laid.{IsDocument};
     ghost use Rattle.lxp_core.specs.Open.{closed, weight_of, AllHoles, IsProgress, begins_with_hole};
     ghost use Rattle.lxp_core.specs.Plain.{plain};
     ghost use Rattle.bracket_wrap.specs.Bracket.{chunk_of, deep_of, root_hole, knows, forest, weight, document, given};
 
-    /// The document of a tree, to be given `chunk` children at a time, `deep` or not. A chunk is 1 to 1,000.
-    pub fn open(alloc: Global, doc: Tree, chunk: u32, deep: bool) -> Result<BracketDoc, AllocError>
+    /// A document, to be given `chunk` children at a time, `deep` or not. A chunk is 1 to 1,000.
+    pub fn open(nodes: Store, chunk: u32, deep: bool) -> BracketDoc
+        requires rooted { 0 < length nodes }
         requires some { 1 ≤ chunk }
         requires few { chunk ≤ 1000 }
-        ensures document { IfOk result (λ d. document d ≡ alone doc) }
-        ensures chunk { IfOk result (λ d. chunk_of d ≡ chunk) }
-        ensures deep { IfOk result (λ d. deep_of d ≡ deep) }
+        ensures document { (root : LabelledTree) → IsDocument nodes root → document result ≡ alone root }
+        ensures chunk { chunk_of result ≡ chunk }
+        ensures deep { deep_of result ≡ deep }
     {
-        Ok(BracketDoc {
-            layout: Layout::new(alloc, doc)?,
-            chunk,
-            deep,
-        })
+        BracketDoc { nodes, chunk, deep }
     }
 
     /// The hole that stands for the root.
     pub fn root_hole(&self) -> HoleId
         ensures { result ≡ root_hole self.now }
     {
-        let top = self.layout.nodes.len() - 1;
+        let top = self.nodes.len() - 1;
         Rest { node: top, to: top }.hole()
     }
 
@@ -65,9 +63,9 @@ impl BracketDoc {
         ensures unknown { IsErrOf result SourceFault.UnknownHole → knows self.now hole ≡ false }
         ensures only_unknown { knows self.now hole ≡ false → IsErrOf result SourceFault.UnknownHole }
     {
-        let Some(rest) = self.layout.rest(hole) else {
+        let Some(rest) = self.rest(hole) else {
             return Err(SourceFault::UnknownHole);
         };
-        Ok(self.layout.give(alloc, self.chunk, self.deep, rest)?)
+        Ok(self.give(alloc, self.chunk, self.deep, rest)?)
     }
 }

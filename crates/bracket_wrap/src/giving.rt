@@ -2,15 +2,16 @@
 ghost use Rattle.std.specs.Prelude.{◌≡◌, ◌≤◌, ◌+◌, ◌<◌, length, true, false, IfOk, OnOk, MatchOption};
 ghost use Rattle.lxp_core.specs.Open.{Open, node, without_holes};
 ghost use Rattle.lxp_core.specs.Plain.{plain, put_all};
-ghost use Rattle.bracket_wrap.specs.Layout.{node_at, below, before, between};
+ghost use Rattle.document_store.specs.Laid.{node_at, below};
+ghost use Rattle.document_store.specs.Between.{before, between};
 ghost use Rattle.bracket_wrap.specs.Holes.{hole_rest, is_there, is_known, rest_given, kids_given, given_from};
 
+use crate::BracketDoc;
 use crate::holes::Rest;
-use crate::layout::Layout;
 use lxp_core::{HoleId, OpenTree};
 use std::alloc::{AllocError, Global};
 
-impl Layout {
+impl BracketDoc {
     // Puts a node behind a list, above a list of its own.
     fn push_node(
         &self,
@@ -19,36 +20,36 @@ impl Layout {
         i: usize,
         kids: Vec<OpenTree>,
     ) -> Result<(), AllocError>
-        requires { i < length self.now.nodes.items }
+        requires { i < length self.now.nodes }
         ensures { OnOk result ((rest : Open) → put_all list.new.items rest
-            ≡ put_all list.old.items (node (node_at self.now.nodes.items i).label (plain kids.items) rest)) }
+            ≡ put_all list.old.items (node (node_at self.now.nodes i).label (plain kids.items) rest)) }
     {
-        let label = self.nodes[i].label.copy(alloc)?;
+        let label = self.nodes.copy_label(alloc, i)?;
         list.push(OpenTree::Node { label, kids })?;
         Ok(())
     }
 
     // The trees between two positions, without holes.
     fn whole(&self, alloc: Global, from: usize, mut to: usize) -> Result<Vec<OpenTree>, AllocError>
-        requires { to ≤ length self.now.nodes.items }
-        ensures { IfOk result (λ list. plain list.items ≡ without_holes (between self.now.nodes.items from to)) }
+        requires { to ≤ length self.now.nodes }
+        ensures { IfOk result (λ list. plain list.items ≡ without_holes (between self.now.nodes from to)) }
     {
         let mut list = Vec::new(alloc);
-        while let Some(i) = self.first(from, to) {
-            let kids = self.whole(alloc, self.before(i), i)?;
+        while let Some(i) = self.nodes.first(from, to) {
+            let kids = self.whole(alloc, self.nodes.before(i), i)?;
             self.push_node(alloc, &mut list, i, kids)?;
-            to = self.before(i);
+            to = self.nodes.before(i);
         }
         Ok(list)
     }
 
     // Puts a hole for some last children of a node behind a list, where there are any.
     fn push_rest(&self, list: &mut Vec<OpenTree>, rest: Rest) -> Result<(), AllocError>
-        requires { is_there self.now.nodes.items rest ≡ true }
-        ensures { OnOk result (plain list.new.items ≡ put_all list.old.items (rest_given self.now.nodes.items rest)) }
+        requires { is_there self.now.nodes rest ≡ true }
+        ensures { OnOk result (plain list.new.items ≡ put_all list.old.items (rest_given self.now.nodes rest)) }
     {
-        let from = self.before(rest.node);
-        match self.first(from, rest.to) {
+        let from = self.nodes.before(rest.node);
+        match self.nodes.first(from, rest.to) {
             Some(_) => {
                 list.push(OpenTree::Hole(rest.hole()))?;
                 Ok(())
@@ -59,11 +60,11 @@ impl Layout {
 
     // The list below a node.
     fn kids(&self, alloc: Global, whole: bool, i: usize) -> Result<Vec<OpenTree>, AllocError>
-        requires { i < length self.now.nodes.items }
-        ensures { IfOk result (λ list. plain list.items ≡ kids_given self.now.nodes.items whole i) }
+        requires { i < length self.now.nodes }
+        ensures { IfOk result (λ list. plain list.items ≡ kids_given self.now.nodes whole i) }
     {
         if whole {
-            return self.whole(alloc, self.before(i), i);
+            return self.whole(alloc, self.nodes.before(i), i);
         }
         let mut list = Vec::new(alloc);
         self.push_rest(&mut list, Rest { node: i, to: i })?;
@@ -72,14 +73,14 @@ impl Layout {
 
     /// The children that a hole names; `None` where the document doesn't know the hole.
     pub fn rest(&self, hole: HoleId) -> Option<Rest>
-        ensures { MatchOption result (is_known self.now.nodes.items hole ≡ false)
-            (λ rest. (rest ≡ hole_rest hole) × (is_known self.now.nodes.items hole ≡ true)) }
+        ensures { MatchOption result (is_known self.now.nodes hole ≡ false)
+            (λ rest. (rest ≡ hole_rest hole) × (is_known self.now.nodes hole ≡ true)) }
     {
         let rest = Rest::of_hole(hole);
         if hole.words[2] != 0 || rest.node >= self.nodes.len() {
             return None;
         }
-        if self.before(rest.node) <= rest.to && rest.to <= rest.node {
+        if self.nodes.before(rest.node) <= rest.to && rest.to <= rest.node {
             return Some(rest);
         }
         None
@@ -94,20 +95,20 @@ impl Layout {
         whole: bool,
         rest: Rest,
     ) -> Result<Vec<OpenTree>, AllocError>
-        requires { is_there self.now.nodes.items rest ≡ true }
-        ensures { IfOk result (λ list. plain list.items ≡ given_from self.now.nodes.items whole rest.node most rest.to) }
+        requires { is_there self.now.nodes rest ≡ true }
+        ensures { IfOk result (λ list. plain list.items ≡ given_from self.now.nodes whole rest.node most rest.to) }
     {
         let mut list = Vec::new(alloc);
-        let from = self.before(rest.node);
+        let from = self.nodes.before(rest.node);
         let mut to = rest.to;
         let mut left = most;
         while left > 0 {
-            let Some(i) = self.first(from, to) else {
+            let Some(i) = self.nodes.first(from, to) else {
                 return Ok(list);
             };
             let kids = self.kids(alloc, whole, i)?;
             self.push_node(alloc, &mut list, i, kids)?;
-            to = self.before(i);
+            to = self.nodes.before(i);
             left -= 1;
         }
         self.push_rest(&mut list, Rest { to, ..rest })?;

@@ -4,11 +4,5 @@
 mod bracket;
 mod giving;
 mod holes;
-mod layout;
-mod one_document;
 
 pub use bracket::BracketDoc;
-pub use one_document::OneDocument;
-
-#[cfg(test)]
-mod tests;

@@ -1,6 +1,6 @@
 -- What files and a sink in memory mean.
-use Rattle.std.specs.Prelude.{ℕ, Bool, List, Option, Some, None, if◌then◌else◌, string_bytes}
-use Rattle.std.specs.List.{find}
+use Rattle.std.specs.Prelude.{ℕ, ◌+◌, ◌-◌, ◌^◌, ◌==◌, min, Bool, List, Option, Some, None, if◌then◌else◌, string_bytes}
+use Rattle.std.specs.List.{find, list_any}
 use Rattle.std.specs.Option.{option_map}
 use Rattle.std.specs.Str.{bytes_eq}
 use Rattle.std.specs.Ordering.{nat_cmp}
@@ -22,6 +22,18 @@ fails_at m call = contains nat_cmp m.failing call
 abbrev pub contents_at_call : MemFiles → ℕ → List ℕ → Option (List ℕ)
 contents_at_call m call path = if fails_at m call then None else contents_at m.files.items path
 
+-- how many reads there were
+abbrev pub reads_of : MemFiles → ℕ
+reads_of m = m.calls
+
+-- the number of the next read, counted from 1; behind the last number no other comes
+abbrev pub next_read : MemFiles → ℕ
+next_read m = min (reads_of m + 1) (2 ^ 64 - 1)
+
+-- what the next read reads
+abbrev pub next_contents : MemFiles → List ℕ → Option (List ℕ)
+next_contents m path = contents_at_call m (next_read m) path
+
 -- they tell their contents, and count for all paths together
 abbrev pub mem_files_view : MemFiles → FilesView
 mem_files_view m = record { told = contents_at m.files.items; faults = λ _. m.faults; furthest = λ _. m.furthest }
@@ -33,3 +45,15 @@ mem_sink_view s = record { written = Some s.bytes.items; faults = s.faults }
 -- the numbers of the writes, counted from 1, that are to fail
 abbrev pub failing_writes : MemSink → List ℕ
 failing_writes s = s.failing.items
+
+-- how many writes there were
+abbrev pub writes_of : MemSink → ℕ
+writes_of s = s.writes
+
+-- the number of the next write, counted from 1; behind the last number no other comes
+abbrev pub next_write : MemSink → ℕ
+next_write s = min (writes_of s + 1) (2 ^ 64 - 1)
+
+-- whether the next write is to fail
+abbrev pub next_fails : MemSink → Bool
+next_fails s = list_any (λ k. k == next_write s) (failing_writes s)

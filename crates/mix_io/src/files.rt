@@ -5,12 +5,15 @@ ghost use Rattle.mix_io.specs.Contents.{GivesFrom, end_after};
 ghost use Rattle.mix_io.specs.Views.{FilesView, KeepsFiles};
 
 use std::alloc::Global;
+use thiserror::Error;
 
 /// Why a read was refused.
-#[derive(Clone, Copy, Debug, PartialEq, Eq)]
+#[derive(Clone, Copy, Debug, PartialEq, Eq, Error)]
 pub enum ReadAtFault {
     /// The file could not be read. This comes only where its count of faults rose.
+    #[error("the read failed")]
     Failed,
+    #[error("memory ran out")]
     OutOfMemory,
 }
 

@@ -80,6 +80,12 @@ fn copy_from(bytes: &[u8], from: u64, room: &mut [u8]) -> usize
 }
 
 impl Files for MemFiles {
+    ghost use Rattle.std.specs.Prelude.{◌≡◌, ◌≤◌, ℕ, List, None, length, IfOk, IfSome, OnOk, OnErr, IsErrOf};
+    ghost use Rattle.mix_base.specs.Counts.{HasRisen};
+    ghost use Rattle.mix_io.specs.Contents.{GivesFrom, end_after};
+    ghost use Rattle.mix_io.specs.Memory.{mem_files_view, reads_of, next_read, next_contents, fails_at};
+    ghost use Rattle.mix_io.specs.Views.{KeepsFiles};
+
     ghost view = { mem_files_view };
 
     fn read_at(
@@ -88,7 +94,20 @@ impl Files for MemFiles {
         path: &str,
         from: u64,
         room: &mut [u8],
-    ) -> Result<usize, ReadAtFault> {
+    ) -> Result<usize, ReadAtFault>
+        ensures keeps { KeepsFiles (mem_files_view self.new) (mem_files_view self.old) }
+        ensures bound { IfOk result (λ count. count ≤ length room.new) }
+        ensures bytes { IfOk result (λ count. IfSome ((mem_files_view self.old).told path.now) (λ contents. GivesFrom contents from count room.new)) }
+        ensures failed { IsErrOf result ReadAtFault.Failed → HasRisen ((mem_files_view self.old).faults path.now) ((mem_files_view self.new).faults path.now) }
+        ensures steady { OnOk result ((p : List ℕ) → (mem_files_view self.new).faults p ≡ (mem_files_view self.old).faults p) }
+        ensures end { IfOk result (λ count. (mem_files_view self.new).furthest path.now ≡ end_after ((mem_files_view self.old).furthest path.now) from count) }
+        ensures end_err { OnErr result ((mem_files_view self.new).furthest path.now ≡ (mem_files_view self.old).furthest path.now) }
+        // Which reads fail: those that the list names, and those of a path without a file.
+        ensures named { OnErr result (next_contents self.old path.now ≡ None) }
+        ensures fails { next_contents self.old path.now ≡ None → IsErrOf result ReadAtFault.Failed }
+        ensures counted { reads_of self.new ≡ next_read self.old }
+        ensures list { (call : ℕ) → fails_at self.new call ≡ fails_at self.old call }
+    {
         self.calls = self.calls.saturating_add(1);
         let Some(bytes) = self.bytes_at_call(self.calls, path) else {
             self.faults = self.faults.saturating_add(1);

@@ -1,6 +1,6 @@
 // A sink in memory, which fails at the writes that a list names.
 ghost use Rattle.std.specs.Prelude.{◌≡◌, ◌++◌, ◌/◌, [], length, take, Some, OnOk, OnErr};
-ghost use Rattle.mix_io.specs.Memory.{failing_writes, mem_sink_view};
+ghost use Rattle.mix_io.specs.Memory.{failing_writes, mem_sink_view, next_fails};
 
 use crate::{Sink, SinkFault};
 use std::alloc::{AllocError, Global};
@@ -28,6 +28,13 @@ impl MemSink {
         }
     }
 
+    // Whether the next write is to fail.
+    fn next_fails(&self) -> bool
+        ensures { result ≡ next_fails self.now }
+    {
+        self.failing.contains(&self.writes.saturating_add(1))
+    }
+
     /// The bytes that were written.
     pub fn bytes(&self) -> &[u8]
         ensures { (mem_sink_view self.now).written ≡ Some result.now }
@@ -45,11 +52,30 @@ fn append_half(bytes: &mut Vec<u8>, piece: &[u8]) -> Result<(), AllocError>
 }
 
 impl Sink for MemSink {
+    ghost use Rattle.std.specs.Prelude.{◌≡◌, ◌≤◌, ◌/◌, true, false, length, take, OnOk, OnErr, IsErrOf};
+    ghost use Rattle.mix_base.specs.Counts.{HasRisen};
+    ghost use Rattle.mix_io.specs.Contents.{Appends, AppendsFront};
+    ghost use Rattle.mix_io.specs.Memory.{mem_sink_view, failing_writes, writes_of, next_write, next_fails};
+
     ghost view = { mem_sink_view };
 
-    fn write(&mut self, _alloc: Global, piece: &[u8]) -> Result<(), SinkFault> {
+    fn write(&mut self, _alloc: Global, piece: &[u8]) -> Result<(), SinkFault>
+        ensures ok { OnOk result (Appends (mem_sink_view self.old).written (mem_sink_view self.new).written piece.now) }
+        ensures err { OnErr result (AppendsFront (mem_sink_view self.old).written (mem_sink_view self.new).written piece.now) }
+        ensures count { (mem_sink_view self.old).faults ≤ (mem_sink_view self.new).faults }
+        ensures failed { IsErrOf result SinkFault.Failed → HasRisen (mem_sink_view self.old).faults (mem_sink_view self.new).faults }
+        // Which writes fail: those that the list names, and a failing one takes the first half.
+        ensures named { IsErrOf result SinkFault.Failed → next_fails self.old ≡ true }
+        ensures fails { OnOk result (next_fails self.old ≡ false) }
+        ensures half { IsErrOf result SinkFault.Failed
+            → Appends (mem_sink_view self.old).written (mem_sink_view self.new).written (take (length piece.now / 2) piece.now) }
+        ensures steady { next_fails self.old ≡ false → (mem_sink_view self.new).faults ≡ (mem_sink_view self.old).faults }
+        ensures counted { writes_of self.new ≡ next_write self.old }
+        ensures list { failing_writes self.new ≡ failing_writes self.old }
+    {
+        let fails = self.next_fails();
         self.writes = self.writes.saturating_add(1);
-        if self.failing.contains(&self.writes) {
+        if fails {
             append_half(&mut self.bytes, piece)?;
             self.faults = self.faults.saturating_add(1);
             return Err(SinkFault::Failed);

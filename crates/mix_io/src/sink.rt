@@ -6,12 +6,15 @@ ghost use Rattle.mix_io.specs.Views.{SinkView};
 ghost use Rattle.mix_io.specs.declared.sink.SinkFault.TheVariants.{OutOfMemory};
 
 use std::alloc::{AllocError, Global};
+use thiserror::Error;
 
 /// Why a write was refused.
-#[derive(Clone, Copy, Debug, PartialEq, Eq)]
+#[derive(Clone, Copy, Debug, PartialEq, Eq, Error)]
 pub enum SinkFault {
     /// The sink took no more. This comes only where its count of faults rose.
+    #[error("the write failed")]
     Failed,
+    #[error("memory ran out")]
     OutOfMemory,
 }
 

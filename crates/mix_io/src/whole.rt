@@ -6,6 +6,7 @@ ghost use Rattle.mix_io.specs.declared.whole.ReadWhole.TheVariants.{OutOfMemory}
 
 use crate::{Files, ReadAtFault};
 use std::alloc::{AllocError, Global};
+use thiserror::Error;
 
 /// The most bytes that a file which is read whole may have.
 pub const WHOLE_LIMIT: usize = 67_108_864;
@@ -14,12 +15,15 @@ pub const WHOLE_LIMIT: usize = 67_108_864;
 const ROOM: usize = 65_536;
 
 /// Why a file was not read whole.
-#[derive(Clone, Copy, Debug, PartialEq, Eq)]
+#[derive(Clone, Copy, Debug, PartialEq, Eq, Error)]
 pub enum ReadWhole {
     /// A read failed. This comes only where the path's count of faults rose.
+    #[error("a read of the file failed")]
     Failed,
     /// The file has more than `WHOLE_LIMIT` bytes.
+    #[error("the file is longer than {} bytes", WHOLE_LIMIT)]
     TooLong,
+    #[error("memory ran out")]
     OutOfMemory,
 }
 

@@ -4,12 +4,15 @@ ghost use Rattle.mix_lines.specs.declared.fault.LinesFault.TheVariants.{OutOfMem
 
 use mix_io::SinkFault;
 use std::alloc::AllocError;
+use thiserror::Error;
 
 /// Why the lines of a run were cut short.
-#[derive(Clone, Copy, Debug, PartialEq, Eq)]
+#[derive(Clone, Copy, Debug, PartialEq, Eq, Error)]
 pub enum LinesFault {
     /// The sink failed. This comes only where its count of faults rose.
+    #[error("the sink failed")]
     SinkFailed,
+    #[error("memory ran out")]
     OutOfMemory,
 }
 

@@ -11,12 +11,15 @@ use mix_tree::Label;
 use mix_words::lines::{cut_lines, is_passed_over};
 use mix_words::words::{cut_words, is_script_name};
 use std::alloc::{AllocError, AllocFailed, Global};
+use thiserror::Error;
 
 /// Why a script was not read.
-#[derive(Clone, Copy, Debug, PartialEq, Eq)]
+#[derive(Clone, Copy, Debug, PartialEq, Eq, Error)]
 pub enum ScriptFault {
     /// The number of the first line that fits no form. Lines count from 1, those that are passed over too.
+    #[error("no form fits line {0}")]
     Line(usize),
+    #[error("memory ran out")]
     OutOfMemory,
 }
 

@@ -6,12 +6,11 @@ ghost use Rattle.mix_mount.specs.declared.mount.Mount.TheVariants.{Absent};
 ghost use Rattle.xmas_rule.specs.RuleMade.{rule_of};
 ghost use Rattle.mix_top.specs.Causes.{IsNoDocument};
 ghost use Rattle.mix_top.specs.Course.{file_of, is_of, names_source};
-ghost use Rattle.mix_top.specs.Mounting.{AreMounted, IsMountStop, IsMountedFile, IsMountFor, IsSourceStop};
+ghost use Rattle.mix_top.specs.Mounting.{AreMounted, IsMountStop, IsMountedFile, IsMountFor, IsSourceStop, is_deep};
 ghost use Rattle.mix_top.specs.Stops.{IsLoadStop};
 
-use crate::load::load_tree;
+use crate::load::mount_file;
 use crate::refusal::Stop;
-use bracket_wrap::BracketDoc;
 use mix_catalog::{Catalog, SourceKind, SourceSpec};
 use mix_io::Files;
 use mix_mount::Mount;
@@ -47,18 +46,17 @@ fn path_of(file: &Label) -> &str
     }
 }
 
-// The document of a source's file. An error is as with a tree.
-fn mount_file<F: Files>(alloc: Global, files: &mut F, spec: &SourceSpec) -> Result<Mount, Stop>
+// The document of a source's file, given as the catalog says. An error is as with a document.
+fn mount_spec<F: Files>(alloc: Global, files: &mut F, spec: &SourceSpec) -> Result<Mount, Stop>
     requires { IsChunk spec.now.chunk }
     ensures keeps { KeepsFiles (F.view files.new) (F.view files.old) }
     ensures steady { OnOk result ((p : List ℕ) → (F.view files.new).faults p ≡ (F.view files.old).faults p) }
-    ensures ok { IfOk result (IsMountedFile (F.view files.old) (file_of spec.now.kind)) }
+    ensures ok { IfOk result (IsMountedFile (F.view files.old) (file_of spec.now.kind) spec.now.chunk (is_deep spec.now.kind)) }
     ensures err { IfErr result (IsLoadStop IsNoDocument (F.view files.old) (F.view files.new) (file_of spec.now.kind)) }
 {
     match &spec.kind {
         SourceKind::Bracket { file, deep } => {
-            let tree = load_tree(alloc, files, path_of(file))?;
-            Ok(Mount::Bracket(BracketDoc::open(alloc, tree, spec.chunk, *deep)?))
+            mount_file(alloc, files, path_of(file), spec.chunk, *deep)
         }
     }
 }
@@ -78,7 +76,7 @@ fn mount_source<F: Files>(
     ensures err { IfErr result (IsSourceStop (F.view files.old) (F.view files.new) (rule_of rule.now) s spec.now) }
 {
     if names_source(rule, s) {
-        mount_file(alloc, files, spec)
+        mount_spec(alloc, files, spec)
     } else {
         Ok(Mount::Absent)
     }

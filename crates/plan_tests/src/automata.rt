@@ -1,6 +1,6 @@
 // What the contracts leave to tests: that calls succeed, and values worked out by hand.
-use path_auto::{Auto, bindings_are_matches, visits_are_matches};
 use mix_tree::Label;
+use path_auto::{Auto, bindings_are_matches, visits_are_matches};
 use path_expr::{Node, Path, PathFault, read_path};
 use std::alloc::Global;
 use std::test::Fail;

@@ -1,7 +1,7 @@
 // The bindings of operators, worked out by hand.
 use crate::open::{EACH_CHILD, HOMES, MED_HOMES, ONE, opened, sources, trees};
-use lxp_memory::MemSources;
 use crate::walk::{behind, beneath, bindings, leaves};
+use lxp_memory::MemSources;
 use mix_tree::Var;
 use std::alloc::Global;
 use std::test::Fail;

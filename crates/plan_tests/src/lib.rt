@@ -1,4 +1,4 @@
-//! Tests of plans: automata, benches, runs and the plain program of rules, over documents in memory.
+//! Tests of plans: automata, texts, benches, runs and the plain program of rules, over documents in memory.
 #![tactic(auto)]
 
 #[cfg(test)]
@@ -14,6 +14,8 @@ mod open;
 mod plain;
 #[cfg(test)]
 mod run;
+#[cfg(test)]
+mod texts;
 #[cfg(test)]
 mod views;
 #[cfg(test)]

@@ -11,7 +11,7 @@ use lxp_core::Sources;
 use lxp_memory::MemSources;
 use mix_io::MemSink;
 use mix_run::{LinesFault, run_lines};
-use mix_script::read_script;
+use mix_script::{Step, read_script};
 use mix_tree::Tree;
 use plan_make::make_plan;
 use std::alloc::Global;
@@ -53,27 +53,26 @@ pub fn run(
     failing: &[u64],
     script: &str,
 ) -> Result<Outcome, Fail> {
-    let docs = trees(alloc, setting.docs)?;
-    run_on(alloc, setting, docs, failing, script)
+    let steps = read_script(alloc, script.as_bytes())?;
+    run_on(alloc, setting, trees(alloc, setting.docs)?, failing, &steps)
 }
 
-/// The same over other documents.
+/// Answers steps on the document of a setting's view over these documents, where these fills fail.
 pub fn run_on(
     alloc: Global,
     setting: &Setting,
     docs: Vec<Tree>,
     failing: &[u64],
-    script: &str,
+    steps: &[Step],
 ) -> Result<Outcome, Fail> {
     let read = read(alloc, setting.catalog, setting.view)?;
-    let steps = read_script(alloc, script.as_bytes())?;
     let mut s = sources(alloc, docs, &setting.cutting, failing)?;
     if read.names.len() != s.count() as usize {
         return Err("not a name for each document".into());
     }
     let m = opened(alloc, &s, &read)?;
     let mut out = MemSink::new(alloc, Vec::new(alloc));
-    let answer = run_lines(alloc, &mut s, m, &steps, &read.names, &mut out);
+    let answer = run_lines(alloc, &mut s, m, steps, &read.names, &mut out);
     Ok(Outcome {
         lines: out.bytes().to_vec(alloc)?,
         answer,

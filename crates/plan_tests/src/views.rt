@@ -1,6 +1,8 @@
 // What runs over views write, with lines worked out by hand.
 use crate::open::{Cutting, EACH_CHILD, HOMES, MED_HOMES, ONE, trees};
 use crate::run::{Setting, run, run_on};
+use mix_script::{Step, read_script};
+use mix_tree::Label;
 use std::alloc::{AllocError, Global};
 use std::test::Fail;
 
@@ -32,9 +34,13 @@ const LABELS: &[&str] = &["l[x,10,9[a],010,9[b]]"];
 
 const ZIPS: &[&str] = &["homes[home[zip[1]],home[zip[2]],home[zip[1]]]"];
 
-// Each child of the root in turn.
-const EACH_LABEL: &str =
-    "r = root\nx = down r\nfetch x\nx = right x\nfetch x\nx = right x\nfetch x\nx = right x\nfetch x\nx = right x\nfetch x\nx = right x\n";
+// Each child of the root in turn, and the first child of the first two.
+const ASCENDING: &str =
+    "r = root\nx = down r\nfetch x\ny = down x\nfetch y\nx = right x\nfetch x\ny = down x\nfetch y\nx = right x\nfetch x\nx = right x\nfetch x\nx = right x\nfetch x\nx = right x\n";
+
+// The first child of the root, and the first child of the last two.
+const DESCENDING: &str =
+    "r = root\nx = down r\nfetch x\nx = right x\nx = right x\nx = right x\ny = down x\nfetch y\nx = right x\ny = down x\nfetch y\nx = right x\n";
 
 // Homes with their schools, where each list may begin with a hole.
 const CUT_HOMES: Setting = Setting {
@@ -110,15 +116,33 @@ fn each_fill_may_fail_in_turn(rt: HostRuntime) -> Result<(), Fail> {
     Ok(())
 }
 
+// A step of a client, as a script's line gives it.
+fn step(alloc: Global, client: &str, line: &str) -> Result<Step, Fail> {
+    let steps = read_script(alloc, line.as_bytes())?;
+    let act = steps.into_iter().next().ok_or("no step")?.act;
+    let client = Label::of_text(alloc, client.as_bytes())?;
+    Ok(Step { client, act })
+}
+
 #[test]
 fn clients_have_names_of_their_own(rt: HostRuntime) -> Result<(), Fail> {
     let alloc = rt.alloc();
-    let script = "fetch r\nr = root\nx = right r\nfetch x\nfetch r\n";
-    let done = run(alloc, &EACH_HOME, &[], script)?;
-    assert_eq!(rt;
-        done.lines.as_slice(),
-        b"no node\nnode\nnone\nno node\nlabel answer\n".as_slice()
-    );
+    let rows = [
+        ("ann", "r = root", "ann: node\n"),
+        ("bob", "fetch r", "bob: no node\n"),
+        ("bob", "r = root", "bob: node\n"),
+        ("ann", "r = right r", "ann: none\n"),
+        ("ann", "fetch r", "ann: no node\n"),
+        ("bob", "fetch r", "bob: label answer\n"),
+    ];
+    let mut steps = Vec::new(alloc);
+    let mut wanted = Vec::new(alloc);
+    for (client, line, answer) in rows {
+        steps.push(step(alloc, client, line)?)?;
+        wanted.extend_from_slice(answer.as_bytes())?;
+    }
+    let done = run_on(alloc, &EACH_HOME, trees(alloc, DOCS)?, &[], &steps)?;
+    assert_eq!(rt; done.lines.as_slice(), wanted.as_slice());
     assert_eq!(rt; done.fills, 0);
     Ok(())
 }
@@ -156,15 +180,15 @@ fn views_are_walked(rt: HostRuntime) -> Result<(), Fail> {
             ONE,
             "CONSTRUCT <o> $X </o> WHERE s l._ $X ORDER BY $X",
             LABELS,
-            EACH_LABEL,
-            "node\nnode\nlabel 9\nnode\nlabel 9\nnode\nlabel 010\nnode\nlabel 10\nnode\nlabel x\nnone\n",
+            ASCENDING,
+            "node\nnode\nlabel 9\nnode\nlabel a\nnode\nlabel 9\nnode\nlabel b\nnode\nlabel 010\nnode\nlabel 10\nnode\nlabel x\nnone\n",
         ),
         (
             ONE,
             "CONSTRUCT <o> $X </o> WHERE s l._ $X ORDER BY $X DESC",
             LABELS,
-            EACH_LABEL,
-            "node\nnode\nlabel x\nnode\nlabel 10\nnode\nlabel 010\nnode\nlabel 9\nnode\nlabel 9\nnone\n",
+            DESCENDING,
+            "node\nnode\nlabel x\nnode\nnode\nnode\nnode\nlabel a\nnode\nnode\nlabel b\nnone\n",
         ),
         // groups by a label, and a list inside
         (
@@ -232,13 +256,14 @@ fn a_first_screen_asks_the_same_of_any_documents(rt: HostRuntime) -> Result<(), 
     let alloc = rt.alloc();
     let script =
         "r = root\nm = down r\na = down m\na = right a\na = right a\na = right a\nfetch a\n";
+    let steps = read_script(alloc, script.as_bytes())?;
     for count in [4, 40, 400] {
         let homes = listed(alloc, "home[zip[1]]", count)?;
         let schools = listed(alloc, "school[zip[1]]", count)?;
         let homes = format!(in alloc; "homes[{homes}]")?;
         let schools = format!(in alloc; "schools[{schools}]")?;
         let docs = trees(alloc, &[homes.as_str(), schools.as_str()])?;
-        let done = run_on(alloc, &EACH_HOME, docs, &[], script)?;
+        let done = run_on(alloc, &EACH_HOME, docs, &[], &steps)?;
         assert_eq!(rt;
             done.lines.as_slice(),
             b"node\nnode\nnode\nnode\nnode\nnode\nlabel school\n".as_slice()

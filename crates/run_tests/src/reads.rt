@@ -48,10 +48,6 @@ fn a_view_is_refused_at_its_place(rt: HostRuntime) -> Result<(), Fail> {
             "doc: loose item at 14\n",
         ),
         (
-            "CONSTRUCT <a> $H $S </a> WHERE s homes.home $H AND s schools.school $S",
-            "doc: two lists at 17\n",
-        ),
-        (
             "CONSTRUCT <a> $X </a> WHERE t a $X",
             "doc: unknown source at 28\n",
         ),

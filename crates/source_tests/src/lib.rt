@@ -1,4 +1,4 @@
-//! Tests of files and sinks in memory, of sources in memory, of buffers, of visits, and of walks.
+//! Tests of files and sinks in memory, of sources in memory and mounted ones, of buffers, of visits, and of walks.
 #![tactic(auto)]
 
 #[cfg(test)]
@@ -9,6 +9,8 @@ mod documents;
 mod files;
 #[cfg(test)]
 mod memory;
+#[cfg(test)]
+mod mounts;
 #[cfg(test)]
 mod visits;
 #[cfg(test)]

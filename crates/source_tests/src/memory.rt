@@ -5,8 +5,12 @@ use lxp_memory::MemSources;
 use std::alloc::{AllocError, Global};
 use std::test::Fail;
 
-// Writes a list, each hole as `?`, and notes its holes in the same order.
-fn note(out: &mut Vec<u8>, holes: &mut Vec<HoleId>, list: &[OpenTree]) -> Result<(), AllocError> {
+/// Writes a list, each hole as `?`, and notes its holes in the same order.
+pub fn note(
+    out: &mut Vec<u8>,
+    holes: &mut Vec<HoleId>,
+    list: &[OpenTree],
+) -> Result<(), AllocError> {
     for (i, item) in list.iter().enumerate() {
         if i > 0 {
             out.push(b',')?;

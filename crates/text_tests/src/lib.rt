@@ -1,4 +1,4 @@
-//! Tests of labels, bracket text, paths, catalogs, scripts and rules as text.
+//! Tests of labels, bracket text, paths, catalogs, scripts and rules as text, and of what views are read over a catalog.
 #![tactic(auto)]
 
 #[cfg(test)]
@@ -10,6 +10,10 @@ mod labels;
 #[cfg(test)]
 mod paths;
 #[cfg(test)]
+mod rules;
+#[cfg(test)]
 mod scripts;
+#[cfg(test)]
+mod views;
 #[cfg(test)]
 mod words;

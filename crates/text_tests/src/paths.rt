@@ -1,6 +1,6 @@
 // What the contracts leave to tests: that texts are read, and values worked out by hand.
-use path_expr::{Node, Path, PathFault, no_text_spells_two_paths, read_path, write_path};
 use mix_tree::Label;
+use path_expr::{Node, Path, PathFault, no_text_spells_two_paths, read_path, write_path};
 use std::alloc::{AllocError, Global};
 use std::test::Fail;
 

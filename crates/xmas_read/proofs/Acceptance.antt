@@ -7,7 +7,6 @@ use Rattle.xmas_text.specs.declared.var.KeyText.{KeyText}
 use Rattle.xmas_text.specs.Grammar.{Conds, one, also, Rule, conds_text}
 use Rattle.xmas_text.specs.Parsed.{RuleForm, cond_at, conds_at, parsed, conds_place}
 use Rattle.xmas_text.specs.Results.{SpellsWithin}
-use Rattle.xmas_rule.specs.Items.{lists}
 use Rattle.xmas_rule.specs.Rules.{RuleValue, IsAccepted}
 use Rattle.xmas_rule.specs.RuleMade.{rule_of}
 use Rattle.xmas_rule.specs.declared.rule.Rule.{Rule as MadeRule}
@@ -15,7 +14,7 @@ use Rattle.xmas_read.specs.declared.fault.XmasFault.{XmasFault}
 use Rattle.xmas_read.specs.declared.fault.XmasFault.TheVariants as fault
 use Rattle.xmas_read.specs.Tree.{Tree, form_of_tree, bound_names, template_vars, contents_vars, group_vars, order_vars}
 use Rattle.xmas_read.specs.Value.{key_value, own_keys, items_value, rule_value}
-use Rattle.xmas_read.specs.Refusals.{unless, first_in, first_place, first_of, size_refusals, scope_refusals, template_refusals, refusals, or_rule, checked, unbound_vars, unbound_in, unbound, bound_again, outer_keys, loose_items, further_lists, unknown_sources, differing_in}
+use Rattle.xmas_read.specs.Refusals.{unless, first_in, first_place, first_of, size_refusals, scope_refusals, template_refusals, refusals, or_rule, checked, unbound_vars, unbound_in, unbound, bound_again, outer_keys, loose_items, unknown_sources, differing_in}
 use Rattle.xmas_read.specs.Results.{Answers}
 use Rattle.xmas_read.proofs.Templates.{both_none, unless_none, unbound_append, template_accepted}
 use Rattle.xmas_read.proofs.Bodies.{conds_bound, all_bound, conds_compared, order_accepted, some_bound}
@@ -75,11 +74,9 @@ value_accepted x sources t w h =
     let free = no_place (λ at. fault.Unbound at) (unbound t) _ again.1 in
     let outer = no_place (λ at. fault.OuterGroup at) (outer_keys t.template.group) _ parts.1 in
     let loose = no_place (λ at. fault.Loose at) (loose_items names [] t.template.contents) _ outer.1 in
-    let second = no_place (λ at. fault.TwoLists at) (further_lists names [] false t.template.contents) _ loose.1 in
     let uses = both_none (unbound_vars names (template_vars t.template) ++ unbound_in names [] t.conds) (unbound_vars names (order_vars t.order)) free.0 in
     let bodies = both_none (unbound_vars names (template_vars t.template)) (unbound_in names [] t.conds) uses.0 in
     let vars = unbound_append names (contents_vars t.template.contents) (group_vars t.template.group) bodies.0 in
-    let shown = template_accepted names [] false t.template.contents vars.0 loose.0 second.0 in
     record {
       sourced = conds_sourced sources names t.conds unknown.0;
       few_positions = conds_few x sources names t w;
@@ -88,8 +85,7 @@ value_accepted x sources t w h =
       some = some_bound [] t.conds (tree_conds x t w) bodies.1;
       compared = conds_compared sources names [] t.conds bodies.1;
       ordered = order_accepted names t.order uses.1;
-      shown = shown.0;
-      one_list = (let q : 0 + lists [] (items_value names t.template.contents) ≤ 1 = shown.1 in omega (arith, q));
+      shown = template_accepted names [] t.template.contents vars.0 loose.0;
       made_once = no_keys names t.template.group outer.0;
     }
 

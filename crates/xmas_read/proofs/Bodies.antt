@@ -1,7 +1,10 @@
 -- Conditions that aren't refused bind each variable once, and before it is used.
 use Rattle.std.proofs.Common.{◌≡◌, ◌∙◌, ◌+◌, ◌<◌, ◌≤◌, ◌↔◌, ℕ, Bool, true, false, cond, ◌||◌, ◌==◌, not, List, [], ◌∷◌, ◌++◌, Option, Some, None, refl, ap, sym, subst, length, map, arith, bytes_eq}
 use Rattle.std.specs.List.{AllByRecursion}
+use Rattle.mix_tree.specs.Comparisons.{compares_nodes}
 use Rattle.xmas_text.specs.declared.var.VarText.{VarText}
+use Rattle.xmas_text.specs.declared.cond.Comparison.{Comparison}
+use Rattle.xmas_text.specs.declared.cond.Comparison.TheVariants as comparison
 use Rattle.xmas_text.specs.declared.cond.CondText.{CondText}
 use Rattle.xmas_text.specs.declared.cond.CondText.TheVariants as condition
 use Rattle.xmas_text.specs.declared.cond.OperandText.{OperandText}
@@ -12,7 +15,7 @@ use Rattle.xmas_rule.specs.Rules.{IsOrdered}
 use Rattle.xmas_rule.proofs.Kept.{components_has}
 use Rattle.xmas_rule.specs.declared.condition.Cond.{Cond}
 use Rattle.xmas_read.specs.Tree.{bound_var, bound_names, operand_vars, order_vars}
-use Rattle.xmas_read.specs.Value.{place_in, operand_value, cond_value, order_value}
+use Rattle.xmas_read.specs.Value.{place_in, operand_value, op_value, cond_value, order_value}
 use Rattle.xmas_read.specs.Refusals.{has_name, unless, again_at, with_bound, bound_again, unbound_vars, unbound_at, unbound_in}
 use Rattle.xmas_read.proofs.Naming.{bytes_sym}
 use Rattle.xmas_read.proofs.NamePlaces.{neither, place_small, has_place_of, name_more, among_themselves, AreDifferent, all_places, places_small}
@@ -99,7 +102,16 @@ operand_below : (names : List (List ℕ)) (o : OperandText) → unbound_vars nam
 operand_below names (operand.Var v) h = (var_below names v [] h).0
 operand_below names (operand.Text l) h = tt
 
--- the comparisons of conditions that aren't refused are of the rule's variables
+-- a comparison of a rule's text is of labels
+labels_compared : (o : Comparison) → compares_nodes (op_value o) ≡ false
+labels_compared comparison.Eq = refl
+labels_compared comparison.Ne = refl
+labels_compared comparison.Lt = refl
+labels_compared comparison.Le = refl
+labels_compared comparison.Gt = refl
+labels_compared comparison.Ge = refl
+
+-- the comparisons of conditions that aren't refused are of the rule's variables, and of labels
 pub conds_compared : (sources names earlier : List (List ℕ)) (conds : List CondText) → unbound_in names earlier conds ≡ [] → AreCompared (length names) (comparisons (map (cond_value sources names) conds))
 conds_compared sources names earlier [] u = tt
 conds_compared sources names earlier (condition.FromSource at source path var ∷ conds) u = conds_compared sources names (earlier ++ var.name ∷ []) conds u
@@ -108,7 +120,7 @@ conds_compared sources names earlier (condition.FromVar start path var ∷ conds
 conds_compared sources names earlier (condition.Compare left op right ∷ conds) u =
     let parts = both_none (unbound_vars names (left ∷ operand_vars right)) (unbound_in names earlier conds) u in
     let l = var_below names left (operand_vars right) parts.0 in
-    ((l.0, operand_below names right l.1), conds_compared sources names earlier conds parts.1)
+    ((l.0, operand_below names right l.1, labels_compared op), conds_compared sources names earlier conds parts.1)
 
 -- an order that isn't refused is by one of the rule's variables
 pub order_accepted : (names : List (List ℕ)) (o : Option OrderText) → unbound_vars names (order_vars o) ≡ [] → IsOrdered (length names) (order_value names o)

@@ -3,6 +3,7 @@ use Rattle.std.proofs.Common.{◌≡◌, ◌∙◌, ◌+◌, ◌<◌, ℕ, suc, 
 use Rattle.std.specs.List.{list_any, AllByRecursion}
 use Rattle.std.proofs.lemmas.List.{length-append}
 use Rattle.mix_tree.specs.LabelGrammar.{meaning}
+use Rattle.mix_tree.specs.Signs.{op_sign}
 use Rattle.mix_tree.specs.Spelling.{quoted}
 use Rattle.path_expr.specs.Form.{Form}
 use Rattle.path_expr.specs.Values.{value_of}
@@ -14,13 +15,15 @@ use Rattle.xmas_text.specs.Grammar as written
 use Rattle.xmas_text.specs.Parsed.{path_form, operand_at, cond_at, conds_at, order_at}
 use Rattle.xmas_text.specs.declared.var.VarText.{VarText}
 use Rattle.xmas_text.specs.declared.cond.PathLimit.{PathLimit}
+use Rattle.xmas_text.specs.declared.cond.Comparison.{Comparison}
+use Rattle.xmas_text.specs.declared.cond.Comparison.TheVariants as comparison
 use Rattle.xmas_text.specs.declared.cond.CondText.{CondText}
 use Rattle.xmas_text.specs.declared.cond.CondText.TheVariants as condition
 use Rattle.xmas_text.specs.declared.cond.OperandText.{OperandText}
 use Rattle.xmas_text.specs.declared.cond.OperandText.TheVariants as operand
 use Rattle.xmas_rule.specs.declared.condition.Cond.{Cond as ValueCond}
 use Rattle.xmas_read.specs.Tree.{bound_var, bound_names, operand_vars}
-use Rattle.xmas_read.specs.Value.{place_in, path_value, operand_value, cond_value, order_value}
+use Rattle.xmas_read.specs.Value.{place_in, path_value, operand_value, op_value, cond_value, order_value}
 use Rattle.xmas_read.specs.Refusals.{has_name, unless, has_path, unknown_sources, bound_again, unbound_vars, unbound_at, unbound_in}
 use Rattle.xmas_read.specs.Canonical.{cond_text, more_conds, conds_text, operand_text, order_text}
 use Rattle.xmas_read.proofs.CleanForm.{clean_path, clean_operand, clean_cond, clean_conds, clean_order, clean_is_operand}
@@ -150,6 +153,15 @@ KnownCond sources names (condition.FromSource at from path var) = (has_name sour
 KnownCond sources names (condition.FromVar start path var) = (has_name names start.name ≡ true) × (has_name names var.name ≡ true)
 KnownCond sources names (condition.Compare left op right) = (has_name names left.name ≡ true) × KnownOperand names right
 
+-- a comparison's sign
+op_written : (o : Comparison) → written.op_text o ≡ op_sign (op_value o)
+op_written comparison.Eq = refl
+op_written comparison.Ne = refl
+op_written comparison.Lt = refl
+op_written comparison.Le = refl
+op_written comparison.Gt = refl
+op_written comparison.Ge = refl
+
 -- the text of a condition
 cond_written :
     (sources names : List (List ℕ)) (n : ℕ) (c : Cond) → KeptCond c → KnownCond sources names (cond_at n c)
@@ -166,10 +178,12 @@ cond_written sources names n (walk start g p h v) k w =
     ∙ ap (λ r. 36 ∷ (get_or names (place_in names start) [] ++ (32 ∷ (canon (path_value (path_form p)) ++ (32 ∷ 36 ∷ r))))) (sym (name_back names v w.1))
 cond_written sources names n (compare v g o h (a_variable u)) k w =
     ap (λ r. 36 ∷ (r ++ (32 ∷ (written.op_text o ++ (32 ∷ 36 ∷ u))))) (sym (name_back names v w.0))
-    ∙ ap (λ r. 36 ∷ (get_or names (place_in names v) [] ++ (32 ∷ (written.op_text o ++ (32 ∷ 36 ∷ r))))) (sym (name_back names u w.1))
+    ∙ ap (λ r. 36 ∷ (get_or names (place_in names v) [] ++ (32 ∷ (r ++ (32 ∷ 36 ∷ u))))) (op_written o)
+    ∙ ap (λ r. 36 ∷ (get_or names (place_in names v) [] ++ (32 ∷ (op_sign (op_value o) ++ (32 ∷ 36 ∷ r))))) (sym (name_back names u w.1))
 cond_written sources names n (compare v g o h (a_text ps)) k w =
     ap (λ r. 36 ∷ (r ++ (32 ∷ (written.op_text o ++ (32 ∷ written.quoted_text (pieces_of (meaning ps))))))) (sym (name_back names v w.0))
-    ∙ ap (λ r. 36 ∷ (get_or names (place_in names v) [] ++ (32 ∷ (written.op_text o ++ (32 ∷ r))))) (sym (quoted_pieces (meaning ps)).2)
+    ∙ ap (λ r. 36 ∷ (get_or names (place_in names v) [] ++ (32 ∷ (r ++ (32 ∷ written.quoted_text (pieces_of (meaning ps))))))) (op_written o)
+    ∙ ap (λ r. 36 ∷ (get_or names (place_in names v) [] ++ (32 ∷ (op_sign (op_value o) ++ (32 ∷ r))))) (sym (quoted_pieces (meaning ps)).2)
 
 -- conditions behind a first one, and one more
 more_push : (sources names : List (List ℕ)) (cs : List ValueCond) (c : ValueCond) → more_conds sources names (cs ++ c ∷ []) ≡ more_conds sources names cs ++ (codes " AND " ++ cond_text sources names c)

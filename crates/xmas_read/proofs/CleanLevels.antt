@@ -1,4 +1,4 @@
--- What is refused of items depends on their value alone, but for the places: how many they are, loose ones, and second lists.
+-- What is refused of items depends on their value alone, but for the places: how many they are, and loose ones.
 use Rattle.std.proofs.Common.{◌≡◌, ◌∙◌, ◌+◌, ℕ, Bool, true, false, cond, ◌||◌, ◌&&◌, not, nat_lt, List, [], ◌∷◌, ◌++◌, refl, ap, sym, map}
 use Rattle.mix_tree.specs.declared.var.Key.{Key}
 use Rattle.mix_tree.specs.Keys.{stands, collects, in_force}
@@ -6,8 +6,7 @@ use Rattle.xmas_text.specs.Contents.{Leaf, node, label_of, text, Contents, nothi
 use Rattle.xmas_rule.specs.Items as items
 use Rattle.xmas_read.specs.Tree.{items_in}
 use Rattle.xmas_read.specs.Value.{own_keys, items_value}
-use Rattle.xmas_read.specs.Refusals.{unless, leaf_keys, loose_leaf, loose_items, has_list, leaf_place, after_one, further_lists}
-use Rattle.xmas_read.proofs.Templates.{has_lists}
+use Rattle.xmas_read.specs.Refusals.{unless, leaf_keys, loose_leaf, loose_items}
 
 -- places as nothing but how many there are
 abbrev pub counted : List ℕ → List ℕ
@@ -27,12 +26,6 @@ none_counted (x ∷ xs) h = cc
 pub unless_counted : (b : Bool) (n : ℕ) → counted (unless b n) ≡ unless b 0
 unless_counted true n = refl
 unless_counted false n = refl
-
--- a place, where an item collects behind another one
-after_counted : (a b : Bool) (n : ℕ) → counted (after_one a b n) ≡ after_one a b 0
-after_counted true true n = refl
-after_counted true false n = refl
-after_counted false b n = refl
 
 -- there are none of one tree, so of another one with as many
 pub none_of_both : (xs ys : List ℕ) → counted xs ≡ counted ys → xs ≡ [] → ys ≡ []
@@ -77,42 +70,3 @@ loose_counted names force (element tags inside after) =
     counted_both (loose_items names around inside) (loose_items names force after)
     ∙ ap (λ (r : List ℕ). r ++ counted (loose_items names force after)) (loose_counted names around inside)
     ∙ ap (λ (r : List ℕ). loose_in around (items_value names inside) ++ r) (loose_counted names force after)
-
--- the items of a value that collect behind another one
-abbrev pub further_in : List Key → Bool → items.Items → List ℕ
-further_in force before items.done = []
-further_in force before (items.literal l rest) = after_one before false 0 ++ further_in force (before || false) rest
-further_in force before (items.variable s v own rest) = after_one before (collects force own) 0 ++ further_in force (before || collects force own) rest
-further_in force before (items.element l inside own rest) =
-    let here = collects force own in
-    let around = in_force force own in
-    after_one before here 0
-    ++ further_in around (not here && before) inside
-    ++ further_in force (before || cond here true (nat_lt 0 (items.lists around inside))) rest
-
--- one item that may collect before others
-one_counted : (a b : Bool) (n : ℕ) (xs ys : List ℕ) → counted xs ≡ ys → counted (after_one a b n ++ xs) ≡ after_one a b 0 ++ ys
-one_counted true true n xs ys h = ap (λ (r : List ℕ). 0 ∷ r) h
-one_counted true false n xs ys h = h
-one_counted false b n xs ys h = h
-
--- as many of a tree
-pub further_counted : (names : List (List ℕ)) (force : List Key) (before : Bool) (c : Contents) → counted (further_lists names force before c) ≡ further_in force before (items_value names c)
-further_counted names force before nothing = refl
-further_counted names force before (leaf (node s) after) =
-    one_counted before (collects force (leaf_keys names (node s))) s.at _ _ (further_counted names force (before || collects force (leaf_keys names (node s))) after)
-further_counted names force before (leaf (label_of s) after) =
-    one_counted before (collects force (leaf_keys names (label_of s))) s.at _ _ (further_counted names force (before || collects force (leaf_keys names (label_of s))) after)
-further_counted names force before (leaf (text l) after) = one_counted before false 0 _ _ (further_counted names force (before || false) after)
-further_counted names force before (element tags inside after) =
-    let own = own_keys names [] tags.group in
-    let here = collects force own in
-    let around = in_force force own in
-    let one = after_one before here tags.at in
-    let kids = further_lists names around (not here && before) inside in
-    let rest = λ (b : Bool). further_lists names force (before || cond here true b) after in
-    let value = items_value names inside in
-    ap (λ b. counted ((one ++ kids) ++ rest b)) (has_lists names around inside)
-    ∙ counted_both (one ++ kids) (rest (nat_lt 0 (items.lists around value)))
-    ∙ ap (λ (r : List ℕ). r ++ counted (rest (nat_lt 0 (items.lists around value)))) (one_counted before here tags.at kids (further_in around (not here && before) value) (further_counted names around (not here && before) inside))
-    ∙ ap (λ (r : List ℕ). (after_one before here 0 ++ further_in around (not here && before) value) ++ r) (further_counted names force (before || cond here true (nat_lt 0 (items.lists around value))) after)

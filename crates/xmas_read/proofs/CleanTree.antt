@@ -21,14 +21,14 @@ use Rattle.xmas_rule.specs.declared.condition.Cond.{Cond as ValueCond}
 use Rattle.xmas_rule.specs.declared.condition.OrderBy.{OrderBy}
 use Rattle.xmas_read.specs.Tree.{Tree, contents_vars, group_vars, template_vars, conds_vars, order_vars, vars_of, bound_names, items_in}
 use Rattle.xmas_read.specs.Value.{own_keys, items_value, cond_value, order_value, rule_value}
-use Rattle.xmas_read.specs.Refusals.{has_name, unless, different_vars, is_nested, has_many, has_path, differing_tags, unknown_sources, bound_again, unbound_vars, unbound_in, outer_keys, loose_items, further_lists}
+use Rattle.xmas_read.specs.Refusals.{has_name, unless, different_vars, is_nested, has_many, has_path, differing_tags, unknown_sources, bound_again, unbound_vars, unbound_in, outer_keys, loose_items}
 use Rattle.xmas_read.proofs.Templates.{unless_none, unbound_append}
 use Rattle.xmas_read.proofs.Bodies.{bound_apart}
 use Rattle.xmas_read.proofs.NamePlaces.{among_themselves}
 use Rattle.xmas_read.proofs.CleanForm.{clean_keys, clean_group, clean_items, clean_conds, clean_order}
 use Rattle.xmas_read.proofs.CleanText.{KnownGroup, KnownItems}
 use Rattle.xmas_read.proofs.CleanItems.{own_same, items_same, none_both, unless_same, none_differs}
-use Rattle.xmas_read.proofs.CleanLevels.{counted, none_of_both, all_items, items_counted, loose_in, loose_counted, further_in, further_counted}
+use Rattle.xmas_read.proofs.CleanLevels.{counted, none_of_both, all_items, items_counted, loose_in, loose_counted}
 use Rattle.xmas_read.proofs.CleanNames.{bound_both, items_known, items_bound, group_known, group_bound, clean_known, clean_group_known}
 use Rattle.xmas_read.proofs.CleanPaths.{KeptConds}
 use Rattle.xmas_read.proofs.CleanConds.{unplaced, KnownCond, conds_same, names_unplaced, values_unplaced, paths_unplaced, length_unplaced, unknown_unplaced, again_unplaced, unbound_unplaced}
@@ -204,6 +204,4 @@ clean_unrefused sources n m k n' m' k' p h u =
       outer = outer_none (group_place n' q) (group_place n p) p.group u.outer;
       loose = subst (λ ns. loose_items ns [] d ≡ []) names_are
           (none_of_both (loose_items names [] c) (loose_items names [] d) (loose_counted names [] c ∙ ap (loose_in []) (sym value) ∙ sym (loose_counted names [] d)) u.loose);
-      lists = subst (λ ns. further_lists ns [] false d ≡ []) names_are
-          (none_of_both (further_lists names [] false c) (further_lists names [] false d) (further_counted names [] false c ∙ ap (further_in [] false) (sym value) ∙ sym (further_counted names [] false d)) u.lists);
     }

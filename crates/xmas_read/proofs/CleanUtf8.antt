@@ -9,8 +9,8 @@ use Rattle.mix_base.proofs.Utf8.{utf8_split, one_utf8, utf8_push}
 use Rattle.mix_tree.specs.LabelGrammar.{Piece, ArePieces, inside_quotes, meaning}
 use Rattle.mix_tree.specs.Names.{IsName}
 use Rattle.mix_tree.specs.Spelling.{escaped, quoted}
-use Rattle.mix_tree.specs.declared.comparing.TestOp.{TestOp}
-use Rattle.mix_tree.specs.declared.comparing.TestOp.TheVariants as op
+use Rattle.xmas_text.specs.declared.cond.Comparison.{Comparison}
+use Rattle.xmas_text.specs.declared.cond.Comparison.TheVariants as op
 use Rattle.path_expr.specs.Grammar.{Spelled, text_of}
 use Rattle.path_expr.proofs.Again.{quoted_pieces, pieces_of}
 use Rattle.path_expr.proofs.Utf8.{label_utf8, name_utf8}
@@ -152,7 +152,7 @@ template_items (element (literal w f ps) g name inside b close e) h = absurd h.0
 template_items (element (element w f n i c m d) g name inside b close e) h = absurd h.0
 
 -- what stands behind an operator
-behind_op : (o : TestOp) (y : List ℕ) → IsUtf8 (op_text o ++ y) → IsUtf8 y
+behind_op : (o : Comparison) (y : List ℕ) → IsUtf8 (op_text o ++ y) → IsUtf8 y
 behind_op op.Eq y u = (utf8_split [] y 61 (omega arith) u).1
 behind_op op.Ne y u = (utf8_split (33 ∷ []) y 61 (omega arith) u).1
 behind_op op.Lt y u = (utf8_split [] y 60 (omega arith) u).1
@@ -161,7 +161,7 @@ behind_op op.Gt y u = (utf8_split [] y 62 (omega arith) u).1
 behind_op op.Ge y u = (utf8_split (62 ∷ []) y 61 (omega arith) u).1
 
 -- an operator before a text
-op_before : (o : TestOp) (y : List ℕ) → IsUtf8 y → IsUtf8 (op_text o ++ y)
+op_before : (o : Comparison) (y : List ℕ) → IsUtf8 y → IsUtf8 (op_text o ++ y)
 op_before op.Eq y u = before 61 y (omega arith) u
 op_before op.Ne y u = before 33 _ (omega arith) (before 61 y (omega arith) u)
 op_before op.Lt y u = before 60 y (omega arith) u

@@ -46,7 +46,6 @@ outcome_is o (fault.BoundTwice at) h = h
 outcome_is o (fault.Unbound at) h = h
 outcome_is o (fault.OuterGroup at) h = h
 outcome_is o (fault.Loose at) h = h
-outcome_is o (fault.TwoLists at) h = h
 outcome_is o fault.OutOfMemory h = tt
 
 -- the first refusal of all comes of the tree
@@ -120,7 +119,6 @@ IsOfTree (fault.BoundTwice at) = Unit {0}
 IsOfTree (fault.Unbound at) = Unit {0}
 IsOfTree (fault.OuterGroup at) = Unit {0}
 IsOfTree (fault.Loose at) = Unit {0}
-IsOfTree (fault.TwoLists at) = Unit {0}
 IsOfTree fault.OutOfMemory = ⊥
 
 -- such a refusal, or none
@@ -152,7 +150,7 @@ first_of_tree (Some e ∷ os) h = h.0
 -- all refusals of a tree are of trees
 all_of_tree : (sources : List (List ℕ)) (t : Tree) → AllOfTree (refusals sources t)
 all_of_tree sources t =
-    (large_of_tree _ large.Items tt, (large_of_tree _ large.Variables tt, (large_of_tree _ large.Conditions tt, (large_of_tree _ large.Nesting tt, (large_of_tree _ large.Positions tt, (place_of_tree (λ at. fault.TagDiffers at) (λ at. tt) _, (place_of_tree (λ at. fault.UnknownSource at) (λ at. tt) _, (place_of_tree (λ at. fault.BoundTwice at) (λ at. tt) _, (place_of_tree (λ at. fault.Unbound at) (λ at. tt) _, (place_of_tree (λ at. fault.OuterGroup at) (λ at. tt) _, (place_of_tree (λ at. fault.Loose at) (λ at. tt) _, (place_of_tree (λ at. fault.TwoLists at) (λ at. tt) _, tt))))))))))))
+    (large_of_tree _ large.Items tt, (large_of_tree _ large.Variables tt, (large_of_tree _ large.Conditions tt, (large_of_tree _ large.Nesting tt, (large_of_tree _ large.Positions tt, (place_of_tree (λ at. fault.TagDiffers at) (λ at. tt) _, (place_of_tree (λ at. fault.UnknownSource at) (λ at. tt) _, (place_of_tree (λ at. fault.BoundTwice at) (λ at. tt) _, (place_of_tree (λ at. fault.Unbound at) (λ at. tt) _, (place_of_tree (λ at. fault.OuterGroup at) (λ at. tt) _, (place_of_tree (λ at. fault.Loose at) (λ at. tt) _, tt)))))))))))
 
 -- what comes of a tree is no other refusal
 err_of_tree : (o : Option XmasFault) (v : RuleValue) (e : XmasFault) → OfTree o → or_rule o v ≡ Err e → IsOfTree e
@@ -185,5 +183,4 @@ answers_of x sources t r u w o = by r o
     by (Err (fault.Unbound at)) o = (u, (tree_of t, w, o))
     by (Err (fault.OuterGroup at)) o = (u, (tree_of t, w, o))
     by (Err (fault.Loose at)) o = (u, (tree_of t, w, o))
-    by (Err (fault.TwoLists at)) o = (u, (tree_of t, w, o))
     by (Err fault.OutOfMemory) o = tt

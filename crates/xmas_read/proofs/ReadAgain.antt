@@ -59,7 +59,6 @@ reads_rule x sources t v u h c (Err (fault.BoundTwice at)) a = no_fault x source
 reads_rule x sources t v u h c (Err (fault.Unbound at)) a = no_fault x sources t v (fault.Unbound at) h c a.1
 reads_rule x sources t v u h c (Err (fault.OuterGroup at)) a = no_fault x sources t v (fault.OuterGroup at) h c a.1
 reads_rule x sources t v u h c (Err (fault.Loose at)) a = no_fault x sources t v (fault.Loose at) h c a.1
-reads_rule x sources t v u h c (Err (fault.TwoLists at)) a = no_fault x sources t v (fault.TwoLists at) h c a.1
 reads_rule x sources t v u h c (Err fault.OutOfMemory) a = tt
 
 -- a rule that is read from some text is read from its canonical text

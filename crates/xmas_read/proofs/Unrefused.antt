@@ -6,7 +6,7 @@ use Rattle.xmas_read.specs.declared.fault.XmasFault.{XmasFault}
 use Rattle.xmas_read.specs.declared.fault.XmasFault.TheVariants as fault
 use Rattle.xmas_text.specs.declared.cond.CondText.{CondText}
 use Rattle.xmas_read.specs.Tree.{Tree, bound_names, template_vars, order_vars, items_in}
-use Rattle.xmas_read.specs.Refusals.{different_vars, is_nested, has_many, has_path, differing_in, unknown_sources, bound_again, unbound_vars, unbound_in, unbound, outer_keys, loose_items, further_lists, first_place, too_large, first_of, size_refusals, scope_refusals, template_refusals, refusals}
+use Rattle.xmas_read.specs.Refusals.{different_vars, is_nested, has_many, has_path, differing_in, unknown_sources, bound_again, unbound_vars, unbound_in, unbound, outer_keys, loose_items, first_place, too_large, first_of, size_refusals, scope_refusals, template_refusals, refusals}
 use Rattle.xmas_read.proofs.Templates.{both_none}
 use Rattle.xmas_read.proofs.NamePlaces.{neither}
 use Rattle.xmas_read.proofs.Acceptance.{no_place, both_pass}
@@ -27,7 +27,6 @@ pub record Unrefused (sources : List (List ℕ)) (t : Tree) : Type 0 where
   pub sorted : unbound_vars (bound_names t.conds) (order_vars t.order) ≡ []
   pub outer : outer_keys t.template.group ≡ []
   pub loose : loose_items (bound_names t.conds) [] t.template.contents ≡ []
-  pub lists : further_lists (bound_names t.conds) [] false t.template.contents ≡ []
 
 -- a size that is refused by none
 not_large : (b : Bool) (what : Large) (os : List (Option XmasFault)) → first_of (too_large b what ∷ os) ≡ None → (b ≡ false) × (first_of os ≡ None)
@@ -72,7 +71,6 @@ unrefused sources t h =
     let free = no_place (λ at. fault.Unbound at) (unbound t) _ again.1 in
     let outer = no_place (λ at. fault.OuterGroup at) (outer_keys t.template.group) _ parts.1 in
     let loose = no_place (λ at. fault.Loose at) (loose_items names [] t.template.contents) _ outer.1 in
-    let second = no_place (λ at. fault.TwoLists at) (further_lists names [] false t.template.contents) _ loose.1 in
     let uses = both_none (unbound_vars names (template_vars t.template) ++ unbound_in names [] t.conds) (unbound_vars names (order_vars t.order)) free.0 in
     let bodies = both_none (unbound_vars names (template_vars t.template)) (unbound_in names [] t.conds) uses.0 in
     record {
@@ -89,7 +87,6 @@ unrefused sources t h =
       sorted = uses.1;
       outer = outer.0;
       loose = loose.0;
-      lists = second.0;
     }
 
 -- fact by fact, so without a refusal
@@ -102,4 +99,4 @@ none_refused sources t u =
     (pass_size _ _ _ u.items (pass_size _ _ _ u.vars (pass_size _ _ _ u.conds (pass_size _ _ _ u.nested (pass_size _ _ _ u.many refl)))))
     (pass_both (scope_refusals sources t) (template_refusals t)
     (pass_place _ _ _ u.tags (pass_place _ _ _ u.known (pass_place _ _ _ u.again (pass_place _ _ _ free refl))))
-    (pass_place _ _ _ u.outer (pass_place _ _ _ u.loose (pass_place _ _ _ u.lists refl))))
+    (pass_place _ _ _ u.outer (pass_place _ _ _ u.loose refl)))

@@ -1,12 +1,12 @@
 -- The canonical text of a rule, by the names of its sources and of its variables: single blanks, and each group label written out.
 use Rattle.std.specs.Prelude.{ℕ, false, true, cond, List, [], ◌∷◌, ◌++◌, get_or, codes, Option, Some, None}
+use Rattle.mix_tree.specs.Signs.{op_sign}
 use Rattle.mix_tree.specs.Spelling.{quoted}
 use Rattle.mix_tree.specs.declared.var.Key.{Key}
 use Rattle.mix_tree.specs.declared.var.Key.TheVariants.{Node as node_key, LabelOf as label_key}
 use Rattle.mix_tree.specs.declared.comparing.Operand.{Operand}
 use Rattle.mix_tree.specs.declared.comparing.Operand.TheVariants.{Var as var_operand, Text as text_operand}
 use Rattle.path_expr.specs.Canonical.{canon}
-use Rattle.xmas_text.specs.Grammar.{op_text}
 use Rattle.xmas_rule.specs.Items.{Items, done, literal, variable, element, Shown, shown_key}
 use Rattle.xmas_rule.specs.Rules.{RuleValue}
 use Rattle.xmas_rule.specs.declared.condition.Cond.{Cond}
@@ -56,7 +56,7 @@ operand_text names (text_operand label) = quoted label
 abbrev pub cond_text : List (List ℕ) → List (List ℕ) → Cond → List ℕ
 cond_text sources names (FromSource source path v) = get_or sources source [] ++ (32 ∷ (canon path ++ (32 ∷ var_text names v)))
 cond_text sources names (FromVar start path v) = var_text names start ++ (32 ∷ (canon path ++ (32 ∷ var_text names v)))
-cond_text sources names (Compare t) = var_text names t.left ++ (32 ∷ (op_text t.op ++ (32 ∷ operand_text names t.right)))
+cond_text sources names (Compare t) = var_text names t.left ++ (32 ∷ (op_sign t.op ++ (32 ∷ operand_text names t.right)))
 
 -- conditions behind a first one, each behind AND
 abbrev pub more_conds : List (List ℕ) → List (List ℕ) → List Cond → List ℕ

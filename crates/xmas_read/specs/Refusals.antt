@@ -20,7 +20,7 @@ use Rattle.xmas_rule.specs.Rules.{RuleValue}
 use Rattle.xmas_read.specs.declared.fault.Large.{Large}
 use Rattle.xmas_read.specs.declared.fault.Large.TheVariants.{Items, Variables, Conditions, Nesting, Positions}
 use Rattle.xmas_read.specs.declared.fault.XmasFault.{XmasFault}
-use Rattle.xmas_read.specs.declared.fault.XmasFault.TheVariants.{TooLarge, TagDiffers, UnknownSource, BoundTwice, Unbound, OuterGroup, Loose, TwoLists}
+use Rattle.xmas_read.specs.declared.fault.XmasFault.TheVariants.{TooLarge, TagDiffers, UnknownSource, BoundTwice, Unbound, OuterGroup, Loose}
 use Rattle.xmas_read.specs.Tree.{Tree, vars_of, template_vars, operand_vars, order_vars, items_in, bound_var, bound_names}
 use Rattle.xmas_read.specs.Value.{place_in, own_keys, items_value, rule_value}
 
@@ -132,44 +132,6 @@ loose_items names force (element tags inside after) =
     loose_items names (in_force force (own_keys names [] tags.group)) inside ++ loose_items names force after
 loose_items names force (leaf i after) = loose_leaf names (in_force force (leaf_keys names i)) i ++ loose_items names force after
 
--- where an item that holds no others stands
-abbrev pub leaf_place : Leaf → ℕ
-leaf_place (node s) = s.at
-leaf_place (label_of s) = s.at
-leaf_place (text l) = 0
-
--- some item of the level collects: one of these, or one inside an element that doesn't
-abbrev pub has_list : List (List ℕ) → List Key → Contents → Bool
-has_list names force nothing = false
-has_list names force (element tags inside after) =
-    let own = own_keys names [] tags.group in
-    cond (collects force own) true (has_list names (in_force force own) inside) || has_list names force after
-has_list names force (leaf i after) = collects force (leaf_keys names i) || has_list names force after
-
--- the place of an item that collects, where one of its level does before it
-abbrev pub after_one : Bool → Bool → ℕ → List ℕ
-after_one before here at = cond (before && here) (at ∷ []) []
-
--- the items that collect behind another one of their level; whether one before these items does
-abbrev pub further_lists : List (List ℕ) → List Key → Bool → Contents → List ℕ
-further_lists names force before nothing = []
-further_lists names force before (element tags inside after) =
-    let own = own_keys names [] tags.group in
-    let here = collects force own in
-    let around = in_force force own in
-    after_one before here tags.at
-    ++ further_lists names around (not here && before) inside
-    ++ further_lists names force (before || cond here true (has_list names around inside)) after
-further_lists names force before (leaf i after) =
-    let here = collects force (leaf_keys names i) in
-    after_one before here (leaf_place i) ++ further_lists names force (before || here) after
-
--- those of an element, itself included
-abbrev pub further_element : List (List ℕ) → List Key → Bool → ElementForm → List ℕ
-further_element names force before e =
-    let own = own_keys names [] e.group in
-    after_one before (collects force own) e.at ++ further_lists names (in_force force own) (not (collects force own) && before) e.contents
-
 -- the first of places, where there is one
 abbrev pub first_in : List ℕ → Option ℕ
 first_in [] = None
@@ -208,13 +170,12 @@ scope_refusals sources t =
     ∷ first_place Unbound (unbound t)
     ∷ []
 
--- keys of the outer element, loose items and second lists
+-- keys of the outer element, and loose items
 abbrev pub template_refusals : Tree → List (Option XmasFault)
 template_refusals t =
     let names = bound_names t.conds in
     first_place OuterGroup (outer_keys t.template.group)
     ∷ first_place Loose (loose_items names [] t.template.contents)
-    ∷ first_place TwoLists (further_lists names [] false t.template.contents)
     ∷ []
 
 -- the refusals of a tree over sources of these names, in the order in which one goes before another

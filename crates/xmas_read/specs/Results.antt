@@ -31,7 +31,6 @@ IsOutcome outcome (Err (fault.BoundTwice at)) = outcome ≡ Err (fault.BoundTwic
 IsOutcome outcome (Err (fault.Unbound at)) = outcome ≡ Err (fault.Unbound at)
 IsOutcome outcome (Err (fault.OuterGroup at)) = outcome ≡ Err (fault.OuterGroup at)
 IsOutcome outcome (Err (fault.Loose at)) = outcome ≡ Err (fault.Loose at)
-IsOutcome outcome (Err (fault.TwoLists at)) = outcome ≡ Err (fault.TwoLists at)
 IsOutcome outcome (Err fault.OutOfMemory) = Unit {0}
 
 -- the text spells a tree with at most 20 levels, and this is what comes of the tree
@@ -59,7 +58,6 @@ Refuses x sources (fault.BoundTwice at) = IsUtf8 x × ComesOf x sources (Err (fa
 Refuses x sources (fault.Unbound at) = IsUtf8 x × ComesOf x sources (Err (fault.Unbound at))
 Refuses x sources (fault.OuterGroup at) = IsUtf8 x × ComesOf x sources (Err (fault.OuterGroup at))
 Refuses x sources (fault.Loose at) = IsUtf8 x × ComesOf x sources (Err (fault.Loose at))
-Refuses x sources (fault.TwoLists at) = IsUtf8 x × ComesOf x sources (Err (fault.TwoLists at))
 Refuses x sources fault.OutOfMemory = Unit {0}
 
 -- the text spells the rule, over sources of these names
@@ -78,7 +76,6 @@ IsWantOfMemory (fault.BoundTwice at) = ⊥
 IsWantOfMemory (fault.Unbound at) = ⊥
 IsWantOfMemory (fault.OuterGroup at) = ⊥
 IsWantOfMemory (fault.Loose at) = ⊥
-IsWantOfMemory (fault.TwoLists at) = ⊥
 IsWantOfMemory fault.OutOfMemory = Unit {0}
 
 -- the rule that the text spells over sources of these names, or why none is read

@@ -5,12 +5,16 @@ use Rattle.mix_tree.specs.declared.var.Key.{Key}
 use Rattle.mix_tree.specs.declared.var.Key.TheVariants.{Node as node_key, LabelOf as label_key}
 use Rattle.mix_tree.specs.declared.comparing.Operand.{Operand}
 use Rattle.mix_tree.specs.declared.comparing.Operand.TheVariants.{Var as var_operand, Text as text_operand}
+use Rattle.mix_tree.specs.declared.comparing.TestOp.{TestOp}
+use Rattle.mix_tree.specs.declared.comparing.TestOp.TheVariants as test
 use Rattle.path_expr.specs.Form as paths
 use Rattle.xmas_text.specs.Groups.{GroupForm}
 use Rattle.xmas_text.specs.Contents.{Leaf, node, label_of, text, Contents, nothing, element, leaf}
 use Rattle.xmas_text.specs.declared.var.KeyText.{KeyText}
 use Rattle.xmas_text.specs.declared.var.KeyText.TheVariants as keyed
 use Rattle.xmas_text.specs.declared.cond.PathLimit.{PathLimit}
+use Rattle.xmas_text.specs.declared.cond.Comparison.{Comparison}
+use Rattle.xmas_text.specs.declared.cond.Comparison.TheVariants as comparison
 use Rattle.xmas_text.specs.declared.cond.CondText.{CondText}
 use Rattle.xmas_text.specs.declared.cond.CondText.TheVariants as condition
 use Rattle.xmas_text.specs.declared.cond.OperandText.{OperandText}
@@ -63,6 +67,15 @@ abbrev pub operand_value : List (List ℕ) → OperandText → Operand
 operand_value names (operand.Var v) = var_operand (place_in names v.name)
 operand_value names (operand.Text l) = text_operand l
 
+-- what a comparison asks
+abbrev pub op_value : Comparison → TestOp
+op_value comparison.Eq = test.Eq
+op_value comparison.Ne = test.Ne
+op_value comparison.Lt = test.Lt
+op_value comparison.Le = test.Le
+op_value comparison.Gt = test.Gt
+op_value comparison.Ge = test.Ge
+
 -- a condition's value, by the names of sources and of variables
 abbrev pub cond_value : List (List ℕ) → List (List ℕ) → CondText → Cond
 cond_value sources names (condition.FromSource at source path var) =
@@ -70,7 +83,7 @@ cond_value sources names (condition.FromSource at source path var) =
 cond_value sources names (condition.FromVar start path var) =
     cond_of.FromVar (place_in names start.name) (path_value path) (place_in names var.name)
 cond_value sources names (condition.Compare left op right) =
-    cond_of.Compare (record { left = place_in names left.name; op = op; right = operand_value names right })
+    cond_of.Compare (record { left = place_in names left.name; op = op_value op; right = operand_value names right })
 
 -- an order's value
 abbrev pub order_value : List (List ℕ) → Option OrderText → Option OrderBy

@@ -4,7 +4,6 @@ ghost use Rattle.xmas_read.specs.Tree.{tree_of, bound_names};
 ghost use Rattle.xmas_read.specs.Refusals.{first_in, outer_keys, first_of, size_refusals, scope_refusals, template_refusals};
 ghost use Rattle.xmas_read.specs.Results.{names_of_sources};
 
-use crate::lists::further_list;
 use crate::loose::loose_item;
 use crate::scopes::{bound_twice, unbound_var, unknown_source};
 use crate::sizes::{has_long_path, has_many_items, has_many_vars, has_nested_path};
@@ -73,7 +72,7 @@ fn outer_group(group: &Option<GroupText>) -> Option<usize>
     }
 }
 
-/// Keys of the outer element, a loose item, or a second list: the first of these.
+/// Keys of the outer element, or a loose item: the first of these.
 pub fn template_refusal(
     alloc: Global,
     names: &[Label],
@@ -86,11 +85,8 @@ pub fn template_refusal(
     if let Some(at) = outer_group(&rule.template.group) {
         return Ok(Some(XmasFault::OuterGroup(at)));
     }
-    if let Some(at) = loose_item(alloc, names, &[], &rule.template.items)? {
-        return Ok(Some(XmasFault::Loose(at)));
-    }
-    match further_list(alloc, names, &[], false, &rule.template.items)? {
-        Some(at) => Ok(Some(XmasFault::TwoLists(at))),
+    match loose_item(alloc, names, &[], &rule.template.items)? {
+        Some(at) => Ok(Some(XmasFault::Loose(at))),
         None => Ok(None),
     }
 }

@@ -1,17 +1,17 @@
 // The conditions of the rule that a tree stands for.
 ghost use Rattle.std.specs.Prelude.{◌≡◌, ◌<◌, ◌^◌, false, map, IfOk, length};
 ghost use Rattle.std.specs.List.{list_any};
-ghost use Rattle.xmas_read.specs.Value.{place_in, path_value, cond_value};
+ghost use Rattle.xmas_read.specs.Value.{place_in, path_value, op_value, cond_value};
 ghost use Rattle.xmas_read.specs.Refusals.{has_path, is_nested, has_many};
 ghost use Rattle.xmas_read.specs.Results.{names_of_sources};
 
 use crate::values::{operand_of, var_value};
 use mix_catalog::Catalog;
-use mix_tree::{Label, Test};
+use mix_tree::{Label, Test, TestOp};
 use path_expr::Path;
 use std::alloc::{AllocError, Global};
 use xmas_rule::Cond;
-use xmas_text::{CondText, PathText};
+use xmas_text::{Comparison, CondText, PathText};
 
 /// The number of the source of a name; how many sources there are, where none has it.
 fn source_number(catalog: &Catalog, name: &Label) -> u32
@@ -32,6 +32,20 @@ fn path_of(path: PathText) -> Path
     match path {
         Ok(path) => path,
         Err(_) => unreachable!(),
+    }
+}
+
+// What a comparison of a rule's text asks.
+fn op_of(comparison: Comparison) -> TestOp
+    ensures { result ≡ op_value comparison }
+{
+    match comparison {
+        Comparison::Eq => TestOp::Eq,
+        Comparison::Ne => TestOp::Ne,
+        Comparison::Lt => TestOp::Lt,
+        Comparison::Le => TestOp::Le,
+        Comparison::Gt => TestOp::Gt,
+        Comparison::Ge => TestOp::Ge,
     }
 }
 
@@ -65,7 +79,7 @@ fn cond_of(
         }),
         CondText::Compare { left, op, right } => Ok(Cond::Compare(Test {
             left: var_value(names, &left),
-            op,
+            op: op_of(op),
             right: operand_of(alloc, names, &right)?,
         })),
     }

@@ -46,8 +46,6 @@ pub enum XmasFault {
     OuterGroup(usize),
     /// The item at the place shows what isn't in force there.
     Loose(usize),
-    /// The item at the place is the second of its level that collects.
-    TwoLists(usize),
     /// Memory ran out.
     OutOfMemory,
 }

@@ -71,7 +71,7 @@ fn check_tree(alloc: Global, catalog: &Catalog, tree: RuleText) -> Result<Rule, 
 /// - `NotUtf8` with the length of the longest front that is UTF-8.
 /// - `Unexpected` with the first byte with which no rule's text goes on; `EndsEarly` where a rule's text goes on from the end.
 /// - `TooLarge` with the first of `Large` that stands.
-/// - `TagDiffers`, `UnknownSource`, `BoundTwice`, `Unbound`, `OuterGroup`, `Loose`, `TwoLists`, in this order.
+/// - `TagDiffers`, `UnknownSource`, `BoundTwice`, `Unbound`, `OuterGroup`, `Loose`, in this order.
 ///
 /// `OutOfMemory` can come with any text.
 pub fn read_rule(alloc: Global, text: &[u8], catalog: &Catalog) -> Result<Rule, XmasFault>

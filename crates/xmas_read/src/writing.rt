@@ -1,6 +1,5 @@
 // Writing a rule's canonical text.
 ghost use Rattle.std.specs.Prelude.{◌≡◌, ◌++◌, ◌∷◌, [], cond, codes, get_or, IfOk, OnOk};
-ghost use Rattle.xmas_text.specs.Grammar.{op_text};
 ghost use Rattle.xmas_rule.specs.Made.{items_of, item_before};
 ghost use Rattle.xmas_rule.specs.Items.{done};
 ghost use Rattle.xmas_rule.specs.RuleMade.{rule_of};
@@ -8,7 +7,7 @@ ghost use Rattle.xmas_read.specs.Results.{names_of_sources};
 ghost use Rattle.xmas_read.specs.Canonical.{var_text, key_text, more_keys, keys_text, group_text, element_text, items_text, operand_text, cond_text, more_conds, conds_text, order_text, canonical};
 
 use mix_catalog::Catalog;
-use mix_tree::{Key, Label, Operand, TestOp, Var, push_quoted};
+use mix_tree::{Key, Label, Operand, Var, push_quoted};
 use path_expr::push_path;
 use std::alloc::{AllocError, Global};
 use xmas_rule::{Cond, Item, OrderBy, Rule, Template};
@@ -140,20 +139,6 @@ fn push_element(out: &mut Vec<u8>, names: &[Label], element: &Template) -> Resul
     push_group(out, names, &element.keys)
 }
 
-fn push_op(out: &mut Vec<u8>, op: TestOp) -> Result<(), AllocError>
-    ensures { OnOk result (out.new.items ≡ out.old.items ++ op_text op) }
-{
-    let text: &[u8] = match op {
-        TestOp::Eq => b"=",
-        TestOp::Ne => b"!=",
-        TestOp::Lt => b"<",
-        TestOp::Le => b"<=",
-        TestOp::Gt => b">",
-        TestOp::Ge => b">=",
-    };
-    Ok(out.extend_from_slice(text)?)
-}
-
 fn push_operand(out: &mut Vec<u8>, names: &[Label], operand: &Operand) -> Result<(), AllocError>
     ensures { OnOk result (out.new.items ≡ out.old.items ++ operand_text names.now operand.now) }
 {
@@ -198,7 +183,7 @@ fn push_cond(
         Cond::Compare(test) => {
             push_var(out, names, test.left)?;
             out.push(b' ')?;
-            push_op(out, test.op)?;
+            out.extend_from_slice(test.op.sign())?;
             out.push(b' ')?;
             push_operand(out, names, &test.right)
         }

@@ -26,6 +26,3 @@ pub use law::no_text_spells_two_rules;
 pub use reading::parse_rule;
 pub use rule::{OrderText, RuleText};
 pub use var::{GroupText, KeyText, ShownText, VarText};
-
-#[cfg(test)]
-mod tests;

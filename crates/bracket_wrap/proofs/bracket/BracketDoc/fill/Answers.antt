@@ -1,10 +1,8 @@
-use Rattle.std.proofs.Common.{◌≡◌, ◌∙◌, ◌≤◌, ap, sym, subst, arith, slice_index}
+use Rattle.std.proofs.Common.{◌≡◌, ◌∙◌, ◌≤◌, ap, sym, subst, slice_index}
 use Rattle.lxp_core.specs.Open.{Open, closed, weight_of, AllHoles, IsProgress}
 use Rattle.lxp_core.specs.Plain.{plain}
-use Rattle.mix_tree.specs.Weight.{nodes_of}
 use Rattle.bracket_wrap.specs.declared.holes.Rest.{Rest}
-use Rattle.bracket_wrap.specs.Layout.{before, between}
-use Rattle.bracket_wrap.specs.Holes.{is_known, given_from}
+use Rattle.bracket_wrap.specs.Holes.{given_from}
 use Rattle.bracket_wrap.specs.Bracket.{forest, knows, weight, given}
 use Rattle.bracket_wrap.proofs.Given.{closed-given, progress-given, known-given, known-parts, lighter-given}
 use Rattle.bracket_wrap.proofs.bracket.BracketDoc.fill.Goals as goal
@@ -12,7 +10,7 @@ use Rattle.bracket_wrap.proofs.bracket.BracketDoc.fill.Goals as goal
 pub returns-clause-closes : goal.returns-clause-closes
 returns-clause-closes c =
     let d = c.args.self.now in
-    let ns = d.layout.nodes.items in
+    let ns = d.nodes in
     let list : plain c.in_ok-give.field-0.items ≡ given c.args.self.now c.args.hole =
     c.in_ok-give.ensures ∙ ap (λ (r : Rest). given_from ns d.deep r.node d.chunk r.to) c.in-Some.ensures.0 in
     ap (closed (forest d)) list ∙ closed-given ns d.deep (slice_index c.args.hole.words 0) d.chunk (slice_index c.args.hole.words 1)
@@ -20,7 +18,7 @@ returns-clause-closes c =
 pub returns-clause-progress : goal.returns-clause-progress
 returns-clause-progress c =
     let d = c.args.self.now in
-    let ns = d.layout.nodes.items in
+    let ns = d.nodes in
     let list : plain c.in_ok-give.field-0.items ≡ given c.args.self.now c.args.hole =
     c.in_ok-give.ensures ∙ ap (λ (r : Rest). given_from ns d.deep r.node d.chunk r.to) c.in-Some.ensures.0 in
     subst IsProgress (sym list) (progress-given ns d.deep (slice_index c.args.hole.words 0) d.chunk (slice_index c.args.hole.words 1) d.some)
@@ -28,7 +26,7 @@ returns-clause-progress c =
 pub returns-clause-known : goal.returns-clause-known
 returns-clause-known c =
     let d = c.args.self.now in
-    let ns = d.layout.nodes.items in
+    let ns = d.nodes in
     let list : plain c.in_ok-give.field-0.items ≡ given c.args.self.now c.args.hole =
     c.in_ok-give.ensures ∙ ap (λ (r : Rest). given_from ns d.deep r.node d.chunk r.to) c.in-Some.ensures.0 in
     let there = known-parts ns c.args.hole c.in-Some.ensures.1 in
@@ -37,7 +35,7 @@ returns-clause-known c =
 pub returns-clause-lighter : goal.returns-clause-lighter
 returns-clause-lighter c =
     let d = c.args.self.now in
-    let ns = d.layout.nodes.items in
+    let ns = d.nodes in
     let list : plain c.in_ok-give.field-0.items ≡ given c.args.self.now c.args.hole =
     c.in_ok-give.ensures ∙ ap (λ (r : Rest). given_from ns d.deep r.node d.chunk r.to) c.in-Some.ensures.0 in
     let Lighter : Open → Type 0 = λ o. weight_of (weight c.args.self.now) o ≤ weight c.args.self.now c.args.hole in

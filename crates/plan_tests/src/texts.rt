@@ -1,0 +1,105 @@
+// What the contracts leave to tests: that plans are written, and texts worked out by hand.
+use mix_tree::{Key, Label, Operand, Test, TestOp, Var};
+use path_expr::{Path, read_path};
+use plan_core::{Op, Piece, Plan, write_plan};
+use std::alloc::{AllocError, Global};
+use std::process::Abort;
+use std::test::Fail;
+
+fn label(alloc: Global, text: &str) -> Result<Label, AllocError> {
+    Label::of_text(alloc, text.as_bytes())
+}
+
+fn path(alloc: Global, text: &str) -> Result<Path, AllocError> {
+    read_path(alloc, text.as_bytes()).map_err(|_| AllocError)
+}
+
+// A getDescendants over the operator before it.
+fn descend(alloc: Global, input: u32, start: u32, text: &str, out: u32) -> Result<Op, AllocError> {
+    Ok(Op::GetDescendants {
+        input,
+        start: Var::new(start),
+        path: path(alloc, text)?,
+        out: Var::new(out),
+    })
+}
+
+// A comparison for equality.
+fn equal(left: u32, right: Operand) -> Test {
+    Test {
+        left: Var::new(left),
+        op: TestOp::Eq,
+        right,
+    }
+}
+
+// Writes a plan and compares its lines.
+fn check(rt: &impl Abort, alloc: Global, plan: &Plan, lines: &[&str]) -> Result<(), Fail> {
+    let mut want = Vec::new(alloc);
+    for line in lines {
+        want.extend_from_slice(line.as_bytes())?;
+        want.push(b'\n')?;
+    }
+    assert_eq!(rt; write_plan(alloc, plan)?.as_slice(), want.as_slice());
+    Ok(())
+}
+
+#[test]
+fn plans_that_no_view_has_are_written(rt: HostRuntime) -> Result<(), Fail> {
+    let alloc = rt.alloc();
+    let key = Key::LabelOf(Var::new(0));
+    let text = equal(0, Operand::Text(label(alloc, "a\"b")?));
+    let plan = Plan {
+        ops: vec![in alloc;
+            Op::Source {
+                source: 0,
+                out: Var::new(1)
+            },
+            descend(alloc, 0, 1, "(a|\"b c\")*", 0)?,
+            Op::Join {
+                left: 1,
+                right: 0,
+                tests: vec![in alloc; text, equal(0, Operand::Var(Var::new(1)))]?
+            },
+            Op::OrderBy {
+                input: 2,
+                var: Var::new(0),
+                desc: true
+            },
+            Op::OrderBy {
+                input: 3,
+                var: Var::new(0),
+                desc: false
+            },
+            Op::GroupBy {
+                input: 4,
+                keys: vec![in alloc; key]?,
+                piece: Piece::LabelOf(Var::new(0)),
+                out: Var::new(2)
+            },
+            Op::Concatenate {
+                input: 5,
+                pieces: vec![in alloc; Piece::Text(label(alloc, "t")?)]?,
+                out: Var::new(3)
+            },
+            Op::Concatenate {
+                input: 6,
+                pieces: Vec::new(alloc),
+                out: Var::new(4)
+            },
+        ]?,
+        names: vec![in alloc; label(alloc, "A")?]?,
+        sources: vec![in alloc; label(alloc, "s")?]?,
+    };
+    let lines = [
+        "0 source s -> $1",
+        "1 getDescendants 0 $1 (a|\"b c\")* -> $A",
+        "2 join 1 0 $A = \"a\\\"b\" AND $A = $1",
+        "3 orderBy 2 $A desc",
+        "4 orderBy 3 $A asc",
+        "5 groupBy 4 {label $A} label $A -> $2",
+        "6 concatenate 5 \"t\" -> $3",
+        "7 concatenate 6 -> $4",
+    ];
+    check(&rt, alloc, &plan, &lines)
+}
