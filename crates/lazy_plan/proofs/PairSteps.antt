@@ -14,8 +14,8 @@ use Rattle.plan_core.specs.TolledRows.{TolledRow}
 use Rattle.plan_core.specs.Events.{RowEvents, events, pairs, expand, passes_all}
 use Rattle.plan_core.proofs.Found.{found-expand_none, found-expand_some, cost-expand_le, cost-expand_some, found-pairs_none, found-pairs_yes, found-pairs_no, cost-pairs_le, cost-pairs_no}
 use Rattle.lazy_plan.specs.declared.position.Position.{Position, Start, Pair'}
-use Rattle.lazy_plan.specs.World.{World, docs_of, is_told, bound_of, IsBench}
-use Rattle.lazy_plan.specs.Cursors.{left_ahead, binding, ahead, number, size, stands, weighs, IsIn, IsOf, has_row}
+use Rattle.lazy_plan.specs.World.{World, docs_of, is_told, IsBench}
+use Rattle.lazy_plan.specs.Cursors.{left_ahead, binding, ahead, number, size, stands, weighs, IsIn, IsOf}
 use Rattle.lazy_plan.specs.Keeping.{Keeps, Stays}
 use Rattle.std.specs.List.{AllByRecursion}
 use Rattle.lxp_core.specs.View.{View}
@@ -182,9 +182,10 @@ module _ (ops : List Operator) (n l r : ℕ) (tests : List Test) where
                   → (found beside ≡ found (pairs (docs_of a) tests (ahead b ops r d) (binding a ops l x)))
                   × (cost beside ≡ cost (ahead a ops r y) + cost (pairs (docs_of a) tests (ahead b ops r d) (binding a ops l x)))
               passed t =
-                  let e = lets_old false (h (still_told k.kept ops t)) in
-                  (found-pairs_no (docs_of a) tests (ahead a ops r y) (binding a ops l x) (binding b ops r d) (ahead b ops r d) (f.found t) e,
-                  cost-pairs_no (docs_of a) tests (ahead a ops r y) (binding a ops l x) (binding b ops r d) (ahead b ops r d) (f.found t) e)
+                  let e = lets_old false (h (still_told k.kept ops t)) in (
+                    found-pairs_no (docs_of a) tests (ahead a ops r y) (binding a ops l x) (binding b ops r d) (ahead b ops r d) (f.found t) e,
+                    cost-pairs_no (docs_of a) tests (ahead a ops r y) (binding a ops l x) (binding b ops r d) (ahead b ops r d) (f.found t) e,
+                  )
 
 module _ {v : View} {g : Growing} {p : Fixed} {n : ℕ} {c : Position} (can : CanStep v g p n c) (l r : ℕ) (tests : List Test) (is : shape_at (operators p) n ≡ pairs_up l r tests) where
   -- both sides have smaller numbers
@@ -221,7 +222,7 @@ module _ {v : View} {g : Growing} {p : Fixed} {n : ℕ} {c : Position} (can : Ca
       op = (let h = sides.0 in let m = can.op in omega (arith, h, m));
       bench = bench;
       cursor = (cursors_kept (world_of v g) (world_of v' g') kept (operators p) can.bench l x here.0).cursor;
-      }
+    }
 
 -- a call of the right side from a pair
 module _ {S : Type 0} {view : S → View} {came_from : S → S → Type 0} {s t : S} {g h : Growing} {p : Fixed} {n : ℕ} {c : Position} (can : CanStep (view s) g p n c)
