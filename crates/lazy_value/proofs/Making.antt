@@ -140,10 +140,10 @@ module _ (st : BenchState) (typed : IsTyped (ops_of st)) (n : ℕ) (within : n <
   made_by o d e u = subst (λ (p : Operator). IsMadeOf st (binding_at st n c) (input_of o) (binding_at st (input_of o) d) (ahead_at st (input_of o) d) p) (sym e) u.made
 
   -- the binding of a group by keys
-  by_keys : {row below : TolledRow} {es : RowEvents} {i : ℕ} (keys : List Key) (piece : Piece) (out : ℕ) → (keys ≡ [] → ⊥) → IsMadeOf st row i below es (over i (group_by keys piece out))
+  by_keys : (row below : TolledRow) (es : RowEvents) (i : ℕ) (keys : List Key) (piece : Piece) (out : ℕ) → (keys ≡ [] → ⊥) → IsMadeOf st row i below es (over i (group_by keys piece out))
       → row ≡ group_row (documents st) keys piece out below es
-  by_keys [] piece out some h = absurd (some refl)
-  by_keys (k ∷ keys) piece out some h = h
+  by_keys row below es i [] piece out some h = absurd (some refl)
+  by_keys row below es i (k ∷ keys) piece out some h = h
 
   -- a group
   pub group_made : (i : ℕ) (keys : List Key) (piece : Piece) (out : ℕ) (d : Position) → over i (group_by keys piece out) ≡ op_at (ops_of st) n → (keys ≡ [] → ⊥) → (out == v) ≡ true
@@ -155,7 +155,7 @@ module _ (st : BenchState) (typed : IsTyped (ops_of st)) (n : ℕ) (within : n <
       let x = numbering.extent_of (ops_of st) typed n within o e (size_of st) v ∙ cond_true (out == v) (suc (size_of st i)) _ t in
       record {
         origin = (stands_over o gathers_groups d e (groups_form i keys piece out some) u.cursor, subst (λ (p : Operator). number_at st (input_of p) d ≤ size_of st (input_of p)) e u.low);
-        value = ap (λ (r : TolledRow). tolled_value r v) (by_keys keys piece out some (made_by o d e u)) ∙ cond_true (out == v) _ _ t
+        value = ap (λ (r : TolledRow). tolled_value r v) (by_keys (binding_at st n c) (binding_at st i d) (ahead_at st i d) i keys piece out some (made_by o d e u)) ∙ cond_true (out == v) _ _ t
             ∙ ap (λ (p : Operator). trees (piece_items (documents st) (slice_index_or (pieces_of p) 0 (text_piece [])) (binding_at st (input_of p) d)
             (collected (documents st) (slice_index_or (pieces_of p) 0 (text_piece [])) (same_group (documents st) (keys_of p) (binding_at st (input_of p) d) (ahead_at st (input_of p) d)) (ends 0)))) e;
         kind = k ∙ cond_true (out == v) _ _ t;
