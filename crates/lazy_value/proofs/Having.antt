@@ -123,7 +123,8 @@ element_made ks ls (join l r tests) v m e = cc
 element_made ks ls (over i (select t)) v m e = cc
 element_made ks ls (over i (order_by w desc)) v m e = cc
 element_made ks ls (over i (project keys)) v m e = cc
-element_made ks ls (over i (group_by keys piece out)) v m e = let z : Some a_list ≡ Some an_element = sym (cond_true (out == v) (Some a_list) (kept keys (ks i) v) m) ∙ e in cc
+element_made ks ls (over i (group_by [] piece out)) v m e = let z : Some a_list ≡ Some an_element = sym (cond_true (out == v) (Some a_list) (kept [] (ks i) v) m) ∙ e in cc
+element_made ks ls (over i (group_by (k ∷ keys) piece out)) v m e = let z : Some a_list ≡ Some an_element = sym (cond_true (out == v) (Some a_list) (kept (k ∷ keys) (ks i) v) m) ∙ e in cc
 element_made ks ls (over i (concatenate ps out)) v m e = let z : Some a_list ≡ Some an_element = sym (cond_true (out == v) (Some a_list) (ks i v) m) ∙ e in cc
 element_made ks ls (over i (create_element label list out)) v m e = (refl, cond_true (out == v) (Some (Some label)) (ls i v) m)
 element_made ks ls (tuple_destroy i w) v m e = cc

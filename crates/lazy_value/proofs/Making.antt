@@ -16,6 +16,7 @@ use Rattle.plan_core.specs.Unary.{select, order_by, project, group_by, concatena
 use Rattle.plan_core.specs.ByNumber.{op_at}
 use Rattle.plan_core.specs.Typed.{IsTyped}
 use Rattle.plan_core.specs.Valid.{Kind, a_node, an_element, a_list, Kinds, kinds, kept, op_kinds, either_kind, inputs_of}
+use Rattle.plan_core.proofs.Groups.{group_kinds}
 use Rattle.plan_core.specs.Tolled.{ends}
 use Rattle.plan_core.specs.TolledRows.{TolledRow, of_source, element, trees, tolled_value, row_node, piece_items, all_items, collected}
 use Rattle.plan_core.specs.Events.{same_group}
@@ -62,10 +63,15 @@ node_one ks of bound (over i (select t)) h v e = h.0 v e
 node_one ks of bound (over i (order_by w desc)) h v e = h.0 v e
 node_one ks of bound (over i (project keys)) h v e =
     elim (has_var keys v) as (λ t. cond t (ks i v) None ≡ Some a_node → 1 ≤ of i v) [ true ↦ λ g. h.0 v g | false ↦ λ g. cc ] e
-node_one ks of bound (over i (group_by keys p out)) h v e =
-    elim (out == v) as (λ t. cond t (Some a_list) (kept keys (ks i) v) ≡ Some a_node → 1 ≤ cond t (suc (bound i)) (of i v)) [
+node_one ks of bound (over i (group_by [] p out)) h v e =
+    elim (out == v) as (λ t. cond t (Some a_list) (kept [] (ks i) v) ≡ Some a_node → 1 ≤ cond t (suc (bound i)) (of i v)) [
       | true ↦ λ g. omega arith
-      | false ↦ λ f. elim (has_var keys v) as (λ t. cond t (ks i v) None ≡ Some a_node → 1 ≤ of i v) [ true ↦ λ g. h.0 v g | false ↦ λ g. cc ] f
+      | false ↦ λ f. elim (has_var [] v) as (λ t. cond t (ks i v) None ≡ Some a_node → 1 ≤ of i v) [ true ↦ λ g. h.0 v g | false ↦ λ g. cc ] f
+    ] e
+node_one ks of bound (over i (group_by (k ∷ keys) p out)) h v e =
+    elim (out == v) as (λ t. cond t (Some a_list) (kept (k ∷ keys) (ks i) v) ≡ Some a_node → 1 ≤ cond t (suc (bound i)) (of i v)) [
+      | true ↦ λ g. omega arith
+      | false ↦ λ f. elim (has_var (k ∷ keys) v) as (λ t. cond t (ks i v) None ≡ Some a_node → 1 ≤ of i v) [ true ↦ λ g. h.0 v g | false ↦ λ g. cc ] f
     ] e
 node_one ks of bound (over i (concatenate ps out)) h v e =
     elim (out == v) as (λ t. cond t (Some a_list) (ks i v) ≡ Some a_node → 1 ≤ cond t (pieces_count (of i) ps) (of i v)) [ true ↦ λ g. cc | false ↦ λ g. h.0 v g ] e
@@ -138,7 +144,7 @@ module _ (st : BenchState) (typed : IsTyped (ops_of st)) (n : ℕ) (within : n <
       → IsUnder st n c i d → IsOriginOf st n c v (Same n d)
   group_made i keys piece out d e some t u =
       let o : Operator = over i (group_by keys piece out) in
-      let k = numbering.kind_of (ops_of st) typed n within o e v in
+      let k = numbering.kind_of (ops_of st) typed n within o e v ∙ ap (λ (g : Kinds). g v) (group_kinds keys piece out (kinds (ops_of st) i)) in
       let s = numbering.size_of (ops_of st) typed n within o e v ∙ cond_true (out == v) 3 _ t in
       let x = numbering.extent_of (ops_of st) typed n within o e (size_of st) v ∙ cond_true (out == v) (suc (size_of st i)) _ t in
       record {
