@@ -2,6 +2,7 @@
 use crate::open::{Cutting, HOMES, ONE};
 use crate::plain::finished;
 use crate::run::{Setting, run};
+use std::alloc::Global;
 use std::test::Fail;
 
 // A view over documents, the text of its finished document, a script, and the lines that answer it.
@@ -111,5 +112,44 @@ fn cut_documents_give_the_same_lists(rt: HostRuntime) -> Result<(), Fail> {
         assert_eq!(rt; done.lines.as_slice(), row.lines.as_bytes());
         assert_eq!(rt; done.answer, Ok(false));
     }
+    Ok(())
+}
+
+// How many fills are asked by a script over one document of five nodes that comes a child at a time.
+fn fills_of(alloc: Global, view: &'static str, script: &str, lines: &str) -> Result<u64, Fail> {
+    let setting = Setting {
+        catalog: ONE,
+        view,
+        docs: &["l[1,2[a],1]"],
+        cutting: Cutting {
+            choices: &[],
+            forward: true,
+        },
+    };
+    let done = run(alloc, &setting, &[], script)?;
+    if done.lines.as_slice() != lines.as_bytes() {
+        return Err("other lines".into());
+    }
+    Ok(done.fills)
+}
+
+#[test]
+fn lists_over_one_document_ask_for_it_once(rt: HostRuntime) -> Result<(), Fail> {
+    let alloc = rt.alloc();
+    let one = fills_of(
+        alloc,
+        "CONSTRUCT <o> $X </o> WHERE s l._ $X",
+        "r = root\nx = down r\nx = right x\nx = right x\nx = right x\n",
+        "node\nnode\nnode\nnode\nnone\n",
+    )?;
+    let two = fills_of(
+        alloc,
+        "CONSTRUCT <o> $X <m> label $X </m> {label $X} </o> WHERE s l._ $X",
+        "r = root\nx = down r\nx = right x\nx = right x\nx = right x\nx = right x\nx = right x\n",
+        "node\nnode\nnode\nnode\nnode\nnode\nnone\n",
+    )?;
+    // One for the root, and one for each of its children.
+    assert_eq!(rt; one, 4);
+    assert_eq!(rt; two, one);
     Ok(())
 }

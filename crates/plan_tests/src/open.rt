@@ -30,7 +30,7 @@ pub const MED_HOMES: &str =
 
 /// A rule over the sources of these names.
 #[derive(Drop)]
-pub struct Read {
+pub struct RuleRead {
     pub rule: Rule,
     pub names: Vec<Label>,
 }
@@ -70,7 +70,7 @@ fn source_names(alloc: Global, catalog: &Catalog) -> Result<Vec<Label>, AllocErr
 }
 
 /// The rule that a text spells over a catalog.
-pub fn read(alloc: Global, catalog: &str, view: &str) -> Result<Read, Fail>
+pub fn read(alloc: Global, catalog: &str, view: &str) -> Result<RuleRead, Fail>
     ensures { IfOk result (λ read. IsAccepted (length read.names.items) (rule_of read.rule)) }
 {
     let Ok(catalog) = read_catalog(alloc, catalog.as_bytes()) else {
@@ -83,7 +83,7 @@ pub fn read(alloc: Global, catalog: &str, view: &str) -> Result<Read, Fail>
     if names.len() != catalog.len() as usize {
         return Err("not a name for each source".into());
     }
-    Ok(Read { rule, names })
+    Ok(RuleRead { rule, names })
 }
 
 /// Documents in memory that come so, of which the fills of these numbers fail.

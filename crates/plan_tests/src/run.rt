@@ -5,7 +5,7 @@ ghost use Rattle.xmas_rule.specs.RuleMade.{rule_of};
 ghost use Rattle.xmas_rule.specs.Rules.{IsAccepted};
 ghost use Rattle.lazy_value.specs.Mediators.{IsMediatorOf};
 
-use crate::open::{Cutting, Read, read, sources, trees};
+use crate::open::{Cutting, RuleRead, read, sources, trees};
 use lazy_value::Mediator;
 use lxp_core::Sources;
 use lxp_memory::MemSources;
@@ -35,7 +35,7 @@ pub struct Outcome {
 }
 
 // The mediator of a rule's plan over these sources.
-fn opened(alloc: Global, s: &MemSources, read: &Read) -> Result<Mediator, Fail>
+fn opened(alloc: Global, s: &MemSources, read: &RuleRead) -> Result<Mediator, Fail>
     requires { IsAccepted (length read.now.names.items) (rule_of read.now.rule) }
     ensures { IfOk result (IsMediatorOf (memory_view s.now)) }
 {
