@@ -19,7 +19,7 @@ use Rattle.plan_core.specs.Valid.{Kind, a_node, an_element, a_list, Kinds, kinds
 use Rattle.plan_core.proofs.Groups.{group_kinds}
 use Rattle.plan_core.specs.Tolled.{ends}
 use Rattle.plan_core.specs.TolledRows.{TolledRow, of_source, element, trees, tolled_value, row_node, piece_items, all_items, collected}
-use Rattle.plan_core.specs.Events.{same_group}
+use Rattle.plan_core.specs.Events.{RowEvents, group_row, same_group}
 use Rattle.lazy_plan.specs.Bench.{BenchState, ops_of, documents, events_of, size_of, IsCursor, binding_at, ahead_at, number_at, IsSpotAt, IsSpotOf, node_at, IsUnder, IsMadeOf}
 use Rattle.lazy_plan.specs.declared.position.Position.{Position}
 use Rattle.lazy_plan.proofs.Benches.{all_groups}
@@ -139,6 +139,12 @@ module _ (st : BenchState) (typed : IsTyped (ops_of st)) (n : ℕ) (within : n <
   made_by : (o : Operator) (d : Position) → o ≡ op_at (ops_of st) n → IsUnder st n c (input_of o) d → IsMadeOf st (binding_at st n c) (input_of o) (binding_at st (input_of o) d) (ahead_at st (input_of o) d) o
   made_by o d e u = subst (λ (p : Operator). IsMadeOf st (binding_at st n c) (input_of o) (binding_at st (input_of o) d) (ahead_at st (input_of o) d) p) (sym e) u.made
 
+  -- the binding of a group by keys
+  by_keys : (row below : TolledRow) (es : RowEvents) (i : ℕ) (keys : List Key) (piece : Piece) (out : ℕ) → (keys ≡ [] → ⊥) → IsMadeOf st row i below es (over i (group_by keys piece out))
+      → row ≡ group_row (documents st) keys piece out below es
+  by_keys row below es i [] piece out some h = absurd (some refl)
+  by_keys row below es i (k ∷ keys) piece out some h = h
+
   -- a group
   pub group_made : (i : ℕ) (keys : List Key) (piece : Piece) (out : ℕ) (d : Position) → over i (group_by keys piece out) ≡ op_at (ops_of st) n → (keys ≡ [] → ⊥) → (out == v) ≡ true
       → IsUnder st n c i d → IsOriginOf st n c v (Same n d)
@@ -149,7 +155,7 @@ module _ (st : BenchState) (typed : IsTyped (ops_of st)) (n : ℕ) (within : n <
       let x = numbering.extent_of (ops_of st) typed n within o e (size_of st) v ∙ cond_true (out == v) (suc (size_of st i)) _ t in
       record {
         origin = (stands_over o gathers_groups d e (groups_form i keys piece out some) u.cursor, subst (λ (p : Operator). number_at st (input_of p) d ≤ size_of st (input_of p)) e u.low);
-        value = ap (λ (r : TolledRow). tolled_value r v) (made_by o d e u) ∙ cond_true (out == v) _ _ t
+        value = ap (λ (r : TolledRow). tolled_value r v) (by_keys (binding_at st n c) (binding_at st i d) (ahead_at st i d) i keys piece out some (made_by o d e u)) ∙ cond_true (out == v) _ _ t
             ∙ ap (λ (p : Operator). trees (piece_items (documents st) (slice_index_or (pieces_of p) 0 (text_piece [])) (binding_at st (input_of p) d)
             (collected (documents st) (slice_index_or (pieces_of p) 0 (text_piece [])) (same_group (documents st) (keys_of p) (binding_at st (input_of p) d) (ahead_at st (input_of p) d)) (ends 0)))) e;
         kind = k ∙ cond_true (out == v) _ _ t;
