@@ -17,7 +17,6 @@ pub mod PairSteps
 pub mod PassSteps
 pub mod SameKeys
 pub mod SameNodes
-pub mod Seeking
 pub mod SeenLists
 pub mod Shapes
 pub mod Singles

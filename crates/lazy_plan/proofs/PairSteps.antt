@@ -1,303 +1,288 @@
 -- A step of a join: the next binding of the right side beside that of the left, or the next of the left.
-use Rattle.std.proofs.Common.{◌≡◌, ◌<◌, ◌≤◌, ◌+◌, ◌*◌, ℕ, suc, Bool, true, false, List, [], ◌∷◌, ◌++◌, length, ◌∙◌, sym, ap, subst, arith}
+use Rattle.std.proofs.Common.{◌≡◌, ◌<◌, ◌≤◌, ◌+◌, ◌*◌, ℕ, suc, Bool, true, false, List, [], ◌∷◌, ◌++◌, length, refl, ◌∙◌, sym, ap, subst, arith}
 use Rattle.std.specs.Prelude.{IsTrue}
 use Rattle.std.proofs.lemmas.Nat.{mul-le}
 use Rattle.mix_base.specs.Events.{nothing, finds, found, cost}
+use Rattle.mix_base.proofs.Choices.{and_parts}
 use Rattle.mix_base.proofs.EventLaws.{found-append_none, found-append_some, found-append_both, cost-append_none, cost-append_le, cost-append_both}
 use Rattle.mix_tree.specs.Nodes.{Documents}
-use Rattle.plan_core.specs.Plans.{Operator, source, get_descendants, join, over, tuple_destroy}
-use Rattle.plan_core.specs.Unary.{select, order_by, project, group_by, concatenate, create_element}
-use Rattle.plan_core.specs.ByNumber.{op_at}
+use Rattle.mix_tree.specs.declared.comparing.Test.{Test}
+use Rattle.plan_core.specs.Plans.{Operator}
+use Rattle.plan_core.specs.Shapes.{Shape, pairs_up, shape_at}
 use Rattle.plan_core.specs.Typed.{IsTyped}
 use Rattle.plan_core.specs.TolledRows.{TolledRow}
-use Rattle.plan_core.specs.Events.{RowEvents, events, pairs}
+use Rattle.plan_core.specs.Events.{RowEvents, events, pairs, expand, passes_all}
 use Rattle.plan_core.proofs.Found.{found-expand_none, found-expand_some, cost-expand_le, cost-expand_some, found-pairs_none, found-pairs_yes, found-pairs_no, cost-pairs_le, cost-pairs_no}
 use Rattle.lazy_plan.specs.declared.position.Position.{Position, Start, Pair'}
-use Rattle.lazy_plan.specs.World.{World, docs_of, is_told, bound_of, IsBench}
-use Rattle.lazy_plan.specs.Cursors.{input_of, right_of, right_ahead, left_ahead, lets, binding, ahead, number, size, pairs_up, shape, IsOf, has_row}
+use Rattle.lazy_plan.specs.World.{World, docs_of, is_told, IsBench}
+use Rattle.lazy_plan.specs.Cursors.{left_ahead, binding, ahead, number, size, stands, weighs, IsIn, IsOf}
 use Rattle.lazy_plan.specs.Keeping.{Keeps, Stays}
-use Rattle.lazy_plan.specs.Steps.{single, Asks, Finds, Moves}
+use Rattle.std.specs.List.{AllByRecursion}
+use Rattle.lxp_core.specs.View.{View}
+use Rattle.plan_core.specs.Valid.{kinds, Kinds, IsTest, shape_single}
+use Rattle.lazy_plan.specs.declared.parts.Growing.{Growing}
+use Rattle.lazy_plan.specs.declared.parts.Fixed.{Fixed}
+use Rattle.lazy_plan.specs.Parts.{operators, world_of}
+use Rattle.lazy_plan.proofs.Bound.{kinds_at, inputs_at, fit_at}
+use Rattle.lazy_plan.specs.Steps.{single, Asks, Finds, Moves, Ran, CanStep, left_events, left_number}
 use Rattle.lazy_plan.proofs.Keep.{keeps_same, docs_kept}
 use Rattle.lazy_plan.proofs.Stay.{cursors_kept, size_kept}
-use Rattle.lazy_plan.proofs.Shapes.{events_pairs, events_at, size_pairs, size_at, single_pairs, single_at}
-use Rattle.lazy_plan.proofs.Goes.{Goes, goes_same, still_told, less_times, le_same}
+use Rattle.lazy_plan.proofs.Shapes.{events_at, size_at, single_at}
+use Rattle.lazy_plan.proofs.Goes.{Goes, goes_same, still_told, less_times, le_same, in_place, ran_over}
 
-module _ (docs : Documents) where
-  -- without a binding on the left there is none
-  left_none : (o : Operator) → shape o ≡ pairs_up → (whole es : RowEvents) → found es ≡ nothing → found (left_ahead docs o whole es) ≡ nothing
-  left_none (source s out) e whole es h = cc
-  left_none (get_descendants i start path out) e whole es h = cc
-  left_none (join l r tests) e whole es h = found-expand_none (pairs docs tests whole) es h
-  left_none (over i (select t)) e whole es h = cc
-  left_none (over i (order_by v desc)) e whole es h = cc
-  left_none (over i (project keys)) e whole es h = cc
-  left_none (over i (group_by [] p out)) e whole es h = cc
-  left_none (over i (group_by (k ∷ keys) p out)) e whole es h = cc
-  left_none (over i (concatenate ps out)) e whole es h = cc
-  left_none (over i (create_element l v out)) e whole es h = cc
-  left_none (tuple_destroy i v) e whole es h = cc
+module _ (ops : List Operator) (n l r : ℕ) (tests : List Test) where
+  -- a position that is at no pair is the one before all events
+  pub pair_or_start : (w : World) (c : Position) → IsIn w ops n (pairs_up l r tests) c → ((q x q' y : _) → c ≡ Pair' q x q' y → ⊥) → c ≡ Start
+  pair_or_start w Start h others = refl
+  pair_or_start w (Pair' q x q' y) h others = absurd (others q x q' y refl)
+  pair_or_start w c h others = absurd h
 
-  -- it costs no less than the left
-  left_cost : (o : Operator) → shape o ≡ pairs_up → (whole es : RowEvents) → cost es ≤ cost (left_ahead docs o whole es)
-  left_cost (source s out) e whole es = cc
-  left_cost (get_descendants i start path out) e whole es = cc
-  left_cost (join l r tests) e whole es = cost-expand_le (pairs docs tests whole) es
-  left_cost (over i (select t)) e whole es = cc
-  left_cost (over i (order_by v desc)) e whole es = cc
-  left_cost (over i (project keys)) e whole es = cc
-  left_cost (over i (group_by [] p out)) e whole es = cc
-  left_cost (over i (group_by (k ∷ keys) p out)) e whole es = cc
-  left_cost (over i (concatenate ps out)) e whole es = cc
-  left_cost (over i (create_element l v out)) e whole es = cc
-  left_cost (tuple_destroy i v) e whole es = cc
+  module _ (typed : IsTyped ops) (within : n < length ops) (is : shape_at ops n ≡ pairs_up l r tests) where
+    -- both sides of a single join are single
+    pub pairs_single : IsTrue (single ops n) → IsTrue (single ops l) × IsTrue (single ops r)
+    pairs_single s = both tests (sym (single_at ops typed n within (pairs_up l r tests) is) ∙ s)
+      where
+        both : (ts : List Test) → shape_single (pairs_up l r ts) (single ops) ≡ true → IsTrue (single ops l) × IsTrue (single ops r)
+        both [] e = and_parts (single ops l) (single ops r) e
+        both (t ∷ ts) e = cc
 
-  -- beside a binding on the left the right side comes next
-  left_next : (o : Operator) → shape o ≡ pairs_up → (whole es : RowEvents) (b : TolledRow) (rest : RowEvents) → found es ≡ finds b rest
-      → (found (left_ahead docs o whole es) ≡ found (right_ahead docs o b whole ++ left_ahead docs o whole rest)) × (cost (left_ahead docs o whole es) ≡ cost es + cost (right_ahead docs o b whole ++ left_ahead docs o whole rest))
-  left_next (source s out) e whole es b rest h = cc
-  left_next (get_descendants i start path out) e whole es b rest h = cc
-  left_next (join l r tests) e whole es b rest h = (found-expand_some (pairs docs tests whole) es b rest h, cost-expand_some (pairs docs tests whole) es b rest h)
-  left_next (over i (select t)) e whole es b rest h = cc
-  left_next (over i (order_by v desc)) e whole es b rest h = cc
-  left_next (over i (project keys)) e whole es b rest h = cc
-  left_next (over i (group_by [] p out)) e whole es b rest h = cc
-  left_next (over i (group_by (k ∷ keys) p out)) e whole es b rest h = cc
-  left_next (over i (concatenate ps out)) e whole es b rest h = cc
-  left_next (over i (create_element l v out)) e whole es b rest h = cc
-  left_next (tuple_destroy i v) e whole es b rest h = cc
+    -- a walk begins with the left side
+    pub pairs_begin : (w : World) → IsBench w ops → (c : Position) → c ≡ Start
+        → Goes w w ops n (stands w ops n (pairs_up l r tests) c).ahead (left_events w ops l r tests c) (weighs w ops n (pairs_up l r tests) c) (left_number w ops l r c)
+    pairs_begin w bench c e =
+        subst (λ (z : Position). Goes w w ops n (stands w ops n (pairs_up l r tests) z).ahead (left_events w ops l r tests z) (weighs w ops n (pairs_up l r tests) z) (left_number w ops l r z)) (sym e)
+        (goes_same (keeps_same w ops bench) (events_at ops typed n within (pairs_up l r tests) is (docs_of w)) (size_at ops typed n within (pairs_up l r tests) is w))
 
-  -- without a binding on the right there is none beside this one
-  right_none : (o : Operator) → shape o ≡ pairs_up → (row : TolledRow) (es : RowEvents) → found es ≡ nothing → found (right_ahead docs o row es) ≡ nothing
-  right_none (source s out) e row es h = cc
-  right_none (get_descendants i start path out) e row es h = cc
-  right_none (join l r tests) e row es h = found-pairs_none docs tests es row h
-  right_none (over i (select t)) e row es h = cc
-  right_none (over i (order_by v desc)) e row es h = cc
-  right_none (over i (project keys)) e row es h = cc
-  right_none (over i (group_by [] p out)) e row es h = cc
-  right_none (over i (group_by (k ∷ keys) p out)) e row es h = cc
-  right_none (over i (concatenate ps out)) e row es h = cc
-  right_none (over i (create_element l v out)) e row es h = cc
-  right_none (tuple_destroy i v) e row es h = cc
+    module _ (a b : World) (bench : IsBench a ops) where
+      -- the events of the left bindings behind, under the documents afterwards
+      left_same : Keeps a b → (es : RowEvents) → left_ahead a ops r tests es ≡ left_ahead b ops r tests es
+      left_same k es = ap (λ (z : Documents). expand (pairs z tests (events z ops r)) es) (sym (docs_kept k ops bench))
 
-  -- it costs no less than the right
-  right_cost : (o : Operator) → shape o ≡ pairs_up → (row : TolledRow) (es : RowEvents) → cost es ≤ cost (right_ahead docs o row es)
-  right_cost (source s out) e row es = cc
-  right_cost (get_descendants i start path out) e row es = cc
-  right_cost (join l r tests) e row es = cost-pairs_le docs tests es row
-  right_cost (over i (select t)) e row es = cc
-  right_cost (over i (order_by v desc)) e row es = cc
-  right_cost (over i (project keys)) e row es = cc
-  right_cost (over i (group_by [] p out)) e row es = cc
-  right_cost (over i (group_by (k ∷ keys) p out)) e row es = cc
-  right_cost (over i (concatenate ps out)) e row es = cc
-  right_cost (over i (create_element l v out)) e row es = cc
-  right_cost (tuple_destroy i v) e row es = cc
-
-  -- a pair that is let through is found
-  right_yes : (o : Operator) → shape o ≡ pairs_up → (row : TolledRow) (es : RowEvents) (b : TolledRow) (rest : RowEvents) → found es ≡ finds b rest → lets docs o (row ++ b) ≡ true
-      → found (right_ahead docs o row es) ≡ finds (row ++ b) (right_ahead docs o row rest)
-  right_yes (source s out) e row es b rest h y = cc
-  right_yes (get_descendants i start path out) e row es b rest h y = cc
-  right_yes (join l r tests) e row es b rest h y = found-pairs_yes docs tests es row b rest h y
-  right_yes (over i (select t)) e row es b rest h y = cc
-  right_yes (over i (order_by v desc)) e row es b rest h y = cc
-  right_yes (over i (project keys)) e row es b rest h y = cc
-  right_yes (over i (group_by [] p out)) e row es b rest h y = cc
-  right_yes (over i (group_by (k ∷ keys) p out)) e row es b rest h y = cc
-  right_yes (over i (concatenate ps out)) e row es b rest h y = cc
-  right_yes (over i (create_element l v out)) e row es b rest h y = cc
-  right_yes (tuple_destroy i v) e row es b rest h y = cc
-
-  -- another one is passed
-  right_no : (o : Operator) → shape o ≡ pairs_up → (row : TolledRow) (es : RowEvents) (b : TolledRow) (rest : RowEvents) → found es ≡ finds b rest → lets docs o (row ++ b) ≡ false
-      → (found (right_ahead docs o row es) ≡ found (right_ahead docs o row rest)) × (cost (right_ahead docs o row es) ≡ cost es + cost (right_ahead docs o row rest))
-  right_no (source s out) e row es b rest h y = cc
-  right_no (get_descendants i start path out) e row es b rest h y = cc
-  right_no (join l r tests) e row es b rest h y = (found-pairs_no docs tests es row b rest h y, cost-pairs_no docs tests es row b rest h y)
-  right_no (over i (select t)) e row es b rest h y = cc
-  right_no (over i (order_by v desc)) e row es b rest h y = cc
-  right_no (over i (project keys)) e row es b rest h y = cc
-  right_no (over i (group_by [] p out)) e row es b rest h y = cc
-  right_no (over i (group_by (k ∷ keys) p out)) e row es b rest h y = cc
-  right_no (over i (concatenate ps out)) e row es b rest h y = cc
-  right_no (over i (create_element l v out)) e row es b rest h y = cc
-  right_no (tuple_destroy i v) e row es b rest h y = cc
-
-module _ (ops : List Operator) (typed : IsTyped ops) (n : ℕ) (within : n < length ops) (e : shape (op_at ops n) ≡ pairs_up) where
-  -- the events of a join begin with the left side
-  pub pairs_start : (w : World) → ahead w ops n Start ≡ left_ahead (docs_of w) (op_at ops n) (events (docs_of w) ops (right_of (op_at ops n))) (ahead w ops (input_of (op_at ops n)) Start)
-  pairs_start w = events_at ops typed n within (docs_of w) ∙ events_pairs (docs_of w) (events (docs_of w) ops) (op_at ops n) e
-
-  -- its whole number
-  pub pairs_size : (w : World) → number w ops n Start ≡ number w ops (input_of (op_at ops n)) Start * suc (size w ops (right_of (op_at ops n)))
-  pairs_size w = size_at ops typed n within w ∙ size_pairs (bound_of w) (size w ops) (op_at ops n) e
-
-  -- both sides of a single join are single
-  pub pairs_single : IsTrue (single ops n) → IsTrue (single ops (input_of (op_at ops n))) × IsTrue (single ops (right_of (op_at ops n)))
-  pairs_single s = single_pairs (single ops) (op_at ops n) e (sym (single_at ops typed n within) ∙ s)
-
-  -- a walk begins with the left side
-  pub pairs_begin : (w : World) → IsBench w ops → (c : Position) → c ≡ Start
-      → Goes w w ops n (ahead w ops n c) (left_ahead (docs_of w) (op_at ops n) (events (docs_of w) ops (right_of (op_at ops n))) (ahead w ops (input_of (op_at ops n)) c)) (number w ops n c)
-      (number w ops (input_of (op_at ops n)) c * suc (size w ops (right_of (op_at ops n))))
-  pairs_begin w bench c e =
-      subst (λ (z : Position). Goes w w ops n (ahead w ops n z) (left_ahead (docs_of w) (op_at ops n) (events (docs_of w) ops (right_of (op_at ops n))) (ahead w ops (input_of (op_at ops n)) z)) (number w ops n z)
-      (number w ops (input_of (op_at ops n)) z * suc (size w ops (right_of (op_at ops n))))) (sym e)
-      (goes_same (keeps_same w ops bench) (pairs_start w) (pairs_size w))
-
-  module _ (a b : World) (bench : IsBench a ops) where
-    -- the events of the right side are the same
-    whole_kept : Keeps a b → events (docs_of b) ops (right_of (op_at ops n)) ≡ events (docs_of a) ops (right_of (op_at ops n))
-    whole_kept k = ap (λ (z : Documents). events z ops (right_of (op_at ops n))) (docs_kept k ops bench)
-
-    -- the left bindings behind, under the documents afterwards
-    left_same : Keeps a b → (es : RowEvents) → left_ahead (docs_of a) (op_at ops n) (events (docs_of a) ops (right_of (op_at ops n))) es ≡ left_ahead (docs_of b) (op_at ops n) (events (docs_of b) ops (right_of (op_at ops n))) es
-    left_same k es = ap (λ (z : Documents). left_ahead z (op_at ops n) (events z ops (right_of (op_at ops n))) es) (sym (docs_kept k ops bench))
-
-    module _ (c : Position) where
       -- what a call of the left side may cost, it may cost here
-      pub left_costs : cost (ahead a ops (input_of (op_at ops n)) c) ≤ cost (left_ahead (docs_of a) (op_at ops n) (events (docs_of a) ops (right_of (op_at ops n))) (ahead a ops (input_of (op_at ops n)) c))
-      left_costs = left_cost (docs_of a) (op_at ops n) e (events (docs_of a) ops (right_of (op_at ops n))) (ahead a ops (input_of (op_at ops n)) c)
+      pub left_costs : (x : Position) → cost (ahead a ops l x) ≤ cost (left_events a ops l r tests x)
+      left_costs x = cost-expand_le (pairs (docs_of a) tests (events (docs_of a) ops r)) (ahead a ops l x)
 
       -- nothing on the left
-      pub left_done : (IsTrue (is_told a ops) → found (ahead a ops (input_of (op_at ops n)) c) ≡ nothing)
-          → IsTrue (is_told a ops) → found (left_ahead (docs_of a) (op_at ops n) (events (docs_of a) ops (right_of (op_at ops n))) (ahead a ops (input_of (op_at ops n)) c)) ≡ nothing
-      left_done f t = left_none (docs_of a) (op_at ops n) e (events (docs_of a) ops (right_of (op_at ops n))) (ahead a ops (input_of (op_at ops n)) c) (f t)
+      pub left_done : (x : Position) → (IsTrue (is_told a ops) → found (ahead a ops l x) ≡ nothing) → IsTrue (is_told a ops) → found (left_events a ops l r tests x) ≡ nothing
+      left_done x f t = found-expand_none (pairs (docs_of a) tests (events (docs_of a) ops r)) (ahead a ops l x) (f t)
 
       -- a binding on the left, before the first on the right
-      pub left_on : (k : Asks a b ops (input_of (op_at ops n)) (ahead a ops (input_of (op_at ops n)) c)) (d : Position)
-          → Finds a b ops (input_of (op_at ops n)) (ahead a ops (input_of (op_at ops n)) c) (number a ops (input_of (op_at ops n)) c) d → (q r : _)
-          → Moves a b ops n (left_ahead (docs_of a) (op_at ops n) (events (docs_of a) ops (right_of (op_at ops n))) (ahead a ops (input_of (op_at ops n)) c))
-          (number a ops (input_of (op_at ops n)) c * suc (size a ops (right_of (op_at ops n)))) (Pair' q d r Start)
-      left_on k d f q r = record {
-        cursor = (e, f.cursor, f.row, tt, le_same (size b ops (right_of (op_at ops n))));
+      pub left_on : (x : Position) → Asks a b ops l (ahead a ops l x) → (d : Position) → Finds a b ops l (shape_at ops l) (ahead a ops l x) (number a ops l x) d → (q p : _)
+          → Moves a b ops n (pairs_up l r tests) (left_events a ops l r tests x) (left_number a ops l r x) (Pair' q d p Start)
+      left_on x k d f q p = record {
+        cursor = (f.cursor, f.row, tt, le_same (size b ops r));
         falls =
-            subst (λ (z : ℕ). number b ops (input_of (op_at ops n)) d * suc z + z < number a ops (input_of (op_at ops n)) c * suc (size a ops (right_of (op_at ops n)))) (sym (size_kept a b k.kept ops bench (right_of (op_at ops n))))
-            (less_times (number b ops (input_of (op_at ops n)) d) (number a ops (input_of (op_at ops n)) c) (size a ops (right_of (op_at ops n))) (size a ops (right_of (op_at ops n))) f.falls (le_same (size a ops (right_of (op_at ops n)))));
-        found = λ t. (next t).0 ∙ ap found later;
-        lazy = λ t w. (let asked = k.lazy t w in let whole = (next t).1 in let same = ap cost later in omega (arith, asked, whole, same));
-      }
-        where
-          later : right_ahead (docs_of a) (op_at ops n) (binding b ops (input_of (op_at ops n)) d) (events (docs_of a) ops (right_of (op_at ops n)))
-              ++ left_ahead (docs_of a) (op_at ops n) (events (docs_of a) ops (right_of (op_at ops n))) (ahead b ops (input_of (op_at ops n)) d)
-              ≡ right_ahead (docs_of b) (op_at ops n) (binding b ops (input_of (op_at ops n)) d) (events (docs_of b) ops (right_of (op_at ops n)))
-              ++ left_ahead (docs_of b) (op_at ops n) (events (docs_of b) ops (right_of (op_at ops n))) (ahead b ops (input_of (op_at ops n)) d)
-          later = ap (λ (z : Documents). right_ahead z (op_at ops n) (binding b ops (input_of (op_at ops n)) d) (events z ops (right_of (op_at ops n))) ++ left_ahead z (op_at ops n) (events z ops (right_of (op_at ops n))) (ahead b ops (input_of (op_at ops n)) d)) (sym (docs_kept k.kept ops bench))
-
-          next : IsTrue (is_told a ops)
-              → (found (left_ahead (docs_of a) (op_at ops n) (events (docs_of a) ops (right_of (op_at ops n))) (ahead a ops (input_of (op_at ops n)) c))
-              ≡ found (right_ahead (docs_of a) (op_at ops n) (binding b ops (input_of (op_at ops n)) d) (events (docs_of a) ops (right_of (op_at ops n))) ++ left_ahead (docs_of a) (op_at ops n) (events (docs_of a) ops (right_of (op_at ops n))) (ahead b ops (input_of (op_at ops n)) d)))
-              × (cost (left_ahead (docs_of a) (op_at ops n) (events (docs_of a) ops (right_of (op_at ops n))) (ahead a ops (input_of (op_at ops n)) c))
-              ≡ cost (ahead a ops (input_of (op_at ops n)) c) + cost (right_ahead (docs_of a) (op_at ops n) (binding b ops (input_of (op_at ops n)) d) (events (docs_of a) ops (right_of (op_at ops n))) ++ left_ahead (docs_of a) (op_at ops n) (events (docs_of a) ops (right_of (op_at ops n))) (ahead b ops (input_of (op_at ops n)) d)))
-          next t = left_next (docs_of a) (op_at ops n) e (events (docs_of a) ops (right_of (op_at ops n))) (ahead a ops (input_of (op_at ops n)) c) (binding b ops (input_of (op_at ops n)) d) (ahead b ops (input_of (op_at ops n)) d) (f.found t)
-
-    -- a call of the right side
-    module _ (l r : Position) (below : IsOf a ops (input_of (op_at ops n)) l) (row : IsTrue (has_row l)) (small : number a ops (right_of (op_at ops n)) r ≤ size a ops (right_of (op_at ops n)))
-        (k : Asks a b ops (right_of (op_at ops n)) (ahead a ops (right_of (op_at ops n)) r)) where
-      stays : Stays a b ops (input_of (op_at ops n)) l
-      stays = cursors_kept a b k.kept ops bench (input_of (op_at ops n)) l below
-
-      -- the right side's events beside this binding
-      abbrev beside : RowEvents
-      beside = right_ahead (docs_of a) (op_at ops n) (binding a ops (input_of (op_at ops n)) l) (ahead a ops (right_of (op_at ops n)) r)
-
-      -- and those behind it
-      abbrev behind : RowEvents
-      behind = left_ahead (docs_of a) (op_at ops n) (events (docs_of a) ops (right_of (op_at ops n))) (ahead a ops (input_of (op_at ops n)) l)
-
-      -- what it may cost on the right, it may cost here
-      pub right_costs : (ys : RowEvents) → cost (ahead a ops (right_of (op_at ops n)) r)
-          ≤ cost (right_ahead (docs_of a) (op_at ops n) (binding a ops (input_of (op_at ops n)) l) (ahead a ops (right_of (op_at ops n)) r) ++ ys)
-      right_costs ys =
-          let c = right_cost (docs_of a) (op_at ops n) e (binding a ops (input_of (op_at ops n)) l) (ahead a ops (right_of (op_at ops n)) r) in
-          let d = cost-append_le beside ys in
-          omega (arith, c, d)
-
-      -- nothing is left on the right
-      pub right_over : (IsTrue (is_told a ops) → found (ahead a ops (right_of (op_at ops n)) r) ≡ nothing)
-          → Goes a b ops n (right_ahead (docs_of a) (op_at ops n) (binding a ops (input_of (op_at ops n)) l) (ahead a ops (right_of (op_at ops n)) r) ++ left_ahead (docs_of a) (op_at ops n) (events (docs_of a) ops (right_of (op_at ops n))) (ahead a ops (input_of (op_at ops n)) l))
-          (left_ahead (docs_of b) (op_at ops n) (events (docs_of b) ops (right_of (op_at ops n))) (ahead b ops (input_of (op_at ops n)) l))
-          (number a ops (input_of (op_at ops n)) l * suc (size a ops (right_of (op_at ops n))) + number a ops (right_of (op_at ops n)) r) (number b ops (input_of (op_at ops n)) l * suc (size b ops (right_of (op_at ops n))))
-      right_over f = record {
-        kept = k.kept;
-        falls =
-            let m = mul-le (number b ops (input_of (op_at ops n)) l) (suc (size a ops (right_of (op_at ops n)))) (number a ops (input_of (op_at ops n)) l) (suc (size a ops (right_of (op_at ops n)))) stays.number_is (le_same (suc (size a ops (right_of (op_at ops n))))) in
-            subst (λ (z : ℕ). number b ops (input_of (op_at ops n)) l * suc z ≤ number a ops (input_of (op_at ops n)) l * suc (size a ops (right_of (op_at ops n))) + number a ops (right_of (op_at ops n)) r) (sym (size_kept a b k.kept ops bench (right_of (op_at ops n)))) (omega (arith, m));
-        found = λ t. found-append_none beside behind (right_none (docs_of a) (op_at ops n) e (binding a ops (input_of (op_at ops n)) l) (ahead a ops (right_of (op_at ops n)) r) (f t)) ∙ ap found later;
+            subst (λ (z : ℕ). number b ops l d * suc z + z < left_number a ops l r x) (sym (size_kept a b k.kept ops bench r))
+            (less_times (number b ops l d) (number a ops l x) (size a ops r) (size a ops r) f.falls (le_same (size a ops r)));
+        found = λ t. found-expand_some side (ahead a ops l x) (binding b ops l d) (ahead b ops l d) (f.found t) ∙ ap found later;
         lazy = λ t w.
             let asked = k.lazy t w in
-            let whole = cost-append_none beside behind (right_none (docs_of a) (op_at ops n) e (binding a ops (input_of (op_at ops n)) l) (ahead a ops (right_of (op_at ops n)) r) (f t)) in
-            let c = right_cost (docs_of a) (op_at ops n) e (binding a ops (input_of (op_at ops n)) l) (ahead a ops (right_of (op_at ops n)) r) in
+            let whole = cost-expand_some side (ahead a ops l x) (binding b ops l d) (ahead b ops l d) (f.found t) in
             let same = ap cost later in
-            omega (arith, asked, whole, c, same);
-        none = λ s. k.none (pairs_single s).1;
+            omega (arith, asked, whole, same);
       }
         where
-          later : left_ahead (docs_of a) (op_at ops n) (events (docs_of a) ops (right_of (op_at ops n))) (ahead a ops (input_of (op_at ops n)) l) ≡ left_ahead (docs_of b) (op_at ops n) (events (docs_of b) ops (right_of (op_at ops n))) (ahead b ops (input_of (op_at ops n)) l)
-          later = left_same k.kept (ahead a ops (input_of (op_at ops n)) l) ∙ ap (left_ahead (docs_of b) (op_at ops n) (events (docs_of b) ops (right_of (op_at ops n)))) (sym stays.ahead_is)
+          side : TolledRow → RowEvents
+          side = pairs (docs_of a) tests (events (docs_of a) ops r)
 
-      module _ (d : Position) (f : Finds a b ops (right_of (op_at ops n)) (ahead a ops (right_of (op_at ops n)) r) (number a ops (right_of (op_at ops n)) r) d) where
-        -- a binding on the right makes a pair
-        pub pair_cursor : (q p : _) → IsOf b ops n (Pair' q l p d)
-        pair_cursor q p = (e, stays.cursor, row, f.cursor, (let m = size_kept a b k.kept ops bench (right_of (op_at ops n)) in let g = f.falls in omega (arith, m, g, small)))
+          later : side (binding b ops l d) ++ left_ahead a ops r tests (ahead b ops l d) ≡ pairs (docs_of b) tests (events (docs_of b) ops r) (binding b ops l d) ++ left_ahead b ops r tests (ahead b ops l d)
+          later = ap (λ (z : Documents). pairs z tests (events z ops r) (binding b ops l d) ++ expand (pairs z tests (events z ops r)) (ahead b ops l d)) (sym (docs_kept k.kept ops bench))
 
-        -- whatever its names
-        pub pair_is : {q p : _} (x : Position) → x ≡ Pair' q l p d → IsOf b ops n x
-        pair_is {q} {p} x w = subst (IsOf b ops n) (sym w) (pair_cursor q p)
+      -- a call of the right side, at a pair
+      module _ (q q' : _) (x y : Position) (here : IsIn a ops n (pairs_up l r tests) (Pair' q x q' y)) (k : Asks a b ops r (ahead a ops r y)) where
+        stays : Stays a b ops l x
+        stays = cursors_kept a b k.kept ops bench l x here.0
 
-        pair_falls : (q p : _) → number b ops n (Pair' q l p d) < number a ops (input_of (op_at ops n)) l * suc (size a ops (right_of (op_at ops n))) + number a ops (right_of (op_at ops n)) r
-        pair_falls q p =
-            let m = mul-le (number b ops (input_of (op_at ops n)) l) (suc (size a ops (right_of (op_at ops n)))) (number a ops (input_of (op_at ops n)) l) (suc (size a ops (right_of (op_at ops n)))) stays.number_is (le_same (suc (size a ops (right_of (op_at ops n))))) in
-            let g = f.falls in
-            subst (λ (z : ℕ). number b ops (input_of (op_at ops n)) l * suc z + number b ops (right_of (op_at ops n)) d < number a ops (input_of (op_at ops n)) l * suc (size a ops (right_of (op_at ops n))) + number a ops (right_of (op_at ops n)) r) (sym (size_kept a b k.kept ops bench (right_of (op_at ops n)))) (omega (arith, m, g))
+        -- the right side's events beside this binding, and those behind them
+        abbrev beside : RowEvents
+        beside = pairs (docs_of a) tests (ahead a ops r y) (binding a ops l x)
 
-        -- whether it is let through, under the documents before
-        lets_old : (v : Bool) (q p : _) → lets (docs_of b) (op_at ops n) (binding b ops n (Pair' q l p d)) ≡ v → lets (docs_of a) (op_at ops n) (binding a ops (input_of (op_at ops n)) l ++ binding b ops (right_of (op_at ops n)) d) ≡ v
-        lets_old v q p y =
-            ap (λ (z : Documents). lets z (op_at ops n) (binding a ops (input_of (op_at ops n)) l ++ binding b ops (right_of (op_at ops n)) d)) (sym (docs_kept k.kept ops bench))
-            ∙ ap (λ (z : TolledRow). lets (docs_of b) (op_at ops n) (z ++ binding b ops (right_of (op_at ops n)) d)) (sym stays.binding_is) ∙ y
+        abbrev behind : RowEvents
+        behind = left_ahead a ops r tests (ahead a ops l x)
 
-        -- the events behind the pair
-        pair_ahead : (q p : _) → right_ahead (docs_of a) (op_at ops n) (binding a ops (input_of (op_at ops n)) l) (ahead b ops (right_of (op_at ops n)) d) ++ behind ≡ ahead b ops n (Pair' q l p d)
-        pair_ahead q p =
-            ap (λ (z : RowEvents). right_ahead (docs_of a) (op_at ops n) (binding a ops (input_of (op_at ops n)) l) (ahead b ops (right_of (op_at ops n)) d) ++ z) (left_same k.kept (ahead a ops (input_of (op_at ops n)) l))
-            ∙ ap (λ (z : Documents). right_ahead z (op_at ops n) (binding a ops (input_of (op_at ops n)) l) (ahead b ops (right_of (op_at ops n)) d) ++ left_ahead (docs_of b) (op_at ops n) (events (docs_of b) ops (right_of (op_at ops n))) (ahead a ops (input_of (op_at ops n)) l)) (sym (docs_kept k.kept ops bench))
-            ∙ ap (λ (z : TolledRow). right_ahead (docs_of b) (op_at ops n) z (ahead b ops (right_of (op_at ops n)) d) ++ left_ahead (docs_of b) (op_at ops n) (events (docs_of b) ops (right_of (op_at ops n))) (ahead a ops (input_of (op_at ops n)) l)) (sym stays.binding_is)
-            ∙ ap (λ (z : RowEvents). right_ahead (docs_of b) (op_at ops n) (binding b ops (input_of (op_at ops n)) l) (ahead b ops (right_of (op_at ops n)) d) ++ left_ahead (docs_of b) (op_at ops n) (events (docs_of b) ops (right_of (op_at ops n))) z) (sym stays.ahead_is)
+        -- what it may cost on the right, it may cost here
+        pub right_costs : cost (ahead a ops r y) ≤ cost (stands a ops n (pairs_up l r tests) (Pair' q x q' y)).ahead
+        right_costs = (let c = cost-pairs_le (docs_of a) tests (ahead a ops r y) (binding a ops l x) in let d = cost-append_le beside behind in omega (arith, c, d))
 
-        -- that is let through
-        pub right_at : (q p : _) → (IsTrue (is_told b ops) → lets (docs_of b) (op_at ops n) (binding b ops n (Pair' q l p d)) ≡ true)
-            → Finds a b ops n (right_ahead (docs_of a) (op_at ops n) (binding a ops (input_of (op_at ops n)) l) (ahead a ops (right_of (op_at ops n)) r) ++ left_ahead (docs_of a) (op_at ops n) (events (docs_of a) ops (right_of (op_at ops n))) (ahead a ops (input_of (op_at ops n)) l))
-            (number a ops (input_of (op_at ops n)) l * suc (size a ops (right_of (op_at ops n))) + number a ops (right_of (op_at ops n)) r) (Pair' q l p d)
-        right_at q p y = record {
-          cursor = pair_cursor q p;
-          row = f.row;
-          falls = pair_falls q p;
-          found = λ t.
-              found-append_some beside behind _ _
-              (right_yes (docs_of a) (op_at ops n) e (binding a ops (input_of (op_at ops n)) l) (ahead a ops (right_of (op_at ops n)) r) (binding b ops (right_of (op_at ops n)) d) (ahead b ops (right_of (op_at ops n)) d) (f.found t) (lets_old true q p (y (still_told k.kept ops t))))
-              ∙ ap (λ (z : TolledRow). finds (z ++ binding b ops (right_of (op_at ops n)) d) (right_ahead (docs_of a) (op_at ops n) (binding a ops (input_of (op_at ops n)) l) (ahead b ops (right_of (op_at ops n)) d) ++ behind)) (sym stays.binding_is)
-              ∙ ap (finds (binding b ops (input_of (op_at ops n)) l ++ binding b ops (right_of (op_at ops n)) d)) (pair_ahead q p);
-        }
+        -- the left number does not rise
+        left_falls : left_number b ops l r x ≤ left_number a ops l r x
+        left_falls =
+            let m = mul-le (number b ops l x) (suc (size a ops r)) (number a ops l x) (suc (size a ops r)) stays.number_is (le_same (suc (size a ops r))) in
+            subst (λ (z : ℕ). number b ops l x * suc z ≤ left_number a ops l r x) (sym (size_kept a b k.kept ops bench r)) m
 
-        -- that is passed
-        pub right_on : (q p : _) → (IsTrue (is_told b ops) → lets (docs_of b) (op_at ops n) (binding b ops n (Pair' q l p d)) ≡ false)
-            → Moves a b ops n (right_ahead (docs_of a) (op_at ops n) (binding a ops (input_of (op_at ops n)) l) (ahead a ops (right_of (op_at ops n)) r) ++ left_ahead (docs_of a) (op_at ops n) (events (docs_of a) ops (right_of (op_at ops n))) (ahead a ops (input_of (op_at ops n)) l))
-            (number a ops (input_of (op_at ops n)) l * suc (size a ops (right_of (op_at ops n))) + number a ops (right_of (op_at ops n)) r) (Pair' q l p d)
-        right_on q p y = record {
-          cursor = pair_cursor q p;
-          falls = pair_falls q p;
-          found = λ t. found-append_both beside later behind (passed t).0 ∙ ap found (pair_ahead q p);
+        -- nothing is left on the right
+        pub right_over : (IsTrue (is_told a ops) → found (ahead a ops r y) ≡ nothing)
+            → Goes a b ops n (stands a ops n (pairs_up l r tests) (Pair' q x q' y)).ahead (left_events b ops l r tests x) (weighs a ops n (pairs_up l r tests) (Pair' q x q' y)) (left_number b ops l r x)
+        right_over f = record {
+          kept = k.kept;
+          falls = omega (arith, left_falls);
+          found = λ t. found-append_none beside behind (found-pairs_none (docs_of a) tests (ahead a ops r y) (binding a ops l x) (f t)) ∙ ap found later;
           lazy = λ t w.
               let asked = k.lazy t w in
-              let whole = cost-append_both beside later behind (cost (ahead a ops (right_of (op_at ops n)) r)) (passed t).0 (passed t).1 in
-              let same = ap cost (pair_ahead q p) in
-              omega (arith, asked, whole, same);
+              let whole = cost-append_none beside behind (found-pairs_none (docs_of a) tests (ahead a ops r y) (binding a ops l x) (f t)) in
+              let c = cost-pairs_le (docs_of a) tests (ahead a ops r y) (binding a ops l x) in
+              let same = ap cost later in
+              omega (arith, asked, whole, c, same);
+          none = λ s. k.none (pairs_single s).1;
         }
           where
-            later : RowEvents
-            later = right_ahead (docs_of a) (op_at ops n) (binding a ops (input_of (op_at ops n)) l) (ahead b ops (right_of (op_at ops n)) d)
+            later : behind ≡ left_events b ops l r tests x
+            later = left_same k.kept (ahead a ops l x) ∙ ap (left_ahead b ops r tests) (sym stays.ahead_is)
 
-            passed : IsTrue (is_told a ops) → (found beside ≡ found later) × (cost beside ≡ cost (ahead a ops (right_of (op_at ops n)) r) + cost later)
-            passed t = right_no (docs_of a) (op_at ops n) e (binding a ops (input_of (op_at ops n)) l) (ahead a ops (right_of (op_at ops n)) r) (binding b ops (right_of (op_at ops n)) d) (ahead b ops (right_of (op_at ops n)) d) (f.found t) (lets_old false q p (y (still_told k.kept ops t)))
+        module _ (d : Position) (f : Finds a b ops r (shape_at ops r) (ahead a ops r y) (number a ops r y) d) where
+          -- a binding on the right makes a pair
+          pub pair_cursor : (p p' : _) → IsIn b ops n (pairs_up l r tests) (Pair' p x p' d)
+          pair_cursor p p' = (stays.cursor, here.1, f.cursor, (let m = size_kept a b k.kept ops bench r in let g = f.falls in omega (arith, m, g, here.3)))
+
+          pair_falls : (p p' : _) → weighs b ops n (pairs_up l r tests) (Pair' p x p' d) < weighs a ops n (pairs_up l r tests) (Pair' q x q' y)
+          pair_falls p p' = (let g = f.falls in omega (arith, left_falls, g))
+
+          -- whether it is let through, under the documents before
+          lets_old : (v : Bool) → passes_all (docs_of b) tests (binding b ops l x ++ binding b ops r d) ≡ v → passes_all (docs_of a) tests (binding a ops l x ++ binding b ops r d) ≡ v
+          lets_old v h =
+              ap (λ (z : Documents). passes_all z tests (binding a ops l x ++ binding b ops r d)) (sym (docs_kept k.kept ops bench))
+              ∙ ap (λ (z : TolledRow). passes_all (docs_of b) tests (z ++ binding b ops r d)) (sym stays.binding_is) ∙ h
+
+          -- the events behind the pair
+          pair_ahead : (p p' : _) → pairs (docs_of a) tests (ahead b ops r d) (binding a ops l x) ++ behind ≡ (stands b ops n (pairs_up l r tests) (Pair' p x p' d)).ahead
+          pair_ahead p p' =
+              ap (λ (z : Documents). pairs z tests (ahead b ops r d) (binding a ops l x) ++ expand (pairs z tests (events z ops r)) (ahead a ops l x)) (sym (docs_kept k.kept ops bench))
+              ∙ ap (λ (z : TolledRow). pairs (docs_of b) tests (ahead b ops r d) z ++ left_ahead b ops r tests (ahead a ops l x)) (sym stays.binding_is)
+              ∙ ap (λ (z : RowEvents). pairs (docs_of b) tests (ahead b ops r d) (binding b ops l x) ++ left_ahead b ops r tests z) (sym stays.ahead_is)
+
+          -- that is let through
+          pub right_at : (p p' : _) → (IsTrue (is_told b ops) → passes_all (docs_of b) tests (binding b ops l x ++ binding b ops r d) ≡ true)
+              → Finds a b ops n (pairs_up l r tests) (stands a ops n (pairs_up l r tests) (Pair' q x q' y)).ahead (weighs a ops n (pairs_up l r tests) (Pair' q x q' y)) (Pair' p x p' d)
+          right_at p p' h = record {
+            cursor = pair_cursor p p';
+            row = f.row;
+            falls = pair_falls p p';
+            found = λ t.
+                found-append_some beside behind _ _
+                (found-pairs_yes (docs_of a) tests (ahead a ops r y) (binding a ops l x) (binding b ops r d) (ahead b ops r d) (f.found t) (lets_old true (h (still_told k.kept ops t))))
+                ∙ ap (λ (z : TolledRow). finds (z ++ binding b ops r d) (pairs (docs_of a) tests (ahead b ops r d) (binding a ops l x) ++ behind)) (sym stays.binding_is)
+                ∙ ap (finds (binding b ops l x ++ binding b ops r d)) (pair_ahead p p');
+          }
+
+          -- that is passed
+          pub right_on : (p p' : _) → (IsTrue (is_told b ops) → passes_all (docs_of b) tests (binding b ops l x ++ binding b ops r d) ≡ false)
+              → Moves a b ops n (pairs_up l r tests) (stands a ops n (pairs_up l r tests) (Pair' q x q' y)).ahead (weighs a ops n (pairs_up l r tests) (Pair' q x q' y)) (Pair' p x p' d)
+          right_on p p' h = record {
+            cursor = pair_cursor p p';
+            falls = pair_falls p p';
+            found = λ t. found-append_both beside (pairs (docs_of a) tests (ahead b ops r d) (binding a ops l x)) behind (passed t).0 ∙ ap found (pair_ahead p p');
+            lazy = λ t w.
+                let asked = k.lazy t w in
+                let whole = cost-append_both beside (pairs (docs_of a) tests (ahead b ops r d) (binding a ops l x)) behind (cost (ahead a ops r y)) (passed t).0 (passed t).1 in
+                let same = ap cost (pair_ahead p p') in
+                omega (arith, asked, whole, same);
+          }
+            where
+              passed : IsTrue (is_told a ops)
+                  → (found beside ≡ found (pairs (docs_of a) tests (ahead b ops r d) (binding a ops l x)))
+                  × (cost beside ≡ cost (ahead a ops r y) + cost (pairs (docs_of a) tests (ahead b ops r d) (binding a ops l x)))
+              passed t =
+                  let e = lets_old false (h (still_told k.kept ops t)) in (
+                    found-pairs_no (docs_of a) tests (ahead a ops r y) (binding a ops l x) (binding b ops r d) (ahead b ops r d) (f.found t) e,
+                    cost-pairs_no (docs_of a) tests (ahead a ops r y) (binding a ops l x) (binding b ops r d) (ahead b ops r d) (f.found t) e,
+                  )
+
+module _ {v : View} {g : Growing} {p : Fixed} {n : ℕ} {c : Position} (can : CanStep v g p n c) (l r : ℕ) (tests : List Test) (is : shape_at (operators p) n ≡ pairs_up l r tests) where
+  -- both sides have smaller numbers
+  pub sides : (l < n) × (r < n)
+  sides = (let h = inputs_at (operators p) can.fixed.typed n can.op (pairs_up l r tests) is in (h.0, h.1.0))
+
+  -- the comparisons are of nodes
+  pub tests_fit : AllByRecursion (IsTest (kinds (operators p) n)) tests
+  tests_fit =
+      subst (λ (k : Kinds). AllByRecursion (IsTest k) tests) (sym (kinds_at (operators p) can.fixed.typed n can.op (pairs_up l r tests) is))
+      (fit_at (operators p) can.fixed.typed n can.op (pairs_up l r tests) is)
+
+  -- the left side can step from the beginning
+  pub left_can : c ≡ Start → CanStep v g p l c
+  left_can e = record {
+    fixed = can.fixed;
+    op = (let h = sides.0 in let m = can.op in omega (arith, h, m));
+    bench = can.bench;
+    cursor = subst (λ (z : Position). IsOf (world_of v g) (operators p) l z) (sym e) tt;
+  }
+
+  module _ (q q' : _) (x y : Position) (e : c ≡ Pair' q x q' y) where
+    here : IsIn (world_of v g) (operators p) n (pairs_up l r tests) (Pair' q x q' y)
+    here = in_place can (pairs_up l r tests) is (Pair' q x q' y) e
+
+    -- the right side can step from a pair
+    pub right_can : CanStep v g p r y
+    right_can = record { fixed = can.fixed; op = (let h = sides.1 in let m = can.op in omega (arith, h, m)); bench = can.bench; cursor = here.2 }
+
+    -- and afterwards the left side
+    pub left_then : (v' : View) (g' : Growing) → IsBench (world_of v' g') (operators p) → Keeps (world_of v g) (world_of v' g') → CanStep v' g' p l x
+    left_then v' g' bench kept = record {
+      fixed = can.fixed;
+      op = (let h = sides.0 in let m = can.op in omega (arith, h, m));
+      bench = bench;
+      cursor = (cursors_kept (world_of v g) (world_of v' g') kept (operators p) can.bench l x here.0).cursor;
+    }
+
+-- a call of the right side from a pair
+module _ {S : Type 0} {view : S → View} {came_from : S → S → Type 0} {s t : S} {g h : Growing} {p : Fixed} {n : ℕ} {c : Position} (can : CanStep (view s) g p n c)
+    (l r : ℕ) (tests : List Test) (is : shape_at (operators p) n ≡ pairs_up l r tests) (q q' : _) (x y : Position) (e : c ≡ Pair' q x q' y)
+    (ran : Ran view came_from (operators p) r (ahead (world_of (view s) g) (operators p) r y) s g t h) where
+  -- the shape, and the states
+  abbrev F : Shape
+  F = pairs_up l r tests
+
+  abbrev a : World
+  a = world_of (view s) g
+
+  abbrev b : World
+  b = world_of (view t) h
+
+  there : IsIn a (operators p) n F (Pair' q x q' y)
+  there = in_place can F is (Pair' q x q' y) e
+
+  -- what it leaves
+  pub pair_ran : Ran view came_from (operators p) n (stands a (operators p) n F (Pair' q x q' y)).ahead s g t h
+  pair_ran =
+      ran_over ran (right_costs (operators p) n l r tests can.fixed.typed can.op is a b can.bench q q' x y there ran.asks)
+      (λ z. (pairs_single (operators p) n l r tests can.fixed.typed can.op is z).1)
+
+  -- without a binding the left side goes on
+  pub pair_over : (IsTrue (is_told a (operators p)) → found (ahead a (operators p) r y) ≡ nothing)
+      → Goes a b (operators p) n (stands a (operators p) n F (Pair' q x q' y)).ahead (left_events b (operators p) l r tests x) (weighs a (operators p) n F (Pair' q x q' y)) (left_number b (operators p) l r x)
+  pair_over done = right_over (operators p) n l r tests can.fixed.typed can.op is a b can.bench q q' x y there ran.asks done
+
+  module _ (d : Position) (f : Finds a b (operators p) r (shape_at (operators p) r) (ahead a (operators p) r y) (number a (operators p) r y) d) (z : Position) {u u' : _} (made : z ≡ Pair' u x u' d) where
+    -- a binding makes a cursor
+    pub pair_is : IsOf b (operators p) n z
+    pair_is =
+        subst (IsOf b (operators p) n) (sym made)
+        (subst (λ (k : Shape). IsIn b (operators p) n k (Pair' u x u' d)) (sym is) (pair_cursor (operators p) n l r tests can.fixed.typed can.op is a b can.bench q q' x y there ran.asks d f u u'))
+
+    module _ (holds : Bool) (read : IsOf b (operators p) n z → IsTrue (is_told b (operators p)) → holds ≡ passes_all (docs_of b) tests (binding b (operators p) n z)) where
+      test_is : IsTrue (is_told b (operators p)) → passes_all (docs_of b) tests (binding b (operators p) l x ++ binding b (operators p) r d) ≡ holds
+      test_is t =
+          sym (ap (λ (k : Shape). passes_all (docs_of b) tests (stands b (operators p) n k (Pair' u x u' d)).row) is) ∙ sym (ap (λ (k : Position). passes_all (docs_of b) tests (binding b (operators p) n k)) made)
+          ∙ sym (read pair_is t)
+
+      -- of which the comparisons hold
+      pub pair_at : holds ≡ true → Finds a b (operators p) n F (stands a (operators p) n F (Pair' q x q' y)).ahead (weighs a (operators p) n F (Pair' q x q' y)) z
+      pair_at says =
+          subst (Finds a b (operators p) n F (stands a (operators p) n F (Pair' q x q' y)).ahead (weighs a (operators p) n F (Pair' q x q' y))) (sym made)
+          (right_at (operators p) n l r tests can.fixed.typed can.op is a b can.bench q q' x y there ran.asks d f u u' (λ t. test_is t ∙ says))
+
+      -- of which they don't
+      pub pair_on : holds ≡ false → Moves a b (operators p) n F (stands a (operators p) n F (Pair' q x q' y)).ahead (weighs a (operators p) n F (Pair' q x q' y)) z
+      pair_on says =
+          subst (Moves a b (operators p) n F (stands a (operators p) n F (Pair' q x q' y)).ahead (weighs a (operators p) n F (Pair' q x q' y))) (sym made)
+          (right_on (operators p) n l r tests can.fixed.typed can.op is a b can.bench q q' x y there ran.asks d f u u' (λ t. test_is t ∙ says))
+
+-- a call of the left side
+module _ {S : Type 0} {view : S → View} {came_from : S → S → Type 0} {s t : S} {g h : Growing} {p : Fixed} {x : Position} (l r n : ℕ) (tests : List Test) (can : CanStep (view s) g p l x)
+    (within : n < length (operators p)) (is : shape_at (operators p) n ≡ pairs_up l r tests)
+    (ran : Ran view came_from (operators p) l (ahead (world_of (view s) g) (operators p) l x) s g t h) where
+  -- what it leaves
+  pub left_ran : Ran view came_from (operators p) n (left_events (world_of (view s) g) (operators p) l r tests x) s g t h
+  left_ran =
+      ran_over ran (left_costs (operators p) n l r tests can.fixed.typed within is (world_of (view s) g) (world_of (view s) g) can.bench x)
+      (λ z. (pairs_single (operators p) n l r tests can.fixed.typed within is z).0)

@@ -1,6 +1,6 @@
 -- Comparisons of nodes, by their spots.
-use Rattle.std.proofs.Common.{◌≡◌, ◌<◌, ℕ, Bool, true, false, List, Some, None, length, ◌∙◌, sym, ap, subst}
-use Rattle.std.specs.Prelude.{◌==◌, ◌&&◌, IsTrue}
+use Rattle.std.proofs.Common.{◌≡◌, ℕ, Bool, true, List, Some, ◌∙◌, sym, ap}
+use Rattle.std.specs.Prelude.{◌==◌, ◌&&◌}
 use Rattle.std.proofs.lemmas.Bool.{eq-eqb, ne_eqb}
 use Rattle.mix_tree.specs.Nodes.{Node, same_node}
 use Rattle.mix_tree.specs.Comparisons.{compares_nodes, passes}
@@ -12,16 +12,13 @@ use Rattle.mix_tree.proofs.Compared.{passes_nodes}
 use Rattle.tree_buffer.specs.declared.spot.Spot.{Spot}
 use Rattle.tree_buffer.specs.Law.{SpotsAreOne}
 use Rattle.plan_core.specs.Plans.{Operator}
-use Rattle.plan_core.specs.Typed.{IsTyped}
 use Rattle.plan_core.specs.TolledRows.{row_node}
-use Rattle.plan_core.specs.Valid.{Kinds, kinds, a_node, IsOperand, IsTest}
+use Rattle.plan_core.specs.Valid.{Kinds, a_node, IsOperand}
 use Rattle.lazy_plan.specs.declared.position.Position.{Position}
 use Rattle.lazy_plan.specs.declared.key.KeyPart.TheVariants.{Node as node_part}
 use Rattle.lazy_plan.specs.World.{World, docs_of, spot_node}
-use Rattle.lazy_plan.specs.Cursors.{binding, IsOf, has_row}
-use Rattle.lazy_plan.specs.Reading.{spot_in}
-use Rattle.lazy_plan.proofs.Spots.{IsSpotOf, spot_is}
-use Rattle.lazy_plan.proofs.Labels.{Found, found_is}
+use Rattle.lazy_plan.specs.Cursors.{binding}
+use Rattle.lazy_plan.specs.Reading.{Found}
 use Rattle.lazy_plan.proofs.SameKeys.{same_part-is}
 
 -- nodes are compared with a variable that holds a node
@@ -34,39 +31,20 @@ pub no_text : (k : Kinds) (op : TestOp) (right : Operand) (label : List ℕ) →
 no_text k op (var_operand u) label h n e = cc
 no_text k op (text_operand l) label h n e = cc
 
-module _ (ops : List Operator) (typed : IsTyped ops) (n : ℕ) (within : n < length ops) (c : Position) (row : IsTrue (has_row c)) (t : Test) (test : IsTest (kinds ops n) t)
-    (nodes : compares_nodes t.op ≡ true) (v : ℕ) (is : t.right ≡ var_operand v) (w : World) (of : IsOf w ops n c) where
-  -- the spots of both variables
-  left_spot : IsSpotOf w ops n c t.left
-  left_spot = spot_is ops typed w n within c of row t.left test.0
-
-  right_spot : IsSpotOf w ops n c v
-  right_spot = spot_is ops typed w n within c of row v (node_right (kinds ops n) t.op t.right v test.1 is)
-
-  -- the comparison holds where both are one spot of one source
-  same_spots : SpotsAreOne → (s r : ℕ) (x y : Spot) → spot_in ops n c t.left ≡ Some (s, x) → spot_in ops n c v ≡ Some (r, y)
-      → (s == r) && (x.number == y.number) ≡ passes (docs_of w) t (row_node (binding w ops n c))
-  same_spots ones s r x y a b =
-      let f = found_is w ops n c t.left s x left_spot a in
-      let g = found_is w ops n c v r y right_spot b in
+module _ (ops : List Operator) (n : ℕ) (c : Position) (t : Test) (nodes : compares_nodes t.op ≡ true) (v : ℕ) (is : t.right ≡ var_operand v) (w : World) (s r : ℕ) (x y : Spot)
+    (f : Found w ops n c t.left s x) (g : Found w ops n c v r y) (ones : SpotsAreOne) where
+  -- a comparison of nodes holds where both are one spot of one source
+  same_spots : (s == r) && (x.number == y.number) ≡ passes (docs_of w) t (row_node (binding w ops n c))
+  same_spots =
       same_part-is ones w (node_part s x) (node_part r y) f.known g.known
       ∙ ap (λ (m : Node). same_node m (spot_node w r y)) (sym f.node)
       ∙ ap (same_node (row_node (binding w ops n c) t.left)) (sym g.node)
       ∙ sym (passes_nodes (docs_of w) t (row_node (binding w ops n c)) v nodes is)
 
   -- in one source it holds where both are one spot
-  pub in_one_source : SpotsAreOne → (s r : ℕ) (x y : Spot) → spot_in ops n c t.left ≡ Some (s, x) → spot_in ops n c v ≡ Some (r, y) → s ≡ r
-      → (x.number == y.number) ≡ passes (docs_of w) t (row_node (binding w ops n c))
-  in_one_source ones s r x y a b e = sym (ap (λ (z : Bool). z && (x.number == y.number)) (eq-eqb s r e)) ∙ same_spots ones s r x y a b
+  pub in_one_source : s ≡ r → (x.number == y.number) ≡ passes (docs_of w) t (row_node (binding w ops n c))
+  in_one_source e = sym (ap (λ (z : Bool). z && (x.number == y.number)) (eq-eqb s r e)) ∙ same_spots
 
   -- in two sources it doesn't hold
-  pub in_two_sources : SpotsAreOne → (s r : ℕ) (x y : Spot) → spot_in ops n c t.left ≡ Some (s, x) → spot_in ops n c v ≡ Some (r, y) → (s ≡ r → ⊥)
-      → (s == r) ≡ passes (docs_of w) t (row_node (binding w ops n c))
-  in_two_sources ones s r x y a b e = ne_eqb s r e ∙ sym (ap (λ (z : Bool). z && (x.number == y.number)) (ne_eqb s r e)) ∙ same_spots ones s r x y a b
-
-  -- each of them has one
-  pub left_there : {Q : Type 0} → spot_in ops n c t.left ≡ None → Q
-  left_there e = (let f = left_spot.is in cc)
-
-  pub right_there : {Q : Type 0} → spot_in ops n c v ≡ None → Q
-  right_there e = (let f = right_spot.is in cc)
+  pub in_two_sources : (s ≡ r → ⊥) → (s == r) ≡ passes (docs_of w) t (row_node (binding w ops n c))
+  in_two_sources e = ne_eqb s r e ∙ sym (ap (λ (z : Bool). z && (x.number == y.number)) (ne_eqb s r e)) ∙ same_spots

@@ -21,6 +21,7 @@ use Rattle.plan_core.proofs.Distinct.{distinct_new}
 use Rattle.plan_core.proofs.Found.{found-expand_some, found-pairs_yes, found-each_row_some}
 use Rattle.plan_core.proofs.Numbers.{events-of}
 use Rattle.lazy_plan.specs.Steps.{single}
+use Rattle.plan_core.specs.Shapes.{shape_at}
 use Rattle.lazy_plan.proofs.Shapes.{single_at}
 use Rattle.lazy_value.specs.Ids.{IsLast}
 use Rattle.lazy_value.specs.Labels.{Labels, op_labels, labels, stands_in}
@@ -76,7 +77,7 @@ single_row docs ops typed n h e = below (suc n) n (omega arith) h e
     below zero n l h e = absurd (omega (arith, l))
     below (suc m) n l h e =
         let rows = each_weaker (λ i. i < n) (λ i. single ops i ≡ true → HasRow (events docs ops i)) (λ i k. below m i (omega (arith, l, k)) (omega (arith, h, k))) (inputs_of (op_at ops n)) (typed.inputs n h) in
-        subst HasRow (sym (events-of docs ops n (op_at ops n) refl (typed.inputs n h))) (op_one docs (single ops) (events docs ops) (op_at ops n) (sym (single_at ops typed n h) ∙ e) rows)
+        subst HasRow (sym (events-of docs ops n (op_at ops n) refl (typed.inputs n h))) (op_one docs (single ops) (events docs ops) (op_at ops n) (sym (single_at ops typed n h (shape_at ops n) refl) ∙ e) rows)
 
 -- a variable that holds an element has a label
 pub element_label : (ops : List Operator) → IsTyped ops → (n v : ℕ) → n < length ops → kinds ops n v ≡ Some an_element → (x : List ℕ) × (labels ops n v ≡ Some (Some x))
@@ -123,7 +124,8 @@ element_made ks ls (join l r tests) v m e = cc
 element_made ks ls (over i (select t)) v m e = cc
 element_made ks ls (over i (order_by w desc)) v m e = cc
 element_made ks ls (over i (project keys)) v m e = cc
-element_made ks ls (over i (group_by keys piece out)) v m e = let z : Some a_list ≡ Some an_element = sym (cond_true (out == v) (Some a_list) (kept keys (ks i) v) m) ∙ e in cc
+element_made ks ls (over i (group_by [] piece out)) v m e = let z : Some a_list ≡ Some an_element = sym (cond_true (out == v) (Some a_list) (kept [] (ks i) v) m) ∙ e in cc
+element_made ks ls (over i (group_by (k ∷ keys) piece out)) v m e = let z : Some a_list ≡ Some an_element = sym (cond_true (out == v) (Some a_list) (kept (k ∷ keys) (ks i) v) m) ∙ e in cc
 element_made ks ls (over i (concatenate ps out)) v m e = let z : Some a_list ≡ Some an_element = sym (cond_true (out == v) (Some a_list) (ks i v) m) ∙ e in cc
 element_made ks ls (over i (create_element label list out)) v m e = (refl, cond_true (out == v) (Some (Some label)) (ls i v) m)
 element_made ks ls (tuple_destroy i w) v m e = cc

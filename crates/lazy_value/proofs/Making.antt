@@ -16,9 +16,10 @@ use Rattle.plan_core.specs.Unary.{select, order_by, project, group_by, concatena
 use Rattle.plan_core.specs.ByNumber.{op_at}
 use Rattle.plan_core.specs.Typed.{IsTyped}
 use Rattle.plan_core.specs.Valid.{Kind, a_node, an_element, a_list, Kinds, kinds, kept, op_kinds, either_kind, inputs_of}
+use Rattle.plan_core.proofs.Groups.{group_kinds}
 use Rattle.plan_core.specs.Tolled.{ends}
 use Rattle.plan_core.specs.TolledRows.{TolledRow, of_source, element, trees, tolled_value, row_node, piece_items, all_items, collected}
-use Rattle.plan_core.specs.Events.{same_group}
+use Rattle.plan_core.specs.Events.{RowEvents, group_row, same_group}
 use Rattle.lazy_plan.specs.Bench.{BenchState, ops_of, documents, events_of, size_of, IsCursor, binding_at, ahead_at, number_at, IsSpotAt, IsSpotOf, node_at, IsUnder, IsMadeOf}
 use Rattle.lazy_plan.specs.declared.position.Position.{Position}
 use Rattle.lazy_plan.proofs.Benches.{all_groups}
@@ -62,10 +63,15 @@ node_one ks of bound (over i (select t)) h v e = h.0 v e
 node_one ks of bound (over i (order_by w desc)) h v e = h.0 v e
 node_one ks of bound (over i (project keys)) h v e =
     elim (has_var keys v) as (λ t. cond t (ks i v) None ≡ Some a_node → 1 ≤ of i v) [ true ↦ λ g. h.0 v g | false ↦ λ g. cc ] e
-node_one ks of bound (over i (group_by keys p out)) h v e =
-    elim (out == v) as (λ t. cond t (Some a_list) (kept keys (ks i) v) ≡ Some a_node → 1 ≤ cond t (suc (bound i)) (of i v)) [
+node_one ks of bound (over i (group_by [] p out)) h v e =
+    elim (out == v) as (λ t. cond t (Some a_list) (kept [] (ks i) v) ≡ Some a_node → 1 ≤ cond t (suc (bound i)) (of i v)) [
       | true ↦ λ g. omega arith
-      | false ↦ λ f. elim (has_var keys v) as (λ t. cond t (ks i v) None ≡ Some a_node → 1 ≤ of i v) [ true ↦ λ g. h.0 v g | false ↦ λ g. cc ] f
+      | false ↦ λ f. elim (has_var [] v) as (λ t. cond t (ks i v) None ≡ Some a_node → 1 ≤ of i v) [ true ↦ λ g. h.0 v g | false ↦ λ g. cc ] f
+    ] e
+node_one ks of bound (over i (group_by (k ∷ keys) p out)) h v e =
+    elim (out == v) as (λ t. cond t (Some a_list) (kept (k ∷ keys) (ks i) v) ≡ Some a_node → 1 ≤ cond t (suc (bound i)) (of i v)) [
+      | true ↦ λ g. omega arith
+      | false ↦ λ f. elim (has_var (k ∷ keys) v) as (λ t. cond t (ks i v) None ≡ Some a_node → 1 ≤ of i v) [ true ↦ λ g. h.0 v g | false ↦ λ g. cc ] f
     ] e
 node_one ks of bound (over i (concatenate ps out)) h v e =
     elim (out == v) as (λ t. cond t (Some a_list) (ks i v) ≡ Some a_node → 1 ≤ cond t (pieces_count (of i) ps) (of i v)) [ true ↦ λ g. cc | false ↦ λ g. h.0 v g ] e
@@ -133,17 +139,23 @@ module _ (st : BenchState) (typed : IsTyped (ops_of st)) (n : ℕ) (within : n <
   made_by : (o : Operator) (d : Position) → o ≡ op_at (ops_of st) n → IsUnder st n c (input_of o) d → IsMadeOf st (binding_at st n c) (input_of o) (binding_at st (input_of o) d) (ahead_at st (input_of o) d) o
   made_by o d e u = subst (λ (p : Operator). IsMadeOf st (binding_at st n c) (input_of o) (binding_at st (input_of o) d) (ahead_at st (input_of o) d) p) (sym e) u.made
 
+  -- the binding of a group by keys
+  by_keys : (row below : TolledRow) (es : RowEvents) (i : ℕ) (keys : List Key) (piece : Piece) (out : ℕ) → (keys ≡ [] → ⊥) → IsMadeOf st row i below es (over i (group_by keys piece out))
+      → row ≡ group_row (documents st) keys piece out below es
+  by_keys row below es i [] piece out some h = absurd (some refl)
+  by_keys row below es i (k ∷ keys) piece out some h = h
+
   -- a group
   pub group_made : (i : ℕ) (keys : List Key) (piece : Piece) (out : ℕ) (d : Position) → over i (group_by keys piece out) ≡ op_at (ops_of st) n → (keys ≡ [] → ⊥) → (out == v) ≡ true
       → IsUnder st n c i d → IsOriginOf st n c v (Same n d)
   group_made i keys piece out d e some t u =
       let o : Operator = over i (group_by keys piece out) in
-      let k = numbering.kind_of (ops_of st) typed n within o e v in
+      let k = numbering.kind_of (ops_of st) typed n within o e v ∙ ap (λ (g : Kinds). g v) (group_kinds keys piece out (kinds (ops_of st) i)) in
       let s = numbering.size_of (ops_of st) typed n within o e v ∙ cond_true (out == v) 3 _ t in
       let x = numbering.extent_of (ops_of st) typed n within o e (size_of st) v ∙ cond_true (out == v) (suc (size_of st i)) _ t in
       record {
         origin = (stands_over o gathers_groups d e (groups_form i keys piece out some) u.cursor, subst (λ (p : Operator). number_at st (input_of p) d ≤ size_of st (input_of p)) e u.low);
-        value = ap (λ (r : TolledRow). tolled_value r v) (made_by o d e u) ∙ cond_true (out == v) _ _ t
+        value = ap (λ (r : TolledRow). tolled_value r v) (by_keys (binding_at st n c) (binding_at st i d) (ahead_at st i d) i keys piece out some (made_by o d e u)) ∙ cond_true (out == v) _ _ t
             ∙ ap (λ (p : Operator). trees (piece_items (documents st) (slice_index_or (pieces_of p) 0 (text_piece [])) (binding_at st (input_of p) d)
             (collected (documents st) (slice_index_or (pieces_of p) 0 (text_piece [])) (same_group (documents st) (keys_of p) (binding_at st (input_of p) d) (ahead_at st (input_of p) d)) (ends 0)))) e;
         kind = k ∙ cond_true (out == v) _ _ t;

@@ -1,5 +1,5 @@
 -- What is said of the variables of an operator, from what is said of those of its inputs.
-use Rattle.std.proofs.Common.{◌≡◌, ◌<◌, ◌+◌, ℕ, zero, suc, Bool, true, false, cond, List, Option, Some, None, length, refl, ◌∙◌, sym, ap, subst, arith}
+use Rattle.std.proofs.Common.{◌≡◌, ◌<◌, ◌+◌, ℕ, zero, suc, Bool, true, false, cond, List, [], ◌∷◌, Option, Some, None, length, refl, ◌∙◌, sym, ap, subst, arith}
 use Rattle.std.specs.Prelude.{◌==◌}
 use Rattle.std.specs.List.{AllByRecursion}
 use Rattle.mix_base.proofs.Firsts.{each_weaker}
@@ -87,7 +87,8 @@ fits_op ks ls (join l r tests) h v = fits_either (ks l v) (ks r v) (ls l v) (ls 
 fits_op ks ls (over i (select t)) h v = h.0 v
 fits_op ks ls (over i (order_by w desc)) h v = h.0 v
 fits_op ks ls (over i (project keys)) h v = fits_kept (has_var keys v) (ks i v) (ls i v) (h.0 v)
-fits_op ks ls (over i (group_by keys p out)) h v = fits_other (out == v) a_list None (cond (has_var keys v) (ks i v) None) (cond (has_var keys v) (ls i v) None) refl (fits_kept (has_var keys v) (ks i v) (ls i v) (h.0 v))
+fits_op ks ls (over i (group_by [] p out)) h v = fits_other (out == v) a_list None (cond (has_var [] v) (ks i v) None) (cond (has_var [] v) (ls i v) None) refl (fits_kept (has_var [] v) (ks i v) (ls i v) (h.0 v))
+fits_op ks ls (over i (group_by (k ∷ keys) p out)) h v = fits_other (out == v) a_list None (cond (has_var (k ∷ keys) v) (ks i v) None) (cond (has_var (k ∷ keys) v) (ls i v) None) refl (fits_kept (has_var (k ∷ keys) v) (ks i v) (ls i v) (h.0 v))
 fits_op ks ls (over i (concatenate ps out)) h v = fits_other (out == v) a_list None (ks i v) (ls i v) refl (h.0 v)
 fits_op ks ls (over i (create_element l w out)) h v = fits_other (out == v) an_element (Some l) (ks i v) (ls i v) (l, refl) (h.0 v)
 fits_op ks ls (tuple_destroy i w) h v = refl

@@ -12,7 +12,8 @@ use Rattle.plan_core.specs.Plans.{Operator, source, get_descendants, join, over}
 use Rattle.plan_core.specs.Unary.{select, order_by, project, group_by, concatenate, create_element}
 use Rattle.plan_core.specs.ByNumber.{op_at}
 use Rattle.plan_core.specs.Typed.{IsTyped}
-use Rattle.plan_core.specs.Valid.{Kind, a_node, an_element, a_list, kinds, kept, op_kinds, either_kind, IsFit, AreNodes}
+use Rattle.plan_core.specs.Valid.{Kind, Kinds, a_node, an_element, a_list, kinds, kept, op_kinds, either_kind, IsFit, AreNodes}
+use Rattle.plan_core.proofs.Groups.{group_kinds, fit_group}
 use Rattle.plan_core.specs.TolledRows.{TolledRow, tolled_value}
 use Rattle.plan_core.specs.Events.{RowEvents}
 use Rattle.lazy_plan.specs.World.{World}
@@ -189,11 +190,13 @@ module _ (p : Plan) (typed : IsTyped (plan_value p).ops) (n : ℕ) (within : n <
 
   pub made_group : (i : ℕ) (keys : List Key) (piece : Piece) (out : ℕ) → over i (group_by keys piece out) ≡ op_at (plan_value p).ops n → (k : Kind) × (kinds (plan_value p).ops n v ≡ Some k) → IsMadeHere p n v
   made_group i keys piece out e k =
+      let bound = ap (λ (g : Kinds). g v) (group_kinds keys piece out (kinds (plan_value p).ops i)) in
+      let fit = fit_group keys piece out (kinds (plan_value p).ops i) (subst (λ (o : Operator). IsFit o (kinds (plan_value p).ops)) (sym e) (typed.fit n within)) in
       elim (out == v) as (λ t. (out == v) ≡ t → IsMadeHere p n v) [
         | true ↦ λ t. makes_it (over i (group_by keys piece out)) e t
-        | false ↦ λ t. made_node (over i (group_by keys piece out)) e (cond_false (out == v) (Some a_list) (kept keys (kinds (plan_value p).ops i) v) t
-            ∙ key_node i keys (subst (λ (o : Operator). IsFit o (kinds (plan_value p).ops)) (sym e) (typed.fit n within)).0 k.0
-            (sym (cond_false (out == v) (Some a_list) (kept keys (kinds (plan_value p).ops i) v) t) ∙ sym (kind_of (plan_value p).ops typed n within (over i (group_by keys piece out)) e v) ∙ k.1))
+        | false ↦ λ t. made_node (over i (group_by keys piece out)) e (bound ∙ cond_false (out == v) (Some a_list) (kept keys (kinds (plan_value p).ops i) v) t
+            ∙ key_node i keys fit.0 k.0
+            (sym (cond_false (out == v) (Some a_list) (kept keys (kinds (plan_value p).ops i) v) t) ∙ sym bound ∙ sym (kind_of (plan_value p).ops typed n within (over i (group_by keys piece out)) e v) ∙ k.1))
       ] refl
 
   pub made_list : (i : ℕ) (pieces : List Piece) (out : ℕ) → over i (concatenate pieces out) ≡ op_at (plan_value p).ops n → (out == v) ≡ true → IsMadeHere p n v

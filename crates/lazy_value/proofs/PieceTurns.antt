@@ -13,7 +13,9 @@ use Rattle.lazy_value.specs.Forms.{input_at, pieces_of, piece_at, makes_list}
 use Rattle.lazy_value.specs.Sizes.{piece_count, pieces_count, size, extent}
 use Rattle.lazy_value.specs.Ids.{pieces_trees, Stands, IsOrigin, value_of, head_label, head_trees, IsRest, rest_trees, weight, left}
 use Rattle.lazy_value.specs.Origins.{origin_size, origin_extent, IsOriginOf, IsHeadOf}
-use Rattle.lazy_value.specs.Steps.{StandsFor, Turns, Falls}
+use Rattle.lazy_value.specs.Steps.{StandsFor, GoesOn, Turns, Falls}
+use Rattle.lazy_value.proofs.Laws.{dearer_zero}
+use Rattle.std.proofs.lemmas.List.{drop_all}
 use Rattle.lazy_value.specs.declared.ids.Head.{Head}
 use Rattle.lazy_value.specs.declared.ids.Origin.{Origin}
 use Rattle.lazy_value.specs.declared.ids.Rest.{Rest, Pieces'}
@@ -130,3 +132,20 @@ pub rest_turns : (st : BenchState) (x : Rest) (op next : ℕ) (at : Position) (q
 rest_turns st x op next at q up t e h f =
     let k = subst (λ (r : Rest). IsRest st r) e h in
     subst (λ (r : Rest). Turns st st (rest_trees st r) (weight st r) t) (sym e) (f k.0 k.2)
+
+-- behind the last piece comes what is behind them all
+pub over_pieces : (st : BenchState) (op next : ℕ) (at : Position) (up r : Rest) → next ≡ length (pieces_of (op_at (ops_of st) op)) → r ≡ up → IsRest st up
+    → GoesOn st st (pieces_trees st op at next (rest_trees st up)) (suc (pieces_count (λ v. suc (size (ops_of st) (input_at (ops_of st) op) v)) (drop next (pieces_of (op_at (ops_of st) op))) + weight st up)) r
+over_pieces st op next at up r n e h =
+    let none : drop next (pieces_of (op_at (ops_of st) op)) ≡ [] = drop_all next (pieces_of (op_at (ops_of st) op)) (omega (arith, n)) in
+    let w = ap (weight st) e in
+    record {
+      rest = subst (IsRest st) (sym e) h;
+      falls = omega (arith, w);
+      trees = λ t. (
+        0,
+        ap (λ (ps : List Piece). all_items (documents st) ps (binding_at st (input_at (ops_of st) op) at) (rest_trees st up)) none
+            ∙ ap (rest_trees st) (sym e) ∙ sym (dearer_zero (rest_trees st r)),
+        λ f. omega arith,
+      );
+    }

@@ -6,10 +6,10 @@ ghost use Rattle.lxp_memory.specs.Nodes.{label_of, run};
 ghost use Rattle.lxp_memory.specs.Span.{has_span};
 ghost use Rattle.lxp_memory.specs.Cut.{hole_if, kids_of, children, cut};
 
-use lxp_core::OpenTree;
 use crate::choice::Choice;
 use crate::document::Document;
 use crate::span::Span;
+use lxp_core::OpenTree;
 use std::alloc::{AllocError, Global};
 
 // Puts a hole behind a list, where one is wanted.

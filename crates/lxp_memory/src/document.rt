@@ -4,8 +4,8 @@ ghost use Rattle.mix_tree.specs.Forest.{forest_of, alone};
 ghost use Rattle.lxp_memory.specs.Span.{hole_span, has_span};
 ghost use Rattle.lxp_memory.specs.Nodes.{AreWithin, IsPlaced, count_of, first_of, run};
 
-use lxp_core::HoleId;
 use crate::span::Span;
+use lxp_core::HoleId;
 use mix_tree::{Label, Tree};
 use std::alloc::{AllocError, Global};
 use std::collections::VecDeque;

@@ -2,6 +2,7 @@
 use Rattle.std.proofs.Common.{◌≡◌, ◌<◌, ◌∙◌, ℕ, List, Option, Some, None, length, refl, sym, ap}
 use Rattle.plan_core.specs.Plans.{Operator}
 use Rattle.plan_core.specs.ByNumber.{op_at}
+use Rattle.plan_core.specs.Shapes.{shape_at}
 use Rattle.plan_core.specs.Typed.{IsTyped}
 use Rattle.plan_core.specs.Valid.{Kind, a_node, an_element, a_list, kinds, Kinds, op_kinds, either_kind}
 use Rattle.plan_tests.specs.declared.kind.Held.TheVariants.{Nothing}
@@ -10,7 +11,7 @@ use Rattle.lazy_plan.proofs.Bound.{kinds_at}
 
 -- the kind of a variable, from those of the inputs
 pub kind_of : (ops : List Operator) → IsTyped ops → (n : ℕ) → n < length ops → (o : Operator) (v : ℕ) → o ≡ op_at ops n → kinds ops n v ≡ op_kinds o (kinds ops) v
-kind_of ops typed n within o v is = ap (λ (k : Kinds). k v) (kinds_at ops typed n within) ∙ ap (λ (x : Operator). op_kinds x (kinds ops) v) (sym is)
+kind_of ops typed n within o v is = ap (λ (k : Kinds). k v) (kinds_at ops typed n within (shape_at ops n) refl) ∙ ap (λ (x : Operator). op_kinds x (kinds ops) v) (sym is)
 
 -- of a join's variable that the left side doesn't bind
 pub either_nothing : (j k : Option Kind) → held j ≡ Nothing → held (either_kind j k) ≡ held k

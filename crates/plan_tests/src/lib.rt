@@ -9,6 +9,8 @@ mod bindings;
 mod faults;
 mod kind;
 #[cfg(test)]
+mod lists;
+#[cfg(test)]
 mod open;
 #[cfg(test)]
 mod plain;

@@ -15,8 +15,8 @@ const RECORDS: &str =
 
 const TABLE: &str = "people[row[name[Ann],zip[91220]],row[name[Bo],zip],row[name[Cy],zip[\"\"]]]";
 
-// The text of the finished document of a view, where `docs` are the documents of the catalog's sources, in its order.
-fn finished(alloc: Global, catalog: &str, docs: &[&str], view: &str) -> Result<Vec<u8>, Fail> {
+/// The text of the finished document of a view, where `docs` are the documents of the catalog's sources, in its order.
+pub fn finished(alloc: Global, catalog: &str, docs: &[&str], view: &str) -> Result<Vec<u8>, Fail> {
     let trees = trees(alloc, docs)?;
     let read = read(alloc, catalog, view)?;
     let made = finished_document(alloc, &read.rule, &trees)?;

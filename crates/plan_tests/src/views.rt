@@ -34,9 +34,13 @@ const LABELS: &[&str] = &["l[x,10,9[a],010,9[b]]"];
 
 const ZIPS: &[&str] = &["homes[home[zip[1]],home[zip[2]],home[zip[1]]]"];
 
-// Each child of the root in turn.
-const EACH_LABEL: &str =
-    "r = root\nx = down r\nfetch x\nx = right x\nfetch x\nx = right x\nfetch x\nx = right x\nfetch x\nx = right x\nfetch x\nx = right x\n";
+// Each child of the root in turn, and the first child of the first two.
+const ASCENDING: &str =
+    "r = root\nx = down r\nfetch x\ny = down x\nfetch y\nx = right x\nfetch x\ny = down x\nfetch y\nx = right x\nfetch x\nx = right x\nfetch x\nx = right x\nfetch x\nx = right x\n";
+
+// The first child of the root, and the first child of the last two.
+const DESCENDING: &str =
+    "r = root\nx = down r\nfetch x\nx = right x\nx = right x\nx = right x\ny = down x\nfetch y\nx = right x\ny = down x\nfetch y\nx = right x\n";
 
 // Homes with their schools, where each list may begin with a hole.
 const CUT_HOMES: Setting = Setting {
@@ -176,15 +180,15 @@ fn views_are_walked(rt: HostRuntime) -> Result<(), Fail> {
             ONE,
             "CONSTRUCT <o> $X </o> WHERE s l._ $X ORDER BY $X",
             LABELS,
-            EACH_LABEL,
-            "node\nnode\nlabel 9\nnode\nlabel 9\nnode\nlabel 010\nnode\nlabel 10\nnode\nlabel x\nnone\n",
+            ASCENDING,
+            "node\nnode\nlabel 9\nnode\nlabel a\nnode\nlabel 9\nnode\nlabel b\nnode\nlabel 010\nnode\nlabel 10\nnode\nlabel x\nnone\n",
         ),
         (
             ONE,
             "CONSTRUCT <o> $X </o> WHERE s l._ $X ORDER BY $X DESC",
             LABELS,
-            EACH_LABEL,
-            "node\nnode\nlabel x\nnode\nlabel 10\nnode\nlabel 010\nnode\nlabel 9\nnode\nlabel 9\nnone\n",
+            DESCENDING,
+            "node\nnode\nlabel x\nnode\nnode\nnode\nnode\nlabel a\nnode\nnode\nlabel b\nnone\n",
         ),
         // groups by a label, and a list inside
         (

@@ -29,7 +29,7 @@ struct Row {
     lines: &'static str,
 }
 
-const ROWS: [Row; 12] = [
+const ROWS: [Row; 5] = [
     // The homes with their schools: two answers, of which the first has a home and two schools. Old names are gone on from.
     Row {
         catalog: TWO,
@@ -49,76 +49,6 @@ const ROWS: [Row; 12] = [
         script: "r = root\nm = down r\nn = right m\nh = down n\nz = down h\nfetch r\nfetch h\nt = down z\nfetch t\nh = down m\nn = right n\nfetch n\nt = right h\nd = down t\nt = down d\nfetch t\n",
         status: 0,
         lines: "node\nnode\nnode\nnode\nnode\nlabel answer\nlabel home\nnode\nlabel \"El Cajon\"\nnode\nnone\nno node\nnode\nnode\nnode\nlabel Smith\n",
-    },
-    // One home has no school.
-    Row {
-        catalog: TWO,
-        view: MED_HOME,
-        homes: HOMES,
-        first: "schools[school[dir[Smith],zip[91220]],school[dir[Bar],zip[91220]]]",
-        script: "r = root\nm = down r\nn = right m\nfetch m\n",
-        status: 0,
-        lines: "node\nnode\nnone\nlabel med_home\n",
-    },
-    // No schools at all.
-    Row {
-        catalog: TWO,
-        view: MED_HOME,
-        homes: HOMES,
-        first: "schools",
-        script: "r = root\nfetch r\nx = down r\n",
-        status: 0,
-        lines: "node\nlabel answer\nnone\n",
-    },
-    // Two homes of the same content are two groups.
-    Row {
-        catalog: TWO,
-        view: MED_HOME,
-        homes: "homes[home[zip[1]],home[zip[1]]]",
-        first: "schools[school[zip[1]]]",
-        script: "r = root\na = down r\nb = right a\nc = right b\nx = down b\nfetch x\n",
-        status: 0,
-        lines: "node\nnode\nnode\nnone\nnode\nlabel home\n",
-    },
-    // A node with two derivations is given once, and the next member is no sibling of it in the source.
-    Row {
-        catalog: ONE,
-        view: "CONSTRUCT <r> $X </r> WHERE s (a|c)*.(c|a.c) $X",
-        homes: "",
-        first: "a[c[c,a[c]],b[c]]",
-        script: "r = root\nx = down r\nfetch x\nx = right x\nfetch x\nx = right x\nfetch x\nx = right x\n",
-        status: 0,
-        lines: "node\nnode\nlabel c\nnode\nlabel c\nnode\nlabel c\nnone\n",
-    },
-    // Ordered by label, ties as they stood.
-    Row {
-        catalog: ONE,
-        view: "CONSTRUCT <o> $X </o> WHERE s l._ $X ORDER BY $X",
-        homes: "",
-        first: "l[x,10,9[a],010,9[b]]",
-        script: "r = root\nx = down r\nfetch x\ny = down x\nfetch y\nx = right x\nfetch x\ny = down x\nfetch y\nx = right x\nfetch x\nx = right x\nfetch x\nx = right x\nfetch x\nx = right x\n",
-        status: 0,
-        lines: "node\nnode\nlabel 9\nnode\nlabel a\nnode\nlabel 9\nnode\nlabel b\nnode\nlabel 010\nnode\nlabel 10\nnode\nlabel x\nnone\n",
-    },
-    // The same turned round, but for the ties.
-    Row {
-        catalog: ONE,
-        view: "CONSTRUCT <o> $X </o> WHERE s l._ $X ORDER BY $X DESC",
-        homes: "",
-        first: "l[x,9[a],9[b]]",
-        script: "r = root\nx = down r\nfetch x\nx = right x\ny = down x\nfetch y\nx = right x\ny = down x\nfetch y\nx = right x\n",
-        status: 0,
-        lines: "node\nnode\nlabel x\nnode\nnode\nlabel a\nnode\nnode\nlabel b\nnone\n",
-    },
-    // An element of a literal, over no binding.
-    Row {
-        catalog: ONE,
-        view: "CONSTRUCT <a> <b> \"x y\" </b> </a> WHERE s q $X",
-        homes: "",
-        first: "p",
-        script: "r = root\nb = down r\nt = down b\nfetch t\nu = right b\n",
-        status: 0,
-        lines: "node\nnode\nnode\nlabel \"x y\"\nnone\n",
     },
     // A file that is no document is refused.
     Row {

@@ -45,7 +45,7 @@ fn lists_come_in_chunks(rt: HostRuntime) -> Result<(), Fail> {
         (document, 1, true, " a[b[d[],e[]],c[]]"),
         (document, 1000, true, " a[b[d[],e[]],c[]]"),
         ("a", 1, false, " a[]"),
-        ("a", 1, true, " a[]"),
+        ("a[]", 1, true, " a[]"),
         // Labels with escapes, and longer ones than lie in place.
         (
             "\"\"[\"\\\"é\\\\\",\"\\n\\t\"]",

@@ -1,4 +1,4 @@
-//! Tests of labels, bracket text, paths, catalogs, scripts and rules as text.
+//! Tests of labels, bracket text, paths, catalogs, scripts and rules as text, and of what views are read over a catalog.
 #![tactic(auto)]
 
 #[cfg(test)]
@@ -13,5 +13,7 @@ mod paths;
 mod rules;
 #[cfg(test)]
 mod scripts;
+#[cfg(test)]
+mod views;
 #[cfg(test)]
 mod words;

@@ -4,6 +4,8 @@ use Rattle.std.specs.Str.{IsUtf8}
 use Rattle.xmas_text.specs.Contents.{ElementForm}
 use Rattle.xmas_text.specs.Parsed.{RuleForm}
 use Rattle.xmas_text.specs.Results.{SpellsWithin}
+use Rattle.xmas_text.specs.Results as texts
+use Rattle.xmas_text.specs.declared.fault.TextFault.{TextFault}
 use Rattle.xmas_text.specs.declared.fault.TextFault.TheVariants as text_fault
 use Rattle.xmas_text.specs.declared.cond.CondText.{CondText}
 use Rattle.xmas_text.specs.declared.rule.OrderText.{OrderText}
@@ -18,7 +20,8 @@ use Rattle.xmas_read.specs.declared.fault.XmasFault.TheVariants as fault
 use Rattle.xmas_read.specs.Tree.{Tree, form_of_tree}
 use Rattle.xmas_read.specs.Refusals.{checked}
 use Rattle.xmas_read.specs.Canonical.{canonical}
-use Rattle.xmas_read.specs.Results.{Answers}
+use Rattle.xmas_read.specs.Faults.{fault_of_text}
+use Rattle.xmas_read.specs.Results.{Answers, Spells, IsWantOfMemory}
 use Rattle.xmas_read.specs.Again.{IsReadAs}
 use Rattle.xmas_read.proofs.CleanAgain.{comes_again, tree_by, one_element}
 
@@ -41,7 +44,7 @@ no_fault : (x : List ℕ) (sources : List (List ℕ)) (t : Tree) (v : RuleValue)
 no_fault x sources t v e h c (w, k, d) = let same = one_outcome x sources t w h k in cc
 
 -- what is read of a text of which a rule comes
-pub reads_rule :
+reads_rule :
     (x : List ℕ) (sources : List (List ℕ)) (t : Tree) (v : RuleValue) → IsUtf8 x → SpellsWithin x (form_of_tree t) → checked sources t ≡ Ok v → (answer : Result Rule XmasFault) → Answers x sources answer → IsReadAs v answer
 reads_rule x sources t v u h c (Ok r) (i, (w, k, d)) = let same = one_outcome x sources t w h k in cc
 reads_rule x sources t v u h c (Err (fault.NotUtf8 at)) a = answers_tree x (Err (text_fault.NotUtf8 at)) (form_of_tree t) a u h
@@ -60,6 +63,23 @@ reads_rule x sources t v u h c (Err (fault.Unbound at)) a = no_fault x sources t
 reads_rule x sources t v u h c (Err (fault.OuterGroup at)) a = no_fault x sources t v (fault.OuterGroup at) h c a.1
 reads_rule x sources t v u h c (Err (fault.Loose at)) a = no_fault x sources t v (fault.Loose at) h c a.1
 reads_rule x sources t v u h c (Err fault.OutOfMemory) a = tt
+
+-- what a text spells is read of it
+pub reads_spelled : (x : List ℕ) (sources : List (List ℕ)) (answer : Result Rule XmasFault) → Answers x sources answer → (v : RuleValue) → Spells x sources v → IsReadAs v answer
+reads_spelled x sources answer a v (u, (t, h, c)) = reads_rule x sources t v u h c answer a
+
+-- where memory ran out in a rule's text, it ran out
+still_memory : (e : TextFault) → texts.IsWantOfMemory e → IsWantOfMemory (fault_of_text e)
+still_memory (text_fault.NotUtf8 at) h = h
+still_memory (text_fault.Unexpected at) h = h
+still_memory text_fault.EndsEarly h = h
+still_memory text_fault.TooDeep h = h
+still_memory text_fault.OutOfMemory h = h
+
+-- a fault of a text whose trees are read is want of memory, where the text spells a rule
+pub wants_memory : (x : List ℕ) (sources : List (List ℕ)) (e : TextFault) → ((f : RuleForm) → IsUtf8 x → SpellsWithin x f → texts.IsWantOfMemory e)
+    → (v : RuleValue) → Spells x sources v → IsWantOfMemory (fault_of_text e)
+wants_memory x sources e only v (u, (t, h, c)) = still_memory e (only (form_of_tree t) u h)
 
 -- a rule that is read from some text is read from its canonical text
 pub answers_again : (x : List ℕ) (sources : List (List ℕ)) (r : Rule) → Answers x sources (Ok r) → Answers (canonical sources (rule_of r)) sources (Ok r)

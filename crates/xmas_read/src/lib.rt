@@ -19,6 +19,3 @@ pub use fault::{Large, XmasFault};
 pub use law::canonical_text_is_read_again;
 pub use reading::read_rule;
 pub use writing::write_rule;
-
-#[cfg(test)]
-mod tests;

@@ -2,11 +2,12 @@
 ghost use Rattle.std.specs.Prelude.{◌≡◌, ◌<◌, ◌^◌, false, IfOk, None, length};
 ghost use Rattle.std.specs.List.{list_any};
 ghost use Rattle.xmas_rule.specs.RuleMade.{rule_of};
-ghost use Rattle.xmas_rule.specs.Rules.{IsAccepted};
+ghost use Rattle.xmas_rule.specs.Rules.{IsAccepted, RuleValue};
 ghost use Rattle.xmas_read.specs.Tree.{tree_of, bound_names};
 ghost use Rattle.xmas_read.specs.Value.{rule_value};
 ghost use Rattle.xmas_read.specs.Refusals.{has_path, is_nested, has_many, checked};
-ghost use Rattle.xmas_read.specs.Results.{names_of_sources, IsOutcome, Answers};
+ghost use Rattle.xmas_read.specs.Results.{names_of_sources, IsOutcome, Answers, Spells};
+ghost use Rattle.xmas_read.specs.Again.{IsReadAs};
 
 use crate::XmasFault;
 use crate::checks::{scope_refusal, size_refusal, template_refusal};
@@ -75,7 +76,11 @@ fn check_tree(alloc: Global, catalog: &Catalog, tree: RuleText) -> Result<Rule, 
 ///
 /// `OutOfMemory` can come with any text.
 pub fn read_rule(alloc: Global, text: &[u8], catalog: &Catalog) -> Result<Rule, XmasFault>
+    // The answer is that of the text: the rule that it spells, or why none is read.
     ensures answers { Answers text.now (names_of_sources catalog.now) result }
+
+    // What is spelled is read, unless memory runs out.
+    ensures only { (v : RuleValue) → Spells text.now (names_of_sources catalog.now) v → IsReadAs v result }
     ensures accepted { IfOk result (λ rule. IsAccepted (length (names_of_sources catalog.now)) (rule_of rule)) }
 {
     match parse_rule(alloc, text) {

@@ -1,8 +1,9 @@
 use Rattle.std.proofs.Common.{refl, ◌∙◌, sym, ap}
-use Rattle.std.specs.Prelude.{◌==◌}
+use Rattle.std.specs.Prelude.{◌==◌, is_some}
 use Rattle.mix_tree.specs.Keys.{has_var}
 use Rattle.plan_core.specs.PlanMade.{op_of, plan_value}
-use Rattle.plan_core.specs.Valid.{kinds, a_node, an_element, a_list, kept}
+use Rattle.plan_core.specs.Valid.{Kinds, kinds, a_node, an_element, a_list, kept}
+use Rattle.plan_core.proofs.Groups.{group_kinds}
 use Rattle.lazy_value.proofs.Passing.{bound_at, bound_out, bound_other, bound_only, bound_key, bound_no_key, bound_left, bound_right}
 use Rattle.lazy_value.proofs.parts.+binds.Goals as goal
 
@@ -49,17 +50,20 @@ returns-else-names t c =
 pub returns-then-eq-2 : goal.returns-then-eq-2
 returns-then-eq-2 t c =
     bound_at (plan_value c.args.plan.now).ops c.requires.typed c.args.n c.requires.op _ (ap op_of (sym c.in-GroupBy.is) ∙ c.operator.ensures) c.args.v _
-    (bound_out (c.in-GroupBy.out == c.args.v) _ a_list (kept c.in-GroupBy.keys.items (kinds (plan_value c.args.plan.now).ops c.in-GroupBy.input) c.args.v) c.eq-in-GroupBy.ensures c.if-eq-2.true)
+    (bound_out (c.in-GroupBy.out == c.args.v) _ a_list (kept c.in-GroupBy.keys.items (kinds (plan_value c.args.plan.now).ops c.in-GroupBy.input) c.args.v) c.eq-in-GroupBy.ensures c.if-eq-2.true
+    ∙ sym (ap (λ (g : Kinds). is_some (g c.args.v)) (group_kinds c.in-GroupBy.keys.items c.in-GroupBy.piece c.in-GroupBy.out (kinds (plan_value c.args.plan.now).ops c.in-GroupBy.input))))
 
 pub returns-then-names-2 : goal.returns-then-names-2
 returns-then-names-2 t c =
     bound_at (plan_value c.args.plan.now).ops c.requires.typed c.args.n c.requires.op _ (ap op_of (sym c.in-GroupBy.is) ∙ c.operator.ensures) c.args.v _
-    (bound_other (c.in-GroupBy.out == c.args.v) _ _ a_list (kept c.in-GroupBy.keys.items (kinds (plan_value c.args.plan.now).ops c.in-GroupBy.input) c.args.v) c.eq-in-GroupBy.ensures c.if-eq-2.false (bound_key (has_var c.in-GroupBy.keys.items c.args.v) _ _ (kinds (plan_value c.args.plan.now).ops c.in-GroupBy.input c.args.v) (c.names-else-eq-2.ensures ∙ ap (λ keys. has_var keys c.args.v) c.deref-else-eq-2.ensures.value) c.if-names-2.true c.binds-then-names-2.ensures))
+    (bound_other (c.in-GroupBy.out == c.args.v) _ _ a_list (kept c.in-GroupBy.keys.items (kinds (plan_value c.args.plan.now).ops c.in-GroupBy.input) c.args.v) c.eq-in-GroupBy.ensures c.if-eq-2.false (bound_key (has_var c.in-GroupBy.keys.items c.args.v) _ _ (kinds (plan_value c.args.plan.now).ops c.in-GroupBy.input c.args.v) (c.names-else-eq-2.ensures ∙ ap (λ keys. has_var keys c.args.v) c.deref-else-eq-2.ensures.value) c.if-names-2.true c.binds-then-names-2.ensures)
+    ∙ sym (ap (λ (g : Kinds). is_some (g c.args.v)) (group_kinds c.in-GroupBy.keys.items c.in-GroupBy.piece c.in-GroupBy.out (kinds (plan_value c.args.plan.now).ops c.in-GroupBy.input))))
 
 pub returns-else-names-2 : goal.returns-else-names-2
 returns-else-names-2 t c =
     bound_at (plan_value c.args.plan.now).ops c.requires.typed c.args.n c.requires.op _ (ap op_of (sym c.in-GroupBy.is) ∙ c.operator.ensures) c.args.v _
-    (bound_other (c.in-GroupBy.out == c.args.v) _ _ a_list (kept c.in-GroupBy.keys.items (kinds (plan_value c.args.plan.now).ops c.in-GroupBy.input) c.args.v) c.eq-in-GroupBy.ensures c.if-eq-2.false (bound_no_key (has_var c.in-GroupBy.keys.items c.args.v) _ (kinds (plan_value c.args.plan.now).ops c.in-GroupBy.input c.args.v) (c.names-else-eq-2.ensures ∙ ap (λ keys. has_var keys c.args.v) c.deref-else-eq-2.ensures.value) c.if-names-2.false))
+    (bound_other (c.in-GroupBy.out == c.args.v) _ _ a_list (kept c.in-GroupBy.keys.items (kinds (plan_value c.args.plan.now).ops c.in-GroupBy.input) c.args.v) c.eq-in-GroupBy.ensures c.if-eq-2.false (bound_no_key (has_var c.in-GroupBy.keys.items c.args.v) _ (kinds (plan_value c.args.plan.now).ops c.in-GroupBy.input c.args.v) (c.names-else-eq-2.ensures ∙ ap (λ keys. has_var keys c.args.v) c.deref-else-eq-2.ensures.value) c.if-names-2.false)
+    ∙ sym (ap (λ (g : Kinds). is_some (g c.args.v)) (group_kinds c.in-GroupBy.keys.items c.in-GroupBy.piece c.in-GroupBy.out (kinds (plan_value c.args.plan.now).ops c.in-GroupBy.input))))
 
 pub returns-in-OrderBy : goal.returns-in-OrderBy
 returns-in-OrderBy t c =

@@ -5,7 +5,7 @@ use Rattle.plan_core.specs.ByNumber.{op_at}
 use Rattle.lazy_plan.specs.Bench.{state_of, IsCursor}
 use Rattle.lazy_value.specs.Forms.{input_at, pieces_of, piece_at}
 use Rattle.lazy_value.proofs.Heads.{if_ok}
-use Rattle.lazy_value.proofs.PieceTurns.{behind_is, there_is, var_turned, var_fallen, head_stands, head_falls}
+use Rattle.lazy_value.proofs.PieceTurns.{behind_is, there_is, var_turned, var_fallen, head_stands, head_falls, over_pieces}
 use Rattle.lazy_value.proofs.turning.pieces.Goals as goal
 
 pub returns-in_ok-origin-in-Var-clause-answer : goal.returns-in_ok-origin-in-Var-clause-answer
@@ -30,3 +30,8 @@ returns-in_ok-head-in_default c = record {
   left = λ view h s r. head_falls (state_of view c.args.bench.now) c.args.op c.args.next c.args.at.now c.args.up.now.value (there_is _ _ _ _ c.requires.bench.3 c.count_pieces.ensures (ap (λ (p : Plan). length (pieces_of (op_at (plan_value p).ops c.args.op))) c.plan.ensures) c.if-next-count_pieces.false) s r _ c.in_ok-head-in_default.head (c.in_ok-head-in_default.ensures view h (subst (λ (n : ℕ). IsCursor (state_of view c.args.bench.now) n c.args.at.now) (sym (c.input_of-input.ensures ∙ ap (λ (p : Plan). input_at (plan_value p).ops c.args.op) c.plan-2.ensures)) s.cursor))
       (λ v e. c.in_default.not-Var v (c.piece.ensures ∙ ap (λ (p : Plan). piece_at (plan_value p).ops c.args.op c.args.next) c.plan-3.ensures ∙ e)) c.in_ok-behind.behind.value (behind_is c.in_ok-behind.behind.value c.args.op (c.args.next + 1) c.args.at.now c.in_ok-here.here _ c.in_ok-up.up.value c.args.up.now.value c.in_ok-behind.ensures c.in_ok-up.ensures c.in_ok-here.ensures);
 }
+
+pub returns-then-next-count_pieces-clause-answer : goal.returns-then-next-count_pieces-clause-answer
+returns-then-next-count_pieces-clause-answer c = λ view h s r.
+    over_pieces (state_of view c.args.bench.now) c.args.op c.args.next c.args.at.now c.args.up.now.value c.in_ok-share.field-0.value
+    (c.if-next-count_pieces.true ∙ c.count_pieces.ensures ∙ ap (λ (p : Plan). length (pieces_of (op_at (plan_value p).ops c.args.op))) c.plan.ensures) c.in_ok-share.ensures r

@@ -1,8 +1,8 @@
-// What the contracts leave to tests: that rules are read and written with ample memory, with places worked out by hand.
-use crate::{Large, XmasFault, read_rule, write_rule};
+// Views: which rules are read over a catalog, where others are refused, and how rules are written.
 use mix_catalog::{Catalog, read_catalog};
 use std::alloc::Global;
 use std::test::Fail;
+use xmas_read::{Large, XmasFault, canonical_text_is_read_again, read_rule, write_rule};
 
 // A catalog of a few sources.
 fn catalog(alloc: Global) -> Result<Catalog, Fail> {
@@ -283,6 +283,15 @@ fn rules_are_written_as_they_mean(rt: HostRuntime) -> Result<(), Fail> {
             "CONSTRUCT <a> <b> \"x y\" </b> </a> WHERE s q $X",
             "CONSTRUCT <a> <b> \"x y\" </b> {} </a> {} WHERE s q $X",
         ),
+        // two lists in one element
+        (
+            "CONSTRUCT <a> $H $S </a> WHERE homes homes.home $H AND schools schools.school $S",
+            "CONSTRUCT <a> $H {$H} $S {$S} </a> {} WHERE homes homes.home $H AND schools schools.school $S",
+        ),
+        (
+            "CONSTRUCT <a> <b> $X <c> $Y </c> </b> </a> WHERE s a $X AND s b $Y",
+            "CONSTRUCT <a> <b> $X {$X} <c> $Y {$Y} </c> {} </b> {} </a> {} WHERE s a $X AND s b $Y",
+        ),
     ];
     for (text, written) in rules {
         match canonical(alloc, &catalog, text) {
@@ -290,5 +299,6 @@ fn rules_are_written_as_they_mean(rt: HostRuntime) -> Result<(), Fail> {
             Err(_) => return Err(text.into()),
         }
     }
+    canonical_text_is_read_again();
     Ok(())
 }
