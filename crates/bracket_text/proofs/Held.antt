@@ -93,16 +93,16 @@ tree_comma r at [] t b l m n e some = absurd (some l.places_are)
 tree_comma r at (f ∷ o) t b l m n e some =
     (machine.at (record { label = f.label; kids = f.kids ++ t ∷ [] } ∷ o) machine.start, rw n (ap (after_tree_in (f ∷ o) t) e), record { lies = comma_lies r.store r.«open».items f o t l; same = m })
 
--- what a closing bracket gives, where that of the innermost open tree is closed
-abbrev pub Closed_by : Reader → List LaidNode → List ℕ → Type 0
-Closed_by r nodes opened = (label : List ℕ) (kids : Forest) (o : List Frame) → Shuts nodes opened label kids o → Holds r o (machine.closed (record { label = label; kids = kids }))
+-- closing the innermost open tree leaves it at hand
+abbrev pub ClosesTree : Reader → List LaidNode → List ℕ → Type 0
+ClosesTree r nodes opened = (t : LabelledTree) (o : List Frame) → Shuts nodes opened t.label t.kids o → Holds r o (machine.closed t)
 
 -- a closing bracket
 pub tree_close : (r : Reader) (at : ℕ) (nodes : List LaidNode) (opened : List ℕ) (o : List Frame) (t : LabelledTree) (b : ℕ) → Lies nodes opened (laid (alone t)) o → is_blank b ≡ false → b ≡ 93 → (opened ≡ [] → ⊥)
-    → Closed_by r nodes opened → Gives (Ok tt) at r (after_tree o t b)
+    → ClosesTree r nodes opened → Gives (Ok tt) at r (after_tree o t b)
 tree_close r at nodes opened [] t b l n e some k = absurd (some l.places_are)
 tree_close r at nodes opened (f ∷ o) t b l n e some k =
-    (machine.at o (machine.closed (record { label = f.label; kids = forest_of (f.kids ++ t ∷ []) })), rw n (ap (after_tree_in (f ∷ o) t) e), k f.label (forest_of (f.kids ++ t ∷ [])) o (tree_shuts nodes opened f o t l))
+    (machine.at o (machine.closed (record { label = f.label; kids = forest_of (f.kids ++ t ∷ []) })), rw n (ap (after_tree_in (f ∷ o) t) e), k (record { label = f.label; kids = forest_of (f.kids ++ t ∷ []) }) o (tree_shuts nodes opened f o t l))
 
 -- where no bracket is open, nothing else goes on
 pub tree_alone : (opened : List ℕ) (o : List Frame) (t : LabelledTree) (b : ℕ) → opened ≡ places o → is_blank b ≡ false → opened ≡ [] → after_tree o t b ≡ None
@@ -116,10 +116,10 @@ tree_stops (f ∷ o) t b n c d = rw (n, c, d) refl
 
 -- a closing bracket right behind an opening one
 pub empty_close : (r : Reader) (at : ℕ) (nodes : List LaidNode) (opened : List ℕ) (o : List Frame) (b : ℕ) → Lies nodes opened [] o → b ≡ 93 → (opened ≡ [] → ⊥)
-    → Closed_by r nodes opened → Gives (Ok tt) at r (cond (b == 93) (close_empty o) None)
+    → ClosesTree r nodes opened → Gives (Ok tt) at r (cond (b == 93) (close_empty o) None)
 empty_close r at nodes opened [] b l e some k = absurd (some l.places_are)
 empty_close r at nodes opened (f ∷ o) b l e some k =
-    (machine.at o (machine.closed (record { label = f.label; kids = forest_of f.kids })), ap (λ c. cond (c == 93) (close_empty (f ∷ o)) None) e, k f.label (forest_of f.kids) o (empty_shuts nodes opened f o l))
+    (machine.at o (machine.closed (record { label = f.label; kids = forest_of f.kids })), ap (λ c. cond (c == 93) (close_empty (f ∷ o)) None) e, k (record { label = f.label; kids = forest_of f.kids }) o (empty_shuts nodes opened f o l))
 
 -- where none is open
 pub empty_alone : (opened : List ℕ) (o : List Frame) (b : ℕ) → opened ≡ places o → opened ≡ [] → cond (b == 93) (close_empty o) None ≡ None

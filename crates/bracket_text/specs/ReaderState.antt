@@ -35,6 +35,14 @@ pub record Shuts (nodes : List LaidNode) (opened : List ℕ) (label : List ℕ) 
   pub nodes_are : nodes ≡ laid kids ++ bare_node label ∷ open_nodes o
   pub places_are : opened ≡ places o ++ length (open_nodes o) ∷ []
 
+-- the reader has a whole tree at hand
+abbrev pub HasTree : Reader → LabelledTree → List machine.Frame → Type 0
+HasTree r t o = Lies r.store r.«open».items (laid (alone t)) o
+
+-- the reader has read all children of the innermost open tree
+abbrev pub HasAllKids : Reader → LabelledTree → List machine.Frame → Type 0
+HasAllKids r t o = Shuts r.store r.«open».items t.label t.kids o
+
 -- the nodes of the tree at hand
 abbrev pub hand_nodes : machine.Mode → List LaidNode
 hand_nodes machine.start = []

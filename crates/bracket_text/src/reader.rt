@@ -6,7 +6,7 @@ ghost use Rattle.mix_tree.specs.LabelMachine.{in_quotes, seen_from, start as sta
 ghost use Rattle.document_store.specs.Laid.{laid, Closes};
 ghost use Rattle.bracket_text.specs.Grammar.{is_blank};
 ghost use Rattle.bracket_text.specs.Machine.{Frame, begins, after_tree, after_label, close_empty, leaf, step_in, whole_in, at_end, start, closed, Mode as Hand, at as state_at};
-ghost use Rattle.bracket_text.specs.ReaderState.{Lies, Shuts, Holds, Gives, Goes, GivesDocument, MayBegin, Pushes};
+ghost use Rattle.bracket_text.specs.ReaderState.{Lies, HasTree, HasAllKids, Holds, Gives, Goes, GivesDocument, MayBegin, Pushes};
 
 use crate::BracketFault;
 use document_store::Store;
@@ -113,7 +113,7 @@ impl Reader {
 
     // Takes a closing bracket behind the children of the innermost open tree.
     fn shut(&mut self)
-        ensures { (label : List ℕ) (kids : Forest) (o : List Frame) → Shuts self.old.store self.old.open.items label kids o → Holds self.new o (closed (record { label = label; kids = kids })) }
+        ensures { (t : LabelledTree) (o : List Frame) → HasAllKids self.old t o → Holds self.new o (closed t) }
     {
         let Some(place) = self.open.pop() else {
             return;
@@ -139,7 +139,7 @@ impl Reader {
     // Takes a byte behind a whole tree.
     #[inline]
     fn close_tree(&mut self, at: usize, byte: u8) -> Result<(), BracketFault>
-        ensures { (o : List Frame) (t : LabelledTree) → Lies self.old.store self.old.open.items (laid (alone t)) o → Gives result at self.new (after_tree o t byte) }
+        ensures { (o : List Frame) (t : LabelledTree) → HasTree self.old t o → Gives result at self.new (after_tree o t byte) }
     {
         if is_blank_byte(byte) {
             self.mode = Mode::Closed;
@@ -162,7 +162,7 @@ impl Reader {
     // Takes a byte behind a label.
     #[inline]
     fn close_label(&mut self, at: usize, byte: u8) -> Result<(), BracketFault>
-        ensures { (o : List Frame) (l : List ℕ) → Lies self.old.store self.old.open.items (laid (alone (leaf l))) o → Gives result at self.new (after_label o l byte) }
+        ensures { (o : List Frame) (l : List ℕ) → HasTree self.old (leaf l) o → Gives result at self.new (after_label o l byte) }
     {
         if is_blank_byte(byte) {
             self.mode = Mode::Named;
