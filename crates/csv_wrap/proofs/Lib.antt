@@ -1,0 +1,4 @@
+pub mod FieldFacts
+pub mod FrontFacts
+pub mod ReachFacts
+pub mod RowFacts

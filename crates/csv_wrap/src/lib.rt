@@ -1,0 +1,10 @@
+//! CSV documents as sources: a header and rows of text, given so many rows at a time.
+#![tactic(auto)]
+
+mod fault;
+mod marks;
+mod reading;
+mod records;
+mod rows;
+
+pub use fault::CsvFault;
