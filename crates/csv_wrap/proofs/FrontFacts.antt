@@ -1,5 +1,5 @@
 -- What stands behind the marks of a text.
-use Rattle.std.proofs.Common.{◌≡◌, ◌≤◌, ℕ, List, [], ◌∷◌, drop, length, get_or, true, false, Bool, refl, sym, arith}
+use Rattle.std.proofs.Common.{◌≡◌, ◌≤◌, ℕ, List, [], ◌∷◌, drop, length, true, false, Bool, refl, arith}
 use Rattle.csv.specs.Reading.{is_bom, strip_bom}
 use Rattle.csv_wrap.specs.Csv.{begins_with_mark, without_marks}
 

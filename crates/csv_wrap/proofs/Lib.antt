@@ -1,4 +1,5 @@
 pub mod FieldFacts
 pub mod FrontFacts
 pub mod ReachFacts
+pub mod RootFacts
 pub mod RowFacts

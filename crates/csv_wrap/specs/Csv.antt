@@ -1,5 +1,5 @@
 -- The rows of a CSV file under declared columns, by the records that `csv` reads.
-use Rattle.std.specs.Prelude.{◌≡◌, ◌≢◌, ◌+◌, ◌⊎◌, ℕ, Bool, get_or, List, [], ◌∷◌, ◌++◌, length, take, map, slice_get, if◌then◌else◌, string_bytes, Some}
+use Rattle.std.specs.Prelude.{◌≡◌, ◌≢◌, ◌+◌, ℕ, Bool, get_or, List, [], ◌∷◌, ◌++◌, length, take, slice_get, if◌then◌else◌, Some}
 use Rattle.std.specs.List.{All}
 use Rattle.csv_wrap.specs.declared.fault.CsvFault.{CsvFault}
 use Rattle.csv_wrap.specs.declared.fault.CsvFault.TheVariants.{HeaderDiffers, Length, NoHeader, NotUtf8, OutOfMemory}

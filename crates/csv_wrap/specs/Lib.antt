@@ -1,2 +1,4 @@
 pub mod Csv
+pub mod Document
+pub mod Named
 pub mod Rows

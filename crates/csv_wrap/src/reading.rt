@@ -41,8 +41,10 @@ fn read_header(
     found: &mut ByteRecord,
     columns: &[Label],
 ) -> Result<(), CsvFault>
-    ensures read { (bytes : List ℕ) → IsAt (without_marks bytes) [] reader.old → OnOk result (IsAt (without_marks bytes) (columns.now ∷ []) reader.new) }
-    ensures refused { (bytes : List ℕ) → IsAt (without_marks bytes) [] reader.old → IfErr result (Explains bytes columns.now) }
+    ensures read { (bytes : List ℕ) → IsAt (without_marks bytes) [] reader.old
+        → OnOk result (IsAt (without_marks bytes) (columns.now ∷ []) reader.new) }
+    ensures refused { (bytes : List ℕ) → IsAt (without_marks bytes) [] reader.old
+        → IfErr result (Explains bytes columns.now) }
 {
     if !read_next(reader, found)? {
         return Err(CsvFault::NoHeader);

@@ -1,7 +1,8 @@
-use Rattle.std.proofs.Common.{◌≡◌, ◌≢◌, ◌∙◌, ◌+◌, ℕ, List, [], ◌∷◌, ◌++◌, length, length-append, map, Bool, true, false, refl, sym, ap, arith, rules}
+use Rattle.std.proofs.Common.{◌≡◌, ◌∙◌, [], ◌∷◌, ◌++◌, length, length-append, map, true, false, refl, sym, arith, rules}
 use Rattle.std.proofs.lemmas.Result.{err_from_is_err_and}
 use Rattle.std.proofs.lemmas.List.Elements.{All-append, All-nil}
-use Rattle.csv.specs.Records.{AllText, fields_of}
+use Rattle.csv.specs.Reading.{reader_state}
+use Rattle.csv.specs.Records.{fields_of}
 use Rattle.csv_wrap.specs.Csv.{IsRow, file_records, without_marks}
 use Rattle.csv_wrap.specs.Rows.{bare_node, row_tree}
 use Rattle.csv_wrap.proofs.FieldFacts.{one}
@@ -41,7 +42,7 @@ returns-then-len-columns-clause-refused c =
     let fields = fields_of c.read_next.new.found in
     let some : c.in_ok-read_next.field-0 ≡ true = search rules in
     let at = rw some at c.in_ok-read_next.ensures (without_marks c.args.bytes.now) (c.args.columns.now ∷ had.rows) had.reached in
-    let row = file_row c.args.bytes.now c.args.columns.now had.rows fields _ _ at.5 in
+    let row = file_row c.args.bytes.now c.args.columns.now had.rows fields (reader_state c.read_next.new.reader) at.3 at.5 in
     let found : c.len-then-len-columns.result ≡ c.len.result = cc in
     (refl, (λ e. c.if-len-columns.true (sym found ∙ e)), fields, sym c.len-then-len-columns.ensures, (had.rows, row.0, row.1, had.fit, had.next_is))
 
@@ -51,7 +52,7 @@ returns-then-not-branch-2-clause-refused c =
     let fields = fields_of c.read_next.new.found in
     let some : c.in_ok-read_next.field-0 ≡ true = search rules in
     let at = rw some at c.in_ok-read_next.ensures (without_marks c.args.bytes.now) (c.args.columns.now ∷ had.rows) had.reached in
-    let row = file_row c.args.bytes.now c.args.columns.now had.rows fields _ _ at.5 in
+    let row = file_row c.args.bytes.now c.args.columns.now had.rows fields (reader_state c.read_next.new.reader) at.3 at.5 in
     let no_text : c.in_ok-put_row.field-0 ≡ false = search rules in
     (fields, cc, rw no_text at c.in_ok-put_row.ensures, (had.rows, row.0, row.1, had.fit, had.next_is))
 

@@ -1,4 +1,6 @@
 use Rattle.std.proofs.Common.{◌≡◌, [], true, false, rules}
+use Rattle.csv.specs.Reading.{reader_state}
+use Rattle.csv.specs.Records.{fields_of}
 use Rattle.csv_wrap.specs.Csv.{file_records, without_marks}
 use Rattle.csv_wrap.proofs.ReachFacts.{file_header}
 use Rattle.csv_wrap.proofs.reading.read_header.Goals as goal
@@ -19,5 +21,5 @@ pub returns-in-Some-clause-refused : goal.returns-in-Some-clause-refused
 returns-in-Some-clause-refused c = λ bytes h.
     let some : c.in_ok-read_next.field-0 ≡ true = search rules in
     let at = rw some at c.in_ok-read_next.ensures (without_marks bytes) [] h in
-    let front = file_header bytes _ _ _ at.5 in
-    (_, front.0, front.1, c.in-Some.ensures)
+    let front = file_header bytes (fields_of c.read_next.new.found) (reader_state c.read_next.new.reader) at.3 at.5 in
+    (fields_of c.read_next.new.found, front.0, front.1, c.in-Some.ensures)

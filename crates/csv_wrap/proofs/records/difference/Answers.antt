@@ -1,6 +1,5 @@
-use Rattle.std.proofs.Common.{◌≡◌, ◌≤◌, ◌<◌, ℕ, List, Some, None, Option, refl, sym, arith, length}
-use Rattle.csv.specs.Records.{field_at, fields_of}
-use Rattle.csv_wrap.proofs.FieldFacts.{column_at, differs_at, differs_end, differs_past, equal, field_within, same_more, same_whole, unequal}
+use Rattle.std.proofs.Common.{◌≡◌, sym, arith, length}
+use Rattle.csv_wrap.proofs.FieldFacts.{column_at, differs_at, differs_end, differs_past, equal, field_within, same_more, unequal}
 use Rattle.csv_wrap.proofs.records.difference.Goals as goal
 
 pub returns-in_default : goal.returns-in_default

@@ -1,4 +1,4 @@
-use Rattle.std.proofs.Common.{Bor, List, ℕ, ◌≡◌, ◌∙◌, Some, refl, ap}
+use Rattle.std.proofs.Common.{◌∙◌, Some, ap}
 use Rattle.csv_wrap.proofs.ReachFacts.{start_at}
 use Rattle.csv_wrap.proofs.records.reader_of.Goals as goal
 

@@ -1,4 +1,4 @@
-use Rattle.std.proofs.Common.{◌∙◌, ◌∷◌, ap, refl}
+use Rattle.std.proofs.Common.{◌∙◌, ◌∷◌, ap}
 use Rattle.std.proofs.lemmas.Str.{IsUtf8-had}
 use Rattle.mix_tree.specs.Forest.{none, tree}
 use Rattle.csv_wrap.specs.Rows.{bare_node}

@@ -1,6 +1,6 @@
-use Rattle.std.proofs.Common.{◌≡◌, ◌∙◌, ◌++◌, ◌≤◌, Some, List, ℕ, sym, ap, refl, arith, add-one, length, take}
+use Rattle.std.proofs.Common.{◌∙◌, ◌++◌, sym, ap, refl, arith, add-one, take}
 use Rattle.csv.specs.Records.{AllText, fields_of}
-use Rattle.mix_tree.specs.Forest.{forest_of, alone}
+use Rattle.mix_tree.specs.Forest.{alone}
 use Rattle.document_store.specs.Laid.{laid}
 use Rattle.csv_wrap.specs.Rows.{cell, cells}
 use Rattle.csv_wrap.proofs.FieldFacts.{column_at, field_get, no_field, take_field, text_at, text_more}

@@ -1,4 +1,4 @@
-use Rattle.std.proofs.Common.{◌≡◌, ◌≤◌, ◌++◌, take, length}
+use Rattle.std.proofs.Common.{◌≡◌, ◌++◌, take}
 use Rattle.csv.specs.Records.{AllText, fields_of}
 use Rattle.mix_tree.specs.Forest.{forest_of}
 use Rattle.document_store.specs.Laid.{laid}
