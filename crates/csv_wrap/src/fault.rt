@@ -12,12 +12,8 @@ pub enum CsvFault {
     NoHeader,
     /// The header and the columns differ first at this column, where the shorter of them may have ended.
     HeaderDiffers(usize),
-    /// The row has another number of fields than there are columns.
-    Length {
-        row: usize,
-        found: usize,
-        wanted: usize,
-    },
+    /// The row has so many fields, and there are so many columns: row, fields, columns.
+    Length(usize, usize, usize),
     /// The row has a field that is not UTF-8.
     NotUtf8(usize),
     /// Memory ran out.

@@ -1,6 +1,8 @@
+// Byte order marks in front of a file.
 ghost use Rattle.std.specs.Prelude.{◌≡◌};
 ghost use Rattle.csv_wrap.specs.Csv.{begins_with_mark, without_marks};
 
+// Whether a byte order mark stands in front.
 fn is_marked(bytes: &[u8]) -> bool
     ensures { result ≡ begins_with_mark bytes.now }
 {

@@ -75,11 +75,7 @@ pub fn read_document(
             return Ok(shut_document(store));
         }
         if found.len() != columns.len() {
-            return Err(CsvFault::Length {
-                row,
-                found: found.len(),
-                wanted: columns.len(),
-            });
+            return Err(CsvFault::Length(row, found.len(), columns.len()));
         }
         if !put_row(&mut store, columns, &found)? {
             return Err(CsvFault::NotUtf8(row));

@@ -40,7 +40,8 @@ pub fn reader_of(alloc: Global, text: &[u8]) -> Reader<&[u8]>
 /// The next record, where there is one. What `csv` refuses over memory is want of it.
 pub fn read_next(reader: &mut Reader<&[u8]>, found: &mut ByteRecord) -> Result<bool, AllocError>
     ensures { (text : List ℕ) → (rows : List (List (List ℕ))) → IsAt text rows reader.old
-        → IfOk result (λ more. MatchBool more (IsAt text (rows ++ fields_of found.new ∷ []) reader.new) (records default_config text ≡ rows)) }
+        → IfOk result (λ more. MatchBool more (IsAt text (rows ++ fields_of found.new ∷ []) reader.new)
+        (records default_config text ≡ rows)) }
 {
     let Ok(more) = reader.read_byte_record(found) else {
         return Err(AllocError);
