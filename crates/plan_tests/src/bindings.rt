@@ -69,68 +69,70 @@ fn homes_meet_their_schools(rt: HostRuntime) -> Result<(), Fail> {
     Ok(())
 }
 
+// Documents and views, with the labels below the nodes of a variable in the bindings of an operator.
+const BOUND: [(&str, &str, u32, u32, &str); 16] = [
+    // ties stay as they stood, also where the order is turned round
+    ("l[x,10,9[a],010,9[b]]", SORTED, 2, 0, "a b 010 10 x "),
+    ("l[x,10,9[a],010,9[b]]", TURNED, 2, 0, "x 10 010 a b "),
+    ("l", SORTED, 2, 0, ""),
+    (
+        "l[h[a,zip[1,1]],h[b,zip[2]],h[c,zip[1]]]",
+        BY_LABEL,
+        2,
+        0,
+        "a a b c ",
+    ),
+    // two nodes of one label are one key by their label
+    (
+        "l[h[a,zip[1,1]],h[b,zip[2]],h[c,zip[1]]]",
+        BY_LABEL,
+        3,
+        0,
+        "a b c ",
+    ),
+    (
+        "l[h[a,zip[1,1]],h[b,zip[2]],h[c,zip[1]]]",
+        BY_LABEL,
+        6,
+        1,
+        "1 2 ",
+    ),
+    // and two by themselves
+    ("l[row[name[A,A]],row[name[B]]]", BY_NODE, 3, 1, "A A B "),
+    ("l[row[name[A,A]],row[name[B]]]", BY_NODE, 4, 0, "A B "),
+    ("l", BY_NODE, 4, 0, ""),
+    (
+        "l[a[1],c[2],b[x],a[3],b[y],c[4]]",
+        THREE,
+        7,
+        0,
+        "1 1 1 1 3 3 3 3 ",
+    ),
+    (
+        "l[a[1],c[2],b[x],a[3],b[y],c[4]]",
+        THREE,
+        7,
+        1,
+        "x x y y x x y y ",
+    ),
+    (
+        "l[a[1],c[2],b[x],a[3],b[y],c[4]]",
+        THREE,
+        7,
+        2,
+        "2 4 2 4 2 4 2 4 ",
+    ),
+    ("l[a[1],c[2],b[x],a[3],b[y]]", THREE, 9, 1, "x y x y "),
+    ("l[a[1],b[x],a[3],b[y]]", THREE, 7, 0, ""),
+    // all events are skips
+    ("l[a,b,c]", NONE, 2, 0, ""),
+    ("l[a,q,c]", NONE, 3, 0, "q "),
+];
+
 #[test]
 fn each_operator_binds_what_it_says(rt: HostRuntime) -> Result<(), Fail> {
     let alloc = rt.alloc();
-    let wanted = [
-        // ties stay as they stood, also where the order is turned round
-        ("l[x,10,9[a],010,9[b]]", SORTED, 2, 0, "a b 010 10 x "),
-        ("l[x,10,9[a],010,9[b]]", TURNED, 2, 0, "x 10 010 a b "),
-        ("l", SORTED, 2, 0, ""),
-        (
-            "l[h[a,zip[1,1]],h[b,zip[2]],h[c,zip[1]]]",
-            BY_LABEL,
-            2,
-            0,
-            "a a b c ",
-        ),
-        // two nodes of one label are one key by their label
-        (
-            "l[h[a,zip[1,1]],h[b,zip[2]],h[c,zip[1]]]",
-            BY_LABEL,
-            3,
-            0,
-            "a b c ",
-        ),
-        (
-            "l[h[a,zip[1,1]],h[b,zip[2]],h[c,zip[1]]]",
-            BY_LABEL,
-            6,
-            1,
-            "1 2 ",
-        ),
-        // and two by themselves
-        ("l[row[name[A,A]],row[name[B]]]", BY_NODE, 3, 1, "A A B "),
-        ("l[row[name[A,A]],row[name[B]]]", BY_NODE, 4, 0, "A B "),
-        ("l", BY_NODE, 4, 0, ""),
-        (
-            "l[a[1],c[2],b[x],a[3],b[y],c[4]]",
-            THREE,
-            7,
-            0,
-            "1 1 1 1 3 3 3 3 ",
-        ),
-        (
-            "l[a[1],c[2],b[x],a[3],b[y],c[4]]",
-            THREE,
-            7,
-            1,
-            "x x y y x x y y ",
-        ),
-        (
-            "l[a[1],c[2],b[x],a[3],b[y],c[4]]",
-            THREE,
-            7,
-            2,
-            "2 4 2 4 2 4 2 4 ",
-        ),
-        ("l[a[1],c[2],b[x],a[3],b[y]]", THREE, 9, 1, "x y x y "),
-        ("l[a[1],b[x],a[3],b[y]]", THREE, 7, 0, ""),
-        // all events are skips
-        ("l[a,b,c]", NONE, 2, 0, ""),
-        ("l[a,q,c]", NONE, 3, 0, "q "),
-    ];
-    for (doc, view, op, v, labels) in wanted {
+    for (doc, view, op, v, labels) in BOUND {
         let found = rows(alloc, ONE, &[doc], view, op, v)?;
         assert_eq!(rt; found.as_slice(), labels.as_bytes());
     }

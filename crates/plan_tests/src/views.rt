@@ -147,67 +147,69 @@ fn clients_have_names_of_their_own(rt: HostRuntime) -> Result<(), Fail> {
     Ok(())
 }
 
+// Catalogs, views, documents and scripts, with the lines that answer.
+const WALKED: [(&str, &str, &[&str], &str, &str); 7] = [
+    // a home without a school makes no node
+    (
+        HOMES,
+        MED_HOMES,
+        LONE,
+        "r = root\nm = down r\nn = right m\nfetch m",
+        "node\nnode\nnone\nlabel med_home\n",
+    ),
+    // two homes of one label are two nodes
+    (
+        HOMES,
+        MED_HOMES,
+        TWINS,
+        "r = root\na = down r\nb = right a\nc = right b\nx = down b\nfetch x",
+        "node\nnode\nnode\nnone\nnode\nlabel home\n",
+    ),
+    // a list of labels that two derivations describe is bound once
+    (
+        ONE,
+        "CONSTRUCT <r> $X </r> WHERE s (a|c)*.(c|a.c) $X",
+        NESTED,
+        "r = root\nx = down r\nfetch x\nx = right x\nfetch x\nx = right x\nfetch x\nx = right x",
+        "node\nnode\nlabel c\nnode\nlabel c\nnode\nlabel c\nnone\n",
+    ),
+    // ties stay as they stood, up and down
+    (
+        ONE,
+        "CONSTRUCT <o> $X </o> WHERE s l._ $X ORDER BY $X",
+        LABELS,
+        ASCENDING,
+        "node\nnode\nlabel 9\nnode\nlabel a\nnode\nlabel 9\nnode\nlabel b\nnode\nlabel 010\nnode\nlabel 10\nnode\nlabel x\nnone\n",
+    ),
+    (
+        ONE,
+        "CONSTRUCT <o> $X </o> WHERE s l._ $X ORDER BY $X DESC",
+        LABELS,
+        DESCENDING,
+        "node\nnode\nlabel x\nnode\nnode\nnode\nnode\nlabel a\nnode\nnode\nlabel b\nnone\n",
+    ),
+    // groups by a label, and a list inside
+    (
+        ONE,
+        "CONSTRUCT <o> <g> label $Z <m> $H </m> {$H} </g> {label $Z} </o> WHERE s homes.home $H AND $H zip._ $Z",
+        ZIPS,
+        "r = root\ng = down r\nz = down g\nfetch z\nm = right z\nh = down m\nfetch h\nm = right m\nm = right m\ng = right g\nz = down g\nfetch z\ng = right g",
+        "node\nnode\nnode\nlabel 1\nnode\nnode\nlabel home\nnode\nnone\nnode\nnode\nlabel 2\nnone\n",
+    ),
+    // an element that no source node stands for
+    (
+        ONE,
+        "CONSTRUCT <a> <b> \"x y\" </b> </a> WHERE s q $X",
+        LEAF,
+        "r = root\nb = down r\nt = down b\nfetch t\nu = right b",
+        "node\nnode\nnode\nlabel \"x y\"\nnone\n",
+    ),
+];
+
 #[test]
 fn views_are_walked(rt: HostRuntime) -> Result<(), Fail> {
     let alloc = rt.alloc();
-    let rows = [
-        // a home without a school makes no node
-        (
-            HOMES,
-            MED_HOMES,
-            LONE,
-            "r = root\nm = down r\nn = right m\nfetch m",
-            "node\nnode\nnone\nlabel med_home\n",
-        ),
-        // two homes of one label are two nodes
-        (
-            HOMES,
-            MED_HOMES,
-            TWINS,
-            "r = root\na = down r\nb = right a\nc = right b\nx = down b\nfetch x",
-            "node\nnode\nnode\nnone\nnode\nlabel home\n",
-        ),
-        // a list of labels that two derivations describe is bound once
-        (
-            ONE,
-            "CONSTRUCT <r> $X </r> WHERE s (a|c)*.(c|a.c) $X",
-            NESTED,
-            "r = root\nx = down r\nfetch x\nx = right x\nfetch x\nx = right x\nfetch x\nx = right x",
-            "node\nnode\nlabel c\nnode\nlabel c\nnode\nlabel c\nnone\n",
-        ),
-        // ties stay as they stood, up and down
-        (
-            ONE,
-            "CONSTRUCT <o> $X </o> WHERE s l._ $X ORDER BY $X",
-            LABELS,
-            ASCENDING,
-            "node\nnode\nlabel 9\nnode\nlabel a\nnode\nlabel 9\nnode\nlabel b\nnode\nlabel 010\nnode\nlabel 10\nnode\nlabel x\nnone\n",
-        ),
-        (
-            ONE,
-            "CONSTRUCT <o> $X </o> WHERE s l._ $X ORDER BY $X DESC",
-            LABELS,
-            DESCENDING,
-            "node\nnode\nlabel x\nnode\nnode\nnode\nnode\nlabel a\nnode\nnode\nlabel b\nnone\n",
-        ),
-        // groups by a label, and a list inside
-        (
-            ONE,
-            "CONSTRUCT <o> <g> label $Z <m> $H </m> {$H} </g> {label $Z} </o> WHERE s homes.home $H AND $H zip._ $Z",
-            ZIPS,
-            "r = root\ng = down r\nz = down g\nfetch z\nm = right z\nh = down m\nfetch h\nm = right m\nm = right m\ng = right g\nz = down g\nfetch z\ng = right g",
-            "node\nnode\nnode\nlabel 1\nnode\nnode\nlabel home\nnode\nnone\nnode\nnode\nlabel 2\nnone\n",
-        ),
-        // an element that no source node stands for
-        (
-            ONE,
-            "CONSTRUCT <a> <b> \"x y\" </b> </a> WHERE s q $X",
-            LEAF,
-            "r = root\nb = down r\nt = down b\nfetch t\nu = right b",
-            "node\nnode\nnode\nlabel \"x y\"\nnone\n",
-        ),
-    ];
-    for (catalog, view, docs, script, wanted) in rows {
+    for (catalog, view, docs, script, wanted) in WALKED {
         let setting = Setting {
             catalog,
             view,

@@ -19,49 +19,51 @@ fn a_view_is_written_canonically(rt: HostRuntime) -> Result<(), Fail> {
     Ok(())
 }
 
+// Views, each with the line of its refusal.
+const REFUSED: [(&str, &str); 10] = [
+    (
+        "CONSTRUCT <a> $X </a> WHERE s a $Y",
+        "doc: unbound variable at 14\n",
+    ),
+    (
+        "CONSTRUCT <a> $X </a> {$X} WHERE s a $X",
+        "doc: outer element grouped at 22\n",
+    ),
+    (
+        "CONSTRUCT <a> $X </b> WHERE s a $Y",
+        "doc: tag differs at 17\n",
+    ),
+    (
+        "CONSTRUCT <a> $X </a> {$Y} WHERE s a $Y",
+        "doc: unbound variable at 14\n",
+    ),
+    (
+        "CONSTRUCT <a> $X </a> {$Y} WHERE s a $X",
+        "doc: unbound variable at 23\n",
+    ),
+    (
+        "CONSTRUCT <a> $X {$Y} </a> WHERE s a $X AND s b $Y",
+        "doc: loose item at 14\n",
+    ),
+    (
+        "CONSTRUCT <a> $X </a> WHERE t a $X",
+        "doc: unknown source at 28\n",
+    ),
+    (
+        "CONSTRUCT <a> $X </a> WHERE s a $X AND s b $X",
+        "doc: bound twice at 43\n",
+    ),
+    (
+        "CONSTRUCT <a> $X </a> WHERE s a..b $X",
+        "doc: unexpected at 32\n",
+    ),
+    ("CONSTRUCT", "doc: ends too early\n"),
+];
+
 #[test]
 fn a_view_is_refused_at_its_place(rt: HostRuntime) -> Result<(), Fail> {
     let alloc = rt.alloc();
-    let rows = [
-        (
-            "CONSTRUCT <a> $X </a> WHERE s a $Y",
-            "doc: unbound variable at 14\n",
-        ),
-        (
-            "CONSTRUCT <a> $X </a> {$X} WHERE s a $X",
-            "doc: outer element grouped at 22\n",
-        ),
-        (
-            "CONSTRUCT <a> $X </b> WHERE s a $Y",
-            "doc: tag differs at 17\n",
-        ),
-        (
-            "CONSTRUCT <a> $X </a> {$Y} WHERE s a $Y",
-            "doc: unbound variable at 14\n",
-        ),
-        (
-            "CONSTRUCT <a> $X </a> {$Y} WHERE s a $X",
-            "doc: unbound variable at 23\n",
-        ),
-        (
-            "CONSTRUCT <a> $X {$Y} </a> WHERE s a $X AND s b $Y",
-            "doc: loose item at 14\n",
-        ),
-        (
-            "CONSTRUCT <a> $X </a> WHERE t a $X",
-            "doc: unknown source at 28\n",
-        ),
-        (
-            "CONSTRUCT <a> $X </a> WHERE s a $X AND s b $X",
-            "doc: bound twice at 43\n",
-        ),
-        (
-            "CONSTRUCT <a> $X </a> WHERE s a..b $X",
-            "doc: unexpected at 32\n",
-        ),
-        ("CONSTRUCT", "doc: ends too early\n"),
-    ];
-    for (view, line) in rows {
+    for (view, line) in REFUSED {
         let view = view.as_bytes().to_vec(alloc)?;
         let ended = run(
             alloc,

@@ -1,6 +1,7 @@
 // Views: which rules are read over a catalog, where others are refused, and how rules are written.
 use mix_catalog::{Catalog, read_catalog};
 use std::alloc::Global;
+use std::process::Abort;
 use std::test::Fail;
 use xmas_read::{Large, XmasFault, canonical_text_is_read_again, read_rule, write_rule};
 
@@ -20,144 +21,154 @@ fn canonical(alloc: Global, catalog: &Catalog, text: &str) -> Result<Vec<u8>, Xm
     Ok(write_rule(alloc, &rule, catalog)?)
 }
 
+// Each of these views is refused so.
+fn check(
+    rt: &impl Abort,
+    alloc: Global,
+    catalog: &Catalog,
+    rows: &[(&str, XmasFault)],
+) -> Result<(), Fail> {
+    for (text, fault) in rows {
+        match canonical(alloc, catalog, text) {
+            Ok(_) => return Err((*text).into()),
+            Err(found) => assert_eq!(rt; found, *fault),
+        }
+    }
+    Ok(())
+}
+
+// Views, each with its refusal.
+const REFUSED: [(&str, XmasFault); 17] = [
+    ("", XmasFault::EndsEarly),
+    ("CONSTRUCT <a> $X </a> WHERE s a $", XmasFault::EndsEarly),
+    (
+        "CONSTRUCT <a> $X </a> WHERE s a $X }",
+        XmasFault::Unexpected(35),
+    ),
+    (
+        "CONSTRUCT <a> $X </a> WHERE s a..b $X",
+        XmasFault::Unexpected(32),
+    ),
+    (
+        "CONSTRUCT <a> $X </b> WHERE s a $Y",
+        XmasFault::TagDiffers(17),
+    ),
+    (
+        "CONSTRUCT <a> <b> </c> </d> WHERE s a $X",
+        XmasFault::TagDiffers(18),
+    ),
+    (
+        "CONSTRUCT <a> $X </a> WHERE t a $Y",
+        XmasFault::UnknownSource(28),
+    ),
+    (
+        "CONSTRUCT <a> $X </a> WHERE s a $X AND s b $X",
+        XmasFault::BoundTwice(43),
+    ),
+    ("CONSTRUCT <a> $X </a> WHERE s a $Y", XmasFault::Unbound(14)),
+    (
+        "CONSTRUCT <a> $X </a> {$Y} WHERE s a $Y",
+        XmasFault::Unbound(14),
+    ),
+    (
+        "CONSTRUCT <a> $X </a> {$Y} WHERE s a $X",
+        XmasFault::Unbound(23),
+    ),
+    (
+        "CONSTRUCT <a> $X </a> WHERE $Y a $X AND s b $Y",
+        XmasFault::Unbound(28),
+    ),
+    (
+        "CONSTRUCT <a> $X </a> WHERE s a $X AND $X < $Z",
+        XmasFault::Unbound(44),
+    ),
+    (
+        "CONSTRUCT <a> $X </a> WHERE s a $X ORDER BY $Z",
+        XmasFault::Unbound(44),
+    ),
+    (
+        "CONSTRUCT <a> $X </a> {$X} WHERE s a $X",
+        XmasFault::OuterGroup(22),
+    ),
+    (
+        "CONSTRUCT <a> $X {$Y} </a> WHERE s a $X AND s b $Y",
+        XmasFault::Loose(14),
+    ),
+    (
+        "CONSTRUCT <a> label $X {$Y} </a> WHERE s a $X AND s b $Y",
+        XmasFault::Loose(14),
+    ),
+];
+
 #[test]
 fn refusals_name_their_places(rt: HostRuntime) -> Result<(), Fail> {
     let alloc = rt.alloc();
     let catalog = catalog(alloc)?;
-    let refusals = [
-        ("", XmasFault::EndsEarly),
-        ("CONSTRUCT <a> $X </a> WHERE s a $", XmasFault::EndsEarly),
-        (
-            "CONSTRUCT <a> $X </a> WHERE s a $X }",
-            XmasFault::Unexpected(35),
-        ),
-        (
-            "CONSTRUCT <a> $X </a> WHERE s a..b $X",
-            XmasFault::Unexpected(32),
-        ),
-        (
-            "CONSTRUCT <a> $X </b> WHERE s a $Y",
-            XmasFault::TagDiffers(17),
-        ),
-        (
-            "CONSTRUCT <a> <b> </c> </d> WHERE s a $X",
-            XmasFault::TagDiffers(18),
-        ),
-        (
-            "CONSTRUCT <a> $X </a> WHERE t a $Y",
-            XmasFault::UnknownSource(28),
-        ),
-        (
-            "CONSTRUCT <a> $X </a> WHERE s a $X AND s b $X",
-            XmasFault::BoundTwice(43),
-        ),
-        ("CONSTRUCT <a> $X </a> WHERE s a $Y", XmasFault::Unbound(14)),
-        (
-            "CONSTRUCT <a> $X </a> {$Y} WHERE s a $Y",
-            XmasFault::Unbound(14),
-        ),
-        (
-            "CONSTRUCT <a> $X </a> {$Y} WHERE s a $X",
-            XmasFault::Unbound(23),
-        ),
-        (
-            "CONSTRUCT <a> $X </a> WHERE $Y a $X AND s b $Y",
-            XmasFault::Unbound(28),
-        ),
-        (
-            "CONSTRUCT <a> $X </a> WHERE s a $X AND $X < $Z",
-            XmasFault::Unbound(44),
-        ),
-        (
-            "CONSTRUCT <a> $X </a> WHERE s a $X ORDER BY $Z",
-            XmasFault::Unbound(44),
-        ),
-        (
-            "CONSTRUCT <a> $X </a> {$X} WHERE s a $X",
-            XmasFault::OuterGroup(22),
-        ),
-        (
-            "CONSTRUCT <a> $X {$Y} </a> WHERE s a $X AND s b $Y",
-            XmasFault::Loose(14),
-        ),
-        (
-            "CONSTRUCT <a> label $X {$Y} </a> WHERE s a $X AND s b $Y",
-            XmasFault::Loose(14),
-        ),
-    ];
-    for (text, fault) in refusals {
-        match canonical(alloc, &catalog, text) {
-            Ok(_) => return Err(text.into()),
-            Err(found) => assert_eq!(rt; found, fault),
-        }
-    }
+    check(&rt, alloc, &catalog, &REFUSED)?;
     let bytes = b"CONSTRUCT <a> \"\xff\" </a> WHERE s a $X";
     let read = read_rule(alloc, bytes, &catalog);
     assert!(rt; matches!(read, Err(XmasFault::NotUtf8(15))));
     Ok(())
 }
 
+// Views with two causes, each with the one that comes first.
+const REFUSED_TWICE: [(&str, XmasFault); 13] = [
+    (
+        "CONSTRUCT <a> $X </b> WHERE s a..b $X",
+        XmasFault::Unexpected(32),
+    ),
+    ("CONSTRUCT <a> $X </b> WHERE s a $", XmasFault::EndsEarly),
+    (
+        "CONSTRUCT <a> $Y </b> WHERE t a $X",
+        XmasFault::TagDiffers(17),
+    ),
+    (
+        "CONSTRUCT <a> $Y </a> WHERE t a $X",
+        XmasFault::UnknownSource(28),
+    ),
+    (
+        "CONSTRUCT <a> $X </a> WHERE s a $X AND s b $X AND t c $Y",
+        XmasFault::UnknownSource(50),
+    ),
+    (
+        "CONSTRUCT <a> $X </a> WHERE t a $X AND s b $X",
+        XmasFault::UnknownSource(28),
+    ),
+    (
+        "CONSTRUCT <a> $Y </a> WHERE s a $X AND s b $X",
+        XmasFault::BoundTwice(43),
+    ),
+    (
+        "CONSTRUCT <a> $X </a> WHERE s a $X AND s b $X AND $X = $Z",
+        XmasFault::BoundTwice(43),
+    ),
+    (
+        "CONSTRUCT <a> $Z </a> {$X} WHERE s a $X",
+        XmasFault::Unbound(14),
+    ),
+    (
+        "CONSTRUCT <a> $X </a> {$X} WHERE s a $X ORDER BY $Z",
+        XmasFault::Unbound(49),
+    ),
+    (
+        "CONSTRUCT <a> $X {$Y} </a> {$X} WHERE s a $X AND s b $Y",
+        XmasFault::OuterGroup(27),
+    ),
+    (
+        "CONSTRUCT <a> $X $Y $X {$Y} </a> WHERE s a $X AND s b $Y",
+        XmasFault::Loose(20),
+    ),
+    (
+        "CONSTRUCT <a> $X {$Y} $X $Y </a> WHERE s a $X AND s b $Y",
+        XmasFault::Loose(14),
+    ),
+];
+
 #[test]
 fn the_earlier_cause_is_answered_wherever_it_stands(rt: HostRuntime) -> Result<(), Fail> {
     let alloc = rt.alloc();
     let catalog = catalog(alloc)?;
-    let refusals = [
-        (
-            "CONSTRUCT <a> $X </b> WHERE s a..b $X",
-            XmasFault::Unexpected(32),
-        ),
-        ("CONSTRUCT <a> $X </b> WHERE s a $", XmasFault::EndsEarly),
-        (
-            "CONSTRUCT <a> $Y </b> WHERE t a $X",
-            XmasFault::TagDiffers(17),
-        ),
-        (
-            "CONSTRUCT <a> $Y </a> WHERE t a $X",
-            XmasFault::UnknownSource(28),
-        ),
-        (
-            "CONSTRUCT <a> $X </a> WHERE s a $X AND s b $X AND t c $Y",
-            XmasFault::UnknownSource(50),
-        ),
-        (
-            "CONSTRUCT <a> $X </a> WHERE t a $X AND s b $X",
-            XmasFault::UnknownSource(28),
-        ),
-        (
-            "CONSTRUCT <a> $Y </a> WHERE s a $X AND s b $X",
-            XmasFault::BoundTwice(43),
-        ),
-        (
-            "CONSTRUCT <a> $X </a> WHERE s a $X AND s b $X AND $X = $Z",
-            XmasFault::BoundTwice(43),
-        ),
-        (
-            "CONSTRUCT <a> $Z </a> {$X} WHERE s a $X",
-            XmasFault::Unbound(14),
-        ),
-        (
-            "CONSTRUCT <a> $X </a> {$X} WHERE s a $X ORDER BY $Z",
-            XmasFault::Unbound(49),
-        ),
-        (
-            "CONSTRUCT <a> $X {$Y} </a> {$X} WHERE s a $X AND s b $Y",
-            XmasFault::OuterGroup(27),
-        ),
-        (
-            "CONSTRUCT <a> $X $Y $X {$Y} </a> WHERE s a $X AND s b $Y",
-            XmasFault::Loose(20),
-        ),
-        (
-            "CONSTRUCT <a> $X {$Y} $X $Y </a> WHERE s a $X AND s b $Y",
-            XmasFault::Loose(14),
-        ),
-    ];
-    for (text, fault) in refusals {
-        match canonical(alloc, &catalog, text) {
-            Ok(_) => return Err(text.into()),
-            Err(found) => assert_eq!(rt; found, fault),
-        }
-    }
+    check(&rt, alloc, &catalog, &REFUSED_TWICE)?;
     let read = read_rule(alloc, b"CONSTRUCT } \xff", &catalog);
     assert!(rt; matches!(read, Err(XmasFault::NotUtf8(12))));
     let text = repeated(
@@ -258,42 +269,44 @@ fn what_is_too_large_is_refused(rt: HostRuntime) -> Result<(), Fail> {
     Ok(())
 }
 
+// Views, each with its canonical text.
+const WRITTEN: [(&str, &str); 7] = [
+    (
+        "CONSTRUCT <names> <p> $N </p> {$R,$N} </names> {} WHERE people people.row $R AND $R name._ $N",
+        "CONSTRUCT <names> <p> $N {$N} </p> {$R,$N} </names> {} WHERE people people.row $R AND $R name._ $N",
+    ),
+    (
+        " CONSTRUCT\n<answer>\n  <med_home> $H $S {$S} </med_home>{ $H }\n</answer> WHERE homes homes.home $H AND $H zip._ $V1\nAND schools schools.school $S AND $S zip._ $V2 AND $V1=$V2 ",
+        "CONSTRUCT <answer> <med_home> $H {$H} $S {$S} </med_home> {$H} </answer> {} WHERE homes homes.home $H AND $H zip._ $V1 AND schools schools.school $S AND $S zip._ $V2 AND $V1 = $V2",
+    ),
+    (
+        "CONSTRUCT <o> <g> label $Z <m> $H </m> {$H} </g> {label $Z} </o> WHERE homes homes.home $H AND $H zip._ $Z",
+        "CONSTRUCT <o> <g> label $Z {label $Z} <m> $H {$H} </m> {$H} </g> {label $Z} </o> {} WHERE homes homes.home $H AND $H zip._ $Z",
+    ),
+    (
+        "CONSTRUCT <o> $X </o> WHERE s (a|c)*.(c|(a.c)) $X AND $X<=\"1\\\"0\" ORDER BY $X DESC",
+        "CONSTRUCT <o> $X {$X} </o> {} WHERE s (a|c)*.(c|a.c) $X AND $X <= \"1\\\"0\" ORDER BY $X DESC",
+    ),
+    (
+        "CONSTRUCT <a> <b> \"x y\" </b> </a> WHERE s q $X",
+        "CONSTRUCT <a> <b> \"x y\" </b> {} </a> {} WHERE s q $X",
+    ),
+    // two lists in one element
+    (
+        "CONSTRUCT <a> $H $S </a> WHERE homes homes.home $H AND schools schools.school $S",
+        "CONSTRUCT <a> $H {$H} $S {$S} </a> {} WHERE homes homes.home $H AND schools schools.school $S",
+    ),
+    (
+        "CONSTRUCT <a> <b> $X <c> $Y </c> </b> </a> WHERE s a $X AND s b $Y",
+        "CONSTRUCT <a> <b> $X {$X} <c> $Y {$Y} </c> {} </b> {} </a> {} WHERE s a $X AND s b $Y",
+    ),
+];
+
 #[test]
 fn rules_are_written_as_they_mean(rt: HostRuntime) -> Result<(), Fail> {
     let alloc = rt.alloc();
     let catalog = catalog(alloc)?;
-    let rules = [
-        (
-            "CONSTRUCT <names> <p> $N </p> {$R,$N} </names> {} WHERE people people.row $R AND $R name._ $N",
-            "CONSTRUCT <names> <p> $N {$N} </p> {$R,$N} </names> {} WHERE people people.row $R AND $R name._ $N",
-        ),
-        (
-            " CONSTRUCT\n<answer>\n  <med_home> $H $S {$S} </med_home>{ $H }\n</answer> WHERE homes homes.home $H AND $H zip._ $V1\nAND schools schools.school $S AND $S zip._ $V2 AND $V1=$V2 ",
-            "CONSTRUCT <answer> <med_home> $H {$H} $S {$S} </med_home> {$H} </answer> {} WHERE homes homes.home $H AND $H zip._ $V1 AND schools schools.school $S AND $S zip._ $V2 AND $V1 = $V2",
-        ),
-        (
-            "CONSTRUCT <o> <g> label $Z <m> $H </m> {$H} </g> {label $Z} </o> WHERE homes homes.home $H AND $H zip._ $Z",
-            "CONSTRUCT <o> <g> label $Z {label $Z} <m> $H {$H} </m> {$H} </g> {label $Z} </o> {} WHERE homes homes.home $H AND $H zip._ $Z",
-        ),
-        (
-            "CONSTRUCT <o> $X </o> WHERE s (a|c)*.(c|(a.c)) $X AND $X<=\"1\\\"0\" ORDER BY $X DESC",
-            "CONSTRUCT <o> $X {$X} </o> {} WHERE s (a|c)*.(c|a.c) $X AND $X <= \"1\\\"0\" ORDER BY $X DESC",
-        ),
-        (
-            "CONSTRUCT <a> <b> \"x y\" </b> </a> WHERE s q $X",
-            "CONSTRUCT <a> <b> \"x y\" </b> {} </a> {} WHERE s q $X",
-        ),
-        // two lists in one element
-        (
-            "CONSTRUCT <a> $H $S </a> WHERE homes homes.home $H AND schools schools.school $S",
-            "CONSTRUCT <a> $H {$H} $S {$S} </a> {} WHERE homes homes.home $H AND schools schools.school $S",
-        ),
-        (
-            "CONSTRUCT <a> <b> $X <c> $Y </c> </b> </a> WHERE s a $X AND s b $Y",
-            "CONSTRUCT <a> <b> $X {$X} <c> $Y {$Y} </c> {} </b> {} </a> {} WHERE s a $X AND s b $Y",
-        ),
-    ];
-    for (text, written) in rules {
+    for (text, written) in WRITTEN {
         match canonical(alloc, &catalog, text) {
             Ok(bytes) => assert_eq!(rt; bytes.as_slice(), written.as_bytes()),
             Err(_) => return Err(text.into()),
