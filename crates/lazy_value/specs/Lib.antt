@@ -1,3 +1,4 @@
+pub mod Calls
 pub mod Forms
 pub mod Ids
 pub mod Labels

@@ -1,5 +1,5 @@
 -- What a mediator stands for: all that callers speak of.
-use Rattle.std.specs.Prelude.{◌≡◌, ◌≤◌, ℕ, List, Some}
+use Rattle.std.specs.Prelude.{◌≡◌, ◌≤◌, ◌<◌, ℕ, IsTrue, List, Option, Some, MatchOption, Result, IfOk}
 use Rattle.mix_tree.specs.Forest.{LabelledTree}
 use Rattle.mix_tree.specs.Nodes.{Documents}
 use Rattle.lxp_core.specs.View.{View}
@@ -7,16 +7,21 @@ use Rattle.plan_core.specs.declared.plan.Plan.{Plan}
 use Rattle.plan_core.specs.Plans.{PlanValue, document}
 use Rattle.plan_core.specs.Events.{visited}
 use Rattle.plan_core.specs.Valid.{IsValid}
-use Rattle.lazy_plan.specs.Bench.{BenchState, IsBenchOf, KeepsBench, AsksAtMost}
+use Rattle.lazy_plan.specs.Bench.{BenchState, IsBenchOf, KeepsBench, AsksAtMost, told}
 use Rattle.lazy_plan.specs.Bench as bench
+use Rattle.lazy_plan.specs.declared.fault.WalkFault.{WalkFault}
 use Rattle.lazy_value.specs.Ids as ids
-use Rattle.lazy_value.specs.Places.{IsNode, IsAt}
+use Rattle.lazy_value.specs.Places.{IsNode, IsAt, IsLabelAt, GivesPlace}
 use Rattle.lazy_value.specs.declared.ids.NodeId.{NodeId}
 use Rattle.lazy_value.specs.declared.mediator.Mediator.{Mediator}
 
 -- the state of a mediator whose sources mean this
 abbrev pub state_of : View → Mediator → BenchState
 state_of v m = bench.state_of v m.bench
+
+-- the states before and after a call
+abbrev pub Between : {S : Type 0} → (S → View) → S → Mediator → S → Mediator → (BenchState → BenchState → Type 0) → Type 0
+Between view s m s' m' P = P (state_of (view s) m) (state_of (view s') m')
 
 -- its plan
 abbrev pub plan_of : Mediator → Plan
@@ -29,6 +34,22 @@ IsMediatorOf v m = IsBenchOf v m.bench
 -- a number of an identifier that no call raises, and that falls with each step to the right
 abbrev pub node_left : BenchState → NodeId → ℕ
 node_left st n = ids.site_left st n.site
+
+-- fewer nodes than this are to the right of the node that was found
+abbrev pub HasFewer : BenchState → ℕ → Option NodeId → Type 0
+HasFewer st w r = MatchOption r (Unit {0}) (λ n. node_left st n < w)
+
+-- from an identifier at a place at most so many fills are asked
+abbrev pub AsksFrom : BenchState → BenchState → NodeId → List ℕ → ℕ → Type 0
+AsksFrom old new n p most = IsAt old n p → AsksAtMost old new most
+
+-- from an identifier at a place the node at another is found, or there is none
+abbrev pub LeadsTo : BenchState → BenchState → NodeId → List ℕ → Option (List ℕ) → Result (Option NodeId) WalkFault → Type 0
+LeadsTo old new n p goal result = IsAt old n p → IfOk result (GivesPlace old new goal)
+
+-- over told sources the label is that of an identifier's node
+abbrev pub IsLabelOf : BenchState → NodeId → List ℕ → List ℕ → Type 0
+IsLabelOf st n p label = IsAt st n p → IsTrue (told st) → IsLabelAt st p label
 
 -- each earlier identifier stays one, at the place where it stood, and its number did not rise
 pub record NodesStay (old new : BenchState) : Type 0 where

@@ -1,19 +1,18 @@
 // The members of lists that are gathered from bindings.
-ghost use Rattle.std.specs.Prelude.{◌≡◌, ◌+◌, ◌<◌, suc, Some, IsTrue, IfOk, MatchOption, length};
-ghost use Rattle.mix_base.specs.Events.{cost, found, nothing};
-ghost use Rattle.lxp_core.specs.View.{View};
+ghost use Rattle.std.specs.Prelude.{◌≡◌, ◌<◌, Some, IsTrue, IfOk, MatchOption, length};
+ghost use Rattle.mix_base.specs.Events.{cost};
 ghost use Rattle.mix_tree.specs.Keys.{key_var};
 ghost use Rattle.mix_tree.specs.Nodes.{label_at};
 ghost use Rattle.plan_core.specs.PlanMade.{plan_value};
 ghost use Rattle.plan_core.specs.Valid.{kinds};
 ghost use Rattle.plan_core.specs.Valid.{a_node, AreNodes};
-ghost use Rattle.plan_core.specs.Tolled.{toll};
-ghost use Rattle.plan_core.specs.TolledRows.{key_value, key_values, same_value, same_values, row_node};
-ghost use Rattle.lazy_plan.specs.Bench.{state_of, plan_of, IsBenchOf, ops_of, told, documents, IsCursor, binding_at, number_at, GivesFirst};
+ghost use Rattle.plan_core.specs.TolledRows.{row_node};
+ghost use Rattle.lazy_plan.specs.Bench.{state_of, plan_of, IsBenchOf, ops_of, told, documents, IsCursor, binding_at};
 ghost use Rattle.lazy_plan.specs.Steps.{HasCause};
 ghost use Rattle.lazy_value.specs.Forms.{gathers_groups, input_at};
-ghost use Rattle.lazy_value.specs.Ids.{Stands, GathersAll, IsRest, rest_trees, weight, left, ahead_from, number_from, members_trees, group_ahead, group_trees};
-ghost use Rattle.lazy_value.specs.Steps.{Walked, Turns, Falls, IsMember};
+ghost use Rattle.lazy_value.specs.Ids.{Stands, GathersAll, IsRest, rest_trees, left, ahead_from, members_trees, group_ahead, group_trees};
+ghost use Rattle.lazy_value.specs.Steps.{Walked, Falls};
+ghost use Rattle.lazy_value.specs.Calls.{Between, GivesFrom, GivesMember, InEach, InSome, TurnsGroup, TurnsMembers, WalkedTo, behind_member, behind_members, same_key_at, same_keys_at};
 
 use crate::entering::{group_member, list_member};
 use crate::ids::{Rest, Turn, share};
@@ -28,10 +27,9 @@ use tree_buffer::Buffer;
 /// The label of a variable's node in a cursor's binding.
 fn label_in<'a>(bench: &'a Bench, op: u32, c: &Cursor, v: Var) -> &'a Label
     requires op { op < length (plan_value (plan_of bench.now)).ops }
-    requires bench { (view : View) × IsBenchOf view bench.now × IsCursor (state_of view bench.now) op c.now }
+    requires bench { InSome bench.now (λ st. IsCursor st op c.now) }
     requires node { kinds (plan_value (plan_of bench.now)).ops op v ≡ Some a_node }
-    ensures { (view : View) → IsBenchOf view bench.now → IsCursor (state_of view bench.now) op c.now → IsTrue (told (state_of view bench.now))
-        → result.now ≡ label_at (documents (state_of view bench.now)) (row_node (binding_at (state_of view bench.now) op c.now) v) }
+    ensures { InEach bench.now (λ st. IsCursor st op c.now → IsTrue (told st) → result.now ≡ label_at (documents st) (row_node (binding_at st op c.now) v)) }
 {
     bench.label(bench.source_of(op, v), &bench.spot(op, c, v))
 }
@@ -39,11 +37,9 @@ fn label_in<'a>(bench: &'a Bench, op: u32, c: &Cursor, v: Var) -> &'a Label
 /// Whether the bindings at two cursors are the same by a key.
 fn same_by_key(bench: &Bench, op: u32, first: &Cursor, c: &Cursor, key: Key) -> bool
     requires op { op < length (plan_value (plan_of bench.now)).ops }
-    requires bench { (view : View) × IsBenchOf view bench.now × IsCursor (state_of view bench.now) op first.now × IsCursor (state_of view bench.now) op c.now }
+    requires bench { InSome bench.now (λ st. IsCursor st op first.now × IsCursor st op c.now) }
     requires node { kinds (plan_value (plan_of bench.now)).ops op (key_var key) ≡ Some a_node }
-    ensures { (view : View) → IsBenchOf view bench.now → IsCursor (state_of view bench.now) op first.now → IsCursor (state_of view bench.now) op c.now → IsTrue (told (state_of view bench.now))
-        → result ≡ same_value (key_value (documents (state_of view bench.now)) (row_node (binding_at (state_of view bench.now) op first.now)) key)
-        (key_value (documents (state_of view bench.now)) (row_node (binding_at (state_of view bench.now) op c.now)) key) }
+    ensures { InEach bench.now (λ st. IsCursor st op first.now → IsCursor st op c.now → IsTrue (told st) → result ≡ same_key_at st op first.now c.now key) }
 {
     match key {
         Key::Node(v) => Buffer::same_spot(&bench.spot(op, first, v), &bench.spot(op, c, v)),
@@ -54,11 +50,9 @@ fn same_by_key(bench: &Bench, op: u32, first: &Cursor, c: &Cursor, key: Key) -> 
 /// Whether the bindings at two cursors are the same by all keys.
 fn same_by_keys(bench: &Bench, op: u32, first: &Cursor, c: &Cursor, keys: &[Key]) -> bool
     requires op { op < length (plan_value (plan_of bench.now)).ops }
-    requires bench { (view : View) × IsBenchOf view bench.now × IsCursor (state_of view bench.now) op first.now × IsCursor (state_of view bench.now) op c.now }
+    requires bench { InSome bench.now (λ st. IsCursor st op first.now × IsCursor st op c.now) }
     requires nodes { AreNodes keys.now (kinds (plan_value (plan_of bench.now)).ops op) }
-    ensures { (view : View) → IsBenchOf view bench.now → IsCursor (state_of view bench.now) op first.now → IsCursor (state_of view bench.now) op c.now → IsTrue (told (state_of view bench.now))
-        → result ≡ same_values (key_values (documents (state_of view bench.now)) keys.now (binding_at (state_of view bench.now) op first.now))
-        (key_values (documents (state_of view bench.now)) keys.now (binding_at (state_of view bench.now) op c.now)) }
+    ensures { InEach bench.now (λ st. IsCursor st op first.now → IsCursor st op c.now → IsTrue (told st) → result ≡ same_keys_at st op first.now c.now keys.now) }
 {
     for key in keys {
         if !same_by_key(bench, op, first, c, *key) {
@@ -82,8 +76,7 @@ fn next_of_group<S: Sources>(
     requires from { Stands (state_of (S.view s.old) bench.old) op gathers_groups from.now }
     ensures walked { Walked S.view S.came_from s.old bench.old s.new bench.new (cost (group_ahead (state_of (S.view s.old) bench.old) op first.now from.now)) }
     ensures cause { HasCause (ops_of (state_of (S.view s.old) bench.old)) (S.view s.old) (S.view s.new) result }
-    ensures answer { IfOk result (λ r. MatchOption r (IsTrue (told (state_of (S.view s.old) bench.old)) → found (group_ahead (state_of (S.view s.old) bench.old) op first.now from.now) ≡ nothing)
-        (IsMember (state_of (S.view s.old) bench.old) (state_of (S.view s.new) bench.new) op first.now (group_ahead (state_of (S.view s.old) bench.old) op first.now from.now) (number_at (state_of (S.view s.old) bench.old) (input_at (ops_of (state_of (S.view s.old) bench.old)) op) from.now))) }
+    ensures answer { Between S.view s.old bench.old s.new bench.new (λ old new. IfOk result (GivesMember old new op first.now from.now)) }
 {
     let input = input_of(bench.plan(), op);
     let mut at = from.again()?;
@@ -113,7 +106,7 @@ fn behind<S: Sources>(
     requires at { MatchOption at.now (Unit {0}) (λ c. IsCursor (state_of (S.view s.old) bench.old) op c) }
     ensures walked { Walked S.view S.came_from s.old bench.old s.new bench.new (cost (ahead_from (state_of (S.view s.old) bench.old) op at.now)) }
     ensures cause { HasCause (ops_of (state_of (S.view s.old) bench.old)) (S.view s.old) (S.view s.new) result }
-    ensures answer { IfOk result (GivesFirst (state_of (S.view s.old) bench.old) (state_of (S.view s.new) bench.new) op (ahead_from (state_of (S.view s.old) bench.old) op at.now) (number_from (state_of (S.view s.old) bench.old) op at.now)) }
+    ensures answer { Between S.view s.old bench.old s.new bench.new (λ old new. IfOk result (GivesFrom old new op at.now)) }
 {
     match at {
         None => bench.first(alloc, s, op),
@@ -132,12 +125,12 @@ pub(crate) fn members<S: Sources>(
 ) -> Result<Turn, WalkFault>
     requires bench { IsBenchOf (S.view s.old) bench.old }
     requires gathers { GathersAll (state_of (S.view s.old) bench.old) op }
-    requires at { MatchOption at.now (Unit {0}) (λ c. IsCursor (state_of (S.view s.old) bench.old) (input_at (ops_of (state_of (S.view s.old) bench.old)) op) c) }
+    requires at { let st = state_of (S.view s.old) bench.old in MatchOption at.now (Unit {0}) (λ c. IsCursor st (input_at (ops_of st) op) c) }
     requires up { IsRest (state_of (S.view s.old) bench.old) up.now.value }
-    ensures walked { Walked S.view S.came_from s.old bench.old s.new bench.new (toll (members_trees (state_of (S.view s.old) bench.old) op at.now (rest_trees (state_of (S.view s.old) bench.old) up.now.value))) }
+    ensures walked { WalkedTo S.view S.came_from s.old bench.old s.new bench.new (λ st. members_trees st op at.now (rest_trees st up.now.value)) }
     ensures cause { HasCause (ops_of (state_of (S.view s.old) bench.old)) (S.view s.old) (S.view s.new) result }
-    ensures answer { IfOk result (Turns (state_of (S.view s.old) bench.old) (state_of (S.view s.new) bench.new) (members_trees (state_of (S.view s.old) bench.old) op at.now (rest_trees (state_of (S.view s.old) bench.old) up.now.value)) (suc (weight (state_of (S.view s.old) bench.old) up.now.value))) }
-    ensures left { IfOk result (Falls (state_of (S.view s.new) bench.new) (number_from (state_of (S.view s.old) bench.old) (input_at (ops_of (state_of (S.view s.old) bench.old)) op) at.now + left (state_of (S.view s.old) bench.old) up.now.value)) }
+    ensures answer { Between S.view s.old bench.old s.new bench.new (λ old new. IfOk result (TurnsMembers old new op at.now up.now.value)) }
+    ensures left { Between S.view s.old bench.old s.new bench.new (λ old new. IfOk result (Falls new (behind_members old op at.now up.now.value))) }
 {
     let input = input_of(bench.plan(), op);
     match behind(alloc, bench, s, input, at)? {
@@ -160,10 +153,10 @@ pub(crate) fn group<S: Sources>(
     requires first { Stands (state_of (S.view s.old) bench.old) op gathers_groups first.now }
     requires at { Stands (state_of (S.view s.old) bench.old) op gathers_groups at.now }
     requires up { IsRest (state_of (S.view s.old) bench.old) up.now.value }
-    ensures walked { Walked S.view S.came_from s.old bench.old s.new bench.new (toll (group_trees (state_of (S.view s.old) bench.old) op first.now at.now (rest_trees (state_of (S.view s.old) bench.old) up.now.value))) }
+    ensures walked { WalkedTo S.view S.came_from s.old bench.old s.new bench.new (λ st. group_trees st op first.now at.now (rest_trees st up.now.value)) }
     ensures cause { HasCause (ops_of (state_of (S.view s.old) bench.old)) (S.view s.old) (S.view s.new) result }
-    ensures answer { IfOk result (Turns (state_of (S.view s.old) bench.old) (state_of (S.view s.new) bench.new) (group_trees (state_of (S.view s.old) bench.old) op first.now at.now (rest_trees (state_of (S.view s.old) bench.old) up.now.value)) (suc (weight (state_of (S.view s.old) bench.old) up.now.value))) }
-    ensures left { IfOk result (Falls (state_of (S.view s.new) bench.new) (number_at (state_of (S.view s.old) bench.old) (input_at (ops_of (state_of (S.view s.old) bench.old)) op) at.now + left (state_of (S.view s.old) bench.old) up.now.value)) }
+    ensures answer { Between S.view s.old bench.old s.new bench.new (λ old new. IfOk result (TurnsGroup old new op first.now at.now up.now.value)) }
+    ensures left { Between S.view s.old bench.old s.new bench.new (λ old new. IfOk result (Falls new (behind_member old op at.now up.now.value))) }
 {
     match next_of_group(alloc, bench, s, op, first, at)? {
         None => Ok(Turn::On(share(up)?)),

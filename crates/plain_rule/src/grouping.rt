@@ -1,12 +1,13 @@
 // Groups of bindings that are the same by keys.
 ghost use Rattle.std.specs.Prelude.{◌≡◌, ◌++◌, ◌∷◌, [], cond, map, IfOk, OnOk};
-ghost use Rattle.std.specs.List.{filter, list_any};
+ghost use Rattle.std.specs.List.{filter};
 ghost use Rattle.mix_base.specs.Groups.{firsts as firsts_by, groups as groups_by};
 ghost use Rattle.mix_tree.specs.Keys.{same_key};
 ghost use Rattle.mix_tree.specs.Nodes.{same_node as is_same_node};
 ghost use Rattle.xmas_rule.specs.Bindings.{node_of};
 ghost use Rattle.xmas_rule.specs.Meaning.{same, parts as parts_of};
 ghost use Rattle.plain_rule.specs.Documents.{documents_of};
+ghost use Rattle.plain_rule.specs.Steps.{is_seen};
 
 use crate::binding::{Binding, copy_binding, node_in};
 use crate::node::Node;
@@ -136,7 +137,7 @@ fn was_seen(
     seen: &[Binding],
     binding: &Binding,
 ) -> Result<bool, AllocError>
-    ensures { IfOk result (λ known. known ≡ list_any (λ s. same (documents_of docs.now) keys.now s binding.now) seen.now) }
+    ensures { IfOk result (λ known. known ≡ is_seen (documents_of docs.now) keys.now seen.now binding.now) }
 {
     for other in seen {
         if same_by_keys(alloc, docs, keys, other, binding)? {
@@ -154,7 +155,7 @@ fn push_if_new(
     binding: &Binding,
     seen: &mut Vec<Binding>,
 ) -> Result<(), AllocError>
-    ensures { OnOk result (seen.new.items ≡ seen.old.items ++ cond (list_any (λ s. same (documents_of docs.now) keys.now s binding.now) seen.old.items) [] (binding.now ∷ [])) }
+    ensures { OnOk result (seen.new.items ≡ seen.old.items ++ cond (is_seen (documents_of docs.now) keys.now seen.old.items binding.now) [] (binding.now ∷ [])) }
 {
     if !was_seen(alloc, docs, keys, seen, binding)? {
         seen.push(copy_binding(alloc, binding)?)?;

@@ -1,11 +1,11 @@
 // The instances of a template's items.
 ghost use Rattle.std.specs.Prelude.{◌≡◌, IfOk, OnOk};
-ghost use Rattle.mix_tree.specs.Forest.{forest_of, none, tree, followed, joined};
-ghost use Rattle.mix_tree.specs.Keys.{in_force};
+ghost use Rattle.mix_tree.specs.Forest.{forest_of, none, tree, joined};
 ghost use Rattle.xmas_rule.specs.Items.{whole, label_alone, done};
 ghost use Rattle.xmas_rule.specs.Made.{items_of, item_before};
 ghost use Rattle.xmas_rule.specs.Meaning.{shown_first, instances};
 ghost use Rattle.plain_rule.specs.Documents.{documents_of};
+ghost use Rattle.plain_rule.specs.Steps.{Adds, elements};
 
 use crate::binding::{Binding, node_in};
 use crate::documents::kids_of;
@@ -38,7 +38,7 @@ pub fn copy_trees(alloc: Global, trees: &[Tree]) -> Result<Vec<Tree>, AllocError
 
 // Adds a tree.
 fn push_tree(made: &mut Vec<Tree>, label: Label, kids: Vec<Tree>) -> Result<(), AllocError>
-    ensures { OnOk result (forest_of made.new.items ≡ followed (forest_of made.old.items) (tree label (forest_of kids.items) none)) }
+    ensures { OnOk result (Adds made.old.items made.new.items (tree label (forest_of kids.items) none)) }
 {
     made.push(Tree::new(label, kids))?;
     Ok(())
@@ -52,7 +52,7 @@ fn push_whole(
     bindings: &[Binding],
     made: &mut Vec<Tree>,
 ) -> Result<(), AllocError>
-    ensures { OnOk result (forest_of made.new.items ≡ followed (forest_of made.old.items) (shown_first (documents_of docs.now) whole var bindings.now)) }
+    ensures { OnOk result (Adds made.old.items made.new.items (shown_first (documents_of docs.now) whole var bindings.now)) }
 {
     if let Some((first, _)) = bindings.split_first() {
         let label = label_in(alloc, docs, first, var)?;
@@ -71,7 +71,7 @@ fn push_label(
     bindings: &[Binding],
     made: &mut Vec<Tree>,
 ) -> Result<(), AllocError>
-    ensures { OnOk result (forest_of made.new.items ≡ followed (forest_of made.old.items) (shown_first (documents_of docs.now) label_alone var bindings.now)) }
+    ensures { OnOk result (Adds made.old.items made.new.items (shown_first (documents_of docs.now) label_alone var bindings.now)) }
 {
     if let Some((first, _)) = bindings.split_first() {
         let label = label_in(alloc, docs, first, var)?;
@@ -88,7 +88,7 @@ fn push_wholes(
     found: &[Part],
     made: &mut Vec<Tree>,
 ) -> Result<(), AllocError>
-    ensures { OnOk result (forest_of made.new.items ≡ followed (forest_of made.old.items) (joined (shown_first (documents_of docs.now) whole var) found.now)) }
+    ensures { OnOk result (Adds made.old.items made.new.items (joined (shown_first (documents_of docs.now) whole var) found.now)) }
 {
     for part in found {
         push_whole(alloc, docs, var, part.bindings(), made)?;
@@ -104,7 +104,7 @@ fn push_labels(
     found: &[Part],
     made: &mut Vec<Tree>,
 ) -> Result<(), AllocError>
-    ensures { OnOk result (forest_of made.new.items ≡ followed (forest_of made.old.items) (joined (shown_first (documents_of docs.now) label_alone var) found.now)) }
+    ensures { OnOk result (Adds made.old.items made.new.items (joined (shown_first (documents_of docs.now) label_alone var) found.now)) }
 {
     for part in found {
         push_label(alloc, docs, var, part.bindings(), made)?;
@@ -122,7 +122,7 @@ fn push_elements(
     found: &[Part],
     made: &mut Vec<Tree>,
 ) -> Result<(), AllocError>
-    ensures { OnOk result (forest_of made.new.items ≡ followed (forest_of made.old.items) (joined (λ part. tree template.now.label (instances (documents_of docs.now) force.now template.now.items part) none) found.now)) }
+    ensures { OnOk result (Adds made.old.items made.new.items (elements (documents_of docs.now) force.now template.now.label template.now.items found.now)) }
 {
     for part in found {
         let mut kids = Vec::new(alloc);
@@ -149,7 +149,7 @@ fn push_item(
     bindings: &[Binding],
     made: &mut Vec<Tree>,
 ) -> Result<(), AllocError>
-    ensures { OnOk result (forest_of made.new.items ≡ followed (forest_of made.old.items) (instances (documents_of docs.now) force.now (item_before item.now done) bindings.now)) }
+    ensures { OnOk result (Adds made.old.items made.new.items (instances (documents_of docs.now) force.now (item_before item.now done) bindings.now)) }
 {
     match item {
         Item::Text(label) => push_tree(made, label.copy(alloc)?, Vec::new(alloc)),
@@ -179,7 +179,7 @@ pub fn push_instances(
     bindings: &[Binding],
     made: &mut Vec<Tree>,
 ) -> Result<(), AllocError>
-    ensures { OnOk result (forest_of made.new.items ≡ followed (forest_of made.old.items) (instances (documents_of docs.now) force.now (items_of items.now) bindings.now)) }
+    ensures { OnOk result (Adds made.old.items made.new.items (instances (documents_of docs.now) force.now (items_of items.now) bindings.now)) }
 {
     for item in items {
         push_item(alloc, docs, force, item, bindings, made)?;

@@ -1,10 +1,11 @@
 // The nodes that a path leads to.
 ghost use Rattle.std.specs.Prelude.{◌≡◌, ◌++◌, ◌∷◌, [], Bool, cond, IfOk, OnOk};
-ghost use Rattle.mix_tree.specs.Forest.{forest_of, tree, none};
+ghost use Rattle.mix_tree.specs.Forest.{tree, none};
 ghost use Rattle.path_expr.specs.Description.{Labels};
 ghost use Rattle.path_expr.specs.Matches.{AreMatches};
 ghost use Rattle.plain_rule.specs.Documents.{documents_of};
-ghost use Rattle.plain_rule.specs.Found.{Tests, found_in};
+ghost use Rattle.plain_rule.specs.Found.{Tests};
+ghost use Rattle.plain_rule.specs.Steps.{AddsFound};
 
 use crate::describing::describes;
 use crate::documents::kids_of;
@@ -59,7 +60,7 @@ fn push_found(
     place: &Place,
     found: &mut Vec<Place>,
 ) -> Result<(), AllocError>
-    ensures { (test : Labels → Bool) → Tests path.now test → OnOk result (found.new.items ≡ found.old.items ++ found_in test above.now place.now 0 (forest_of trees.now)) }
+    ensures { (test : Labels → Bool) → Tests path.now test → OnOk result (AddsFound test above.now place.now trees.now found.old.items found.new.items) }
 {
     for (at, tree) in trees.iter().enumerate() {
         let labels = with_label(alloc, above, tree.label())?;

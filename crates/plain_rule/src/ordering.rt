@@ -1,9 +1,9 @@
 // The order of a body's bindings.
 ghost use Rattle.std.specs.Prelude.{◌≡◌, ◌≤◌, ◌++◌, ◌∷◌, IfOk, OnOk, length, take, drop};
-ghost use Rattle.xmas_rule.specs.Bindings.{label_of, sorts_before};
-ghost use Rattle.xmas_rule.specs.Sorted.{insert_by, sorted_by};
+ghost use Rattle.xmas_rule.specs.Sorted.{sorted_by};
 ghost use Rattle.xmas_rule.specs.Tuples.{in_order_of};
 ghost use Rattle.plain_rule.specs.Documents.{documents_of};
+ghost use Rattle.plain_rule.specs.Steps.{comes_before, inserted};
 
 use crate::binding::{Binding, copy_binding};
 use crate::selecting::label_in;
@@ -19,7 +19,7 @@ fn comes_first(
     a: &Binding,
     b: &Binding,
 ) -> Result<bool, AllocError>
-    ensures { IfOk result (λ first. first ≡ sorts_before order.now (label_of (documents_of docs.now) order.now.var a.now) (label_of (documents_of docs.now) order.now.var b.now)) }
+    ensures { IfOk result (λ first. first ≡ comes_before (documents_of docs.now) order.now a.now b.now) }
 {
     let left = label_in(alloc, docs, a, order.var)?;
     let right = label_in(alloc, docs, b, order.var)?;
@@ -39,7 +39,7 @@ fn place_among(
     sorted: &[Binding],
 ) -> Result<usize, AllocError>
     ensures within { IfOk result (λ at. at ≤ length sorted.now) }
-    ensures place { IfOk result (λ at. insert_by (λ a b. sorts_before order.now (label_of (documents_of docs.now) order.now.var a) (label_of (documents_of docs.now) order.now.var b)) binding.now sorted.now ≡ take at sorted.now ++ binding.now ∷ drop at sorted.now) }
+    ensures place { IfOk result (λ at. inserted (documents_of docs.now) order.now binding.now sorted.now ≡ take at sorted.now ++ binding.now ∷ drop at sorted.now) }
 {
     for (at, other) in sorted.iter().enumerate() {
         if !comes_first(alloc, docs, order, other, binding)? {
@@ -57,7 +57,7 @@ fn insert_into(
     binding: &Binding,
     sorted: &mut Vec<Binding>,
 ) -> Result<(), AllocError>
-    ensures { OnOk result (sorted.new.items ≡ insert_by (λ a b. sorts_before order.now (label_of (documents_of docs.now) order.now.var a) (label_of (documents_of docs.now) order.now.var b)) binding.now sorted.old.items) }
+    ensures { OnOk result (sorted.new.items ≡ inserted (documents_of docs.now) order.now binding.now sorted.old.items) }
 {
     let at = place_among(alloc, docs, order, binding, sorted)?;
     sorted.insert(at, copy_binding(alloc, binding)?)?;
@@ -71,7 +71,7 @@ fn sort_by_label(
     order: &OrderBy,
     bindings: &[Binding],
 ) -> Result<Vec<Binding>, AllocError>
-    ensures { IfOk result (λ sorted. sorted.items ≡ sorted_by (λ a b. sorts_before order.now (label_of (documents_of docs.now) order.now.var a) (label_of (documents_of docs.now) order.now.var b)) bindings.now) }
+    ensures { IfOk result (λ sorted. sorted.items ≡ sorted_by (comes_before (documents_of docs.now) order.now) bindings.now) }
 {
     let mut sorted = Vec::new(alloc);
     let mut left = bindings.len();

@@ -1,9 +1,9 @@
 // The tuples of which the binding conditions of a body hold.
-ghost use Rattle.std.specs.Prelude.{◌≡◌, ◌++◌, ◌∷◌, [], IfOk, OnOk, map};
+ghost use Rattle.std.specs.Prelude.{◌≡◌, ◌++◌, ◌∷◌, [], IfOk, OnOk};
 ghost use Rattle.xmas_rule.specs.Conditions.{binders, binder_vars, flat, from_source, from_var, has};
 ghost use Rattle.xmas_rule.specs.Reached.{reached, reaches, begun};
-ghost use Rattle.xmas_rule.specs.Tuples.{MatchLists, AreMatchLists, extend, tuples};
-ghost use Rattle.plain_rule.specs.Documents.{documents_of};
+ghost use Rattle.xmas_rule.specs.Tuples.{extend};
+ghost use Rattle.plain_rule.specs.Steps.{AreExtended, ForMatches, at_places};
 
 use crate::binding::{Binding, node_in, with_node};
 use crate::matching::matches;
@@ -22,7 +22,7 @@ fn push_at_places(
     places: &[Place],
     longer: &mut Vec<Binding>,
 ) -> Result<(), AllocError>
-    ensures { OnOk result (longer.new.items ≡ longer.old.items ++ map (λ q. binding.now ++ (var, record { source = source; place = q }) ∷ []) places.now) }
+    ensures { OnOk result (longer.new.items ≡ longer.old.items ++ at_places binding.now var source places.now) }
 {
     for place in places {
         let node = Node::new(source, copy_place(alloc, place)?);
@@ -41,7 +41,7 @@ fn push_longer(
     var: Var,
     longer: &mut Vec<Binding>,
 ) -> Result<(), AllocError>
-    ensures { (lists : MatchLists) → AreMatchLists (documents_of docs.now) lists → OnOk result (longer.new.items ≡ longer.old.items ++ map (λ q. binding.now ++ (var, record { source = start.now.source; place = q }) ∷ []) (lists path.now start.now)) }
+    ensures { ForMatches docs.now (λ l. OnOk result (longer.new.items ≡ longer.old.items ++ at_places binding.now var start.now.source (l path.now start.now))) }
 {
     let places = matches(alloc, docs, path, start)?;
     push_at_places(alloc, binding, var, start.source(), &places, longer)
@@ -56,7 +56,7 @@ fn extend_from_source(
     path: &Path,
     var: Var,
 ) -> Result<Vec<Binding>, AllocError>
-    ensures { IfOk result (λ longer. (lists : MatchLists) → AreMatchLists (documents_of docs.now) lists → longer.items ≡ extend lists (from_source source path.now var) bindings.now) }
+    ensures { IfOk result (λ longer. ForMatches docs.now (λ lists. longer.items ≡ extend lists (from_source source path.now var) bindings.now)) }
 {
     let start = Node::document(alloc, source);
     let mut longer = Vec::new(alloc);
@@ -75,7 +75,7 @@ fn extend_from_var(
     path: &Path,
     var: Var,
 ) -> Result<Vec<Binding>, AllocError>
-    ensures { IfOk result (λ longer. (lists : MatchLists) → AreMatchLists (documents_of docs.now) lists → longer.items ≡ extend lists (from_var start path.now var) bindings.now) }
+    ensures { IfOk result (λ longer. ForMatches docs.now (λ lists. longer.items ≡ extend lists (from_var start path.now var) bindings.now)) }
 {
     let mut longer = Vec::new(alloc);
     for binding in bindings {
@@ -102,7 +102,7 @@ fn extend_if_has(
     var: Var,
     bindings: Vec<Binding>,
 ) -> Result<Vec<Binding>, AllocError>
-    ensures tuples { IfOk result (λ longer. (lists : MatchLists) → AreMatchLists (documents_of docs.now) lists → longer.items ≡ tuples lists bindings.items (reached vars.old.items (from_var start path.now var ∷ []))) }
+    ensures tuples { IfOk result (λ longer. AreExtended docs.now bindings.items (reached vars.old.items (from_var start path.now var ∷ [])) longer.items) }
     ensures vars { OnOk result (vars.new.items ≡ vars.old.items ++ binder_vars (reached vars.old.items (from_var start path.now var ∷ []))) }
 {
     if !has_var(vars, start) {
@@ -120,7 +120,7 @@ fn extend_if_reached(
     cond: &Cond,
     bindings: Vec<Binding>,
 ) -> Result<Vec<Binding>, AllocError>
-    ensures tuples { IfOk result (λ longer. (lists : MatchLists) → AreMatchLists (documents_of docs.now) lists → longer.items ≡ tuples lists bindings.items (reached vars.old.items (binders (cond.now ∷ [])))) }
+    ensures tuples { IfOk result (λ longer. AreExtended docs.now bindings.items (reached vars.old.items (binders (cond.now ∷ []))) longer.items) }
     ensures vars { OnOk result (vars.new.items ≡ vars.old.items ++ binder_vars (reached vars.old.items (binders (cond.now ∷ [])))) }
 {
     match cond {
@@ -140,7 +140,7 @@ fn extend_reached(
     conds: &[Cond],
     bindings: Vec<Binding>,
 ) -> Result<Vec<Binding>, AllocError>
-    ensures { IfOk result (λ longer. (lists : MatchLists) → AreMatchLists (documents_of docs.now) lists → longer.items ≡ tuples lists bindings.items (reached (first ∷ []) (binders conds.now))) }
+    ensures { IfOk result (λ longer. AreExtended docs.now bindings.items (reached (first ∷ []) (binders conds.now)) longer.items) }
 {
     let mut vars = Vec::new(alloc);
     vars.push(first)?;
@@ -159,7 +159,7 @@ fn extend_begun(
     behind: &[Cond],
     bindings: Vec<Binding>,
 ) -> Result<Vec<Binding>, AllocError>
-    ensures { IfOk result (λ longer. (lists : MatchLists) → AreMatchLists (documents_of docs.now) lists → longer.items ≡ tuples lists bindings.items (flat (begun cond.now (binders behind.now)))) }
+    ensures { IfOk result (λ longer. AreExtended docs.now bindings.items (flat (begun cond.now (binders behind.now))) longer.items) }
 {
     match cond {
         Cond::FromSource { source, path, var } => {
@@ -173,7 +173,7 @@ fn extend_begun(
 
 // All tuples of the body's variables, component by component.
 pub fn body_tuples(alloc: Global, docs: &[Tree], conds: &[Cond]) -> Result<Vec<Binding>, AllocError>
-    ensures { IfOk result (λ all. (lists : MatchLists) → AreMatchLists (documents_of docs.now) lists → all.items ≡ tuples lists ([] ∷ []) (flat (reaches (binders conds.now)))) }
+    ensures { IfOk result (λ all. AreExtended docs.now ([] ∷ []) (flat (reaches (binders conds.now))) all.items) }
 {
     let mut all = Vec::new(alloc);
     all.push(Binding::new(Vec::new(alloc)))?;

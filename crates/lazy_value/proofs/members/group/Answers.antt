@@ -20,7 +20,7 @@ pub returns-in_ok-group_member-in-Some-clause-walked : goal.returns-in_ok-group_
 returns-in_ok-group_member-in-Some-clause-walked g c = group_walked c.args.s.now c.next_of_group.new.s c.args.bench.now c.next_of_group.new.bench c.args.op c.args.first.now c.args.at.now c.args.up.now.value c.next_of_group.ensures.walked
 
 pub group_member-requires : goal.group_member-requires
-group_member-requires g c = record { bench = (g.S.Sources.view c.next_of_group.new.s, c.next_of_group.ensures.walked.bench, (Stands-kept (state_of (g.S.Sources.view c.args.s.now) c.args.bench.now) (state_of (g.S.Sources.view c.next_of_group.new.s) c.next_of_group.new.bench) c.next_of_group.ensures.walked.kept c.args.op gathers_groups c.args.first.now c.requires.first), (let k = Stands-kept (state_of (g.S.Sources.view c.args.s.now) c.args.bench.now) (state_of (g.S.Sources.view c.next_of_group.new.s) c.next_of_group.new.bench) c.next_of_group.ensures.walked.kept c.args.op gathers_groups c.args.first.now c.requires.first in let f = rw c.in-Some.is at c.in_ok-next_of_group.ensures.answer in record { within = k.within; is = k.is; cursor = f.cursor }), group_rest c.args.s.now c.next_of_group.new.s c.args.bench.now c.next_of_group.new.bench c.args.op c.args.first.now c.args.at.now c.args.up.now.value c.next_of_group.ensures.walked c.requires.up) }
+group_member-requires g c = record { bench = (g.S.Sources.view c.next_of_group.new.s, c.next_of_group.ensures.walked.bench, ((Stands-kept (state_of (g.S.Sources.view c.args.s.now) c.args.bench.now) (state_of (g.S.Sources.view c.next_of_group.new.s) c.next_of_group.new.bench) c.next_of_group.ensures.walked.kept c.args.op gathers_groups c.args.first.now c.requires.first), (let k = Stands-kept (state_of (g.S.Sources.view c.args.s.now) c.args.bench.now) (state_of (g.S.Sources.view c.next_of_group.new.s) c.next_of_group.new.bench) c.next_of_group.ensures.walked.kept c.args.op gathers_groups c.args.first.now c.requires.first in let f = rw c.in-Some.is at c.in_ok-next_of_group.ensures.answer in record { within = k.within; is = k.is; cursor = f.cursor }), group_rest c.args.s.now c.next_of_group.new.s c.args.bench.now c.next_of_group.new.bench c.args.op c.args.first.now c.args.at.now c.args.up.now.value c.next_of_group.ensures.walked c.requires.up)) }
 
 pub returns-in_ok-share-in-None-clause-answer : goal.returns-in_ok-share-in-None-clause-answer
 returns-in_ok-share-in-None-clause-answer g c = group_over c.args.s.now c.next_of_group.new.s c.args.bench.now c.next_of_group.new.bench c.args.op c.args.first.now c.args.at.now c.args.up.now.value c.next_of_group.ensures.walked c.requires.up (rw c.in-None.is at c.in_ok-next_of_group.ensures.answer) c.in_ok-share-in-None.field-0.value c.in_ok-share-in-None.ensures

@@ -1,0 +1,121 @@
+-- What contracts say of the states of a bench, each state named once.
+use Rattle.std.specs.Prelude.{◌≡◌, ℕ, suc, Bool, ◌+◌, ◌<◌, IsTrue, Option, Some, MatchOption, List, drop}
+use Rattle.mix_base.specs.Events.{nothing, found}
+use Rattle.mix_tree.specs.Forest.{first_kids, behind}
+use Rattle.mix_tree.specs.declared.var.Key.{Key}
+use Rattle.lxp_core.specs.View.{View}
+use Rattle.plan_core.specs.ByNumber.{op_at}
+use Rattle.plan_core.specs.Tolled.{Tolled, toll, charged}
+use Rattle.plan_core.specs.TolledRows.{key_value, key_values, same_value, same_values, row_node, value_trees}
+use Rattle.lazy_plan.specs.declared.bench.Bench.{Bench}
+use Rattle.lazy_plan.specs.declared.position.Position.{Position}
+use Rattle.lazy_plan.specs.Bench.{BenchState, state_of, IsBenchOf, ops_of, told, documents, size_of, binding_at, number_at, trees_at_spot, GivesFirst}
+use Rattle.lazy_value.specs.Forms.{makes_list, gathers_all, gathers_groups, input_at, pieces_of}
+use Rattle.lazy_value.specs.Ids.{Stands, IsOrigin, value_of, IsRest, rest_trees, weight, left, site_left, pieces_trees, member_trees, members_trees, group_ahead, group_trees, ahead_from, number_from}
+use Rattle.lazy_value.specs.Origins.{origin_size, origin_extent}
+use Rattle.lazy_value.specs.Sizes.{pieces_count, size, extent}
+use Rattle.lazy_value.specs.Steps.{Walked, StandsFor, Turns, Falls, IsMember}
+use Rattle.lazy_value.specs.declared.ids.Origin.{Origin}
+use Rattle.lazy_value.specs.declared.ids.Rest.{Rest}
+use Rattle.lazy_value.specs.declared.ids.Site.{Site}
+use Rattle.lazy_value.specs.declared.ids.Turn.{Turn}
+use Rattle.tree_buffer.specs.declared.spot.Spot.{Spot}
+
+-- STATES
+
+-- the states before and after a call
+abbrev pub Between : {S : Type 0} → (S → View) → S → Bench → S → Bench → (BenchState → BenchState → Type 0) → Type 0
+Between view s b s' b' P = P (state_of (view s) b) (state_of (view s') b')
+
+-- each state that a bench may be in
+abbrev pub InEach : Bench → (BenchState → Type 0) → Type 0
+InEach b P = (view : View) → IsBenchOf view b → P (state_of view b)
+
+-- one of them
+abbrev pub InSome : Bench → (BenchState → Type 0) → Type 0
+InSome b P = (view : View) × IsBenchOf view b × P (state_of view b)
+
+-- what a call leaves that asks at most the toll of these trees
+abbrev pub WalkedTo : {S : Type 0} → (S → View) → (S → S → Type 0) → S → Bench → S → Bench → (BenchState → Tolled) → Type 0
+WalkedTo view came_from s b s' b' f = Walked view came_from s b s' b' (toll (f (state_of (view s) b)))
+
+-- fewer trees than this are behind the node that was found
+abbrev pub HasFewer : BenchState → ℕ → Option Site → Type 0
+HasFewer st w r = MatchOption r (Unit {0}) (λ n. site_left st n < w)
+
+-- the trees below a source's node, as they are charged
+abbrev pub kids_of_spot : BenchState → ℕ → Spot → Tolled
+kids_of_spot st s p = charged (first_kids (trees_at_spot st s p))
+
+-- those behind it
+abbrev pub behind_spot : BenchState → ℕ → Spot → Tolled
+behind_spot st s p = charged (behind (trees_at_spot st s p))
+
+-- VALUES AND PIECES
+
+-- what entering a value comes to, with this behind it
+abbrev pub Enters : BenchState → Origin → Rest → Turn → Type 0
+Enters st o r t = IsOrigin st o → IsRest st r → Turns st st (value_trees (documents st) (value_of st o) (rest_trees st r)) (suc (origin_size st o + weight st r)) t
+
+-- and how many trees are left then
+abbrev pub EnteringFalls : BenchState → Origin → Rest → Turn → Type 0
+EnteringFalls st o r t = IsOrigin st o → IsRest st r → Falls st (origin_extent st o + left st r) t
+
+-- what a turn over the pieces of a concatenation from one on comes to, with this behind them
+abbrev pub TurnsPieces : BenchState → ℕ → Position → ℕ → Rest → Turn → Type 0
+TurnsPieces st op at next up t = Stands st op makes_list at → IsRest st up → Turns st st (pieces_trees st op at next (rest_trees st up))
+    (suc (pieces_count (λ v. suc (size (ops_of st) (input_at (ops_of st) op) v)) (drop next (pieces_of (op_at (ops_of st) op))) + weight st up)) t
+
+-- and how many trees are left then
+abbrev pub PiecesFall : BenchState → ℕ → Position → ℕ → Rest → Turn → Type 0
+PiecesFall st op at next up t = Stands st op makes_list at → IsRest st up
+    → Falls st (pieces_count (extent (size_of st) (ops_of st) (input_at (ops_of st) op)) (drop next (pieces_of (op_at (ops_of st) op))) + left st up) t
+
+-- what a turn over a rest comes to
+abbrev pub TurnsRest : BenchState → BenchState → Rest → Turn → Type 0
+TurnsRest old new r t = Turns old new (rest_trees old r) (weight old r) t
+
+-- MEMBERS
+
+-- whether the bindings at two cursors are the same by a key
+abbrev pub same_key_at : BenchState → ℕ → Position → Position → Key → Bool
+same_key_at st op first c key = same_value (key_value (documents st) (row_node (binding_at st op first)) key) (key_value (documents st) (row_node (binding_at st op c)) key)
+
+-- by all keys
+abbrev pub same_keys_at : BenchState → ℕ → Position → Position → List Key → Bool
+same_keys_at st op first c keys = same_values (key_values (documents st) keys (binding_at st op first)) (key_values (documents st) keys (binding_at st op c))
+
+-- the identifier stands for the member of a group at a cursor, with those behind it and this behind them
+abbrev pub IsGroupMember : BenchState → ℕ → Position → Position → Rest → Site → Type 0
+IsGroupMember st op first at up n = Stands st op gathers_groups first → Stands st op gathers_groups at → IsRest st up
+    → StandsFor st st (member_trees st op at (group_trees st op first at (rest_trees st up))) n
+
+-- the same of a list of all bindings
+abbrev pub IsListMember : BenchState → ℕ → Position → Rest → Site → Type 0
+IsListMember st op at up n = Stands st op gathers_all at → IsRest st up → StandsFor st st (member_trees st op at (members_trees st op (Some at) (rest_trees st up))) n
+
+-- how many trees are behind the member at a cursor at most
+abbrev pub behind_member : BenchState → ℕ → Position → Rest → ℕ
+behind_member st op at up = number_at st (input_at (ops_of st) op) at + left st up
+
+-- how many trees are in a list behind a cursor, or in all of it, at most, with this behind it
+abbrev pub behind_members : BenchState → ℕ → Option Position → Rest → ℕ
+behind_members st op at up = number_from st (input_at (ops_of st) op) at + left st up
+
+-- the next member of a group behind a cursor, or there is none
+abbrev pub GivesMember : BenchState → BenchState → ℕ → Position → Position → Option Position → Type 0
+GivesMember old new op first from r =
+    MatchOption r (IsTrue (told old) → found (group_ahead old op first from) ≡ nothing)
+    (IsMember old new op first (group_ahead old op first from) (number_at old (input_at (ops_of old) op) from))
+
+-- the first binding of an operator, or the one behind a cursor, or there is none
+abbrev pub GivesFrom : BenchState → BenchState → ℕ → Option Position → Option Position → Type 0
+GivesFrom old new op at r = GivesFirst old new op (ahead_from old op at) (number_from old op at) r
+
+-- what a turn over the members of a list behind a cursor comes to, with this behind them
+abbrev pub TurnsMembers : BenchState → BenchState → ℕ → Option Position → Rest → Turn → Type 0
+TurnsMembers old new op at up t = Turns old new (members_trees old op at (rest_trees old up)) (suc (weight old up)) t
+
+-- the same of the members of a group
+abbrev pub TurnsGroup : BenchState → BenchState → ℕ → Position → Position → Rest → Turn → Type 0
+TurnsGroup old new op first at up t = Turns old new (group_trees old op first at (rest_trees old up)) (suc (weight old up)) t
