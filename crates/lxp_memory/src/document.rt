@@ -102,8 +102,8 @@ impl Document {
 
     /// The children that a hole stands for; `None` where the document has no such children.
     pub(crate) fn span(&self, hole: HoleId) -> Option<Span>
-        ensures { MatchOption result (has_span self.now.nodes.items (hole_span hole) ≡ false)
-            (λ span. (span ≡ hole_span hole) × (has_span self.now.nodes.items span ≡ true)) }
+        ensures { let has = has_span self.now.nodes.items in
+            MatchOption result (has (hole_span hole) ≡ false) (λ span. (span ≡ hole_span hole) × (has span ≡ true)) }
     {
         let span = Span::of_hole(hole);
         if span.from <= span.to && self.has_children(span.node, span.to) {

@@ -4,11 +4,9 @@
 ghost use Rattle.std.specs.Prelude.{◌≡◌, ◌+◌, ◌*◌, ◌<◌, ◌≤◌, ◌++◌, ◌∷◌, [], true, OnOk, IfOk, IfSome, IsErrOf, length};
 ghost use Rattle.mix_base.specs.Counts.{HasRisen};
 ghost use Rattle.mix_tree.specs.Forest.{labels_of};
-ghost use Rattle.mix_tree.specs.Place.{trees_at};
 ghost use Rattle.lxp_core.specs.View.{document};
-ghost use Rattle.tree_buffer.specs.Document.{document_node};
-ghost use Rattle.tree_buffer.specs.Buffer.{IsSpot, IsSourcesOf, Ran, number_of, place_of, below};
-ghost use Rattle.walk_tree.specs.Walk.{first_labels, labels_from, left};
+ghost use Rattle.tree_buffer.specs.Buffer.{IsSpot, IsSourcesOf, Ran, number_of, below};
+ghost use Rattle.walk_tree.specs.Walk.{AsksOneLess, AsksTwo, labels_at, labels_from, left};
 
 use lxp_core::Sources;
 use mix_tree::Label;
@@ -30,13 +28,11 @@ pub fn walk<S: Sources>(
     requires sources { IsSourcesOf (S.view s.old) b.old }
     ensures ran { Ran S.view S.came_from s.old b.old s.new b.new }
     ensures labels { OnOk result ((S.view s.old).told (number_of b.old) ≡ true
-        → out.new.items ≡ out.old.items ++ first_labels (trees_at (document_node (S.view s.old) (number_of b.old)) (place_of b.old p.now))) }
+        → out.new.items ≡ out.old.items ++ labels_at (S.view s.old) b.old p.now) }
     ensures few { length out.new.items ≤ length out.old.items + 1 + below (S.view s.old) b.old p.now }
     // Fills.
-    ensures steps { OnOk result ((S.view s.old).forward (number_of b.old) ≡ true
-        → (S.view s.new).fills + 2 * length out.old.items + 1 ≤ (S.view s.old).fills + 2 * length out.new.items) }
-    ensures lazy { (S.view s.old).forward (number_of b.old) ≡ true
-        → (S.view s.new).fills + 2 * length out.old.items ≤ (S.view s.old).fills + 2 * length out.new.items }
+    ensures steps { OnOk result (AsksOneLess (S.view s.old) b.old (S.view s.new) out.old.items out.new.items) }
+    ensures lazy { AsksTwo (S.view s.old) b.old (S.view s.new) out.old.items out.new.items }
     // The cause.
     ensures failed { IsErrOf result BufferFault.Failed
         → HasRisen ((S.view s.old).faults (number_of b.old)) ((S.view s.new).faults (number_of b.old)) }
@@ -63,8 +59,7 @@ fn walk_from<S: Sources>(
     ensures labels { OnOk result ((S.view s.old).told (number_of b.old) ≡ true
         → out.new.items ≡ out.old.items ++ labels_from (S.view s.old) b.old first) }
     ensures few { length out.new.items ≤ length out.old.items + left (S.view s.old) b.old first }
-    ensures lazy { (S.view s.old).forward (number_of b.old) ≡ true
-        → (S.view s.new).fills + 2 * length out.old.items ≤ (S.view s.old).fills + 2 * length out.new.items }
+    ensures lazy { AsksTwo (S.view s.old) b.old (S.view s.new) out.old.items out.new.items }
     ensures failed { IsErrOf result BufferFault.Failed
         → HasRisen ((S.view s.old).faults (number_of b.old)) ((S.view s.new).faults (number_of b.old)) }
 {
