@@ -3,8 +3,8 @@ use Rattle.std.proofs.Common.{◌≡◌, ◌∙◌, ◌==◌, ◌||◌, ◌&&◌
 use Rattle.std.proofs.lemmas.List.{same_from_push, drop_more}
 use Rattle.std.proofs.lemmas.Bool.Decides.{nat_tests}
 use Rattle.mix_tree.specs.Forest.{Forest, LabelledTree, forest_of, alone}
-use Rattle.document_store.specs.Laid.{LaidNode, laid, Closes, IsDocument}
-use Rattle.document_store.proofs.Laying.{laid-last, laid-alone, length-laid}
+use Rattle.document_store.specs.Laid.{LaidNode, bare_node, laid, Closes, IsDocument}
+use Rattle.document_store.proofs.Laying.{length-laid, closes_tree, laid_more}
 use Rattle.mix_tree.specs.Spelling.{is_bare}
 use Rattle.mix_tree.specs.LabelMachine as spelled
 use Rattle.mix_tree.proofs.LabelTaken.{seen_byte}
@@ -20,7 +20,7 @@ use Rattle.bracket_text.specs.Results.{AnswersDocument, IsDocumentOf}
 use Rattle.bracket_text.specs.ReaderState as reader
 use Rattle.bracket_text.specs.declared.reader.Reader.{Reader}
 use Rattle.bracket_text.specs.declared.reader.Mode.TheVariants.{Start, First, Named, Closed}
-use Rattle.bracket_text.specs.ReaderState.{bare_node, open_nodes, places, Lies, Shuts, hand_nodes, SameMode, Holds, Gives, GivesFault, GivesDocument, IsSeenFault, Pushes}
+use Rattle.bracket_text.specs.ReaderState.{open_nodes, places, Lies, Shuts, hand_nodes, SameMode, Holds, Gives, GivesFault, GivesDocument, IsSeenFault, Pushes}
 
 -- a list with a last member is not empty
 pub some_last : {X : Type 0} {Q : Type 0} (xs : List X) (x : X) → [] ≡ xs ++ x ∷ [] → Q
@@ -34,7 +34,7 @@ shut_holds r nodes opened place label kids o s e c m =
     let last = same_from_push (places o) r.«open».items (length (open_nodes o)) place (sym s.places_are ∙ e) in
     record {
       lies = record {
-        nodes_are = c (laid kids) (open_nodes o) (bare_node label) s.nodes_are last.1 ∙ laid-alone label kids (length (laid kids)) (open_nodes o) (length-laid kids);
+        nodes_are = closes_tree nodes r.store (open_nodes o) place label kids c s.nodes_are (sym last.1);
         places_are = sym last.0;
       };
       same = m;
@@ -44,9 +44,7 @@ shut_holds r nodes opened place label kids o s e c m =
 pub comma_lies : (nodes : List LaidNode) (opened : List ℕ) (f : Frame) (o : List Frame) (t : LabelledTree) → Lies nodes opened (laid (alone t)) (f ∷ o)
     → Lies nodes opened [] (record { label = f.label; kids = f.kids ++ t ∷ [] } ∷ o)
 comma_lies nodes opened f o t l = record {
-  nodes_are =
-      l.nodes_are ∙ sym (append_assoc (laid (alone t)) (laid (forest_of f.kids)) (bare_node f.label ∷ open_nodes o))
-      ∙ ap (λ ns. ns ++ bare_node f.label ∷ open_nodes o) (sym (laid-last f.kids t));
+  nodes_are = l.nodes_are ∙ laid_more f.kids t (bare_node f.label ∷ open_nodes o);
   places_are = l.places_are;
 }
 

@@ -3,17 +3,13 @@ use Rattle.std.specs.Prelude.{◌≡◌, ℕ, ◌<◌, ◌≤◌, List, [], ◌�
 use Rattle.std.specs.Str.{IsCharBoundary}
 use Rattle.mix_tree.specs.Forest.{Forest, LabelledTree, forest_of, alone}
 use Rattle.mix_tree.specs.LabelMachine as spelled
-use Rattle.document_store.specs.Laid.{LaidNode, laid, IsDocument}
+use Rattle.document_store.specs.Laid.{LaidNode, bare_node, laid, IsDocument}
 use Rattle.bracket_text.specs.Machine as machine
 use Rattle.bracket_text.specs.declared.reader.Mode.{Mode}
 use Rattle.bracket_text.specs.declared.reader.Mode.TheVariants.{Start, First, Named, Closed}
 use Rattle.bracket_text.specs.declared.reader.Reader.{Reader}
 use Rattle.bracket_text.specs.declared.fault.BracketFault.{BracketFault}
 use Rattle.bracket_text.specs.declared.fault.BracketFault.TheVariants.{NotUtf8, Unexpected, TooDeep, Ends, OutOfMemory}
-
--- a node below which nothing is known to be
-abbrev pub bare_node : List ℕ → LaidNode
-bare_node label = record { label = label; below = 0 }
 
 -- the nodes of the open trees and of their whole children, behind the document node
 abbrev pub open_nodes : List machine.Frame → List LaidNode

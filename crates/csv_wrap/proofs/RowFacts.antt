@@ -8,20 +8,10 @@ use Rattle.csv.specs.declared.reader.Reader.{Reader}
 use Rattle.csv_wrap.specs.Csv.{IsAt, IsRow, without_marks}
 use Rattle.mix_base.proofs.Lists.{append_nil}
 use Rattle.mix_tree.specs.Forest.{Forest, LabelledTree, forest_of, alone}
-use Rattle.document_store.specs.Laid.{LaidNode, laid, Closes, IsDocument}
-use Rattle.document_store.proofs.Laying.{laid-last, laid-alone, length-laid}
+use Rattle.document_store.specs.Laid.{LaidNode, bare_node, laid, Closes, IsDocument}
+use Rattle.document_store.proofs.Laying.{closes_tree, laid_more}
 use Rattle.csv.specs.Records.{AllText}
-use Rattle.csv_wrap.specs.Rows.{bare_node, cell, cells, row_tree}
-
--- a node that is closed behind its children is a tree
-pub closes_tree : (old new others : List LaidNode) (place : ℕ) (label : List ℕ) (kids : Forest) → Closes old place new → old ≡ laid kids ++ bare_node label ∷ others → place ≡ length others
-    → new ≡ laid (alone (record { label = label; kids = kids })) ++ others
-closes_tree old new others place label kids c e p =
-    c (laid kids) others (bare_node label) e (sym p) ∙ laid-alone label kids (length (laid kids)) others (length-laid kids)
-
--- a tree more behind others
-pub laid_more : (ts : List LabelledTree) (t : LabelledTree) (others : List LaidNode) → laid (alone t) ++ (laid (forest_of ts) ++ others) ≡ laid (forest_of (ts ++ t ∷ [])) ++ others
-laid_more ts t others = sym (append_assoc (laid (alone t)) (laid (forest_of ts)) others) ∙ ap (λ ns. ns ++ others) (sym (laid-last ts t))
+use Rattle.csv_wrap.specs.Rows.{cell, cells, row_tree}
 
 -- a column more of a row
 pub cells_more : (cs fs : List (List ℕ)) (i : ℕ) (c f : List ℕ) → slice_get cs i ≡ Some c → slice_get fs i ≡ Some f

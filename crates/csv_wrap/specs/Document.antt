@@ -5,7 +5,6 @@ use Rattle.mix_tree.specs.Forest.{Forest}
 use Rattle.lxp_core.specs.declared.open_tree.HoleId.{HoleId}
 use Rattle.lxp_core.specs.Open.{Open, nil, node, hole}
 use Rattle.bracket_wrap.specs.Bracket as bracket
-use Rattle.csv_wrap.specs.Named.{rows_hole}
 use Rattle.csv_wrap.specs.declared.document.CsvDoc.{CsvDoc}
 
 -- how many rows a list has at most
@@ -34,7 +33,7 @@ document d = bracket.document d.rows
 
 -- the list of the root's hole: the name, with the hole of all rows below it
 abbrev pub given_name : CsvDoc → Open
-given_name d = node d.name (hole (rows_hole d.rows) nil) nil
+given_name d = node d.name (hole (bracket.kids_hole d.rows) nil) nil
 
 -- the list of a hole: the name where it is the root's, else the next rows, at most a chunk, each whole, and a hole behind them
 -- exactly where more remain

@@ -1,14 +1,9 @@
 -- Documents whose root is the name of a source.
-use Rattle.std.specs.Prelude.{◌≡◌, ℕ, ◌-◌, true, false, List, [], ◌∷◌, length, slice_index}
-use Rattle.lxp_core.specs.declared.open_tree.HoleId.{HoleId}
+use Rattle.std.specs.Prelude.{◌≡◌, ℕ, ◌-◌, true, false, List, length}
 use Rattle.document_store.specs.Laid.{LaidNode, node_at}
 use Rattle.document_store.specs.Between.{before, fits}
 use Rattle.bracket_wrap.specs.declared.bracket.BracketDoc.{BracketDoc}
 use Rattle.bracket_wrap.specs.Bracket as bracket
-
--- the hole of all rows: the children of the root, whose node stands right before the document node
-abbrev pub rows_hole : BracketDoc → HoleId
-rows_hole doc = let root = slice_index (bracket.root_hole doc).words 0 - 1 in record { words = root ∷ root ∷ 0 ∷ [] }
 
 -- the node at a position has one tree below it, with this label
 abbrev pub HasRoot : List LaidNode → ℕ → List ℕ → Type 0

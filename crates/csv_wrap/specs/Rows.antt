@@ -1,7 +1,6 @@
 -- The document of a CSV file: the source's name, below it the rows, and below each row its columns, each with its field below it.
 use Rattle.std.specs.Prelude.{ℕ, List, [], ◌∷◌, map}
 use Rattle.mix_tree.specs.Forest.{none, tree, LabelledTree, forest_of}
-use Rattle.document_store.specs.Laid.{LaidNode}
 
 -- a column of a row: its name, and the field below it
 abbrev pub cell : List ℕ → List ℕ → LabelledTree
@@ -20,7 +19,3 @@ row_tree columns fields = record { label = 114 ∷ 111 ∷ 119 ∷ []; kids = fo
 -- a file of these rows under these columns, as a source of this name
 abbrev pub file_tree : List ℕ → List (List ℕ) → List (List (List ℕ)) → LabelledTree
 file_tree name columns rows = record { label = name; kids = forest_of (map (row_tree columns) rows) }
-
--- a node below which nothing is known to be
-abbrev pub bare_node : List ℕ → LaidNode
-bare_node label = record { label = label; below = 0 }

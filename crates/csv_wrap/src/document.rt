@@ -67,10 +67,8 @@ impl CsvDoc {
     fn give_name(&self, alloc: Global) -> Result<Vec<OpenTree>, AllocError>
         ensures { IfOk result (λ list. plain list.items ≡ given_name self.now) }
     {
-        let [root, _, _] = self.root_hole().words;
-        let words = [root.saturating_sub(1), root.saturating_sub(1), 0];
         let mut kids = Vec::new(alloc);
-        kids.push(OpenTree::Hole(HoleId { words }))?;
+        kids.push(OpenTree::Hole(self.rows.kids_hole()))?;
         let label = self.name.copy(alloc)?;
         let mut list = Vec::new(alloc);
         list.push(OpenTree::Node { label, kids })?;

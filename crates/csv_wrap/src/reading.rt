@@ -1,9 +1,9 @@
 // Reading the document of a CSV file.
 ghost use Rattle.std.specs.Prelude.{◌≡◌, ℕ, List, [], ◌∷◌, ◌++◌, IfOk, OnOk, IfErr};
 ghost use Rattle.mix_tree.specs.Forest.{LabelledTree, forest_of};
-ghost use Rattle.document_store.specs.Laid.{laid, IsDocument};
+ghost use Rattle.document_store.specs.Laid.{bare_node, laid, IsDocument};
 ghost use Rattle.csv_wrap.specs.Csv.{Explains, IsAt, IsFile, without_marks};
-ghost use Rattle.csv_wrap.specs.Rows.{bare_node, file_tree};
+ghost use Rattle.csv_wrap.specs.Rows.{file_tree};
 
 use crate::CsvFault;
 use crate::marks::without_marks;

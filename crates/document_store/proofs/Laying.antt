@@ -4,7 +4,7 @@ use Rattle.mix_base.proofs.Lists.{append_nil}
 use Rattle.mix_tree.specs.Forest.{Forest, none, tree, LabelledTree, forest_of, alone, followed}
 use Rattle.mix_tree.specs.Weight.{nodes_of}
 use Rattle.mix_tree.proofs.Forests.{forest_of-append}
-use Rattle.document_store.specs.Laid.{LaidNode, laid}
+use Rattle.document_store.specs.Laid.{LaidNode, bare_node, laid, Closes}
 
 -- of two lists of trees, the nodes of the second come first
 pub laid-followed : (f g : Forest) → laid (followed f g) ≡ laid g ++ laid f
@@ -32,3 +32,13 @@ pub laid-alone : (label : List ℕ) (kids : Forest) (above : ℕ) (others : List
 laid-alone label kids above others e =
     let last : ℕ → List LaidNode → List LaidNode = λ n r. record { label = label; below = n } ∷ r in
     ap (λ n. laid kids ++ last n others) e ∙ sym (append_assoc (laid kids) (last (nodes_of kids) []) others)
+
+-- a node that is closed behind its children is a tree
+pub closes_tree : (old new others : List LaidNode) (place : ℕ) (label : List ℕ) (kids : Forest) → Closes old place new → old ≡ laid kids ++ bare_node label ∷ others → place ≡ length others
+    → new ≡ laid (alone (record { label = label; kids = kids })) ++ others
+closes_tree old new others place label kids c e p =
+    c (laid kids) others (bare_node label) e (sym p) ∙ laid-alone label kids (length (laid kids)) others (length-laid kids)
+
+-- a tree more behind others
+pub laid_more : (ts : List LabelledTree) (t : LabelledTree) (others : List LaidNode) → laid (alone t) ++ (laid (forest_of ts) ++ others) ≡ laid (forest_of (ts ++ t ∷ [])) ++ others
+laid_more ts t others = sym (append_assoc (laid (alone t)) (laid (forest_of ts)) others) ∙ ap (λ ns. ns ++ others) (sym (laid-last ts t))

@@ -10,6 +10,10 @@ pub record LaidNode : Type 0 where
   pub label : List ℕ
   pub below : ℕ
 
+-- a node below which nothing is known to be
+abbrev pub bare_node : List ℕ → LaidNode
+bare_node label = record { label = label; below = 0 }
+
 -- the nodes of a list of trees
 abbrev pub laid : Forest → List LaidNode
 laid none = []

@@ -1,7 +1,6 @@
 use Rattle.std.proofs.Common.{◌∷◌, ◌++◌, ◌∙◌, [], drop, slice_range, refl, sym, ap, arith}
 use Rattle.mix_base.proofs.Utf8.{one_utf8}
-use Rattle.document_store.specs.Laid.{longer}
-use Rattle.bracket_text.specs.ReaderState.{bare_node}
+use Rattle.document_store.specs.Laid.{bare_node, longer}
 use Rattle.bracket_text.proofs.reader.push_escaped.Goals as goal
 
 pub loop-to-init : goal.loop-to-init

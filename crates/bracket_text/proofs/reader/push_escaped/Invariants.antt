@@ -1,7 +1,7 @@
 use Rattle.std.proofs.Common.{◌≡◌, ◌∷◌, ◌≤◌, ◌-◌, [], List, ℕ, length, drop}
 use Rattle.std.specs.Str.{IsCharBoundary}
 use Rattle.mix_tree.specs.LabelMachine.{in_quotes, seen_from}
-use Rattle.bracket_text.specs.ReaderState.{bare_node}
+use Rattle.document_store.specs.Laid.{bare_node}
 use Rattle.bracket_text.proofs.reader.push_escaped.Given as goal
 
 abbrev pub invariant-loop-to : goal.invariant-loop-to

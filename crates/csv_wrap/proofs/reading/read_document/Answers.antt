@@ -4,7 +4,8 @@ use Rattle.std.proofs.lemmas.List.Elements.{All-append, All-nil}
 use Rattle.csv.specs.Reading.{reader_state}
 use Rattle.csv.specs.Records.{fields_of}
 use Rattle.csv_wrap.specs.Csv.{IsRow, file_records, without_marks}
-use Rattle.csv_wrap.specs.Rows.{bare_node, row_tree}
+use Rattle.document_store.specs.Laid.{bare_node}
+use Rattle.csv_wrap.specs.Rows.{row_tree}
 use Rattle.csv_wrap.proofs.FieldFacts.{one}
 use Rattle.csv_wrap.proofs.FrontFacts.{strip_none}
 use Rattle.csv_wrap.proofs.ReachFacts.{file_row}

@@ -1,8 +1,8 @@
 use Rattle.std.proofs.Common.{◌∙◌, ◌∷◌, ap}
 use Rattle.std.proofs.lemmas.Str.{IsUtf8-had}
 use Rattle.mix_tree.specs.Forest.{none, tree}
-use Rattle.csv_wrap.specs.Rows.{bare_node}
-use Rattle.csv_wrap.proofs.RowFacts.{closes_tree}
+use Rattle.document_store.specs.Laid.{bare_node}
+use Rattle.document_store.proofs.Laying.{closes_tree}
 use Rattle.csv_wrap.proofs.rows.put_cell.Goals as goal
 
 pub push-requires : goal.push-requires

@@ -2,9 +2,10 @@ use Rattle.std.proofs.Common.{◌∙◌, ◌++◌, sym, ap, refl, arith, add-one
 use Rattle.csv.specs.Records.{AllText, fields_of}
 use Rattle.mix_tree.specs.Forest.{alone}
 use Rattle.document_store.specs.Laid.{laid}
+use Rattle.document_store.proofs.Laying.{laid_more}
 use Rattle.csv_wrap.specs.Rows.{cell, cells}
 use Rattle.csv_wrap.proofs.FieldFacts.{column_at, field_get, no_field, take_field, text_at, text_more}
-use Rattle.csv_wrap.proofs.RowFacts.{cells_more, laid_more}
+use Rattle.csv_wrap.proofs.RowFacts.{cells_more}
 use Rattle.csv_wrap.proofs.rows.put_cells.Goals as goal
 
 pub columns-init : goal.columns-init
