@@ -6,7 +6,7 @@ ghost use Rattle.lazy_plan.specs.Parts.{shape_walked};
 ghost use Rattle.lazy_plan.specs.Steps.{CanWalk, StepsOn};
 
 use crate::fault::WalkFault;
-use crate::firsts::{first_of_key, seen_up_to};
+use crate::firsts::{KeyEvent, first_of_key, seen_up_to};
 use crate::parts::{Growing, Walk};
 use crate::position::{Position, inside, put};
 use crate::step::Step;
@@ -127,7 +127,13 @@ impl Firsts<'_> {
             Some(below) => {
                 let key = input.key_of(alloc, growing, &below, self.keys)?;
                 spots_are_one();
-                first_of_key(alloc, &mut growing.seen, self.walk.op, key, below, count)
+                first_of_key(
+                    alloc,
+                    &mut growing.seen,
+                    self.walk.op,
+                    KeyEvent { below, key },
+                    count,
+                )
             }
         }
     }
