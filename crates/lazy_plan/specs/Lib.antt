@@ -10,4 +10,5 @@ pub mod Parts
 pub mod Reading
 pub mod Steps
 pub mod Unders
+pub mod Visits
 pub mod World

@@ -1,0 +1,140 @@
+// One step over the events of an operator that passes on bindings of its input.
+ghost use Rattle.std.specs.Prelude.{◌≡◌, ℕ, Option};
+ghost use Rattle.plan_core.specs.declared.plan.Piece.{Piece};
+ghost use Rattle.plan_core.specs.Shapes.{filters, extends, first_by_keys, passes_on, Made};
+ghost use Rattle.lazy_plan.specs.Parts.{shape_walked};
+ghost use Rattle.lazy_plan.specs.Steps.{CanWalk, StepsOn};
+
+use crate::fault::WalkFault;
+use crate::firsts::{KeyEvent, first_of_key, seen_up_to};
+use crate::parts::{Growing, Walk};
+use crate::position::{Position, inside, put};
+use crate::step::Step;
+use lxp_core::Sources;
+use mix_tree::{Key, Test};
+use std::alloc::Global;
+use std::rc::Rc;
+use tree_buffer::spots_are_one;
+
+/// A select: its input, and the comparison that its bindings meet.
+#[derive(Clone, Copy)]
+pub(crate) struct Filters<'a> {
+    pub(crate) walk: Walk<'a>,
+    pub(crate) input: usize,
+    pub(crate) test: &'a Test,
+}
+
+impl Filters<'_> {
+    /// The input's next binding, where the comparison holds of it.
+    #[cycle(walk)]
+    pub(crate) fn step<S: Sources>(
+        &self,
+        alloc: Global,
+        growing: &mut Growing,
+        s: &mut S,
+        at: &Rc<Position>,
+    ) -> Result<Step, WalkFault>
+        requires can { CanWalk (S.view s.old) growing.old self.now.walk at.now.value }
+        requires is { shape_walked self.now.walk ≡ passes_on self.now.input (filters self.now.test.now) }
+        ensures { StepsOn S.view S.came_from self.now.walk at.now.value s.old growing.old s.new growing.new result }
+    {
+        let input = Walk {
+            fixed: self.walk.fixed,
+            op: self.input,
+        };
+        let before = inside(alloc, at)?;
+        match input.advance(alloc, growing, s, &before)? {
+            None => Ok(Step::Done),
+            Some(below) => {
+                let holds = input.passes(growing, &below, self.test);
+                let pass = put(alloc, Position::Pass(below))?;
+                if holds {
+                    Ok(Step::At(pass))
+                } else {
+                    Ok(Step::On(pass))
+                }
+            }
+        }
+    }
+}
+
+/// A concatenate or a createElement: its input.
+#[derive(Clone, Copy)]
+pub(crate) struct Extends<'a> {
+    pub(crate) walk: Walk<'a>,
+    pub(crate) input: usize,
+}
+
+impl Extends<'_> {
+    /// The input's next binding, with one variable more.
+    #[cycle(walk)]
+    pub(crate) fn step<S: Sources>(
+        &self,
+        alloc: Global,
+        growing: &mut Growing,
+        s: &mut S,
+        at: &Rc<Position>,
+    ) -> Result<Step, WalkFault>
+        requires can { CanWalk (S.view s.old) growing.old self.now.walk at.now.value }
+        requires is { (out : ℕ) × (made : Made) × (shape_walked self.now.walk ≡ passes_on self.now.input (extends out made)) }
+        ensures { StepsOn S.view S.came_from self.now.walk at.now.value s.old growing.old s.new growing.new result }
+    {
+        let input = Walk {
+            fixed: self.walk.fixed,
+            op: self.input,
+        };
+        let before = inside(alloc, at)?;
+        match input.advance(alloc, growing, s, &before)? {
+            None => Ok(Step::Done),
+            Some(below) => {
+                let pass = put(alloc, Position::Pass(below))?;
+                Ok(Step::At(pass))
+            }
+        }
+    }
+}
+
+/// A project, or a groupBy with keys: its input, and the keys by which it drops bindings that are the same.
+#[derive(Clone, Copy)]
+pub(crate) struct Firsts<'a> {
+    pub(crate) walk: Walk<'a>,
+    pub(crate) input: usize,
+    pub(crate) keys: &'a [Key],
+}
+
+impl Firsts<'_> {
+    /// The input's next binding, a binding where its keys were not seen up to here.
+    #[cycle(walk)]
+    pub(crate) fn step<S: Sources>(
+        &self,
+        alloc: Global,
+        growing: &mut Growing,
+        s: &mut S,
+        at: &Rc<Position>,
+    ) -> Result<Step, WalkFault>
+        requires can { CanWalk (S.view s.old) growing.old self.now.walk at.now.value }
+        requires is { (group : Option (Piece × ℕ)) × (shape_walked self.now.walk ≡ passes_on self.now.input (first_by_keys self.now.keys.now group)) }
+        ensures { StepsOn S.view S.came_from self.now.walk at.now.value s.old growing.old s.new growing.new result }
+    {
+        let input = Walk {
+            fixed: self.walk.fixed,
+            op: self.input,
+        };
+        let before = inside(alloc, at)?;
+        let count = seen_up_to(at);
+        match input.advance(alloc, growing, s, &before)? {
+            None => Ok(Step::Done),
+            Some(below) => {
+                let key = input.key_of(alloc, growing, &below, self.keys)?;
+                spots_are_one();
+                first_of_key(
+                    alloc,
+                    &mut growing.seen,
+                    self.walk.op,
+                    KeyEvent { below, key },
+                    count,
+                )
+            }
+        }
+    }
+}
