@@ -1,6 +1,7 @@
 -- What files and a sink in memory mean.
 use Rattle.std.specs.Prelude.{ℕ, ◌+◌, ◌-◌, ◌^◌, ◌==◌, min, Bool, List, Option, Some, None, if◌then◌else◌, string_bytes}
-use Rattle.std.specs.List.{find, list_any}
+use Rattle.std.proofs.Common.{get_or}
+use Rattle.std.specs.List.{find, position, position_or_len, list_any}
 use Rattle.std.specs.Option.{option_map}
 use Rattle.std.specs.Str.{bytes_eq}
 use Rattle.std.specs.Ordering.{nat_cmp}
@@ -10,13 +11,25 @@ use Rattle.mix_io.specs.declared.mem_files.MemFiles.{MemFiles}
 use Rattle.mix_io.specs.declared.mem_sink.MemSink.{MemSink}
 use Rattle.mix_io.specs.Views.{FilesView, SinkView}
 
+-- whether a file has the path
+abbrev pub is_at : List ℕ → MemFile → Bool
+is_at path file = bytes_eq (string_bytes file.path) path
+
 -- the contents at a path: those of the first file of that path
 abbrev pub contents_at : List MemFile → List ℕ → Option (List ℕ)
-contents_at files path = option_map (λ file. file.bytes.items) (find (λ file. bytes_eq (string_bytes file.path) path) files)
+contents_at files path = option_map (λ file. file.bytes.items) (find (is_at path) files)
+
+-- the furthest end at a path, where each file has one: that of the first file of the path, and none without a file
+abbrev pub end_at : List MemFile → List ℕ → List ℕ → ℕ
+end_at files ends path = get_or ends (position_or_len (is_at path) files) 0
 
 -- whether the call of a number, counted from 1, is to fail
 abbrev pub fails_at : MemFiles → ℕ → Bool
 fails_at m call = contains nat_cmp m.failing call
+
+-- the index of the file that the call of a number reads: none where it is to fail, or no file has the path
+abbrev pub index_at_call : MemFiles → ℕ → List ℕ → Option ℕ
+index_at_call m call path = if fails_at m call then None else position (is_at path) m.files.items
 
 -- what the call of a number reads: nothing where it is to fail, else the contents at the path
 abbrev pub contents_at_call : MemFiles → ℕ → List ℕ → Option (List ℕ)
@@ -34,9 +47,9 @@ next_read m = min (reads_of m + 1) (2 ^ 64 - 1)
 abbrev pub next_contents : MemFiles → List ℕ → Option (List ℕ)
 next_contents m path = contents_at_call m (next_read m) path
 
--- they tell their contents, and count for all paths together
+-- they tell their contents, count faults for all paths together, and know the furthest end of each path
 abbrev pub mem_files_view : MemFiles → FilesView
-mem_files_view m = record { told = contents_at m.files.items; faults = λ _. m.faults; furthest = λ _. m.furthest }
+mem_files_view m = record { told = contents_at m.files.items; faults = λ _. m.faults; furthest = end_at m.files.items m.ends.items }
 
 -- it tells what was written
 abbrev pub mem_sink_view : MemSink → SinkView

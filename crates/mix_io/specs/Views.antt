@@ -16,6 +16,10 @@ pub record KeepsFiles (new old : FilesView) : Type 0 where
   pub faults : (path : List ℕ) → old.faults path ≤ new.faults path
   pub furthest : (path : List ℕ) → old.furthest path ≤ new.furthest path
 
+-- of no path but this one was more read than before
+abbrev pub ReadsOnly : List ℕ → FilesView → FilesView → Type 0
+ReadsOnly path new old = (other : List ℕ) → ¬ (other ≡ path) → new.furthest other ≡ old.furthest other
+
 -- files that tell these contents, of which nothing was read yet
 abbrev pub unread : (List ℕ → Option (List ℕ)) → FilesView
 unread told = record { told = told; faults = λ _. 0; furthest = λ _. 0 }

@@ -2,9 +2,10 @@
 ghost use Rattle.std.specs.Prelude.{◌≡◌, ◌+◌, ◌^◌, ◌<◌, ◌≤◌, List, ℕ, length, IfOk, OnOk, OnErr, IfSome, IsErrOf};
 ghost use Rattle.mix_base.specs.Counts.{HasRisen};
 ghost use Rattle.mix_io.specs.Contents.{GivesFrom, end_after};
-ghost use Rattle.mix_io.specs.Views.{FilesView, KeepsFiles};
+ghost use Rattle.mix_io.specs.Views.{FilesView, KeepsFiles, ReadsOnly};
+ghost use Rattle.mix_io.specs.declared.files.ReadAtFault.TheVariants.{OutOfMemory};
 
-use std::alloc::Global;
+use std::alloc::{AllocError, AllocFailed, Global};
 use thiserror::Error;
 
 /// Why a read was refused.
@@ -15,6 +16,22 @@ pub enum ReadAtFault {
     Failed,
     #[error("memory ran out")]
     OutOfMemory,
+}
+
+impl From<AllocFailed<(String, u64)>> for ReadAtFault {
+    ghost from_gives = { λ _ fault. fault ≡ OutOfMemory };
+
+    fn from(_: AllocFailed<(String, u64)>) -> Self {
+        ReadAtFault::OutOfMemory
+    }
+}
+
+impl From<AllocError> for ReadAtFault {
+    ghost from_gives = { λ _ fault. fault ≡ OutOfMemory };
+
+    fn from(_: AllocError) -> Self {
+        ReadAtFault::OutOfMemory
+    }
 }
 
 /// Files by their paths. No call changes what they contain.
@@ -38,7 +55,8 @@ pub trait Files {
         ensures failed { IsErrOf result ReadAtFault.Failed → HasRisen ((view self.old).faults path.now) ((view self.new).faults path.now) }
         ensures steady { OnOk result ((p : List ℕ) → (view self.new).faults p ≡ (view self.old).faults p) }
         ensures end { IfOk result (λ count. (view self.new).furthest path.now ≡ end_after ((view self.old).furthest path.now) from count) }
-        ensures end_err { OnErr result ((view self.new).furthest path.now ≡ (view self.old).furthest path.now) };
+        ensures end_err { OnErr result ((view self.new).furthest path.now ≡ (view self.old).furthest path.now) }
+        ensures others { ReadsOnly path.now (view self.new) (view self.old) };
 }
 
 /// The furthest end after a read of `count` bytes at an offset.

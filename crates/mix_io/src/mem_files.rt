@@ -1,8 +1,6 @@
 // Files in memory, which fail at the reads that a list names.
-ghost use Rattle.std.specs.Prelude.{◌≡◌, ◌≤◌, ◌↔◌, ℕ, length, IsTrue, Contains, IfOk, option_copied};
+ghost use Rattle.std.specs.Prelude.{◌≡◌, ◌≤◌, ◌↔◌, ℕ, length, IsTrue, Contains, IfOk};
 ghost use Rattle.mix_io.specs.Contents.{GivesFrom};
-ghost use Rattle.mix_io.specs.Memory.{contents_at, contents_at_call, fails_at, mem_files_view};
-ghost use Rattle.mix_io.specs.Views.{unread};
 
 use crate::files::furthest_after;
 use crate::{Files, ReadAtFault};
@@ -24,10 +22,16 @@ pub struct MemFiles {
     failing: BTreeSet<u64>,
     calls: u64,
     faults: u64,
-    furthest: u64,
+    // The furthest end of each file.
+    ends: Vec<u64>,
+    ghost one_each: { length ends.items ≡ length files.items },
 }
 
 impl MemFiles {
+    ghost use Rattle.mix_io.specs.Memory.{contents_at, fails_at, index_at_call, is_at, mem_files_view};
+    ghost use Rattle.std.specs.List.{position};
+    ghost use Rattle.mix_io.specs.Views.{unread};
+
     /// Files that fail at the reads of these numbers, counted from 1.
     pub fn new(
         alloc: Global,
@@ -37,32 +41,32 @@ impl MemFiles {
         ensures view { IfOk result (λ m. mem_files_view m ≡ unread (contents_at files.items)) }
         ensures failing { IfOk result (λ m. (call : ℕ) → IsTrue (fails_at m call) ↔ Contains failing.items call) }
     {
+        let ends = vec![in alloc; 0; files.len()]?;
         Ok(MemFiles {
             files,
             failing: failing.into_iter().collect(alloc)?,
             calls: 0,
             faults: 0,
-            furthest: 0,
+            ends,
         })
     }
 
-    // What the call of a number reads: nothing where it is to fail, or no file has the path.
-    fn bytes_at_call(&self, call: u64, path: &str) -> Option<&[u8]>
-        ensures { option_copied result ≡ contents_at_call self.now call path.now }
+    // The file that the call of a number reads: none where it is to fail, or no file has the path.
+    fn index_at_call(&self, call: u64, path: &str) -> Option<usize>
+        ensures { result ≡ index_at_call self.now call path.now }
     {
         if self.failing.contains(&call) {
             return None;
         }
-        bytes_at(&self.files, path)
+        MemFiles::index_of(&self.files, path)
     }
-}
 
-// The bytes of the first file of a path.
-fn bytes_at<'a>(files: &'a [MemFile], path: &str) -> Option<&'a [u8]>
-    ensures { option_copied result ≡ contents_at files.now path.now }
-{
-    let file = files.iter().find(|file| file.path.as_str() == path)?;
-    Some(&file.bytes)
+    // The first file of a path.
+    fn index_of(files: &[MemFile], path: &str) -> Option<usize>
+        ensures { result ≡ position (is_at path.now) files.now }
+    {
+        files.iter().position(|file| file.path.as_str() == path)
+    }
 }
 
 // Copies the bytes from an offset on, as many as there is room for.
@@ -84,7 +88,7 @@ impl Files for MemFiles {
     ghost use Rattle.mix_base.specs.Counts.{HasRisen};
     ghost use Rattle.mix_io.specs.Contents.{GivesFrom, end_after};
     ghost use Rattle.mix_io.specs.Memory.{mem_files_view, reads_of, next_read, next_contents, fails_at};
-    ghost use Rattle.mix_io.specs.Views.{KeepsFiles};
+    ghost use Rattle.mix_io.specs.Views.{KeepsFiles, ReadsOnly};
 
     ghost view = { mem_files_view };
 
@@ -102,6 +106,7 @@ impl Files for MemFiles {
         ensures steady { OnOk result ((p : List ℕ) → (mem_files_view self.new).faults p ≡ (mem_files_view self.old).faults p) }
         ensures end { IfOk result (λ count. (mem_files_view self.new).furthest path.now ≡ end_after ((mem_files_view self.old).furthest path.now) from count) }
         ensures end_err { OnErr result ((mem_files_view self.new).furthest path.now ≡ (mem_files_view self.old).furthest path.now) }
+        ensures others { ReadsOnly path.now (mem_files_view self.new) (mem_files_view self.old) }
         // Which reads fail: those that the list names, and those of a path without a file.
         ensures named { OnErr result (next_contents self.old path.now ≡ None) }
         ensures fails { next_contents self.old path.now ≡ None → IsErrOf result ReadAtFault.Failed }
@@ -109,12 +114,12 @@ impl Files for MemFiles {
         ensures list { (call : ℕ) → fails_at self.new call ≡ fails_at self.old call }
     {
         self.calls = self.calls.saturating_add(1);
-        let Some(bytes) = self.bytes_at_call(self.calls, path) else {
+        let Some(index) = self.index_at_call(self.calls, path) else {
             self.faults = self.faults.saturating_add(1);
             return Err(ReadAtFault::Failed);
         };
-        let count = copy_from(bytes, from, room);
-        self.furthest = furthest_after(self.furthest, from, count);
+        let count = copy_from(&self.files[index].bytes, from, room);
+        self.ends[index] = furthest_after(self.ends[index], from, count);
         Ok(count)
     }
 }

@@ -1,11 +1,13 @@
 // The files of the system.
-ghost use Rattle.std.specs.Prelude.{◌≡◌, ◌≤◌, length, None, IfOk};
+ghost use Rattle.std.specs.Prelude.{◌≡◌, ◌≤◌, length, None, IfOk, OnOk, OnErr, Err};
 ghost use Rattle.mix_io.specs.System.{os_files_view};
-ghost use Rattle.mix_io.specs.Views.{unread};
+ghost use Rattle.mix_io.specs.Views.{ReadsOnly, unread};
+ghost use Rattle.mix_io.specs.declared.files.ReadAtFault.TheVariants.{OutOfMemory};
 
 use crate::files::furthest_after;
 use crate::{Files, ReadAtFault};
 use std::alloc::Global;
+use std::collections::BTreeMap;
 use std::fs::File;
 use std::io;
 use std::io::ErrorKind;
@@ -16,7 +18,8 @@ use std::os::unix::fs::FileExt;
 pub struct OsFiles {
     rt: HostRuntime,
     faults: u64,
-    furthest: u64,
+    // The furthest end of what was read, of each path that was read.
+    ends: BTreeMap<String, u64>,
 }
 
 impl OsFiles {
@@ -24,11 +27,32 @@ impl OsFiles {
     pub fn new(rt: HostRuntime) -> OsFiles
         ensures { os_files_view result ≡ unread (λ _. None) }
     {
+        let ends = BTreeMap::new(rt.alloc());
         OsFiles {
             rt,
             faults: 0,
-            furthest: 0,
+            ends,
         }
+    }
+
+    // How far a path was read.
+    fn end_of(&self, path: &str) -> u64
+        ensures { result ≡ (os_files_view self.now).furthest path.now }
+    {
+        self.ends.get(path).copied().unwrap_or(0)
+    }
+
+    // Lets a path be read as far as an end; all else stays.
+    fn set_end(&mut self, alloc: Global, path: &str, end: u64) -> Result<(), ReadAtFault>
+        ensures ok { OnOk result ((os_files_view self.new).furthest path.now ≡ end) }
+        ensures err { OnErr result (os_files_view self.new ≡ os_files_view self.old) }
+        ensures memory { OnErr result (result ≡ Err OutOfMemory) }
+        ensures faults { self.new.faults ≡ self.old.faults }
+        ensures others { ReadsOnly path.now (os_files_view self.new) (os_files_view self.old) }
+    {
+        let path = String::from_str(alloc, path)?;
+        self.ends.insert(path, end)?;
+        Ok(())
     }
 }
 
@@ -53,7 +77,7 @@ impl Files for OsFiles {
     /// Refuses an offset so far that the end of `room` would stand at 2^64 or behind it.
     fn read_at(
         &mut self,
-        _alloc: Global,
+        alloc: Global,
         path: &str,
         from: u64,
         room: &mut [u8],
@@ -63,7 +87,7 @@ impl Files for OsFiles {
         } else {
             match read_once(&self.rt, path, from, room) {
                 Ok(count) => {
-                    self.furthest = furthest_after(self.furthest, from, count);
+                    self.set_end(alloc, path, furthest_after(self.end_of(path), from, count))?;
                     return Ok(count);
                 }
                 Err(error) => read_fault(&error),

@@ -5,7 +5,7 @@ use Rattle.mix_tree.specs.Nodes.{Documents, Node, same_node, label_at}
 use Rattle.mix_tree.specs.LabelOrder.{compares}
 use Rattle.mix_tree.specs.Comparisons.{operand_label, compares_nodes, is_same, passes}
 use Rattle.mix_tree.specs.declared.comparing.Operand.{Operand}
-use Rattle.mix_tree.specs.declared.comparing.Operand.TheVariants.{Var as var_operand, Text as text_operand}
+use Rattle.mix_tree.specs.declared.comparing.Operand.TheVariants.{Var as var_operand}
 use Rattle.mix_tree.specs.declared.comparing.Test.{Test}
 use Rattle.mix_tree.specs.declared.comparing.TestOp.{TestOp}
 use Rattle.mix_tree.specs.declared.comparing.TestOp.TheVariants.{Eq, Ne, Lt, Le, Gt, Ge, Same}

@@ -2,7 +2,7 @@
 use Rattle.std.specs.Prelude.{◌≡◌, ℕ, ◌+◌, ◌≤◌, ◌<◌, cond, Option, Some, None, List, [], ◌∷◌, ◌++◌, length, drop, slice_range}
 use Rattle.std.specs.Str.{IsUtf8, IsCharBoundary}
 use Rattle.mix_tree.specs.LabelGrammar.{is_escape, escaped_byte}
-use Rattle.mix_tree.specs.LabelMachine.{start, in_quotes, seen_from, Seen, got, unexpected, ends}
+use Rattle.mix_tree.specs.LabelMachine.{start, in_quotes, seen_from, got, unexpected, ends}
 use Rattle.mix_tree.specs.declared.label_scan.PlainLabel.{PlainLabel}
 use Rattle.mix_tree.specs.declared.label_piece.LabelPiece.{LabelPiece}
 use Rattle.mix_tree.specs.declared.label_piece.LabelPiece.TheVariants.{Escape, Quote, Unexpected, Ends}

@@ -38,20 +38,10 @@ pub fn item_collects(force: &[Key], own: &[Key]) -> bool
     !all_stand(force, own)
 }
 
-fn same_keys(key: &Key, other: &Key) -> bool
-    ensures { result ≡ key_eq key.now other.now }
-{
-    match (key, other) {
-        (Key::Node(w), Key::Node(v)) => *w == *v,
-        (Key::LabelOf(w), Key::LabelOf(v)) => *w == *v,
-        _ => false,
-    }
-}
-
 fn is_among(key: &Key, keys: &[Key]) -> bool
     ensures { result ≡ list_any (key_eq key.now) keys.now }
 {
-    keys.iter().any(|f| same_keys(key, f))
+    keys.iter().any(|f| key == f)
 }
 
 fn add_key(keys: &mut Vec<Key>, key: &Key) -> Result<(), AllocError>

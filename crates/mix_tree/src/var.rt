@@ -41,3 +41,16 @@ pub enum Key {
     Node(Var),
     LabelOf(Var),
 }
+
+impl Key {
+    ghost use Rattle.mix_tree.specs.Keys.{key_var};
+
+    /// The variable.
+    pub fn var(self) -> Var
+        ensures { result ≡ key_var self }
+    {
+        match self {
+            Key::Node(v) | Key::LabelOf(v) => v,
+        }
+    }
+}

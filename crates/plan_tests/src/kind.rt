@@ -1,6 +1,6 @@
 // Whether a variable holds a node, by the operators of a plan.
 ghost use Rattle.std.specs.Prelude.{◌≡◌, ◌<◌, length};
-ghost use Rattle.mix_tree.specs.Keys.{has_var, key_var};
+ghost use Rattle.mix_tree.specs.Keys.{has_var};
 ghost use Rattle.plan_core.specs.PlanMade.{plan_value, op_of};
 ghost use Rattle.plan_core.specs.ByNumber.{op_at};
 ghost use Rattle.plan_core.specs.Typed.{IsTyped};
@@ -22,17 +22,7 @@ pub enum Held {
 fn names_var(keys: &[Key], v: Var) -> bool
     ensures { result ≡ has_var keys.now v }
 {
-    keys.iter().any(|key| var_of(*key) == v)
-}
-
-// The variable of a key.
-fn var_of(key: Key) -> Var
-    ensures { result ≡ key_var key }
-{
-    match key {
-        Key::Node(v) => v,
-        Key::LabelOf(v) => v,
-    }
+    keys.iter().any(|key| key.var() == v)
 }
 
 // The operator of a number.

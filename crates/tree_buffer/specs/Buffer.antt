@@ -73,6 +73,10 @@ HasAllChildren b x = rest_of b x ≡ nil
 abbrev pub HasAllSiblings : Buffer → Spot → Type 0
 HasAllSiblings b x = (u : Spot) (k : ℕ) → IsSpot b u → IsChildSpot b u k x → HasAllChildren b u
 
+-- of the spots that there were, only wanted ones have another list of further children
+abbrev pub ChangesOnly : (Spot → Type 0) → Buffer → Buffer → Type 0
+ChangesOnly Wanted b b' = (x : Spot) → IsSpot b x → ¬ Wanted x → rest_of b' x ≡ rest_of b x
+
 -- what a view means is the sources of a buffer: its source is there and knows its holes, and where the source is told,
 -- what the buffer holds closes to the document
 pub record IsSourcesOf (v : View) (b : Buffer) : Type 0 where

@@ -1,7 +1,7 @@
 -- The nodes that a buffer handed out, in the order in which it did, as lists side by side.
 use Rattle.std.specs.Prelude.{◌≡◌, ℕ, ◌+◌, ◌<◌, ◌≤◌, List, [], ◌∷◌, ◌++◌, length}
 use Rattle.std.proofs.Common.{get_or}
-use Rattle.lxp_core.specs.Open.{Open}
+use Rattle.lxp_core.specs.Open.{Open, nil}
 
 -- the nodes; the first one is the document node
 pub record Nodes : Type 0 where
@@ -68,3 +68,7 @@ pub record IsLinked (ls : List (ℕ × ℕ)) (cs fs ns : List ℕ) : Type 0 wher
   pub right : (i : ℕ) → 0 < i → i < length ls → index ls i + 1 < get_or cs (parent ls i) 0 → IsChild ls (parent ls i) (index ls i + 1) (get_or ns i 0)
   pub stands : (i : ℕ) → 0 < i → i < length ls → place ls i ≡ place ls (parent ls i) ++ index ls i ∷ []
   pub distinct : (i j : ℕ) → i < length ls → j < length ls → place ls i ≡ place ls j → i ≡ j
+
+-- each node but q has the list that it had
+abbrev pub KeepsLists : ℕ → Nodes → Nodes → Type 0
+KeepsLists q m m' = (i : ℕ) → i < length m.links → ¬ (i ≡ q) → get_or m'.rests i nil ≡ get_or m.rests i nil

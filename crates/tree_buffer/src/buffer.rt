@@ -27,7 +27,7 @@ impl Buffer {
     ghost use Rattle.tree_buffer.specs.declared.buffer.Buffer.{Buffer};
     ghost use Rattle.tree_buffer.specs.declared.spot.Spot.{Spot};
     ghost use Rattle.tree_buffer.specs.Document.{document_node, has_next};
-    ghost use Rattle.tree_buffer.specs.Buffer.{IsSpot, number_of, place_of, label_of, rest_of, below, after, trees_from, IsChildSpot, IsNextSpot, HasAllChildren, HasAllSiblings, IsSourcesOf, Ran};
+    ghost use Rattle.tree_buffer.specs.Buffer.{IsSpot, number_of, place_of, label_of, rest_of, below, after, trees_from, IsChildSpot, IsNextSpot, HasAllChildren, HasAllSiblings, ChangesOnly, IsSourcesOf, Ran};
 
     /// A buffer of one source, of which nothing was asked yet. No fill is asked.
     pub fn open<S: Sources>(alloc: Global, s: &S, number: u32) -> Result<Buffer, AllocError>
@@ -123,6 +123,7 @@ impl Buffer {
         ensures lazy { (S.view s.old).forward (number_of self.old) ≡ true → (S.view s.new).fills ≤ (S.view s.old).fills + 1 }
         ensures known { (c : Spot) → IsChildSpot self.old p.now 0 c → s.new ≡ s.old }
         ensures whole { begins_with_hole (rest_of self.old p.now) ≡ false → s.new ≡ s.old }
+        ensures only { ChangesOnly (λ q. place_of self.old q ≡ place_of self.old p.now) self.old self.new }
         ensures none { IfOk result (λ r. is_some r ≡ false → HasAllChildren self.new p.now) }
         ensures again { HasAllChildren self.old p.now → s.new ≡ s.old }
         // The cause.
@@ -164,6 +165,7 @@ impl Buffer {
         ensures whole { (q : Spot) (k : ℕ) → IsSpot self.old q → IsChildSpot self.old q k p.now
             → begins_with_hole (rest_of self.old q) ≡ false → s.new ≡ s.old }
         ensures top { place_of self.old p.now ≡ [] → s.new ≡ s.old }
+        ensures only { ChangesOnly (λ q. (k : ℕ) × IsChildSpot self.old q k p.now) self.old self.new }
         ensures none { IfOk result (λ r. is_some r ≡ false → HasAllSiblings self.new p.now) }
         ensures again { HasAllSiblings self.old p.now → s.new ≡ s.old }
         // The cause.

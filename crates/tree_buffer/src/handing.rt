@@ -14,7 +14,7 @@ impl Buffer {
     ghost use Rattle.mix_base.specs.Counts.{HasRisen};
     ghost use Rattle.lxp_core.specs.Open.{nil, begins_with_hole};
     ghost use Rattle.lxp_core.specs.View.{View};
-    ghost use Rattle.tree_buffer.specs.Nodes.{IsChild, IsLast};
+    ghost use Rattle.tree_buffer.specs.Nodes.{IsChild, IsLast, KeepsLists};
     ghost use Rattle.tree_buffer.specs.Buffer.{nodes_of, IsSourcesOf};
     ghost use Rattle.tree_buffer.specs.Advance.{Advances, Advanced};
 
@@ -30,6 +30,7 @@ impl Buffer {
         ensures advanced { Advanced S.view S.came_from s.old self.old s.new self.new }
         ensures links { (nodes_of self.new).links ≡ (nodes_of self.old).links }
         ensures counts { (nodes_of self.new).counts ≡ (nodes_of self.old).counts }
+        ensures others { KeepsLists q (nodes_of self.old) (nodes_of self.new) }
         ensures settled { OnOk result (begins_with_hole (get_or (nodes_of self.new).rests q nil) ≡ false) }
         ensures lazy { (S.view s.old).forward self.old.number ≡ true → (S.view s.new).fills ≤ (S.view s.old).fills + 1 }
         ensures whole { begins_with_hole (get_or (nodes_of self.old).rests q nil) ≡ false → s.new ≡ s.old }
@@ -49,6 +50,7 @@ impl Buffer {
         ensures advances { (v : View) → IsSourcesOf v self.old → Advances v self.old v self.new }
         ensures child { IfOk result (λ r. MatchOption r (get_or (nodes_of self.old).rests q nil ≡ nil)
             (λ c. IsChild (nodes_of self.new).links q (get_or (nodes_of self.old).counts q 0) c.number)) }
+        ensures others { KeepsLists q (nodes_of self.old) (nodes_of self.new) }
         ensures none { IfOk result (λ r. is_some r ≡ false → self.new ≡ self.old) }
     {
         if self.entries[q].rest.is_empty() {

@@ -24,6 +24,7 @@ reads-preserved g c =
     let longer : vec_len more ≡ len + count = search rules in
     record {
       keeps = keeps_files_twice _ _ _ held.keeps c.read_at.ensures.keeps;
+      others = λ other apart. c.read_at.ensures.others other apart ∙ held.others other apart;
       steady = λ p. c.in_ok-count.ensures.steady p ∙ held.steady p;
       front = subst (λ n. IfSome told (IsFront more.items n)) (sym longer) (front_more told _ _ _ _ _ held.front given grown);
       short = search rules;

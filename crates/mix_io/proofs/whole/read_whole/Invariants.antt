@@ -1,5 +1,5 @@
 use Rattle.std.proofs.Common.{◌≡◌, ◌-◌, ◌≤◌, ℕ, List, vec_len, IfSome}
-use Rattle.mix_io.specs.Views.{KeepsFiles}
+use Rattle.mix_io.specs.Views.{KeepsFiles, ReadsOnly}
 use Rattle.mix_io.proofs.Fronts.{IsFront}
 use Rattle.mix_io.proofs.whole.read_whole.Given as goal
 
@@ -8,6 +8,7 @@ invariant-reads g l =
     let view = g.F.Files.view in
     record {
       keeps : KeepsFiles (view l.files) (view l.fn.files);
+      others : ReadsOnly l.fn.path (view l.files) (view l.fn.files);
       steady : (p : List ℕ) → (view l.files).faults p ≡ (view l.fn.files).faults p;
       front : IfSome ((view l.fn.files).told l.fn.path) (IsFront l.bytes.items (vec_len l.bytes));
       short : vec_len l.bytes ≤ 67108864;

@@ -1,8 +1,9 @@
-use Rattle.std.proofs.Common.{◌≡◌, Some, get_or, refl, sym, ap, ◌∙◌, arith}
+use Rattle.std.proofs.Common.{◌≡◌, ℕ, List, length, Some, get_or, refl, sym, ap, ◌∙◌, arith}
 use Rattle.lxp_core.specs.View.{Keeps}
+use Rattle.tree_buffer.specs.declared.buffer.Buffer.{Buffer}
 use Rattle.tree_buffer.specs.declared.spot.Spot.{Spot}
-use Rattle.tree_buffer.specs.Nodes.{IsChild}
-use Rattle.tree_buffer.specs.Buffer.{nodes_of, IsSourcesOf, IsChildSpot}
+use Rattle.tree_buffer.specs.Nodes.{IsChild, KeepsLists}
+use Rattle.tree_buffer.specs.Buffer.{nodes_of, place_of, IsSourcesOf, IsChildSpot, ChangesOnly}
 use Rattle.tree_buffer.specs.Advance.{Advances}
 use Rattle.tree_buffer.proofs.Spots.{is_some_from, if_some_from, child_place, child_lighter, child_told, first_child, count_read, child_at, child_counted}
 use Rattle.tree_buffer.proofs.Calls.{advances_twice, ran_from}
@@ -109,3 +110,22 @@ returns-in_err-hand_out-clause-known g c = λ x h.
 
 pub returns-clause-known : goal.returns-clause-known
 returns-clause-known g c = λ x h. let d = (goal.at.returns-clause-known g c).Else-entry-gt0 in absurd (not_known g d x h)
+
+-- the call leaves each other list as it was
+only : (b mid now : Buffer) (p : Spot) → (nodes_of mid).links ≡ (nodes_of b).links → KeepsLists p.number (nodes_of b) (nodes_of mid) → KeepsLists p.number (nodes_of mid) (nodes_of now)
+    → ChangesOnly (λ q. place_of b q ≡ place_of b p) b now
+only b mid now p links first second = λ x spot other.
+    let apart : ¬ (x.number ≡ p.number) = λ e. other (ap (λ i. place_of b (record { number = i })) e) in
+    second x.number (omega (arith, spot, ap (λ (ls : List (ℕ × ℕ)). length ls) links)) apart ∙ first x.number spot apart
+
+pub returns-in_err-settle_at-clause-only : goal.returns-in_err-settle_at-clause-only
+returns-in_err-settle_at-clause-only g c =
+    only c.args.self.now c.settle_at.new.self c.settle_at.new.self c.args.p.now c.settle_at.ensures.links c.settle_at.ensures.others (λ i known other. refl)
+
+pub returns-in_err-hand_out-clause-only : goal.returns-in_err-hand_out-clause-only
+returns-in_err-hand_out-clause-only g c =
+    only c.args.self.now c.settle_at.new.self c.hand_out.new.self c.args.p.now c.settle_at.ensures.links c.settle_at.ensures.others c.hand_out.ensures.others
+
+pub returns-clause-only : goal.returns-clause-only
+returns-clause-only g c =
+    only c.args.self.now c.settle_at.new.self c.hand_out.new.self c.args.p.now c.settle_at.ensures.links c.settle_at.ensures.others c.hand_out.ensures.others

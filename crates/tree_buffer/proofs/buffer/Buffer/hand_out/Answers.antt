@@ -1,10 +1,10 @@
 use Rattle.std.proofs.Common.{◌≡◌, ◌⊎◌, inl, inr, List, ◌+◌, ◌<◌, [], length, get_or, set, refl, subst, sym, ap, ◌∙◌, arith}
 use Rattle.std.proofs.lemmas.Bool.{cases_eq}
-use Rattle.std.proofs.lemmas.List.{length-map}
+use Rattle.std.proofs.lemmas.List.{get_or_append_left, get_or-set_other, length-map, length-set}
 use Rattle.lxp_core.specs.Open.{nil, node, weight_of}
 use Rattle.lxp_core.specs.Plain.{stacked}
 use Rattle.lxp_core.specs.View.{View}
-use Rattle.tree_buffer.specs.Nodes.{Nodes, IsChild, IsLinked, IsLast}
+use Rattle.tree_buffer.specs.Nodes.{Nodes, IsChild, IsLinked, IsLast, KeepsLists}
 use Rattle.tree_buffer.specs.Sourced.{Sourced, Moved}
 use Rattle.tree_buffer.specs.Entries.{nodes, list_of, entry_label}
 use Rattle.tree_buffer.specs.declared.entry.Entry.{Entry}
@@ -111,6 +111,17 @@ module _ (c : After-index_mut-last) where
       rw (new, ← c.reserve.ensures.items)
       (child_new (nodes c.reserve.new.self.items) linked c.args.q c.new_or-first.result c.new_or-before.result c.pop_tree-label.result.0 (stacked c.pop_tree-label.result.1.items nil) (stacked c.pop_tree-label.new.stack.items nil) in_nodes)
 
+  others_after : KeepsLists c.args.q (nodes c.args.self.now.entries.items) after
+  unfolding after
+  others_after = λ i known other.
+      let m = nodes c.reserve.new.self.items in
+      let left = stacked c.pop_tree-label.new.stack.items nil in
+      let was = c.args.self.now.entries.items in
+      let inside : i < length (set m.rests c.args.q left) =
+      omega (arith, known, length-set m.rests c.args.q left, length-map c.reserve.new.self.items list_of, length-links was, ap (λ (xs : List Entry). length xs) c.reserve.ensures.items) in
+      get_or_append_left (set m.rests c.args.q left) _ nil i inside ∙ get_or-set_other m.rests c.args.q i left nil other
+      ∙ ap (λ (xs : List Entry). get_or (nodes xs).rests i nil) c.reserve.ensures.items
+
 pub invariant_of-self-2 : goal.invariant_of-self-2
 invariant_of-self-2 c =
     let d = (goal.at.invariant_of-self-2 c).After-index_mut-last in
@@ -130,3 +141,11 @@ pub returns-clause-child : goal.returns-clause-child
 returns-clause-child c =
     let d = (goal.at.returns-clause-child c).After-index_mut-last in
     subst (λ (m : Nodes). IsChild m.links c.args.q (get_or (nodes c.args.self.now.entries.items).counts c.args.q 0) c.len-new.result) (sym (made d)) (child_after d)
+
+pub returns-in_err-reserve-clause-others : goal.returns-in_err-reserve-clause-others
+returns-in_err-reserve-clause-others c = λ i known other. ap (λ xs. get_or (nodes xs).rests i nil) c.reserve.ensures.items
+
+pub returns-clause-others : goal.returns-clause-others
+returns-clause-others c = λ i known other.
+    let d = (goal.at.returns-clause-others c).After-index_mut-last in
+    ap (λ (m : Nodes). get_or m.rests i nil) (made d) ∙ others_after d i known other

@@ -1,10 +1,12 @@
-use Rattle.std.proofs.Common.{◌≡◌, ℕ, ◌+◌, ◌<◌, ◌≤◌, ◌∷◌, [], ◌++◌, Some, false, length, get_or, refl, sym, ap, ◌∙◌, arith}
+use Rattle.std.proofs.Common.{◌≡◌, ℕ, List, ◌+◌, ◌<◌, ◌≤◌, ◌∷◌, [], ◌++◌, Some, false, length, get_or, refl, sym, ap, ◌∙◌, arith}
 use Rattle.mix_tree.specs.Place.{next_place}
 use Rattle.lxp_core.specs.View.{Keeps}
 use Rattle.lxp_core.specs.Open.{nil, begins_with_hole}
+use Rattle.tree_buffer.specs.declared.buffer.Buffer.{Buffer}
 use Rattle.tree_buffer.specs.declared.spot.Spot.{Spot}
-use Rattle.tree_buffer.specs.Nodes.{place, IsChild}
-use Rattle.tree_buffer.specs.Buffer.{nodes_of, weigh, below, after as after_spot, IsSpot, place_of, IsChildSpot, IsNextSpot, HasAllSiblings, IsSourcesOf}
+use Rattle.tree_buffer.specs.Entries.{nodes}
+use Rattle.tree_buffer.specs.Nodes.{place, IsChild, KeepsLists}
+use Rattle.tree_buffer.specs.Buffer.{nodes_of, weigh, below, after as after_spot, IsSpot, place_of, IsChildSpot, IsNextSpot, HasAllSiblings, ChangesOnly, IsSourcesOf}
 use Rattle.tree_buffer.specs.Advance.{Advances}
 use Rattle.tree_buffer.proofs.Entries.{length-links}
 use Rattle.tree_buffer.proofs.Spots.{is_some_from, if_some_from, child_place, child_lighter, child_told, next_child, count_read, up, next_is, right_is, after_is, index_in, own_place, is_last, link_read, child_at, child_counted}
@@ -233,3 +235,30 @@ returns-in_err-hand_out-clause-again g c = λ all. let d = (goal.at.returns-in_e
 
 pub returns-clause-again : goal.returns-clause-again
 returns-clause-again g c = λ all. let d = (goal.at.returns-clause-again g c).Else-entry-index in c.settle_at.ensures.whole (none_left g d all)
+
+-- the call leaves each list but that of the parent as it was
+only : (g : _) (c : Else-entry-index g) (mid now : Buffer) → (nodes_of mid).links ≡ (nodes_of c.args.self.now).links
+    → KeepsLists c.index-entry.result.now.parent (nodes_of c.args.self.now) (nodes_of mid) → KeepsLists c.index-entry.result.now.parent (nodes_of mid) (nodes_of now)
+    → ChangesOnly (λ q. (k : ℕ) × IsChildSpot c.args.self.now q k c.args.p.now) c.args.self.now now
+only g c mid now links first second = λ x spot other.
+    let es = c.args.self.now.entries.items in
+    let e = c.index-entry.result.now in
+    let at = own_place es c.args.p.now.number e c.args.self.now.linked (some _ c.if-p-eq0.false) c.requires.spot c.index-entry.ensures in
+    let apart : ¬ (x.number ≡ e.parent) = λ same.
+    other (e.index, record { spot = c.requires.spot; place = at ∙ ap (λ i. place (nodes es).links i ++ e.index ∷ []) (sym same) }) in
+    second x.number (omega (arith, spot, ap (λ (ls : List (ℕ × ℕ)). length ls) links)) apart ∙ first x.number spot apart
+
+pub returns-in_err-settle_at-clause-only : goal.returns-in_err-settle_at-clause-only
+returns-in_err-settle_at-clause-only g c =
+    let d = (goal.at.returns-in_err-settle_at-clause-only g c).Else-entry-index in
+    only g d c.settle_at.new.self c.settle_at.new.self c.settle_at.ensures.links c.settle_at.ensures.others (λ i known other. refl)
+
+pub returns-in_err-hand_out-clause-only : goal.returns-in_err-hand_out-clause-only
+returns-in_err-hand_out-clause-only g c =
+    let d = (goal.at.returns-in_err-hand_out-clause-only g c).Else-entry-index in
+    only g d c.settle_at.new.self c.hand_out.new.self c.settle_at.ensures.links c.settle_at.ensures.others c.hand_out.ensures.others
+
+pub returns-clause-only : goal.returns-clause-only
+returns-clause-only g c =
+    let d = (goal.at.returns-clause-only g c).Else-entry-index in
+    only g d c.settle_at.new.self c.hand_out.new.self c.settle_at.ensures.links c.settle_at.ensures.others c.hand_out.ensures.others

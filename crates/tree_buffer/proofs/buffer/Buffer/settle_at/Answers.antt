@@ -1,5 +1,5 @@
 use Rattle.std.proofs.Common.{◌≡◌, ◌<◌, [], length, get_or, refl, subst, sym, ap, ◌∙◌, arith}
-use Rattle.std.proofs.lemmas.List.{length-set}
+use Rattle.std.proofs.lemmas.List.{get_or-set_other, length-set}
 use Rattle.std.proofs.lemmas.Result.{on_ok_weaker}
 use Rattle.lxp_core.specs.Open.{nil, weight_of, begins_with_hole}
 use Rattle.tree_buffer.specs.Nodes.{Nodes, IsLinked}
@@ -81,3 +81,9 @@ pub returns-clause-counts : goal.returns-clause-counts
 returns-clause-counts g c =
     let es = c.args.self.now.entries.items in
     ap (λ (m : Nodes). m.counts) (nodes-set es c.args.q c.index_mut-entry.result.now _ (within es c.args.q c.requires.spot) c.index_mut-entry.ensures.value refl refl refl refl refl refl)
+
+pub returns-clause-others : goal.returns-clause-others
+returns-clause-others g c = λ i known other.
+    let es = c.args.self.now.entries.items in
+    ap (λ (m : Nodes). get_or m.rests i nil) (nodes-set es c.args.q c.index_mut-entry.result.now _ (within es c.args.q c.requires.spot) c.index_mut-entry.ensures.value refl refl refl refl refl refl)
+    ∙ get_or-set_other (nodes es).rests c.args.q i _ nil other
