@@ -1,12 +1,13 @@
 -- The machine reads each text of the grammar as the tree that it spells.
 use Rattle.std.proofs.Common.{◌≡◌, inl, inr, ◌∙◌, ℕ, IsTrue, List, [], ◌∷◌, ◌++◌, Option, Some, refl, sym, ap, append_assoc, option_and_then}
 use Rattle.std.specs.List.{list_all}
+use Rattle.mix_base.proofs.Runs.{run_then, run_byte}
 use Rattle.mix_base.proofs.Lists.{append_nil}
 use Rattle.mix_base.proofs.Choices.{and_parts, some_is}
 use Rattle.mix_tree.specs.Forest.{Forest, none, tree, LabelledTree, forest_of}
 use Rattle.bracket_text.specs.Grammar.{is_blank, IsBlanks, SpellsBrackets, SpellsRest, SpellsTrees, Spells, SpellsAtMostOne}
-use Rattle.bracket_text.specs.Machine.{Frame, Mode, start, first, named, closed, State, at, leaf, after_label, run, tree_in, whole, empty, tree_of}
-use Rattle.bracket_text.proofs.Runs.{blank_not_bare, run_then, run_byte, start_blanks, first_blanks, IsNamed, named_by, named_hand, tree_blanks, tree_comma, tree_close, MayBegin, NamedBehind, whole_label}
+use Rattle.bracket_text.specs.Machine.{Frame, Mode, start, first, named, closed, State, at, leaf, after_label, run, tree_in, whole, empty, tree_of, step}
+use Rattle.bracket_text.proofs.Runs.{blank_not_bare, start_blanks, first_blanks, IsNamed, named_by, named_hand, tree_blanks, tree_comma, tree_close, MayBegin, NamedBehind, whole_label}
 
 -- the trees of a forest in a list
 abbrev pub trees_of : Forest → List LabelledTree
@@ -53,21 +54,21 @@ name_blanks [] o m l n h = (m, refl, n)
 name_blanks (b ∷ a) o m l n h =
     let parts = and_parts (is_blank b) (list_all is_blank a) h in
     let more = name_blanks a o (named l) l refl parts.1 in
-    (more.0, run_byte b a (at o m) (at o (named l)) (named_by o m l b n (blank_not_bare b parts.0) ∙ blank_label o l b parts.0) ∙ more.1, more.2)
+    (more.0, run_byte step b a (at o m) (at o (named l)) (named_by o m l b n (blank_not_bare b parts.0) ∙ blank_label o l b parts.0) ∙ more.1, more.2)
 
 -- a label, blanks, the opening bracket and blanks
 opened : (l a b : List ℕ) (o : List Frame) (m : Mode) → IsNamed m l → IsBlanks a → IsBlanks b → run (at o m) (a ++ 91 ∷ b) ≡ Some (at (record { label = l; kids = [] } ∷ o) first)
 opened l a b o m n ha hb =
     let blanks = name_blanks a o m l n ha in
-    run_then a (91 ∷ b) (at o m) (at o blanks.0) blanks.1
-    ∙ run_byte 91 b (at o blanks.0) (at (record { label = l; kids = [] } ∷ o) first) (named_by o blanks.0 l 91 blanks.2 refl) ∙ first_blanks b _ hb
+    run_then step a (91 ∷ b) (at o m) (at o blanks.0) blanks.1
+    ∙ run_byte step 91 b (at o blanks.0) (at (record { label = l; kids = [] } ∷ o) first) (named_by o blanks.0 l 91 blanks.2 refl) ∙ first_blanks b _ hb
 
 -- blanks and the closing bracket behind the trees below
 closes : (l c : List ℕ) (k : Forest) (o : List Frame) (s : State) → IsBlanks c → Behind (record { label = l; kids = [] }) o (trees_of k) s → run s (c ++ 93 ∷ []) ≡ Some (at o (closed (record { label = l; kids = k })))
 closes l c k o s hc h =
     let f : Frame = with_kids (record { label = l; kids = [] }) h.before in
     let blanks = tree_blanks c (f ∷ o) h.mode h.last h.hand hc in
-    ap (λ u. run u (c ++ 93 ∷ [])) h.is ∙ run_then c (93 ∷ []) (at (f ∷ o) h.mode) (at (f ∷ o) blanks.0) blanks.1
+    ap (λ u. run u (c ++ 93 ∷ [])) h.is ∙ run_then step c (93 ∷ []) (at (f ∷ o) h.mode) (at (f ∷ o) blanks.0) blanks.1
     ∙ ap (option_and_then (λ u. run u [])) (tree_close f o blanks.0 h.last blanks.2)
     ∙ ap (λ ts. Some (at o (closed (record { label = l; kids = forest_of ts })))) (sym h.all)
     ∙ ap (λ g. Some (at o (closed (record { label = l; kids = g })))) (forest_of-trees_of k)
@@ -77,13 +78,13 @@ brackets_read : (l : List ℕ) (k : Forest) (x : List ℕ) (o : List Frame) (m :
     → TreeBehind o (record { label = l; kids = k }) (run (at o m) x)
 brackets_read l none x o m n reads (inl e) = (m, ap (run (at o m)) e, named_hand m l n)
 brackets_read l none x o m n reads (inr (a, b, ha, hb, e)) =
-    (closed (leaf l), ap (run (at o m)) e ∙ run_then (a ++ 91 ∷ b) (93 ∷ []) (at o m) _ (opened l a b o m n ha hb), refl)
+    (closed (leaf l), ap (run (at o m)) e ∙ run_then step (a ++ 91 ∷ b) (93 ∷ []) (at o m) _ (opened l a b o m n ha hb), refl)
 brackets_read l (tree l' k' n') x o m n reads (a, b, y, c, ha, hb, hc, hy, e) =
     let inner = reads y hy (record { label = l; kids = [] }) o first tt in
     let regrouped : a ++ 91 ∷ b ++ y ++ c ++ 93 ∷ [] ≡ (a ++ 91 ∷ b) ++ (y ++ (c ++ 93 ∷ [])) = append_assoc ((a ++ 91 ∷ b) ++ y) c (93 ∷ []) ∙ append_assoc (a ++ 91 ∷ b) y (c ++ 93 ∷ []) in (
       closed (record { label = l; kids = tree l' k' n' }),
-      ap (run (at o m)) (e ∙ regrouped) ∙ run_then (a ++ 91 ∷ b) (y ++ (c ++ 93 ∷ [])) (at o m) _ (opened l a b o m n ha hb)
-          ∙ run_then y (c ++ 93 ∷ []) _ inner.0 inner.1 ∙ closes l c (tree l' k' n') o inner.0 hc inner.2,
+      ap (run (at o m)) (e ∙ regrouped) ∙ run_then step (a ++ 91 ∷ b) (y ++ (c ++ 93 ∷ [])) (at o m) _ (opened l a b o m n ha hb)
+          ∙ run_then step y (c ++ 93 ∷ []) _ inner.0 inner.1 ∙ closes l c (tree l' k' n') o inner.0 hc inner.2,
       refl,
     )
 
@@ -97,9 +98,9 @@ rest_read f o m t (tree l' k' n') x reads (a, b, y, ha, hb, hy, e) h =
     let g : Frame = record { label = f.label; kids = (f.kids ++ []) ++ t ∷ [] } in
     let inner = reads y hy g o start tt in
     let comma : run (at (with_kids f [] ∷ o) m) (a ++ 44 ∷ b) ≡ Some (at (g ∷ o) start) =
-    run_then a (44 ∷ b) _ (at (with_kids f [] ∷ o) blanks.0) blanks.1 ∙ ap (option_and_then (λ s. run s b)) (tree_comma (with_kids f []) o blanks.0 t blanks.2) ∙ start_blanks b (g ∷ o) hb in (
+    run_then step a (44 ∷ b) _ (at (with_kids f [] ∷ o) blanks.0) blanks.1 ∙ ap (option_and_then (λ s. run s b)) (tree_comma (with_kids f []) o blanks.0 t blanks.2) ∙ start_blanks b (g ∷ o) hb in (
       inner.0,
-      ap (run (at (with_kids f [] ∷ o) m)) (e ∙ refl) ∙ run_then (a ++ 44 ∷ b) y _ _ comma ∙ inner.1,
+      ap (run (at (with_kids f [] ∷ o) m)) (e ∙ refl) ∙ run_then step (a ++ 44 ∷ b) y _ _ comma ∙ inner.1,
       record {
         before = t ∷ inner.2.before;
         last = inner.2.last;
@@ -118,7 +119,7 @@ trees_read (tree l k n) x (w, y, z, hl, hk, hn, e) f o m b =
     let below = brackets_read l k y (f ∷ o) label.0 label.2 (trees_read k) hk in
     let same : at (f ∷ o) below.0 ≡ at (with_kids f [] ∷ o) below.0 = ap (λ ts. at (record { label = f.label; kids = ts } ∷ o) below.0) (sym (append_nil f.kids)) in
     let after = rest_read f o below.0 (record { label = l; kids = k }) n z (trees_read n) hn below.2 in
-    (after.0, ap (run (at (f ∷ o) m)) (e ∙ append_assoc w y z) ∙ run_then w (y ++ z) _ _ label.1 ∙ run_then y z _ _ (below.1 ∙ ap Some same) ∙ after.1, after.2)
+    (after.0, ap (run (at (f ∷ o) m)) (e ∙ append_assoc w y z) ∙ run_then step w (y ++ z) _ _ label.1 ∙ run_then step y z _ _ (below.1 ∙ ap Some same) ∙ after.1, after.2)
 
 -- each text of the grammar is read
 pub spelled_read : (x : List ℕ) (t : LabelledTree) → Spells x t → tree_of x ≡ Some t
@@ -126,10 +127,10 @@ spelled_read x t (a, y, b, ha, hb, (w, z, v, hl, hk, hn, ey), e) =
     let label = whole_label [] start w t.label tt hl in
     let below = brackets_read t.label t.kids z [] label.0 label.2 (trees_read t.kids) hk in
     let one : run empty y ≡ Some (at [] below.0) =
-    ap (run empty) (ey ∙ ap (λ r. w ++ z ++ r) hn ∙ append_nil (w ++ z)) ∙ run_then w z _ _ label.1 ∙ below.1 in
+    ap (run empty) (ey ∙ ap (λ r. w ++ z ++ r) hn ∙ append_nil (w ++ z)) ∙ run_then step w z _ _ label.1 ∙ below.1 in
     let blanks = tree_blanks b [] below.0 t below.2 hb in
     ap (λ r. option_and_then whole (run empty r)) (e ∙ append_assoc a y b)
-    ∙ ap (option_and_then whole) (run_then a (y ++ b) _ _ (start_blanks a [] ha) ∙ run_then y b _ _ one ∙ blanks.1) ∙ blanks.2
+    ∙ ap (option_and_then whole) (run_then step a (y ++ b) _ _ (start_blanks a [] ha) ∙ run_then step y b _ _ one ∙ blanks.1) ∙ blanks.2
 
 -- no text spells two trees
 pub one_spelled : SpellsAtMostOne

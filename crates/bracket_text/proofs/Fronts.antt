@@ -2,6 +2,7 @@
 use Rattle.std.proofs.Common.{◌≡◌, ◌<◌, ◌≤◌, ◌∙◌, ℕ, List, [], ◌∷◌, ◌++◌, Option, Some, None, refl, sym, ap, subst, arith, append_assoc, option_and_then}
 use Rattle.std.specs.Str.{IsUtf8}
 use Rattle.std.proofs.lemmas.Str.{IsUtf8-nil, IsUtf8-append}
+use Rattle.mix_base.proofs.Runs.{run_append, run_then, run_byte}
 use Rattle.mix_base.specs.Reading.{IsFront}
 use Rattle.mix_base.proofs.Utf8.{one_utf8}
 use Rattle.mix_base.proofs.Choices.{none_some}
@@ -10,7 +11,7 @@ use Rattle.mix_tree.specs.LabelMachine as spelled
 use Rattle.mix_tree.proofs.LabelAnswers as labels
 use Rattle.bracket_text.specs.Grammar.{Spells, SpellsShallow, levels}
 use Rattle.bracket_text.specs.Machine.{Frame, Mode, start, first, spelling, named, closed, State, at, leaf, step, run, tree_in, whole, empty}
-use Rattle.bracket_text.proofs.Runs.{run_append, run_then, run_byte, label_run, named_hand, tree_close}
+use Rattle.bracket_text.proofs.Runs.{label_run, named_hand, tree_close}
 use Rattle.bracket_text.proofs.Sound.{read_spelled}
 use Rattle.bracket_text.proofs.Complete.{spelled_read}
 use Rattle.bracket_text.proofs.Levels.{reached, close_levels, hand_levels, run_levels, whole_levels}
@@ -29,13 +30,13 @@ text_on x s t u e k h = record {
   bytes = x ++ h.bytes;
   utf8 = IsUtf8-append x h.bytes u h.utf8;
   tree = h.tree;
-  read = ap (option_and_then whole) (run_then x h.bytes s t e) ∙ h.read;
+  read = ap (option_and_then whole) (run_then step x h.bytes s t e) ∙ h.read;
   shallow = λ d. h.shallow (k d);
 }
 
 -- the same of one byte
 byte_on : (b : ℕ) (s t : State) → b < 128 → step s b ≡ Some t → (reached s ≤ 200 → reached t ≤ 200) → GoesOn t → GoesOn s
-byte_on b s t low e k h = text_on (b ∷ []) s t (one_utf8 b low) (run_byte b [] s t e) k h
+byte_on b s t low e k h = text_on (b ∷ []) s t (one_utf8 b low) (run_byte step b [] s t e) k h
 
 -- the open brackets are closed one by one
 hand_on : (o : List Frame) (m : Mode) (t : LabelledTree) → tree_in m ≡ Some t → GoesOn (at o m)
@@ -67,18 +68,18 @@ goes_on o (closed t) = hand_on o (closed t) t refl
 pub run_front : (x : List ℕ) (s : State) → IsUtf8 x → run empty x ≡ Some s → IsFront Spells x
 run_front x s u e =
     let on = goes_on s.open' s.mode in
-    (on.bytes, on.tree, IsUtf8-append x on.bytes u on.utf8, read_spelled (x ++ on.bytes) on.tree (ap (option_and_then whole) (run_then x on.bytes empty s e) ∙ on.read))
+    (on.bytes, on.tree, IsUtf8-append x on.bytes u on.utf8, read_spelled (x ++ on.bytes) on.tree (ap (option_and_then whole) (run_then step x on.bytes empty s e) ∙ on.read))
 
 -- a front of a tree that is not too deep, where no level was
 pub shallow_front : (x : List ℕ) (s : State) → IsUtf8 x → run empty x ≡ Some s → reached s ≤ 200 → IsFront SpellsShallow x
 shallow_front x s u e d =
     let on = goes_on s.open' s.mode in
-    (on.bytes, on.tree, IsUtf8-append x on.bytes u on.utf8, (read_spelled (x ++ on.bytes) on.tree (ap (option_and_then whole) (run_then x on.bytes empty s e) ∙ on.read), on.shallow d))
+    (on.bytes, on.tree, IsUtf8-append x on.bytes u on.utf8, (read_spelled (x ++ on.bytes) on.tree (ap (option_and_then whole) (run_then step x on.bytes empty s e) ∙ on.read), on.shallow d))
 
 -- where a run has stopped, the text is no front
 pub stopped_front : (x : List ℕ) → run empty x ≡ None → IsFront Spells x → ⊥
 stopped_front x e (y, t, u, h) =
-    none_some t (sym (ap (option_and_then whole) (run_append x y empty ∙ ap (option_and_then (λ s. run s y)) e)) ∙ spelled_read (x ++ y) t h)
+    none_some t (sym (ap (option_and_then whole) (run_append step x y empty ∙ ap (option_and_then (λ s. run s y)) e)) ∙ spelled_read (x ++ y) t h)
 
 -- a tree read from a state on has at least its levels
 deep_tree : (r : Option State) (s : State) (t : LabelledTree) → option_and_then whole r ≡ Some t → ((u : State) → r ≡ Some u → reached s ≤ reached u) → reached s ≤ levels t
@@ -88,7 +89,7 @@ deep_tree (Some u) s t e k = omega (arith, k u refl, whole_levels u t e)
 -- where too deep a tree was read, no other goes on
 pub deep_front : (x : List ℕ) (s : State) → run empty x ≡ Some s → 200 < reached s → IsFront SpellsShallow x → ⊥
 deep_front x s e d (y, t, u, h) =
-    let read : option_and_then whole (run s y) ≡ Some t = sym (ap (option_and_then whole) (run_then x y empty s e)) ∙ spelled_read (x ++ y) t h.0 in
+    let read : option_and_then whole (run s y) ≡ Some t = sym (ap (option_and_then whole) (run_then step x y empty s e)) ∙ spelled_read (x ++ y) t h.0 in
     let least = deep_tree (run s y) s t read (λ v f. run_levels y s v f) in
     absurd (omega (arith, least, h.1))
 

@@ -2,6 +2,7 @@
 use Rattle.std.proofs.Common.{◌≡◌, ◌∙◌, ◌==◌, ◌||◌, ℕ, Bool, true, false, cond, IsTrue, List, [], ◌∷◌, ◌++◌, Option, Some, None, arith, refl, ap, option_and_then, option_map}
 use Rattle.std.proofs.lemmas.Bool.Decides.{nat_tests}
 use Rattle.std.specs.List.{list_all}
+use Rattle.mix_base.proofs.Runs.{run_byte}
 use Rattle.mix_base.proofs.Choices.{and_parts, some_is, none_some}
 use Rattle.mix_tree.specs.Forest.{LabelledTree, forest_of}
 use Rattle.mix_tree.specs.Spelling.{is_bare}
@@ -10,25 +11,6 @@ use Rattle.mix_tree.specs.LabelMachine as spelled
 use Rattle.mix_tree.proofs.LabelComplete as labels
 use Rattle.bracket_text.specs.Grammar.{is_blank, IsBlanks}
 use Rattle.bracket_text.specs.Machine.{Frame, Mode, start, first, spelling, named, closed, State, at, leaf, after_label, after_tree_in, or_other, begin, behind, begins, step_in, step, run, tree_in}
-
--- a run over two parts, behind a first byte
-behind_run : (x y : List ℕ) → ((t : State) → run t (x ++ y) ≡ option_and_then (λ u. run u y) (run t x)) → (o : Option State)
-    → option_and_then (λ t. run t (x ++ y)) o ≡ option_and_then (λ t. run t y) (option_and_then (λ t. run t x) o)
-behind_run x y h None = refl
-behind_run x y h (Some t) = h t
-
--- a run over two parts
-pub run_append : (x y : List ℕ) (s : State) → run s (x ++ y) ≡ option_and_then (λ t. run t y) (run s x)
-run_append [] y s = refl
-run_append (b ∷ x) y s = behind_run x y (λ t. run_append x y t) (step s b)
-
--- a run over a second part
-pub run_then : (x y : List ℕ) (s t : State) → run s x ≡ Some t → run s (x ++ y) ≡ run t y
-run_then x y s t e = run_append x y s ∙ ap (option_and_then (λ u. run u y)) e
-
--- a run over one byte and the rest
-pub run_byte : (b : ℕ) (y : List ℕ) (s t : State) → step s b ≡ Some t → run s (b ∷ y) ≡ run t y
-run_byte b y s t e = ap (option_and_then (λ u. run u y)) e
 
 -- no blank is a byte of a bare label
 pub blank_not_bare : (b : ℕ) → IsTrue (is_blank b) → is_bare b ≡ false
@@ -122,7 +104,7 @@ tree_blanks (b ∷ a) o m t e h =
     let parts = and_parts (is_blank b) (list_all is_blank a) h in
     let one = tree_blank o m t b e parts.0 in
     let more = tree_blanks a o one.0 t one.2 parts.1 in
-    (more.0, run_byte b a (at o m) (at o one.0) one.1 ∙ more.1, more.2)
+    (more.0, run_byte step b a (at o m) (at o one.0) one.1 ∙ more.1, more.2)
 
 -- a comma and a closing bracket behind a tree
 pub tree_comma : (f : Frame) (o : List Frame) (m : Mode) (t : LabelledTree) → tree_in m ≡ Some t → step_in (f ∷ o) m 44 ≡ Some (at (record { label = f.label; kids = f.kids ++ t ∷ [] } ∷ o) start)
@@ -141,7 +123,7 @@ tree_close f o m t e = hand_cases m t e
 label_more : (o : List Frame) (s t : spelled.Spot) (b : ℕ) (x : List ℕ) (r : Option spelled.Spot) → spelled.step s b ≡ r → option_and_then (λ u. spelled.run u x) r ≡ Some t
     → ((u : spelled.Spot) → spelled.run u x ≡ Some t → run (at o (spelling u)) x ≡ Some (at o (spelling t))) → run (at o (spelling s)) (b ∷ x) ≡ Some (at o (spelling t))
 label_more o s t b x None f e k = none_some t e
-label_more o s t b x (Some u) f e k = run_byte b x (at o (spelling s)) (at o (spelling u)) (ap (or_other o (behind o (spelled.label_in s) b)) f) ∙ k u e
+label_more o s t b x (Some u) f e k = run_byte step b x (at o (spelling s)) (at o (spelling u)) (ap (or_other o (behind o (spelled.label_in s) b)) f) ∙ k u e
 
 -- the bytes of a label
 pub label_run : (x : List ℕ) (o : List Frame) (s t : spelled.Spot) → spelled.run s x ≡ Some t → run (at o (spelling s)) x ≡ Some (at o (spelling t))
@@ -174,7 +156,7 @@ first_byte : (o : List Frame) (m : Mode) (l x : List ℕ) (b : ℕ) (s : spelled
 first_byte o m l x b s None h f e k = none_some s e
 first_byte o m l x b s (Some u) h f e k = (
   spelling s,
-  run_byte b x (at o m) (at o (spelling u)) (begin_step o m b h (spelling_begins b u f) ∙ ap (or_other o None) f) ∙ label_run x o u s e,
+  run_byte step b x (at o m) (at o (spelling u)) (begin_step o m b h (spelling_begins b u f) ∙ ap (or_other o None) f) ∙ label_run x o u s e,
   k,
 )
 

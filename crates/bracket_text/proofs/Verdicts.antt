@@ -4,6 +4,7 @@ use Rattle.std.proofs.lemmas.Bool.Decides.{nat_tests}
 use Rattle.std.specs.List.{list_all}
 use Rattle.std.specs.Str.{IsUtf8}
 use Rattle.std.proofs.lemmas.Str.{IsUtf8-nil}
+use Rattle.mix_base.proofs.Runs.{run_then, run_byte}
 use Rattle.mix_base.specs.Reading.{IsFront}
 use Rattle.mix_base.proofs.Lists.{append_nil, front_is, front_with}
 use Rattle.mix_base.proofs.Choices.{and_parts, and_both, number_is, some_is, none_some, Gives, either}
@@ -19,7 +20,7 @@ use Rattle.bracket_text.specs.Results.{Refuses, Answers, IsTree}
 use Rattle.bracket_text.specs.ReaderState.{GivesFault, GivesVerdict}
 use Rattle.bracket_text.specs.declared.fault.BracketFault.{BracketFault}
 use Rattle.bracket_text.specs.declared.fault.BracketFault.TheVariants.{NotUtf8, Unexpected, TooDeep, Ends, OutOfMemory}
-use Rattle.bracket_text.proofs.Runs.{run_then, run_byte, label_run, MayBegin, begin_step}
+use Rattle.bracket_text.proofs.Runs.{label_run, MayBegin, begin_step}
 use Rattle.bracket_text.proofs.Sound.{read_spelled}
 use Rattle.bracket_text.proofs.Complete.{spelled_read, one_spelled}
 use Rattle.bracket_text.proofs.Levels.{reached, stepped, whole_levels}
@@ -175,7 +176,7 @@ read_more x p y s t i b h e n = record {
   utf8 = h.utf8;
   parts = h.parts ∙ sym (append_assoc p (b ∷ []) y);
   place = omega (arith, h.place, length-append p (b ∷ []));
-  runs = run_then p (b ∷ []) empty s h.runs ∙ run_byte b [] s t e;
+  runs = run_then step p (b ∷ []) empty s h.runs ∙ run_byte step b [] s t e;
   levels = (stepped s t b e).shallow n h.levels;
   bound = bound_more x p y s t i b h e;
 }
@@ -217,7 +218,7 @@ said_at_end x p s i r h e =
 said_unexpected : (x p y : List ℕ) (s : State) (i b : ℕ) → Read x p (b ∷ y) s i → step s b ≡ None → Refuses x (Unexpected i)
 said_unexpected x p y s i b h e =
     let u : IsUtf8 p = before_stop x p y s i b h (λ k high. mode_goes s.open' s.mode b k high e) in
-    let stops : run empty (p ++ b ∷ []) ≡ None = run_then p (b ∷ []) empty s h.runs ∙ ap (option_and_then (λ t. run t [])) e in (
+    let stops : run empty (p ++ b ∷ []) ≡ None = run_then step p (b ∷ []) empty s h.runs ∙ ap (option_and_then (λ t. run t [])) e in (
       h.utf8,
       subst (IsFront SpellsShallow) (sym (up_to x p y s i b h)) (shallow_front p s u h.runs h.levels),
       record {
@@ -298,15 +299,15 @@ high_on x p y s i b h k high =
     let first_spot : State = at s.open' (spelling (spelled.in_bare (b ∷ []))) in
     let last_spot : State = at s.open' (spelling (spelled.in_bare (b ∷ r.high))) in
     let one : run empty (p ++ b ∷ []) ≡ Some first_spot =
-    run_then p (b ∷ []) empty s h.runs ∙ run_byte b [] s (at s.open' (spelling k.spot)) k.is ∙ ap (λ q. Some (at s.open' (spelling q))) (k.bare high) in
+    run_then step p (b ∷ []) empty s h.runs ∙ run_byte step b [] s (at s.open' (spelling k.spot)) k.is ∙ ap (λ q. Some (at s.open' (spelling q))) (k.bare high) in
     let more : run first_spot r.high ≡ Some last_spot = label_run r.high s.open' (spelled.in_bare (b ∷ [])) (spelled.in_bare (b ∷ r.high)) (bare_goes_on (b ∷ []) r.high r.bare) in
-    shorter_front (p ++ b ∷ []) r.high (run_front z last_spot u (run_then (p ++ b ∷ []) r.high empty first_spot one ∙ more))
+    shorter_front (p ++ b ∷ []) r.high (run_front z last_spot u (run_then step (p ++ b ∷ []) r.high empty first_spot one ∙ more))
 
 -- a tree goes on from a label's first byte that is ASCII
 low_on : (x p y : List ℕ) (s : State) (i b : ℕ) → Read x p (b ∷ y) s i → (k : Begun s.open' s.mode b) → b < 128 → IsFront Spells (p ++ b ∷ [])
 low_on x p y s i b h k low =
     let u : IsUtf8 p = (utf8_split p y b low (subst IsUtf8 h.parts h.utf8)).0 in
-    run_front (p ++ b ∷ []) (at s.open' (spelling k.spot)) (utf8_push p b low u) (run_then p (b ∷ []) empty s h.runs ∙ run_byte b [] s (at s.open' (spelling k.spot)) k.is)
+    run_front (p ++ b ∷ []) (at s.open' (spelling k.spot)) (utf8_push p b low u) (run_then step p (b ∷ []) empty s h.runs ∙ run_byte step b [] s (at s.open' (spelling k.spot)) k.is)
 
 -- what is said at a label that lies too deep
 said_too_deep : (x p y : List ℕ) (s : State) (i b : ℕ) → Read x p (b ∷ y) s i → is_deep s b ≡ true → Refuses x (TooDeep i)
@@ -314,7 +315,7 @@ said_too_deep x p y s i b h e =
     let u : IsUtf8 p = before_stop x p y s i b h (λ k high. mode_not_deep s.open' s.mode b k e) in
     let k = begun s.open' s.mode b e in
     let t : State = at s.open' (spelling k.spot) in
-    let goes : run empty (p ++ b ∷ []) ≡ Some t = run_then p (b ∷ []) empty s h.runs ∙ run_byte b [] s t k.is in
+    let goes : run empty (p ++ b ∷ []) ≡ Some t = run_then step p (b ∷ []) empty s h.runs ∙ run_byte step b [] s t k.is in
     let on : IsFront Spells (p ++ b ∷ []) = elim (low_or_high b) [ inl low ↦ low_on x p y s i b h k low | inr high ↦ high_on x p y s i b h k high ] in (
       h.utf8,
       record {

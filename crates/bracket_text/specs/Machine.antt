@@ -1,5 +1,6 @@
 -- A machine that reads bracket text byte by byte.
 use Rattle.std.specs.Prelude.{ℕ, ◌+◌, Bool, false, cond, ◌==◌, ◌||◌, ◌&&◌, nat_le, List, [], ◌∷◌, ◌++◌, length, Option, Some, None, option_map, option_and_then}
+use Rattle.mix_base.specs.Runs.{run_by}
 use Rattle.mix_tree.specs.Forest.{none, LabelledTree, forest_of}
 use Rattle.mix_tree.specs.Spelling.{is_bare}
 use Rattle.mix_tree.specs.LabelMachine as spelled
@@ -82,8 +83,7 @@ step s b = step_in s.open' s.mode b
 
 -- some bytes more
 abbrev pub run : State → List ℕ → Option State
-run s [] = Some s
-run s (b ∷ bs) = option_and_then (λ next. run next bs) (step s b)
+run = run_by step
 
 -- the tree at hand, where one may end there
 abbrev pub tree_in : Mode → Option LabelledTree

@@ -4,6 +4,7 @@ pub mod EventLaws
 pub mod Firsts
 pub mod Lists
 pub mod Risen
+pub mod Runs
 pub mod Seen
 pub mod Slices
 pub mod Utf8

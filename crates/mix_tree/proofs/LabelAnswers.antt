@@ -3,6 +3,7 @@ use Rattle.std.proofs.Common.{◌≡◌, inl, inr, ◌<◌, ◌≤◌, ◌+◌, 
 use Rattle.std.proofs.lemmas.List.{drop_more}
 use Rattle.std.proofs.lemmas.Str.{IsUtf8-nil, IsUtf8-drop, IsUtf8-append, IsUtf8-between, IsCharBoundary-start, IsCharBoundary-from_drop}
 use Rattle.std.specs.Str.{IsUtf8, IsCharBoundary}
+use Rattle.mix_base.proofs.Runs.{run_then, run_byte}
 use Rattle.mix_base.specs.Reading.{IsFront}
 use Rattle.mix_base.proofs.Lists.{append_nil, take_whole, take_append, front_cases, front_is, front_with}
 use Rattle.mix_base.proofs.Choices.{some_is, none_some, Gives}
@@ -14,7 +15,7 @@ use Rattle.mix_tree.specs.LabelReads.{SpellsNowhere, IsLongest, IsNoLabel, IsCut
 use Rattle.mix_tree.specs.declared.label_read.LabelRead.{LabelRead}
 use Rattle.mix_tree.specs.declared.label_read.LabelRead.TheVariants.{Got, Unexpected, Ends}
 use Rattle.mix_tree.proofs.LabelSound.{Writes, run_writes, label_spelled}
-use Rattle.mix_tree.proofs.LabelComplete.{run_then, run_byte, spelled_reads, run_may_end}
+use Rattle.mix_tree.proofs.LabelComplete.{spelled_reads, run_may_end}
 use Rattle.mix_tree.proofs.LabelTaken.{not_bare_ascii}
 use Rattle.mix_tree.proofs.LabelSeen.{Stops, SawLabel, SawStop, SawEnd, Saw, saw}
 
@@ -34,7 +35,7 @@ byte_on s t b low e h = record {
   utf8 = IsUtf8-append (b ∷ []) h.bytes (one_utf8 b low) h.utf8;
   spot = h.spot;
   label = h.label;
-  runs = run_byte b h.bytes s t e ∙ h.runs;
+  runs = run_byte step b h.bytes s t e ∙ h.runs;
   ends = h.ends;
 }
 
@@ -66,7 +67,7 @@ run_writes_some w t e = by_case (run start w) e (run_writes w [] start refl)
 front_of : (w : List ℕ) (s : Spot) → IsUtf8 w → run start w ≡ Some s → IsFront SpellsLabel w
 front_of w s u r =
     let h = goes_on s in
-    let whole : run start (w ++ h.bytes) ≡ Some h.spot = run_then w h.bytes start s r ∙ h.runs in
+    let whole : run start (w ++ h.bytes) ≡ Some h.spot = run_then step w h.bytes start s r ∙ h.runs in
     (h.bytes, h.label, IsUtf8-append w h.bytes u h.utf8, label_spelled (w ++ h.bytes) h.spot h.label (run_writes_some (w ++ h.bytes) h.spot whole) h.ends)
 
 -- a text on which the run stops spells no label
@@ -75,7 +76,7 @@ stopped x l e s = let r = spelled_reads x l s in none_some r.0 (sym e ∙ r.1)
 
 -- a run stops at a byte that does not go on
 stops_run : (w y : List ℕ) (b : ℕ) (t : Spot) → run start w ≡ Some t → step t b ≡ None → run start (w ++ b ∷ y) ≡ None
-stops_run w y b t r e = run_then w (b ∷ y) start t r ∙ ap (option_and_then (λ u. run u y)) e
+stops_run w y b t r e = run_then step w (b ∷ y) start t r ∙ ap (option_and_then (λ u. run u y)) e
 
 -- what leads to no label's end spells none
 unlabelled : (w l : List ℕ) (t : Spot) → run start w ≡ Some t → label_in t ≡ None → SpellsLabel w l → ⊥
@@ -88,7 +89,7 @@ unlabelled w l t r n s =
 within : (w z v l : List ℕ) (t : Spot) → run start w ≡ Some t → label_in t ≡ None → w ≡ z ++ v → SpellsLabel z l → ⊥
 within w z v l t r n e s =
     let k = spelled_reads z l s in
-    let more : run k.0 v ≡ Some t = sym (run_then z v start k.0 k.1) ∙ ap (run start) (sym e) ∙ r in
+    let more : run k.0 v ≡ Some t = sym (run_then step z v start k.0 k.1) ∙ ap (run start) (sym e) ∙ r in
     let m = run_may_end v k.0 t (l, k.2) more in
     none_some m.0 (sym n ∙ m.1)
 

@@ -1,30 +1,12 @@
 -- What spells a label is read as that label.
 use Rattle.std.proofs.Common.{◌≡◌, inl, inr, ◌∙◌, ◌==◌, ℕ, Bool, true, false, cond, IsTrue, List, [], ◌∷◌, ◌++◌, Option, Some, None, refl, sym, ap, subst, append_assoc, option_and_then}
 use Rattle.std.specs.List.{list_all}
+use Rattle.mix_base.proofs.Runs.{run_then, run_byte}
 use Rattle.mix_base.proofs.Lists.{append_nil}
 use Rattle.mix_base.proofs.Choices.{and_parts, some_is, none_some}
 use Rattle.mix_tree.specs.Spelling.{is_bare, is_bare_label}
 use Rattle.mix_tree.specs.LabelGrammar.{Piece, plain, escape, is_plain, is_escape, is_piece, ArePieces, inside_quotes, escaped_byte, meaning, SpellsLabel}
 use Rattle.mix_tree.specs.LabelMachine.{Spot, start, in_bare, in_quotes, in_escape, behind_quote, step, run, label_in}
-
--- a run over two parts, behind a first byte
-behind : (x y : List ℕ) → ((t : Spot) → run t (x ++ y) ≡ option_and_then (λ u. run u y) (run t x)) → (o : Option Spot)
-    → option_and_then (λ t. run t (x ++ y)) o ≡ option_and_then (λ t. run t y) (option_and_then (λ t. run t x) o)
-behind x y h None = refl
-behind x y h (Some t) = h t
-
--- a run over two parts
-pub run_append : (x y : List ℕ) (s : Spot) → run s (x ++ y) ≡ option_and_then (λ t. run t y) (run s x)
-run_append [] y s = refl
-run_append (b ∷ x) y s = behind x y (λ t. run_append x y t) (step s b)
-
--- a run over a second part
-pub run_then : (x y : List ℕ) (s t : Spot) → run s x ≡ Some t → run s (x ++ y) ≡ run t y
-run_then x y s t e = run_append x y s ∙ ap (option_and_then (λ u. run u y)) e
-
--- a run over one byte and the rest
-pub run_byte : (b : ℕ) (y : List ℕ) (s t : Spot) → step s b ≡ Some t → run s (b ∷ y) ≡ run t y
-run_byte b y s t e = ap (option_and_then (λ u. run u y)) e
 
 -- bare characters behind others
 pub bare_goes_on : (l x : List ℕ) → IsTrue (list_all is_bare x) → run (in_bare l) x ≡ Some (in_bare (l ++ x))
@@ -58,11 +40,11 @@ quotes_go_on : (l : List ℕ) (ps : List Piece) → ArePieces ps → run (in_quo
 quotes_go_on l [] h = ap (λ r. Some (in_quotes r)) (sym (append_nil l))
 quotes_go_on l (plain b ∷ ps) h =
     let parts = and_parts (is_plain b) (list_all is_piece ps) h in
-    run_byte b (inside_quotes ps) (in_quotes l) (in_quotes (l ++ b ∷ [])) (plain_step b l parts.0)
+    run_byte step b (inside_quotes ps) (in_quotes l) (in_quotes (l ++ b ∷ [])) (plain_step b l parts.0)
     ∙ quotes_go_on (l ++ b ∷ []) ps parts.1 ∙ ap (λ r. Some (in_quotes r)) (append_assoc l (b ∷ []) (meaning ps))
 quotes_go_on l (escape b ∷ ps) h =
     let parts = and_parts (is_escape b) (list_all is_piece ps) h in
-    run_byte b (inside_quotes ps) (in_escape l) (in_quotes (l ++ escaped_byte b ∷ [])) (escape_step b l parts.0)
+    run_byte step b (inside_quotes ps) (in_escape l) (in_quotes (l ++ escaped_byte b ∷ [])) (escape_step b l parts.0)
     ∙ quotes_go_on (l ++ escaped_byte b ∷ []) ps parts.1 ∙ ap (λ r. Some (in_quotes r)) (append_assoc l (escaped_byte b ∷ []) (meaning ps))
 
 -- the spot that a spelling leads to
@@ -74,7 +56,7 @@ pub spelled_reads : (x l : List ℕ) → SpellsLabel x l → ReadsAs x l
 spelled_reads x l (inl (h, e)) = (in_bare x, reads_bare x h, ap Some e)
 spelled_reads x l (inr (ps, are, e, m)) = (
   behind_quote (meaning ps),
-  ap (run start) e ∙ run_then (inside_quotes ps) (34 ∷ []) (in_quotes []) (in_quotes (meaning ps)) (quotes_go_on [] ps are),
+  ap (run start) e ∙ run_then step (inside_quotes ps) (34 ∷ []) (in_quotes []) (in_quotes (meaning ps)) (quotes_go_on [] ps are),
   ap Some m,
 )
 

@@ -1,7 +1,7 @@
 -- What is seen of a text, from where it was seen.
 use Rattle.std.proofs.Common.{◌≡◌, ◌+◌, ◌∙◌, ℕ, List, [], ◌∷◌, ◌++◌, Option, Some, None, refl, ap, arith, length}
+use Rattle.mix_base.proofs.Runs.{run_byte}
 use Rattle.mix_tree.specs.LabelMachine.{Spot, step, run, label_in, Seen, got, unexpected, ends, seen_at, seen_at_end, or_stop, seen_from}
-use Rattle.mix_tree.proofs.LabelComplete.{run_byte}
 
 -- a spelling does not go on from the spot with the text
 abbrev pub Stops : Spot → List ℕ → Type 0
@@ -51,7 +51,7 @@ saw_more s t i b x (got l j y) e h = record {
   spelled = b ∷ h.spelled;
   spot = h.spot;
   parts = ap (λ r. b ∷ r) h.parts;
-  runs = run_byte b h.spelled s t e ∙ h.runs;
+  runs = run_byte step b h.spelled s t e ∙ h.runs;
   label = h.label;
   place = omega (arith, h.place);
   stops = h.stops;
@@ -62,12 +62,12 @@ saw_more s t i b x (unexpected j) e h = record {
   rest = h.rest;
   spot = h.spot;
   parts = ap (λ r. b ∷ r) h.parts;
-  runs = run_byte b h.front s t e ∙ h.runs;
+  runs = run_byte step b h.front s t e ∙ h.runs;
   label = h.label;
   place = omega (arith, h.place);
   stops = h.stops;
 }
-saw_more s t i b x ends e (u, r, l) = (u, run_byte b x s t e ∙ r, l)
+saw_more s t i b x ends e (u, r, l) = (u, run_byte step b x s t e ∙ r, l)
 
 -- at a byte
 at_byte : (s : Spot) (i b : ℕ) (x : List ℕ) (o : Option Spot) (p : Option (List ℕ)) → step s b ≡ o → label_in s ≡ p → ((t : Spot) → Saw t (i + 1) x (seen_from t (i + 1) x))

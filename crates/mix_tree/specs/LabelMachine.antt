@@ -1,5 +1,6 @@
 -- Reading a label's spelling byte by byte.
 use Rattle.std.specs.Prelude.{ℕ, ◌+◌, cond, ◌==◌, List, [], ◌∷◌, ◌++◌, Option, Some, None, option_and_then}
+use Rattle.mix_base.specs.Runs.{run_by}
 use Rattle.mix_tree.specs.Spelling.{is_bare}
 use Rattle.mix_tree.specs.LabelGrammar.{is_escape, escaped_byte}
 
@@ -21,8 +22,7 @@ step (behind_quote l) b = None
 
 -- the spot behind a text
 abbrev pub run : Spot → List ℕ → Option Spot
-run s [] = Some s
-run s (b ∷ x) = option_and_then (λ t. run t x) (step s b)
+run = run_by step
 
 -- the label, where a spelling may end
 abbrev pub label_in : Spot → Option (List ℕ)

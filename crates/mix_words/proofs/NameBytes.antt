@@ -4,7 +4,7 @@ use Rattle.std.proofs.lemmas.Bool.Decides.{nat_tests}
 use Rattle.std.proofs.lemmas.Str.{IsUtf8-from_ascii}
 use Rattle.std.specs.Str.{IsAscii, IsUtf8}
 use Rattle.std.specs.List.{list_all}
-use Rattle.mix_words.specs.Words.{is_name, is_letter, is_name_byte}
+use Rattle.mix_words.specs.Words.{is_name, is_letter, is_script_byte}
 
 -- both tests hold where their conjunction does
 and_parts : (a b : Bool) → IsTrue (a && b) → IsTrue a × IsTrue b
@@ -17,20 +17,20 @@ letter_ascii : (b : ℕ) → IsTrue (is_letter b) → b < 128
 letter_ascii b h = grind (arith, nat_tests)
 
 -- so is each byte of a name
-name_byte_ascii : (b : ℕ) → IsTrue (is_name_byte b) → b < 128
-name_byte_ascii b h = grind (arith, nat_tests)
+script_byte_ascii : (b : ℕ) → IsTrue (is_script_byte b) → b < 128
+script_byte_ascii b h = grind (arith, nat_tests)
 
 -- bytes of names are ASCII
-IsAscii-name_bytes : (xs : List ℕ) → IsTrue (list_all is_name_byte xs) → IsAscii xs
-IsAscii-name_bytes [] h i = omega arith
-IsAscii-name_bytes (x ∷ xs) h zero = name_byte_ascii x (and_parts (is_name_byte x) (list_all is_name_byte xs) h).0
-IsAscii-name_bytes (x ∷ xs) h (suc i) = IsAscii-name_bytes xs (and_parts (is_name_byte x) (list_all is_name_byte xs) h).1 i
+IsAscii-script_bytes : (xs : List ℕ) → IsTrue (list_all is_script_byte xs) → IsAscii xs
+IsAscii-script_bytes [] h i = omega arith
+IsAscii-script_bytes (x ∷ xs) h zero = script_byte_ascii x (and_parts (is_script_byte x) (list_all is_script_byte xs) h).0
+IsAscii-script_bytes (x ∷ xs) h (suc i) = IsAscii-script_bytes xs (and_parts (is_script_byte x) (list_all is_script_byte xs) h).1 i
 
 -- a name is ASCII
 IsAscii-name : (xs : List ℕ) → IsTrue (is_name xs) → IsAscii xs
 IsAscii-name [] h i = omega arith
-IsAscii-name (x ∷ xs) h zero = letter_ascii x (and_parts (is_letter x) (list_all is_name_byte xs) h).0
-IsAscii-name (x ∷ xs) h (suc i) = IsAscii-name_bytes xs (and_parts (is_letter x) (list_all is_name_byte xs) h).1 i
+IsAscii-name (x ∷ xs) h zero = letter_ascii x (and_parts (is_letter x) (list_all is_script_byte xs) h).0
+IsAscii-name (x ∷ xs) h (suc i) = IsAscii-script_bytes xs (and_parts (is_letter x) (list_all is_script_byte xs) h).1 i
 
 -- a name is UTF-8
 pub IsUtf8-name : (xs : List ℕ) → IsTrue (is_name xs) → IsUtf8 xs
@@ -44,6 +44,6 @@ take_length (suc n) [] e = refl
 take_length (suc n) (x ∷ xs) e = ap (λ r. x ∷ r) (take_length n xs (omega arith))
 
 -- a name by its first byte and those behind it
-pub is_name-parts : (xs : List ℕ) → 1 ≤ length xs → is_name xs ≡ (is_letter (get_or xs 0 0) && list_all is_name_byte (take (length xs - 1) (drop 1 xs)))
+pub is_name-parts : (xs : List ℕ) → 1 ≤ length xs → is_name xs ≡ (is_letter (get_or xs 0 0) && list_all is_script_byte (take (length xs - 1) (drop 1 xs)))
 is_name-parts [] h = absurd (omega arith)
-is_name-parts (x ∷ xs) h = let e : length (x ∷ xs) - 1 ≡ length xs = omega arith in ap (λ r. is_letter x && list_all is_name_byte r) (sym (take_length _ xs e))
+is_name-parts (x ∷ xs) h = let e : length (x ∷ xs) - 1 ≡ length xs = omega arith in ap (λ r. is_letter x && list_all is_script_byte r) (sym (take_length _ xs e))

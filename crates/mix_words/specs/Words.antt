@@ -31,10 +31,10 @@ abbrev pub is_letter : ℕ → Bool
 is_letter b = (nat_le 97 b && nat_le b 122) || (nat_le 65 b && nat_le b 90)
 
 -- an ASCII letter, a digit or _
-abbrev pub is_name_byte : ℕ → Bool
-is_name_byte b = is_letter b || (nat_le 48 b && nat_le b 57) || b == 95
+abbrev pub is_script_byte : ℕ → Bool
+is_script_byte b = is_letter b || (nat_le 48 b && nat_le b 57) || b == 95
 
 -- a script name: a letter, then letters, digits and _
 abbrev pub is_name : List ℕ → Bool
 is_name [] = false
-is_name (b ∷ bs) = is_letter b && list_all is_name_byte bs
+is_name (b ∷ bs) = is_letter b && list_all is_script_byte bs

@@ -1,7 +1,7 @@
 // The words of a line, and which words are names.
 ghost use Rattle.std.specs.Prelude.{◌≡◌, ◌++◌, IfOk, OnOk, map};
 ghost use Rattle.std.specs.List.{list_all};
-ghost use Rattle.mix_words.specs.Words.{words_of, unless_empty, is_blank, is_name, is_letter, is_name_byte};
+ghost use Rattle.mix_words.specs.Words.{words_of, unless_empty, is_blank, is_name, is_letter, is_script_byte};
 
 use std::alloc::{AllocError, Global};
 
@@ -45,13 +45,13 @@ fn is_letter_byte(byte: u8) -> bool
 }
 
 fn is_in_name(byte: u8) -> bool
-    ensures { result ≡ is_name_byte byte }
+    ensures { result ≡ is_script_byte byte }
 {
     matches!(byte, b'a'..=b'z' | b'A'..=b'Z' | b'0'..=b'9' | b'_')
 }
 
 fn are_in_name(bytes: &[u8]) -> bool
-    ensures { result ≡ list_all is_name_byte bytes.now }
+    ensures { result ≡ list_all is_script_byte bytes.now }
 {
     bytes.iter().all(|b| is_in_name(*b))
 }

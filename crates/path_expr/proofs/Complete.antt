@@ -2,31 +2,13 @@
 use Rattle.std.proofs.Common.{◌≡◌, ◌∙◌, ◌==◌, ℕ, Bool, true, false, cond, IsTrue, List, [], ◌∷◌, ◌++◌, Option, Some, None, refl, sym, ap, arith, append_assoc, option_and_then}
 use Rattle.std.proofs.lemmas.Bool.Decides.{nat_tests}
 use Rattle.std.specs.List.{list_all}
+use Rattle.mix_base.proofs.Runs.{run_then, run_byte}
 use Rattle.mix_tree.specs.LabelGrammar.{Piece, plain, escape, is_escape, is_plain, is_piece, ArePieces, inside_quotes}
 use Rattle.mix_tree.specs.Names.{is_name_byte, IsName}
 use Rattle.path_expr.specs.Grammar.{Spelled, word, quote, group, marked, dot, bar, Kind, a_path, a_sequence, a_repeat, an_atom, is_mark, Is, text_of, Writes}
 use Rattle.path_expr.specs.Machine.{Frame, Mode, start, naming, quoting, escaping, behind_atom, behind_repeat, State, at, empty, seq_with, path_in, after_repeat, step_in, step, run, repeat_in, whole_in, whole, read_of}
 use Rattle.mix_base.proofs.Choices.{some_is, none_some, and_parts}
 use Rattle.mix_base.proofs.Lists.{append_nil}
-
--- a run over two parts, from an option
-behind : (x y : List ℕ) → ((t : State) → run t (x ++ y) ≡ option_and_then (λ u. run u y) (run t x)) → (o : Option State)
-    → option_and_then (λ t. run t (x ++ y)) o ≡ option_and_then (λ t. run t y) (option_and_then (λ t. run t x) o)
-behind x y h None = refl
-behind x y h (Some t) = h t
-
--- a run over two parts
-pub run_append : (x y : List ℕ) (s : State) → run s (x ++ y) ≡ option_and_then (λ t. run t y) (run s x)
-run_append [] y s = refl
-run_append (b ∷ x) y s = behind x y (λ t. run_append x y t) (step s b)
-
--- a run goes on from where it came to
-pub run_then : (x y : List ℕ) (s t : State) → run s x ≡ Some t → run s (x ++ y) ≡ run t y
-run_then x y s t e = run_append x y s ∙ ap (option_and_then (λ u. run u y)) e
-
--- a run begins with a step
-run_byte : (b : ℕ) (y : List ℕ) (s t : State) → step s b ≡ Some t → run s (b ∷ y) ≡ run t y
-run_byte b y s t e = ap (option_and_then (λ u. run u y)) e
 
 -- the atom at hand, where it may end there
 abbrev pub atom_in : Mode → Option Spelled
@@ -125,17 +107,17 @@ quote_goes_on : (ps qs : List Piece) (f : Frame) (o : List Frame) → ArePieces 
 quote_goes_on ps [] f o h = ap (λ r. Some (at f o (quoting r))) (sym (append_nil ps))
 quote_goes_on ps (plain b ∷ qs) f o h =
     let parts = and_parts (is_plain b) (list_all is_piece qs) h in
-    run_byte b (inside_quotes qs) (at f o (quoting ps)) (at f o (quoting (ps ++ plain b ∷ []))) (plain_step b f o ps parts.0)
+    run_byte step b (inside_quotes qs) (at f o (quoting ps)) (at f o (quoting (ps ++ plain b ∷ []))) (plain_step b f o ps parts.0)
     ∙ quote_goes_on (ps ++ plain b ∷ []) qs f o parts.1 ∙ ap (λ r. Some (at f o (quoting r))) (append_assoc ps (plain b ∷ []) qs)
 quote_goes_on ps (escape b ∷ qs) f o h =
     let parts = and_parts (is_escape b) (list_all is_piece qs) h in
-    run_byte b (inside_quotes qs) (at f o (escaping ps)) (at f o (quoting (ps ++ escape b ∷ []))) (escape_step b f o ps parts.0)
+    run_byte step b (inside_quotes qs) (at f o (escaping ps)) (at f o (quoting (ps ++ escape b ∷ []))) (escape_step b f o ps parts.0)
     ∙ quote_goes_on (ps ++ escape b ∷ []) qs f o parts.1 ∙ ap (λ r. Some (at f o (quoting r))) (append_assoc ps (escape b ∷ []) qs)
 
 -- a quoted label is read
 reads_quote : (ps : List Piece) → ArePieces ps → ReadsAtom (quote ps)
 reads_quote ps h f o =
-    (behind_atom (quote ps), run_then (inside_quotes ps) (34 ∷ []) (at f o (quoting [])) (at f o (quoting ps)) (quote_goes_on [] ps f o h), refl)
+    (behind_atom (quote ps), run_then step (inside_quotes ps) (34 ∷ []) (at f o (quoting [])) (at f o (quoting ps)) (quote_goes_on [] ps f o h), refl)
 
 -- behind a member that may end
 pub ends_by : (b : ℕ) (f : Frame) (o : List Frame) (m : Mode) (p : Spelled) → is_name_byte b ≡ false → is_mark b ≡ false → repeat_in m ≡ Some p → step_in f o m b ≡ after_repeat f o p b
@@ -151,8 +133,8 @@ reads_group : (p : Spelled) → ReadsPath p → ReadsAtom (group p)
 reads_group p h f o =
     let r = h (f ∷ o) in (
       behind_atom (group p),
-      run_then (text_of p) (41 ∷ []) (at empty (f ∷ o) start) (at r.0 (f ∷ o) r.1) r.3
-          ∙ run_byte 41 [] (at r.0 (f ∷ o) r.1) (at f o (behind_atom (group (path_in r.0 r.2)))) (ends_by 41 r.0 (f ∷ o) r.1 r.2 refl refl r.4)
+      run_then step (text_of p) (41 ∷ []) (at empty (f ∷ o) start) (at r.0 (f ∷ o) r.1) r.3
+          ∙ run_byte step 41 [] (at r.0 (f ∷ o) r.1) (at f o (behind_atom (group (path_in r.0 r.2)))) (ends_by 41 r.0 (f ∷ o) r.1 r.2 refl refl r.4)
           ∙ ap (λ q. Some (at f o (behind_atom (group q)))) r.5,
       refl,
     )
@@ -174,7 +156,7 @@ mark_step f o (behind_repeat q) p b e h = none_some p e
 reads_marked : (p : Spelled) (b : ℕ) → ReadsAtom p → IsTrue (is_mark b) → ReadsRepeat (marked p b)
 reads_marked p b h k f o =
     let r = h f o in
-    (behind_repeat (marked p b), run_then (text_of p) (b ∷ []) (at f o start) (at f o r.0) r.1 ∙ run_byte b [] (at f o r.0) _ (mark_step f o r.0 p b r.2 k), refl)
+    (behind_repeat (marked p b), run_then step (text_of p) (b ∷ []) (at f o start) (at f o r.0) r.1 ∙ run_byte step b [] (at f o r.0) _ (mark_step f o r.0 p b r.2 k), refl)
 
 -- a sequence is read
 reads_dot : (p q : Spelled) → ReadsSequence p → ReadsRepeat q → ReadsSequence (dot p q)
@@ -184,8 +166,8 @@ reads_dot p q h k b o =
       Some p,
       s.0,
       q,
-      run_then (text_of p) (46 ∷ text_of q) (at (in_sequence b None) o start) (at (in_sequence b r.0) o r.1) r.3
-          ∙ run_byte 46 (text_of q) (at (in_sequence b r.0) o r.1) (at (in_sequence b (Some (seq_with r.0 r.2))) o start) (ends_by 46 (in_sequence b r.0) o r.1 r.2 refl refl r.4)
+      run_then step (text_of p) (46 ∷ text_of q) (at (in_sequence b None) o start) (at (in_sequence b r.0) o r.1) r.3
+          ∙ run_byte step 46 (text_of q) (at (in_sequence b r.0) o r.1) (at (in_sequence b (Some (seq_with r.0 r.2))) o start) (ends_by 46 (in_sequence b r.0) o r.1 r.2 refl refl r.4)
           ∙ ap (λ d. run (at (in_sequence b (Some d)) o start) (text_of q)) r.5 ∙ s.1,
       s.2,
       refl,
@@ -199,8 +181,8 @@ reads_bar p q h k o =
       in_sequence (Some p) s.0,
       s.1,
       s.2,
-      run_then (text_of p) (124 ∷ text_of q) (at empty o start) (at r.0 o r.1) r.3
-          ∙ run_byte 124 (text_of q) (at r.0 o r.1) (at (in_sequence (Some (path_in r.0 r.2)) None) o start) (ends_by 124 r.0 o r.1 r.2 refl refl r.4)
+      run_then step (text_of p) (124 ∷ text_of q) (at empty o start) (at r.0 o r.1) r.3
+          ∙ run_byte step 124 (text_of q) (at r.0 o r.1) (at (in_sequence (Some (path_in r.0 r.2)) None) o start) (ends_by 124 r.0 o r.1 r.2 refl refl r.4)
           ∙ ap (λ d. run (at (in_sequence (Some d) None) o start) (text_of q)) r.5 ∙ s.3,
       s.4,
       ap (bar p) s.5,

@@ -2,6 +2,7 @@
 use Rattle.std.proofs.Common.{◌≡◌, ◌<◌, ◌∙◌, ℕ, List, [], ◌∷◌, ◌++◌, Some, None, refl, sym, ap, arith, option_and_then}
 use Rattle.std.specs.Str.{IsUtf8}
 use Rattle.std.proofs.lemmas.Str.{IsUtf8-nil, IsUtf8-append}
+use Rattle.mix_base.proofs.Runs.{run_append, run_then}
 use Rattle.mix_base.specs.Reading.{IsFront}
 use Rattle.mix_base.proofs.Utf8.{one_utf8}
 use Rattle.mix_base.proofs.Choices.{none_some}
@@ -11,7 +12,7 @@ use Rattle.path_expr.specs.Results.{Spells}
 use Rattle.path_expr.specs.Values.{value_of}
 use Rattle.path_expr.specs.Machine.{Frame, Mode, start, naming, quoting, escaping, behind_atom, behind_repeat, State, at, path_in, step, run, repeat_in, whole, first}
 use Rattle.path_expr.proofs.Sound.{read_writes}
-use Rattle.path_expr.proofs.Complete.{run_append, run_then, ends_by, whole_at, writes_read}
+use Rattle.path_expr.proofs.Complete.{ends_by, whole_at, writes_read}
 
 -- ASCII bytes lead from the state to a whole path
 pub record GoesOn (s : State) : Type 0 where
@@ -53,12 +54,12 @@ mode_on f o (behind_repeat p) = member_on f o (behind_repeat p) p refl
 pub run_front : (x : List ℕ) (s : State) → IsUtf8 x → run first x ≡ Some s → IsFront Spells x
 run_front x s u e =
     let on = mode_on s.here s.outer s.mode in
-    let writes = read_writes (x ++ on.bytes) on.spelled (ap (option_and_then whole) (run_then x on.bytes first s e) ∙ on.read) in
+    let writes = read_writes (x ++ on.bytes) on.spelled (ap (option_and_then whole) (run_then step x on.bytes first s e) ∙ on.read) in
     (on.bytes, value_of on.spelled, IsUtf8-append x on.bytes u on.utf8, (on.spelled, writes, refl))
 
 -- where a run has stopped, no text goes on
 pub stopped_writes : (x y : List ℕ) (p : Spelled) → run first x ≡ None → Writes (x ++ y) p → ⊥
-stopped_writes x y p e h = none_some p (sym (ap (option_and_then whole) (run_append x y first ∙ ap (option_and_then (λ u. run u y)) e)) ∙ writes_read (x ++ y) p h)
+stopped_writes x y p e h = none_some p (sym (ap (option_and_then whole) (run_append step x y first ∙ ap (option_and_then (λ u. run u y)) e)) ∙ writes_read (x ++ y) p h)
 
 -- and it is no front
 pub stopped_front : (x : List ℕ) → run first x ≡ None → IsFront Spells x → ⊥

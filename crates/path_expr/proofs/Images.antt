@@ -2,6 +2,8 @@
 use Rattle.std.proofs.Common.{◌≡◌, ◌<◌, ◌+◌, ◌∙◌, ◌==◌, ℕ, Bool, true, false, cond, IfSome, IfNone, IfOk, Result, Ok, Err, List, [], ◌∷◌, ◌++◌, Option, Some, None, refl, sym, ap, subst, length, append_assoc, option_and_then, option_map, arith, take, drop, slice_index}
 use Rattle.std.proofs.lemmas.List.{take_more, take-append-drop}
 use Rattle.std.specs.Str.{IsUtf8}
+use Rattle.mix_base.specs.Runs.{LeadsTo}
+use Rattle.mix_base.proofs.Runs.{kept_none, scan_front}
 use Rattle.mix_tree.specs.LabelGrammar.{Piece, plain, escape, is_escape, escaped_byte, meaning, inside_quotes}
 use Rattle.mix_tree.specs.Names.{is_name_byte}
 use Rattle.path_expr.specs.Grammar.{Spelled, word, quote, group, marked, dot, bar, a_sequence, a_repeat, an_atom, is_mark, Is, Writes}
@@ -12,7 +14,7 @@ use Rattle.path_expr.specs.Building as building
 use Rattle.path_expr.specs.Results.{Spells}
 use Rattle.mix_base.proofs.Choices.{Gives, none_some, some_is}
 use Rattle.path_expr.proofs.Sound.{IsFrame, Stands, StandsAt, outer_text, frame_text, run_stands, first_stands, seq_with_is, read_writes, repeat_of_atom}
-use Rattle.path_expr.proofs.Complete.{run_append, writes_read}
+use Rattle.path_expr.proofs.Complete.{writes_read}
 use Rattle.path_expr.proofs.Fronts.{stopped_writes}
 use Rattle.path_expr.proofs.Utf8.{name_utf8, quoted_utf8}
 use Rattle.path_expr.specs.BuilderState.{mode_in, state_in, AreUtf8, AreUtf8Now}
@@ -123,7 +125,7 @@ whole_value s = whole_in_value s.here s.outer (repeat_in s.mode) ∙ ap (buildin
 
 -- a machine with values that stands where the machine stands
 abbrev pub BuildsTo : List ℕ → building.State → Type 0
-BuildsTo x s = option_map building.values_of (run first x) ≡ Some s
+BuildsTo = LeadsTo step building.values_of first
 
 -- a state that a run came to stands
 stood_at : (x : List ℕ) (o : Option State) (t : State) → Gives (StandsAt x) o → o ≡ Some t → StandsAt x t
@@ -134,21 +136,15 @@ stood_at x (Some s) t h e = subst (StandsAt x) (some_is _ _ e) h
 pub stood : (x : List ℕ) (t : State) → run first x ≡ Some t → StandsAt x t
 stood x t e = stood_at x (run first x) t (run_stands x [] first first_stands) e
 
--- one more byte, from an option
-build_at : (x : List ℕ) (o : Option State) (s : building.State) (b : ℕ) → run first x ≡ o → option_map building.values_of o ≡ Some s → option_map building.values_of (option_and_then (λ t. run t (b ∷ [])) o) ≡ building.step s b
-build_at x None s b r e = none_some s e
-build_at x (Some t) s b r e =
-    ap (option_map building.values_of) (run_one (step t b)) ∙ step_value x t.here t.outer t.mode b (stood x t r) ∙ ap (λ u. building.step u b) (some_is _ _ e)
-  where
-    run_one : (o : Option State) → option_and_then (λ u. run u []) o ≡ o
-    run_one None = refl
-    run_one (Some u) = refl
+-- what the machine with values has behind one more byte
+build_more : (x : List ℕ) (i : ℕ) (s : building.State) → i < length x → BuildsTo (take i x) s
+    → option_map building.values_of (run first (take (i + 1) x)) ≡ building.step s (slice_index x i)
+build_more x i s h e =
+    scan_front step building.values_of building.step first x i s (λ t b r. step_value (take i x) t.here t.outer t.mode b (stood (take i x) t r)) h e
 
 -- one more byte leads on
 pub build_next : (x : List ℕ) (i : ℕ) (s t : building.State) → i < length x → BuildsTo (take i x) s → building.step s (slice_index x i) ≡ Some t → BuildsTo (take (i + 1) x) t
-build_next x i s t h e n =
-    ap (λ y. option_map building.values_of (run first y)) (take_more x i 0 h)
-    ∙ ap (option_map building.values_of) (run_append (take i x) (slice_index x i ∷ []) first) ∙ build_at (take i x) (run first (take i x)) s (slice_index x i) refl e ∙ n
+build_next x i s t h e n = build_more x i s h e ∙ n
 
 -- what a text is read as, from an option
 whole_at : (x : List ℕ) (o : Option State) (s : building.State) → run first x ≡ o → option_map building.values_of o ≡ Some s → option_map valued.value_of (read_of x) ≡ building.whole s
@@ -164,18 +160,11 @@ spells_at x (Some p) w r e = (p, read_writes x p r, some_is _ _ e)
 pub build_whole : (x : List ℕ) (s : building.State) (w : form.Form) → BuildsTo x s → building.whole s ≡ Some w → Spells x w
 build_whole x s w e h = spells_at x (read_of x) w refl (whole_at x (run first x) s refl e ∙ h)
 
--- what has no values is none
-values_none : (o : Option State) → option_map building.values_of o ≡ None → o ≡ None
-values_none None e = refl
-values_none (Some t) e = none_some _ (sym e)
-
 -- where building stops, no path is written so
 pub build_stops : (x : List ℕ) (i : ℕ) (s : building.State) (p : Spelled) → i < length x → BuildsTo (take i x) s → building.step s (slice_index x i) ≡ None → Writes x p → ⊥
 build_stops x i s p h e n w =
     stopped_writes (take (i + 1) x) (drop (i + 1) x) p
-    (values_none (run first (take (i + 1) x))
-    (ap (λ y. option_map building.values_of (run first y)) (take_more x i 0 h)
-    ∙ ap (option_map building.values_of) (run_append (take i x) (slice_index x i ∷ []) first) ∙ build_at (take i x) (run first (take i x)) s (slice_index x i) refl e ∙ n))
+    (kept_none building.values_of (run first (take (i + 1) x)) (build_more x i s h e ∙ n))
     (subst (λ y. Writes y p) (sym (take-append-drop (i + 1) x)) w)
 
 -- what has no value is none

@@ -1,19 +1,21 @@
 -- A scan goes as the machine does.
 use Rattle.std.proofs.Common.{◌≡◌, ◌<◌, ◌≤◌, ◌+◌, ◌∙◌, ◌==◌, ◌&&◌, ℕ, zero, suc, Bool, true, false, cond, List, [], ◌∷◌, ◌++◌, Option, Some, None, refl, sym, ap, length, option_and_then, option_map, is_some, arith, take, drop, slice_index, nat_lt, subst}
 use Rattle.std.proofs.lemmas.Bool.Decides.{nat_tests}
-use Rattle.std.proofs.lemmas.List.{take_more, take-append-drop}
+use Rattle.std.proofs.lemmas.List.{take-append-drop}
 use Rattle.std.proofs.lemmas.Str.{IsUtf8-nil}
 use Rattle.mix_base.proofs.Utf8.{utf8_behind}
 use Rattle.mix_base.proofs.Choices.{Gives, none_some, some_is}
 use Rattle.path_expr.proofs.Sound.{read_writes}
-use Rattle.path_expr.proofs.Complete.{run_append, writes_read}
+use Rattle.path_expr.proofs.Complete.{writes_read}
 use Rattle.path_expr.proofs.Fronts.{run_front, stopped_front}
 use Rattle.mix_tree.specs.LabelGrammar.{is_escape}
 use Rattle.mix_tree.specs.Names.{is_name_byte}
 use Rattle.path_expr.specs.Grammar.{Spelled, word, is_mark, Writes}
 use Rattle.path_expr.specs.Results.{Spells}
+use Rattle.mix_base.specs.Runs.{LeadsTo}
 use Rattle.mix_base.specs.Reading.{IsFront, IsUnexpected, IsCut}
 use Rattle.std.specs.Str.{IsUtf8}
+use Rattle.mix_base.proofs.Runs.{run_append, take_next, kept_none, scan_behind, scan_front as scan_front_by}
 use Rattle.path_expr.specs.Machine.{Frame, Mode, start, naming, quoting, escaping, behind_atom, behind_repeat, State, at, path_in, close, after_repeat, after_atom, step_in, step, run, whole, first, read_of}
 use Rattle.path_expr.specs.Scanned.{shape, stage_of, shape_of, shape_close, shape_behind, shape_atom, shape_in, shape_step, may_end, is_whole}
 use Rattle.path_expr.specs.declared.scan.Scan.{Scan}
@@ -53,28 +55,19 @@ step_shape f o (behind_repeat p) b = repeat_shape f o p b
 
 -- a scan that stands where the machine stands
 abbrev pub ScansTo : List ℕ → Scan → Type 0
-ScansTo x s = option_map shape_of (run first x) ≡ Some s
+ScansTo = LeadsTo step shape_of first
 
--- what it keeps behind one more byte, from an option
-run_shape_at : (o : Option State) (s : Scan) (b : ℕ) → option_map shape_of o ≡ Some s → option_map shape_of (option_and_then (λ t. run t (b ∷ [])) o) ≡ shape_step s b
-run_shape_at None s b e = none_some s e
-run_shape_at (Some t) s b e = ap (option_map shape_of) (run_one (step t b)) ∙ step_shape t.here t.outer t.mode b ∙ ap (λ u. shape_step u b) (some_is _ _ e)
-  where
-    run_one : (o : Option State) → option_and_then (λ u. run u []) o ≡ o
-    run_one None = refl
-    run_one (Some u) = refl
+-- a scan goes on as the machine does
+alike : (s : State) (b : ℕ) → option_map shape_of (step s b) ≡ shape_step (shape_of s) b
+alike s b = step_shape s.here s.outer s.mode b
 
--- what it keeps behind one more byte
-pub scan_more : (x : List ℕ) (s : Scan) (b : ℕ) → ScansTo x s → option_map shape_of (run first (x ++ b ∷ [])) ≡ shape_step s b
-scan_more x s b e = ap (option_map shape_of) (run_append x (b ∷ []) first) ∙ run_shape_at (run first x) s b e
-
--- a front with one more byte
-take_next : (x : List ℕ) (i : ℕ) → i < length x → take (i + 1) x ≡ take i x ++ slice_index x i ∷ []
-take_next x i h = take_more x i 0 h
+-- what it keeps behind one more byte of a text
+pub scan_more : (x : List ℕ) (i : ℕ) (s : Scan) → i < length x → ScansTo (take i x) s → option_map shape_of (run first (take (i + 1) x)) ≡ shape_step s (slice_index x i)
+scan_more x i s h e = scan_front_by step shape_of shape_step first x i s (λ t b r. alike t b) h e
 
 -- a scan goes on
 pub scan_next : (x : List ℕ) (i : ℕ) (s t : Scan) → i < length x → ScansTo (take i x) s → shape_step s (slice_index x i) ≡ Some t → ScansTo (take (i + 1) x) t
-scan_next x i s t h e n = ap (λ y. option_map shape_of (run first y)) (take_next x i h) ∙ scan_more (take i x) s (slice_index x i) e ∙ n
+scan_next x i s t h e n = scan_more x i s h e ∙ n
 
 -- what a scan has passed is a front, from an option
 scan_front_at : (x : List ℕ) (s : Scan) (o : Option State) → IsUtf8 x → run first x ≡ o → option_map shape_of o ≡ Some s → IsFront Spells x
@@ -84,11 +77,6 @@ scan_front_at x s (Some t) u r e = run_front x t u r
 -- what a scan has passed is a front
 pub scan_front : (x : List ℕ) (s : Scan) → IsUtf8 x → ScansTo x s → IsFront Spells x
 scan_front x s u e = scan_front_at x s (run first x) u refl e
-
--- what a scan keeps nothing of is none
-shape_none : (o : Option State) → option_map shape_of o ≡ None → o ≡ None
-shape_none None e = refl
-shape_none (Some t) e = none_some _ (sym e)
 
 -- what a byte that is not ASCII is not
 pub record IsHigh (b : ℕ) : Type 0 where
@@ -137,7 +125,7 @@ quoting_goes_on n b e = by_cases (b == 34) (b == 92) e
 -- what stands behind such a byte
 stage_behind : (o : Option State) (b : ℕ) (s : Scan) → IsHigh b → option_map shape_of (option_and_then (λ t. run t (b ∷ [])) o) ≡ Some s → s.stage ≡ Quoting
 stage_behind None b s h e = none_some s e
-stage_behind (Some t) b s h e = subst (Gives (λ u. u.stage ≡ Quoting)) (sym (run_shape_at (Some t) (shape_of t) b refl) ∙ e) (high_stage (length t.outer) b (stage_of t.mode) h)
+stage_behind (Some t) b s h e = subst (Gives (λ u. u.stage ≡ Quoting)) (sym (scan_behind step shape_of shape_step (Some t) (shape_of t) b (λ u r. alike u b) refl) ∙ e) (high_stage (length t.outer) b (stage_of t.mode) h)
 
 -- a scan stops where a character begins
 cut_behind : (x y : List ℕ) (b : ℕ) (s : Scan) (c : ℕ) → IsUtf8 ((x ++ b ∷ []) ++ y) → ScansTo (x ++ b ∷ []) s → shape_step s c ≡ None → IsUtf8 (x ++ b ∷ [])
@@ -147,7 +135,7 @@ cut_behind x y b s c u e n = by_case (nat_lt b 128) refl
     by_case true k = (utf8_behind x y b (grind (arith, nat_tests)) u).0
     by_case false k =
         let high : 128 ≤ b = grind (arith, nat_tests) in
-        let stage = stage_behind (run first x) b s (is_high b high) (ap (option_map shape_of) (sym (run_append x (b ∷ []) first)) ∙ e) in
+        let stage = stage_behind (run first x) b s (is_high b high) (ap (option_map shape_of) (sym (run_append step x (b ∷ []) first)) ∙ e) in
         absurd (quoting_goes_on s.depth c (ap (λ p. shape_in s.depth p c) (sym stage) ∙ n))
 
 -- what a scan has passed where it stops is UTF-8
@@ -166,8 +154,7 @@ scan_unexpected x i s u h e n = record {
   inside = h;
   front = scan_front (take i x) s (cut_utf8 x i s u h e n) e;
   wrong =
-      stopped_front (take (i + 1) x)
-      (shape_none (run first (take (i + 1) x)) (ap (λ y. option_map shape_of (run first y)) (take_next x i h) ∙ scan_more (take i x) s (slice_index x i) e ∙ n));
+      stopped_front (take (i + 1) x) (kept_none shape_of (run first (take (i + 1) x)) (scan_more x i s h e ∙ n));
 }
 
 -- a state ends where its scan may

@@ -1,19 +1,17 @@
 -- What the passes over a text say together.
-use Rattle.std.proofs.Common.{◌≡◌, ◌<◌, ◌≤◌, ◌+◌, ◌∙◌, ℕ, List, Some, None, Result, Ok, Err, sym, ap, subst, arith, drop}
+use Rattle.std.proofs.Common.{◌≡◌, ◌<◌, ◌≤◌, ◌+◌, ◌∙◌, ℕ, List, Option, Some, None, Result, Ok, Err, sym, ap, subst, arith, drop}
 use Rattle.std.specs.Str.{IsUtf8}
 use Rattle.std.proofs.lemmas.List.{take-append-drop}
 use Rattle.mix_base.proofs.Choices.{none_some, some_is}
 use Rattle.path_expr.specs.Grammar.{Spelled, Writes}
 use Rattle.path_expr.specs.Form.{Form, positions_in}
 use Rattle.path_expr.specs.Values.{value_of}
-use Rattle.path_expr.specs.Depth.{nesting}
-use Rattle.path_expr.specs.Parentheses.{opens_deep}
+use Rattle.path_expr.specs.Depth.{nesting, deep_at}
 use Rattle.path_expr.specs.Results.{Spells, SpellsWithin, IsTooDeep, HasTooMany, Answers, IsPath}
 use Rattle.path_expr.specs.declared.fault.PathFault.{PathFault}
 use Rattle.path_expr.specs.declared.fault.PathFault.TheVariants.{NotUtf8, Unexpected, Ends, TooDeep, TooMany, OutOfMemory}
-use Rattle.path_expr.specs.declared.depth.Side.TheVariants.{Outside}
 use Rattle.path_expr.proofs.Complete.{writes_read}
-use Rattle.path_expr.proofs.Deep.{whole_deep, none_nests, nests_none}
+use Rattle.path_expr.proofs.Deep.{none_nests, nests_none}
 
 -- no text is written in two ways
 pub one_spelled : (x : List ℕ) (p q : Spelled) → Writes x p → Writes x q → p ≡ q
@@ -23,21 +21,21 @@ one_spelled x p q h k = some_is p q (sym (writes_read x p h) ∙ writes_read x q
 pub one_value : (x : List ℕ) (v w : Form) → Spells x v → Spells x w → v ≡ w
 one_value x v w (p, h, e) (q, k, d) = sym e ∙ ap value_of (one_spelled x p q h k) ∙ d
 
--- a parenthesis that counting finds is too deep
-pub too_deep : (x : List ℕ) (at : ℕ) → (p : Spelled) × Writes x p → opens_deep x 0 0 Outside ≡ Some at → IsTooDeep x at
-too_deep x at (p, h) e = (p, h, sym (whole_deep x p h) ∙ e)
+-- a parenthesis that a scan finds is too deep
+pub too_deep : (x : List ℕ) (at : ℕ) (deep : Option ℕ) → (p : Spelled) × Writes x p × (deep_at p ≡ deep) → deep ≡ Some at → IsTooDeep x at
+too_deep x at deep (p, h, d) e = (p, h, d ∙ e)
 
--- where counting finds none, the path goes no deeper than 100
-nested : (x : List ℕ) (p : Spelled) → Writes x p → opens_deep x 0 0 Outside ≡ None → nesting p ≤ 100
-nested x p h e = let n = none_nests p 0 0 (omega arith) (sym (whole_deep x p h) ∙ e) in omega (arith, n)
+-- where a scan finds none, the path goes no deeper than 100
+nested : (x : List ℕ) (p q : Spelled) → Writes x p → Writes x q → deep_at q ≡ None → nesting p ≤ 100
+nested x p q h k e = let n = none_nests p 0 0 (omega arith) (ap deep_at (one_spelled x p q h k) ∙ e) in omega (arith, n)
 
 -- a path of too many positions
-pub too_many : (x : List ℕ) (v : Form) (n : ℕ) → Spells x v → opens_deep x 0 0 Outside ≡ None → n ≡ positions_in v → 120 < n → HasTooMany x n
-too_many x v n (p, h, e) d k m = (p, h, nested x p h d, ap positions_in e ∙ sym k, m)
+pub too_many : (x : List ℕ) (v : Form) (n : ℕ) (deep : Option ℕ) → Spells x v → (q : Spelled) × Writes x q × (deep_at q ≡ deep) → deep ≡ None → n ≡ positions_in v → 120 < n → HasTooMany x n
+too_many x v n deep (p, h, e) (q, w, d) none k m = (p, h, nested x p q h w (d ∙ none), ap positions_in e ∙ sym k, m)
 
 -- a path within the limits
-pub within : (x : List ℕ) (v : Form) → Spells x v → opens_deep x 0 0 Outside ≡ None → positions_in v ≤ 120 → SpellsWithin x v
-within x v (p, h, e) d m = record { spelled = p; writes = h; value = e; nesting = nested x p h d; positions = m }
+pub within : (x : List ℕ) (v : Form) (deep : Option ℕ) → Spells x v → (q : Spelled) × Writes x q × (deep_at q ≡ deep) → deep ≡ None → positions_in v ≤ 120 → SpellsWithin x v
+within x v deep (p, h, e) (q, w, d) none m = record { spelled = p; writes = h; value = e; nesting = nested x p q h w (d ∙ none); positions = m }
 
 -- it is spelled
 within_spells : (x : List ℕ) (v : Form) → SpellsWithin x v → Spells x v

@@ -16,6 +16,10 @@ abbrev pub first_of : Option ℕ → Option ℕ → Option ℕ
 first_of None b = b
 first_of (Some a) b = Some a
 
+-- a place where more than 100 parentheses are open, else none
+abbrev pub deep_here : ℕ → ℕ → Option ℕ
+deep_here n at = cond (nat_lt 100 n) (Some at) None
+
 -- the place of the first parenthesis that is open inside 100 others, in a path that begins at a place, inside n of them
 abbrev pub deep_from : ℕ → ℕ → Spelled → Option ℕ
 deep_from n at (word l) = None

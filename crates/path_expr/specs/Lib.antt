@@ -11,7 +11,6 @@ pub mod Labels
 pub mod Machine
 pub mod Matches
 pub mod Node
-pub mod Parentheses
 pub mod Results
 pub mod Scanned
 pub mod Size

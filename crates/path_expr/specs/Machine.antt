@@ -1,5 +1,6 @@
 -- Reading paths byte by byte.
 use Rattle.std.specs.Prelude.{ℕ, cond, ◌==◌, List, [], ◌∷◌, ◌++◌, Option, Some, None, option_and_then}
+use Rattle.mix_base.specs.Runs.{run_by}
 use Rattle.mix_tree.specs.LabelGrammar.{Piece, plain, escape, is_escape}
 use Rattle.mix_tree.specs.Names.{is_name_byte}
 use Rattle.path_expr.specs.Grammar.{Spelled, word, quote, group, marked, dot, bar, is_mark}
@@ -88,8 +89,7 @@ step s b = step_in s.here s.outer s.mode b
 
 -- the state behind a text
 abbrev pub run : State → List ℕ → Option State
-run s [] = Some s
-run s (b ∷ bs) = option_and_then (λ next. run next bs) (step s b)
+run = run_by step
 
 -- the last member, where it may end there
 abbrev pub repeat_in : Mode → Option Spelled

@@ -1,5 +1,5 @@
 -- What reading a path answers.
-use Rattle.std.specs.Prelude.{◌≡◌, ◌<◌, ◌≤◌, ℕ, List, Some, Result, Ok, Err}
+use Rattle.std.specs.Prelude.{◌≡◌, ◌<◌, ◌≤◌, ℕ, List, Option, Some, Result, Ok, Err}
 use Rattle.std.specs.Str.{IsUtf8}
 use Rattle.std.specs.Str.Lossy.{utf8_valid_len}
 use Rattle.mix_base.specs.Reading.{IsUnexpected, IsCut}
@@ -62,7 +62,7 @@ abbrev pub IsPath : Result Form PathFault → Form → Type 0
 IsPath (Ok w) v = w ≡ v
 IsPath (Err e) v = IsWantOfMemory e
 
--- the text is of the grammar, or the fault says why not
-abbrev pub Scans : {X : Type 0} → List ℕ → Result X PathFault → Type 0
-Scans x (Ok u) = (p : Spelled) × Writes x p
+-- the text is of the grammar, with the place of its first parenthesis that is open inside 100 others, or the fault says why it is not
+abbrev pub Scans : List ℕ → Result (Option ℕ) PathFault → Type 0
+Scans x (Ok deep) = (p : Spelled) × Writes x p × (deep_at p ≡ deep)
 Scans x (Err e) = Refuses x e

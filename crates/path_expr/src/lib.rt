@@ -3,7 +3,6 @@
 
 mod build;
 mod copying;
-mod depth;
 mod fault;
 mod law;
 mod path;

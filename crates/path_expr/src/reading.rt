@@ -6,7 +6,6 @@ ghost use Rattle.path_expr.specs.Results.{Spells, SpellsWithin, Answers, IsPath}
 
 use crate::PathFault;
 use crate::build::{Builder, Level, Spot, build_byte, build_end};
-use crate::depth::deep_parenthesis;
 use crate::path::Path;
 use crate::positions::count_positions;
 use crate::scan::scan_path;
@@ -40,8 +39,7 @@ fn read(alloc: Global, text: &[u8]) -> Result<Path, PathFault>
     requires { IsUtf8 text.now }
     ensures { Answers text.now result }
 {
-    scan_path(text)?;
-    if let Some(at) = deep_parenthesis(text) {
+    if let Some(at) = scan_path(text)? {
         return Err(PathFault::TooDeep(at));
     }
     let Some(path) = build_path(alloc, text)? else {

@@ -2,12 +2,16 @@
 ghost use Rattle.std.specs.Prelude.{◌≡◌, ◌<◌, ◌≤◌, ◌+◌, ◌^◌, length, IfSome, IsUtf8};
 ghost use Rattle.mix_tree.specs.LabelGrammar.{is_escape};
 ghost use Rattle.mix_tree.specs.Names.{is_name_byte};
+ghost use Rattle.path_expr.specs.Depth.{deep_here, first_of};
 ghost use Rattle.path_expr.specs.Grammar.{is_mark};
 ghost use Rattle.path_expr.specs.Machine.{first};
 ghost use Rattle.path_expr.specs.Scanned.{shape_of, shape_step, shape_behind, is_whole};
 ghost use Rattle.path_expr.specs.Results.{Scans};
 
 use crate::PathFault;
+
+// The most parentheses that may be open at once.
+const DEPTH: usize = 100;
 
 // What stands before a byte.
 #[derive(Clone, Copy)]
@@ -116,20 +120,33 @@ pub fn may_end_scan(scan: Scan) -> bool
     ) && scan.depth == 0
 }
 
-/// Passes over a text of the grammar. The error says where it stops to be one.
-pub fn scan_path(text: &[u8]) -> Result<(), PathFault>
+// The first place at which more than 100 parentheses are open: the one found before, else the one at hand.
+fn first_deep(found: Option<usize>, depth: usize, at: usize) -> Option<usize>
+    ensures { result ≡ first_of found (deep_here depth at) }
+{
+    match found {
+        None if depth > DEPTH => Some(at),
+        _ => found,
+    }
+}
+
+/// Passes over a text of the grammar, and answers its first parenthesis that is open inside 100 others. The error says
+/// where the text stops to be one of the grammar.
+pub fn scan_path(text: &[u8]) -> Result<Option<usize>, PathFault>
     requires { IsUtf8 text.now }
     ensures { Scans text.now result }
 {
     let mut scan = Scan::new();
+    let mut deep = None;
     for at in 0..text.len() {
         let Some(next) = scan_byte(scan, text[at]) else {
             return Err(PathFault::Unexpected(at));
         };
+        deep = first_deep(deep, next.depth, at);
         scan = next;
     }
     if may_end_scan(scan) {
-        return Ok(());
+        return Ok(deep);
     }
     Err(PathFault::Ends)
 }

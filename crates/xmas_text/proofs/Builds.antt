@@ -4,6 +4,7 @@ use Rattle.std.proofs.lemmas.List.{take_all, take-append-drop}
 use Rattle.std.proofs.Common.{length-take-le, rules}
 use Rattle.std.proofs.lemmas.Str.{IsUtf8-nil, IsUtf8-between, IsCharBoundary-from_take}
 use Rattle.std.specs.Str.{IsUtf8}
+use Rattle.mix_base.proofs.Runs.{run_append, run_one, take_next}
 use Rattle.mix_base.proofs.Choices.{Gives, some_is, none_some}
 use Rattle.mix_base.proofs.Lists.{append_nil}
 use Rattle.xmas_text.specs.declared.lexer.Part.{Part}
@@ -27,12 +28,11 @@ use Rattle.xmas_text.proofs.Texts.{spot_text, IsSpot, lex_text}
 use Rattle.xmas_text.proofs.Shifts.{shifts}
 use Rattle.xmas_text.proofs.Sound.{Goes, begin_goes}
 use Rattle.xmas_text.proofs.Runs.{Stands, token_ended, run_stands, start_stands}
-use Rattle.xmas_text.proofs.Lexes.{run_append}
 use Rattle.xmas_text.proofs.Complete.{writes_read}
 use Rattle.xmas_text.proofs.Fronts.{stood_at, stopped_writes}
 use Rattle.xmas_text.proofs.Parts.{step_part, kind_part}
 use Rattle.xmas_text.proofs.Steps.{rest_by, rest_in, rest, rest_between, step_rest, step_on}
-use Rattle.xmas_text.proofs.Cuts.{ScansTo, scan_more, take_next, InQuotes, front_utf8, quotes_go_on}
+use Rattle.xmas_text.proofs.Cuts.{ScansTo, scan_more, InQuotes, front_utf8, quotes_go_on}
 use Rattle.xmas_text.proofs.Verdicts.{whole_rest}
 use Rattle.xmas_text.proofs.Lengths.{spot_end, spot_length}
 use Rattle.xmas_text.proofs.DraftMoves.{drafts}
@@ -109,7 +109,7 @@ goes_on text n s r (Some t) w e h = (scan_of t, sym h)
 
 -- what the scan keeps behind the next byte
 next_scanned : (text : List ℕ) (n : ℕ) (b : BuildForm) → n < length text → Standing text n b → option_map scan_of (run start (take (n + 1) text)) ≡ scan_step b.scan (slice_index text n)
-next_scanned text n b l h = ap (λ y. option_map scan_of (run start y)) (take_next text n l) ∙ scan_more (take n text) b.scan (slice_index text n) (scans_of text n b h)
+next_scanned text n b l h = scan_more text n b.scan l (scans_of text n b h)
 
 -- where the token at hand does not go on, the text may be cut
 cut_here : (text : List ℕ) (n : ℕ) (b : BuildForm) → IsUtf8 text → n < length text → Standing text n b → part_step b.scan.part (slice_index text n) ≡ None → IsUtf8 (take n text)
@@ -306,12 +306,8 @@ standing_by text n b next' u l h (Some k) t e runs s i w = went_on text n b next
 -- the state behind the next byte
 stepped : (text : List ℕ) (n : ℕ) (b : BuildForm) → n < length text → (h : Standing text n b) → run start (take (n + 1) text) ≡ step h.state (slice_index text n)
 stepped text n b l h =
-    ap (run start) (take_next text n l) ∙ run_append (take n text) (slice_index text n ∷ []) start ∙ ap (option_and_then (λ t. run t (slice_index text n ∷ []))) h.runs
-    ∙ run_one (step h.state (slice_index text n))
-  where
-    run_one : (o : Option State) → option_and_then (λ u. run u []) o ≡ o
-    run_one None = refl
-    run_one (Some u) = refl
+    ap (run start) (take_next text n l) ∙ run_append step (take n text) (slice_index text n ∷ []) start ∙ ap (option_and_then (λ t. run t (slice_index text n ∷ []))) h.runs
+    ∙ run_one step (step h.state (slice_index text n))
 
 -- one more byte, where the machine goes on
 standing_at : (text : List ℕ) (n : ℕ) (b next' : BuildForm) → IsUtf8 text → n < length text → (h : Standing text n b) (o : Option State) → run start (take (n + 1) text) ≡ o

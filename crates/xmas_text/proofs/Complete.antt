@@ -1,12 +1,13 @@
 -- The machine reads each text of the grammar as it is written.
 use Rattle.std.proofs.Common.{not, ◌≡◌, ◌∙◌, ℕ, Bool, true, false, ◌&&◌, IsTrue, List, [], ◌∷◌, ◌++◌, Some, option_and_then, refl, sym, ap, subst, append_assoc}
 use Rattle.std.specs.List.{list_all}
+use Rattle.mix_base.proofs.Runs.{run_then, run_byte}
 use Rattle.mix_base.proofs.Choices.{and_parts}
 use Rattle.mix_tree.specs.Names.{IsName}
 use Rattle.xmas_text.specs.Grammar.{quoted_text, Key, node, label, Keys, none, first, more, Group, absent, braced, Items, nothing, variable, literal, element, key_text, keys_text, group_text, items_text, IsKey, HasKeys, AreKeys, IsGroup, IsItemGap, AreItems, Operand, a_variable, a_text, op_text, operand_text, IsOperand, Cond, source, walk, compare, Conds, one, also, Order, unordered, ordered, descending, ordered_text, order_text, IsOrder, cond_text, conds_text, IsCond, AreConds, IsTemplate, construct_text, where_text, Rule, IsRule, Writes}
 use Rattle.xmas_text.specs.Lexer.{between}
 use Rattle.xmas_text.specs.Lexical.{is_blank, IsBlanks, IsGap, IsVar}
-use Rattle.xmas_text.specs.Machine.{State, at, run, rule_at, whole, start, read_of}
+use Rattle.xmas_text.specs.Machine.{State, at, run, rule_at, whole, start, read_of, step}
 use Rattle.xmas_text.specs.Spots.{Frame, Head, at_first, at_more, Before, first_cond, also_cond, Start, by_name, by_var, Spot, beginning, items, labelled, keys, key_comma, key_label, cond_start, cond_from, cond_path, cond_done, compared, ordering, ordering_by, sorted, has_blank, item_gap, may_group, is_none, takes, with_group, push_cond, cond_of, shift}
 use Rattle.xmas_text.specs.Tokens.{Token, fixed, open_tag, close_tag, word, var, quoted, path, comparison, kind_of, token_text}
 use Rattle.xmas_text.specs.declared.cond.Comparison.{Comparison}
@@ -15,7 +16,6 @@ use Rattle.xmas_text.specs.declared.token.Kind.TheVariants as kind
 use Rattle.path_expr.specs.Grammar as paths
 use Rattle.xmas_text.proofs.Texts.{label_text}
 use Rattle.xmas_text.specs.Tokens.{IsToken}
-use Rattle.xmas_text.proofs.Lexes.{run_then, run_byte}
 use Rattle.xmas_text.proofs.Tokens.{IsAt, at_start, Behind, reading, gap_run, gap_step, blank_follows}
 use Rattle.xmas_text.proofs.Takes.{taken_reading}
 
@@ -32,7 +32,7 @@ pub then : (s s' s'' : Spot) (x y : List ℕ) → Reads s x s' → Reads s' y s'
 then s s' s'' x y h k t a =
     let b = h t a in
     let c = k b.state b.is in
-    record { state = c.state; runs = run_then x y t b.state b.runs ∙ c.runs; is = c.is }
+    record { state = c.state; runs = run_then step x y t b.state b.runs ∙ c.runs; is = c.is }
 
 -- a token that may come leads to the spot behind it
 pub token : (s : Spot) (h : List ℕ) (t : Token) → IsBlanks h → IsToken t → IsTrue (takes s h (kind_of t)) → Reads s (h ++ token_text t) (shift s h t)
@@ -294,7 +294,7 @@ pub tail_whole : (s : Spot) (t : State) (g : List ℕ) → IsAt s t → IsBlanks
 tail_whole s t [] a b = a.ends
 tail_whole s t (c ∷ g) a b =
     let parts = and_parts (is_blank c) (list_all is_blank g) b in
-    ap (option_and_then whole) (run_byte c g t (at s (c ∷ []) between) (a.steps c (blank_follows s c parts.0) ∙ gap_step s [] c parts.0) ∙ gap_run s (c ∷ []) g parts.1)
+    ap (option_and_then whole) (run_byte step c g t (at s (c ∷ []) between) (a.steps c (blank_follows s c parts.0) ∙ gap_step s [] c parts.0) ∙ gap_run s (c ∷ []) g parts.1)
 
 -- the text of a rule, part by part
 rule_parts : (l c x g w cs o t : List ℕ) → ((l ++ c) ++ (x ++ ((g ++ w) ++ (cs ++ o)))) ++ t ≡ l ++ (c ++ (x ++ (g ++ (w ++ (cs ++ (o ++ t))))))
@@ -306,4 +306,4 @@ writes_read x r h =
     let b = rule_reads r h.0 start (at_start beginning) in
     let front : List ℕ = (r.lead ++ construct_text) ++ (items_text r.template ++ ((r.gap ++ where_text) ++ (conds_text r.conds ++ order_text r.order))) in
     ap read_of (sym h.1 ∙ sym (rule_parts r.lead construct_text (items_text r.template) r.gap where_text (conds_text r.conds) (order_text r.order) r.tail))
-    ∙ ap (option_and_then whole) (run_then front r.tail start b.state b.runs) ∙ tail_whole (end_spot (rule_head r) r.conds r.order) b.state r.tail b.is h.0.tail ∙ end_rule (rule_head r) r.conds r.order r.tail
+    ∙ ap (option_and_then whole) (run_then step front r.tail start b.state b.runs) ∙ tail_whole (end_spot (rule_head r) r.conds r.order) b.state r.tail b.is h.0.tail ∙ end_rule (rule_head r) r.conds r.order r.tail

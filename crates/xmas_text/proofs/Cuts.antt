@@ -1,10 +1,12 @@
 -- Where a scan stands outside quotes, what it has passed is UTF-8.
 use Rattle.std.proofs.Common.{◌≡◌, ◌∙◌, ◌==◌, ◌+◌, ◌<◌, ◌≤◌, ◌&&◌, ℕ, zero, suc, Bool, true, false, cond, IsTrue, List, [], ◌∷◌, ◌++◌, Option, Some, None, option_map, option_and_then, refl, sym, ap, subst, arith, length, nat_lt, take, drop, slice_index}
 use Rattle.std.proofs.lemmas.Bool.Decides.{nat_tests}
-use Rattle.std.proofs.lemmas.List.{take_more, take-append-drop}
+use Rattle.std.proofs.lemmas.List.{take-append-drop}
 use Rattle.std.proofs.lemmas.Str.{IsUtf8-nil}
 use Rattle.std.specs.List.{list_all}
 use Rattle.std.specs.Str.{IsUtf8}
+use Rattle.mix_base.specs.Runs.{LeadsTo}
+use Rattle.mix_base.proofs.Runs.{run_append, take_next, scan_behind, scan_front as scan_front_by}
 use Rattle.mix_base.proofs.Choices.{Gives, and_parts, some_is, none_some}
 use Rattle.mix_base.proofs.Utf8.{utf8_behind}
 use Rattle.mix_tree.specs.Names.{is_name_byte}
@@ -25,35 +27,28 @@ use Rattle.xmas_text.specs.Machine.{State, step, run, start}
 use Rattle.xmas_text.specs.Parts.{part_step, or_else, first_mark, first_item, first_word, first_part}
 use Rattle.xmas_text.specs.Scans.{scan_of, may_now, with_part, settled, begun, or_begun, scan_step}
 use Rattle.xmas_text.proofs.Runs.{Stands, run_stands, start_stands}
-use Rattle.xmas_text.proofs.Lexes.{run_append}
 use Rattle.xmas_text.proofs.Fronts.{is_low, low_byte, mark_low}
 use Rattle.xmas_text.proofs.Steps.{step_scan}
 
 -- a scan that stands where the machine stands
 abbrev pub ScansTo : List ℕ → Scan → Type 0
-ScansTo x s = option_map scan_of (run start x) ≡ Some s
+ScansTo = LeadsTo step scan_of start
 
--- one byte alone
-run_one : (o : Option State) → option_and_then (λ u. run u []) o ≡ o
-run_one None = refl
-run_one (Some u) = refl
+-- a scan goes on as the machine does, where that stands at a text
+alike : (x : List ℕ) (t : State) (b : ℕ) → Stands x t → option_map scan_of (step t b) ≡ scan_step (scan_of t) b
+alike x t b h = step_scan x t.spot t.gap t.lex b h
 
--- what a scan keeps behind one more byte, from an option
-run_scan_at : (x : List ℕ) (o : Option State) (s : Scan) (b : ℕ) → Gives (Stands x) o → option_map scan_of o ≡ Some s → option_map scan_of (option_and_then (λ t. run t (b ∷ [])) o) ≡ scan_step s b
-run_scan_at x None s b h e = none_some s e
-run_scan_at x (Some t) s b h e = ap (option_map scan_of) (run_one (step t b)) ∙ step_scan x t.spot t.gap t.lex b h ∙ ap (λ u. scan_step u b) (some_is _ _ e)
+-- a state that a run came to stands
+stood : (x : List ℕ) (t : State) → run start x ≡ Some t → Stands x t
+stood x t r = subst (Gives (Stands x)) r (run_stands x [] start start_stands)
 
--- what it keeps behind one more byte
-pub scan_more : (x : List ℕ) (s : Scan) (b : ℕ) → ScansTo x s → option_map scan_of (run start (x ++ b ∷ [])) ≡ scan_step s b
-scan_more x s b e = ap (option_map scan_of) (run_append x (b ∷ []) start) ∙ run_scan_at x (run start x) s b (run_stands x [] start start_stands) e
-
--- a front with one more byte
-pub take_next : (x : List ℕ) (i : ℕ) → i < length x → take (i + 1) x ≡ take i x ++ slice_index x i ∷ []
-take_next x i h = take_more x i 0 h
+-- what it keeps behind one more byte of a text
+pub scan_more : (x : List ℕ) (i : ℕ) (s : Scan) → i < length x → ScansTo (take i x) s → option_map scan_of (run start (take (i + 1) x)) ≡ scan_step s (slice_index x i)
+scan_more x i s h e = scan_front_by step scan_of scan_step start x i s (λ t b r. alike (take i x) t b (stood (take i x) t r)) h e
 
 -- a scan goes on
 pub scan_next : (x : List ℕ) (i : ℕ) (s t : Scan) → i < length x → ScansTo (take i x) s → scan_step s (slice_index x i) ≡ Some t → ScansTo (take (i + 1) x) t
-scan_next x i s t h e n = ap (λ y. option_map scan_of (run start y)) (take_next x i h) ∙ scan_more (take i x) s (slice_index x i) e ∙ n
+scan_next x i s t h e n = scan_more x i s h e ∙ n
 
 -- inside a quoted label
 abbrev pub InQuotes : Part → Type 0
@@ -160,7 +155,7 @@ high_step s b l = high_by s b (part_step s.part b) l (is_high b l) (is_higher b 
 -- what stands behind such a byte
 high_behind : (o : Option State) (x : List ℕ) (b : ℕ) (s : Scan) → 128 ≤ b → Gives (Stands x) o → option_map scan_of (option_and_then (λ t. run t (b ∷ [])) o) ≡ Some s → InQuotes s.part
 high_behind None x b s l h e = none_some s e
-high_behind (Some t) x b s l h e = subst (Gives (λ u. InQuotes u.part)) (sym (run_scan_at x (Some t) (scan_of t) b h refl) ∙ e) (high_step (scan_of t) b l)
+high_behind (Some t) x b s l h e = subst (Gives (λ u. InQuotes u.part)) (sym (scan_behind step scan_of scan_step (Some t) (scan_of t) b (λ u r. alike x u b (subst (Stands x) (some_is _ _ r) h)) refl) ∙ e) (high_step (scan_of t) b l)
 
 -- outside quotes a character ends
 cut_behind : (x y : List ℕ) (b : ℕ) (s : Scan) → IsUtf8 ((x ++ b ∷ []) ++ y) → ScansTo (x ++ b ∷ []) s → (InQuotes s.part → ⊥) → IsUtf8 (x ++ b ∷ [])
@@ -170,7 +165,7 @@ cut_behind x y b s u e n = by_case (nat_lt b 128) refl
     by_case true k = (utf8_behind x y b (grind (arith, nat_tests)) u).0
     by_case false k =
         let high : 128 ≤ b = grind (arith, nat_tests) in
-        absurd (n (high_behind (run start x) x b s high (run_stands x [] start start_stands) (ap (option_map scan_of) (sym (run_append x (b ∷ []) start)) ∙ e)))
+        absurd (n (high_behind (run start x) x b s high (run_stands x [] start start_stands) (ap (option_map scan_of) (sym (run_append step x (b ∷ []) start)) ∙ e)))
 
 -- what a scan outside quotes has passed is UTF-8
 pub front_utf8 : (x : List ℕ) (i : ℕ) (s : Scan) → IsUtf8 x → i ≤ length x → ScansTo (take i x) s → (InQuotes s.part → ⊥) → IsUtf8 (take i x)

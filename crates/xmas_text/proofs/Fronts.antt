@@ -5,6 +5,7 @@ use Rattle.std.specs.List.{list_all}
 use Rattle.std.proofs.Common.{nat_lt, zero, suc}
 use Rattle.std.proofs.lemmas.Bool.Decides.{nat_tests}
 use Rattle.std.proofs.lemmas.Str.{IsUtf8-nil, IsUtf8-append, IsUtf8-from_ascii}
+use Rattle.mix_base.proofs.Runs.{run_append, run_then}
 use Rattle.mix_base.specs.Reading.{IsFront}
 use Rattle.xmas_text.specs.Parsed.{parsed}
 use Rattle.xmas_text.specs.Results.{Spells}
@@ -26,7 +27,7 @@ use Rattle.path_expr.proofs.Fronts as path_fronts
 use Rattle.path_expr.proofs.Complete as path_complete
 use Rattle.xmas_text.proofs.Texts.{IsLex}
 use Rattle.xmas_text.specs.Tokens.{IsToken}
-use Rattle.xmas_text.proofs.Lexes.{run_append, run_then, mark_read, path_run}
+use Rattle.xmas_text.proofs.Lexes.{mark_read, path_run}
 use Rattle.xmas_text.proofs.Tokens.{is_apart, is_fixed, no_equal, follows, IsAt, at_start, gap_run, last_step, last_whole}
 use Rattle.xmas_text.proofs.Takes.{unfixed, varying_quiet, naming_quiet, push_unfixed, repeat_quiet, apart_not_name, apart_marks}
 use Rattle.xmas_text.proofs.Complete.{Reads, stays, then, token}
@@ -159,7 +160,7 @@ text_on x s t u e h = record {
   bytes = x ++ h.bytes;
   utf8 = IsUtf8-append x h.bytes u h.utf8;
   rule = h.rule;
-  read = ap (option_and_then whole) (run_then x h.bytes s t e) ∙ h.read;
+  read = ap (option_and_then whole) (run_then step x h.bytes s t e) ∙ h.read;
 }
 
 -- a state goes on where the next one does
@@ -322,7 +323,7 @@ gap_on : (s : Spot) (g : List ℕ) (t : Token) → IsBlanks g → IsBlanks (g ++
 gap_on s g t b c i k l =
     let n = token s (g ++ gap) t c i k (at s [] between) (at_start s) in
     text_on (gap ++ token_text t) (at s g between) n.state (low_utf8 (gap ++ token_text t) l)
-    (sym (run_then g (gap ++ token_text t) (at s [] between) (at s g between) (gap_run s [] g b)) ∙ ap (run (at s [] between)) (sym (append_assoc g gap (token_text t))) ∙ n.runs)
+    (sym (run_then step g (gap ++ token_text t) (at s [] between) (at s g between) (gap_run s [] g b)) ∙ ap (run (at s [] between)) (sym (append_assoc g gap (token_text t))) ∙ n.runs)
     (at_on (shift s (g ++ gap) t) n.state n.is)
 
 -- there is a blank behind one more
@@ -378,12 +379,12 @@ pub run_front : (x : List ℕ) (t : State) → IsUtf8 x → run start x ≡ Some
 run_front x t u e =
     let stands = stood_at x (run start x) t (run_stands x [] start start_stands) e in
     let on = state_on x t.spot t.gap t.lex stands in
-    let writes = read_writes (x ++ on.bytes) on.rule (ap (option_and_then whole) (run_then x on.bytes start t e) ∙ on.read) in
+    let writes = read_writes (x ++ on.bytes) on.rule (ap (option_and_then whole) (run_then step x on.bytes start t e) ∙ on.read) in
     (on.bytes, parsed on.rule, IsUtf8-append x on.bytes u on.utf8, (on.rule, writes, refl))
 
 -- where a run has stopped, no text goes on
 pub stopped_writes : (x y : List ℕ) (r : Rule) → run start x ≡ None → Writes (x ++ y) r → ⊥
-stopped_writes x y r e h = none_some r (sym (ap (option_and_then whole) (run_append x y start ∙ ap (option_and_then (λ u. run u y)) e)) ∙ complete.writes_read (x ++ y) r h)
+stopped_writes x y r e h = none_some r (sym (ap (option_and_then whole) (run_append step x y start ∙ ap (option_and_then (λ u. run u y)) e)) ∙ complete.writes_read (x ++ y) r h)
 
 -- and it is no front
 pub stopped_front : (x : List ℕ) → run start x ≡ None → IsFront Spells x → ⊥

@@ -2,36 +2,18 @@
 use Rattle.std.proofs.Common.{◌≡◌, ◌∙◌, ◌==◌, ℕ, Bool, true, false, cond, ◌&&◌, IsTrue, List, [], ◌∷◌, ◌++◌, Option, Some, None, option_and_then, refl, sym, ap, append_assoc, arith}
 use Rattle.std.proofs.lemmas.Bool.Decides.{nat_tests}
 use Rattle.std.specs.List.{list_all}
+use Rattle.mix_base.proofs.Runs.{run_then, run_byte}
 use Rattle.mix_base.proofs.Choices.{and_parts, some_is, none_some}
 use Rattle.mix_base.proofs.Lists.{append_nil}
 use Rattle.mix_tree.specs.LabelGrammar.{Piece, plain, escape, is_escape, is_plain, is_piece, ArePieces, inside_quotes}
 use Rattle.mix_tree.specs.Names.{is_name_byte, IsName}
 use Rattle.xmas_text.specs.Lexer.{Lex, between, marking, angle, opening, slash, closing, naming, dollar, varying, quoting, escaping, pathing, ready, comparing, map_path, lex_step}
 use Rattle.xmas_text.specs.Lexical.{is_letter, is_word_byte, IsVar}
-use Rattle.xmas_text.specs.Machine.{State, at, or_behind, step, run}
+use Rattle.xmas_text.specs.Machine.{at, or_behind, step, run}
 use Rattle.xmas_text.specs.Spots.{Spot}
 use Rattle.xmas_text.specs.Tokens.{open_tag, close_tag, quoted}
 use Rattle.xmas_text.specs.declared.token.Mark.{Mark}
 use Rattle.path_expr.specs.Machine as pathing_
-
--- two texts, from an option
-behind_ : (x y : List ℕ) → ((t : State) → run t (x ++ y) ≡ option_and_then (λ u. run u y) (run t x)) → (o : Option State)
-    → option_and_then (λ t. run t (x ++ y)) o ≡ option_and_then (λ t. run t y) (option_and_then (λ t. run t x) o)
-behind_ x y h None = refl
-behind_ x y h (Some t) = h t
-
--- two texts
-pub run_append : (x y : List ℕ) (s : State) → run s (x ++ y) ≡ option_and_then (λ t. run t y) (run s x)
-run_append [] y s = refl
-run_append (b ∷ x) y s = behind_ x y (λ t. run_append x y t) (step s b)
-
--- two texts, by where the first leads
-pub run_then : (x y : List ℕ) (s t : State) → run s x ≡ Some t → run s (x ++ y) ≡ run t y
-run_then x y s t e = run_append x y s ∙ ap (option_and_then (λ u. run u y)) e
-
--- a text by its first byte
-pub run_byte : (b : ℕ) (y : List ℕ) (s t : State) → step s b ≡ Some t → run s (b ∷ y) ≡ run t y
-run_byte b y s t e = ap (option_and_then (λ u. run u y)) e
 
 -- where a token goes on, so does the machine
 pub lexes : (s : Spot) (g : List ℕ) (l k : Lex) (b : ℕ) → lex_step l b ≡ Some k → step (at s g l) b ≡ Some (at s g k)
@@ -55,7 +37,7 @@ grows : (C : List ℕ → Lex) (p : ℕ → Bool) → ((l : List ℕ) (b : ℕ) 
 grows C p h s g l [] a = ap (λ r. Some (at s g (C r))) (sym (append_nil l))
 grows C p h s g l (b ∷ x) a =
     let parts = and_parts (p b) (list_all p x) a in
-    run_byte b x (at s g (C l)) (at s g (C (l ++ b ∷ []))) (lexes s g (C l) (C (l ++ b ∷ [])) b (h l b parts.0))
+    run_byte step b x (at s g (C l)) (at s g (C (l ++ b ∷ []))) (lexes s g (C l) (C (l ++ b ∷ [])) b (h l b parts.0))
     ∙ grows C p h s g (l ++ b ∷ []) x parts.1 ∙ ap (λ r. Some (at s g (C r))) (append_assoc l (b ∷ []) x)
 
 -- an opening tag goes on with a name
@@ -96,16 +78,16 @@ pub open_read : (q : Bool) (s : Spot) (g l : List ℕ) → IsName l → run (at 
 open_read q s g [] h = absurd (omega arith)
 open_read q s g (b ∷ l) h =
     let parts = and_parts (is_name_byte b) (list_all is_name_byte l) h.0 in
-    run_byte b (l ++ 62 ∷ []) (at s g (angle true q)) (at s g (opening (b ∷ []))) (lexes s g (angle true q) (opening (b ∷ [])) b (angle_opens q b parts.0))
-    ∙ run_then l (62 ∷ []) (at s g (opening (b ∷ []))) (at s g (opening (b ∷ l))) (grows opening is_name_byte opening_grows s g (b ∷ []) l parts.1)
+    run_byte step b (l ++ 62 ∷ []) (at s g (angle true q)) (at s g (opening (b ∷ []))) (lexes s g (angle true q) (opening (b ∷ [])) b (angle_opens q b parts.0))
+    ∙ run_then step l (62 ∷ []) (at s g (opening (b ∷ []))) (at s g (opening (b ∷ l))) (grows opening is_name_byte opening_grows s g (b ∷ []) l parts.1)
 
 -- a closing tag behind its bracket
 pub close_read : (p : Bool) (s : Spot) (g l : List ℕ) → IsName l → run (at s g (angle p true)) (47 ∷ (l ++ 62 ∷ [])) ≡ Some (at s g (ready (close_tag l)))
 close_read p s g [] h = absurd (omega arith)
 close_read p s g (b ∷ l) h =
     let parts = and_parts (is_name_byte b) (list_all is_name_byte l) h.0 in
-    run_byte b (l ++ 62 ∷ []) (at s g slash) (at s g (closing (b ∷ []))) (lexes s g slash (closing (b ∷ [])) b (slash_closes b parts.0))
-    ∙ run_then l (62 ∷ []) (at s g (closing (b ∷ []))) (at s g (closing (b ∷ l))) (grows closing is_name_byte closing_grows s g (b ∷ []) l parts.1)
+    run_byte step b (l ++ 62 ∷ []) (at s g slash) (at s g (closing (b ∷ []))) (lexes s g slash (closing (b ∷ [])) b (slash_closes b parts.0))
+    ∙ run_then step l (62 ∷ []) (at s g (closing (b ∷ []))) (at s g (closing (b ∷ l))) (grows closing is_name_byte closing_grows s g (b ∷ []) l parts.1)
 
 -- a name behind its first byte
 pub name_read : (s : Spot) (g : List ℕ) (b : ℕ) (l : List ℕ) → IsTrue (list_all is_name_byte l) → run (at s g (naming (b ∷ []))) l ≡ Some (at s g (naming (b ∷ l)))
@@ -119,7 +101,7 @@ letter_step b h = rw h refl
 pub var_read : (s : Spot) (g v : List ℕ) → IsVar v → run (at s g dollar) v ≡ Some (at s g (varying v))
 var_read s g [] h = absurd h
 var_read s g (b ∷ v) h =
-    run_byte b v (at s g dollar) (at s g (varying (b ∷ []))) (lexes s g dollar (varying (b ∷ [])) b (letter_step b h.0)) ∙ grows varying is_word_byte varying_grows s g (b ∷ []) v h.1
+    run_byte step b v (at s g dollar) (at s g (varying (b ∷ []))) (lexes s g dollar (varying (b ∷ [])) b (letter_step b h.0)) ∙ grows varying is_word_byte varying_grows s g (b ∷ []) v h.1
 
 -- a byte that stands for itself
 plain_step : (b : ℕ) (ps : List Piece) → IsTrue (is_plain b) → lex_step (quoting ps) b ≡ Some (quoting (ps ++ plain b ∷ []))
@@ -139,16 +121,16 @@ quote_goes_on : (s : Spot) (g : List ℕ) (ps qs : List Piece) → ArePieces qs 
 quote_goes_on s g ps [] h = ap (λ r. Some (at s g (quoting r))) (sym (append_nil ps))
 quote_goes_on s g ps (plain b ∷ qs) h =
     let parts = and_parts (is_plain b) (list_all is_piece qs) h in
-    run_byte b (inside_quotes qs) (at s g (quoting ps)) (at s g (quoting (ps ++ plain b ∷ []))) (lexes s g (quoting ps) (quoting (ps ++ plain b ∷ [])) b (plain_step b ps parts.0))
+    run_byte step b (inside_quotes qs) (at s g (quoting ps)) (at s g (quoting (ps ++ plain b ∷ []))) (lexes s g (quoting ps) (quoting (ps ++ plain b ∷ [])) b (plain_step b ps parts.0))
     ∙ quote_goes_on s g (ps ++ plain b ∷ []) qs parts.1 ∙ ap (λ r. Some (at s g (quoting r))) (append_assoc ps (plain b ∷ []) qs)
 quote_goes_on s g ps (escape b ∷ qs) h =
     let parts = and_parts (is_escape b) (list_all is_piece qs) h in
-    run_byte b (inside_quotes qs) (at s g (escaping ps)) (at s g (quoting (ps ++ escape b ∷ []))) (lexes s g (escaping ps) (quoting (ps ++ escape b ∷ [])) b (escape_step b ps parts.0))
+    run_byte step b (inside_quotes qs) (at s g (escaping ps)) (at s g (quoting (ps ++ escape b ∷ []))) (lexes s g (escaping ps) (quoting (ps ++ escape b ∷ [])) b (escape_step b ps parts.0))
     ∙ quote_goes_on s g (ps ++ escape b ∷ []) qs parts.1 ∙ ap (λ r. Some (at s g (quoting r))) (append_assoc ps (escape b ∷ []) qs)
 
 -- a quoted label behind its quote
 pub quote_read : (s : Spot) (g : List ℕ) (ps : List Piece) → ArePieces ps → run (at s g (quoting [])) (inside_quotes ps ++ 34 ∷ []) ≡ Some (at s g (ready (quoted ps)))
-quote_read s g ps h = run_then (inside_quotes ps) (34 ∷ []) (at s g (quoting [])) (at s g (quoting ps)) (quote_goes_on s g [] ps h)
+quote_read s g ps h = run_then step (inside_quotes ps) (34 ∷ []) (at s g (quoting [])) (at s g (quoting ps)) (quote_goes_on s g [] ps h)
 
 -- the next byte of a token that is always the same
 mark_step : (m : Mark) (done : List ℕ) (c : ℕ) (rest : List ℕ) → lex_step (marking m done (c ∷ rest)) c ≡ Some (marking m (done ++ c ∷ []) rest)
@@ -158,14 +140,14 @@ mark_step m done c rest = let same : (c == c) ≡ true = grind (arith, nat_tests
 pub mark_read : (s : Spot) (g : List ℕ) (m : Mark) (done rest : List ℕ) → run (at s g (marking m done rest)) rest ≡ Some (at s g (marking m (done ++ rest) []))
 mark_read s g m done [] = ap (λ r. Some (at s g (marking m r []))) (sym (append_nil done))
 mark_read s g m done (c ∷ rest) =
-    run_byte c rest (at s g (marking m done (c ∷ rest))) (at s g (marking m (done ++ c ∷ []) rest)) (lexes s g (marking m done (c ∷ rest)) (marking m (done ++ c ∷ []) rest) c (mark_step m done c rest))
+    run_byte step c rest (at s g (marking m done (c ∷ rest))) (at s g (marking m (done ++ c ∷ []) rest)) (lexes s g (marking m done (c ∷ rest)) (marking m (done ++ c ∷ []) rest) c (mark_step m done c rest))
     ∙ mark_read s g m (done ++ c ∷ []) rest ∙ ap (λ r. Some (at s g (marking m r []))) (append_assoc done (c ∷ []) rest)
 
 -- a path by its first byte
 path_run_at : (s : Spot) (g : List ℕ) (b : ℕ) (x : List ℕ) (o : Option pathing_.State) (p t : pathing_.State) → pathing_.step p b ≡ o → option_and_then (λ u. pathing_.run u x) o ≡ Some t
     → ((u : pathing_.State) → pathing_.run u x ≡ Some t → run (at s g (pathing u)) x ≡ Some (at s g (pathing t))) → run (at s g (pathing p)) (b ∷ x) ≡ Some (at s g (pathing t))
 path_run_at s g b x None p t e h k = none_some t h
-path_run_at s g b x (Some u) p t e h k = run_byte b x (at s g (pathing p)) (at s g (pathing u)) (lexes s g (pathing p) (pathing u) b (ap map_path e)) ∙ k u h
+path_run_at s g b x (Some u) p t e h k = run_byte step b x (at s g (pathing p)) (at s g (pathing u)) (lexes s g (pathing p) (pathing u) b (ap map_path e)) ∙ k u h
 
 -- a path
 pub path_run : (s : Spot) (g : List ℕ) (x : List ℕ) (p t : pathing_.State) → pathing_.run p x ≡ Some t → run (at s g (pathing p)) x ≡ Some (at s g (pathing t))

@@ -2,6 +2,7 @@
 use Rattle.std.proofs.Common.{not, ◌≡◌, ◌∙◌, ◌==◌, ℕ, Bool, true, false, ◌&&◌, ◌||◌, IsTrue, List, [], ◌∷◌, ◌++◌, Some, None, refl, sym, ap, append_assoc, arith}
 use Rattle.std.proofs.lemmas.Bool.Decides.{nat_tests}
 use Rattle.std.specs.List.{list_all}
+use Rattle.mix_base.proofs.Runs.{run_then, run_byte}
 use Rattle.mix_base.proofs.Choices.{and_parts, none_some}
 use Rattle.mix_base.proofs.Lists.{append_nil}
 use Rattle.xmas_text.specs.Lexer.{Lex, between, marking, angle, opening, slash, closing, naming, dollar, varying, quoting, escaping, pathing, ready, comparing, lex_step, token_in, begin}
@@ -9,7 +10,6 @@ use Rattle.xmas_text.specs.Lexical.{is_blank, IsBlanks}
 use Rattle.xmas_text.specs.Machine.{State, at, with_lex, next, behind, or_behind, step_in, step, run, rule_at, rule_behind, whole_in, whole}
 use Rattle.xmas_text.specs.Spots.{Spot, beginning, items, labelled, keys, key_comma, key_label, cond_start, cond_from, cond_path, cond_done, compared, ordering, ordering_by, sorted, is_nothing, is_none, takes, shift}
 use Rattle.xmas_text.specs.Tokens.{Token, token_text}
-use Rattle.xmas_text.proofs.Lexes.{run_then, run_byte}
 
 -- a byte that ends a name, a variable and a path
 abbrev pub is_apart : ℕ → Bool
@@ -107,7 +107,7 @@ pub gap_run : (s : Spot) (g x : List ℕ) → IsBlanks x → run (at s g between
 gap_run s g [] h = ap (λ r. Some (at s r between)) (sym (append_nil g))
 gap_run s g (b ∷ x) h =
     let parts = and_parts (is_blank b) (list_all is_blank x) h in
-    run_byte b x (at s g between) (at s (g ++ b ∷ []) between) (gap_step s g b parts.0) ∙ gap_run s (g ++ b ∷ []) x parts.1
+    run_byte step b x (at s g between) (at s (g ++ b ∷ []) between) (gap_step s g b parts.0) ∙ gap_run s (g ++ b ∷ []) x parts.1
     ∙ ap (λ r. Some (at s r between)) (append_assoc g (b ∷ []) x)
 
 -- the first byte of a token
@@ -131,12 +131,12 @@ blank_follows s b h = let n : is_apart b ≡ true = rw h refl in or_both (is_fix
 -- a gap and the first byte of a token
 first_read : (s : Spot) (st : State) (h : List ℕ) (b : ℕ) (y : List ℕ) (l : Lex) → IsAt s st → IsBlanks h → (h ≡ [] → IsTrue (follows s b)) → is_blank b ≡ false → begin (takes s h) b ≡ Some l
     → run st (h ++ b ∷ y) ≡ run (at s h l) y
-first_read s st [] b y l a g f n e = run_byte b y st (at s [] l) (a.steps b (f refl) ∙ token_step s [] b l n e)
+first_read s st [] b y l a g f n e = run_byte step b y st (at s [] l) (a.steps b (f refl) ∙ token_step s [] b l n e)
 first_read s st (c ∷ h) b y l a g f n e =
     let parts = and_parts (is_blank c) (list_all is_blank h) g in
-    run_byte c (h ++ b ∷ y) st (at s (c ∷ []) between) (a.steps c (blank_follows s c parts.0) ∙ gap_step s [] c parts.0)
-    ∙ run_then h (b ∷ y) (at s (c ∷ []) between) (at s (c ∷ h) between) (gap_run s (c ∷ []) h parts.1)
-    ∙ run_byte b y (at s (c ∷ h) between) (at s (c ∷ h) l) (token_step s (c ∷ h) b l n e)
+    run_byte step c (h ++ b ∷ y) st (at s (c ∷ []) between) (a.steps c (blank_follows s c parts.0) ∙ gap_step s [] c parts.0)
+    ∙ run_then step h (b ∷ y) (at s (c ∷ []) between) (at s (c ∷ h) between) (gap_run s (c ∷ []) h parts.1)
+    ∙ run_byte step b y (at s (c ∷ h) between) (at s (c ∷ h) l) (token_step s (c ∷ h) b l n e)
 
 -- the state behind a token
 pub record Behind (s : Spot) (x : List ℕ) (t : State) : Type 0 where

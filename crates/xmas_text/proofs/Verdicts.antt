@@ -3,6 +3,7 @@ use Rattle.std.proofs.Common.{◌≡◌, ◌∙◌, ◌+◌, ◌<◌, ◌≤◌,
 use Rattle.std.proofs.lemmas.Bool.Decides.{nat_tests}
 use Rattle.std.specs.Str.{IsUtf8}
 use Rattle.mix_base.specs.Reading.{IsFront, IsUnexpected, IsCut}
+use Rattle.mix_base.proofs.Runs.{kept_none}
 use Rattle.mix_base.proofs.Choices.{Gives, some_is, none_some}
 use Rattle.xmas_text.specs.declared.scan.Scan.{Scan}
 use Rattle.xmas_text.specs.Grammar.{Rule, Writes}
@@ -19,7 +20,7 @@ use Rattle.xmas_text.proofs.Runs.{Stands, run_stands, start_stands, read_writes}
 use Rattle.xmas_text.proofs.Complete.{writes_read}
 use Rattle.xmas_text.proofs.Fronts.{run_front, stopped_front}
 use Rattle.xmas_text.proofs.Steps.{rest_by, rest_in, rest, rest_scan}
-use Rattle.xmas_text.proofs.Cuts.{ScansTo, scan_more, take_next, front_utf8, stops_outside}
+use Rattle.xmas_text.proofs.Cuts.{ScansTo, scan_more, front_utf8, stops_outside}
 
 -- what a scan has passed is a front, from an option
 scan_front_at : (x : List ℕ) (s : Scan) (o : Option State) → IsUtf8 x → run start x ≡ o → option_map scan_of o ≡ Some s → IsFront Spells x
@@ -30,19 +31,13 @@ scan_front_at x s (Some t) u r e = run_front x t u r
 pub scan_front : (x : List ℕ) (s : Scan) → IsUtf8 x → ScansTo x s → IsFront Spells x
 scan_front x s u e = scan_front_at x s (run start x) u refl e
 
--- what a scan keeps nothing of is none
-scan_none : (o : Option State) → option_map scan_of o ≡ None → o ≡ None
-scan_none None e = refl
-scan_none (Some t) e = none_some _ (sym e)
-
 -- where a scan stops, the byte is unexpected
 pub scan_unexpected : (x : List ℕ) (i : ℕ) (s : Scan) → IsUtf8 x → i < length x → ScansTo (take i x) s → scan_step s (slice_index x i) ≡ None → IsUnexpected Spells x i
 scan_unexpected x i s u h e n = record {
   inside = h;
   front = scan_front (take i x) s (front_utf8 x i s u (omega arith) e (stops_outside s (slice_index x i) n)) e;
   wrong =
-      stopped_front (take (i + 1) x)
-      (scan_none (run start (take (i + 1) x)) (ap (λ y. option_map scan_of (run start y)) (take_next x i h) ∙ scan_more (take i x) s (slice_index x i) e ∙ n));
+      stopped_front (take (i + 1) x) (kept_none scan_of (run start (take (i + 1) x)) (scan_more x i s h e ∙ n));
 }
 
 -- the rule behind a token

@@ -1,5 +1,6 @@
 -- Reading rules byte by byte: tokens, each behind blanks, and where they stand.
 use Rattle.std.specs.Prelude.{ℕ, cond, List, [], ◌∷◌, ◌++◌, Option, Some, None, option_and_then}
+use Rattle.mix_base.specs.Runs.{run_by}
 use Rattle.xmas_text.specs.Lexical.{is_blank}
 use Rattle.xmas_text.specs.Grammar.{unordered, Rule}
 use Rattle.xmas_text.specs.Tokens.{Token}
@@ -58,8 +59,7 @@ step s b = step_in s.spot s.gap s.lex b
 
 -- the state behind a text
 abbrev pub run : State → List ℕ → Option State
-run s [] = Some s
-run s (b ∷ bs) = option_and_then (λ t. run t bs) (step s b)
+run = run_by step
 
 -- the rule that has been read, where it may end at the spot
 abbrev pub rule_at : Spot → List ℕ → Option Rule

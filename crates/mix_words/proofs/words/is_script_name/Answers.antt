@@ -1,10 +1,10 @@
 use Rattle.std.proofs.Common.{◌∙◌, ap, sym, ◌&&◌, drop, take, length, ◌-◌}
 use Rattle.std.specs.List.{list_all}
-use Rattle.mix_words.specs.Words.{is_name_byte}
+use Rattle.mix_words.specs.Words.{is_script_byte}
 use Rattle.mix_words.proofs.NameBytes.{is_name-parts}
 use Rattle.mix_words.proofs.words.is_script_name.Goals as goal
 
 pub returns-then-is_letter_byte : goal.returns-then-is_letter_byte
 returns-then-is_letter_byte c =
-    c.are_in_name.ensures ∙ ap (λ b. b && list_all is_name_byte (take (length c.args.word.now - 1) (drop 1 c.args.word.now))) (sym c.if-is_letter_byte.true ∙ c.is_letter_byte.ensures)
+    c.are_in_name.ensures ∙ ap (λ b. b && list_all is_script_byte (take (length c.args.word.now - 1) (drop 1 c.args.word.now))) (sym c.if-is_letter_byte.true ∙ c.is_letter_byte.ensures)
     ∙ sym (is_name-parts c.args.word.now c.in-len1-up.len_at_least)
