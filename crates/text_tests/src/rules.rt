@@ -44,48 +44,50 @@ fn is_refused(alloc: Global, text: &[u8], wanted: TextFault) -> bool {
     }
 }
 
+// Texts that are no rules, each with its refusal.
+const REFUSED: [(&str, TextFault); 21] = [
+    ("", TextFault::EndsEarly),
+    (" CONSTR", TextFault::EndsEarly),
+    ("CONSTRUCT <a>", TextFault::EndsEarly),
+    ("CONSTRUCT <a></a> WHERE s a $", TextFault::EndsEarly),
+    ("CONSTRUCT <a></a> WHERE s a", TextFault::EndsEarly),
+    ("CONSTRUCT <a></a> WHERE s a $X AND", TextFault::EndsEarly),
+    (
+        "CONSTRUCT <a></a> WHERE s a $X ORDER BY",
+        TextFault::EndsEarly,
+    ),
+    ("CONSTRUCT<a></a>", TextFault::Unexpected(9)),
+    ("construct", TextFault::Unexpected(0)),
+    ("CONSTRUCT <a>$X$Y", TextFault::Unexpected(15)),
+    ("CONSTRUCT <a></ a>", TextFault::Unexpected(15)),
+    ("CONSTRUCT <a> $X {$X $Y}", TextFault::Unexpected(21)),
+    ("CONSTRUCT <a> \"x\" {", TextFault::Unexpected(18)),
+    ("CONSTRUCT <a> \"é\\é", TextFault::Unexpected(18)),
+    ("CONSTRUCT <a></a> {} {", TextFault::Unexpected(21)),
+    ("CONSTRUCT <a></a> WHERE s a..b", TextFault::Unexpected(28)),
+    ("CONSTRUCT <a></a> WHERE s = $X", TextFault::Unexpected(26)),
+    (
+        "CONSTRUCT <a></a> WHERE $X ! = $Y",
+        TextFault::Unexpected(28),
+    ),
+    (
+        "CONSTRUCT <a></a> WHERE s a $X and",
+        TextFault::Unexpected(31),
+    ),
+    (
+        "CONSTRUCT <a></a> WHERE s a $X é",
+        TextFault::Unexpected(31),
+    ),
+    (
+        "CONSTRUCT <a></a> WHERE s a $X ORDER BY $X DESC AND",
+        TextFault::Unexpected(48),
+    ),
+];
+
 #[test]
 fn refusals_name_their_place(rt: HostRuntime) -> Result<(), Fail> {
     let alloc = rt.alloc();
-    let rows = [
-        ("", TextFault::EndsEarly),
-        (" CONSTR", TextFault::EndsEarly),
-        ("CONSTRUCT <a>", TextFault::EndsEarly),
-        ("CONSTRUCT <a></a> WHERE s a $", TextFault::EndsEarly),
-        ("CONSTRUCT <a></a> WHERE s a", TextFault::EndsEarly),
-        ("CONSTRUCT <a></a> WHERE s a $X AND", TextFault::EndsEarly),
-        (
-            "CONSTRUCT <a></a> WHERE s a $X ORDER BY",
-            TextFault::EndsEarly,
-        ),
-        ("CONSTRUCT<a></a>", TextFault::Unexpected(9)),
-        ("construct", TextFault::Unexpected(0)),
-        ("CONSTRUCT <a>$X$Y", TextFault::Unexpected(15)),
-        ("CONSTRUCT <a></ a>", TextFault::Unexpected(15)),
-        ("CONSTRUCT <a> $X {$X $Y}", TextFault::Unexpected(21)),
-        ("CONSTRUCT <a> \"x\" {", TextFault::Unexpected(18)),
-        ("CONSTRUCT <a> \"é\\é", TextFault::Unexpected(18)),
-        ("CONSTRUCT <a></a> {} {", TextFault::Unexpected(21)),
-        ("CONSTRUCT <a></a> WHERE s a..b", TextFault::Unexpected(28)),
-        ("CONSTRUCT <a></a> WHERE s = $X", TextFault::Unexpected(26)),
-        (
-            "CONSTRUCT <a></a> WHERE $X ! = $Y",
-            TextFault::Unexpected(28),
-        ),
-        (
-            "CONSTRUCT <a></a> WHERE s a $X and",
-            TextFault::Unexpected(31),
-        ),
-        (
-            "CONSTRUCT <a></a> WHERE s a $X é",
-            TextFault::Unexpected(31),
-        ),
-        (
-            "CONSTRUCT <a></a> WHERE s a $X ORDER BY $X DESC AND",
-            TextFault::Unexpected(48),
-        ),
-    ];
-    for (text, wanted) in rows {
+    for (text, wanted) in REFUSED {
         assert!(rt; is_refused(alloc, text.as_bytes(), wanted));
     }
     assert!(rt;
