@@ -6,8 +6,9 @@ ghost use Rattle.path_auto.specs.Positions.{passes};
 ghost use Rattle.path_auto.specs.Sets.{step_from};
 ghost use Rattle.path_auto.specs.Automaton.{machine_of, table_of, IsAutomatonOf};
 
+use crate::StateSet;
 use crate::sets::{entry_path, has, live_set, push_behind, push_labels, single};
-use mix_tree::{Label, same_label};
+use mix_tree::Label;
 use path_expr::{Path, count_positions};
 use std::alloc::{AllocError, Global};
 use std::marker::Model;
@@ -62,34 +63,34 @@ impl Auto {
 
     /// The states before any label.
     #[tactic(auto, unfolding(crate::specs::Automaton::machine_of))]
-    pub fn start(&self) -> u128
+    pub fn start(&self) -> StateSet
         ensures { result ≡ (machine_of self.now).start }
     {
-        self.first
+        StateSet::new(self.first)
     }
 
     /// The states behind one more label.
     #[tactic(auto, unfolding(crate::specs::Automaton::machine_of))]
-    pub fn step(&self, states: u128, l: &Label) -> u128
+    pub fn step(&self, states: StateSet, l: &Label) -> StateSet
         ensures { result ≡ (machine_of self.now).step states l.now }
     {
-        step_table(&self.labels, &self.behind, states, l)
+        StateSet::new(step_table(&self.labels, &self.behind, states.bits(), l))
     }
 
     /// Whether the path describes the labels so far.
     #[tactic(auto, unfolding(crate::specs::Automaton::machine_of))]
-    pub fn accepts(&self, states: u128) -> bool
+    pub fn accepts(&self, states: StateSet) -> bool
         ensures { result ≡ (machine_of self.now).accepts states }
     {
-        has(states, self.labels.len())
+        has(states.bits(), self.labels.len())
     }
 
     /// Whether the path describes some longer list of labels that begins with those so far.
     #[tactic(auto, unfolding(crate::specs::Automaton::machine_of))]
-    pub fn alive(&self, states: u128) -> bool
+    pub fn alive(&self, states: StateSet) -> bool
         ensures { result ≡ (machine_of self.now).goes_on states }
     {
-        states & self.live != 0
+        states.bits() & self.live != 0
     }
 }
 
@@ -99,7 +100,7 @@ fn passes_label(test: &Option<Label>, label: &Label) -> bool
 {
     match test {
         None => true,
-        Some(wanted) => same_label(wanted, label),
+        Some(wanted) => wanted == label,
     }
 }
 

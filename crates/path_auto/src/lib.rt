@@ -4,6 +4,8 @@
 mod auto;
 mod law;
 mod sets;
+mod states;
 
 pub use auto::Auto;
 pub use law::{bindings_are_matches, visits_are_matches};
+pub use states::StateSet;
