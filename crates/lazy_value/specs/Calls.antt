@@ -1,10 +1,11 @@
 -- What contracts say of the states of a bench, each state named once.
-use Rattle.std.specs.Prelude.{◌≡◌, ℕ, suc, Bool, ◌+◌, ◌<◌, IsTrue, Option, Some, MatchOption, List, drop}
-use Rattle.mix_base.specs.Events.{nothing, found}
+use Rattle.std.specs.Prelude.{◌≡◌, ℕ, suc, Bool, ◌+◌, ◌<◌, ◌≤◌, length, IsTrue, Option, Some, MatchOption, List, drop}
+use Rattle.mix_base.specs.Events.{nothing, found, cost}
 use Rattle.mix_tree.specs.Forest.{first_kids, behind}
 use Rattle.mix_tree.specs.declared.var.Key.{Key}
 use Rattle.lxp_core.specs.View.{View}
 use Rattle.plan_core.specs.ByNumber.{op_at}
+use Rattle.plan_core.specs.Events.{RowEvents}
 use Rattle.plan_core.specs.Tolled.{Tolled, toll, charged}
 use Rattle.plan_core.specs.TolledRows.{key_value, key_values, same_value, same_values, row_node, value_trees}
 use Rattle.lazy_plan.specs.declared.bench.Bench.{Bench}
@@ -15,7 +16,10 @@ use Rattle.lazy_value.specs.Ids.{Stands, IsOrigin, value_of, IsRest, rest_trees,
 use Rattle.lazy_value.specs.Origins.{origin_size, origin_extent}
 use Rattle.lazy_value.specs.Sizes.{pieces_count, size, extent}
 use Rattle.lazy_value.specs.Steps.{Walked, StandsFor, Turns, Falls, IsMember}
+use Rattle.lazy_value.specs.declared.ids.GroupFrom.{GroupFrom}
+use Rattle.lazy_value.specs.declared.ids.MembersFrom.{MembersFrom}
 use Rattle.lazy_value.specs.declared.ids.Origin.{Origin}
+use Rattle.lazy_value.specs.declared.ids.PiecesFrom.{PiecesFrom}
 use Rattle.lazy_value.specs.declared.ids.Rest.{Rest}
 use Rattle.lazy_value.specs.declared.ids.Site.{Site}
 use Rattle.lazy_value.specs.declared.ids.Turn.{Turn}
@@ -39,6 +43,10 @@ InSome b P = (view : View) × IsBenchOf view b × P (state_of view b)
 abbrev pub WalkedTo : {S : Type 0} → (S → View) → (S → S → Type 0) → S → Bench → S → Bench → (BenchState → Tolled) → Type 0
 WalkedTo view came_from s b s' b' f = Walked view came_from s b s' b' (toll (f (state_of (view s) b)))
 
+-- what a call leaves that asks at most the cost of these events
+abbrev pub WalkedOver : {S : Type 0} → (S → View) → (S → S → Type 0) → S → Bench → S → Bench → (BenchState → RowEvents) → Type 0
+WalkedOver view came_from s b s' b' es = Walked view came_from s b s' b' (cost (es (state_of (view s) b)))
+
 -- fewer trees than this are behind the node that was found
 abbrev pub HasFewer : BenchState → ℕ → Option Site → Type 0
 HasFewer st w r = MatchOption r (Unit {0}) (λ n. site_left st n < w)
@@ -61,15 +69,19 @@ Enters st o r t = IsOrigin st o → IsRest st r → Turns st st (value_trees (do
 abbrev pub EnteringFalls : BenchState → Origin → Rest → Turn → Type 0
 EnteringFalls st o r t = IsOrigin st o → IsRest st r → Falls st (origin_extent st o + left st r) t
 
--- what a turn over the pieces of a concatenation from one on comes to, with this behind them
-abbrev pub TurnsPieces : BenchState → ℕ → Position → ℕ → Rest → Turn → Type 0
-TurnsPieces st op at next up t = Stands st op makes_list at → IsRest st up → Turns st st (pieces_trees st op at next (rest_trees st up))
-    (suc (pieces_count (λ v. suc (size (ops_of st) (input_at (ops_of st) op) v)) (drop next (pieces_of (op_at (ops_of st) op))) + weight st up)) t
+-- a concatenation from one of its pieces on, with this behind it
+abbrev pub InPieces : BenchState → PiecesFrom → Rest → Type 0
+InPieces st p up = Stands st p.op makes_list p.at.now × (p.next ≤ length (pieces_of (op_at (ops_of st) p.op))) × IsRest st up
+
+-- what a turn over these pieces comes to
+abbrev pub TurnsPieces : BenchState → PiecesFrom → Rest → Turn → Type 0
+TurnsPieces st p up t = Stands st p.op makes_list p.at.now → IsRest st up → Turns st st (pieces_trees st p.op p.at.now p.next (rest_trees st up))
+    (suc (pieces_count (λ v. suc (size (ops_of st) (input_at (ops_of st) p.op) v)) (drop p.next (pieces_of (op_at (ops_of st) p.op))) + weight st up)) t
 
 -- and how many trees are left then
-abbrev pub PiecesFall : BenchState → ℕ → Position → ℕ → Rest → Turn → Type 0
-PiecesFall st op at next up t = Stands st op makes_list at → IsRest st up
-    → Falls st (pieces_count (extent (size_of st) (ops_of st) (input_at (ops_of st) op)) (drop next (pieces_of (op_at (ops_of st) op))) + left st up) t
+abbrev pub PiecesFall : BenchState → PiecesFrom → Rest → Turn → Type 0
+PiecesFall st p up t = Stands st p.op makes_list p.at.now → IsRest st up
+    → Falls st (pieces_count (extent (size_of st) (ops_of st) (input_at (ops_of st) p.op)) (drop p.next (pieces_of (op_at (ops_of st) p.op))) + left st up) t
 
 -- what a turn over a rest comes to
 abbrev pub TurnsRest : BenchState → BenchState → Rest → Turn → Type 0
@@ -85,10 +97,14 @@ same_key_at st op first c key = same_value (key_value (documents st) (row_node (
 abbrev pub same_keys_at : BenchState → ℕ → Position → Position → List Key → Bool
 same_keys_at st op first c keys = same_values (key_values (documents st) keys (binding_at st op first)) (key_values (documents st) keys (binding_at st op c))
 
--- the identifier stands for the member of a group at a cursor, with those behind it and this behind them
-abbrev pub IsGroupMember : BenchState → ℕ → Position → Position → Rest → Site → Type 0
-IsGroupMember st op first at up n = Stands st op gathers_groups first → Stands st op gathers_groups at → IsRest st up
-    → StandsFor st st (member_trees st op at (group_trees st op first at (rest_trees st up))) n
+-- a group from a member of it on, with this behind it
+abbrev pub InGroup : BenchState → GroupFrom → Rest → Type 0
+InGroup st g up = Stands st g.op gathers_groups g.first.now × Stands st g.op gathers_groups g.at.now × IsRest st up
+
+-- the identifier stands for the member at which it begins, with those behind it
+abbrev pub IsGroupMember : BenchState → GroupFrom → Rest → Site → Type 0
+IsGroupMember st g up n = Stands st g.op gathers_groups g.first.now → Stands st g.op gathers_groups g.at.now → IsRest st up
+    → StandsFor st st (member_trees st g.op g.at.now (group_trees st g.op g.first.now g.at.now (rest_trees st up))) n
 
 -- the same of a list of all bindings
 abbrev pub IsListMember : BenchState → ℕ → Position → Rest → Site → Type 0
@@ -99,23 +115,39 @@ abbrev pub behind_member : BenchState → ℕ → Position → Rest → ℕ
 behind_member st op at up = number_at st (input_at (ops_of st) op) at + left st up
 
 -- how many trees are in a list behind a cursor, or in all of it, at most, with this behind it
-abbrev pub behind_members : BenchState → ℕ → Option Position → Rest → ℕ
-behind_members st op at up = number_from st (input_at (ops_of st) op) at + left st up
+abbrev pub behind_members : BenchState → MembersFrom → Rest → ℕ
+behind_members st l up = number_from st (input_at (ops_of st) l.op) l.at.now + left st up
 
--- the next member of a group behind a cursor, or there is none
-abbrev pub GivesMember : BenchState → BenchState → ℕ → Position → Position → Option Position → Type 0
-GivesMember old new op first from r =
-    MatchOption r (IsTrue (told old) → found (group_ahead old op first from) ≡ nothing)
-    (IsMember old new op first (group_ahead old op first from) (number_at old (input_at (ops_of old) op) from))
+-- the events of a group behind the member at which it begins
+abbrev pub group_events : BenchState → GroupFrom → RowEvents
+group_events st g = group_ahead st g.op g.first.now g.at.now
+
+-- the next member, or there is none
+abbrev pub GivesMember : BenchState → BenchState → GroupFrom → Option Position → Type 0
+GivesMember old new g r =
+    MatchOption r (IsTrue (told old) → found (group_events old g) ≡ nothing)
+    (IsMember old new g.op g.first.now (group_events old g) (number_at old (input_at (ops_of old) g.op) g.at.now))
 
 -- the first binding of an operator, or the one behind a cursor, or there is none
 abbrev pub GivesFrom : BenchState → BenchState → ℕ → Option Position → Option Position → Type 0
 GivesFrom old new op at r = GivesFirst old new op (ahead_from old op at) (number_from old op at) r
 
--- what a turn over the members of a list behind a cursor comes to, with this behind them
-abbrev pub TurnsMembers : BenchState → BenchState → ℕ → Option Position → Rest → Turn → Type 0
-TurnsMembers old new op at up t = Turns old new (members_trees old op at (rest_trees old up)) (suc (weight old up)) t
+-- the members of a list behind a cursor, and what is behind them
+abbrev pub trees_of_members : BenchState → MembersFrom → Rest → Tolled
+trees_of_members st l up = members_trees st l.op l.at.now (rest_trees st up)
 
--- the same of the members of a group
-abbrev pub TurnsGroup : BenchState → BenchState → ℕ → Position → Position → Rest → Turn → Type 0
-TurnsGroup old new op first at up t = Turns old new (group_trees old op first at (rest_trees old up)) (suc (weight old up)) t
+-- the members of a group behind one, and what is behind them
+abbrev pub trees_of_group : BenchState → GroupFrom → Rest → Tolled
+trees_of_group st g up = group_trees st g.op g.first.now g.at.now (rest_trees st up)
+
+-- what a turn over the members of a list comes to
+abbrev pub TurnsMembers : BenchState → BenchState → MembersFrom → Rest → Turn → Type 0
+TurnsMembers old new l up t = Turns old new (trees_of_members old l up) (suc (weight old up)) t
+
+-- what a turn over the members of a group comes to
+abbrev pub TurnsGroup : BenchState → BenchState → GroupFrom → Rest → Turn → Type 0
+TurnsGroup old new g up t = Turns old new (trees_of_group old g up) (suc (weight old up)) t
+
+-- how many trees are behind the member at which a group begins at most, with this behind it
+abbrev pub behind_group : BenchState → GroupFrom → Rest → ℕ
+behind_group st g up = behind_member st g.op g.at.now up

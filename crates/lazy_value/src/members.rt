@@ -1,6 +1,5 @@
 // The members of lists that are gathered from bindings.
 ghost use Rattle.std.specs.Prelude.{◌≡◌, ◌<◌, Some, IsTrue, IfOk, MatchOption, length};
-ghost use Rattle.mix_base.specs.Events.{cost};
 ghost use Rattle.mix_tree.specs.Keys.{key_var};
 ghost use Rattle.mix_tree.specs.Nodes.{label_at};
 ghost use Rattle.plan_core.specs.PlanMade.{plan_value};
@@ -10,12 +9,12 @@ ghost use Rattle.plan_core.specs.TolledRows.{row_node};
 ghost use Rattle.lazy_plan.specs.Bench.{state_of, plan_of, IsBenchOf, ops_of, told, documents, IsCursor, binding_at};
 ghost use Rattle.lazy_plan.specs.Steps.{HasCause};
 ghost use Rattle.lazy_value.specs.Forms.{gathers_groups, input_at};
-ghost use Rattle.lazy_value.specs.Ids.{Stands, GathersAll, IsRest, rest_trees, left, ahead_from, members_trees, group_ahead, group_trees};
-ghost use Rattle.lazy_value.specs.Steps.{Walked, Falls};
-ghost use Rattle.lazy_value.specs.Calls.{Between, GivesFrom, GivesMember, InEach, InSome, TurnsGroup, TurnsMembers, WalkedTo, behind_member, behind_members, same_key_at, same_keys_at};
+ghost use Rattle.lazy_value.specs.Ids.{Stands, GathersAll, IsRest, left, ahead_from};
+ghost use Rattle.lazy_value.specs.Steps.{Falls};
+ghost use Rattle.lazy_value.specs.Calls.{Between, GivesFrom, GivesMember, InEach, InSome, TurnsGroup, TurnsMembers, WalkedOver, WalkedTo, behind_group, behind_members, group_events, same_key_at, same_keys_at, trees_of_group, trees_of_members};
 
 use crate::entering::{group_member, list_member};
-use crate::ids::{Rest, Turn, share};
+use crate::ids::{GroupFrom, MembersFrom, Rest, Turn, share};
 use crate::parts::{group_keys, input_of};
 use lazy_plan::{Bench, Cursor, WalkFault};
 use lxp_core::Sources;
@@ -67,24 +66,28 @@ fn next_of_group<S: Sources>(
     alloc: Global,
     bench: &mut Bench,
     s: &mut S,
-    op: u32,
-    first: &Cursor,
-    from: &Cursor,
+    group: &GroupFrom<'_>,
 ) -> Result<Option<Cursor>, WalkFault>
     requires bench { IsBenchOf (S.view s.old) bench.old }
-    requires first { Stands (state_of (S.view s.old) bench.old) op gathers_groups first.now }
-    requires from { Stands (state_of (S.view s.old) bench.old) op gathers_groups from.now }
-    ensures walked { Walked S.view S.came_from s.old bench.old s.new bench.new (cost (group_ahead (state_of (S.view s.old) bench.old) op first.now from.now)) }
+    requires first { Stands (state_of (S.view s.old) bench.old) group.now.op gathers_groups group.now.first.now }
+    requires from { Stands (state_of (S.view s.old) bench.old) group.now.op gathers_groups group.now.at.now }
+    ensures walked { WalkedOver S.view S.came_from s.old bench.old s.new bench.new (λ st. group_events st group.now) }
     ensures cause { HasCause (ops_of (state_of (S.view s.old) bench.old)) (S.view s.old) (S.view s.new) result }
-    ensures answer { Between S.view s.old bench.old s.new bench.new (λ old new. IfOk result (GivesMember old new op first.now from.now)) }
+    ensures answer { Between S.view s.old bench.old s.new bench.new (λ old new. IfOk result (GivesMember old new group.now)) }
 {
-    let input = input_of(bench.plan(), op);
-    let mut at = from.again()?;
+    let input = input_of(bench.plan(), group.op);
+    let mut at = group.at.again()?;
     'members: loop {
         match bench.next(alloc, s, input, &at)? {
             None => return Ok(None),
             Some(c) => {
-                if same_by_keys(bench, input, first, &c, group_keys(bench.plan(), op)) {
+                if same_by_keys(
+                    bench,
+                    input,
+                    group.first,
+                    &c,
+                    group_keys(bench.plan(), group.op),
+                ) {
                     return Ok(Some(c));
                 }
                 at = c;
@@ -104,7 +107,7 @@ fn behind<S: Sources>(
     requires bench { IsBenchOf (S.view s.old) bench.old }
     requires op { op < length (ops_of (state_of (S.view s.old) bench.old)) }
     requires at { MatchOption at.now (Unit {0}) (λ c. IsCursor (state_of (S.view s.old) bench.old) op c) }
-    ensures walked { Walked S.view S.came_from s.old bench.old s.new bench.new (cost (ahead_from (state_of (S.view s.old) bench.old) op at.now)) }
+    ensures walked { WalkedOver S.view S.came_from s.old bench.old s.new bench.new (λ st. ahead_from st op at.now) }
     ensures cause { HasCause (ops_of (state_of (S.view s.old) bench.old)) (S.view s.old) (S.view s.new) result }
     ensures answer { Between S.view s.old bench.old s.new bench.new (λ old new. IfOk result (GivesFrom old new op at.now)) }
 {
@@ -119,23 +122,22 @@ pub(crate) fn members<S: Sources>(
     alloc: Global,
     bench: &mut Bench,
     s: &mut S,
-    op: u32,
-    at: &Option<Cursor>,
+    list: &MembersFrom<'_>,
     up: &Rc<Rest>,
 ) -> Result<Turn, WalkFault>
     requires bench { IsBenchOf (S.view s.old) bench.old }
-    requires gathers { GathersAll (state_of (S.view s.old) bench.old) op }
-    requires at { let st = state_of (S.view s.old) bench.old in MatchOption at.now (Unit {0}) (λ c. IsCursor st (input_at (ops_of st) op) c) }
+    requires gathers { GathersAll (state_of (S.view s.old) bench.old) list.now.op }
+    requires at { let st = state_of (S.view s.old) bench.old in MatchOption list.now.at.now (Unit {0}) (λ c. IsCursor st (input_at (ops_of st) list.now.op) c) }
     requires up { IsRest (state_of (S.view s.old) bench.old) up.now.value }
-    ensures walked { WalkedTo S.view S.came_from s.old bench.old s.new bench.new (λ st. members_trees st op at.now (rest_trees st up.now.value)) }
+    ensures walked { WalkedTo S.view S.came_from s.old bench.old s.new bench.new (λ st. trees_of_members st list.now up.now.value) }
     ensures cause { HasCause (ops_of (state_of (S.view s.old) bench.old)) (S.view s.old) (S.view s.new) result }
-    ensures answer { Between S.view s.old bench.old s.new bench.new (λ old new. IfOk result (TurnsMembers old new op at.now up.now.value)) }
-    ensures left { Between S.view s.old bench.old s.new bench.new (λ old new. IfOk result (Falls new (behind_members old op at.now up.now.value))) }
+    ensures answer { Between S.view s.old bench.old s.new bench.new (λ old new. IfOk result (TurnsMembers old new list.now up.now.value)) }
+    ensures left { Between S.view s.old bench.old s.new bench.new (λ old new. IfOk result (Falls new (behind_members old list.now up.now.value))) }
 {
-    let input = input_of(bench.plan(), op);
-    match behind(alloc, bench, s, input, at)? {
+    let input = input_of(bench.plan(), list.op);
+    match behind(alloc, bench, s, input, list.at)? {
         None => Ok(Turn::On(share(up)?)),
-        Some(c) => Ok(Turn::At(list_member(alloc, bench, op, &c, up)?)),
+        Some(c) => Ok(Turn::At(list_member(alloc, bench, list.op, &c, up)?)),
     }
 }
 
@@ -144,22 +146,23 @@ pub(crate) fn group<S: Sources>(
     alloc: Global,
     bench: &mut Bench,
     s: &mut S,
-    op: u32,
-    first: &Cursor,
-    at: &Cursor,
+    group: &GroupFrom<'_>,
     up: &Rc<Rest>,
 ) -> Result<Turn, WalkFault>
     requires bench { IsBenchOf (S.view s.old) bench.old }
-    requires first { Stands (state_of (S.view s.old) bench.old) op gathers_groups first.now }
-    requires at { Stands (state_of (S.view s.old) bench.old) op gathers_groups at.now }
+    requires first { Stands (state_of (S.view s.old) bench.old) group.now.op gathers_groups group.now.first.now }
+    requires at { Stands (state_of (S.view s.old) bench.old) group.now.op gathers_groups group.now.at.now }
     requires up { IsRest (state_of (S.view s.old) bench.old) up.now.value }
-    ensures walked { WalkedTo S.view S.came_from s.old bench.old s.new bench.new (λ st. group_trees st op first.now at.now (rest_trees st up.now.value)) }
+    ensures walked { WalkedTo S.view S.came_from s.old bench.old s.new bench.new (λ st. trees_of_group st group.now up.now.value) }
     ensures cause { HasCause (ops_of (state_of (S.view s.old) bench.old)) (S.view s.old) (S.view s.new) result }
-    ensures answer { Between S.view s.old bench.old s.new bench.new (λ old new. IfOk result (TurnsGroup old new op first.now at.now up.now.value)) }
-    ensures left { Between S.view s.old bench.old s.new bench.new (λ old new. IfOk result (Falls new (behind_member old op at.now up.now.value))) }
+    ensures answer { Between S.view s.old bench.old s.new bench.new (λ old new. IfOk result (TurnsGroup old new group.now up.now.value)) }
+    ensures left { Between S.view s.old bench.old s.new bench.new (λ old new. IfOk result (Falls new (behind_group old group.now up.now.value))) }
 {
-    match next_of_group(alloc, bench, s, op, first, at)? {
+    match next_of_group(alloc, bench, s, group)? {
         None => Ok(Turn::On(share(up)?)),
-        Some(c) => Ok(Turn::At(group_member(alloc, bench, op, first, &c, up)?)),
+        Some(c) => {
+            let member = GroupFrom { at: &c, ..*group };
+            Ok(Turn::At(group_member(alloc, bench, &member, up)?))
+        }
     }
 }

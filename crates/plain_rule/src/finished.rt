@@ -7,7 +7,7 @@ ghost use Rattle.xmas_rule.specs.Rules.{IsAccepted};
 ghost use Rattle.plain_rule.specs.Documents.{documents_of};
 
 use crate::binding::Binding;
-use crate::instances::push_instances;
+use crate::instances::{Scope, push_instances};
 use crate::ordering::in_order;
 use crate::selecting::select;
 use crate::tuples::body_tuples;
@@ -35,6 +35,7 @@ pub fn finished_document(alloc: Global, rule: &Rule, docs: &[Tree]) -> Result<Tr
 {
     let found = bindings(alloc, rule, docs)?;
     let mut kids = Vec::new(alloc);
-    push_instances(alloc, docs, &[], &rule.template.items, &found, &mut kids)?;
+    let scope = Scope { docs, force: &[] };
+    push_instances(alloc, &scope, &rule.template.items, &found, &mut kids)?;
     Ok(Tree::new(rule.template.label.copy(alloc)?, kids))
 }

@@ -5,9 +5,9 @@ ghost use Rattle.mix_base.specs.Groups.{firsts as firsts_by, groups as groups_by
 ghost use Rattle.mix_tree.specs.Keys.{same_key};
 ghost use Rattle.mix_tree.specs.Nodes.{same_node as is_same_node};
 ghost use Rattle.xmas_rule.specs.Bindings.{node_of};
-ghost use Rattle.xmas_rule.specs.Meaning.{same, parts as parts_of};
+ghost use Rattle.xmas_rule.specs.Meaning.{parts as parts_of};
 ghost use Rattle.plain_rule.specs.Documents.{documents_of};
-ghost use Rattle.plain_rule.specs.Steps.{is_seen};
+ghost use Rattle.plain_rule.specs.Steps.{is_alike, is_seen};
 
 use crate::binding::{Binding, copy_binding, node_in};
 use crate::node::Node;
@@ -47,6 +47,13 @@ impl Part {
     }
 }
 
+// What bindings are compared by: keys, over source documents.
+#[derive(Clone, Copy)]
+struct By<'a> {
+    docs: &'a [Tree],
+    keys: &'a [Key],
+}
+
 /// Whether two nodes are one node of one source.
 pub fn same_node(a: &Node, b: &Node) -> bool
     ensures { result ≡ is_same_node a.now b.now }
@@ -78,17 +85,11 @@ fn same_by_key(
 }
 
 // Whether two bindings are the same by all keys.
-fn same_by_keys(
-    alloc: Global,
-    docs: &[Tree],
-    keys: &[Key],
-    a: &Binding,
-    b: &Binding,
-) -> Result<bool, AllocError>
-    ensures { IfOk result (λ alike. alike ≡ same (documents_of docs.now) keys.now a.now b.now) }
+fn same_by_keys(alloc: Global, by: &By<'_>, a: &Binding, b: &Binding) -> Result<bool, AllocError>
+    ensures { IfOk result (λ alike. alike ≡ is_alike by.now a.now b.now) }
 {
-    for key in keys {
-        if !same_by_key(alloc, docs, key, a, b)? {
+    for key in by.keys {
+        if !same_by_key(alloc, by.docs, key, a, b)? {
             return Ok(false);
         }
     }
@@ -98,15 +99,14 @@ fn same_by_keys(
 // Adds the binding, where it is the same as the first.
 fn push_if_alike(
     alloc: Global,
-    docs: &[Tree],
-    keys: &[Key],
+    by: &By<'_>,
     first: &Binding,
     binding: &Binding,
     group: &mut Vec<Binding>,
 ) -> Result<(), AllocError>
-    ensures { OnOk result (group.new.items ≡ group.old.items ++ cond (same (documents_of docs.now) keys.now first.now binding.now) (binding.now ∷ []) []) }
+    ensures { OnOk result (group.new.items ≡ group.old.items ++ cond (is_alike by.now first.now binding.now) (binding.now ∷ []) []) }
 {
-    if same_by_keys(alloc, docs, keys, first, binding)? {
+    if same_by_keys(alloc, by, first, binding)? {
         group.push(copy_binding(alloc, binding)?)?;
     }
     Ok(())
@@ -115,16 +115,15 @@ fn push_if_alike(
 // The bindings that are the same as the first.
 fn group_of(
     alloc: Global,
-    docs: &[Tree],
-    keys: &[Key],
+    by: &By<'_>,
     first: &Binding,
     bindings: &[Binding],
 ) -> Result<Part, AllocError>
-    ensures { IfOk result (λ group. group ≡ filter (same (documents_of docs.now) keys.now first.now) bindings.now) }
+    ensures { IfOk result (λ group. group ≡ filter (is_alike by.now first.now) bindings.now) }
 {
     let mut group = Vec::new(alloc);
     for binding in bindings {
-        push_if_alike(alloc, docs, keys, first, binding, &mut group)?;
+        push_if_alike(alloc, by, first, binding, &mut group)?;
     }
     Ok(Part::new(group))
 }
@@ -132,15 +131,14 @@ fn group_of(
 // Whether one of those seen is the same as the binding.
 fn was_seen(
     alloc: Global,
-    docs: &[Tree],
-    keys: &[Key],
+    by: &By<'_>,
     seen: &[Binding],
     binding: &Binding,
 ) -> Result<bool, AllocError>
-    ensures { IfOk result (λ known. known ≡ is_seen (documents_of docs.now) keys.now seen.now binding.now) }
+    ensures { IfOk result (λ known. known ≡ is_seen by.now seen.now binding.now) }
 {
     for other in seen {
-        if same_by_keys(alloc, docs, keys, other, binding)? {
+        if same_by_keys(alloc, by, other, binding)? {
             return Ok(true);
         }
     }
@@ -150,31 +148,25 @@ fn was_seen(
 // Adds the binding, where none of those seen is the same.
 fn push_if_new(
     alloc: Global,
-    docs: &[Tree],
-    keys: &[Key],
+    by: &By<'_>,
     binding: &Binding,
     seen: &mut Vec<Binding>,
 ) -> Result<(), AllocError>
-    ensures { OnOk result (seen.new.items ≡ seen.old.items ++ cond (is_seen (documents_of docs.now) keys.now seen.old.items binding.now) [] (binding.now ∷ [])) }
+    ensures { OnOk result (seen.new.items ≡ seen.old.items ++ cond (is_seen by.now seen.old.items binding.now) [] (binding.now ∷ [])) }
 {
-    if !was_seen(alloc, docs, keys, seen, binding)? {
+    if !was_seen(alloc, by, seen, binding)? {
         seen.push(copy_binding(alloc, binding)?)?;
     }
     Ok(())
 }
 
 // The first binding of each group.
-fn firsts(
-    alloc: Global,
-    docs: &[Tree],
-    keys: &[Key],
-    bindings: &[Binding],
-) -> Result<Vec<Binding>, AllocError>
-    ensures { IfOk result (λ found. found.items ≡ firsts_by (same (documents_of docs.now) keys.now) bindings.now) }
+fn firsts(alloc: Global, by: &By<'_>, bindings: &[Binding]) -> Result<Vec<Binding>, AllocError>
+    ensures { IfOk result (λ found. found.items ≡ firsts_by (is_alike by.now) bindings.now) }
 {
     let mut seen = Vec::new(alloc);
     for binding in bindings {
-        push_if_new(alloc, docs, keys, binding, &mut seen)?;
+        push_if_new(alloc, by, binding, &mut seen)?;
     }
     Ok(seen)
 }
@@ -182,31 +174,25 @@ fn firsts(
 // The groups of these first bindings.
 fn groups_of(
     alloc: Global,
-    docs: &[Tree],
-    keys: &[Key],
+    by: &By<'_>,
     first: &[Binding],
     bindings: &[Binding],
 ) -> Result<Vec<Part>, AllocError>
-    ensures { IfOk result (λ found. found.items ≡ map (λ b. filter (same (documents_of docs.now) keys.now b) bindings.now) first.now) }
+    ensures { IfOk result (λ found. found.items ≡ map (λ b. filter (is_alike by.now b) bindings.now) first.now) }
 {
     let mut found = Vec::new(alloc);
     for binding in first {
-        found.push(group_of(alloc, docs, keys, binding, bindings)?)?;
+        found.push(group_of(alloc, by, binding, bindings)?)?;
     }
     Ok(found)
 }
 
 // The groups by keys, in the order of their first bindings.
-fn groups(
-    alloc: Global,
-    docs: &[Tree],
-    keys: &[Key],
-    bindings: &[Binding],
-) -> Result<Vec<Part>, AllocError>
-    ensures { IfOk result (λ found. found.items ≡ groups_by (same (documents_of docs.now) keys.now) bindings.now) }
+fn groups(alloc: Global, by: &By<'_>, bindings: &[Binding]) -> Result<Vec<Part>, AllocError>
+    ensures { IfOk result (λ found. found.items ≡ groups_by (is_alike by.now) bindings.now) }
 {
-    let first = firsts(alloc, docs, keys, bindings)?;
-    groups_of(alloc, docs, keys, &first, bindings)
+    let first = firsts(alloc, by, bindings)?;
+    groups_of(alloc, by, &first, bindings)
 }
 
 // All bindings as one part.
@@ -231,7 +217,7 @@ pub fn parts(
     ensures { IfOk result (λ found. found.items ≡ parts_of (documents_of docs.now) force.now own.now bindings.now) }
 {
     if item_collects(force, own) {
-        return groups(alloc, docs, own, bindings);
+        return groups(alloc, &By { docs, keys: own }, bindings);
     }
     let mut one = Vec::new(alloc);
     one.push(whole(alloc, bindings)?)?;

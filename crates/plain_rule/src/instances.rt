@@ -3,9 +3,9 @@ ghost use Rattle.std.specs.Prelude.{◌≡◌, IfOk, OnOk};
 ghost use Rattle.mix_tree.specs.Forest.{forest_of, none, tree, joined};
 ghost use Rattle.xmas_rule.specs.Items.{whole, label_alone, done};
 ghost use Rattle.xmas_rule.specs.Made.{items_of, item_before};
-ghost use Rattle.xmas_rule.specs.Meaning.{shown_first, instances};
+ghost use Rattle.xmas_rule.specs.Meaning.{shown_first};
 ghost use Rattle.plain_rule.specs.Documents.{documents_of};
-ghost use Rattle.plain_rule.specs.Steps.{Adds, elements};
+ghost use Rattle.plain_rule.specs.Steps.{Adds, elements, instances_in};
 
 use crate::binding::{Binding, node_in};
 use crate::documents::kids_of;
@@ -14,6 +14,13 @@ use crate::selecting::label_in;
 use mix_tree::{Key, Label, Tree, Var, keys_in_force};
 use std::alloc::{AllocError, Global};
 use xmas_rule::{Item, Template};
+
+/// Source documents, and the keys in force.
+#[derive(Clone, Copy)]
+pub struct Scope<'a> {
+    pub docs: &'a [Tree],
+    pub force: &'a [Key],
+}
 
 /// Another such tree.
 #[cycle(copying)]
@@ -116,24 +123,16 @@ fn push_labels(
 #[cycle(making)]
 fn push_elements(
     alloc: Global,
-    docs: &[Tree],
-    force: &[Key],
+    scope: &Scope<'_>,
     template: &Template,
     found: &[Part],
     made: &mut Vec<Tree>,
 ) -> Result<(), AllocError>
-    ensures { OnOk result (Adds made.old.items made.new.items (elements (documents_of docs.now) force.now template.now.label template.now.items found.now)) }
+    ensures { OnOk result (Adds made.old.items made.new.items (elements scope.now template.now.label template.now.items found.now)) }
 {
     for part in found {
         let mut kids = Vec::new(alloc);
-        push_instances(
-            alloc,
-            docs,
-            force,
-            &template.items,
-            part.bindings(),
-            &mut kids,
-        )?;
+        push_instances(alloc, scope, &template.items, part.bindings(), &mut kids)?;
         push_tree(made, template.label.copy(alloc)?, kids)?;
     }
     Ok(())
@@ -143,28 +142,31 @@ fn push_elements(
 #[cycle(making)]
 fn push_item(
     alloc: Global,
-    docs: &[Tree],
-    force: &[Key],
+    scope: &Scope<'_>,
     item: &Item,
     bindings: &[Binding],
     made: &mut Vec<Tree>,
 ) -> Result<(), AllocError>
-    ensures { OnOk result (Adds made.old.items made.new.items (instances (documents_of docs.now) force.now (item_before item.now done) bindings.now)) }
+    ensures { OnOk result (Adds made.old.items made.new.items (instances_in scope.now (item_before item.now done) bindings.now)) }
 {
     match item {
         Item::Text(label) => push_tree(made, label.copy(alloc)?, Vec::new(alloc)),
         Item::Node { var, keys } => {
-            let found = parts(alloc, docs, force, keys, bindings)?;
-            push_wholes(alloc, docs, *var, &found, made)
+            let found = parts(alloc, scope.docs, scope.force, keys, bindings)?;
+            push_wholes(alloc, scope.docs, *var, &found, made)
         },
         Item::LabelOf { var, keys } => {
-            let found = parts(alloc, docs, force, keys, bindings)?;
-            push_labels(alloc, docs, *var, &found, made)
+            let found = parts(alloc, scope.docs, scope.force, keys, bindings)?;
+            push_labels(alloc, scope.docs, *var, &found, made)
         },
         Item::Element(template) => {
-            let found = parts(alloc, docs, force, &template.keys, bindings)?;
-            let inside = keys_in_force(alloc, force, &template.keys)?;
-            push_elements(alloc, docs, &inside, template, &found, made)
+            let found = parts(alloc, scope.docs, scope.force, &template.keys, bindings)?;
+            let inside = keys_in_force(alloc, scope.force, &template.keys)?;
+            let scope = Scope {
+                docs: scope.docs,
+                force: &inside,
+            };
+            push_elements(alloc, &scope, template, &found, made)
         },
     }
 }
@@ -173,16 +175,15 @@ fn push_item(
 #[cycle(making)]
 pub fn push_instances(
     alloc: Global,
-    docs: &[Tree],
-    force: &[Key],
+    scope: &Scope<'_>,
     items: &[Item],
     bindings: &[Binding],
     made: &mut Vec<Tree>,
 ) -> Result<(), AllocError>
-    ensures { OnOk result (Adds made.old.items made.new.items (instances (documents_of docs.now) force.now (items_of items.now) bindings.now)) }
+    ensures { OnOk result (Adds made.old.items made.new.items (instances_in scope.now (items_of items.now) bindings.now)) }
 {
     for item in items {
-        push_item(alloc, docs, force, item, bindings, made)?;
+        push_item(alloc, scope, item, bindings, made)?;
     }
     Ok(())
 }

@@ -14,6 +14,13 @@ use mix_tree::{Label, Place, Tree};
 use path_expr::Path;
 use std::alloc::{AllocError, Global};
 
+// Where trees stand: below a place, under the labels on the way to it.
+#[derive(Clone, Copy)]
+struct Under<'a> {
+    labels: &'a [Label],
+    place: &'a Place,
+}
+
 // The labels with one more.
 fn with_label(alloc: Global, labels: &[Label], label: &Label) -> Result<Vec<Label>, AllocError>
     ensures { IfOk result (λ longer. longer.items ≡ labels.now ++ label.now ∷ []) }
@@ -56,17 +63,20 @@ fn push_found(
     alloc: Global,
     path: &Path,
     trees: &[Tree],
-    above: &[Label],
-    place: &Place,
+    under: &Under<'_>,
     found: &mut Vec<Place>,
 ) -> Result<(), AllocError>
-    ensures { (test : Labels → Bool) → Tests path.now test → OnOk result (AddsFound test above.now place.now trees.now found.old.items found.new.items) }
+    ensures { (test : Labels → Bool) → Tests path.now test → OnOk result (AddsFound test under.now trees.now found.old.items found.new.items) }
 {
     for (at, tree) in trees.iter().enumerate() {
-        let labels = with_label(alloc, above, tree.label())?;
-        let below = child(alloc, place, at)?;
+        let labels = with_label(alloc, under.labels, tree.label())?;
+        let below = child(alloc, under.place, at)?;
         push_if_described(alloc, path, &labels, &below, found)?;
-        push_found(alloc, path, tree.kids(), &labels, &below, found)?;
+        let under = Under {
+            labels: &labels,
+            place: &below,
+        };
+        push_found(alloc, path, tree.kids(), &under, found)?;
     }
     Ok(())
 }
@@ -82,6 +92,10 @@ pub fn matches(
 {
     let mut found = Vec::new(alloc);
     let kids = kids_of(docs, start);
-    push_found(alloc, path, kids, &[], start.place(), &mut found)?;
+    let under = Under {
+        labels: &[],
+        place: start.place(),
+    };
+    push_found(alloc, path, kids, &under, &mut found)?;
     Ok(found)
 }

@@ -1,9 +1,9 @@
 // The tuples of which the binding conditions of a body hold.
 ghost use Rattle.std.specs.Prelude.{◌≡◌, ◌++◌, ◌∷◌, [], IfOk, OnOk};
-ghost use Rattle.xmas_rule.specs.Conditions.{binders, binder_vars, flat, from_source, from_var, has};
+ghost use Rattle.xmas_rule.specs.Conditions.{binders, binder_vars, flat, has};
 ghost use Rattle.xmas_rule.specs.Reached.{reached, reaches, begun};
 ghost use Rattle.xmas_rule.specs.Tuples.{extend};
-ghost use Rattle.plain_rule.specs.Steps.{AreExtended, ForMatches, at_places};
+ghost use Rattle.plain_rule.specs.Steps.{AreExtended, ForMatches, at_matches, at_places, from_document, from_node};
 
 use crate::binding::{Binding, node_in, with_node};
 use crate::matching::matches;
@@ -13,20 +13,34 @@ use path_expr::Path;
 use std::alloc::{AllocError, Global};
 use xmas_rule::Cond;
 
+// A variable, and the path over source documents that leads to its nodes.
+#[derive(Clone, Copy)]
+struct Leads<'a> {
+    docs: &'a [Tree],
+    path: &'a Path,
+    var: Var,
+}
+
+// A variable, and the places of a source at which it stands.
+#[derive(Clone, Copy)]
+struct AtPlaces<'a> {
+    var: Var,
+    source: u32,
+    places: &'a [Place],
+}
+
 // Adds the binding with a variable at each of these places.
 fn push_at_places(
     alloc: Global,
     binding: &Binding,
-    var: Var,
-    source: u32,
-    places: &[Place],
+    at: &AtPlaces<'_>,
     longer: &mut Vec<Binding>,
 ) -> Result<(), AllocError>
-    ensures { OnOk result (longer.new.items ≡ longer.old.items ++ at_places binding.now var source places.now) }
+    ensures { OnOk result (longer.new.items ≡ longer.old.items ++ at_places binding.now at.now.var at.now.source at.now.places.now) }
 {
-    for place in places {
-        let node = Node::new(source, copy_place(alloc, place)?);
-        longer.push(with_node(alloc, binding, var, node)?)?;
+    for place in at.places {
+        let node = Node::new(at.source, copy_place(alloc, place)?);
+        longer.push(with_node(alloc, binding, at.var, node)?)?;
     }
     Ok(())
 }
@@ -34,34 +48,35 @@ fn push_at_places(
 // Adds the binding with a variable at each node that the path leads to from the start.
 fn push_longer(
     alloc: Global,
-    docs: &[Tree],
+    leads: &Leads<'_>,
     binding: &Binding,
     start: &Node,
-    path: &Path,
-    var: Var,
     longer: &mut Vec<Binding>,
 ) -> Result<(), AllocError>
-    ensures { ForMatches docs.now (λ l. OnOk result (longer.new.items ≡ longer.old.items ++ at_places binding.now var start.now.source (l path.now start.now))) }
+    ensures { ForMatches leads.now.docs.now (λ l. OnOk result (longer.new.items ≡ longer.old.items ++ at_matches l leads.now start.now binding.now)) }
 {
-    let places = matches(alloc, docs, path, start)?;
-    push_at_places(alloc, binding, var, start.source(), &places, longer)
+    let places = matches(alloc, leads.docs, leads.path, start)?;
+    let at = AtPlaces {
+        var: leads.var,
+        source: start.source(),
+        places: &places,
+    };
+    push_at_places(alloc, binding, &at, longer)
 }
 
 // The tuples with a variable at each node that the path leads to from a source's document node.
 fn extend_from_source(
     alloc: Global,
-    docs: &[Tree],
+    leads: &Leads<'_>,
     bindings: &[Binding],
     source: u32,
-    path: &Path,
-    var: Var,
 ) -> Result<Vec<Binding>, AllocError>
-    ensures { IfOk result (λ longer. ForMatches docs.now (λ lists. longer.items ≡ extend lists (from_source source path.now var) bindings.now)) }
+    ensures { IfOk result (λ longer. ForMatches leads.now.docs.now (λ lists. longer.items ≡ extend lists (from_document leads.now source) bindings.now)) }
 {
     let start = Node::document(alloc, source);
     let mut longer = Vec::new(alloc);
     for binding in bindings {
-        push_longer(alloc, docs, binding, &start, path, var, &mut longer)?;
+        push_longer(alloc, leads, binding, &start, &mut longer)?;
     }
     Ok(longer)
 }
@@ -69,18 +84,16 @@ fn extend_from_source(
 // The tuples with a variable at each node that the path leads to from another variable's node.
 fn extend_from_var(
     alloc: Global,
-    docs: &[Tree],
+    leads: &Leads<'_>,
     bindings: &[Binding],
     start: Var,
-    path: &Path,
-    var: Var,
 ) -> Result<Vec<Binding>, AllocError>
-    ensures { IfOk result (λ longer. ForMatches docs.now (λ lists. longer.items ≡ extend lists (from_var start path.now var) bindings.now)) }
+    ensures { IfOk result (λ longer. ForMatches leads.now.docs.now (λ lists. longer.items ≡ extend lists (from_node leads.now start) bindings.now)) }
 {
     let mut longer = Vec::new(alloc);
     for binding in bindings {
         let from = node_in(alloc, binding, start)?;
-        push_longer(alloc, docs, binding, &from, path, var, &mut longer)?;
+        push_longer(alloc, leads, binding, &from, &mut longer)?;
     }
     Ok(longer)
 }
@@ -95,21 +108,19 @@ fn has_var(vars: &[Var], var: Var) -> bool
 // The tuples with a variable that starts at another, where that is one of these; it becomes one of them.
 fn extend_if_has(
     alloc: Global,
-    docs: &[Tree],
+    leads: &Leads<'_>,
     vars: &mut Vec<Var>,
     start: Var,
-    path: &Path,
-    var: Var,
     bindings: Vec<Binding>,
 ) -> Result<Vec<Binding>, AllocError>
-    ensures tuples { IfOk result (λ longer. AreExtended docs.now bindings.items (reached vars.old.items (from_var start path.now var ∷ [])) longer.items) }
-    ensures vars { OnOk result (vars.new.items ≡ vars.old.items ++ binder_vars (reached vars.old.items (from_var start path.now var ∷ []))) }
+    ensures tuples { IfOk result (λ longer. AreExtended leads.now.docs.now bindings.items (reached vars.old.items (from_node leads.now start ∷ [])) longer.items) }
+    ensures vars { OnOk result (vars.new.items ≡ vars.old.items ++ binder_vars (reached vars.old.items (from_node leads.now start ∷ []))) }
 {
     if !has_var(vars, start) {
         return Ok(bindings);
     }
-    vars.push(var)?;
-    extend_from_var(alloc, docs, &bindings, start, path, var)
+    vars.push(leads.var)?;
+    extend_from_var(alloc, leads, &bindings, start)
 }
 
 // The tuples with the variable of a condition that starts at one of the variables, which becomes one of them.
@@ -125,7 +136,12 @@ fn extend_if_reached(
 {
     match cond {
         Cond::FromVar { start, path, var } => {
-            extend_if_has(alloc, docs, vars, *start, path, *var, bindings)
+            let leads = Leads {
+                docs,
+                path,
+                var: *var,
+            };
+            extend_if_has(alloc, &leads, vars, *start, bindings)
         },
         Cond::FromSource { .. } => Ok(bindings),
         Cond::Compare(_) => Ok(bindings),
@@ -163,7 +179,12 @@ fn extend_begun(
 {
     match cond {
         Cond::FromSource { source, path, var } => {
-            let begun = extend_from_source(alloc, docs, &bindings, *source, path, *var)?;
+            let leads = Leads {
+                docs,
+                path,
+                var: *var,
+            };
+            let begun = extend_from_source(alloc, &leads, &bindings, *source)?;
             extend_reached(alloc, docs, *var, behind, begun)
         },
         Cond::FromVar { .. } => Ok(bindings),

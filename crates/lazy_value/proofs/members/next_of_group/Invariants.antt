@@ -9,13 +9,13 @@ abbrev pub invariant-members : goal.invariant-members
 invariant-members g l = record {
   came : g.S.Sources.came_from l.s l.fn.s;
   bench : IsBenchOf (g.S.Sources.view l.s) l.bench;
-  first : Stands (state_of (g.S.Sources.view l.s) l.bench) l.op gathers_groups l.first;
-  at : Stands (state_of (g.S.Sources.view l.s) l.bench) l.op gathers_groups l.at;
+  first : Stands (state_of (g.S.Sources.view l.s) l.bench) l.group.op gathers_groups l.group.first.now;
+  at : Stands (state_of (g.S.Sources.view l.s) l.bench) l.group.op gathers_groups l.at;
   goes : Goes (state_of (g.S.Sources.view l.fn.s) l.fn.bench) (state_of (g.S.Sources.view l.s) l.bench)
-      (group_ahead (state_of (g.S.Sources.view l.fn.s) l.fn.bench) l.op l.fn.first l.fn.from) (group_ahead (state_of (g.S.Sources.view l.s) l.bench) l.op l.first l.at);
-  low : number_at (state_of (g.S.Sources.view l.s) l.bench) (input_at (ops_of (state_of (g.S.Sources.view l.s) l.bench)) l.op) l.at
-      ≤ number_at (state_of (g.S.Sources.view l.fn.s) l.fn.bench) (input_at (ops_of (state_of (g.S.Sources.view l.fn.s) l.fn.bench)) l.op) l.fn.from;
+      (group_ahead (state_of (g.S.Sources.view l.fn.s) l.fn.bench) l.group.op l.fn.group.first.now l.fn.group.at.now) (group_ahead (state_of (g.S.Sources.view l.s) l.bench) l.group.op l.group.first.now l.at);
+  low : number_at (state_of (g.S.Sources.view l.s) l.bench) (input_at (ops_of (state_of (g.S.Sources.view l.s) l.bench)) l.group.op) l.at
+      ≤ number_at (state_of (g.S.Sources.view l.fn.s) l.fn.bench) (input_at (ops_of (state_of (g.S.Sources.view l.fn.s) l.fn.bench)) l.group.op) l.fn.group.at.now;
 }
 
 abbrev pub decreases-members : goal.decreases-members
-decreases-members g l = number_at (state_of (g.S.Sources.view l.s) l.bench) (input_at (ops_of (state_of (g.S.Sources.view l.s) l.bench)) l.op) l.at
+decreases-members g l = number_at (state_of (g.S.Sources.view l.s) l.bench) (input_at (ops_of (state_of (g.S.Sources.view l.s) l.bench)) l.group.op) l.at

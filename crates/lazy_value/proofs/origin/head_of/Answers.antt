@@ -7,11 +7,11 @@ use Rattle.lazy_value.proofs.Heads.{leaf_head, node_head}
 use Rattle.lazy_value.proofs.origin.head_of.Goals as goal
 
 pub returns-in-LabelOf : goal.returns-in-LabelOf
-returns-in-LabelOf c = λ view h i. leaf_head (state_of view c.args.bench.now) c.args.op c.args.index c.args.input c.args.c.now c.piece.result.now c.in-LabelOf.v
-    (c.piece.ensures ∙ ap (λ (p : Plan). piece_at (plan_value p).ops c.args.op c.args.index) c.plan.ensures) c.requires.input c.source_of.result c.spot.result c.in-LabelOf.is
-    (c.source_of.ensures view c.args.c.now i) (c.spot.ensures view i)
+returns-in-LabelOf c = λ view h i. leaf_head (state_of view c.args.bench.now) c.args.from.now.op c.args.from.now.next c.args.input c.args.from.now.at.now c.piece.result.now c.in-LabelOf.v
+    (c.piece.ensures ∙ ap (λ (p : Plan). piece_at (plan_value p).ops c.args.from.now.op c.args.from.now.next) c.plan.ensures) c.requires.input c.source_of.result c.spot.result c.in-LabelOf.is
+    (c.source_of.ensures view c.args.from.now.at.now i) (c.spot.ensures view i)
 
 pub returns-in-Node : goal.returns-in-Node
-returns-in-Node c = λ view h i. node_head (state_of view c.args.bench.now) c.args.op c.args.index c.args.input c.args.c.now c.piece.result.now c.in-Var.v
-    (c.piece.ensures ∙ ap (λ (p : Plan). piece_at (plan_value p).ops c.args.op c.args.index) c.plan.ensures) c.requires.input c.in-Node.source c.in-Node.spot c.in-Var.is
+returns-in-Node c = λ view h i. node_head (state_of view c.args.bench.now) c.args.from.now.op c.args.from.now.next c.args.input c.args.from.now.at.now c.piece.result.now c.in-Var.v
+    (c.piece.ensures ∙ ap (λ (p : Plan). piece_at (plan_value p).ops c.args.from.now.op c.args.from.now.next) c.plan.ensures) c.requires.input c.in-Node.source c.in-Node.spot c.in-Var.is
     (rw c.in-Node.is at (c.in_ok-source-in-Var.ensures view h i))

@@ -12,26 +12,26 @@ pub returns-in_ok-origin-in-Var-clause-answer : goal.returns-in_ok-origin-in-Var
 returns-in_ok-origin-in-Var-clause-answer c =
     if_ok c.enter.result _ _
     (λ t k view h s r.
-    var_turned (state_of view c.args.bench.now) c.args.op c.args.next c.args.at.now c.args.up.now.value (there_is _ _ _ _ c.requires.bench.2.1 c.count_pieces.ensures (ap (λ (p : Plan). length (pieces_of (op_at (plan_value p).ops c.args.op))) c.plan.ensures) c.if-next-count_pieces.false) s r _ c.in-Var.v c.in_ok-origin-in-Var.origin c.input_of-input.result (c.input_of-input.ensures ∙ ap (λ (p : Plan). input_at (plan_value p).ops c.args.op) c.plan-2.ensures) (sym (c.piece.ensures ∙ ap (λ (p : Plan). piece_at (plan_value p).ops c.args.op c.args.next) c.plan-3.ensures) ∙ c.in-Var.is)
-    (c.in_ok-origin-in-Var.ensures view h (subst (λ (n : ℕ). IsCursor (state_of view c.args.bench.now) n c.args.at.now) (sym (c.input_of-input.ensures ∙ ap (λ (p : Plan). input_at (plan_value p).ops c.args.op) c.plan-2.ensures)) s.cursor)) c.in_ok-behind.behind.value (behind_is c.in_ok-behind.behind.value c.args.op (c.args.next + 1) c.args.at.now c.in_ok-here.here _ c.in_ok-up.up.value c.args.up.now.value c.in_ok-behind.ensures c.in_ok-up.ensures c.in_ok-here.ensures) t (k view h))
+    var_turned (state_of view c.args.bench.now) c.args.from.now.op c.args.from.now.next c.args.from.now.at.now c.args.up.now.value (there_is _ _ _ _ c.requires.bench.2.1 c.count_pieces.ensures (ap (λ (p : Plan). length (pieces_of (op_at (plan_value p).ops c.args.from.now.op))) c.plan.ensures) c.if-from-count_pieces.false) s r _ c.in-Var.v c.in_ok-origin-in-Var.origin c.input_of-input.result (c.input_of-input.ensures ∙ ap (λ (p : Plan). input_at (plan_value p).ops c.args.from.now.op) c.plan-2.ensures) (sym (c.piece.ensures ∙ ap (λ (p : Plan). piece_at (plan_value p).ops c.args.from.now.op c.args.from.now.next) c.plan-3.ensures) ∙ c.in-Var.is)
+    (c.in_ok-origin-in-Var.ensures view h (subst (λ (n : ℕ). IsCursor (state_of view c.args.bench.now) n c.args.from.now.at.now) (sym (c.input_of-input.ensures ∙ ap (λ (p : Plan). input_at (plan_value p).ops c.args.from.now.op) c.plan-2.ensures)) s.cursor)) c.in_ok-behind.behind.value (behind_is c.in_ok-behind.behind.value c.args.from.now.op (c.args.from.now.next + 1) c.args.from.now.at.now c.in_ok-here.here _ c.in_ok-up.up.value c.args.up.now.value c.in_ok-behind.ensures c.in_ok-up.ensures c.in_ok-here.ensures) t (k view h))
     c.enter.ensures.answer
 
 pub returns-in_ok-origin-in-Var-clause-left : goal.returns-in_ok-origin-in-Var-clause-left
 returns-in_ok-origin-in-Var-clause-left c =
     if_ok c.enter.result _ _
     (λ t k view h s r.
-    var_fallen (state_of view c.args.bench.now) c.args.op c.args.next c.args.at.now c.args.up.now.value (there_is _ _ _ _ c.requires.bench.2.1 c.count_pieces.ensures (ap (λ (p : Plan). length (pieces_of (op_at (plan_value p).ops c.args.op))) c.plan.ensures) c.if-next-count_pieces.false) s r _ c.in-Var.v c.in_ok-origin-in-Var.origin c.input_of-input.result (c.input_of-input.ensures ∙ ap (λ (p : Plan). input_at (plan_value p).ops c.args.op) c.plan-2.ensures) (sym (c.piece.ensures ∙ ap (λ (p : Plan). piece_at (plan_value p).ops c.args.op c.args.next) c.plan-3.ensures) ∙ c.in-Var.is)
-    (c.in_ok-origin-in-Var.ensures view h (subst (λ (n : ℕ). IsCursor (state_of view c.args.bench.now) n c.args.at.now) (sym (c.input_of-input.ensures ∙ ap (λ (p : Plan). input_at (plan_value p).ops c.args.op) c.plan-2.ensures)) s.cursor)) c.in_ok-behind.behind.value (behind_is c.in_ok-behind.behind.value c.args.op (c.args.next + 1) c.args.at.now c.in_ok-here.here _ c.in_ok-up.up.value c.args.up.now.value c.in_ok-behind.ensures c.in_ok-up.ensures c.in_ok-here.ensures) t (k view h))
+    var_fallen (state_of view c.args.bench.now) c.args.from.now.op c.args.from.now.next c.args.from.now.at.now c.args.up.now.value (there_is _ _ _ _ c.requires.bench.2.1 c.count_pieces.ensures (ap (λ (p : Plan). length (pieces_of (op_at (plan_value p).ops c.args.from.now.op))) c.plan.ensures) c.if-from-count_pieces.false) s r _ c.in-Var.v c.in_ok-origin-in-Var.origin c.input_of-input.result (c.input_of-input.ensures ∙ ap (λ (p : Plan). input_at (plan_value p).ops c.args.from.now.op) c.plan-2.ensures) (sym (c.piece.ensures ∙ ap (λ (p : Plan). piece_at (plan_value p).ops c.args.from.now.op c.args.from.now.next) c.plan-3.ensures) ∙ c.in-Var.is)
+    (c.in_ok-origin-in-Var.ensures view h (subst (λ (n : ℕ). IsCursor (state_of view c.args.bench.now) n c.args.from.now.at.now) (sym (c.input_of-input.ensures ∙ ap (λ (p : Plan). input_at (plan_value p).ops c.args.from.now.op) c.plan-2.ensures)) s.cursor)) c.in_ok-behind.behind.value (behind_is c.in_ok-behind.behind.value c.args.from.now.op (c.args.from.now.next + 1) c.args.from.now.at.now c.in_ok-here.here _ c.in_ok-up.up.value c.args.up.now.value c.in_ok-behind.ensures c.in_ok-up.ensures c.in_ok-here.ensures) t (k view h))
     c.enter.ensures.left
 
 pub returns-in_ok-head-in_default : goal.returns-in_ok-head-in_default
 returns-in_ok-head-in_default c = record {
-  answer = λ view h s r. head_stands (state_of view c.args.bench.now) c.args.op c.args.next c.args.at.now c.args.up.now.value (there_is _ _ _ _ c.requires.bench.2.1 c.count_pieces.ensures (ap (λ (p : Plan). length (pieces_of (op_at (plan_value p).ops c.args.op))) c.plan.ensures) c.if-next-count_pieces.false) s r _ c.in_ok-head-in_default.head (c.in_ok-head-in_default.ensures view h (subst (λ (n : ℕ). IsCursor (state_of view c.args.bench.now) n c.args.at.now) (sym (c.input_of-input.ensures ∙ ap (λ (p : Plan). input_at (plan_value p).ops c.args.op) c.plan-2.ensures)) s.cursor)) c.in_ok-behind.behind (behind_is c.in_ok-behind.behind.value c.args.op (c.args.next + 1) c.args.at.now c.in_ok-here.here _ c.in_ok-up.up.value c.args.up.now.value c.in_ok-behind.ensures c.in_ok-up.ensures c.in_ok-here.ensures);
-  left = λ view h s r. head_falls (state_of view c.args.bench.now) c.args.op c.args.next c.args.at.now c.args.up.now.value (there_is _ _ _ _ c.requires.bench.2.1 c.count_pieces.ensures (ap (λ (p : Plan). length (pieces_of (op_at (plan_value p).ops c.args.op))) c.plan.ensures) c.if-next-count_pieces.false) s r _ c.in_ok-head-in_default.head (c.in_ok-head-in_default.ensures view h (subst (λ (n : ℕ). IsCursor (state_of view c.args.bench.now) n c.args.at.now) (sym (c.input_of-input.ensures ∙ ap (λ (p : Plan). input_at (plan_value p).ops c.args.op) c.plan-2.ensures)) s.cursor))
-      (λ v e. c.in_default.not-Var v (c.piece.ensures ∙ ap (λ (p : Plan). piece_at (plan_value p).ops c.args.op c.args.next) c.plan-3.ensures ∙ e)) c.in_ok-behind.behind.value (behind_is c.in_ok-behind.behind.value c.args.op (c.args.next + 1) c.args.at.now c.in_ok-here.here _ c.in_ok-up.up.value c.args.up.now.value c.in_ok-behind.ensures c.in_ok-up.ensures c.in_ok-here.ensures);
+  answer = λ view h s r. head_stands (state_of view c.args.bench.now) c.args.from.now.op c.args.from.now.next c.args.from.now.at.now c.args.up.now.value (there_is _ _ _ _ c.requires.bench.2.1 c.count_pieces.ensures (ap (λ (p : Plan). length (pieces_of (op_at (plan_value p).ops c.args.from.now.op))) c.plan.ensures) c.if-from-count_pieces.false) s r _ c.in_ok-head-in_default.head (c.in_ok-head-in_default.ensures view h (subst (λ (n : ℕ). IsCursor (state_of view c.args.bench.now) n c.args.from.now.at.now) (sym (c.input_of-input.ensures ∙ ap (λ (p : Plan). input_at (plan_value p).ops c.args.from.now.op) c.plan-2.ensures)) s.cursor)) c.in_ok-behind.behind (behind_is c.in_ok-behind.behind.value c.args.from.now.op (c.args.from.now.next + 1) c.args.from.now.at.now c.in_ok-here.here _ c.in_ok-up.up.value c.args.up.now.value c.in_ok-behind.ensures c.in_ok-up.ensures c.in_ok-here.ensures);
+  left = λ view h s r. head_falls (state_of view c.args.bench.now) c.args.from.now.op c.args.from.now.next c.args.from.now.at.now c.args.up.now.value (there_is _ _ _ _ c.requires.bench.2.1 c.count_pieces.ensures (ap (λ (p : Plan). length (pieces_of (op_at (plan_value p).ops c.args.from.now.op))) c.plan.ensures) c.if-from-count_pieces.false) s r _ c.in_ok-head-in_default.head (c.in_ok-head-in_default.ensures view h (subst (λ (n : ℕ). IsCursor (state_of view c.args.bench.now) n c.args.from.now.at.now) (sym (c.input_of-input.ensures ∙ ap (λ (p : Plan). input_at (plan_value p).ops c.args.from.now.op) c.plan-2.ensures)) s.cursor))
+      (λ v e. c.in_default.not-Var v (c.piece.ensures ∙ ap (λ (p : Plan). piece_at (plan_value p).ops c.args.from.now.op c.args.from.now.next) c.plan-3.ensures ∙ e)) c.in_ok-behind.behind.value (behind_is c.in_ok-behind.behind.value c.args.from.now.op (c.args.from.now.next + 1) c.args.from.now.at.now c.in_ok-here.here _ c.in_ok-up.up.value c.args.up.now.value c.in_ok-behind.ensures c.in_ok-up.ensures c.in_ok-here.ensures);
 }
 
-pub returns-then-next-count_pieces-clause-answer : goal.returns-then-next-count_pieces-clause-answer
-returns-then-next-count_pieces-clause-answer c = λ view h s r.
-    over_pieces (state_of view c.args.bench.now) c.args.op c.args.next c.args.at.now c.args.up.now.value c.in_ok-share.field-0.value
-    (c.if-next-count_pieces.true ∙ c.count_pieces.ensures ∙ ap (λ (p : Plan). length (pieces_of (op_at (plan_value p).ops c.args.op))) c.plan.ensures) c.in_ok-share.ensures r
+pub returns-then-from-count_pieces-clause-answer : goal.returns-then-from-count_pieces-clause-answer
+returns-then-from-count_pieces-clause-answer c = λ view h s r.
+    over_pieces (state_of view c.args.bench.now) c.args.from.now.op c.args.from.now.next c.args.from.now.at.now c.args.up.now.value c.in_ok-share.field-0.value
+    (c.if-from-count_pieces.true ∙ c.count_pieces.ensures ∙ ap (λ (p : Plan). length (pieces_of (op_at (plan_value p).ops c.args.from.now.op))) c.plan.ensures) c.in_ok-share.ensures r

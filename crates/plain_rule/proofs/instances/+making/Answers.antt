@@ -14,8 +14,8 @@ use Rattle.plain_rule.proofs.instances.+making.Goals as goal
 
 pub push_elements-loop-part-preserved : goal.push_elements-loop-part-preserved
 push_elements-loop-part-preserved t c =
-    let docs : Documents = documents_of c.args.docs.now in
-    let force : List Key = c.args.force.now in
+    let docs : Documents = documents_of c.args.scope.now.docs.now in
+    let force : List Key = c.args.scope.now.force.now in
     let e : Element = c.args.template.now in
     let some : Forest = forest_of c.loop-part.made.items in
     let label : c.in_ok-copy.field-0 ≡ e.label = c.in_ok-copy.ensures ∙ ap (λ (z : Element). z.label) c.template.view_is in
@@ -35,7 +35,7 @@ push_elements-loop-part-preserved t c =
 pub push_elements-returns : goal.push_elements-returns
 push_elements-returns t c =
     let e : Element = c.args.template.now in
-    sym (joined_end (λ part. tree e.label (instances (documents_of c.args.docs.now) c.args.force.now e.items part) none) c.args.found.now c.loop-part.part-index (forest_of c.loop-part.made.items) c.loop-part-test.false)
+    sym (joined_end (λ part. tree e.label (instances (documents_of c.args.scope.now.docs.now) c.args.scope.now.force.now e.items part) none) c.args.found.now c.loop-part.part-index (forest_of c.loop-part.made.items) c.loop-part-test.false)
     ∙ c.loop-part.invariant
 
 pub push_instances-push_item-requires : goal.push_instances-push_item-requires
@@ -46,41 +46,41 @@ push_instances-push_item-requires t c =
 
 pub push_instances-loop-item-preserved : goal.push_instances-loop-item-preserved
 push_instances-loop-item-preserved t c =
-    instances_next (documents_of c.args.docs.now) c.args.force.now c.args.items.now c.loop-item.item-index c.item-item.result c.args.bindings.now (forest_of c.loop-item.made.items) (forest_of c.push_item.new.made.items)
+    instances_next (documents_of c.args.scope.now.docs.now) c.args.scope.now.force.now c.args.items.now c.loop-item.item-index c.item-item.result c.args.bindings.now (forest_of c.loop-item.made.items) (forest_of c.push_item.new.made.items)
     c.loop-item-test.true c.item-item.is c.in_ok-push_item.ensures
     ∙ c.loop-item.invariant
 
 pub push_instances-returns : goal.push_instances-returns
 push_instances-returns t c =
-    sym (instances_end (documents_of c.args.docs.now) c.args.force.now c.args.items.now c.loop-item.item-index c.args.bindings.now (forest_of c.loop-item.made.items) c.loop-item-test.false)
+    sym (instances_end (documents_of c.args.scope.now.docs.now) c.args.scope.now.force.now c.args.items.now c.loop-item.item-index c.args.bindings.now (forest_of c.loop-item.made.items) c.loop-item-test.false)
     ∙ c.loop-item.invariant
 
 pub push_item-returns-in_ok-found-in-Node : goal.push_item-returns-in_ok-found-in-Node
 push_item-returns-in_ok-found-in-Node t c =
-    let docs : Documents = documents_of c.args.docs.now in
+    let docs : Documents = documents_of c.args.scope.now.docs.now in
     on_ok_weaker c.push_wholes.result
-    (λ e. shown_item docs c.args.force.now c.in-Node.keys.items whole c.in-Node.var c.args.bindings.now c.deref-in-Node.result.now (item_before c.args.item.now done) (forest_of c.args.made.now.items) (forest_of c.push_wholes.new.made.items)
-    (c.deref-in-Node.ensures.value ∙ c.in_ok-found-in-Node.ensures ∙ ap (λ k. parts docs c.args.force.now k c.args.bindings.now) c.deref.ensures.value)
+    (λ e. shown_item docs c.args.scope.now.force.now c.in-Node.keys.items whole c.in-Node.var c.args.bindings.now c.deref-in-Node.result.now (item_before c.args.item.now done) (forest_of c.args.made.now.items) (forest_of c.push_wholes.new.made.items)
+    (c.deref-in-Node.ensures.value ∙ c.in_ok-found-in-Node.ensures ∙ ap (λ k. parts docs c.args.scope.now.force.now k c.args.bindings.now) c.deref.ensures.value)
     (ap (λ z. item_before z done) c.in-Node.is) e)
     c.push_wholes.ensures
 
 pub push_item-returns-in_ok-found-in-LabelOf : goal.push_item-returns-in_ok-found-in-LabelOf
 push_item-returns-in_ok-found-in-LabelOf t c =
-    let docs : Documents = documents_of c.args.docs.now in
+    let docs : Documents = documents_of c.args.scope.now.docs.now in
     on_ok_weaker c.push_labels.result
-    (λ e. shown_item docs c.args.force.now c.in-LabelOf.keys.items label_alone c.in-LabelOf.var c.args.bindings.now c.deref-in-LabelOf-2.result.now (item_before c.args.item.now done) (forest_of c.args.made.now.items) (forest_of c.push_labels.new.made.items)
-    (c.deref-in-LabelOf-2.ensures.value ∙ c.in_ok-found-in-LabelOf.ensures ∙ ap (λ k. parts docs c.args.force.now k c.args.bindings.now) c.deref-in-LabelOf.ensures.value)
+    (λ e. shown_item docs c.args.scope.now.force.now c.in-LabelOf.keys.items label_alone c.in-LabelOf.var c.args.bindings.now c.deref-in-LabelOf-2.result.now (item_before c.args.item.now done) (forest_of c.args.made.now.items) (forest_of c.push_labels.new.made.items)
+    (c.deref-in-LabelOf-2.ensures.value ∙ c.in_ok-found-in-LabelOf.ensures ∙ ap (λ k. parts docs c.args.scope.now.force.now k c.args.bindings.now) c.deref-in-LabelOf.ensures.value)
     (ap (λ z. item_before z done) c.in-LabelOf.is) e)
     c.push_labels.ensures
 
 pub push_item-returns-in_ok-inside-in-Element : goal.push_item-returns-in_ok-inside-in-Element
 push_item-returns-in_ok-inside-in-Element t c =
-    let docs : Documents = documents_of c.args.docs.now in
+    let docs : Documents = documents_of c.args.scope.now.docs.now in
     let e : Element = c.in-Element.template in
     let keys : c.template.inside.keys.items ≡ e.keys = ap (λ (z : Element). z.keys) c.template.view_is in
     on_ok_weaker c.push_elements.result
-    (λ n. element_item docs c.args.force.now e.keys c.deref-in-Element-3.result.now e.label e.items c.args.bindings.now c.deref-in-Element-4.result.now (item_before c.args.item.now done) (forest_of c.args.made.now.items) (forest_of c.push_elements.new.made.items)
-    (c.deref-in-Element-4.ensures.value ∙ c.in_ok-found-in-Element.ensures ∙ ap (λ k. parts docs c.args.force.now k c.args.bindings.now) (c.deref-in-Element.ensures.value ∙ keys))
-    (c.deref-in-Element-3.ensures.value ∙ c.in_ok-inside-in-Element.ensures ∙ ap (in_force c.args.force.now) (c.deref-in-Element-2.ensures.value ∙ keys))
+    (λ n. element_item docs c.args.scope.now.force.now e.keys c.deref-in-Element-3.result.now e.label e.items c.args.bindings.now c.deref-in-Element-4.result.now (item_before c.args.item.now done) (forest_of c.args.made.now.items) (forest_of c.push_elements.new.made.items)
+    (c.deref-in-Element-4.ensures.value ∙ c.in_ok-found-in-Element.ensures ∙ ap (λ k. parts docs c.args.scope.now.force.now k c.args.bindings.now) (c.deref-in-Element.ensures.value ∙ keys))
+    (c.deref-in-Element-3.ensures.value ∙ c.in_ok-inside-in-Element.ensures ∙ ap (in_force c.args.scope.now.force.now) (c.deref-in-Element-2.ensures.value ∙ keys))
     (ap (λ z. item_before z done) c.in-Element.is) n)
     c.push_elements.ensures

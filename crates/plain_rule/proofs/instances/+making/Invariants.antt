@@ -18,10 +18,10 @@ decreases-push_instances l = 3 * items_size (items_of l.items.now) + 2
 
 abbrev pub invariant-push_elements-loop-part : goal.invariant-push_elements-loop-part
 invariant-push_elements-loop-part l =
-    followed (forest_of l.made.items) (joined (λ part. tree l.template.label (instances (documents_of l.docs) l.force l.template.items part) none) (drop l.part-index l.found))
-    ≡ followed (forest_of l.fn.made.items) (joined (λ part. tree l.template.label (instances (documents_of l.docs) l.force l.template.items part) none) l.found)
+    followed (forest_of l.made.items) (joined (λ part. tree l.template.label (instances (documents_of l.scope.docs.now) l.scope.force.now l.template.items part) none) (drop l.part-index l.found))
+    ≡ followed (forest_of l.fn.made.items) (joined (λ part. tree l.template.label (instances (documents_of l.scope.docs.now) l.scope.force.now l.template.items part) none) l.found)
 
 abbrev pub invariant-push_instances-loop-item : goal.invariant-push_instances-loop-item
 invariant-push_instances-loop-item l =
-    followed (forest_of l.made.items) (instances (documents_of l.docs) l.force (items_of (drop l.item-index l.items)) l.bindings)
-    ≡ followed (forest_of l.fn.made.items) (instances (documents_of l.docs) l.force (items_of l.items) l.bindings)
+    followed (forest_of l.made.items) (instances (documents_of l.scope.docs.now) l.scope.force.now (items_of (drop l.item-index l.items)) l.bindings)
+    ≡ followed (forest_of l.fn.made.items) (instances (documents_of l.scope.docs.now) l.scope.force.now (items_of l.items) l.bindings)

@@ -13,7 +13,7 @@ push_found-requires t c =
 
 pub loop-at-preserved : goal.loop-at-preserved
 loop-at-preserved t c = λ test says.
-    found_next test c.args.above.now c.in_ok-labels.labels.items c.args.place.now c.in_ok-below.below c.loop-at.at c.args.trees.now c.index-trees-at.result c.label.result.now
+    found_next test c.args.under.now.labels.now c.in_ok-labels.labels.items c.args.under.now.place.now c.in_ok-below.below c.loop-at.at c.args.trees.now c.index-trees-at.result c.label.result.now
     c.loop-at.found.items c.push_if_described.new.found.items c.push_found.new.found.items
     c.loop-at-test.true c.index-trees-at.is c.label.ensures c.in_ok-labels.ensures c.in_ok-below.ensures
     (c.in_ok-push_if_described.ensures test says ∙ ap (λ z. c.loop-at.found.items ++ cond (test z) (c.in_ok-below.below ∷ []) []) c.deref.ensures.value)

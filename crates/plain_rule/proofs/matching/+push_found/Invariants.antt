@@ -9,4 +9,4 @@ abbrev pub decreases-push_found : goal.decreases-push_found
 decreases-push_found l = nodes_of (forest_of l.trees.now)
 
 abbrev pub invariant-loop-at : goal.invariant-loop-at
-invariant-loop-at l = (test : Labels → Bool) → Tests l.path test → l.found.items ++ found_in test l.above l.place l.at (forest_of (drop l.at l.trees)) ≡ l.fn.found.items ++ found_in test l.above l.place 0 (forest_of l.trees)
+invariant-loop-at l = (test : Labels → Bool) → Tests l.path test → l.found.items ++ found_in test l.under.labels.now l.under.place.now l.at (forest_of (drop l.at l.trees)) ≡ l.fn.found.items ++ found_in test l.under.labels.now l.under.place.now 0 (forest_of l.trees)

@@ -6,14 +6,14 @@ use Rattle.plain_rule.proofs.tuples.extend_from_source.Goals as goal
 
 pub loop-binding-preserved : goal.loop-binding-preserved
 loop-binding-preserved c = λ lists is.
-    extend_next lists (from_source c.args.source c.args.path.now c.args.var) c.args.bindings.now c.loop-binding.binding-index c.binding-item.result c.loop-binding.longer.items c.push_longer.new.longer.items
+    extend_next lists (from_source c.args.source c.args.leads.now.path.now c.args.leads.now.var) c.args.bindings.now c.loop-binding.binding-index c.binding-item.result c.loop-binding.longer.items c.push_longer.new.longer.items
     c.loop-binding-test.true c.binding-item.is
     (c.in_ok-push_longer.ensures lists is
-    ∙ ap (λ (n : Node). c.loop-binding.longer.items ++ map (λ q. c.binding-item.result ++ (c.args.var, record { source = n.source; place = q }) ∷ []) (lists c.args.path.now n)) c.document-start.ensures
-    ∙ ap (λ z. c.loop-binding.longer.items ++ z) (longer_source lists c.args.source c.args.path.now c.args.var c.binding-item.result))
+    ∙ ap (λ (n : Node). c.loop-binding.longer.items ++ map (λ q. c.binding-item.result ++ (c.args.leads.now.var, record { source = n.source; place = q }) ∷ []) (lists c.args.leads.now.path.now n)) c.document-start.ensures
+    ∙ ap (λ z. c.loop-binding.longer.items ++ z) (longer_source lists c.args.source c.args.leads.now.path.now c.args.leads.now.var c.binding-item.result))
     ∙ c.loop-binding.invariant lists is
 
 pub returns : goal.returns
 returns c = λ lists is.
-    sym (extend_end lists (from_source c.args.source c.args.path.now c.args.var) c.args.bindings.now c.loop-binding.binding-index c.loop-binding.longer.items c.loop-binding-test.false)
+    sym (extend_end lists (from_source c.args.source c.args.leads.now.path.now c.args.leads.now.var) c.args.bindings.now c.loop-binding.binding-index c.loop-binding.longer.items c.loop-binding-test.false)
     ∙ c.loop-binding.invariant lists is

@@ -5,4 +5,4 @@ use Rattle.plain_rule.specs.Documents.{documents_of}
 use Rattle.plain_rule.proofs.tuples.extend_from_var.Given as goal
 
 abbrev pub invariant-loop-binding : goal.invariant-loop-binding
-invariant-loop-binding l = (lists : MatchLists) → AreMatchLists (documents_of l.docs) lists → l.longer.items ++ extend lists (from_var l.start l.path l.var) (drop l.binding-index l.bindings) ≡ extend lists (from_var l.start l.path l.var) l.bindings
+invariant-loop-binding l = (lists : MatchLists) → AreMatchLists (documents_of l.leads.docs.now) lists → l.longer.items ++ extend lists (from_var l.start l.leads.path.now l.leads.var) (drop l.binding-index l.bindings) ≡ extend lists (from_var l.start l.leads.path.now l.leads.var) l.bindings
