@@ -49,6 +49,14 @@ below v b x = below_node (weigh v b) (nodes_of b) x.number
 abbrev pub after : View → Buffer → Spot → ℕ
 after v b x = after_node (weigh v b) (nodes_of b) x.number
 
+-- a spot, what lies below it and what lies at or below its later siblings weigh so much
+abbrev pub from_spot : View → Buffer → Spot → ℕ
+from_spot v b x = 1 + below v b x + after v b x
+
+-- what holds of the document of a buffer's source, where it is told
+abbrev pub IfTold : View → Buffer → (Forest → Type 0) → Type 0
+IfTold v b P = v.told (number_of b) ≡ true → P (document_node v (number_of b))
+
 -- the trees that an answer stands for: the tree at a spot, and those behind it
 abbrev pub trees_from : Forest → Buffer → Option Spot → Forest
 trees_from f b None = none

@@ -1,7 +1,9 @@
 -- What fills make of a list with holes.
-use Rattle.std.specs.Prelude.{◌≡◌, ℕ, ◌+◌, ◌≤◌, true, cond}
+use Rattle.std.specs.Prelude.{◌≡◌, ℕ, ◌+◌, ◌≤◌, true, cond, List}
 use Rattle.lxp_core.specs.declared.open_tree.HoleId.{HoleId}
+use Rattle.lxp_core.specs.declared.open_tree.OpenTree.{OpenTree}
 use Rattle.lxp_core.specs.Open.{Open, nil, node, hole, closed, weight_of, AllHoles, IsApart, begins_with_hole}
+use Rattle.lxp_core.specs.Plain.{stacked}
 use Rattle.lxp_core.specs.View.{View, Keeps}
 
 -- 1 where a list begins with a hole
@@ -17,6 +19,10 @@ holes_weight weight (hole id rest) = weight id + holes_weight weight rest
 -- a number that falls with each fill of the hole at the front
 abbrev pub fills_left : (HoleId → ℕ) → Open → ℕ
 fills_left weight o = holes_weight weight o + holes_weight weight o + hole_first o
+
+-- the same of a list that is kept as a stack, from its last tree on
+abbrev pub left_in : View → ℕ → List OpenTree → ℕ
+left_in v number stack = fills_left (v.weight number) (stacked stack nil)
 
 -- the list `now`, under the new view, stands for what `was` stood for under the old one, weighs no more,
 -- and is empty where that was

@@ -26,8 +26,8 @@ impl Buffer {
     ghost use Rattle.lxp_core.specs.Open.{begins_with_hole};
     ghost use Rattle.tree_buffer.specs.declared.buffer.Buffer.{Buffer};
     ghost use Rattle.tree_buffer.specs.declared.spot.Spot.{Spot};
-    ghost use Rattle.tree_buffer.specs.Document.{document_node, has_next};
-    ghost use Rattle.tree_buffer.specs.Buffer.{IsSpot, number_of, place_of, label_of, rest_of, below, after, trees_from, IsChildSpot, IsNextSpot, HasAllChildren, HasAllSiblings, ChangesOnly, IsSourcesOf, Ran};
+    ghost use Rattle.tree_buffer.specs.Document.{has_next};
+    ghost use Rattle.tree_buffer.specs.Buffer.{IsSpot, number_of, place_of, label_of, rest_of, below, after, from_spot, IfTold, trees_from, IsChildSpot, IsNextSpot, HasAllChildren, HasAllSiblings, ChangesOnly, IsSourcesOf, Ran};
 
     /// A buffer of one source, of which nothing was asked yet. No fill is asked.
     pub fn open<S: Sources>(alloc: Global, s: &S, number: u32) -> Result<Buffer, AllocError>
@@ -112,13 +112,10 @@ impl Buffer {
         requires sources { IsSourcesOf (S.view s.old) self.old }
         ensures ran { Ran S.view S.came_from s.old self.old s.new self.new }
         ensures child { IfOk result (λ r. IfSome r (IsChildSpot self.new p.now 0)) }
-        ensures exact { IfOk result (λ r. (S.view s.old).told (number_of self.old) ≡ true
-            → is_some r ≡ has_place (document_node (S.view s.old) (number_of self.old)) (child_place (place_of self.old p.now))) }
-        ensures trees { IfOk result (λ r. (S.view s.old).told (number_of self.old) ≡ true
-            → trees_from (document_node (S.view s.old) (number_of self.old)) self.new r
-            ≡ first_kids (trees_at (document_node (S.view s.old) (number_of self.old)) (place_of self.old p.now))) }
-        ensures smaller { IfOk result (λ r. IfSome r (λ c.
-            1 + below (S.view s.new) self.new c + after (S.view s.new) self.new c ≤ below (S.view s.old) self.old p.now)) }
+        ensures exact { IfOk result (λ r. IfTold (S.view s.old) self.old (λ d. is_some r ≡ has_place d (child_place (place_of self.old p.now)))) }
+        ensures trees { IfOk result (λ r. IfTold (S.view s.old) self.old
+            (λ d. trees_from d self.new r ≡ first_kids (trees_at d (place_of self.old p.now)))) }
+        ensures smaller { IfOk result (λ r. IfSome r (λ c. from_spot (S.view s.new) self.new c ≤ below (S.view s.old) self.old p.now)) }
         // Fills.
         ensures lazy { (S.view s.old).forward (number_of self.old) ≡ true → (S.view s.new).fills ≤ (S.view s.old).fills + 1 }
         ensures known { (c : Spot) → IsChildSpot self.old p.now 0 c → s.new ≡ s.old }
@@ -152,13 +149,10 @@ impl Buffer {
         requires sources { IsSourcesOf (S.view s.old) self.old }
         ensures ran { Ran S.view S.came_from s.old self.old s.new self.new }
         ensures next { IfOk result (λ r. IfSome r (IsNextSpot self.new p.now)) }
-        ensures exact { IfOk result (λ r. (S.view s.old).told (number_of self.old) ≡ true
-            → is_some r ≡ has_next (document_node (S.view s.old) (number_of self.old)) (place_of self.old p.now)) }
-        ensures trees { IfOk result (λ r. (S.view s.old).told (number_of self.old) ≡ true
-            → trees_from (document_node (S.view s.old) (number_of self.old)) self.new r
-            ≡ behind (trees_at (document_node (S.view s.old) (number_of self.old)) (place_of self.old p.now))) }
-        ensures smaller { IfOk result (λ r. IfSome r (λ q.
-            1 + below (S.view s.new) self.new q + after (S.view s.new) self.new q ≤ after (S.view s.old) self.old p.now)) }
+        ensures exact { IfOk result (λ r. IfTold (S.view s.old) self.old (λ d. is_some r ≡ has_next d (place_of self.old p.now))) }
+        ensures trees { IfOk result (λ r. IfTold (S.view s.old) self.old
+            (λ d. trees_from d self.new r ≡ behind (trees_at d (place_of self.old p.now)))) }
+        ensures smaller { IfOk result (λ r. IfSome r (λ q. from_spot (S.view s.new) self.new q ≤ after (S.view s.old) self.old p.now)) }
         // Fills.
         ensures lazy { (S.view s.old).forward (number_of self.old) ≡ true → (S.view s.new).fills ≤ (S.view s.old).fills + 1 }
         ensures known { (q : Spot) → IsNextSpot self.old p.now q → s.new ≡ s.old }

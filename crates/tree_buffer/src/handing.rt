@@ -48,8 +48,8 @@ impl Buffer {
         requires before { 0 < get_or (nodes_of self.old).counts q 0 → IsLast (nodes_of self.old) q before }
         ensures sources { (v : View) → IsSourcesOf v self.old → IsSourcesOf v self.new }
         ensures advances { (v : View) → IsSourcesOf v self.old → Advances v self.old v self.new }
-        ensures child { IfOk result (λ r. MatchOption r (get_or (nodes_of self.old).rests q nil ≡ nil)
-            (λ c. IsChild (nodes_of self.new).links q (get_or (nodes_of self.old).counts q 0) c.number)) }
+        ensures child { let old = nodes_of self.old in IfOk result (λ r.
+            MatchOption r (get_or old.rests q nil ≡ nil) (λ c. IsChild (nodes_of self.new).links q (get_or old.counts q 0) c.number)) }
         ensures others { KeepsLists q (nodes_of self.old) (nodes_of self.new) }
         ensures none { IfOk result (λ r. is_some r ≡ false → self.new ≡ self.old) }
     {

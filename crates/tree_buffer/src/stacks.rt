@@ -6,7 +6,7 @@ ghost use Rattle.lxp_core.specs.declared.open_tree.OpenTree.TheVariants.{Hole};
 ghost use Rattle.lxp_core.specs.Open.{Open, nil, node, AllHoles, IsApart, begins_with_hole};
 ghost use Rattle.lxp_core.specs.Plain.{put, stacked};
 ghost use Rattle.lxp_core.specs.View.{Keeps};
-ghost use Rattle.tree_buffer.specs.Fills.{IsRefined, IsLazy, fills_left};
+ghost use Rattle.tree_buffer.specs.Fills.{IsRefined, IsLazy, left_in};
 
 use crate::BufferFault;
 use lxp_core::{HoleId, OpenTree, SourceFault, Sources};
@@ -16,7 +16,7 @@ use std::alloc::Global;
 // The hole at the top, where one stands there.
 fn top_hole(stack: &Vec<OpenTree>) -> Option<HoleId>
     ensures { MatchOption result (begins_with_hole (stacked stack.now.items nil) ≡ false)
-        (λ h. (front : List OpenTree) × (stack.now.items ≡ front ++ Hole h ∷ [])) }
+        (λ h. (rest : List OpenTree) × (stack.now.items ≡ rest ++ Hole h ∷ [])) }
 {
     match stack.last() {
         Some(OpenTree::Hole(h)) => Some(*h),
@@ -42,8 +42,7 @@ fn refill<S: Sources>(
     ensures refined { IsRefined (S.view s.old) (S.view s.new) number (stacked stack.old.items nil) (stacked stack.new.items nil) }
     ensures lazy { OnOk result (IsLazy (S.view s.old) (S.view s.new) number (stacked stack.old.items nil) (stacked stack.new.items nil)) }
     ensures at_most_one { (S.view s.new).fills ≤ (S.view s.old).fills + 1 }
-    ensures falls { OnOk result (fills_left ((S.view s.new).weight number) (stacked stack.new.items nil)
-        < fills_left ((S.view s.old).weight number) (stacked stack.old.items nil)) }
+    ensures falls { OnOk result (left_in (S.view s.new) number stack.new.items < left_in (S.view s.old) number stack.old.items) }
     ensures failed { IsErrOf result BufferFault.Failed → HasRisen ((S.view s.old).faults number) ((S.view s.new).faults number) }
 {
     let mut list = match s.fill(alloc, number, hole) {
