@@ -2,6 +2,7 @@ pub mod Benches
 pub mod Bound
 pub mod Buffers
 pub mod FirstLists
+pub mod FirstMembers
 pub mod FirstSteps
 pub mod Goes
 pub mod GrowingKeys
