@@ -1,4 +1,4 @@
-use Rattle.std.proofs.Common.{◌∙◌, ℕ, Bool, cond, List, Option, Some, None, sym, ap}
+use Rattle.std.proofs.Common.{inl, inr, ◌∙◌, ℕ, Bool, cond, List, Option, Some, None, sym, ap}
 use Rattle.mix_tree.specs.Keys.{has_var}
 use Rattle.mix_tree.specs.declared.var.Key.{Key}
 use Rattle.plan_core.specs.PlanMade.{op_of}
@@ -23,22 +23,6 @@ returns-after-eq-2 t c =
       | else-eq-2 w ↦ ap (source_var (operators c.args.self.now) c.in-GetDescendants.input) w.of-is ∙ sym (source_var-of (operators c.args.self.now) c.requires.fixed.typed c.args.n c.requires.op _ c.args.v (ap op_of (sym c.in-GetDescendants.is) ∙ c.operator.ensures) ∙ ap (λ (b : Bool). cond b (source_var (operators c.args.self.now) c.in-GetDescendants.input c.in-GetDescendants.start) (source_var (operators c.args.self.now) c.in-GetDescendants.input c.args.v)) (sym c.eq-in-GetDescendants.ensures ∙ w.if-eq-2.false))
     ]
 
-pub returns-in-Select : goal.returns-in-Select
-returns-in-Select t c =
-    c.variable_source-in-Select.ensures ∙ sym (source_var-of (operators c.args.self.now) c.requires.fixed.typed c.args.n c.requires.op _ c.args.v (ap op_of (sym c.in-Select.is) ∙ c.operator.ensures))
-
-pub returns-in-OrderBy : goal.returns-in-OrderBy
-returns-in-OrderBy t c =
-    c.variable_source-in-OrderBy.ensures ∙ sym (source_var-of (operators c.args.self.now) c.requires.fixed.typed c.args.n c.requires.op _ c.args.v (ap op_of (sym c.in-OrderBy.is) ∙ c.operator.ensures))
-
-pub returns-in-Concatenate : goal.returns-in-Concatenate
-returns-in-Concatenate t c =
-    c.variable_source-in-Concatenate.ensures ∙ sym (source_var-of (operators c.args.self.now) c.requires.fixed.typed c.args.n c.requires.op _ c.args.v (ap op_of (sym c.in-Concatenate.is) ∙ c.operator.ensures))
-
-pub returns-in-CreateElement : goal.returns-in-CreateElement
-returns-in-CreateElement t c =
-    c.variable_source-in-CreateElement.ensures ∙ sym (source_var-of (operators c.args.self.now) c.requires.fixed.typed c.args.n c.requires.op _ c.args.v (ap op_of (sym c.in-CreateElement.is) ∙ c.operator.ensures))
-
 pub returns-in-Some : goal.returns-in-Some
 returns-in-Some t c =
     sym (source_var-of (operators c.args.self.now) c.requires.fixed.typed c.args.n c.requires.op _ c.args.v (ap op_of (sym c.in-Join.is) ∙ c.operator.ensures) ∙ ap (λ (z : Option ℕ). or_other z (source_var (operators c.args.self.now) c.in-Join.right c.args.v)) (sym c.variable_source-in-Join.ensures ∙ c.in-Some.is))
@@ -47,22 +31,30 @@ pub returns-in-None : goal.returns-in-None
 returns-in-None t c =
     c.variable_source-in-None.ensures ∙ sym (source_var-of (operators c.args.self.now) c.requires.fixed.typed c.args.n c.requires.op _ c.args.v (ap op_of (sym c.in-Join.is) ∙ c.operator.ensures) ∙ ap (λ (z : Option ℕ). or_other z (source_var (operators c.args.self.now) c.in-Join.right c.args.v)) (sym c.variable_source-in-Join.ensures ∙ c.in-None.is))
 
-pub returns-then-names_var : goal.returns-then-names_var
-returns-then-names_var t c =
-    c.variable_source-then-names_var.ensures ∙ sym (source_var-of (operators c.args.self.now) c.requires.fixed.typed c.args.n c.requires.op _ c.args.v (ap op_of (sym c.in-Project.is) ∙ c.operator.ensures) ∙ ap (λ (b : Bool). cond b (source_var (operators c.args.self.now) c.in-Project.input c.args.v) None) (ap (λ (ks : List Key). has_var ks c.args.v) (sym c.deref.ensures.value) ∙ sym c.names_var.ensures ∙ c.if-names_var.true))
-
-pub returns-else-names_var : goal.returns-else-names_var
-returns-else-names_var t c =
-    sym (source_var-of (operators c.args.self.now) c.requires.fixed.typed c.args.n c.requires.op _ c.args.v (ap op_of (sym c.in-Project.is) ∙ c.operator.ensures) ∙ ap (λ (b : Bool). cond b (source_var (operators c.args.self.now) c.in-Project.input c.args.v) None) (ap (λ (ks : List Key). has_var ks c.args.v) (sym c.deref.ensures.value) ∙ sym c.names_var.ensures ∙ c.if-names_var.false))
-
-pub returns-then-names_var-2 : goal.returns-then-names_var-2
-returns-then-names_var-2 t c =
-    c.variable_source-then-names_var-2.ensures ∙ sym (source_var-of (operators c.args.self.now) c.requires.fixed.typed c.args.n c.requires.op _ c.args.v (ap op_of (sym c.in-GroupBy.is) ∙ c.operator.ensures) ∙ group_source c.in-GroupBy.keys.items c.in-GroupBy.piece c.in-GroupBy.out (source_var (operators c.args.self.now) c.in-GroupBy.input) c.args.v ∙ ap (λ (b : Bool). cond b (source_var (operators c.args.self.now) c.in-GroupBy.input c.args.v) None) (ap (λ (ks : List Key). has_var ks c.args.v) (sym c.deref-in-GroupBy.ensures.value) ∙ sym c.names_var-in-GroupBy.ensures ∙ c.if-names_var-2.true))
-
-pub returns-else-names_var-2 : goal.returns-else-names_var-2
-returns-else-names_var-2 t c =
-    sym (source_var-of (operators c.args.self.now) c.requires.fixed.typed c.args.n c.requires.op _ c.args.v (ap op_of (sym c.in-GroupBy.is) ∙ c.operator.ensures) ∙ group_source c.in-GroupBy.keys.items c.in-GroupBy.piece c.in-GroupBy.out (source_var (operators c.args.self.now) c.in-GroupBy.input) c.args.v ∙ ap (λ (b : Bool). cond b (source_var (operators c.args.self.now) c.in-GroupBy.input c.args.v) None) (ap (λ (ks : List Key). has_var ks c.args.v) (sym c.deref-in-GroupBy.ensures.value) ∙ sym c.names_var-in-GroupBy.ensures ∙ c.if-names_var-2.false))
-
 pub returns-in-TupleDestroy : goal.returns-in-TupleDestroy
 returns-in-TupleDestroy t c =
     sym (source_var-of (operators c.args.self.now) c.requires.fixed.typed c.args.n c.requires.op _ c.args.v (ap op_of (sym c.in-TupleDestroy.is) ∙ c.operator.ensures))
+
+pub returns-in-Select : goal.returns-in-Select
+returns-in-Select t c =
+    c.variable_source-in-Select.ensures ∙ elim c.in-Select.is [
+      | inl x ↦ sym (source_var-of (operators c.args.self.now) c.requires.fixed.typed c.args.n c.requires.op _ c.args.v (ap op_of (sym x.1) ∙ c.operator.ensures))
+      | inr y ↦ elim y [
+        | inl x ↦ sym (source_var-of (operators c.args.self.now) c.requires.fixed.typed c.args.n c.requires.op _ c.args.v (ap op_of (sym x.2) ∙ c.operator.ensures))
+        | inr z ↦ elim z [ inl x ↦ sym (source_var-of (operators c.args.self.now) c.requires.fixed.typed c.args.n c.requires.op _ c.args.v (ap op_of (sym x.2) ∙ c.operator.ensures)) | inr x ↦ sym (source_var-of (operators c.args.self.now) c.requires.fixed.typed c.args.n c.requires.op _ c.args.v (ap op_of (sym x.3) ∙ c.operator.ensures)) ]
+      ]
+    ]
+
+pub returns-then-names_var : goal.returns-then-names_var
+returns-then-names_var t c =
+    c.variable_source-then-names_var.ensures ∙ elim c.in-Project.is [
+      | inl x ↦ sym (source_var-of (operators c.args.self.now) c.requires.fixed.typed c.args.n c.requires.op _ c.args.v (ap op_of (sym x) ∙ c.operator.ensures) ∙ ap (λ (b : Bool). cond b (source_var (operators c.args.self.now) c.in-Project.input c.args.v) None) (ap (λ (ks : List Key). has_var ks c.args.v) (sym c.deref.ensures.value) ∙ sym c.names_var.ensures ∙ c.if-names_var.true))
+      | inr x ↦ sym (source_var-of (operators c.args.self.now) c.requires.fixed.typed c.args.n c.requires.op _ c.args.v (ap op_of (sym x.2) ∙ c.operator.ensures) ∙ group_source c.in-Project.keys.items x.0 x.1 (source_var (operators c.args.self.now) c.in-Project.input) c.args.v ∙ ap (λ (b : Bool). cond b (source_var (operators c.args.self.now) c.in-Project.input c.args.v) None) (ap (λ (ks : List Key). has_var ks c.args.v) (sym c.deref.ensures.value) ∙ sym c.names_var.ensures ∙ c.if-names_var.true))
+    ]
+
+pub returns-else-names_var : goal.returns-else-names_var
+returns-else-names_var t c =
+    elim c.in-Project.is [
+      | inl x ↦ sym (source_var-of (operators c.args.self.now) c.requires.fixed.typed c.args.n c.requires.op _ c.args.v (ap op_of (sym x) ∙ c.operator.ensures) ∙ ap (λ (b : Bool). cond b (source_var (operators c.args.self.now) c.in-Project.input c.args.v) None) (ap (λ (ks : List Key). has_var ks c.args.v) (sym c.deref.ensures.value) ∙ sym c.names_var.ensures ∙ c.if-names_var.false))
+      | inr x ↦ sym (source_var-of (operators c.args.self.now) c.requires.fixed.typed c.args.n c.requires.op _ c.args.v (ap op_of (sym x.2) ∙ c.operator.ensures) ∙ group_source c.in-Project.keys.items x.0 x.1 (source_var (operators c.args.self.now) c.in-Project.input) c.args.v ∙ ap (λ (b : Bool). cond b (source_var (operators c.args.self.now) c.in-Project.input c.args.v) None) (ap (λ (ks : List Key). has_var ks c.args.v) (sym c.deref.ensures.value) ∙ sym c.names_var.ensures ∙ c.if-names_var.false))
+    ]
