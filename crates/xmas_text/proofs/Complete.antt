@@ -1,4 +1,5 @@
 -- The machine reads each text of the grammar as it is written.
+use Rattle.std.specs.Prelude.{codes}
 use Rattle.std.proofs.Common.{not, ◌≡◌, ◌∙◌, ℕ, Bool, true, false, ◌&&◌, IsTrue, List, [], ◌∷◌, ◌++◌, Some, option_and_then, refl, sym, ap, subst, append_assoc}
 use Rattle.std.specs.List.{list_all}
 use Rattle.mix_base.proofs.Runs.{run_then, run_byte}
@@ -207,9 +208,9 @@ cond_reads r b g (compare v e o h a) ig i =
 conds_reads : (cs : Conds) (r : Head) → AreConds cs → Reads (cond_start r first_cond) (conds_text cs) (cond_done r cs)
 conds_reads (one g c) r i = cond_reads r first_cond g c i.0 i.1
 conds_reads (also cs g h c) r i =
-    then (cond_start r first_cond) (cond_done r cs) (cond_done r (also cs g h c)) (conds_text cs) (g ++ 65 ∷ 78 ∷ 68 ∷ (h ++ cond_text c)) (conds_reads cs r i.0)
-    (as_text _ _ _ _ (append_assoc g (65 ∷ 78 ∷ 68 ∷ []) (h ++ cond_text c))
-    (then (cond_done r cs) (cond_start r (also_cond cs g)) (cond_done r (also cs g h c)) (g ++ 65 ∷ 78 ∷ 68 ∷ []) (h ++ cond_text c)
+    then (cond_start r first_cond) (cond_done r cs) (cond_done r (also cs g h c)) (conds_text cs) (g ++ (codes "AND" ++ (h ++ cond_text c))) (conds_reads cs r i.0)
+    (as_text _ _ _ _ (append_assoc g (codes "AND") (h ++ cond_text c))
+    (then (cond_done r cs) (cond_start r (also_cond cs g)) (cond_done r (also cs g h c)) (g ++ codes "AND") (h ++ cond_text c)
     (token (cond_done r cs) g (fixed mark.And) (blanks_of g i.1) tt (has_gap g i.1)) (cond_reads r (also_cond cs g) h c i.2 i.3)))
 
 -- the template
@@ -247,11 +248,11 @@ end_spot r cs (descending g h i v j) = sorted r cs (descending g h i v j)
 
 -- ORDER
 abbrev order_bytes : List ℕ
-order_bytes = 79 ∷ 82 ∷ 68 ∷ 69 ∷ 82 ∷ []
+order_bytes = codes "ORDER"
 
 -- BY
 abbrev by_bytes : List ℕ
-by_bytes = 66 ∷ 89 ∷ []
+by_bytes = codes "BY"
 
 -- the text of an order, part by part
 ordered_parts : (g o h b i v : List ℕ) → (g ++ o) ++ ((h ++ b) ++ (i ++ v)) ≡ g ++ (o ++ (h ++ (b ++ (i ++ v))))
@@ -270,7 +271,7 @@ order_reads : (r : Head) (cs : Conds) (o : Order) → IsOrder o → Reads (cond_
 order_reads r cs unordered is = stays (cond_done r cs)
 order_reads r cs (ordered g h i v) is = ordered_reads r cs g h i v is
 order_reads r cs (descending g h i v j) is =
-    then (cond_done r cs) (sorted r cs (ordered g h i v)) (sorted r cs (descending g h i v j)) (ordered_text g h i v) (j ++ 68 ∷ 69 ∷ 83 ∷ 67 ∷ []) (ordered_reads r cs g h i v (is.0, is.1, is.2, is.3))
+    then (cond_done r cs) (sorted r cs (ordered g h i v)) (sorted r cs (descending g h i v j)) (ordered_text g h i v) (j ++ codes "DESC") (ordered_reads r cs g h i v (is.0, is.1, is.2, is.3))
     (token (sorted r cs (ordered g h i v)) j (fixed mark.Desc) (blanks_of j is.4) tt (has_gap j is.4))
 
 -- the rule that ends there

@@ -1,4 +1,5 @@
 -- A token that may come is written behind its spot.
+use Rattle.std.specs.Prelude.{codes}
 use Rattle.std.proofs.Common.{not, ◌≡◌, ◌∙◌, ℕ, IsTrue, List, [], ◌∷◌, ◌++◌, refl, sym, ap, append_assoc}
 use Rattle.mix_base.proofs.Choices.{and_parts}
 use Rattle.mix_base.proofs.Lists.{append_nil}
@@ -127,7 +128,7 @@ push_is (more ks f e j) (at_more l) g k a h b i = (tt, a, h, b, i)
 -- the text of one more condition
 conds_push : (b : Before) (g : List ℕ) (c : Cond) → conds_text (push_cond b g c) ≡ before_text b ++ (g ++ cond_text c)
 conds_push first_cond g c = refl
-conds_push (also_cond cs h) g c = regrouped (conds_text cs) h (65 ∷ 78 ∷ 68 ∷ []) (g ++ cond_text c)
+conds_push (also_cond cs h) g c = regrouped (conds_text cs) h (codes "AND") (g ++ cond_text c)
   where
     regrouped : (a b c d : List ℕ) → a ++ (b ++ (c ++ d)) ≡ (a ++ (b ++ c)) ++ d
     regrouped a b c d = simp append_assoc
@@ -361,8 +362,8 @@ path_shifts r c e a f p g t s b i h = cc
 
 -- behind a condition
 done_shifts : (r : Head) (cs : Conds) (g : List ℕ) (t : Token) → IsSpot (cond_done r cs) → IsBlanks g → IsToken t → Taken (cond_done r cs) g t → Shifts (cond_done r cs) g t
-done_shifts r cs g (fixed mark.And) s b i h = record { is = (s.0, (s.1, gap_of g b h)); text = two_behind (head_text r) (conds_text cs) g (65 ∷ 78 ∷ 68 ∷ []) }
-done_shifts r cs g (fixed mark.Order) s b i h = record { is = (s.0, s.1, gap_of g b h); text = two_behind (head_text r) (conds_text cs) g (79 ∷ 82 ∷ 68 ∷ 69 ∷ 82 ∷ []) }
+done_shifts r cs g (fixed mark.And) s b i h = record { is = (s.0, (s.1, gap_of g b h)); text = two_behind (head_text r) (conds_text cs) g (codes "AND") }
+done_shifts r cs g (fixed mark.Order) s b i h = record { is = (s.0, s.1, gap_of g b h); text = two_behind (head_text r) (conds_text cs) g (codes "ORDER") }
 done_shifts r cs g t s b i h = cc
 
 -- a text with BY behind it, part by part
@@ -379,17 +380,17 @@ sorted_behind a b o g t = simp append_assoc
 
 -- behind ORDER
 ordering_shifts : (r : Head) (cs : Conds) (e g : List ℕ) (t : Token) → IsSpot (ordering r cs e) → IsBlanks g → IsToken t → Taken (ordering r cs e) g t → Shifts (ordering r cs e) g t
-ordering_shifts r cs e g (fixed mark.By) s b i h = record { is = (s.0, s.1, s.2, gap_of g b h); text = order_behind (head_text r) (conds_text cs) e (79 ∷ 82 ∷ 68 ∷ 69 ∷ 82 ∷ []) g (66 ∷ 89 ∷ []) }
+ordering_shifts r cs e g (fixed mark.By) s b i h = record { is = (s.0, s.1, s.2, gap_of g b h); text = order_behind (head_text r) (conds_text cs) e (codes "ORDER") g (codes "BY") }
 ordering_shifts r cs e g t s b i h = cc
 
 -- behind BY
 by_shifts : (r : Head) (cs : Conds) (e f g : List ℕ) (t : Token) → IsSpot (ordering_by r cs e f) → IsBlanks g → IsToken t → Taken (ordering_by r cs e f) g t → Shifts (ordering_by r cs e f) g t
-by_shifts r cs e f g (var v) s b i h = record { is = (s.0, s.1, (s.2, s.3, gap_of g b h, i)); text = by_behind (head_text r) (conds_text cs) e (79 ∷ 82 ∷ 68 ∷ 69 ∷ 82 ∷ []) f (66 ∷ 89 ∷ []) g (token_text (var v)) }
+by_shifts r cs e f g (var v) s b i h = record { is = (s.0, s.1, (s.2, s.3, gap_of g b h, i)); text = by_behind (head_text r) (conds_text cs) e (codes "ORDER") f (codes "BY") g (token_text (var v)) }
 by_shifts r cs e f g t s b i h = cc
 
 -- behind the variable that orders
 sorted_shifts : (r : Head) (cs : Conds) (o : Order) (g : List ℕ) (t : Token) → IsSpot (sorted r cs o) → IsBlanks g → IsToken t → Taken (sorted r cs o) g t → Shifts (sorted r cs o) g t
-sorted_shifts r cs (ordered e f j v) g (fixed mark.Desc) s b i h = record { is = (s.0, s.1, (s.2.0, s.2.1, s.2.2, s.2.3, gap_of g b h)); text = sorted_behind (head_text r) (conds_text cs) (ordered_text e f j v) g (68 ∷ 69 ∷ 83 ∷ 67 ∷ []) }
+sorted_shifts r cs (ordered e f j v) g (fixed mark.Desc) s b i h = record { is = (s.0, s.1, (s.2.0, s.2.1, s.2.2, s.2.3, gap_of g b h)); text = sorted_behind (head_text r) (conds_text cs) (ordered_text e f j v) g (codes "DESC") }
 sorted_shifts r cs o g t s b i h = cc
 
 -- each token that may come

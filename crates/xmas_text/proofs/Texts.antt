@@ -1,4 +1,5 @@
 -- What a spot and a token write.
+use Rattle.std.specs.Prelude.{codes}
 use Rattle.std.proofs.Common.{◌≡◌, ℕ, Bool, ◌||◌, IsTrue, List, [], ◌∷◌, ◌++◌}
 use Rattle.mix_tree.specs.LabelGrammar.{ArePieces, inside_quotes}
 use Rattle.mix_tree.specs.Names.{IsName}
@@ -31,7 +32,7 @@ head_text r = r.lead ++ (construct_text ++ (items_text r.template ++ (r.gap ++ w
 
 -- `label`
 abbrev pub label_text : List ℕ
-label_text = 108 ∷ 97 ∷ 98 ∷ 101 ∷ 108 ∷ []
+label_text = codes "label"
 
 -- what stands before a key
 abbrev pub place_text : Place → List ℕ
@@ -41,7 +42,7 @@ place_text (at_more h) = h ++ 44 ∷ []
 -- what stands before a condition
 abbrev pub before_text : Before → List ℕ
 before_text first_cond = []
-before_text (also_cond cs g) = conds_text cs ++ (g ++ 65 ∷ 78 ∷ 68 ∷ [])
+before_text (also_cond cs g) = conds_text cs ++ (g ++ codes "AND")
 
 -- what a condition begins with
 abbrev pub start_text : Start → List ℕ
@@ -61,8 +62,8 @@ spot_text (cond_from r b g s) = head_text r ++ (before_text b ++ (g ++ start_tex
 spot_text (cond_path r b g s h p) = head_text r ++ (before_text b ++ (g ++ (start_text s ++ (h ++ paths.text_of p))))
 spot_text (cond_done r cs) = head_text r ++ conds_text cs
 spot_text (compared r b g v h o) = head_text r ++ (before_text b ++ (g ++ 36 ∷ (v ++ (h ++ op_text o))))
-spot_text (ordering r cs g) = head_text r ++ (conds_text cs ++ (g ++ 79 ∷ 82 ∷ 68 ∷ 69 ∷ 82 ∷ []))
-spot_text (ordering_by r cs g h) = head_text r ++ (conds_text cs ++ (g ++ 79 ∷ 82 ∷ 68 ∷ 69 ∷ 82 ∷ (h ++ 66 ∷ 89 ∷ [])))
+spot_text (ordering r cs g) = head_text r ++ (conds_text cs ++ (g ++ codes "ORDER"))
+spot_text (ordering_by r cs g h) = head_text r ++ (conds_text cs ++ (g ++ (codes "ORDER" ++ (h ++ codes "BY"))))
 spot_text (sorted r cs o) = head_text r ++ (conds_text cs ++ order_text o)
 
 -- the element at hand, in those around it; the outermost one is the template

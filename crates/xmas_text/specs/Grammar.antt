@@ -1,5 +1,5 @@
 -- How rules are spelled.
-use Rattle.std.specs.Prelude.{◌≡◌, ℕ, List, [], ◌∷◌, ◌++◌}
+use Rattle.std.specs.Prelude.{◌≡◌, ℕ, List, [], ◌∷◌, ◌++◌, codes}
 use Rattle.mix_tree.specs.LabelGrammar.{Piece, ArePieces, inside_quotes}
 use Rattle.mix_tree.specs.Names.{IsName}
 use Rattle.path_expr.specs.Grammar as paths
@@ -38,7 +38,7 @@ quoted_text ps = 34 ∷ inside_quotes ps ++ 34 ∷ []
 -- the text of a key
 abbrev pub key_text : Key → List ℕ
 key_text (node v) = 36 ∷ v
-key_text (label g v) = 108 ∷ 97 ∷ 98 ∷ 101 ∷ 108 ∷ (g ++ 36 ∷ v)
+key_text (label g v) = codes "label" ++ (g ++ 36 ∷ v)
 
 -- the text of keys
 abbrev pub keys_text : Keys → List ℕ
@@ -141,7 +141,7 @@ cond_text (compare v g o h a) = 36 ∷ (v ++ (g ++ (op_text o ++ (h ++ operand_t
 -- the text of conditions
 abbrev pub conds_text : Conds → List ℕ
 conds_text (one g c) = g ++ cond_text c
-conds_text (also cs g h c) = conds_text cs ++ (g ++ 65 ∷ 78 ∷ 68 ∷ (h ++ cond_text c))
+conds_text (also cs g h c) = conds_text cs ++ (g ++ (codes "AND" ++ (h ++ cond_text c)))
 
 -- a condition as the grammar has it
 abbrev pub IsCond : Cond → Type 0
@@ -176,13 +176,13 @@ pub data Order : Type 0 where
 
 -- the text up to the variable
 abbrev pub ordered_text : List ℕ → List ℕ → List ℕ → List ℕ → List ℕ
-ordered_text g h i v = g ++ 79 ∷ 82 ∷ 68 ∷ 69 ∷ 82 ∷ (h ++ 66 ∷ 89 ∷ (i ++ 36 ∷ v))
+ordered_text g h i v = g ++ (codes "ORDER" ++ (h ++ (codes "BY" ++ (i ++ 36 ∷ v))))
 
 -- the text of an order
 abbrev pub order_text : Order → List ℕ
 order_text unordered = []
 order_text (ordered g h i v) = ordered_text g h i v
-order_text (descending g h i v j) = ordered_text g h i v ++ (j ++ 68 ∷ 69 ∷ 83 ∷ 67 ∷ [])
+order_text (descending g h i v j) = ordered_text g h i v ++ (j ++ codes "DESC")
 
 -- an order as the grammar has it
 abbrev pub IsOrder : Order → Type 0
@@ -201,11 +201,11 @@ pub record Rule : Type 0 where
 
 -- CONSTRUCT
 abbrev pub construct_text : List ℕ
-construct_text = 67 ∷ 79 ∷ 78 ∷ 83 ∷ 84 ∷ 82 ∷ 85 ∷ 67 ∷ 84 ∷ []
+construct_text = codes "CONSTRUCT"
 
 -- WHERE
 abbrev pub where_text : List ℕ
-where_text = 87 ∷ 72 ∷ 69 ∷ 82 ∷ 69 ∷ []
+where_text = codes "WHERE"
 
 -- the text of a rule
 abbrev pub rule_text : Rule → List ℕ

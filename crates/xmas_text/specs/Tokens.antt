@@ -1,5 +1,5 @@
 -- Tokens as they are written.
-use Rattle.std.specs.Prelude.{ℕ, List, [], ◌∷◌, ◌++◌, Option, Some, None}
+use Rattle.std.specs.Prelude.{ℕ, List, [], ◌∷◌, ◌++◌, Option, Some, None, codes}
 use Rattle.mix_tree.specs.LabelGrammar.{Piece, ArePieces}
 use Rattle.path_expr.specs.Grammar.{Spelled, text_of, Is, a_path}
 use Rattle.mix_tree.specs.Names.{IsName}
@@ -51,16 +51,16 @@ mark_first mark.Desc = 68
 
 -- the bytes behind it
 abbrev pub mark_rest : Mark → List ℕ
-mark_rest mark.Construct = 79 ∷ 78 ∷ 83 ∷ 84 ∷ 82 ∷ 85 ∷ 67 ∷ 84 ∷ []
-mark_rest mark.Where = 72 ∷ 69 ∷ 82 ∷ 69 ∷ []
-mark_rest mark.And = 78 ∷ 68 ∷ []
-mark_rest mark.LabelWord = 97 ∷ 98 ∷ 101 ∷ 108 ∷ []
+mark_rest mark.Construct = codes "ONSTRUCT"
+mark_rest mark.Where = codes "HERE"
+mark_rest mark.And = codes "ND"
+mark_rest mark.LabelWord = codes "abel"
 mark_rest mark.OpenBrace = []
 mark_rest mark.CloseBrace = []
 mark_rest mark.Comma = []
-mark_rest mark.Order = 82 ∷ 68 ∷ 69 ∷ 82 ∷ []
+mark_rest mark.Order = codes "RDER"
 mark_rest mark.By = 89 ∷ []
-mark_rest mark.Desc = 69 ∷ 83 ∷ 67 ∷ []
+mark_rest mark.Desc = codes "ESC"
 
 -- the whole of it
 abbrev pub mark_text : Mark → List ℕ
