@@ -1,33 +1,18 @@
 -- How a run ends.
 use Rattle.std.proofs.Common.{◌≡◌, ◌∙◌, inl, inr, ℕ, ◌+◌, ◌≤◌, Bool, List, [], ◌∷◌, ◌++◌, Option, Some, None, Err, ap, sym, subst, arith, length, take, append_assoc}
-use Rattle.mix_base.proofs.Lists.{append_nil, take_append}
-use Rattle.mix_tree.specs.Forest.{LabelledTree}
+use Rattle.mix_base.proofs.Lists.{take_append}
 use Rattle.mix_io.specs.Views.{SinkView}
 use Rattle.mix_io.specs.Contents.{Appends, AppendsFront}
-use Rattle.mix_script.specs.Names.{NamesOf, no_names}
 use Rattle.mix_script.specs.Answers.{line_of}
-use Rattle.mix_script.specs.Allowed.{AreAnswers, answer_lines}
-use Rattle.mix_script.specs.Finished.{AreOf}
+use Rattle.mix_script.specs.Allowed.{answer_lines}
 use Rattle.mix_script.specs.declared.step.Step.{Step}
 use Rattle.mix_script.specs.declared.answer.Answer.{Answer}
 use Rattle.mix_lines.specs.declared.fault.LinesFault.{LinesFault}
 use Rattle.mix_lines.specs.declared.fault.LinesFault.TheVariants.{SinkFailed, OutOfMemory}
 use Rattle.mix_lines.specs.Cuts.{WroteFront, IsStepCut}
-use Rattle.mix_lines.specs.Lines.{IsRun, IsWhole, EndsWithin, Ends}
-use Rattle.mix_lines.specs.Written.{AreWritten, IsSoFar}
+use Rattle.mix_lines.specs.Lines.{IsWhole, EndsWithin, EndsBy}
+use Rattle.mix_lines.specs.Written.{AreWritten}
 use Rattle.mix_lines.proofs.Stepping.{line_more}
-
--- the answers so far are those of a run
-pub so_far_run : {V : Type 0} (roots : Bool) (MayFail : ℕ → Type 0) (Is : V → Unit {0} → Type 0) (At : V → List ℕ → Type 0) (IsDocument : LabelledTree → Type 0) (faults now last : ℕ → ℕ) (values : NamesOf V) (steps later : List Step) (answers : List Answer)
-    → IsSoFar roots MayFail Is At IsDocument faults now values steps later answers → ((s : ℕ) → now s ≤ last s) → IsRun roots MayFail IsDocument faults last steps answers
-so_far_run roots MayFail Is At IsDocument faults now last values steps later answers so rises = record {
-  allowed = subst (λ xs. AreAnswers roots MayFail no_names xs steps) (append_nil answers) (so.allowed [] (nothing later));
-  told = λ t one. subst (λ xs. AreOf t no_names xs steps) (append_nil answers) ((so.told t one).then [] (nothing later));
-  counted = λ s. let h = so.counted s in let k = rises s in omega (arith, h, k);
-}
-  where
-    nothing : List Step → Unit {0}
-    nothing xs = tt
 
 -- what was written, with a front of a line
 front : (names : List (List ℕ)) (steps : List Step) (step : Step) (answers : List Answer) (a : Answer) → answer_lines names (answers ++ a ∷ []) steps ≡ answer_lines names answers steps ++ line_of names step.client a
@@ -57,7 +42,7 @@ module _ (Are Cost : List Answer → Type 0) (names : List (List ℕ)) (steps la
 
   -- a step was cut short
   pub run_cut : (step : Step) → AreWritten names steps (step ∷ later) sink.written mid.written marked answers → (IsAnswer : Answer → Type 0) → Are answers → ((a : Answer) → IsAnswer a → Are (answers ++ a ∷ [])) → Cost answers
-      → sink.faults ≤ mid.faults → (fault : LinesFault) → IsStepCut IsAnswer names step.client mid sink' fault → Ends Are Cost names steps sink sink' (Err fault)
+      → sink.faults ≤ mid.faults → (fault : LinesFault) → IsStepCut IsAnswer names step.client mid sink' fault → EndsBy Are Cost names steps sink sink' (Err fault)
   run_cut step so IsAnswer are more cost count SinkFailed h = (omega (arith, h.0, count), within h.1)
     where
       within : WroteFront IsAnswer names step.client mid sink' → EndsWithin Are Cost names steps sink sink'

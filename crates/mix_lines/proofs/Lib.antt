@@ -1,3 +1,5 @@
-pub mod Ending
-pub mod Stepping
+mod Ending
+mod Running
+mod Stepping
 pub mod Telling
+pub mod Unmarked

@@ -2,22 +2,18 @@
 use Rattle.std.proofs.Common.{◌≡◌, ◌∙◌, ℕ, ◌+◌, ◌<◌, ◌≤◌, Bool, false, ◌||◌, List, [], ◌∷◌, ◌++◌, Option, Some, None, refl, ap, sym, subst, arith, length, drop, get_or, append_assoc}
 use Rattle.std.proofs.lemmas.List.{length_push, drop_more}
 use Rattle.mix_base.proofs.Lists.{append_nil}
-use Rattle.mix_tree.specs.Forest.{LabelledTree}
 use Rattle.mix_io.specs.Contents.{Appends}
 use Rattle.mix_io.proofs.Written.{one_more}
 use Rattle.mix_script.specs.Names.{NamesOf, no_names}
 use Rattle.mix_script.specs.Answers.{line_of}
-use Rattle.mix_script.specs.Transcript.{answered, names_after}
-use Rattle.mix_script.specs.Allowed.{nodes_after, AreAnswers, answer_lines, mark_of, is_fault, begun}
-use Rattle.mix_script.specs.Finished.{AreOf}
+use Rattle.mix_script.specs.Allowed.{answer_lines, is_fault, begun}
 use Rattle.mix_script.specs.Holding.{HoldBoth}
-use Rattle.mix_script.specs.Stepped.{IsAnswered}
 use Rattle.mix_script.specs.declared.step.Act.{Act}
 use Rattle.mix_script.specs.declared.step.Step.{Step}
 use Rattle.mix_script.specs.declared.answer.Answer.{Answer}
-use Rattle.mix_script.proofs.Answering.{faults_push, has_fault_push}
+use Rattle.mix_script.proofs.Answering.{has_fault_push}
 use Rattle.mix_script.proofs.Holding.{hold_none}
-use Rattle.mix_lines.specs.Written.{AreWritten, IsOnTree, IsSoFar, IsSpent}
+use Rattle.mix_lines.specs.Written.{AreWritten, IsSpent}
 
 -- nothing was written
 appends_nothing : (before : Option (List ℕ)) → Appends before before []
@@ -27,17 +23,6 @@ appends_nothing (Some w) = ap Some (sym (append_nil w))
 -- no line is written yet
 pub written_start : (names : List (List ℕ)) (steps : List Step) (before : Option (List ℕ)) → AreWritten names steps steps before before false []
 written_start names steps before = record { count = omega arith; lines = λ more. refl; written = appends_nothing before; marks = refl }
-
--- no step is answered yet
-pub so_far_start : {V : Type 0} (roots : Bool) (MayFail : ℕ → Type 0) (Is : V → Unit {0} → Type 0) (At : V → List ℕ → Type 0) (IsDocument : LabelledTree → Type 0) (faults : ℕ → ℕ) (values : NamesOf V) (steps : List Step) → values ≡ no_names
-    → IsSoFar roots MayFail Is At IsDocument faults faults values steps steps []
-so_far_start {V} roots MayFail Is At IsDocument faults values steps none = record {
-  nodes = no_names;
-  hold = subst (λ (s : NamesOf V). HoldBoth Is s no_names) (sym none) (hold_none Is);
-  allowed = λ more h. h;
-  told = λ t one. record { places = no_names; hold = subst (λ (s : NamesOf V). HoldBoth At s no_names) (sym none) (hold_none At); then = λ more h. h };
-  counted = λ s. omega arith;
-}
 
 -- nothing is asked yet
 pub spent_start : {V W : Type 0} (With : V → W → Type 0) (cost : NamesOf W → List ℕ → Act → ℕ) (after : NamesOf W → List ℕ → Act → Answer → NamesOf W) (asked : ℕ) (values : NamesOf V) (steps : List Step) → values ≡ no_names
@@ -76,31 +61,6 @@ module _ (names : List (List ℕ)) (steps : List Step) (step : Step) (later : Li
     written = subst (Appends before after) (sym line_more) (one_more before now after (answer_lines names answers steps) (line_of names step.client a) so.written wrote);
     marks = ap (λ m. m || is_fault a) so.marks ∙ sym (has_fault_push answers a);
   }
-
-module _ {V : Type 0} (roots : Bool) (MayFail : ℕ → Type 0) (Is Is' : V → Unit {0} → Type 0) (At At' : V → List ℕ → Type 0) (IsDocument : LabelledTree → Type 0) (first faults faults' : ℕ → ℕ) (values values' : NamesOf V)
-    (steps : List Step) (step : Step) (later : List Step) (answers : List Answer) (so : IsSoFar roots MayFail Is At IsDocument first faults values steps (step ∷ later) answers)
-    (a : Answer) (is : IsAnswered roots MayFail Is Is' At At' IsDocument faults faults' values values' step.client step.act a) where
-  on_tree : (t : LabelledTree) → IsDocument t → IsOnTree At' t values' steps later (answers ++ a ∷ [])
-  on_tree t one =
-      let on = so.told t one in
-      let both = is.told t one on.places on.hold in
-      record {
-        places = (answered t on.places (mark_of a) step).1;
-        hold = subst (λ x. HoldBoth At' values' (names_after on.places step.client step.act x)) both.0 both.1;
-        then = λ more h. subst (λ xs. AreOf t no_names xs steps) (sym (behind answers a more)) (on.then (a ∷ more) (both.0, h));
-      }
-
-  -- one step more was answered
-  pub so_far_step : IsSoFar roots MayFail Is' At' IsDocument first faults' values' steps later (answers ++ a ∷ [])
-  so_far_step =
-      let both = is.allowed so.nodes so.hold in
-      record {
-        nodes = nodes_after so.nodes step.client step.act a;
-        hold = both.1;
-        allowed = λ more h. subst (λ xs. AreAnswers roots MayFail no_names xs steps) (sym (behind answers a more)) (so.allowed (a ∷ more) (both.0, h));
-        told = on_tree;
-        counted = λ s. let old = so.counted s in let new = is.counted s in omega (arith, old, new, faults_push s answers a);
-      }
 
 -- one step more was paid for
 pub spent_step : {V W : Type 0} (With With' : V → W → Type 0) (cost : NamesOf W → List ℕ → Act → ℕ) (after : NamesOf W → List ℕ → Act → Answer → NamesOf W) (first asked asked' : ℕ) (values values' : NamesOf V)

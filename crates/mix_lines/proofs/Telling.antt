@@ -13,7 +13,7 @@ use Rattle.mix_script.specs.declared.answer.Answer.{Answer}
 use Rattle.mix_script.proofs.Finished.{lines_begin_transcript, lines_are_transcript, answers_show_marks, unmarked_lines}
 use Rattle.mix_lines.specs.declared.fault.LinesFault.{LinesFault}
 use Rattle.mix_lines.specs.declared.fault.LinesFault.TheVariants.{SinkFailed, OutOfMemory}
-use Rattle.mix_lines.specs.Lines.{EndsWithin, Ends}
+use Rattle.mix_lines.specs.Lines.{EndsWithin, EndsBy}
 use Rattle.mix_lines.specs.Told.{AreLinesOn, EndsOn, EndsUnmarked}
 
 -- a front of lines is a front of those that begin with them
@@ -43,7 +43,7 @@ module _ (Are Cost : List Answer → Type 0) (t : LabelledTree) (names : List (L
         )
 
     -- a run over a document that is told
-    pub ends_on : (r : Result Bool LinesFault) → Ends Are Cost names steps before after r → EndsOn roots t names steps before.written after.written r
+    pub ends_on : (r : Result Bool LinesFault) → EndsBy Are Cost names steps before after r → EndsOn roots t names steps before.written after.written r
     ends_on (Ok marked) e = (
       transcript t names (marks_of e.answers) steps,
       on_tree e.answers e.are,
@@ -68,7 +68,7 @@ module _ (Are Cost : List Answer → Type 0) (t : LabelledTree) (names : List (L
         front_of_more before.written after.written (length (answer_lines names w.answers steps) + w.count) (answer_lines names answers steps) lines.0 _ lines.1 w.written
 
     -- a run without faults
-    pub ends_unmarked : (r : Result Bool LinesFault) → Ends Are Cost names steps before after r → EndsUnmarked t steps before.written after.written r
+    pub ends_unmarked : (r : Result Bool LinesFault) → EndsBy Are Cost names steps before after r → EndsUnmarked t steps before.written after.written r
     ends_unmarked (Ok marked) w =
         let none_here = none w.answers w.are in
         let lines = unmarked_lines t names [] no_names w.answers steps (of w.answers w.are) none_here in

@@ -1,23 +1,31 @@
--- How the lines of a run end.
-use Rattle.std.specs.Prelude.{◌≡◌, ◌⊎◌, ℕ, ◌+◌, Bool, List, [], ◌∷◌, ◌++◌, length, take, Result, Ok, Err}
+-- How the lines of answers end.
+use Rattle.std.specs.Prelude.{◌≡◌, ◌⊎◌, ℕ, ◌+◌, ◌≤◌, Bool, List, [], ◌∷◌, ◌++◌, length, take, Result, Ok, Err}
 use Rattle.mix_base.specs.Counts.{HasRisen, HasRisenBy}
 use Rattle.mix_tree.specs.Forest.{LabelledTree}
 use Rattle.mix_io.specs.Views.{SinkView}
 use Rattle.mix_io.specs.Contents.{Appends}
 use Rattle.mix_script.specs.Names.{no_names}
-use Rattle.mix_script.specs.Allowed.{AreAnswers, answer_lines, has_fault, faults_of}
+use Rattle.lxp_core.specs.View.{View}
+use Rattle.mix_script.specs.Trails.{names_on}
+use Rattle.mix_script.specs.Allowed.{AreAnswers, answer_lines, has_fault, faults_of, begun}
+use Rattle.mix_session.specs.Meaning.{Course}
+use Rattle.mix_session.specs.Stepped.{act_toll}
 use Rattle.mix_script.specs.Finished.{AreOf}
 use Rattle.mix_script.specs.declared.step.Step.{Step}
 use Rattle.mix_script.specs.declared.answer.Answer.{Answer}
 use Rattle.mix_lines.specs.declared.fault.LinesFault.{LinesFault}
 use Rattle.mix_lines.specs.declared.fault.LinesFault.TheVariants.{SinkFailed, OutOfMemory}
 
--- answers to the first steps of a run: each is one that its step may have; where a tree is the document, each is that tree's
--- under the mark that it shows; and the count of each source's faults rose by as many as there are faults of it
-pub record IsRun (roots : Bool) (MayFail : ℕ → Type 0) (IsDocument : LabelledTree → Type 0) (faults faults' : ℕ → ℕ) (steps : List Step) (answers : List Answer) : Type 0 where
-  pub allowed : AreAnswers roots MayFail no_names answers steps
-  pub told : (t : LabelledTree) → IsDocument t → AreOf t no_names answers steps
+-- answers to the first steps on a course: each is one that its step may have; where a tree is the document, each is that
+-- tree's under the mark that it shows; and the count of each source's faults rose by as many as there are faults of it
+pub record IsRun {W : Type 0} (c : Course W) (faults faults' : ℕ → ℕ) (steps : List Step) (answers : List Answer) : Type 0 where
+  pub allowed : AreAnswers c.roots c.MayFail no_names answers steps
+  pub told : (t : LabelledTree) → c.IsDocument t → AreOf t no_names answers steps
   pub counted : (s : ℕ) → HasRisenBy (faults_of s answers) (faults s) (faults' s)
+
+-- no more fills were asked than the tolls of the steps that were begun come to
+abbrev pub IsLazy : {W : Type 0} → Course W → ℕ → ℕ → List Step → List Answer → Type 0
+IsLazy c fills fills' steps answers = c.HasTolls → fills' ≤ fills + begun (act_toll c) (names_on c.trail) no_names answers steps
 
 -- all steps were answered, and the lines of their answers were written; a fault line was written where this is marked. The
 -- first says what the answers are, the second what they and one step more may have cost
@@ -45,8 +53,12 @@ pub record EndsWithin (Are Cost : List Answer → Type 0) (names : List (List �
   pub written : Appends before.written after.written (take (length (answer_lines names answers steps) + count) (answer_lines names (answers ++ last ∷ []) steps))
   pub cost : Cost answers
 
--- how a run ends: whole; or the sink failed in a line; or memory ran out, between two lines or in one
-abbrev pub Ends : (List Answer → Type 0) → (List Answer → Type 0) → List (List ℕ) → List Step → SinkView → SinkView → Result Bool LinesFault → Type 0
-Ends Are Cost names steps before after (Ok marked) = IsWhole Are Cost names steps before after marked
-Ends Are Cost names steps before after (Err SinkFailed) = HasRisen before.faults after.faults × EndsWithin Are Cost names steps before after
-Ends Are Cost names steps before after (Err OutOfMemory) = EndsBetween Are Cost names steps before after ⊎ EndsWithin Are Cost names steps before after
+-- how lines end: whole; or the sink failed in a line; or memory ran out, between two lines or in one
+abbrev pub EndsBy : (List Answer → Type 0) → (List Answer → Type 0) → List (List ℕ) → List Step → SinkView → SinkView → Result Bool LinesFault → Type 0
+EndsBy Are Cost names steps before after (Ok marked) = IsWhole Are Cost names steps before after marked
+EndsBy Are Cost names steps before after (Err SinkFailed) = HasRisen before.faults after.faults × EndsWithin Are Cost names steps before after
+EndsBy Are Cost names steps before after (Err OutOfMemory) = EndsBetween Are Cost names steps before after ⊎ EndsWithin Are Cost names steps before after
+
+-- how the lines on a course end, over sources that meant the first view before and mean the second after
+abbrev pub Ends : {W : Type 0} → Course W → View → View → List (List ℕ) → List Step → SinkView → SinkView → Result Bool LinesFault → Type 0
+Ends c old new names steps before after r = EndsBy (IsRun c old.faults new.faults steps) (IsLazy c old.fills new.fills steps) names steps before after r

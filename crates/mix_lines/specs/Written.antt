@@ -4,6 +4,8 @@ use Rattle.mix_base.specs.Counts.{HasRisenBy}
 use Rattle.mix_tree.specs.Forest.{LabelledTree}
 use Rattle.mix_io.specs.Contents.{Appends}
 use Rattle.mix_script.specs.Names.{NamesOf, no_names}
+use Rattle.lxp_core.specs.View.{View}
+use Rattle.mix_script.specs.Trails.{names_on}
 use Rattle.mix_script.specs.Transcript.{Names}
 use Rattle.mix_script.specs.Allowed.{Nodes, AreAnswers, answer_lines, has_fault, faults_of, begun}
 use Rattle.mix_script.specs.Finished.{AreOf}
@@ -11,6 +13,9 @@ use Rattle.mix_script.specs.Holding.{HoldBoth}
 use Rattle.mix_script.specs.declared.step.Act.{Act}
 use Rattle.mix_script.specs.declared.step.Step.{Step}
 use Rattle.mix_script.specs.declared.answer.Answer.{Answer}
+use Rattle.mix_session.specs.Meaning.{Course, Meaning, GoesOn}
+use Rattle.mix_session.specs.Held.{HoldNodes, IsSession}
+use Rattle.mix_session.specs.Stepped.{act_toll}
 
 -- the lines of answers to the steps before the later ones were written; this tells whether one of them is a fault
 pub record AreWritten (names : List (List ℕ)) (steps later : List Step) (before after : Option (List ℕ)) (marked : Bool) (answers : List Answer) : Type 0 where
@@ -26,18 +31,26 @@ pub record IsOnTree {V : Type 0} (At : V → List ℕ → Type 0) (t : LabelledT
   pub hold : HoldBoth At values places
   pub then : (more : List Answer) → AreOf t places more later → AreOf t no_names (answers ++ more) steps
 
--- the answers so far are those of a run, and the names hold what they should
-pub record IsSoFar {V : Type 0} (roots : Bool) (MayFail : ℕ → Type 0) (Is : V → Unit {0} → Type 0) (At : V → List ℕ → Type 0) (IsDocument : LabelledTree → Type 0) (faults faults' : ℕ → ℕ)
-    (values : NamesOf V) (steps later : List Step) (answers : List Answer) : Type 0 where
-  pub nodes : Nodes
-  pub hold : HoldBoth Is values nodes
-  pub allowed : (more : List Answer) → AreAnswers roots MayFail nodes more later → AreAnswers roots MayFail no_names (answers ++ more) steps
-  pub told : (t : LabelledTree) → IsDocument t → IsOnTree At t values steps later answers
-  pub counted : (s : ℕ) → HasRisenBy (faults_of s answers) (faults s) (faults' s)
-
 -- what was asked so far, and what the later steps may cost, is no more than the steps may cost; the names hold this
 pub record IsSpent {V W : Type 0} (With : V → W → Type 0) (cost : NamesOf W → List ℕ → Act → ℕ) (after : NamesOf W → List ℕ → Act → Answer → NamesOf W) (asked asked' : ℕ)
     (values : NamesOf V) (steps later : List Step) (answers : List Answer) : Type 0 where
   pub names : NamesOf W
   pub hold : HoldBoth With values names
   pub spent : (more : List Answer) → asked' + begun cost after names more later ≤ asked + begun cost after no_names (answers ++ more) steps
+
+-- the walk of a course has come to this meaning; the answers so far are those of a run, and the names hold what they should
+pub record IsSoFar {V W : Type 0} (c : Course W) (m : Meaning V W) (old now : View) (values : NamesOf V) (steps later : List Step) (answers : List Answer) : Type 0 where
+  pub course : GoesOn c m.course
+  pub nodes : Nodes
+  pub hold : HoldNodes m values nodes
+  pub allowed : (more : List Answer) → AreAnswers c.roots c.MayFail nodes more later → AreAnswers c.roots c.MayFail no_names (answers ++ more) steps
+  pub told : (t : LabelledTree) → c.IsDocument t → IsOnTree m.IsAt t values steps later answers
+  pub counted : (s : ℕ) → HasRisenBy (faults_of s answers) (old.faults s) (now.faults s)
+  pub spent : c.HasTolls → IsSpent m.IsTold (act_toll c) (names_on c.trail) old.fills now.fills values steps later answers
+
+-- the steps before the later ones were answered by a session, and their lines written
+pub record IsFar {V W : Type 0} (c : Course W) (m : Meaning V W) (old now : View) (values : NamesOf V) (names : List (List ℕ)) (steps : List Step) (before after : Option (List ℕ)) (marked : Bool) (later : List Step) : Type 0 where
+  pub session : IsSession m values
+  pub answers : List Answer
+  pub written : AreWritten names steps later before after marked answers
+  pub so : IsSoFar c m old now values steps later answers

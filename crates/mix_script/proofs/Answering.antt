@@ -6,7 +6,7 @@ use Rattle.mix_base.specs.Counts.{HasRisen, HasRisenBy}
 use Rattle.mix_script.specs.Answers.{IsNamed}
 use Rattle.mix_script.specs.Allowed.{Nodes, MayFind, MayFindRoot, MayRead, WhereHeld, MayAnswer, nodes_after, AreAnswers, mark_of, is_fault, has_fault, is_mark_of, faults_of}
 use Rattle.mix_script.specs.declared.step.Act.{Act}
-use Rattle.mix_script.specs.declared.step.Act.TheVariants.{Root, Down, Right, Fetch}
+use Rattle.mix_script.specs.declared.step.Act.TheVariants.{Root, Move, Fetch}
 use Rattle.mix_script.specs.declared.step.Step.{Step}
 use Rattle.mix_script.specs.declared.answer.Answer.{Answer}
 use Rattle.mix_script.specs.declared.answer.Answer.TheVariants as answer
@@ -30,8 +30,7 @@ module _ (roots : Bool) (MayFail : ℕ → Type 0) where
   -- the source of a fault that may be answered is one that may fail
   pub fault_may : (nodes : Nodes) (client : List ℕ) (act : Act) (s : ℕ) → MayAnswer roots MayFail nodes client act (answer.Fault s) → MayFail s
   fault_may nodes client (Root name) s h = root_fault roots s h
-  fault_may nodes client (Down name from) s h = sought_fault s (nodes client from) h
-  fault_may nodes client (Right name from) s h = sought_fault s (nodes client from) h
+  fault_may nodes client (Move way name from) s h = sought_fault s (nodes client from) h
   fault_may nodes client (Fetch from) s h = read_fault s (nodes client from) h
 
   -- an answer that may be given has a name for its source

@@ -7,7 +7,7 @@ use Rattle.mix_script.specs.Names.{no_names}
 use Rattle.mix_script.specs.Answers.{line_of}
 use Rattle.mix_script.specs.Transcript.{Names, label_answer, if_held, answer_of, answered, lines_from, transcript, may_mark, MayBeMarked, AreMarks}
 use Rattle.mix_script.specs.declared.step.Act.{Act}
-use Rattle.mix_script.specs.declared.step.Act.TheVariants.{Root, Down, Right, Fetch}
+use Rattle.mix_script.specs.declared.step.Act.TheVariants.{Root, Move, Fetch}
 use Rattle.mix_script.specs.declared.step.Step.{Step}
 use Rattle.mix_script.specs.declared.answer.Answer.{Answer}
 use Rattle.mix_script.specs.declared.answer.Answer.TheVariants as answer
@@ -68,8 +68,7 @@ module _ (roots : Bool) (MayFail : ℕ → Type 0) (t : LabelledTree) where
     where
       of : (act : Act) → MayAnswer roots MayFail nodes step.client act (answer.Fault s) → answer.Fault s ≡ answer_of t names (Some s) step.client act → IsTrue (may_mark roots names step.client act)
       of (Root name) m k = root_mark roots MayFail s m
-      of (Down name from) m k = held_mark (names step.client from) _ s k
-      of (Right name from) m k = held_mark (names step.client from) _ s k
+      of (Move way name from) m k = held_mark (names step.client from) _ s k
       of (Fetch from) m k = never (option_and_then (tree_at t) (names step.client from)) k
         where
           never : {X : Type 0} (o : Option LabelledTree) → answer.Fault s ≡ label_answer o → X

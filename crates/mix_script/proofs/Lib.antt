@@ -1,6 +1,5 @@
 pub mod Answering
 pub mod Finished
-pub mod Found
 pub mod Held
 pub mod Holding
 pub mod Reading

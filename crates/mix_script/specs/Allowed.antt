@@ -2,9 +2,9 @@
 use Rattle.std.specs.Prelude.{◌≡◌, ℕ, ◌+◌, ◌==◌, Bool, true, false, ◌||◌, List, [], ◌∷◌, ◌++◌, Option, Some, None, is_some, cond}
 use Rattle.mix_script.specs.Names.{NamesOf}
 use Rattle.mix_script.specs.Answers.{line_of}
-use Rattle.mix_script.specs.Transcript.{with_named}
+use Rattle.mix_script.specs.Trails.{node_trail, names_on}
 use Rattle.mix_script.specs.declared.step.Act.{Act}
-use Rattle.mix_script.specs.declared.step.Act.TheVariants.{Root, Down, Right, Fetch}
+use Rattle.mix_script.specs.declared.step.Act.TheVariants.{Root, Move, Fetch}
 use Rattle.mix_script.specs.declared.step.Step.{Step}
 use Rattle.mix_script.specs.declared.answer.Answer.{Answer}
 use Rattle.mix_script.specs.declared.answer.Answer.TheVariants as answer
@@ -42,17 +42,12 @@ WhereHeld (Some node) May a = May a
 -- the answers to a client's act, where names hold nodes like this; whether the root is sought in a source
 abbrev pub MayAnswer : Bool → (ℕ → Type 0) → Nodes → List ℕ → Act → Answer → Type 0
 MayAnswer roots MayFail nodes client (Root name) a = MayFindRoot roots MayFail a
-MayAnswer roots MayFail nodes client (Down name from) a = WhereHeld (nodes client from) (MayFind MayFail) a
-MayAnswer roots MayFail nodes client (Right name from) a = WhereHeld (nodes client from) (MayFind MayFail) a
+MayAnswer roots MayFail nodes client (Move way name from) a = WhereHeld (nodes client from) (MayFind MayFail) a
 MayAnswer roots MayFail nodes client (Fetch from) a = WhereHeld (nodes client from) MayRead a
 
--- which names hold a node after an answer: the act's name after a node and after none, else those that did
+-- which names hold a node after an answer: the act's name after a node and not after none, and else those that did
 abbrev pub nodes_after : Nodes → List ℕ → Act → Answer → Nodes
-nodes_after nodes client act answer.Node = with_named nodes client act (Some tt)
-nodes_after nodes client act answer.None = with_named nodes client act None
-nodes_after nodes client act (answer.Label l) = nodes
-nodes_after nodes client act answer.NoNode = nodes
-nodes_after nodes client act (answer.Fault s) = nodes
+nodes_after nodes client act a = names_on node_trail nodes client act a
 
 -- answers to the first of these steps, each of which its step may have after those before it
 abbrev pub AreAnswers : Bool → (ℕ → Type 0) → Nodes → List Answer → List Step → Type 0

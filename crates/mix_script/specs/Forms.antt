@@ -1,13 +1,19 @@
 -- The forms of a script's lines, by their words.
-use Rattle.std.specs.Prelude.{ℕ, cond, ◌&&◌, List, [], ◌∷◌, Option, Some, None, codes}
+use Rattle.std.specs.Prelude.{ℕ, cond, ◌&&◌, List, [], ◌∷◌, Option, Some, None, option_map, codes}
 use Rattle.std.specs.Str.{bytes_eq}
 use Rattle.mix_words.specs.Words.{is_name}
 use Rattle.mix_script.specs.declared.step.Act.{Act}
-use Rattle.mix_script.specs.declared.step.Act.TheVariants.{Root, Down, Right, Fetch}
+use Rattle.mix_script.specs.declared.step.Act.TheVariants.{Root, Move, Fetch}
+use Rattle.mix_script.specs.declared.step.Way.{Way}
+use Rattle.mix_script.specs.declared.step.Way.TheVariants.{Down, Right}
+
+-- the way that a word names
+abbrev pub way_named : List ℕ → Option Way
+way_named word = cond (bytes_eq word (codes "down")) (Some Down) (cond (bytes_eq word (codes "right")) (Some Right) None)
 
 -- the command of a word that stands before a name
 abbrev pub act_named : List ℕ → List ℕ → List ℕ → Option Act
-act_named x command y = cond (bytes_eq command (codes "down")) (Some (Down x y)) (cond (bytes_eq command (codes "right")) (Some (Right x y)) None)
+act_named x command y = option_map (λ way. Move way x y) (way_named command)
 
 -- X = down Y, and X = right Y
 abbrev pub move_form : List ℕ → List ℕ → List ℕ → List ℕ → Option Act

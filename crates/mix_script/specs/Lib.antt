@@ -4,6 +4,6 @@ pub mod Finished
 pub mod Forms
 pub mod Holding
 pub mod Names
-pub mod Stepped
 pub mod Steps
+pub mod Trails
 pub mod Transcript

@@ -1,11 +1,12 @@
 -- The answers to steps on a finished tree, what names hold after them, and the lines that tell them.
-use Rattle.std.specs.Prelude.{ℕ, Bool, false, IsTrue, cond, List, [], ◌∷◌, ◌++◌, Option, Some, None, is_some, option_map, option_and_then}
+use Rattle.std.specs.Prelude.{ℕ, Bool, false, IsTrue, cond, List, [], ◌∷◌, ◌++◌, Option, Some, None, is_some, option_and_then}
 use Rattle.mix_tree.specs.Forest.{LabelledTree, alone}
-use Rattle.mix_tree.specs.Place.{has_place, tree_at, child_place, next_place}
-use Rattle.mix_script.specs.Names.{NamesOf, no_names, with_name}
+use Rattle.mix_tree.specs.Place.{has_place, tree_at}
+use Rattle.mix_script.specs.Names.{NamesOf, no_names}
 use Rattle.mix_script.specs.Answers.{line_of}
+use Rattle.mix_script.specs.Trails.{place_trail, goal_on, names_on}
 use Rattle.mix_script.specs.declared.step.Act.{Act}
-use Rattle.mix_script.specs.declared.step.Act.TheVariants.{Root, Down, Right, Fetch}
+use Rattle.mix_script.specs.declared.step.Act.TheVariants.{Root, Move, Fetch}
 use Rattle.mix_script.specs.declared.step.Step.{Step}
 use Rattle.mix_script.specs.declared.answer.Answer.{Answer}
 use Rattle.mix_script.specs.declared.answer.Answer.TheVariants as answer
@@ -16,10 +17,7 @@ Names = NamesOf (List ℕ)
 
 -- the place that an act asks for: the root, or the first child or the next sibling of what its operand holds
 abbrev pub goal_of : Names → List ℕ → Act → Option (List ℕ)
-goal_of names client (Root name) = Some []
-goal_of names client (Down name from) = option_map child_place (names client from)
-goal_of names client (Right name from) = option_and_then next_place (names client from)
-goal_of names client (Fetch from) = None
+goal_of names client act = goal_on place_trail names client act
 
 -- the answer where this place is asked for
 abbrev pub move_answer : LabelledTree → Option (List ℕ) → Answer
@@ -44,24 +42,13 @@ unless_marked (Some source) a = answer.Fault source
 -- the answer to a client's act; a fetch is never marked
 abbrev pub answer_of : LabelledTree → Names → Option ℕ → List ℕ → Act → Answer
 answer_of t names mark client (Root name) = unless_marked mark answer.Node
-answer_of t names mark client (Down name from) = if_held (names client from) (unless_marked mark (move_answer t (goal_of names client (Down name from))))
-answer_of t names mark client (Right name from) = if_held (names client from) (unless_marked mark (move_answer t (goal_of names client (Right name from))))
+answer_of t names mark client (Move way name from) =
+    if_held (names client from) (unless_marked mark (move_answer t (goal_of names client (Move way name from))))
 answer_of t names mark client (Fetch from) = label_answer (option_and_then (tree_at t) (names client from))
-
--- what names hold where the one that an act names, if any, holds this
-abbrev pub with_named : {V : Type 0} → NamesOf V → List ℕ → Act → Option V → NamesOf V
-with_named names client (Root name) value = with_name names client name value
-with_named names client (Down name from) value = with_name names client name value
-with_named names client (Right name from) value = with_name names client name value
-with_named names client (Fetch from) value = names
 
 -- the names after an answer: the act's name holds the place that was found or none, or all hold what they held
 abbrev pub names_after : Names → List ℕ → Act → Answer → Names
-names_after names client act answer.Node = with_named names client act (goal_of names client act)
-names_after names client act answer.None = with_named names client act None
-names_after names client act (answer.Label l) = names
-names_after names client act answer.NoNode = names
-names_after names client act (answer.Fault source) = names
+names_after names client act a = names_on place_trail names client act a
 
 -- the answer to a step, and the names after it
 abbrev pub answered : LabelledTree → Names → Option ℕ → Step → Answer × Names
@@ -90,8 +77,7 @@ transcript t sources marks steps = lines_from t sources no_names marks steps
 -- whether an act may be marked: a move whose operand's name holds a place, and a root where roots may be
 abbrev pub may_mark : Bool → Names → List ℕ → Act → Bool
 may_mark roots names client (Root name) = roots
-may_mark roots names client (Down name from) = is_some (names client from)
-may_mark roots names client (Right name from) = is_some (names client from)
+may_mark roots names client (Move way name from) = is_some (names client from)
 may_mark roots names client (Fetch from) = false
 
 -- a mark that stands only where it may

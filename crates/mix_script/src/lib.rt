@@ -9,4 +9,4 @@ mod step;
 pub use answer::{Answer, write_answer};
 pub use names::Names;
 pub use script::{ScriptFault, read_script};
-pub use step::{Act, Step};
+pub use step::{Act, Step, Way};

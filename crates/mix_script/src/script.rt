@@ -3,10 +3,10 @@ ghost use Rattle.std.specs.Prelude.{◌≡◌, ◌++◌, ℕ, List, Ok, Err, Som
 ghost use Rattle.mix_script.specs.declared.script.ScriptFault.TheVariants.{OutOfMemory};
 ghost use Rattle.mix_script.specs.declared.step.Step.{Step};
 ghost use Rattle.mix_words.specs.Words.{is_name};
-ghost use Rattle.mix_script.specs.Forms.{act_of, fetch_form, root_form, move_form, act_named};
+ghost use Rattle.mix_script.specs.Forms.{act_of, fetch_form, root_form, move_form, way_named, act_named};
 ghost use Rattle.mix_script.specs.Steps.{line_steps, steps_of};
 
-use crate::{Act, Step};
+use crate::{Act, Step, Way};
 use mix_tree::Label;
 use mix_words::lines::{cut_lines, is_passed_over};
 use mix_words::words::{cut_words, is_script_name};
@@ -47,6 +47,19 @@ fn name_label(alloc: Global, name: &[u8]) -> Result<Label, AllocError>
     Label::of_text(alloc, name)
 }
 
+// The way that a word names.
+fn read_way(word: &[u8]) -> Option<Way>
+    ensures { result ≡ way_named word.now }
+{
+    if word == b"down".as_slice() {
+        return Some(Way::Down);
+    }
+    if word == b"right".as_slice() {
+        return Some(Way::Right);
+    }
+    None
+}
+
 // The command of a word that stands before a name.
 fn read_command(
     alloc: Global,
@@ -58,16 +71,12 @@ fn read_command(
     requires from { IsTrue (is_name from.now) }
     ensures { IfOk result (λ act. act ≡ act_named name.now command.now from.now) }
 {
-    let is_down = command == b"down".as_slice();
-    if !is_down && command != b"right".as_slice() {
+    let Some(way) = read_way(command) else {
         return Ok(None);
-    }
+    };
     let name = name_label(alloc, name)?;
     let from = name_label(alloc, from)?;
-    if is_down {
-        return Ok(Some(Act::Down { name, from }));
-    }
-    Ok(Some(Act::Right { name, from }))
+    Ok(Some(Act::Move { way, name, from }))
 }
 
 // `X = down Y` and `X = right Y`.

@@ -8,11 +8,25 @@ pub struct Step {
     pub act: Act,
 }
 
+/// A way from a node to another: to its first child, or to its next sibling.
+#[derive(Clone, Copy)]
+pub enum Way {
+    Down,
+    Right,
+}
+
 /// A command: `name` is the name that the node found is given, `from` the name of the node to begin at.
 #[derive(Drop)]
 pub enum Act {
-    Root { name: Label },
-    Down { name: Label, from: Label },
-    Right { name: Label, from: Label },
-    Fetch { from: Label },
+    Root {
+        name: Label,
+    },
+    Move {
+        way: Way,
+        name: Label,
+        from: Label,
+    },
+    Fetch {
+        from: Label,
+    },
 }

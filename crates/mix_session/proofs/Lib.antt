@@ -1,2 +1,3 @@
-mod Moving
-pub mod Reading
+mod Acts
+pub mod Plans
+pub mod Sources

@@ -1,3 +1,7 @@
 pub mod Held
-pub mod Sessions
+pub mod Kept
+pub mod Meaning
+pub mod Refusals
+pub mod Seeking
 pub mod Stepped
+pub mod Walks

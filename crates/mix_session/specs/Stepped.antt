@@ -1,60 +1,61 @@
 -- What one step comes to.
-use Rattle.std.specs.Prelude.{◌≡◌, ℕ, false, IsTrue, List, Option, Some, None}
+use Rattle.std.specs.Prelude.{◌≡◌, ◌≤◌, ◌+◌, ℕ, List, [], ◌∷◌, Option, Some, None, Result, IfOk, OnErr}
+use Rattle.std.specs.declared.alloc.AllocError.{AllocError}
+use Rattle.mix_base.specs.Counts.{HasRisenBy}
 use Rattle.mix_tree.specs.Forest.{LabelledTree}
-use Rattle.mix_tree.specs.Nodes.{Documents}
-use Rattle.plan_core.specs.Plans.{Operator}
-use Rattle.lazy_plan.specs.Bench.{BenchState, ops_of, told, documents, AsksAtMost}
-use Rattle.lazy_plan.specs.Cursors.{IsRead}
-use Rattle.lazy_plan.specs.declared.fault.WalkFault.{WalkFault}
-use Rattle.lazy_plan.specs.declared.fault.WalkFault.TheVariants as walk
-use Rattle.lazy_value.specs.declared.ids.NodeId.{NodeId}
-use Rattle.lazy_value.specs.Places.{IsAt, plan_document, down_toll, right_toll}
+use Rattle.lxp_core.specs.View.{View}
 use Rattle.mix_script.specs.Names.{NamesOf}
-use Rattle.mix_script.specs.Transcript.{Names, with_named}
-use Rattle.mix_script.specs.Stepped as script
+use Rattle.mix_script.specs.Trails.{with_named, names_on}
+use Rattle.mix_script.specs.Transcript.{Names, answer_of, names_after}
+use Rattle.mix_script.specs.Allowed.{Nodes, MayAnswer, nodes_after, mark_of, faults_of}
 use Rattle.mix_script.specs.declared.step.Act.{Act}
-use Rattle.mix_script.specs.declared.step.Act.TheVariants.{Root, Down, Right, Fetch}
+use Rattle.mix_script.specs.declared.step.Act.TheVariants.{Root, Move, Fetch}
 use Rattle.mix_script.specs.declared.answer.Answer.{Answer}
 use Rattle.mix_script.specs.declared.answer.Answer.TheVariants as answer
-use Rattle.mix_session.specs.Held.{IsHeldNode, HoldPlaces}
+use Rattle.mix_session.specs.Meaning.{Course, Meaning, Stays}
+use Rattle.mix_session.specs.Held.{HoldNodes, HoldPlaces, HoldTold, IsSession}
 
--- the answer that a mediator's refusal becomes
-abbrev pub IsRefusal : WalkFault → Answer → Type 0
-IsRefusal (walk.Failed s) a = a ≡ answer.Fault s
-IsRefusal walk.OutOfMemory a = ⊥
-
--- the sources tell their documents, and this is the plan's document over them
-abbrev pub IsDocument : BenchState → LabelledTree → Type 0
-IsDocument st t = IsTrue (told st) × (plan_document st ≡ Some t)
-
--- a client's act was answered: the answer may be given, a fault by a source that the plan reads alone; where the sources tell
--- their documents, it is that of the plan's document under the mark that it shows; the names hold what they should then; and
--- the count of a source that it says has failed rose
-abbrev pub IsStep : BenchState → BenchState → NamesOf NodeId → NamesOf NodeId → List ℕ → Act → Answer → Type 0
-IsStep old new ids ids' client act a =
-    script.IsAnswered false (IsRead (ops_of old)) (IsHeldNode old) (IsHeldNode new) (IsAt old) (IsAt new) (IsDocument old) old.world.view.faults new.world.view.faults ids ids' client act a
+-- a client's act was answered: the answer may be given, a fault by a source that may fail alone; where a tree is the document,
+-- it is that of the tree under the mark that it shows; the names hold what they should then; and the count of a source that it
+-- says has failed rose
+pub record IsStep {V W : Type 0} (m m' : Meaning V W) (before after : ℕ → ℕ) (values values' : NamesOf V) (client : List ℕ) (act : Act) (a : Answer) : Type 0 where
+  pub allowed : (nodes : Nodes) → HoldNodes m values nodes
+      → MayAnswer m.course.roots m.course.MayFail nodes client act a × HoldNodes m' values' (nodes_after nodes client act a)
+  pub told : (t : LabelledTree) → m.course.IsDocument t → (places : Names) → HoldPlaces m values places
+      → (a ≡ answer_of t places (mark_of a) client act) × HoldPlaces m' values' (names_after places client act a)
+  pub trail : m.course.HasTolls → (xs : NamesOf W) → HoldTold m values xs → HoldTold m' values' (names_on m.course.trail xs client act a)
+  pub counted : (s : ℕ) → HasRisenBy (faults_of s (a ∷ [])) (before s) (after s)
 
 -- what names hold after an answer: the act's name holds a node that was found, or nothing where there is none; after every
 -- other answer all hold what they held
-abbrev pub NamesGiven : NamesOf NodeId → NamesOf NodeId → List ℕ → Act → Answer → Type 0
-NamesGiven ids ids' client act answer.Node = (n : NodeId) × (ids' ≡ with_named ids client act (Some n))
-NamesGiven ids ids' client act answer.None = ids' ≡ with_named ids client act None
-NamesGiven ids ids' client act (answer.Label l) = ids' ≡ ids
-NamesGiven ids ids' client act answer.NoNode = ids' ≡ ids
-NamesGiven ids ids' client act (answer.Fault s) = ids' ≡ ids
+abbrev pub NamesGiven : {V : Type 0} → NamesOf V → NamesOf V → List ℕ → Act → Answer → Type 0
+NamesGiven {V} values values' client act answer.Node = (n : V) × (values' ≡ with_named values client act (Some n))
+NamesGiven values values' client act answer.None = values' ≡ with_named values client act None
+NamesGiven values values' client act (answer.Label l) = values' ≡ values
+NamesGiven values values' client act answer.NoNode = values' ≡ values
+NamesGiven values values' client act (answer.Fault s) = values' ≡ values
 
--- the toll of a move from what a name holds, and none where it holds nothing
-abbrev pub held_toll : (List ℕ → ℕ) → Option (List ℕ) → ℕ
+-- the toll of a way from what a name holds, and none where it holds nothing
+abbrev pub held_toll : {W : Type 0} → (W → ℕ) → Option W → ℕ
 held_toll toll None = 0
-held_toll toll (Some place) = toll place
+held_toll toll (Some x) = toll x
 
--- the toll of a client's act, where names hold these places of a plan's document
-abbrev pub act_toll : Documents → List Operator → Names → List ℕ → Act → ℕ
-act_toll docs ops places client (Root name) = 0
-act_toll docs ops places client (Down name from) = held_toll (down_toll docs ops) (places client from)
-act_toll docs ops places client (Right name from) = held_toll (right_toll docs ops) (places client from)
-act_toll docs ops places client (Fetch from) = 0
+-- the toll of a client's act, where this is told of what names hold
+abbrev pub act_toll : {W : Type 0} → Course W → NamesOf W → List ℕ → Act → ℕ
+act_toll c xs client (Root name) = c.root_toll
+act_toll c xs client (Move way name from) = held_toll (c.toll way) (xs client from)
+act_toll c xs client (Fetch from) = 0
 
--- over told and forward sources an act asked at most its toll
-abbrev pub IsTolled : BenchState → BenchState → NamesOf NodeId → List ℕ → Act → Type 0
-IsTolled old new ids client act = (places : Names) → HoldPlaces old ids places → AsksAtMost old new (act_toll (documents old) (ops_of old) places client act)
+-- an act asked at most its toll
+abbrev pub IsTolled : {V W : Type 0} → Meaning V W → ℕ → ℕ → NamesOf V → List ℕ → Act → Type 0
+IsTolled {V} {W} m fills fills' values client act =
+    m.course.HasTolls → (xs : NamesOf W) → HoldTold m values xs → fills' ≤ fills + act_toll m.course xs client act
+
+-- what a step leaves, whatever it answers; want of memory leaves the names
+pub record Stepped {V W : Type 0} (m m' : Meaning V W) (v v' : View) (values values' : NamesOf V) (client : List ℕ) (act : Act) (r : Result Answer AllocError) : Type 0 where
+  pub session : IsSession m' values'
+  pub stays : Stays m m'
+  pub answer : IfOk r (IsStep m m' v.faults v'.faults values values' client act)
+  pub names : IfOk r (NamesGiven values values' client act)
+  pub still : OnErr r (values' ≡ values)
+  pub toll : IsTolled m v.fills v'.fills values client act

@@ -1,7 +1,10 @@
-//! Sessions: clients walk one document by commands, each by names of its own.
+//! Sessions: clients walk one document by commands, each by names of its own. The document is a plan's, or that of one source.
 #![tactic(auto)]
 
-mod answers;
+mod plan;
 mod session;
+mod source;
+mod walker;
 
 pub use session::Session;
+pub use walker::{Found, Walker};

@@ -1,79 +1,98 @@
 // Sessions.
-use crate::answers::{answer_down, answer_fetch, answer_right, answer_root};
-use lazy_plan::benches_keep_on;
-use lazy_value::{Mediator, NodeId};
+ghost use Rattle.std.specs.Prelude.{◌≡◌, IfOk, OnErr};
+ghost use Rattle.mix_script.specs.Names.{held};
+ghost use Rattle.mix_session.specs.Seeking.{answer_found, names_found};
+
+use crate::walker::{Found, Walker};
 use lxp_core::Sources;
 use mix_script::{Act, Answer, Names, Step};
+use mix_tree::Label;
 use std::alloc::{AllocError, Global};
 
 /// A document that clients walk by commands. Each client has names of its own, which hold nodes of the document.
 #[derive(Drop)]
-pub struct Session {
-    mediator: Mediator,
-    names: Names<NodeId>,
+pub struct Session<W: Walker> {
+    walker: W,
+    names: Names<W::Node>,
 }
 
-impl Session {
-    ghost use Rattle.std.specs.Prelude.{◌≡◌, IfOk, OnErr};
-    ghost use Rattle.lxp_core.specs.View.{View};
-    ghost use Rattle.lazy_value.specs.Mediators.{IsMediatorOf};
-    ghost use Rattle.mix_script.specs.Names.{no_names};
-    ghost use Rattle.mix_session.specs.Sessions.{mediator_of, ids_of, state_of, IsSessionOf, SessionRan};
-    ghost use Rattle.mix_session.specs.Stepped.{IsStep, NamesGiven, IsTolled};
+// Lets a name hold the node that was found, or nothing where there is none. A fault of a source leaves all names.
+fn take_found<N: Drop>(
+    alloc: Global,
+    names: &mut Names<N>,
+    client: &Label,
+    name: &Label,
+    found: Found<N>,
+) -> Result<Answer, AllocError>
+    ensures answer { IfOk result (λ a. a ≡ answer_found found) }
+    ensures names { IfOk result (λ _. held names.new ≡ names_found (held names.old) client.now name.now found) }
+    ensures still { OnErr result (held names.new ≡ held names.old) }
+{
+    match found {
+        Found::Node(node) => {
+            names.set(alloc, client, name, Some(node))?;
+            Ok(Answer::Node)
+        }
+        Found::None => {
+            names.set(alloc, client, name, None)?;
+            Ok(Answer::None)
+        }
+        Found::Fault(source) => Ok(Answer::Fault(source)),
+    }
+}
 
-    /// A session over the document of a mediator, in which no name holds anything. No fill is asked.
-    pub fn open(alloc: Global, m: Mediator) -> Session
-        ensures mediator { mediator_of result ≡ m }
-        ensures names { ids_of result ≡ no_names }
-        ensures session { (v : View) → IsMediatorOf v m → IsSessionOf v result }
+impl<W: Walker + Drop> Session<W> {
+    ghost use Rattle.lxp_core.specs.View.{View};
+    ghost use Rattle.mix_script.specs.Names.{no_names};
+    ghost use Rattle.mix_session.specs.Held.{IsSession};
+    ghost use Rattle.mix_session.specs.Stepped.{Stepped};
+
+    /// A session over a document, in which no name holds anything. No fill is asked.
+    pub fn open(alloc: Global, walker: W) -> Session<W>
+        ensures walker { result.walker ≡ walker }
+        ensures names { held result.names ≡ no_names }
+        ensures session { (v : View) → (W.means v walker).IsReady → IsSession (W.means v result.walker) (held result.names) }
     {
         Session {
-            mediator: m,
+            walker,
             names: Names::new(alloc),
         }
     }
 
     /// The answer to a step, by which the name that it gives holds the node that was found, or nothing where there is none.
-    /// `NoNode`: the operand's name holds no node. `Fault`: this source, which the plan reads, failed in this call. After
-    /// these, and after want of memory, all names hold what they held.
+    /// `NoNode`: the operand's name holds no node. `Fault`: this source, which may fail, failed in this call. After these, and
+    /// after want of memory, all names hold what they held.
     pub fn step<S: Sources>(
         &mut self,
         alloc: Global,
         s: &mut S,
         step: &Step,
     ) -> Result<Answer, AllocError>
-        requires { IsSessionOf (S.view s.old) self.old }
-        ensures ran { SessionRan S.view S.came_from s.old self.old s.new self.new }
-        ensures answer { IfOk result (IsStep (state_of (S.view s.old) self.old) (state_of (S.view s.new) self.new) (ids_of self.old) (ids_of self.new) step.now.client step.now.act) }
-        ensures names { IfOk result (NamesGiven (ids_of self.old) (ids_of self.new) step.now.client step.now.act) }
-        ensures still { OnErr result (ids_of self.new ≡ ids_of self.old) }
-        ensures toll { IsTolled (state_of (S.view s.old) self.old) (state_of (S.view s.new) self.new) (ids_of self.old) step.now.client step.now.act }
+        requires { IsSession (W.means (S.view s.old) self.old.walker) (held self.old.names) }
+        ensures came { S.came_from s.new s.old }
+        ensures kept { W.keeps (S.view s.old) self.old.walker (S.view s.new) self.new.walker }
+        ensures stepped { let m = W.means (S.view s.old) self.old.walker in let m' = W.means (S.view s.new) self.new.walker in
+            Stepped m m' (S.view s.old) (S.view s.new) (held self.old.names) (held self.new.names) step.now.client step.now.act result }
     {
-        benches_keep_on();
         let client = &step.client;
         match &step.act {
             Act::Root { name } => {
-                answer_root(alloc, &self.mediator, &mut self.names, client, name)
+                let found = self.walker.seek_root(alloc, s)?;
+                take_found(alloc, &mut self.names, client, name, found)
             }
-            Act::Down { name, from } => answer_down(
-                alloc,
-                s,
-                &mut self.mediator,
-                &mut self.names,
-                client,
-                name,
-                from,
-            ),
-            Act::Right { name, from } => answer_right(
-                alloc,
-                s,
-                &mut self.mediator,
-                &mut self.names,
-                client,
-                name,
-                from,
-            ),
-            Act::Fetch { from } => answer_fetch(alloc, &self.mediator, &self.names, client, from),
+            Act::Move { way, name, from } => {
+                let Some(node) = self.names.get(client, from) else {
+                    return Ok(Answer::NoNode);
+                };
+                let found = self.walker.seek(alloc, s, *way, node)?;
+                take_found(alloc, &mut self.names, client, name, found)
+            }
+            Act::Fetch { from } => {
+                let Some(node) = self.names.get(client, from) else {
+                    return Ok(Answer::NoNode);
+                };
+                Ok(Answer::Label(self.walker.read_label(node).copy(alloc)?))
+            }
         }
     }
 }

@@ -10,7 +10,7 @@ use lazy_value::Mediator;
 use lxp_core::Sources;
 use lxp_memory::MemSources;
 use mix_io::MemSink;
-use mix_run::{LinesFault, run_lines};
+use mix_lines::{LinesFault, run_lines};
 use mix_script::{Step, read_script};
 use mix_tree::Tree;
 use plan_make::make_plan;

@@ -5,10 +5,9 @@ ghost use Rattle.lxp_memory.specs.Memory.{memory_view};
 use crate::documents::{Cutting, EACH_CHILD, source};
 use lxp_memory::MemSources;
 use mix_io::MemSink;
-use mix_lines::{LinesFault, write_line};
+use mix_lines::{LinesFault, walk_lines, write_line};
 use mix_script::{Act, Answer, Step, read_script};
 use mix_tree::Label;
-use mix_walk::walk_lines;
 use std::alloc::Global;
 use std::test::Fail;
 

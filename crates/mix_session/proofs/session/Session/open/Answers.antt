@@ -1,8 +1,6 @@
-use Rattle.lazy_value.specs.Mediators.{state_of}
 use Rattle.mix_script.specs.Names.{held}
-use Rattle.mix_session.proofs.Moving.{no_nodes}
+use Rattle.mix_session.proofs.Acts.{session_start}
 use Rattle.mix_session.proofs.session.Session.open.Goals as goal
 
 pub returns-clause-session : goal.returns-clause-session
-returns-clause-session c = λ v is.
-    record { mediator = is; nodes = no_nodes (state_of v c.args.m) (held c.new.result) c.new.ensures }
+returns-clause-session g c = λ v ready. session_start (g.W.Walker.means v c.args.walker) (held c.new.result) ready c.new.ensures

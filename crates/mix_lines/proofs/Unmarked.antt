@@ -1,0 +1,31 @@
+-- Over sources that didn't fail, the lines are the transcript without marks.
+use Rattle.std.proofs.Common.{◌≡◌, ◌+◌, ◌^◌, ◌<◌, ℕ, Bool, false, List, Result, arith}
+use Rattle.mix_tree.specs.Forest.{LabelledTree}
+use Rattle.mix_io.specs.Views.{SinkView}
+use Rattle.lxp_core.specs.View.{View}
+use Rattle.mix_script.specs.Names.{no_names}
+use Rattle.mix_script.specs.Allowed.{has_fault, faults_of}
+use Rattle.mix_script.specs.declared.step.Step.{Step}
+use Rattle.mix_script.specs.declared.answer.Answer.{Answer}
+use Rattle.mix_script.proofs.Answering.{unmarked}
+use Rattle.mix_session.specs.Meaning.{Course}
+use Rattle.mix_lines.specs.declared.fault.LinesFault.{LinesFault}
+use Rattle.mix_lines.specs.Lines.{IsRun, IsLazy, Ends}
+use Rattle.mix_lines.specs.Told.{EndsUnmarked}
+use Rattle.mix_lines.proofs.Telling.{ends_unmarked}
+
+-- the counts of the sources that may fail stand, and not at their end
+module _ {W : Type 0} (c : Course W) (old new : View) (names : List (List ℕ)) (steps : List Step) (before after : SinkView) (steady : (s : ℕ) → c.MayFail s → new.faults s ≡ old.faults s)
+    (room : (s : ℕ) → c.MayFail s → old.faults s + 1 < 2 ^ 64) where
+  -- no fault of a source was answered
+  faultless_source : (answers : List Answer) → IsRun c old.faults new.faults steps answers → (s : ℕ) → c.MayFail s → faults_of s answers ≡ 0
+  faultless_source answers run s may = let h = run.counted s in let e = steady s may in let r = room s may in omega (arith, h, e, r)
+
+  -- no fault was answered
+  faultless : (answers : List Answer) → IsRun c old.faults new.faults steps answers → has_fault answers ≡ false
+  faultless answers run = unmarked c.roots c.MayFail no_names answers steps run.allowed (faultless_source answers run)
+
+  -- lines over sources that didn't fail in them
+  pub lines_unmarked : (t : LabelledTree) → c.IsDocument t → (r : Result Bool LinesFault) → Ends c old new names steps before after r → EndsUnmarked t steps before.written after.written r
+  lines_unmarked t one r ends =
+      ends_unmarked (IsRun c old.faults new.faults steps) (IsLazy c old.fills new.fills steps) t names steps before after faultless (λ answers run. run.told t one) r ends

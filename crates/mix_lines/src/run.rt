@@ -1,0 +1,43 @@
+// The steps of a script, answered on the document of a plan.
+ghost use Rattle.std.specs.Prelude.{◌≡◌, ◌≤◌, false, length};
+ghost use Rattle.mix_tree.specs.Forest.{LabelledTree};
+ghost use Rattle.mix_io.specs.Views.{SinkView};
+ghost use Rattle.lxp_core.specs.View.{View};
+ghost use Rattle.lazy_value.specs.Mediators as mediator;
+ghost use Rattle.mix_session.specs.Walks.{IsDocument, plan_course};
+ghost use Rattle.mix_lines.specs.Lines.{Ends};
+ghost use Rattle.mix_lines.specs.Told.{EndsOn};
+
+use crate::LinesFault;
+use crate::lines::{Script, write_lines};
+use lazy_value::Mediator;
+use lxp_core::Sources;
+use mix_io::Sink;
+use mix_script::Step;
+use mix_tree::Label;
+use std::alloc::Global;
+
+/// Answers steps on the document of a mediator's plan, each by a line in one write; `names` has the sources' names by their
+/// numbers. True: a fault line was written. The sources are asked piece by piece, as the steps need it (docs/MEANING.md,
+/// "Lines of runs and walks").
+///
+/// `SinkFailed`: the sink failed. After either error whole lines were written and at most a front of the next.
+pub fn run_lines<S: Sources, K: Sink>(
+    alloc: Global,
+    s: &mut S,
+    m: Mediator,
+    steps: &[Step],
+    names: &[Label],
+    out: &mut K,
+) -> Result<bool, LinesFault>
+    requires mediator { mediator.IsMediatorOf (S.view s.old) m }
+    requires names { length names.now ≡ (S.view s.old).count }
+    ensures came { S.came_from s.new s.old }
+    ensures ends { let c = plan_course (mediator.state_of (S.view s.old) m) in
+        Ends c (S.view s.old) (S.view s.new) names.now steps.now (K.view out.old) (K.view out.new) result }
+    ensures told { (t : LabelledTree) → IsDocument (mediator.state_of (S.view s.old) m) t
+        → EndsOn false t names.now steps.now (K.view out.old).written (K.view out.new).written result }
+    ensures count { (K.view out.old).faults ≤ (K.view out.new).faults }
+{
+    write_lines(alloc, s, m, Script { steps, names }, out)
+}

@@ -1,2 +1,0 @@
-mod Running
-pub mod Unmarked

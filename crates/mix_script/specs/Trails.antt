@@ -1,0 +1,48 @@
+-- What is told of the nodes that names hold: of the root, and of the nodes to which a way leads.
+use Rattle.std.specs.Prelude.{ℕ, List, [], Option, Some, None, option_and_then}
+use Rattle.mix_tree.specs.Place.{child_place, next_place}
+use Rattle.mix_script.specs.Names.{NamesOf, with_name}
+use Rattle.mix_script.specs.declared.step.Act.{Act}
+use Rattle.mix_script.specs.declared.step.Act.TheVariants.{Root, Move, Fetch}
+use Rattle.mix_script.specs.declared.step.Way.{Way}
+use Rattle.mix_script.specs.declared.step.Way.TheVariants.{Down, Right}
+use Rattle.mix_script.specs.declared.answer.Answer.{Answer}
+use Rattle.mix_script.specs.declared.answer.Answer.TheVariants as answer
+
+-- what is told of the root, and, by what is told of a node, of the one to which a way leads from it
+pub record Trail (W : Type 0) : Type 0 where
+  pub first : W
+  pub to : Way → W → Option W
+
+-- no more is told of a node than that it is one
+abbrev pub node_trail : Trail (Unit {0})
+node_trail = record { first = tt; to = λ way node. Some node }
+
+-- the place to which a way leads from a place
+abbrev pub place_to : Way → List ℕ → Option (List ℕ)
+place_to Down place = Some (child_place place)
+place_to Right place = next_place place
+
+-- the places at which nodes stand are told
+abbrev pub place_trail : Trail (List ℕ)
+place_trail = record { first = []; to = place_to }
+
+-- what names hold where the one that an act names, if any, holds this
+abbrev pub with_named : {V : Type 0} → NamesOf V → List ℕ → Act → Option V → NamesOf V
+with_named names client (Root name) value = with_name names client name value
+with_named names client (Move way name from) value = with_name names client name value
+with_named names client (Fetch from) value = names
+
+-- what is told of the node that an act asks for: the root, or the one to which a way leads from what its operand holds
+abbrev pub goal_on : {W : Type 0} → Trail W → NamesOf W → List ℕ → Act → Option W
+goal_on trail names client (Root name) = Some trail.first
+goal_on trail names client (Move way name from) = option_and_then (trail.to way) (names client from)
+goal_on trail names client (Fetch from) = None
+
+-- the names after an answer: the act's name holds what is told of the node that was found, or none, or all hold what they held
+abbrev pub names_on : {W : Type 0} → Trail W → NamesOf W → List ℕ → Act → Answer → NamesOf W
+names_on trail names client act answer.Node = with_named names client act (goal_on trail names client act)
+names_on trail names client act answer.None = with_named names client act None
+names_on trail names client act (answer.Label l) = names
+names_on trail names client act answer.NoNode = names
+names_on trail names client act (answer.Fault source) = names

@@ -1,0 +1,52 @@
+-- What a walker means: what is walked, and what stands for its nodes.
+use Rattle.std.specs.Prelude.{◌≡◌, ◌≤◌, ℕ, Bool, List}
+use Rattle.mix_tree.specs.Forest.{LabelledTree}
+use Rattle.mix_script.specs.Trails.{Trail}
+use Rattle.mix_script.specs.declared.step.Way.{Way}
+
+-- what is walked, and at which tolls
+pub record Course (W : Type 0) : Type 1 where
+  -- whether the root is sought in a source, so that there may be none and the source may fail
+  pub roots : Bool
+  -- which sources may fail
+  pub MayFail : ℕ → Type 0
+  -- a tree is the document, and the sources tell it
+  pub IsDocument : LabelledTree → Type 0
+  -- a call asks at most so many fills as its toll says
+  pub HasTolls : Type 0
+  -- what is told of nodes for their tolls
+  pub trail : Trail W
+  -- the toll of the root
+  pub root_toll : ℕ
+  -- the toll of a way from a node
+  pub toll : Way → W → ℕ
+
+-- what is walked, and what stands for its nodes
+pub record Meaning (V W : Type 0) : Type 1 where
+  -- the sources are the walker's own
+  pub IsReady : Type 0
+  pub course : Course W
+  -- a value stands for a node
+  pub IsNode : V → Type 0
+  -- it stands at a place of the document
+  pub IsAt : V → List ℕ → Type 0
+  -- this is told of it
+  pub IsTold : V → W → Type 0
+
+-- the walk of a course goes on: the document is the same, no other source may fail, and no toll rose
+pub record GoesOn {W : Type 0} (old new : Course W) : Type 0 where
+  pub roots : new.roots ≡ old.roots
+  pub may : (s : ℕ) → new.MayFail s → old.MayFail s
+  pub document : (t : LabelledTree) → old.IsDocument t → new.IsDocument t
+  pub tolls : old.HasTolls → new.HasTolls
+  pub trail : new.trail ≡ old.trail
+  pub root_toll : new.root_toll ≤ old.root_toll
+  pub toll : (way : Way) (x : W) → new.toll way x ≤ old.toll way x
+
+-- what a call leaves: the course goes on, and each earlier node stays one, where it stood
+pub record Stays {V W : Type 0} (old new : Meaning V W) : Type 0 where
+  pub ready : new.IsReady
+  pub course : GoesOn old.course new.course
+  pub node : (n : V) → old.IsNode n → new.IsNode n
+  pub place : (n : V) (p : List ℕ) → old.IsAt n p → new.IsAt n p
+  pub told : (n : V) (x : W) → old.IsTold n x → new.IsTold n x

@@ -1,0 +1,67 @@
+-- What a search comes to.
+use Rattle.std.specs.Prelude.{◌≡◌, ℕ, false, List, [], Option, Some, None}
+use Rattle.mix_base.specs.Counts.{HasRisen}
+use Rattle.mix_tree.specs.Forest.{LabelledTree}
+use Rattle.mix_tree.specs.Place.{tree_at}
+use Rattle.mix_script.specs.Names.{NamesOf, with_name}
+use Rattle.mix_script.specs.Trails.{place_to}
+use Rattle.mix_script.specs.Transcript.{move_answer}
+use Rattle.mix_script.specs.declared.step.Way.{Way}
+use Rattle.mix_script.specs.declared.answer.Answer.{Answer}
+use Rattle.mix_script.specs.declared.answer.Answer.TheVariants as answer
+use Rattle.mix_session.specs.declared.walker.Found.{Found}
+use Rattle.mix_session.specs.declared.walker.Found.TheVariants as found
+use Rattle.mix_session.specs.Meaning.{Meaning}
+
+-- this is said of the node that was found, if one was
+abbrev pub IfNode : {V : Type 0} → (V → Type 0) → Found V → Type 0
+IfNode Is (found.Node n) = Is n
+IfNode Is found.None = Unit {0}
+IfNode Is (found.Fault s) = Unit {0}
+
+-- a source that is said to have failed is one that may, and its count of faults rose
+abbrev pub HasCause : {V : Type 0} → (ℕ → Type 0) → (ℕ → ℕ) → (ℕ → ℕ) → Found V → Type 0
+HasCause MayFail before after (found.Node n) = Unit {0}
+HasCause MayFail before after found.None = Unit {0}
+HasCause MayFail before after (found.Fault s) = MayFail s × HasRisen (before s) (after s)
+
+-- what was asked for goes together with the node
+abbrev pub IsAsked : {V W : Type 0} → (V → W → Type 0) → Option W → V → Type 0
+IsAsked {V} {W} With goal n = (x : W) × (goal ≡ Some x) × With n x
+
+-- the answer that a search becomes
+abbrev pub answer_found : {V : Type 0} → Found V → Answer
+answer_found (found.Node n) = answer.Node
+answer_found found.None = answer.None
+answer_found (found.Fault s) = answer.Fault s
+
+-- a search for a place of a tree: a node was found exactly where the tree has the place, and it stands there
+abbrev pub IsMoved : {V : Type 0} → (V → List ℕ → Type 0) → LabelledTree → Option (List ℕ) → Found V → Type 0
+IsMoved IsAt t goal (found.Node n) = (move_answer t goal ≡ answer.Node) × IsAsked IsAt goal n
+IsMoved IsAt t goal found.None = move_answer t goal ≡ answer.None
+IsMoved IsAt t goal (found.Fault s) = Unit {0}
+
+-- a search for the root; sources are counted before and after
+pub record IsRoot {V W : Type 0} (m m' : Meaning V W) (before after : ℕ → ℕ) (r : Found V) : Type 0 where
+  pub cause : HasCause m.course.MayFail before after r
+  pub node : IfNode m'.IsNode r
+  pub sure : m.course.roots ≡ false → answer_found r ≡ answer.Node
+  pub place : (t : LabelledTree) → m.course.IsDocument t → IsMoved m'.IsAt t (Some []) r
+  pub told : m.course.HasTolls → IfNode (IsAsked m'.IsTold (Some m.course.trail.first)) r
+
+-- a search for the node to which a way leads
+pub record IsNext {V W : Type 0} (m m' : Meaning V W) (before after : ℕ → ℕ) (way : Way) (n : V) (r : Found V) : Type 0 where
+  pub cause : HasCause m.course.MayFail before after r
+  pub node : IfNode m'.IsNode r
+  pub place : (p : List ℕ) → m.IsAt n p → (t : LabelledTree) → m.course.IsDocument t → IsMoved m'.IsAt t (place_to way p) r
+  pub told : (x : W) → m.IsTold n x → m.course.HasTolls → IfNode (IsAsked m'.IsTold (m.course.trail.to way x)) r
+
+-- a label is the document's at the place of a node
+abbrev pub ReadsLabel : {V W : Type 0} → Meaning V W → V → List ℕ → Type 0
+ReadsLabel m n label = (p : List ℕ) → m.IsAt n p → (t : LabelledTree) → m.course.IsDocument t → (u : LabelledTree) × (tree_at t p ≡ Some u) × (label ≡ u.label)
+
+-- what names hold after it: the name holds what was found, or nothing; after a fault all hold what they held
+abbrev pub names_found : {V : Type 0} → NamesOf V → List ℕ → List ℕ → Found V → NamesOf V
+names_found names client name (found.Node n) = with_name names client name (Some n)
+names_found names client name found.None = with_name names client name None
+names_found names client name (found.Fault s) = names

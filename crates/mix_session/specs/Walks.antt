@@ -1,0 +1,94 @@
+-- What is walked: the document of one source, by a buffer, and that of a plan, by a mediator.
+use Rattle.std.specs.Prelude.{◌≡◌, ℕ, true, false, IsTrue, List, ◌∷◌, Some}
+use Rattle.mix_tree.specs.Forest.{LabelledTree, alone}
+use Rattle.mix_tree.specs.Nodes.{Documents}
+use Rattle.lxp_core.specs.View.{View, document}
+use Rattle.tree_buffer.specs.declared.buffer.Buffer.{Buffer}
+use Rattle.tree_buffer.specs.declared.spot.Spot.{Spot}
+use Rattle.tree_buffer.specs.Buffer.{IsSpot, IsSourcesOf, Goes, number_of, place_of}
+use Rattle.plan_core.specs.Plans.{Operator}
+use Rattle.lazy_plan.specs.Bench.{BenchState, KeepsBench, ops_of, told, forward, documents}
+use Rattle.lazy_plan.specs.Cursors.{IsRead}
+use Rattle.lazy_value.specs.declared.ids.NodeId.{NodeId}
+use Rattle.lazy_value.specs.declared.mediator.Mediator.{Mediator}
+use Rattle.lazy_value.specs.Places.{IsNode, IsAt, plan_document, down_toll, right_toll}
+use Rattle.lazy_value.specs.Mediators.{IsMediatorOf, NodesStay, state_of}
+use Rattle.mix_script.specs.Trails.{node_trail, place_trail}
+use Rattle.mix_script.specs.declared.step.Way.{Way}
+use Rattle.mix_script.specs.declared.step.Way.TheVariants.{Down, Right}
+use Rattle.mix_session.specs.Meaning.{Course, Meaning}
+
+-- ONE SOURCE
+
+-- the source tells that its document is this tree alone
+abbrev pub IsSourceDocument : View → ℕ → LabelledTree → Type 0
+IsSourceDocument v source t = (v.told source ≡ true) × (document v source ≡ alone t)
+
+-- the document of a source: the source alone may fail, and where it is forward each search asks at most one fill
+abbrev pub source_course : View → ℕ → Course (Unit {0})
+source_course v source = record {
+  roots = true;
+  MayFail = λ s. s ≡ source;
+  IsDocument = IsSourceDocument v source;
+  HasTolls = v.forward source ≡ true;
+  trail = node_trail;
+  root_toll = 1;
+  toll = λ way node. 1;
+}
+
+-- a spot of the buffer stands for a place of the document's first tree
+abbrev pub IsPlace : Buffer → Spot → List ℕ → Type 0
+IsPlace b x place = IsSpot b x × (place_of b x ≡ 0 ∷ place)
+
+-- spots of a buffer stand for nodes
+abbrev pub source_meaning : View → Buffer → Meaning Spot (Unit {0})
+source_meaning v b = record {
+  IsReady = IsSourcesOf v b;
+  course = source_course v (number_of b);
+  IsNode = IsSpot b;
+  IsAt = IsPlace b;
+  IsTold = λ x node. IsSpot b x;
+}
+
+-- a buffer goes on
+abbrev pub SourceKept : View → Buffer → View → Buffer → Type 0
+SourceKept v b v' b' = Goes v b v' b'
+
+-- THE DOCUMENT OF A PLAN
+
+-- the sources tell their documents, and this is the plan's document over them
+abbrev pub IsDocument : BenchState → LabelledTree → Type 0
+IsDocument st t = IsTrue (told st) × (plan_document st ≡ Some t)
+
+-- the toll of a way from a place of a plan's document
+abbrev pub place_toll : Documents → List Operator → Way → List ℕ → ℕ
+place_toll docs ops Down p = down_toll docs ops p
+place_toll docs ops Right p = right_toll docs ops p
+
+-- the document of a plan: the sources that it reads may fail; over told and forward sources a way from a place asks at most
+-- its toll, and the root nothing
+abbrev pub plan_course : BenchState → Course (List ℕ)
+plan_course st = record {
+  roots = false;
+  MayFail = IsRead (ops_of st);
+  IsDocument = IsDocument st;
+  HasTolls = IsTrue (told st) × IsTrue (forward st);
+  trail = place_trail;
+  root_toll = 0;
+  toll = place_toll (documents st) (ops_of st);
+}
+
+-- identifiers of a mediator stand for nodes
+abbrev pub plan_meaning : View → Mediator → Meaning NodeId (List ℕ)
+plan_meaning v m = record {
+  IsReady = IsMediatorOf v m;
+  course = plan_course (state_of v m);
+  IsNode = IsNode (state_of v m);
+  IsAt = IsAt (state_of v m);
+  IsTold = IsAt (state_of v m);
+}
+
+-- the plan and the documents are the same, and each earlier identifier stays where it stood
+pub record PlanKept (v : View) (m : Mediator) (v' : View) (m' : Mediator) : Type 0 where
+  pub kept : KeepsBench (state_of v m) (state_of v' m')
+  pub stay : NodesStay (state_of v m) (state_of v' m')

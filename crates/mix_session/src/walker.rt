@@ -1,0 +1,74 @@
+// What can be walked node by node.
+ghost use Rattle.std.specs.Prelude.{◌≤◌, ◌+◌, IfOk};
+ghost use Rattle.lxp_core.specs.View.{View};
+ghost use Rattle.mix_session.specs.Meaning.{Meaning, Stays};
+ghost use Rattle.mix_session.specs.Seeking.{IsRoot, IsNext, ReadsLabel};
+
+use lxp_core::Sources;
+use mix_script::Way;
+use mix_tree::Label;
+use std::alloc::{AllocError, Global};
+
+/// What a search comes to: a node; or there is none; or the source of this number failed.
+#[derive(Drop)]
+pub enum Found<N> {
+    Node(N),
+    None,
+    Fault(u32),
+}
+
+/// A document over sources that is walked node by node.
+pub trait Walker {
+    /// What stands for a node.
+    type Node: Drop;
+
+    /// What is told of a node for the tolls of the ways from it.
+    ghost Told: { Type 0 };
+
+    /// What a state means, over sources that mean this.
+    ghost means: { View → Self → Meaning Self.Node Told };
+
+    /// `keeps v w v' w'`: what a call has kept which found the state w over sources that mean v and left w' and v'.
+    ghost keeps: { View → Self → View → Self → Type 0 };
+
+    /// The root of the document. Every earlier node stays, whatever is answered, and after want of memory.
+    fn seek_root<S: Sources>(
+        &mut self,
+        alloc: Global,
+        s: &mut S,
+    ) -> Result<Found<Self::Node>, AllocError>
+        requires { (means (S.view s.old) self.old).IsReady }
+        ensures came { S.came_from s.new s.old }
+        ensures kept { keeps (S.view s.old) self.old (S.view s.new) self.new }
+        ensures stays { Stays (means (S.view s.old) self.old) (means (S.view s.new) self.new) }
+        ensures found { let m = means (S.view s.old) self.old in
+            IfOk result (IsRoot m (means (S.view s.new) self.new) (S.view s.old).faults (S.view s.new).faults) }
+        ensures toll { let c = (means (S.view s.old) self.old).course in
+            c.HasTolls → (S.view s.new).fills ≤ (S.view s.old).fills + c.root_toll };
+
+    /// The node to which a way leads from a node. Every earlier node stays, whatever is answered, and after want of memory.
+    fn seek<S: Sources>(
+        &mut self,
+        alloc: Global,
+        s: &mut S,
+        way: Way,
+        n: &Self::Node,
+    ) -> Result<Found<Self::Node>, AllocError>
+        requires ready { (means (S.view s.old) self.old).IsReady }
+        requires node { (means (S.view s.old) self.old).IsNode n.now }
+        ensures came { S.came_from s.new s.old }
+        ensures kept { keeps (S.view s.old) self.old (S.view s.new) self.new }
+        ensures stays { Stays (means (S.view s.old) self.old) (means (S.view s.new) self.new) }
+        ensures found { let m = means (S.view s.old) self.old in
+            IfOk result (IsNext m (means (S.view s.new) self.new) (S.view s.old).faults (S.view s.new).faults way n.now) }
+        ensures toll { let m = means (S.view s.old) self.old in (x : Told) → m.IsTold n.now x → m.course.HasTolls
+            → (S.view s.new).fills ≤ (S.view s.old).fills + m.course.toll way x };
+
+    /// The label of a node.
+    fn read_label(&self, n: &Self::Node) -> &Label
+        requires { (v : View) × (means v self.now).IsReady × (means v self.now).IsNode n.now }
+        ensures { (v : View) → (means v self.now).IsReady → ReadsLabel (means v self.now) n.now result.now };
+
+    /// Where there is no call, all is kept.
+    ghost same: { (v : View) (w : Self) → keeps v w v w };
+}

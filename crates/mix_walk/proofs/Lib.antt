@@ -1,3 +1,0 @@
-mod Answered
-pub mod Unmarked
-mod Walked

@@ -1,4 +1,0 @@
-pub mod Held
-pub mod Lines
-pub mod SoFar
-pub mod Stepped
