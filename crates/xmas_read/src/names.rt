@@ -4,7 +4,7 @@ ghost use Rattle.xmas_read.specs.Tree.{bound_var, bound_names};
 ghost use Rattle.xmas_read.specs.Value.{place_in};
 ghost use Rattle.xmas_read.specs.Refusals.{has_name};
 
-use mix_tree::{Label, same_label};
+use mix_tree::Label;
 use std::alloc::{AllocError, Global};
 use xmas_text::{CondText, VarText};
 
@@ -37,7 +37,7 @@ pub fn place_in(names: &[Label], name: &Label) -> usize
     ensures bound { result ≤ length names.now }
 {
     for (i, other) in names.iter().enumerate() {
-        if same_label(other, name) {
+        if other == name {
             return i;
         }
     }
@@ -48,5 +48,5 @@ pub fn place_in(names: &[Label], name: &Label) -> usize
 pub fn has_name(names: &[Label], name: &Label) -> bool
     ensures { result ≡ has_name names.now name.now }
 {
-    names.iter().any(|other| same_label(other, name))
+    names.iter().any(|other| other == name)
 }

@@ -3,7 +3,6 @@ ghost use Rattle.std.specs.Prelude.{◌≡◌};
 ghost use Rattle.xmas_text.specs.Elements.{contents_of};
 ghost use Rattle.xmas_read.specs.Refusals.{first_in, differing_tags, differing_in};
 
-use mix_tree::same_label;
 use xmas_text::{ElementText, ItemText};
 
 // The first closing tag among items that has another name than its opening tag.
@@ -29,7 +28,7 @@ pub fn differing_tag(element: &ElementText) -> Option<usize>
     if let Some(at) = tag_in_items(&element.items) {
         return Some(at);
     }
-    if same_label(&element.name, &element.close_name) {
+    if element.name == element.close_name {
         None
     } else {
         Some(element.close_at)
