@@ -4,7 +4,7 @@ ghost use Rattle.path_expr.specs.Form.{paths_of};
 ghost use Rattle.path_expr.specs.Description.{Describes, DescribesAs, in_turn, one_of, Then, Many};
 ghost use Rattle.plain_rule.specs.Parts.{DescribesAlone, Begins};
 
-use mix_tree::{Label, same_label};
+use mix_tree::Label;
 use path_expr::{Node, Path};
 
 // Whether the list is this label alone.
@@ -12,7 +12,7 @@ fn is_alone(wanted: &Label, labels: &[Label]) -> bool
     ensures { IsTrue result ↔ (labels.now ≡ wanted.now ∷ []) }
 {
     match labels {
-        [label] => same_label(wanted, label),
+        [label] => wanted == label,
         _ => false,
     }
 }

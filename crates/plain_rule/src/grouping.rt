@@ -12,7 +12,7 @@ ghost use Rattle.plain_rule.specs.Steps.{is_alike, is_seen};
 use crate::binding::{Binding, copy_binding, node_in};
 use crate::node::Node;
 use crate::selecting::label_in;
-use mix_tree::{Key, Tree, item_collects, same_label};
+use mix_tree::{Key, Tree, item_collects};
 use std::alloc::{AllocError, Global};
 use std::marker::Model;
 
@@ -79,7 +79,7 @@ fn same_by_key(
         Key::LabelOf(var) => {
             let left = label_in(alloc, docs, a, *var)?;
             let right = label_in(alloc, docs, b, *var)?;
-            Ok(same_label(&left, &right))
+            Ok(left == right)
         },
     }
 }

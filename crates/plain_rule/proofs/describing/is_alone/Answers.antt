@@ -5,4 +5,4 @@ use Rattle.plain_rule.proofs.describing.is_alone.Goals as goal
 pub returns-in-len1 : goal.returns-in-len1
 returns-in-len1 c =
     let one : length c.args.labels.now ≡ 1 = omega arith in
-    one_label c.args.wanted.now c.label-item.result c.args.labels.now c.same_label.result one c.label-item.is c.same_label.ensures
+    one_label c.args.wanted.now c.label-item.result c.args.labels.now c.eq.result one c.label-item.is c.eq.ensures
