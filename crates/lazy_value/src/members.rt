@@ -30,8 +30,8 @@ fn label_in<'a>(bench: &'a Bench, op: u32, c: &Cursor, v: Var) -> &'a Label
     requires op { op < length (plan_value (plan_of bench.now)).ops }
     requires bench { (view : View) × IsBenchOf view bench.now × IsCursor (state_of view bench.now) op c.now }
     requires node { kinds (plan_value (plan_of bench.now)).ops op v ≡ Some a_node }
-    ensures { (view : View) → IsBenchOf view bench.now → IsCursor (state_of view bench.now) op c.now → IsTrue (told (state_of view bench.now))
-        → result.now ≡ label_at (documents (state_of view bench.now)) (row_node (binding_at (state_of view bench.now) op c.now) v) }
+    ensures { (view : View) → let st = state_of view bench.now in
+        IsBenchOf view bench.now → IsCursor st op c.now → IsTrue (told st) → result.now ≡ label_at (documents st) (row_node (binding_at st op c.now) v) }
 {
     bench.label(bench.source_of(op, v), &bench.spot(op, c, v))
 }
@@ -41,9 +41,8 @@ fn same_by_key(bench: &Bench, op: u32, first: &Cursor, c: &Cursor, key: Key) -> 
     requires op { op < length (plan_value (plan_of bench.now)).ops }
     requires bench { (view : View) × IsBenchOf view bench.now × IsCursor (state_of view bench.now) op first.now × IsCursor (state_of view bench.now) op c.now }
     requires node { kinds (plan_value (plan_of bench.now)).ops op (key_var key) ≡ Some a_node }
-    ensures { (view : View) → IsBenchOf view bench.now → IsCursor (state_of view bench.now) op first.now → IsCursor (state_of view bench.now) op c.now → IsTrue (told (state_of view bench.now))
-        → result ≡ same_value (key_value (documents (state_of view bench.now)) (row_node (binding_at (state_of view bench.now) op first.now)) key)
-        (key_value (documents (state_of view bench.now)) (row_node (binding_at (state_of view bench.now) op c.now)) key) }
+    ensures { (view : View) → let st = state_of view bench.now in
+        IsBenchOf view bench.now → IsCursor st op first.now → IsCursor st op c.now → IsTrue (told st) → result ≡ same_value (key_value (documents st) (row_node (binding_at st op first.now)) key) (key_value (documents st) (row_node (binding_at st op c.now)) key) }
 {
     match key {
         Key::Node(v) => Buffer::same_spot(&bench.spot(op, first, v), &bench.spot(op, c, v)),
@@ -56,9 +55,8 @@ fn same_by_keys(bench: &Bench, op: u32, first: &Cursor, c: &Cursor, keys: &[Key]
     requires op { op < length (plan_value (plan_of bench.now)).ops }
     requires bench { (view : View) × IsBenchOf view bench.now × IsCursor (state_of view bench.now) op first.now × IsCursor (state_of view bench.now) op c.now }
     requires nodes { AreNodes keys.now (kinds (plan_value (plan_of bench.now)).ops op) }
-    ensures { (view : View) → IsBenchOf view bench.now → IsCursor (state_of view bench.now) op first.now → IsCursor (state_of view bench.now) op c.now → IsTrue (told (state_of view bench.now))
-        → result ≡ same_values (key_values (documents (state_of view bench.now)) keys.now (binding_at (state_of view bench.now) op first.now))
-        (key_values (documents (state_of view bench.now)) keys.now (binding_at (state_of view bench.now) op c.now)) }
+    ensures { (view : View) → let st = state_of view bench.now in
+        IsBenchOf view bench.now → IsCursor st op first.now → IsCursor st op c.now → IsTrue (told st) → result ≡ same_values (key_values (documents st) keys.now (binding_at st op first.now)) (key_values (documents st) keys.now (binding_at st op c.now)) }
 {
     for key in keys {
         if !same_by_key(bench, op, first, c, *key) {
@@ -82,8 +80,8 @@ fn next_of_group<S: Sources>(
     requires from { Stands (state_of (S.view s.old) bench.old) op gathers_groups from.now }
     ensures walked { Walked S.view S.came_from s.old bench.old s.new bench.new (cost (group_ahead (state_of (S.view s.old) bench.old) op first.now from.now)) }
     ensures cause { HasCause (ops_of (state_of (S.view s.old) bench.old)) (S.view s.old) (S.view s.new) result }
-    ensures answer { IfOk result (λ r. MatchOption r (IsTrue (told (state_of (S.view s.old) bench.old)) → found (group_ahead (state_of (S.view s.old) bench.old) op first.now from.now) ≡ nothing)
-        (IsMember (state_of (S.view s.old) bench.old) (state_of (S.view s.new) bench.new) op first.now (group_ahead (state_of (S.view s.old) bench.old) op first.now from.now) (number_at (state_of (S.view s.old) bench.old) (input_at (ops_of (state_of (S.view s.old) bench.old)) op) from.now))) }
+    ensures answer { let st = state_of (S.view s.old) bench.old in
+        IfOk result (λ r. MatchOption r (IsTrue (told st) → found (group_ahead st op first.now from.now) ≡ nothing) (IsMember st (state_of (S.view s.new) bench.new) op first.now (group_ahead st op first.now from.now) (number_at st (input_at (ops_of st) op) from.now))) }
 {
     let input = input_of(bench.plan(), op);
     let mut at = from.again()?;
@@ -113,7 +111,8 @@ fn behind<S: Sources>(
     requires at { MatchOption at.now (Unit {0}) (λ c. IsCursor (state_of (S.view s.old) bench.old) op c) }
     ensures walked { Walked S.view S.came_from s.old bench.old s.new bench.new (cost (ahead_from (state_of (S.view s.old) bench.old) op at.now)) }
     ensures cause { HasCause (ops_of (state_of (S.view s.old) bench.old)) (S.view s.old) (S.view s.new) result }
-    ensures answer { IfOk result (GivesFirst (state_of (S.view s.old) bench.old) (state_of (S.view s.new) bench.new) op (ahead_from (state_of (S.view s.old) bench.old) op at.now) (number_from (state_of (S.view s.old) bench.old) op at.now)) }
+    ensures answer { let st = state_of (S.view s.old) bench.old in
+        IfOk result (GivesFirst st (state_of (S.view s.new) bench.new) op (ahead_from st op at.now) (number_from st op at.now)) }
 {
     match at {
         None => bench.first(alloc, s, op),
@@ -132,12 +131,15 @@ pub(crate) fn members<S: Sources>(
 ) -> Result<Turn, WalkFault>
     requires bench { IsBenchOf (S.view s.old) bench.old }
     requires gathers { GathersAll (state_of (S.view s.old) bench.old) op }
-    requires at { MatchOption at.now (Unit {0}) (λ c. IsCursor (state_of (S.view s.old) bench.old) (input_at (ops_of (state_of (S.view s.old) bench.old)) op) c) }
+    requires at { let st = state_of (S.view s.old) bench.old in MatchOption at.now (Unit {0}) (λ c. IsCursor st (input_at (ops_of st) op) c) }
     requires up { IsRest (state_of (S.view s.old) bench.old) up.now.value }
-    ensures walked { Walked S.view S.came_from s.old bench.old s.new bench.new (toll (members_trees (state_of (S.view s.old) bench.old) op at.now (rest_trees (state_of (S.view s.old) bench.old) up.now.value))) }
+    ensures walked { let st = state_of (S.view s.old) bench.old in
+        Walked S.view S.came_from s.old bench.old s.new bench.new (toll (members_trees st op at.now (rest_trees st up.now.value))) }
     ensures cause { HasCause (ops_of (state_of (S.view s.old) bench.old)) (S.view s.old) (S.view s.new) result }
-    ensures answer { IfOk result (Turns (state_of (S.view s.old) bench.old) (state_of (S.view s.new) bench.new) (members_trees (state_of (S.view s.old) bench.old) op at.now (rest_trees (state_of (S.view s.old) bench.old) up.now.value)) (suc (weight (state_of (S.view s.old) bench.old) up.now.value))) }
-    ensures left { IfOk result (Falls (state_of (S.view s.new) bench.new) (number_from (state_of (S.view s.old) bench.old) (input_at (ops_of (state_of (S.view s.old) bench.old)) op) at.now + left (state_of (S.view s.old) bench.old) up.now.value)) }
+    ensures answer { let st = state_of (S.view s.old) bench.old in
+        IfOk result (Turns st (state_of (S.view s.new) bench.new) (members_trees st op at.now (rest_trees st up.now.value)) (suc (weight st up.now.value))) }
+    ensures left { let st = state_of (S.view s.old) bench.old in
+        IfOk result (Falls (state_of (S.view s.new) bench.new) (number_from st (input_at (ops_of st) op) at.now + left st up.now.value)) }
 {
     let input = input_of(bench.plan(), op);
     match behind(alloc, bench, s, input, at)? {
@@ -160,10 +162,13 @@ pub(crate) fn group<S: Sources>(
     requires first { Stands (state_of (S.view s.old) bench.old) op gathers_groups first.now }
     requires at { Stands (state_of (S.view s.old) bench.old) op gathers_groups at.now }
     requires up { IsRest (state_of (S.view s.old) bench.old) up.now.value }
-    ensures walked { Walked S.view S.came_from s.old bench.old s.new bench.new (toll (group_trees (state_of (S.view s.old) bench.old) op first.now at.now (rest_trees (state_of (S.view s.old) bench.old) up.now.value))) }
+    ensures walked { let st = state_of (S.view s.old) bench.old in
+        Walked S.view S.came_from s.old bench.old s.new bench.new (toll (group_trees st op first.now at.now (rest_trees st up.now.value))) }
     ensures cause { HasCause (ops_of (state_of (S.view s.old) bench.old)) (S.view s.old) (S.view s.new) result }
-    ensures answer { IfOk result (Turns (state_of (S.view s.old) bench.old) (state_of (S.view s.new) bench.new) (group_trees (state_of (S.view s.old) bench.old) op first.now at.now (rest_trees (state_of (S.view s.old) bench.old) up.now.value)) (suc (weight (state_of (S.view s.old) bench.old) up.now.value))) }
-    ensures left { IfOk result (Falls (state_of (S.view s.new) bench.new) (number_at (state_of (S.view s.old) bench.old) (input_at (ops_of (state_of (S.view s.old) bench.old)) op) at.now + left (state_of (S.view s.old) bench.old) up.now.value)) }
+    ensures answer { let st = state_of (S.view s.old) bench.old in
+        IfOk result (Turns st (state_of (S.view s.new) bench.new) (group_trees st op first.now at.now (rest_trees st up.now.value)) (suc (weight st up.now.value))) }
+    ensures left { let st = state_of (S.view s.old) bench.old in
+        IfOk result (Falls (state_of (S.view s.new) bench.new) (number_at st (input_at (ops_of st) op) at.now + left st up.now.value)) }
 {
     match next_of_group(alloc, bench, s, op, first, at)? {
         None => Ok(Turn::On(share(up)?)),
