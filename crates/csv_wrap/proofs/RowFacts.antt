@@ -1,5 +1,5 @@
 -- What is laid of a row, column by column.
-use Rattle.std.proofs.Common.{◌≡◌, ◌∙◌, ◌+◌, ℕ, zero, suc, List, [], ◌∷◌, ◌++◌, take, length, Some, append_assoc, refl, sym, ap}
+use Rattle.std.proofs.Common.{◌≡◌, ◌∙◌, ◌+◌, ℕ, zero, suc, List, [], ◌∷◌, ◌++◌, take, length, Some, refl, sym, ap}
 use Rattle.std.specs.Prelude.{slice_get, Bool, true, false, MatchBool, map}
 use Rattle.std.specs.Borrow.{Bor}
 use Rattle.std.specs.List.{All}
@@ -7,7 +7,7 @@ use Rattle.std.proofs.lemmas.List.{map-append}
 use Rattle.csv.specs.declared.reader.Reader.{Reader}
 use Rattle.csv_wrap.specs.Csv.{IsAt, IsRow, without_marks}
 use Rattle.mix_base.proofs.Lists.{append_nil}
-use Rattle.mix_tree.specs.Forest.{Forest, LabelledTree, forest_of, alone}
+use Rattle.mix_tree.specs.Forest.{LabelledTree, forest_of, alone}
 use Rattle.document_store.specs.Laid.{LaidNode, bare_node, laid, Closes, IsDocument}
 use Rattle.document_store.proofs.Laying.{closes_tree, laid_more}
 use Rattle.csv.specs.Records.{AllText}

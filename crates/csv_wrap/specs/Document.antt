@@ -1,5 +1,5 @@
 -- What a CSV document and its holes mean.
-use Rattle.std.specs.Prelude.{ℕ, Bool, cond}
+use Rattle.std.specs.Prelude.{◌≡◌, ℕ, Bool, true, cond}
 use Rattle.std.specs.Str.{bytes_eq}
 use Rattle.mix_tree.specs.Forest.{Forest}
 use Rattle.lxp_core.specs.declared.open_tree.HoleId.{HoleId}
@@ -30,6 +30,10 @@ root_hole d = bracket.root_hole d.rows
 -- the whole document
 abbrev pub document : CsvDoc → Forest
 document d = bracket.document d.rows
+
+-- the hole of the root is known
+pub root_known : (d : CsvDoc) → knows d (root_hole d) ≡ true
+root_known d = bracket.root_known d.rows
 
 -- the list of the root's hole: the name, with the hole of all rows below it
 abbrev pub given_name : CsvDoc → Open

@@ -4,7 +4,7 @@ use Rattle.std.proofs.lemmas.List.{take_more}
 use Rattle.mix_words.specs.Lines.{lines_of}
 use Rattle.mix_catalog.specs.declared.source.SourceSpec.{SourceSpec}
 use Rattle.mix_catalog.specs.declared.fault.CatalogFault.{CatalogFault}
-use Rattle.mix_catalog.specs.declared.fault.CatalogFault.TheVariants.{Line, Chunk, NameTwice, TooMany, OutOfMemory}
+use Rattle.mix_catalog.specs.declared.fault.CatalogFault.TheVariants.{Line, Chunk, Columns, ColumnTwice, NameTwice, TooMany, OutOfMemory}
 use Rattle.mix_catalog.specs.Sources.{Adds, Accepts, IsFault, IsFirstFault, Refuses}
 
 -- one line more is accepted
@@ -30,6 +30,8 @@ pub fault_refuses : (text : List ℕ) (lines : List (List ℕ)) (i : ℕ) (line 
     → Accepts [] (take i lines) before → IsFault before line (i + 1) e → Refuses text e
 fault_refuses text lines i line before (Line n) cut inside same accepted fault = first_fault text lines i line before (Line n) cut inside same accepted fault
 fault_refuses text lines i line before (Chunk n) cut inside same accepted fault = first_fault text lines i line before (Chunk n) cut inside same accepted fault
+fault_refuses text lines i line before (Columns n) cut inside same accepted fault = first_fault text lines i line before (Columns n) cut inside same accepted fault
+fault_refuses text lines i line before (ColumnTwice n) cut inside same accepted fault = first_fault text lines i line before (ColumnTwice n) cut inside same accepted fault
 fault_refuses text lines i line before (NameTwice n) cut inside same accepted fault = first_fault text lines i line before (NameTwice n) cut inside same accepted fault
 fault_refuses text lines i line before (TooMany n) cut inside same accepted fault = first_fault text lines i line before (TooMany n) cut inside same accepted fault
 fault_refuses text lines i line before OutOfMemory cut inside same accepted fault = tt

@@ -1,4 +1,7 @@
 pub mod Accepted
+pub mod ColumnsSeen
+pub mod ColumnsSpelled
+pub mod Cuttings
 pub mod Digits
 pub mod Finds
 pub mod NameText

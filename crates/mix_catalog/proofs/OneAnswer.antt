@@ -1,13 +1,15 @@
 -- A text has one answer, but for want of memory.
-use Rattle.std.proofs.Common.{◌≡◌, ◌⊎◌, inl, inr, ◌<◌, ◌≤◌, ◌+◌, ◌∙◌, ℕ, zero, suc, true, false, List, [], ◌∷◌, ◌++◌, Option, None, IsSome, is_some, Result, Ok, Err, refl, sym, ap, subst, arith, length, take, get_or}
+use Rattle.std.proofs.Common.{◌≡◌, ◌⊎◌, inl, inr, ◌<◌, ◌≤◌, ◌+◌, ◌∙◌, ℕ, zero, suc, Bool, true, false, cond, ◌&&◌, nat_le, List, [], ◌∷◌, ◌++◌, Option, None, IsSome, is_some, Result, Ok, Err, refl, sym, ap, subst, arith, length, take, get_or}
 use Rattle.std.proofs.lemmas.Bool.{cases_order}
+use Rattle.std.proofs.lemmas.Bool.Decides.{nat_tests}
 use Rattle.std.proofs.lemmas.List.{get_or-take, length-take-le}
 use Rattle.mix_words.specs.Lines.{lines_of, is_passed}
 use Rattle.mix_catalog.specs.declared.source.SourceSpec.{SourceSpec}
 use Rattle.mix_catalog.specs.declared.fault.CatalogFault.{CatalogFault}
-use Rattle.mix_catalog.specs.declared.fault.CatalogFault.TheVariants.{Line, Chunk, NameTwice, TooMany, OutOfMemory}
-use Rattle.mix_catalog.specs.Grammar.{Spells}
-use Rattle.mix_catalog.specs.Sources.{source_named, IsTakenBy, Adds, Accepts, IsCatalog, RefusesSource, IsNotTaken, IsFault, IsFirstFault, Refuses, Answers, IsWantOfMemory, SameAnswer}
+use Rattle.mix_catalog.specs.declared.fault.CatalogFault.TheVariants.{Line, Chunk, Columns, ColumnTwice, NameTwice, TooMany, OutOfMemory}
+use Rattle.mix_catalog.specs.Columns.{are_apart}
+use Rattle.mix_catalog.specs.Grammar.{columns_of, Spells, SpellsNone}
+use Rattle.mix_catalog.specs.Sources.{source_named, IsChunk, IsTakenBy, Adds, Accepts, IsCatalog, RefusesSource, IsNotTaken, IsFault, IsFirstFault, Refuses, Answers, IsWantOfMemory, SameAnswer}
 use Rattle.mix_catalog.proofs.Spelled.{one_source}
 
 -- no line is passed over and not
@@ -49,8 +51,10 @@ Accepts-front (line ∷ lines) before sources (suc i) inside (next, adds, rest) 
 taken_or_refused : (before : List SourceSpec) (s : SourceSpec) (number : ℕ) (e : CatalogFault) → IsTakenBy before s → RefusesSource before s number e → IsWantOfMemory e
 taken_or_refused before s number (Line n) t r = r
 taken_or_refused before s number (Chunk n) t r = r.1 t.chunk
-taken_or_refused before s number (NameTwice n) t r = found_once (source_named before s.name) r.2 t.name
-taken_or_refused before s number (TooMany n) t r = let room : length before < 32 = t.room in let full : 32 ≤ length before = r.3 in absurd (omega arith)
+taken_or_refused before s number (Columns n) t r = let few : length (columns_of s.kind) ≤ 200 = t.columns.0 in let more : 200 < length (columns_of s.kind) = r.2 in absurd (omega arith)
+taken_or_refused before s number (ColumnTwice n) t r = let apart : are_apart (columns_of s.kind) ≡ true = t.columns.1 in let twice : are_apart (columns_of s.kind) ≡ false = r.3 in cc
+taken_or_refused before s number (NameTwice n) t r = found_once (source_named before s.name) r.3 t.name
+taken_or_refused before s number (TooMany n) t r = let room : length before < 32 = t.room in let full : 32 ≤ length before = r.4 in absurd (omega arith)
 taken_or_refused before s number OutOfMemory t r = tt
 
 -- a line that adds spells no source that is refused
@@ -68,6 +72,8 @@ adds_or_fits_none before line next (inr (p, s, h, taken, f)) q none = absurd (no
 adds_or_fault : (before : List SourceSpec) (line : List ℕ) (number : ℕ) (e : CatalogFault) (next : List SourceSpec) → Adds before line next → IsFault before line number e → IsWantOfMemory e
 adds_or_fault before line number (Line n) next h fault = adds_or_fits_none before line next h fault.1 fault.2
 adds_or_fault before line number (Chunk n) next h fault = adds_or_not_taken before line number (Chunk n) next h fault
+adds_or_fault before line number (Columns n) next h fault = adds_or_not_taken before line number (Columns n) next h fault
+adds_or_fault before line number (ColumnTwice n) next h fault = adds_or_not_taken before line number (ColumnTwice n) next h fault
 adds_or_fault before line number (NameTwice n) next h fault = adds_or_not_taken before line number (NameTwice n) next h fault
 adds_or_fault before line number (TooMany n) next h fault = adds_or_not_taken before line number (TooMany n) next h fault
 adds_or_fault before line number OutOfMemory next h fault = tt
@@ -83,57 +89,87 @@ accepted_or_fault lines sources e h f =
 abbrev SameFault : CatalogFault → CatalogFault → Type 0
 SameFault e f = (e ≡ f) ⊎ (IsWantOfMemory e ⊎ IsWantOfMemory f)
 
+-- whether a chunk lies in the range
+abbrev is_chunk : ℕ → Bool
+is_chunk n = nat_le 1 n && nat_le n 1000
+
+-- a chunk that does
+chunk_in : (n : ℕ) → IsChunk n → is_chunk n ≡ true
+chunk_in n (some, few) = grind (arith, nat_tests)
+
+-- and one that does not
+chunk_out : (n : ℕ) → (IsChunk n → ⊥) → is_chunk n ≡ false
+chunk_out n h = at (is_chunk n) refl
+  where
+    at : (t : Bool) → is_chunk n ≡ t → is_chunk n ≡ false
+    at false e = e
+    at true e = absurd (h (grind (arith, nat_tests), grind (arith, nat_tests)))
+
+-- the cause for which a source that is not taken is refused
+abbrev first_cause : List SourceSpec → SourceSpec → ℕ → CatalogFault
+first_cause before s number =
+    cond (is_chunk s.chunk)
+    (cond (nat_le (length (columns_of s.kind)) 200)
+    (cond (are_apart (columns_of s.kind)) (cond (is_some (source_named before s.name)) (NameTwice number) (TooMany number)) (ColumnTwice number)) (Columns number)) (Chunk number)
+
+-- a source is refused for that cause alone
+refused_for : (before : List SourceSpec) (s : SourceSpec) (number : ℕ) (e : CatalogFault) → RefusesSource before s number e → IsWantOfMemory e ⊎ (e ≡ first_cause before s number)
+refused_for before s number (Line n) h = absurd h
+refused_for before s number OutOfMemory h = inl tt
+refused_for before s number (Chunk n) h = inr (rw (chunk_out s.chunk h.1) (ap Chunk h.0))
+refused_for before s number (Columns n) h =
+    let many : nat_le (length (columns_of s.kind)) 200 ≡ false = (let k : 200 < length (columns_of s.kind) = h.2 in grind (arith, nat_tests)) in
+    inr (rw (chunk_in s.chunk h.1, many) (ap Columns h.0))
+refused_for before s number (ColumnTwice n) h =
+    let few : nat_le (length (columns_of s.kind)) 200 ≡ true = (let k : length (columns_of s.kind) ≤ 200 = h.2 in grind (arith, nat_tests)) in
+    inr (rw (chunk_in s.chunk h.1, few, h.3) (ap ColumnTwice h.0))
+refused_for before s number (NameTwice n) h =
+    let few : nat_le (length (columns_of s.kind)) 200 ≡ true = (let k : length (columns_of s.kind) ≤ 200 = h.2.0 in grind (arith, nat_tests)) in
+    let found : is_some (source_named before s.name) ≡ true = h.3 in
+    inr (rw (chunk_in s.chunk h.1, few, h.2.1, found) (ap NameTwice h.0))
+refused_for before s number (TooMany n) h =
+    let few : nat_le (length (columns_of s.kind)) 200 ≡ true = (let k : length (columns_of s.kind) ≤ 200 = h.2.0 in grind (arith, nat_tests)) in
+    inr (rw (chunk_in s.chunk h.1, few, h.2.1, h.3) (ap TooMany h.0))
+
+-- two faults that are one, unless memory ran out
+one_fault : (e f g : CatalogFault) → IsWantOfMemory e ⊎ (e ≡ g) → IsWantOfMemory f ⊎ (f ≡ g) → SameFault e f
+one_fault e f g (inl m) k = inr (inl m)
+one_fault e f g (inr h) (inl m) = inr (inr m)
+one_fault e f g (inr h) (inr k) = inl (h ∙ sym k)
+
 -- a source is refused for one cause
 refused_once : (before : List SourceSpec) (s : SourceSpec) (number : ℕ) (e f : CatalogFault) → RefusesSource before s number e → RefusesSource before s number f → SameFault e f
-refused_once before s number (Line n) f h k = absurd h
-refused_once before s number OutOfMemory f h k = inr (inl tt)
-refused_once before s number (Chunk n) (Line m) h k = absurd k
-refused_once before s number (Chunk n) OutOfMemory h k = inr (inr tt)
-refused_once before s number (Chunk n) (Chunk m) h k = inl (ap Chunk (h.0 ∙ sym k.0))
-refused_once before s number (Chunk n) (NameTwice m) h k = absurd (h.1 k.1)
-refused_once before s number (Chunk n) (TooMany m) h k = absurd (h.1 k.1)
-refused_once before s number (NameTwice n) (Line m) h k = absurd k
-refused_once before s number (NameTwice n) OutOfMemory h k = inr (inr tt)
-refused_once before s number (NameTwice n) (Chunk m) h k = absurd (k.1 h.1)
-refused_once before s number (NameTwice n) (NameTwice m) h k = inl (ap NameTwice (h.0 ∙ sym k.0))
-refused_once before s number (NameTwice n) (TooMany m) h k = found_once (source_named before s.name) h.2 k.2
-refused_once before s number (TooMany n) (Line m) h k = absurd k
-refused_once before s number (TooMany n) OutOfMemory h k = inr (inr tt)
-refused_once before s number (TooMany n) (Chunk m) h k = absurd (k.1 h.1)
-refused_once before s number (TooMany n) (NameTwice m) h k = found_once (source_named before s.name) k.2 h.2
-refused_once before s number (TooMany n) (TooMany m) h k = inl (ap TooMany (h.0 ∙ sym k.0))
+refused_once before s number e f h k = one_fault e f (first_cause before s number) (refused_for before s number e h) (refused_for before s number f k)
 
 -- a line's source is refused for one cause
 not_taken_once : (before : List SourceSpec) (line : List ℕ) (number : ℕ) (e f : CatalogFault) → IsNotTaken before line number e → IsNotTaken before line number f → SameFault e f
 not_taken_once before line number e f (p, s, h, r) (q, t, k, u) = refused_once before s number e f r (subst (λ x. RefusesSource before x number f) (one_source line t s k h) u)
 
--- a line that fits no form has no other fault
-fits_none_once : {P : Type 0} (before : List SourceSpec) (line : List ℕ) (number : ℕ) (f : CatalogFault) → ((s : SourceSpec) → Spells line s → ⊥) → IsNotTaken before line number f → P
-fits_none_once before line number f none (q, t, k, u) = absurd (none t k)
+-- a line fits no form, or its source is not taken, unless memory ran out
+abbrev Faults : List SourceSpec → List ℕ → ℕ → CatalogFault → Type 0
+Faults before line number e = IsWantOfMemory e ⊎ (((e ≡ Line number) × SpellsNone line) ⊎ IsNotTaken before line number e)
+
+-- what a line's fault says
+fault_says : (before : List SourceSpec) (line : List ℕ) (number : ℕ) (e : CatalogFault) → IsFault before line number e → Faults before line number e
+fault_says before line number (Line n) h = inr (inl (ap Line h.0, h.2))
+fault_says before line number (Chunk n) h = inr (inr h)
+fault_says before line number (Columns n) h = inr (inr h)
+fault_says before line number (ColumnTwice n) h = inr (inr h)
+fault_says before line number (NameTwice n) h = inr (inr h)
+fault_says before line number (TooMany n) h = inr (inr h)
+fault_says before line number OutOfMemory h = inl tt
 
 -- a line has one fault
 fault_once : (before : List SourceSpec) (line : List ℕ) (number : ℕ) (e f : CatalogFault) → IsFault before line number e → IsFault before line number f → SameFault e f
-fault_once before line number OutOfMemory f h k = inr (inl tt)
-fault_once before line number (Line n) (Line m) h k = inl (ap Line (h.0 ∙ sym k.0))
-fault_once before line number (Line n) (Chunk m) h k = fits_none_once before line number (Chunk m) h.2 k
-fault_once before line number (Line n) (NameTwice m) h k = fits_none_once before line number (NameTwice m) h.2 k
-fault_once before line number (Line n) (TooMany m) h k = fits_none_once before line number (TooMany m) h.2 k
-fault_once before line number (Line n) OutOfMemory h k = inr (inr tt)
-fault_once before line number (Chunk n) (Line m) h k = fits_none_once before line number (Chunk n) k.2 h
-fault_once before line number (Chunk n) (Chunk m) h k = not_taken_once before line number (Chunk n) (Chunk m) h k
-fault_once before line number (Chunk n) (NameTwice m) h k = not_taken_once before line number (Chunk n) (NameTwice m) h k
-fault_once before line number (Chunk n) (TooMany m) h k = not_taken_once before line number (Chunk n) (TooMany m) h k
-fault_once before line number (Chunk n) OutOfMemory h k = inr (inr tt)
-fault_once before line number (NameTwice n) (Line m) h k = fits_none_once before line number (NameTwice n) k.2 h
-fault_once before line number (NameTwice n) (Chunk m) h k = not_taken_once before line number (NameTwice n) (Chunk m) h k
-fault_once before line number (NameTwice n) (NameTwice m) h k = not_taken_once before line number (NameTwice n) (NameTwice m) h k
-fault_once before line number (NameTwice n) (TooMany m) h k = not_taken_once before line number (NameTwice n) (TooMany m) h k
-fault_once before line number (NameTwice n) OutOfMemory h k = inr (inr tt)
-fault_once before line number (TooMany n) (Line m) h k = fits_none_once before line number (TooMany n) k.2 h
-fault_once before line number (TooMany n) (Chunk m) h k = not_taken_once before line number (TooMany n) (Chunk m) h k
-fault_once before line number (TooMany n) (NameTwice m) h k = not_taken_once before line number (TooMany n) (NameTwice m) h k
-fault_once before line number (TooMany n) (TooMany m) h k = not_taken_once before line number (TooMany n) (TooMany m) h k
-fault_once before line number (TooMany n) OutOfMemory h k = inr (inr tt)
+fault_once before line number e f h k = by_cases (fault_says before line number e h) (fault_says before line number f k)
+  where
+    by_cases : Faults before line number e → Faults before line number f → SameFault e f
+    by_cases (inl m) j = inr (inl m)
+    by_cases (inr i) (inl m) = inr (inr m)
+    by_cases (inr (inl i)) (inr (inl j)) = inl (i.0 ∙ sym j.0)
+    by_cases (inr (inl i)) (inr (inr (q, t, k, u))) = absurd (i.1 t k)
+    by_cases (inr (inr (q, t, k, u))) (inr (inl j)) = absurd (j.1 t k)
+    by_cases (inr (inr i)) (inr (inr j)) = not_taken_once before line number e f i j
 
 -- a front of a front
 take_twice : {X : Type 0} (xs : List X) (i j : ℕ) → i ≤ j → take i (take j xs) ≡ take i xs
@@ -178,6 +214,8 @@ first_fault_once lines e f h k = by_order (cases_order h.place k.place)
 refused_fault : (text : List ℕ) (e : CatalogFault) → Refuses text e → IsFirstFault (lines_of text) e ⊎ IsWantOfMemory e
 refused_fault text (Line n) h = inl h
 refused_fault text (Chunk n) h = inl h
+refused_fault text (Columns n) h = inl h
+refused_fault text (ColumnTwice n) h = inl h
 refused_fault text (NameTwice n) h = inl h
 refused_fault text (TooMany n) h = inl h
 refused_fault text OutOfMemory h = inr tt

@@ -1,5 +1,5 @@
--- What is seen of a spelling that blanks or the end follow.
-use Rattle.std.proofs.Common.{◌≡◌, ◌+◌, ◌∙◌, ℕ, true, false, IsTrue, List, [], ◌∷◌, ◌++◌, Option, Some, None, refl, ap, arith, length, option_and_then, inl, inr}
+-- What is seen of a spelling behind which no spelling goes on.
+use Rattle.std.proofs.Common.{◌≡◌, ◌+◌, ◌∙◌, ℕ, Bool, true, false, not, IsTrue, List, [], ◌∷◌, ◌++◌, Option, Some, None, refl, ap, arith, length, option_and_then, inl, inr}
 use Rattle.std.proofs.lemmas.Bool.Decides.{nat_tests}
 use Rattle.mix_base.proofs.Choices.{and_parts, some_is, none_some}
 use Rattle.std.specs.List.{list_all}
@@ -45,21 +45,36 @@ seen_run (b ∷ x) y s t i e = behind (step s b) refl e (λ u h. seen_run x y u 
     behind None f h more = none_some t h
     behind (Some u) f h more = let here : i + 1 + length x ≡ i + length (b ∷ x) = omega arith in seen_byte s u i b (x ++ y) f ∙ more u h ∙ ap (λ j. seen_from t j y) here
 
--- no spelling goes on with a blank where it may end
-blank_stops : (t : Spot) (b : ℕ) (l : List ℕ) → label_in t ≡ Some l → is_blank b ≡ true → step t b ≡ None
-blank_stops start b l e h = none_some l e
-blank_stops (in_bare k) b l e h = rw (blank_no_bare b h) refl
-blank_stops (in_quotes k) b l e h = none_some l e
-blank_stops (in_escape k) b l e h = none_some l e
-blank_stops (behind_quote k) b l e h = refl
+-- no spelling goes on with these bytes where it may end
+abbrev pub stops : List ℕ → Bool
+stops [] = true
+stops (b ∷ y) = not (is_bare b)
 
--- a label ends before a blank or the end
-label_ends : (t : Spot) (i : ℕ) (y l : List ℕ) → label_in t ≡ Some l → IsTrue (ends_word y) → seen_from t i y ≡ got l i y
+-- not with a blank or the end
+pub word_end_stops : (y : List ℕ) → IsTrue (ends_word y) → IsTrue (stops y)
+word_end_stops [] h = refl
+word_end_stops (b ∷ y) h = rw (blank_no_bare b h) refl
+
+-- where a spelling may end, it does not go on with a byte that is no bare character
+byte_stops : (t : Spot) (b : ℕ) (l : List ℕ) → label_in t ≡ Some l → is_bare b ≡ false → step t b ≡ None
+byte_stops start b l e h = none_some l e
+byte_stops (in_bare k) b l e h = rw h refl
+byte_stops (in_quotes k) b l e h = none_some l e
+byte_stops (in_escape k) b l e h = none_some l e
+byte_stops (behind_quote k) b l e h = refl
+
+-- a test that fails
+test_fails : (b : Bool) → IsTrue (not b) → b ≡ false
+test_fails true h = cc h
+test_fails false h = refl
+
+-- a label ends where its spelling may end and does not go on
+label_ends : (t : Spot) (i : ℕ) (y l : List ℕ) → label_in t ≡ Some l → IsTrue (stops y) → seen_from t i y ≡ got l i y
 label_ends t i [] l e h = ap (seen_at_end i) e
-label_ends t i (b ∷ y) l e h = ap (or_stop (λ u. seen_from u (i + 1) y) (seen_at i (b ∷ y) (label_in t))) (blank_stops t b l e h) ∙ ap (seen_at i (b ∷ y)) e
+label_ends t i (b ∷ y) l e h = ap (or_stop (λ u. seen_from u (i + 1) y) (seen_at i (b ∷ y) (label_in t))) (byte_stops t b l e (test_fails (is_bare b) h)) ∙ ap (seen_at i (b ∷ y)) e
 
--- a spelling is seen whole where a blank or the end follows
-pub spelling_seen : (x y l : List ℕ) (i : ℕ) → SpellsLabel x l → IsTrue (ends_word y) → seen_from start i (x ++ y) ≡ got l (i + length x) y
+-- a spelling is seen whole where it does not go on
+pub spelling_seen : (x y l : List ℕ) (i : ℕ) → SpellsLabel x l → IsTrue (stops y) → seen_from start i (x ++ y) ≡ got l (i + length x) y
 spelling_seen x y l i spelled ends =
     let read = spelled_reads x l spelled in
     seen_run x y start read.0 i read.1 ∙ label_ends read.0 (i + length x) y l read.2 ends

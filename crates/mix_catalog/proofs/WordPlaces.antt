@@ -1,9 +1,10 @@
 -- Where words begin, and how many there are before a place.
-use Rattle.std.proofs.Common.{◌≡◌, ◌<◌, ◌≤◌, ◌+◌, ◌-◌, ◌∙◌, ℕ, zero, suc, Bool, true, false, cond, ◌&&◌, not, List, [], ◌∷◌, ◌++◌, Option, Some, refl, ap, sym, subst, arith, length, drop, take, get_or}
+use Rattle.std.proofs.Common.{◌≡◌, ◌<◌, ◌≤◌, ◌+◌, ◌-◌, ◌∙◌, ℕ, zero, suc, Bool, true, false, cond, ◌&&◌, not, IsTrue, List, [], ◌∷◌, ◌++◌, Option, Some, refl, ap, sym, subst, arith, length, drop, take, get_or}
 use Rattle.std.proofs.lemmas.List.{take_more, drop_more}
 use Rattle.std.proofs.lemmas.Bool.Decides.{nat_tests}
 use Rattle.std.proofs.lemmas.Str.{IsCharBoundary-start, IsCharBoundary-after_ascii}
 use Rattle.std.specs.Str.{IsUtf8, IsCharBoundary}
+use Rattle.mix_base.proofs.Choices.{and_parts, some_is, none_some}
 use Rattle.mix_words.specs.Words.{is_blank, words_of, with_first, ends_word}
 use Rattle.mix_catalog.specs.Places.{blank_behind, word_from, place_of_word}
 
@@ -114,3 +115,29 @@ looked_other line at left p t whole inside blank begins h =
     ap (λ u. word_from u left (at + 1) (drop (at + 1) line)) blank
     ∙ sym (word_from-other p left at (get_or line at 0) (drop (at + 1) line) (ap (λ u. p && not u) (sym blank) ∙ begins))
     ∙ sym (ap (word_from p left at) (drop_more line at 0 inside)) ∙ h
+
+-- a blank stands right in front of a word, or nothing does
+apart_from : (line : List ℕ) (p : Bool) (n at place : ℕ) → word_from p n at line ≡ Some place → (k : ℕ) × (place ≡ at + k) × IsTrue (blank_behind p (take k line))
+apart_from [] p n at place h = none_some place h
+apart_from (b ∷ bs) p zero at place h = by_case (p && not (is_blank b)) refl h (λ e. apart_from bs (is_blank b) zero (at + 1) place e)
+  where
+    by_case : (t : Bool) → (p && not (is_blank b)) ≡ t → cond t (Some at) (word_from (is_blank b) zero (at + 1) bs) ≡ Some place
+        → (word_from (is_blank b) zero (at + 1) bs ≡ Some place → (k : ℕ) × (place ≡ at + 1 + k) × IsTrue (blank_behind (is_blank b) (take k bs)))
+        → (k : ℕ) × (place ≡ at + k) × IsTrue (blank_behind p (take k (b ∷ bs)))
+    by_case true t e more = (zero, (let here = some_is at place e in omega arith), (and_parts p (not (is_blank b)) t).0)
+    by_case false t e more = let next = more e in (suc next.0, (let there = next.1 in omega arith), next.2)
+apart_from (b ∷ bs) p (suc n) at place h = by_case (p && not (is_blank b)) h (λ e. apart_from bs (is_blank b) n (at + 1) place e) (λ e. apart_from bs (is_blank b) (suc n) (at + 1) place e)
+  where
+    by_case : (t : Bool) → cond t (word_from (is_blank b) n (at + 1) bs) (word_from (is_blank b) (suc n) (at + 1) bs) ≡ Some place
+        → (word_from (is_blank b) n (at + 1) bs ≡ Some place → (k : ℕ) × (place ≡ at + 1 + k) × IsTrue (blank_behind (is_blank b) (take k bs)))
+        → (word_from (is_blank b) (suc n) (at + 1) bs ≡ Some place → (k : ℕ) × (place ≡ at + 1 + k) × IsTrue (blank_behind (is_blank b) (take k bs)))
+        → (k : ℕ) × (place ≡ at + k) × IsTrue (blank_behind p (take k (b ∷ bs)))
+    by_case true e more other = let next = more e in (suc next.0, (let there = next.1 in omega arith), next.2)
+    by_case false e more other = let next = other e in (suc next.0, (let there = next.1 in omega arith), next.2)
+
+-- so it is in front of the word that is looked for
+pub place_apart : (line : List ℕ) (n at : ℕ) → place_of_word n line ≡ Some at → IsTrue (blank_behind true (take at line))
+place_apart line n at h =
+    let found = apart_from line true n 0 at h in
+    let same : found.0 ≡ at = (let e = found.1 in omega arith) in
+    subst (λ k. IsTrue (blank_behind true (take k line))) same found.2

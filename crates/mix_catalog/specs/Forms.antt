@@ -6,22 +6,33 @@ use Rattle.mix_tree.specs.LabelOrder.{is_digit}
 use Rattle.mix_tree.specs.Names.{is_name_byte}
 use Rattle.mix_words.specs.Words.{words_of, ends_word}
 use Rattle.mix_catalog.specs.declared.form.Cutting.{Cutting}
+use Rattle.mix_catalog.specs.declared.form.Form.{Form}
+use Rattle.mix_catalog.specs.declared.form.Form.TheVariants.{Bracket, Csv}
+use Rattle.mix_catalog.specs.declared.form.Front.{Front}
 
 -- whether a word may name a source: one or more ASCII letters, digits, _ and -
 abbrev pub is_source_name : List ℕ → Bool
 is_source_name word = nat_le 1 (length word) && list_all is_name_byte word
 
--- the name between the words source and bracket
-abbrev pub name_form : List ℕ → List ℕ → List ℕ → Option (List ℕ)
-name_form source name kind = cond (bytes_eq source (codes "source") && is_source_name name && bytes_eq kind (codes "bracket")) (Some name) None
+-- the form that a word names
+abbrev pub form_of : List ℕ → Option Form
+form_of word = cond (bytes_eq word (codes "bracket")) (Some Bracket) (cond (bytes_eq word (codes "csv")) (Some Csv) None)
 
--- the name of the words in front of FILE
-abbrev pub name_of : List (List ℕ) → Option (List ℕ)
-name_of [] = None
-name_of (a ∷ []) = None
-name_of (a ∷ b ∷ []) = None
-name_of (source ∷ name ∷ kind ∷ []) = name_form source name kind
-name_of (a ∷ b ∷ c ∷ d ∷ words) = None
+-- a name and a form
+abbrev pub front_with : List ℕ → Form → Front
+front_with name form = record { name = name; form = form }
+
+-- what source, a name and the word of a form say
+abbrev pub front_form : List ℕ → List ℕ → List ℕ → Option Front
+front_form source name form = cond (bytes_eq source (codes "source") && is_source_name name) (option_map (front_with name) (form_of form)) None
+
+-- what the words in front of FILE say
+abbrev pub front_of : List (List ℕ) → Option Front
+front_of [] = None
+front_of (a ∷ []) = None
+front_of (a ∷ b ∷ []) = None
+front_of (source ∷ name ∷ form ∷ []) = front_form source name form
+front_of (a ∷ b ∷ c ∷ d ∷ words) = None
 
 -- the number that a digit means
 abbrev pub digit_of : ℕ → Option ℕ
@@ -36,18 +47,39 @@ number_behind n (b ∷ bs) = option_and_then (λ d. number_behind (10 * n + d) b
 abbrev pub number_of : List ℕ → Option ℕ
 number_of word = cond (nat_le 1 (length word) && nat_le (length word) 9) (number_behind 0 word) None
 
--- the cutting that is written as chunk and a number
-abbrev pub chunk_form : List ℕ → List ℕ → Bool → Option Cutting
-chunk_form chunk number deep = cond (bytes_eq chunk (codes "chunk")) (option_map (λ n. record { chunk = n; deep = deep }) (number_of number)) None
+-- the number that is written as chunk and digits
+abbrev pub chunk_form : List ℕ → List ℕ → Option ℕ
+chunk_form chunk digits = cond (bytes_eq chunk (codes "chunk")) (number_of digits) None
 
--- the cutting of the words behind FILE
+-- the chunk of the words chunk and a number
+abbrev pub chunk_of : List (List ℕ) → Option ℕ
+chunk_of [] = None
+chunk_of (a ∷ []) = None
+chunk_of (chunk ∷ digits ∷ []) = chunk_form chunk digits
+chunk_of (a ∷ b ∷ c ∷ words) = None
+
+-- the chunk that is written behind the columns
+abbrev pub chunk_behind : List ℕ → Option ℕ
+chunk_behind behind = cond (ends_word behind) (chunk_of (words_of behind)) None
+
+-- a chunk, which is deep or not
+abbrev pub cutting_with : Bool → ℕ → Cutting
+cutting_with deep chunk = record { chunk = chunk; deep = deep }
+
+-- the cutting that is written as chunk and digits, deep or not
+abbrev pub cutting_form : List ℕ → List ℕ → Bool → Option Cutting
+cutting_form chunk digits deep = option_map (cutting_with deep) (chunk_form chunk digits)
+
+-- the cutting of the words chunk, a number, and deep or nothing
 abbrev pub cutting_of : List (List ℕ) → Option Cutting
 cutting_of [] = None
 cutting_of (a ∷ []) = None
-cutting_of (chunk ∷ number ∷ []) = chunk_form chunk number false
-cutting_of (chunk ∷ number ∷ deep ∷ []) = cond (bytes_eq deep (codes "deep")) (chunk_form chunk number true) None
+cutting_of (chunk ∷ digits ∷ []) = cutting_form chunk digits false
+cutting_of (chunk ∷ digits ∷ deep ∷ []) = cond (bytes_eq deep (codes "deep")) (cutting_form chunk digits true) None
 cutting_of (a ∷ b ∷ c ∷ d ∷ words) = None
 
--- the cutting that is written behind FILE
-abbrev pub cutting_behind : List ℕ → Option Cutting
-cutting_behind behind = cond (ends_word behind) (cutting_of (words_of behind)) None
+-- whether the only word is columns
+abbrev pub is_columns_word : List (List ℕ) → Bool
+is_columns_word [] = false
+is_columns_word (word ∷ []) = bytes_eq word (codes "columns")
+is_columns_word (a ∷ b ∷ words) = false

@@ -1,5 +1,5 @@
 -- Which line spells which source.
-use Rattle.std.specs.Prelude.{◌≡◌, ◌≤◌, ℕ, Bool, true, cond, IsTrue, List, [], ◌∷◌, ◌++◌, length, codes, IsUtf8}
+use Rattle.std.specs.Prelude.{◌≡◌, ◌≤◌, ℕ, Bool, true, false, cond, IsTrue, List, [], ◌∷◌, ◌++◌, length, codes, IsUtf8}
 use Rattle.std.specs.List.{list_all}
 use Rattle.std.specs.Str.Parse.{digits_value}
 use Rattle.mix_tree.specs.Names.{IsName}
@@ -8,7 +8,10 @@ use Rattle.mix_tree.specs.LabelGrammar.{SpellsLabel}
 use Rattle.mix_words.specs.Words.{words_of, ends_word}
 use Rattle.mix_catalog.specs.declared.source.SourceSpec.{SourceSpec}
 use Rattle.mix_catalog.specs.declared.source.SourceKind.{SourceKind}
-use Rattle.mix_catalog.specs.declared.source.SourceKind.TheVariants.{Bracket}
+use Rattle.mix_catalog.specs.declared.source.SourceKind.TheVariants.{Bracket, Csv}
+use Rattle.mix_catalog.specs.declared.form.Form.{Form}
+use Rattle.mix_catalog.specs.declared.form.Form.TheVariants as form
+use Rattle.mix_catalog.specs.Columns.{SpellsColumns}
 use Rattle.mix_catalog.specs.Places.{blank_behind}
 
 -- 1 to 9 digits write the number; they may begin with zeros
@@ -18,32 +21,64 @@ pub record IsNumber (word : List ℕ) (n : ℕ) : Type 0 where
   pub short : length word ≤ 9
   pub means : digits_value 10 word ≡ n
 
--- the words behind FILE
-abbrev pub words_behind : List ℕ → Bool → List (List ℕ)
-words_behind digits deep = codes "chunk" ∷ digits ∷ cond deep (codes "deep" ∷ []) []
+-- the words of a chunk, which is deep or not
+abbrev pub cutting_words : List ℕ → Bool → List (List ℕ)
+cutting_words digits deep = codes "chunk" ∷ digits ∷ cond deep (codes "deep" ∷ []) []
 
--- source, the name, bracket, a spelling of the file with blanks on both sides, chunk, a number, and deep or not
-pub record SpellsBracket (line name : List ℕ) (chunk : ℕ) (file : List ℕ) (deep : Bool) : Type 0 where
+-- chunk, a number, and deep or not
+pub record SpellsCutting (chunk : ℕ) (deep : Bool) (text : List ℕ) : Type 0 where
+  pub digits : List ℕ
+  pub words : words_of text ≡ cutting_words digits deep
+  pub numbered : IsNumber digits chunk
+
+-- words, a spelling with blanks on both sides, and what stands behind it
+pub record SpellsBetween (words : List (List ℕ)) (Spelled Behind : List ℕ → Type 0) (text : List ℕ) : Type 0 where
   pub front : List ℕ
   pub spelling : List ℕ
   pub behind : List ℕ
-  pub digits : List ℕ
-  pub parts : line ≡ front ++ (spelling ++ behind)
-  pub words : words_of front ≡ codes "source" ∷ name ∷ codes "bracket" ∷ []
+  pub parts : text ≡ front ++ (spelling ++ behind)
+  pub words_are : words_of front ≡ words
   pub blank_before : IsTrue (blank_behind true front)
-  pub named : IsName name
-  pub spelled : SpellsLabel spelling file
+  pub spelled : Spelled spelling
   pub blank_after : IsTrue (ends_word behind)
-  pub cutting : words_of behind ≡ words_behind digits deep
-  pub numbered : IsNumber digits chunk
+  pub rest : Behind behind
 
--- the form of each kind of source
-abbrev pub SpellsKind : List ℕ → List ℕ → ℕ → SourceKind → Type 0
-SpellsKind line name chunk (Bracket file deep) = SpellsBracket line name chunk file deep
+-- the form of a source
+abbrev pub form_in : SourceKind → Form
+form_in (Bracket file deep) = form.Bracket
+form_in (Csv file columns) = form.Csv
+
+-- the word of a form
+abbrev pub form_word : Form → List ℕ
+form_word form.Bracket = codes "bracket"
+form_word form.Csv = codes "csv"
+
+-- the file of a source
+abbrev pub file_of : SourceKind → List ℕ
+file_of (Bracket file deep) = file
+file_of (Csv file columns) = file
+
+-- the columns of a source
+abbrev pub columns_of : SourceKind → List (List ℕ)
+columns_of (Bracket file deep) = []
+columns_of (Csv file columns) = columns
+
+-- what stands behind the file: how a bracket source is cut; the columns of a CSV source, and its chunk
+abbrev pub SpellsBehind : ℕ → SourceKind → List ℕ → Type 0
+SpellsBehind chunk (Bracket file deep) text = SpellsCutting chunk deep text
+SpellsBehind chunk (Csv file columns) text = SpellsBetween (codes "columns" ∷ []) (SpellsColumns columns) (SpellsCutting chunk false) text
+
+-- the words in front of the file
+abbrev pub front_words : List ℕ → Form → List (List ℕ)
+front_words name form = codes "source" ∷ name ∷ form_word form ∷ []
+
+-- source, the name, the word of a form, the file, and what the form has behind it
+abbrev pub SpellsKind : List ℕ → ℕ → SourceKind → List ℕ → Type 0
+SpellsKind name chunk kind line = IsName name × SpellsBetween (front_words name (form_in kind)) (λ x. SpellsLabel x (file_of kind)) (SpellsBehind chunk kind) line
 
 -- the line spells the source
 abbrev pub Spells : List ℕ → SourceSpec → Type 0
-Spells line s = IsUtf8 line × SpellsKind line s.name s.chunk s.kind
+Spells line s = IsUtf8 line × SpellsKind s.name s.chunk s.kind line
 
 -- the line fits no form
 abbrev pub SpellsNone : List ℕ → Type 0

@@ -1,3 +1,4 @@
+pub mod Columns
 pub mod Forms
 pub mod Grammar
 pub mod Kept

@@ -1,12 +1,13 @@
 -- The sources of a catalog, line by line.
-use Rattle.std.specs.Prelude.{◌≡◌, ◌⊎◌, ◌<◌, ◌≤◌, ◌+◌, ℕ, false, IsTrue, IsSome, List, [], ◌∷◌, ◌++◌, length, take, get_or, position, slice_get, Option, Some, None, Result, Ok, Err}
+use Rattle.std.specs.Prelude.{◌≡◌, ◌⊎◌, ◌<◌, ◌≤◌, ◌+◌, ℕ, true, false, IsTrue, IsSome, List, [], ◌∷◌, ◌++◌, length, take, get_or, position, slice_get, Option, Some, None, Result, Ok, Err}
 use Rattle.std.specs.Str.{bytes_eq}
 use Rattle.mix_tree.specs.Names.{IsName}
 use Rattle.mix_words.specs.Lines.{lines_of, is_passed}
 use Rattle.mix_catalog.specs.declared.source.SourceSpec.{SourceSpec}
 use Rattle.mix_catalog.specs.declared.fault.CatalogFault.{CatalogFault}
-use Rattle.mix_catalog.specs.declared.fault.CatalogFault.TheVariants.{Line, Chunk, NameTwice, TooMany, OutOfMemory}
-use Rattle.mix_catalog.specs.Grammar.{Spells, SpellsNone}
+use Rattle.mix_catalog.specs.declared.fault.CatalogFault.TheVariants.{Line, Chunk, Columns, ColumnTwice, NameTwice, TooMany, OutOfMemory}
+use Rattle.mix_catalog.specs.Columns.{are_apart}
+use Rattle.mix_catalog.specs.Grammar.{columns_of, Spells, SpellsNone}
 
 -- the number of the source of a name: its place in the list, from 0
 abbrev pub source_named : List SourceSpec → List ℕ → Option ℕ
@@ -20,9 +21,15 @@ AreNumbered sources = (i : ℕ) (s : SourceSpec) → slice_get sources i ≡ Som
 abbrev pub IsChunk : ℕ → Type 0
 IsChunk n = (1 ≤ n) × (n ≤ 1000)
 
--- a source that may stand behind these: its chunk lies in the range, its name is new, and there are fewer than 32
+-- at most 200 columns, none of them twice
+abbrev pub AreColumns : List (List ℕ) → Type 0
+AreColumns columns = (length columns ≤ 200) × (are_apart columns ≡ true)
+
+-- a source that may stand behind these: its chunk lies in the range, it has at most 200 columns, none twice, its name is new, and
+-- there are fewer than 32
 pub record IsTakenBy (before : List SourceSpec) (s : SourceSpec) : Type 0 where
   pub chunk : IsChunk s.chunk
+  pub columns : AreColumns (columns_of s.kind)
   pub name : source_named before s.name ≡ None
   pub room : length before < 32
 
@@ -44,8 +51,10 @@ IsCatalog text sources = Accepts [] (lines_of text) sources
 abbrev pub RefusesSource : List SourceSpec → SourceSpec → ℕ → CatalogFault → Type 0
 RefusesSource before s number (Line n) = ⊥
 RefusesSource before s number (Chunk n) = (n ≡ number) × (IsChunk s.chunk → ⊥)
-RefusesSource before s number (NameTwice n) = (n ≡ number) × IsChunk s.chunk × IsSome (source_named before s.name)
-RefusesSource before s number (TooMany n) = (n ≡ number) × IsChunk s.chunk × (source_named before s.name ≡ None) × (32 ≤ length before)
+RefusesSource before s number (Columns n) = (n ≡ number) × IsChunk s.chunk × (200 < length (columns_of s.kind))
+RefusesSource before s number (ColumnTwice n) = (n ≡ number) × IsChunk s.chunk × (length (columns_of s.kind) ≤ 200) × (are_apart (columns_of s.kind) ≡ false)
+RefusesSource before s number (NameTwice n) = (n ≡ number) × IsChunk s.chunk × AreColumns (columns_of s.kind) × IsSome (source_named before s.name)
+RefusesSource before s number (TooMany n) = (n ≡ number) × IsChunk s.chunk × AreColumns (columns_of s.kind) × (source_named before s.name ≡ None) × (32 ≤ length before)
 RefusesSource before s number OutOfMemory = Unit {0}
 
 -- the line of this number, which isn't passed over, spells a source that isn't taken
@@ -56,6 +65,8 @@ IsNotTaken before line number e = (is_passed line ≡ false) × (s : SourceSpec)
 abbrev pub IsFault : List SourceSpec → List ℕ → ℕ → CatalogFault → Type 0
 IsFault before line number (Line n) = (n ≡ number) × (is_passed line ≡ false) × SpellsNone line
 IsFault before line number (Chunk n) = IsNotTaken before line number (Chunk n)
+IsFault before line number (Columns n) = IsNotTaken before line number (Columns n)
+IsFault before line number (ColumnTwice n) = IsNotTaken before line number (ColumnTwice n)
 IsFault before line number (NameTwice n) = IsNotTaken before line number (NameTwice n)
 IsFault before line number (TooMany n) = IsNotTaken before line number (TooMany n)
 IsFault before line number OutOfMemory = Unit {0}
@@ -72,6 +83,8 @@ pub record IsFirstFault (lines : List (List ℕ)) (e : CatalogFault) : Type 0 wh
 abbrev pub Refuses : List ℕ → CatalogFault → Type 0
 Refuses text (Line n) = IsFirstFault (lines_of text) (Line n)
 Refuses text (Chunk n) = IsFirstFault (lines_of text) (Chunk n)
+Refuses text (Columns n) = IsFirstFault (lines_of text) (Columns n)
+Refuses text (ColumnTwice n) = IsFirstFault (lines_of text) (ColumnTwice n)
 Refuses text (NameTwice n) = IsFirstFault (lines_of text) (NameTwice n)
 Refuses text (TooMany n) = IsFirstFault (lines_of text) (TooMany n)
 Refuses text OutOfMemory = Unit {0}
@@ -85,6 +98,8 @@ Answers text (Err e) = Refuses text e
 abbrev pub IsWantOfMemory : CatalogFault → Type 0
 IsWantOfMemory (Line n) = ⊥
 IsWantOfMemory (Chunk n) = ⊥
+IsWantOfMemory (Columns n) = ⊥
+IsWantOfMemory (ColumnTwice n) = ⊥
 IsWantOfMemory (NameTwice n) = ⊥
 IsWantOfMemory (TooMany n) = ⊥
 IsWantOfMemory OutOfMemory = Unit {0}

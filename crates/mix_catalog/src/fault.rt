@@ -14,6 +14,12 @@ pub enum CatalogFault {
     /// The line's chunk is not from 1 to 1,000.
     #[error("the chunk in line {0} is not from 1 to 1000")]
     Chunk(usize),
+    /// The line has more than 200 columns.
+    #[error("line {0} has more than 200 columns")]
+    Columns(usize),
+    /// A column stands twice in the line.
+    #[error("a column stands twice in line {0}")]
+    ColumnTwice(usize),
     /// A source before the line has its name.
     #[error("a source before line {0} has its name")]
     NameTwice(usize),

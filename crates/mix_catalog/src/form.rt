@@ -2,10 +2,24 @@
 ghost use Rattle.std.specs.Prelude.{◌≡◌, IfOk, IsTrue, map};
 ghost use Rattle.std.specs.List.{list_all};
 ghost use Rattle.mix_tree.specs.Names.{is_name_byte};
-ghost use Rattle.mix_catalog.specs.Forms.{is_source_name, name_of, name_form, digit_of, number_of, chunk_form, cutting_of};
+ghost use Rattle.mix_catalog.specs.Forms.{is_source_name, form_of, front_form, front_of, digit_of, number_of, chunk_form, chunk_of, cutting_form, cutting_of, is_columns_word};
 
 use mix_tree::Label;
 use std::alloc::{AllocError, Global};
+
+/// The forms of a line.
+#[derive(Clone, Copy)]
+pub enum Form {
+    Bracket,
+    Csv,
+}
+
+/// What stands in front of the file of a line.
+#[derive(Drop)]
+pub struct Front {
+    pub name: Label,
+    pub form: Form,
+}
 
 /// How a document is cut: the most children that a fill gives, and whether each comes whole.
 #[derive(Clone, Copy)]
@@ -33,27 +47,44 @@ fn may_be_name(word: &[u8]) -> bool
     !word.is_empty() && are_in_name(word)
 }
 
-// The name between the words `source` and `bracket`.
-fn read_name_between(
+// The form that a word names.
+fn read_form(word: &[u8]) -> Option<Form>
+    ensures { result ≡ form_of word.now }
+{
+    if word == b"bracket".as_slice() {
+        Some(Form::Bracket)
+    } else if word == b"csv".as_slice() {
+        Some(Form::Csv)
+    } else {
+        None
+    }
+}
+
+// What `source`, a name and the word of a form say.
+fn read_front_of(
     alloc: Global,
     source: &[u8],
     name: &[u8],
-    kind: &[u8],
-) -> Result<Option<Label>, AllocError>
-    ensures { IfOk result (λ found. found ≡ name_form source.now name.now kind.now) }
+    form: &[u8],
+) -> Result<Option<Front>, AllocError>
+    ensures { IfOk result (λ front. front ≡ front_form source.now name.now form.now) }
 {
-    if source == b"source".as_slice() && may_be_name(name) && kind == b"bracket".as_slice() {
-        return Ok(Some(Label::of_text(alloc, name)?));
+    if source != b"source".as_slice() || !may_be_name(name) {
+        return Ok(None);
     }
-    Ok(None)
+    let Some(form) = read_form(form) else {
+        return Ok(None);
+    };
+    let name = Label::of_text(alloc, name)?;
+    Ok(Some(Front { name, form }))
 }
 
-/// The name of the words in front of the file: `source`, the name, `bracket`. `None` where they are others.
-pub fn read_name(alloc: Global, words: &[&[u8]]) -> Result<Option<Label>, AllocError>
-    ensures { IfOk result (λ found. found ≡ name_of (map (λ word. word.now) words.now)) }
+/// What the words in front of the file say: `source`, the name, the word of a form. `None` where they are others.
+pub fn read_front(alloc: Global, words: &[&[u8]]) -> Result<Option<Front>, AllocError>
+    ensures { IfOk result (λ front. front ≡ front_of (map (λ word. word.now) words.now)) }
 {
     match words {
-        [source, name, kind] => read_name_between(alloc, source, name, kind),
+        [source, name, form] => read_front_of(alloc, source, name, form),
         _ => Ok(None),
     }
 }
@@ -83,24 +114,52 @@ fn read_number(word: &[u8]) -> Option<u32>
     Some(number)
 }
 
-// The cutting that is written as `chunk` and a number.
-fn read_chunk(chunk: &[u8], number: &[u8], deep: bool) -> Option<Cutting>
-    ensures { result ≡ chunk_form chunk.now number.now deep }
+// The number that is written as `chunk` and digits.
+fn read_chunk_of(chunk: &[u8], digits: &[u8]) -> Option<u32>
+    ensures { result ≡ chunk_form chunk.now digits.now }
 {
-    if chunk != b"chunk".as_slice() {
-        return None;
+    if chunk == b"chunk".as_slice() {
+        read_number(digits)
+    } else {
+        None
     }
-    let chunk = read_number(number)?;
+}
+
+/// The chunk of the words `chunk` and a number. `None` where they are others.
+pub fn read_chunk(words: &[&[u8]]) -> Option<u32>
+    ensures { result ≡ chunk_of (map (λ word. word.now) words.now) }
+{
+    match words {
+        [chunk, digits] => read_chunk_of(chunk, digits),
+        _ => None,
+    }
+}
+
+// The cutting that is written as `chunk` and digits, deep or not.
+fn read_cut(chunk: &[u8], digits: &[u8], deep: bool) -> Option<Cutting>
+    ensures { result ≡ cutting_form chunk.now digits.now deep }
+{
+    let chunk = read_chunk_of(chunk, digits)?;
     Some(Cutting { chunk, deep })
 }
 
-/// The cutting of the words behind the file: `chunk`, a number, and `deep` or nothing. `None` where they are others.
+/// The cutting of the words `chunk`, a number, and `deep` or nothing. `None` where they are others.
 pub fn read_cutting(words: &[&[u8]]) -> Option<Cutting>
     ensures { result ≡ cutting_of (map (λ word. word.now) words.now) }
 {
     match words {
-        [chunk, number] => read_chunk(chunk, number, false),
-        [chunk, number, deep] if *deep == b"deep".as_slice() => read_chunk(chunk, number, true),
+        [chunk, digits] => read_cut(chunk, digits, false),
+        [chunk, digits, deep] if *deep == b"deep".as_slice() => read_cut(chunk, digits, true),
         _ => None,
+    }
+}
+
+/// Whether the only word is `columns`.
+pub fn is_columns_word(words: &[&[u8]]) -> bool
+    ensures { result ≡ is_columns_word (map (λ word. word.now) words.now) }
+{
+    match words {
+        [word] => *word == b"columns".as_slice(),
+        _ => false,
     }
 }

@@ -1,7 +1,9 @@
 //! Catalogs: which sources there are, by the lines of a text.
 #![tactic(auto)]
 
+mod behind;
 mod catalog;
+mod columns;
 mod fault;
 mod form;
 mod line;
@@ -12,4 +14,4 @@ mod source;
 pub use catalog::Catalog;
 pub use fault::CatalogFault;
 pub use reading::read_catalog;
-pub use source::{SourceKind, SourceSpec};
+pub use source::{ColumnNames, SourceKind, SourceSpec};

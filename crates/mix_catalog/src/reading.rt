@@ -5,6 +5,7 @@ ghost use Rattle.mix_catalog.specs.declared.fault.CatalogFault.{CatalogFault};
 ghost use Rattle.mix_tree.specs.Names.{IsName};
 ghost use Rattle.mix_catalog.specs.Sources.{IsTakenBy, RefusesSource, Adds, IsFault, Answers, SameAnswer};
 
+use crate::columns::are_apart;
 use crate::line::read_source;
 use crate::{Catalog, CatalogFault, SourceSpec};
 use mix_words::lines::{cut_lines, is_passed_over};
@@ -15,6 +16,9 @@ const SOURCES: u32 = 32;
 
 // The most children that a fill may be asked to give.
 const CHUNK: u32 = 1000;
+
+// The most columns of a source.
+const COLUMNS: usize = 200;
 
 // Adds the source of a line, where the catalog takes it.
 fn add_source(
@@ -29,6 +33,13 @@ fn add_source(
 {
     if source.chunk < 1 || source.chunk > CHUNK {
         return Err(CatalogFault::Chunk(number));
+    }
+    let columns = source.kind.columns();
+    if columns.len() > COLUMNS {
+        return Err(CatalogFault::Columns(number));
+    }
+    if !are_apart(columns) {
+        return Err(CatalogFault::ColumnTwice(number));
     }
     if catalog.find(&source.name).is_some() {
         return Err(CatalogFault::NameTwice(number));
@@ -64,7 +75,7 @@ fn add_line(
 /// # Errors
 ///
 /// The first line that is not accepted decides, and of the causes that it has, the first of these: `Line`, `Chunk`,
-/// `NameTwice`, `TooMany`, each with the line's number. `OutOfMemory` can come with any text.
+/// `Columns`, `ColumnTwice`, `NameTwice`, `TooMany`, each with the line's number. `OutOfMemory` can come with any text.
 pub fn read_catalog(alloc: Global, text: &[u8]) -> Result<Catalog, CatalogFault>
     // The answer is that of the text: its sources, or why it is no catalog.
     ensures answers { Answers text.now result }

@@ -1,23 +1,26 @@
 // Files that a command reads whole and accepts, one after another.
-ghost use Rattle.std.specs.Prelude.{◌≡◌, List, ℕ, length, OnOk, IfOk, IfErr};
+ghost use Rattle.std.specs.Prelude.{◌≡◌, List, ℕ, true, length, OnOk, IfOk, IfErr};
 ghost use Rattle.mix_catalog.specs.Sources.{IsChunk};
 ghost use Rattle.mix_io.specs.Views.{FilesView, KeepsFiles};
 ghost use Rattle.xmas_rule.specs.RuleMade.{rule_of};
 ghost use Rattle.xmas_rule.specs.Rules.{IsAccepted};
 ghost use Rattle.xmas_read.specs.Results.{names_of_sources};
-ghost use Rattle.mix_top.specs.Causes.{IsRead, IsNoBytes, IsNoCatalog, IsNoDocument, IsNoRule, IsNoScript};
+ghost use Rattle.mix_top.specs.Causes.{IsRead, IsNoBytes, IsNoCatalog, IsNoRule, IsNoScript, IsNoTable, IsNoTree};
 ghost use Rattle.mix_top.specs.Course.{IsCatalogFile, IsRuleFile, IsScript};
+ghost use Rattle.mix_top.specs.Documents.{HoldsRows, SpellsTree};
 ghost use Rattle.mix_top.specs.Stops.{IsLoadStop};
 ghost use Rattle.mix_top.specs.Mounted.{IsMounted};
 ghost use Rattle.mix_top.specs.Mounting.{IsMountedFile};
 
-use crate::refusal::{FileFault, Stop, refused, refused_view};
-use bracket_text::{BracketFault, read_document};
+use crate::refusal::{FileFault, Stop, refused};
+use bracket_text::read_document;
 use bracket_wrap::BracketDoc;
-use mix_catalog::{Catalog, CatalogFault, read_catalog};
+use csv_wrap::CsvDoc;
+use mix_catalog::{Catalog, SourceSpec, read_catalog};
 use mix_io::{Files, ReadWhole, read_whole};
 use mix_mount::{Mount, Mounted};
-use mix_script::{ScriptFault, Step, read_script};
+use mix_script::{Step, read_script};
+use mix_tree::Label;
 use std::alloc::Global;
 use xmas_read::read_rule;
 use xmas_rule::Rule;
@@ -37,9 +40,9 @@ fn load<F: Files>(alloc: Global, files: &mut F, path: &str) -> Result<Vec<u8>, S
     }
 }
 
-/// The document that a file spells, mounted, to be given `chunk` children at a time, `deep` or not. An error names the file and
-/// why it is refused; only want of memory has no cause. The file's bytes are free again when it is mounted.
-pub fn mount_file<F: Files>(
+/// The tree that a file spells, mounted, to be given `chunk` children at a time, `deep` or not. An error names the file and why it is
+/// refused; only want of memory has no cause. The file's bytes are free again when it is mounted.
+pub fn mount_tree<F: Files>(
     alloc: Global,
     files: &mut F,
     path: &str,
@@ -49,32 +52,49 @@ pub fn mount_file<F: Files>(
     requires { IsChunk chunk }
     ensures keeps { KeepsFiles (F.view files.new) (F.view files.old) }
     ensures steady { OnOk result ((p : List ℕ) → (F.view files.new).faults p ≡ (F.view files.old).faults p) }
-    ensures ok { IfOk result (IsMountedFile (F.view files.old) path.now chunk deep) }
-    ensures err { IfErr result (IsLoadStop IsNoDocument (F.view files.old) (F.view files.new) path.now) }
+    ensures ok { IfOk result (IsMountedFile SpellsTree (F.view files.old) path.now chunk deep) }
+    ensures err { IfErr result (IsLoadStop IsNoTree (F.view files.old) (F.view files.new) path.now) }
 {
     let bytes = load(alloc, files, path)?;
     match read_document(alloc, &bytes) {
         Ok(nodes) => Ok(Mount::Bracket(BracketDoc::open(nodes, chunk, deep))),
-        Err(BracketFault::NotUtf8(at)) => Err(refused(alloc, path, FileFault::NotUtf8(at))),
-        Err(BracketFault::Unexpected(at)) => Err(refused(alloc, path, FileFault::Unexpected(at))),
-        Err(BracketFault::TooDeep(at)) => Err(refused(alloc, path, FileFault::TooDeep(at))),
-        Err(BracketFault::Ends) => Err(refused(alloc, path, FileFault::EndsEarly)),
-        Err(BracketFault::OutOfMemory) => Err(Stop::OutOfMemory),
+        Err(fault) => Err(refused(alloc, path, FileFault::Document(fault))),
     }
 }
 
-/// The document that a file spells as the only source, given one child at a time. An error is as with `mount_file`.
+/// The rows of a CSV file with these columns, mounted as the document of a source. An error is as with a tree.
+pub fn mount_table<F: Files>(
+    alloc: Global,
+    files: &mut F,
+    path: &str,
+    source: &SourceSpec,
+    columns: &[Label],
+) -> Result<Mount, Stop>
+    requires { IsChunk source.now.chunk }
+    ensures keeps { KeepsFiles (F.view files.new) (F.view files.old) }
+    ensures steady { OnOk result ((p : List ℕ) → (F.view files.new).faults p ≡ (F.view files.old).faults p) }
+    ensures ok { IfOk result (IsMountedFile (HoldsRows source.now.name columns.now) (F.view files.old) path.now source.now.chunk true) }
+    ensures err { IfErr result (IsLoadStop (IsNoTable columns.now) (F.view files.old) (F.view files.new) path.now) }
+{
+    let bytes = load(alloc, files, path)?;
+    match CsvDoc::open(alloc, &bytes, &source.name, columns, source.chunk) {
+        Ok(doc) => Ok(Mount::Csv(doc)),
+        Err(fault) => Err(refused(alloc, path, FileFault::Table(fault))),
+    }
+}
+
+/// The tree that a file spells as the only source, given one child at a time. An error is as with `mount_tree`.
 pub fn mount_alone<F: Files>(alloc: Global, files: &mut F, path: &str) -> Result<Mounted, Stop>
     ensures keeps { KeepsFiles (F.view files.new) (F.view files.old) }
     ensures steady { OnOk result ((p : List ℕ) → (F.view files.new).faults p ≡ (F.view files.old).faults p) }
     ensures ok { IfOk result (IsMounted (F.view files.old) path.now) }
-    ensures err { IfErr result (IsLoadStop IsNoDocument (F.view files.old) (F.view files.new) path.now) }
+    ensures err { IfErr result (IsLoadStop IsNoTree (F.view files.old) (F.view files.new) path.now) }
 {
-    let mount = mount_file(alloc, files, path, 1, false)?;
+    let mount = mount_tree(alloc, files, path, 1, false)?;
     Ok(Mounted::new(vec![in alloc; mount]?))
 }
 
-/// The steps of a file that is a script. An error is as with a document.
+/// The steps of a file that is a script. An error is as with a tree.
 pub fn load_script<F: Files>(alloc: Global, files: &mut F, path: &str) -> Result<Vec<Step>, Stop>
     ensures keeps { KeepsFiles (F.view files.new) (F.view files.old) }
     ensures steady { OnOk result ((p : List ℕ) → (F.view files.new).faults p ≡ (F.view files.old).faults p) }
@@ -84,12 +104,11 @@ pub fn load_script<F: Files>(alloc: Global, files: &mut F, path: &str) -> Result
     let bytes = load(alloc, files, path)?;
     match read_script(alloc, &bytes) {
         Ok(steps) => Ok(steps),
-        Err(ScriptFault::Line(line)) => Err(refused(alloc, path, FileFault::NoForm(line))),
-        Err(ScriptFault::OutOfMemory) => Err(Stop::OutOfMemory),
+        Err(fault) => Err(refused(alloc, path, FileFault::Script(fault))),
     }
 }
 
-/// The catalog that a file spells. An error is as with a document.
+/// The catalog that a file spells. An error is as with a tree.
 pub fn load_catalog<F: Files>(alloc: Global, files: &mut F, path: &str) -> Result<Catalog, Stop>
     ensures keeps { KeepsFiles (F.view files.new) (F.view files.old) }
     ensures steady { OnOk result ((p : List ℕ) → (F.view files.new).faults p ≡ (F.view files.old).faults p) }
@@ -99,21 +118,11 @@ pub fn load_catalog<F: Files>(alloc: Global, files: &mut F, path: &str) -> Resul
     let bytes = load(alloc, files, path)?;
     match read_catalog(alloc, &bytes) {
         Ok(catalog) => Ok(catalog),
-        Err(CatalogFault::Line(line)) => Err(refused(alloc, path, FileFault::NoForm(line))),
-        Err(CatalogFault::Chunk(line)) => {
-            Err(refused(alloc, path, FileFault::ChunkOutOfRange(line)))
-        }
-        Err(CatalogFault::NameTwice(line)) => Err(refused(alloc, path, FileFault::NameTwice(line))),
-        Err(CatalogFault::TooMany(line)) => Err(refused(
-            alloc,
-            path,
-            FileFault::TooManySources(line),
-        )),
-        Err(CatalogFault::OutOfMemory) => Err(Stop::OutOfMemory),
+        Err(fault) => Err(refused(alloc, path, FileFault::Catalog(fault))),
     }
 }
 
-/// The rule that a file spells over the sources of a catalog. An error is as with a document.
+/// The rule that a file spells over the sources of a catalog. An error is as with a tree.
 pub fn load_rule<F: Files>(
     alloc: Global,
     files: &mut F,
@@ -129,6 +138,6 @@ pub fn load_rule<F: Files>(
     let bytes = load(alloc, files, path)?;
     match read_rule(alloc, &bytes, catalog) {
         Ok(rule) => Ok(rule),
-        Err(fault) => Err(refused_view(alloc, path, fault)),
+        Err(fault) => Err(refused(alloc, path, FileFault::View(fault))),
     }
 }

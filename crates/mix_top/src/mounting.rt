@@ -1,15 +1,16 @@
 // The documents of the sources that a rule names, read and mounted one after another.
 ghost use Rattle.std.specs.Prelude.{◌≡◌, ◌<◌, List, ℕ, true, false, length, slice_get, Some, OnOk, IfOk, IfErr};
+ghost use Rattle.mix_catalog.specs.Grammar.{file_of};
 ghost use Rattle.mix_catalog.specs.Sources.{IsCatalog, IsChunk};
 ghost use Rattle.mix_io.specs.Views.{FilesView, KeepsFiles};
 ghost use Rattle.mix_mount.specs.declared.mount.Mount.TheVariants.{Absent};
 ghost use Rattle.xmas_rule.specs.RuleMade.{rule_of};
-ghost use Rattle.mix_top.specs.Causes.{IsNoDocument};
-ghost use Rattle.mix_top.specs.Course.{file_of, is_of, names_source};
-ghost use Rattle.mix_top.specs.Mounting.{AreMounted, IsMountStop, IsMountedFile, IsMountFor, IsSourceStop, is_deep};
+ghost use Rattle.mix_top.specs.Course.{is_of, names_source};
+ghost use Rattle.mix_top.specs.Documents.{StandsForNone};
+ghost use Rattle.mix_top.specs.Mounting.{AreMounted, IsMountStop, IsMountedSource, IsMountFor, IsSourceStop};
 ghost use Rattle.mix_top.specs.Stops.{IsLoadStop};
 
-use crate::load::mount_file;
+use crate::load::{mount_table, mount_tree};
 use crate::refusal::Stop;
 use mix_catalog::{Catalog, SourceKind, SourceSpec};
 use mix_io::Files;
@@ -51,12 +52,15 @@ fn mount_spec<F: Files>(alloc: Global, files: &mut F, spec: &SourceSpec) -> Resu
     requires { IsChunk spec.now.chunk }
     ensures keeps { KeepsFiles (F.view files.new) (F.view files.old) }
     ensures steady { OnOk result ((p : List ℕ) → (F.view files.new).faults p ≡ (F.view files.old).faults p) }
-    ensures ok { IfOk result (IsMountedFile (F.view files.old) (file_of spec.now.kind) spec.now.chunk (is_deep spec.now.kind)) }
-    ensures err { IfErr result (IsLoadStop IsNoDocument (F.view files.old) (F.view files.new) (file_of spec.now.kind)) }
+    ensures ok { IfOk result (IsMountedSource (F.view files.old) spec.now) }
+    ensures err { IfErr result (IsLoadStop (StandsForNone spec.now.kind) (F.view files.old) (F.view files.new) (file_of spec.now.kind)) }
 {
     match &spec.kind {
         SourceKind::Bracket { file, deep } => {
-            mount_file(alloc, files, path_of(file), spec.chunk, *deep)
+            mount_tree(alloc, files, path_of(file), spec.chunk, *deep)
+        }
+        SourceKind::Csv { file, columns } => {
+            mount_table(alloc, files, path_of(file), spec, columns.labels())
         }
     }
 }

@@ -10,6 +10,8 @@ mod reads;
 #[cfg(test)]
 mod run;
 #[cfg(test)]
+mod tables;
+#[cfg(test)]
 mod views;
 #[cfg(test)]
 mod walks;

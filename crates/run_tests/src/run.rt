@@ -64,3 +64,16 @@ pub fn run_over(
     }
     run_files(alloc, words, files, failing)
 }
+
+/// Runs words over files, each a path and its bytes.
+pub fn run_bytes(
+    alloc: Global,
+    words: &[&str],
+    contents: &[(&str, &[u8])],
+) -> Result<Outcome, AllocError> {
+    let mut files = Vec::new(alloc);
+    for (path, bytes) in contents {
+        files.push(file(alloc, path, bytes.to_vec(alloc)?)?)?;
+    }
+    run_files(alloc, words, files, (&[], &[]))
+}

@@ -52,10 +52,6 @@ fn lines_are_of_the_bracket_forms(rt: HostRuntime) {
             Err(CatalogFault::Line(1)),
         ),
         (
-            b"source a csv f columns id chunk 1".as_slice(),
-            Err(CatalogFault::Line(1)),
-        ),
-        (
             b"source a bracket f chunk 1 flat".as_slice(),
             Err(CatalogFault::Line(1)),
         ),
@@ -161,11 +157,113 @@ fn sources_are_found_by_their_names(rt: HostRuntime) -> Result<(), Fail> {
     let first = catalog.spec(0);
     assert_eq!(rt; first.name.bytes(), b"a-1".as_slice());
     assert_eq!(rt; first.chunk, 7);
-    let SourceKind::Bracket { file, deep } = &first.kind;
-    assert_eq!(rt; file.bytes(), b"my homes\n".as_slice());
-    assert!(rt; !*deep);
-    let SourceKind::Bracket { file, deep } = &catalog.spec(1).kind;
-    assert_eq!(rt; file.bytes(), b"f".as_slice());
-    assert!(rt; *deep);
+    assert_eq!(rt; first.kind.file().bytes(), b"my homes\n".as_slice());
+    assert!(rt; matches!(first.kind, SourceKind::Bracket { deep: false, .. }));
+    let second = catalog.spec(1);
+    assert_eq!(rt; second.kind.file().bytes(), b"f".as_slice());
+    assert!(rt; matches!(second.kind, SourceKind::Bracket { deep: true, .. }));
+    assert_eq!(rt; second.kind.columns().len(), 0);
+    Ok(())
+}
+
+#[test]
+fn lines_are_of_the_csv_form(rt: HostRuntime) {
+    let rows = [
+        (
+            b"source p csv f columns a chunk 1\n source\tq csv \"f g\"  columns \t b,\"c \",\"\" chunk 02 ".as_slice(),
+            Ok(2),
+        ),
+        (
+            b"source p csv f columns a chunk 1 deep".as_slice(),
+            Err(CatalogFault::Line(1)),
+        ),
+        (
+            b"source p csv f columns a, b chunk 1".as_slice(),
+            Err(CatalogFault::Line(1)),
+        ),
+        (
+            b"source p csv f columns a,,b chunk 1".as_slice(),
+            Err(CatalogFault::Line(1)),
+        ),
+        (
+            b"source p csv f columns a, chunk 1".as_slice(),
+            Err(CatalogFault::Line(1)),
+        ),
+        (
+            b"source p csv f columns chunk 1".as_slice(),
+            Err(CatalogFault::Line(1)),
+        ),
+        (
+            b"source p csv f columns a\"b\" chunk 1".as_slice(),
+            Err(CatalogFault::Line(1)),
+        ),
+        (
+            b"source p csv f chunk 1".as_slice(),
+            Err(CatalogFault::Line(1)),
+        ),
+    ];
+    check(&rt, rt.alloc(), &rows);
+}
+
+#[test]
+fn a_column_stands_once(rt: HostRuntime) {
+    let rows = [
+        (
+            b"source p csv f columns a,b,\"a\" chunk 1001".as_slice(),
+            Err(CatalogFault::Chunk(1)),
+        ),
+        (
+            b"source p csv f columns a,b,\"a\" chunk 1".as_slice(),
+            Err(CatalogFault::ColumnTwice(1)),
+        ),
+        (
+            b"source p bracket f chunk 1\nsource p csv f columns a,a chunk 1".as_slice(),
+            Err(CatalogFault::ColumnTwice(2)),
+        ),
+        (
+            b"source p bracket f chunk 1\nsource p csv f columns a,b chunk 1".as_slice(),
+            Err(CatalogFault::NameTwice(2)),
+        ),
+    ];
+    check(&rt, rt.alloc(), &rows);
+}
+
+// A line of so many columns behind one that is called `c1`.
+fn columns(alloc: Global, count: u32) -> Result<String, AllocError> {
+    let mut text = String::from_str(alloc, "source p csv f columns c1")?;
+    for number in 0..count {
+        text.push_str(format!(in alloc; ",c{number}")?.as_str())?;
+    }
+    text.push_str(" chunk 1")?;
+    Ok(text)
+}
+
+#[test]
+fn a_source_has_at_most_200_columns(rt: HostRuntime) -> Result<(), Fail> {
+    let alloc = rt.alloc();
+    assert_eq!(rt; count(alloc, columns(alloc, 1)?.as_bytes()), Ok(1));
+    assert_eq!(rt;
+        count(alloc, columns(alloc, 199)?.as_bytes()),
+        Err(CatalogFault::ColumnTwice(1))
+    );
+    assert_eq!(rt;
+        count(alloc, columns(alloc, 200)?.as_bytes()),
+        Err(CatalogFault::Columns(1))
+    );
+    Ok(())
+}
+
+#[test]
+fn columns_are_kept_in_their_order(rt: HostRuntime) -> Result<(), Fail> {
+    let alloc = rt.alloc();
+    let catalog = read_catalog(alloc, b"source p csv f columns id,\"na,me \",\"\" chunk 10")?;
+    let spec = catalog.spec(0);
+    let columns = spec.kind.columns();
+    assert_eq!(rt; spec.chunk, 10);
+    assert_eq!(rt; spec.kind.file().bytes(), b"f".as_slice());
+    assert_eq!(rt; columns.len(), 3);
+    assert_eq!(rt; columns[0].bytes(), b"id".as_slice());
+    assert_eq!(rt; columns[1].bytes(), b"na,me ".as_slice());
+    assert_eq!(rt; columns[2].bytes(), b"".as_slice());
     Ok(())
 }

@@ -1,0 +1,47 @@
+-- What the text of a source's file stands for, by the kind of the source.
+use Rattle.std.specs.Prelude.{◌≡◌, ℕ, Bool, true, List}
+use Rattle.std.specs.Str.{IsUtf8}
+use Rattle.mix_tree.specs.Forest.{LabelledTree}
+use Rattle.mix_io.specs.Views.{FilesView}
+use Rattle.bracket_text.specs.Grammar.{SpellsShallow}
+use Rattle.csv_wrap.specs.Csv.{IsFile}
+use Rattle.csv_wrap.specs.Rows.{file_tree}
+use Rattle.mix_catalog.specs.declared.source.SourceKind.{SourceKind}
+use Rattle.mix_catalog.specs.declared.source.SourceKind.TheVariants.{Bracket, Csv}
+use Rattle.mix_catalog.specs.declared.source.SourceSpec.{SourceSpec}
+use Rattle.mix_catalog.specs.Grammar.{file_of}
+use Rattle.mix_top.specs.declared.refusal.FileFault.{FileFault}
+use Rattle.mix_top.specs.Causes.{IsRead, IsNoTree, IsNoTable}
+
+-- a text spells a tree of at most 200 levels
+abbrev pub SpellsTree : List ℕ → LabelledTree → Type 0
+SpellsTree text t = IsUtf8 text × SpellsShallow text t
+
+-- a text is a CSV file with these columns, and the tree is that of its rows, as a source of this name
+abbrev pub HoldsRows : List ℕ → List (List ℕ) → List ℕ → LabelledTree → Type 0
+HoldsRows name columns text t = (rows : List (List (List ℕ))) × IsFile text columns rows × (t ≡ file_tree name columns rows)
+
+-- the tree that a text stands for as the file of a source of this name and kind
+abbrev pub StandsFor : List ℕ → SourceKind → List ℕ → LabelledTree → Type 0
+StandsFor name (Bracket file deep) = SpellsTree
+StandsFor name (Csv file columns) = HoldsRows name columns
+
+-- why it stands for none
+abbrev pub StandsForNone : SourceKind → List ℕ → FileFault → Type 0
+StandsForNone (Bracket file deep) = IsNoTree
+StandsForNone (Csv file columns) = IsNoTable columns
+
+-- whether the children of a source's nodes are given whole: rows are
+abbrev pub is_deep : SourceKind → Bool
+is_deep (Bracket file deep) = deep
+is_deep (Csv file columns) = true
+
+-- the text of a file stands for a tree, by what texts of its kind stand for
+pub record IsDocument (Stands : List ℕ → LabelledTree → Type 0) (files : FilesView) (path : List ℕ) (t : LabelledTree) : Type 0 where
+  pub text : List ℕ
+  pub read : IsRead files path text
+  pub stands : Stands text t
+
+-- the file of a source gives its document
+abbrev pub IsSourceDocument : FilesView → SourceSpec → LabelledTree → Type 0
+IsSourceDocument files spec t = IsDocument (StandsFor spec.name spec.kind) files (file_of spec.kind) t
