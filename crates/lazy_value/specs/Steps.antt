@@ -1,13 +1,15 @@
 -- What steps over a document come to.
 use Rattle.std.specs.Prelude.{◌≡◌, ℕ, ◌+◌, ◌<◌, ◌≤◌, false, IsTrue, Option, MatchOption}
+use Rattle.mix_tree.specs.Forest.{first_kids, behind}
 use Rattle.mix_base.specs.Events.{finds, found}
 use Rattle.lxp_core.specs.View.{View}
-use Rattle.plan_core.specs.Events.{RowEvents, same_group}
-use Rattle.plan_core.specs.Tolled.{Tolled, dearer, paid, is_item}
+use Rattle.plan_core.specs.Events.{RowEvents, same_group, tolled_document}
+use Rattle.plan_core.specs.Tolled.{Tolled, dearer, paid, is_item, charged, trees_below}
 use Rattle.plan_core.specs.ByNumber.{op_at}
+use Rattle.tree_buffer.specs.declared.spot.Spot.{Spot}
 use Rattle.lazy_plan.specs.declared.bench.Bench.{Bench}
 use Rattle.lazy_plan.specs.declared.position.Position.{Position}
-use Rattle.lazy_plan.specs.Bench.{BenchState, state_of, IsBenchOf, told, forward, fills_of, ops_of, documents, IsCursor, binding_at, ahead_at, number_at, KeepsBench, AsksAtMost}
+use Rattle.lazy_plan.specs.Bench.{BenchState, state_of, IsBenchOf, told, forward, fills_of, ops_of, documents, IsCursor, binding_at, ahead_at, number_at, KeepsBench, AsksAtMost, trees_at_spot}
 use Rattle.lazy_value.specs.Forms.{input_at, keys_of}
 use Rattle.lazy_value.specs.Ids.{here, IsSite, rest_trees, IsRest, weight, left, site_left}
 use Rattle.lazy_value.specs.declared.ids.Site.{Site}
@@ -31,6 +33,26 @@ pub record StandsFor (old new : BenchState) (f : Tolled) (n : Site) : Type 0 whe
 -- there is none of these trees, or the identifier stands for the first
 abbrev pub Reaches : BenchState → BenchState → Tolled → Option Site → Type 0
 Reaches old new f r = MatchOption r (IsTrue (told old) → is_item f ≡ false) (StandsFor old new f)
+
+-- in each state of a bench so much holds
+abbrev pub InEach : Bench → (BenchState → Type 0) → Type 0
+InEach b holds = (view : View) → IsBenchOf view b → holds (state_of view b)
+
+-- there is no identifier, or so much less is left of it
+abbrev pub LeftBelow : BenchState → ℕ → Option Site → Type 0
+LeftBelow st top r = MatchOption r (Unit {0}) (λ n. site_left st n < top)
+
+-- the children of a source's node, at a fill for the first
+abbrev pub kids_there : BenchState → ℕ → Spot → Tolled
+kids_there st s x = charged (first_kids (trees_at_spot st s x))
+
+-- its later siblings
+abbrev pub siblings_there : BenchState → ℕ → Spot → Tolled
+siblings_there st s x = charged (behind (trees_at_spot st s x))
+
+-- the children of the answer's root
+abbrev pub document_trees : BenchState → Tolled
+document_trees st = trees_below (tolled_document (documents st) (ops_of st))
 
 -- an earlier identifier stands for the same tree, with the same trees behind it, and its number did not rise
 pub record Stays (old new : BenchState) (n : Site) : Type 0 where

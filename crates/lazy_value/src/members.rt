@@ -13,7 +13,7 @@ ghost use Rattle.lazy_plan.specs.Bench.{state_of, plan_of, IsBenchOf, ops_of, to
 ghost use Rattle.lazy_plan.specs.Steps.{HasCause};
 ghost use Rattle.lazy_value.specs.Forms.{gathers_groups, input_at};
 ghost use Rattle.lazy_value.specs.Ids.{Stands, GathersAll, IsRest, rest_trees, weight, left, ahead_from, number_from, members_trees, group_ahead, group_trees};
-ghost use Rattle.lazy_value.specs.Steps.{Walked, Turns, Falls, IsMember};
+ghost use Rattle.lazy_value.specs.Steps.{Walked, Turns, Falls, IsMember, InEach};
 
 use crate::entering::{group_member, list_member};
 use crate::ids::{Rest, Turn, share};
@@ -30,8 +30,7 @@ fn label_in<'a>(bench: &'a Bench, op: u32, c: &Cursor, v: Var) -> &'a Label
     requires op { op < length (plan_value (plan_of bench.now)).ops }
     requires bench { (view : View) × IsBenchOf view bench.now × IsCursor (state_of view bench.now) op c.now }
     requires node { kinds (plan_value (plan_of bench.now)).ops op v ≡ Some a_node }
-    ensures { (view : View) → let st = state_of view bench.now in
-        IsBenchOf view bench.now → IsCursor st op c.now → IsTrue (told st) → result.now ≡ label_at (documents st) (row_node (binding_at st op c.now) v) }
+    ensures { InEach bench.now (λ st. IsCursor st op c.now → IsTrue (told st) → result.now ≡ label_at (documents st) (row_node (binding_at st op c.now) v)) }
 {
     bench.label(bench.source_of(op, v), &bench.spot(op, c, v))
 }
@@ -41,8 +40,7 @@ fn same_by_key(bench: &Bench, op: u32, first: &Cursor, c: &Cursor, key: Key) -> 
     requires op { op < length (plan_value (plan_of bench.now)).ops }
     requires bench { (view : View) × IsBenchOf view bench.now × IsCursor (state_of view bench.now) op first.now × IsCursor (state_of view bench.now) op c.now }
     requires node { kinds (plan_value (plan_of bench.now)).ops op (key_var key) ≡ Some a_node }
-    ensures { (view : View) → let st = state_of view bench.now in
-        IsBenchOf view bench.now → IsCursor st op first.now → IsCursor st op c.now → IsTrue (told st) → result ≡ same_value (key_value (documents st) (row_node (binding_at st op first.now)) key) (key_value (documents st) (row_node (binding_at st op c.now)) key) }
+    ensures { InEach bench.now (λ st. IsCursor st op first.now → IsCursor st op c.now → IsTrue (told st) → result ≡ same_value (key_value (documents st) (row_node (binding_at st op first.now)) key) (key_value (documents st) (row_node (binding_at st op c.now)) key)) }
 {
     match key {
         Key::Node(v) => Buffer::same_spot(&bench.spot(op, first, v), &bench.spot(op, c, v)),
@@ -55,8 +53,7 @@ fn same_by_keys(bench: &Bench, op: u32, first: &Cursor, c: &Cursor, keys: &[Key]
     requires op { op < length (plan_value (plan_of bench.now)).ops }
     requires bench { (view : View) × IsBenchOf view bench.now × IsCursor (state_of view bench.now) op first.now × IsCursor (state_of view bench.now) op c.now }
     requires nodes { AreNodes keys.now (kinds (plan_value (plan_of bench.now)).ops op) }
-    ensures { (view : View) → let st = state_of view bench.now in
-        IsBenchOf view bench.now → IsCursor st op first.now → IsCursor st op c.now → IsTrue (told st) → result ≡ same_values (key_values (documents st) keys.now (binding_at st op first.now)) (key_values (documents st) keys.now (binding_at st op c.now)) }
+    ensures { InEach bench.now (λ st. IsCursor st op first.now → IsCursor st op c.now → IsTrue (told st) → result ≡ same_values (key_values (documents st) keys.now (binding_at st op first.now)) (key_values (documents st) keys.now (binding_at st op c.now))) }
 {
     for key in keys {
         if !same_by_key(bench, op, first, c, *key) {
