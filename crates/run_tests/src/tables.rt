@@ -95,7 +95,12 @@ fn views_over_csv_files_are_answered(rt: HostRuntime) -> Result<(), Fail> {
 }
 
 // What is refused of a text as the file of the table, or of a catalog.
-fn is_refused(alloc: Global, catalog: &str, text: &str, line: &str) -> Result<bool, AllocError> {
+fn is_refused(
+    alloc: Global,
+    catalog: &'static str,
+    text: &'static str,
+    line: &str,
+) -> Result<bool, AllocError> {
     let texts = [("cat", catalog), ("v", ROWS), ("s", ""), ("f", text)];
     let ended = run_over(alloc, &RUN, &texts, (&[], &[]))?;
     Ok(ended.status == 3 && ended.written.as_slice() == line.as_bytes())
