@@ -1,4 +1,4 @@
--- How far a run has come.
+-- How far lines have come.
 use Rattle.std.specs.Prelude.{◌≡◌, ℕ, ◌+◌, ◌≤◌, Bool, List, ◌++◌, Option, length}
 use Rattle.mix_base.specs.Counts.{HasRisenBy}
 use Rattle.mix_tree.specs.Forest.{LabelledTree}

@@ -6,7 +6,7 @@ use mix_io::SinkFault;
 use std::alloc::AllocError;
 use thiserror::Error;
 
-/// Why the lines of a run were cut short.
+/// Why lines were cut short.
 #[derive(Clone, Copy, Debug, PartialEq, Eq, Error)]
 pub enum LinesFault {
     /// The sink failed. This comes only where its count of faults rose.

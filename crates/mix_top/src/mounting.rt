@@ -47,7 +47,7 @@ fn path_of(file: &Label) -> &str
     }
 }
 
-// The document of a source's file, given as the catalog says. An error is as with a document.
+// The document of a source's file, given as the catalog says. An error is as with `mount_tree`.
 fn mount_spec<F: Files>(alloc: Global, files: &mut F, spec: &SourceSpec) -> Result<Mount, Stop>
     requires { IsChunk spec.now.chunk }
     ensures keeps { KeepsFiles (F.view files.new) (F.view files.old) }

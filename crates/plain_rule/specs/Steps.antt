@@ -26,10 +26,11 @@ ForMatches docs P = (lists : MatchLists) → AreMatchLists (documents_of docs) l
 abbrev pub AreExtended : List LabelledTree → List Binding → List Binder → List Binding → Type 0
 AreExtended docs bs conds longer = ForMatches docs (λ lists. longer ≡ tuples lists bs conds)
 
--- the condition that leads to a variable's nodes from a source, or from another variable's node
+-- the condition that leads to a variable's nodes from a source
 abbrev pub from_document : Leads → ℕ → Binder
 from_document l source = from_source source l.path.now l.var
 
+-- the same from another variable's node
 abbrev pub from_node : Leads → ℕ → Binder
 from_node l start = from_var start l.path.now l.var
 

@@ -1,4 +1,4 @@
-//! An example of a buffer's use: the labels of a whole subtree, by the buffer's public contract alone.
+//! An example of a buffer's use: the labels of a whole subtree, and of two documents in turn, by the buffer's public contract alone.
 #![tactic(auto)]
 
 ghost use Rattle.std.specs.Prelude.{◌≡◌, ◌+◌, ◌*◌, ◌<◌, ◌≤◌, ◌++◌, ◌∷◌, [], true, OnOk, IfOk, IfSome, IsErrOf, length};
