@@ -7,7 +7,7 @@ use Rattle.plan_core.specs.declared.plan.Plan.{Plan}
 use Rattle.plan_core.specs.Plans.{PlanValue, document}
 use Rattle.plan_core.specs.Events.{visited}
 use Rattle.plan_core.specs.Valid.{IsValid}
-use Rattle.lazy_plan.specs.Bench.{BenchState, IsBenchOf, KeepsBench, AsksAtMost, told}
+use Rattle.lazy_plan.specs.Bench.{BenchState, IsBenchOf, KeepsBench, told}
 use Rattle.lazy_plan.specs.Bench as bench
 use Rattle.lazy_plan.specs.declared.fault.WalkFault.{WalkFault}
 use Rattle.lazy_value.specs.Ids as ids
@@ -19,10 +19,6 @@ use Rattle.lazy_value.specs.declared.mediator.Mediator.{Mediator}
 -- the state of a mediator whose sources mean this
 abbrev pub state_of : View → Mediator → BenchState
 state_of v m = bench.state_of v m.bench
-
--- the states before and after a call
-abbrev pub Between : {S : Type 0} → (S → View) → S → Mediator → S → Mediator → (BenchState → BenchState → Type 0) → Type 0
-Between view s m s' m' P = P (state_of (view s) m) (state_of (view s') m')
 
 -- its plan
 abbrev pub plan_of : Mediator → Plan
@@ -55,10 +51,6 @@ HasNoHigher st height r = MatchOption r (Unit {0}) (λ n. node_height st n ≤ h
 -- no earlier identifier stands higher than it stood
 abbrev pub KeepsHeights : BenchState → BenchState → Type 0
 KeepsHeights old new = (n : NodeId) → IsNode old n → node_height new n ≤ node_height old n
-
--- from an identifier at a place at most so many fills are asked
-abbrev pub AsksFrom : BenchState → BenchState → NodeId → List ℕ → ℕ → Type 0
-AsksFrom old new n p most = IsAt old n p → AsksAtMost old new most
 
 -- from an identifier at a place the node at another is found, or there is none
 abbrev pub LeadsTo : BenchState → BenchState → NodeId → List ℕ → Option (List ℕ) → Result (Option NodeId) WalkFault → Type 0
