@@ -68,16 +68,10 @@ pub record IsPassedOn (p : Plan) (n v i : ℕ) : Type 0 where
 
 -- an operator makes the value of a variable
 abbrev pub makes : Operator → ℕ → Bool
-makes (source s out) v = false
-makes (get_descendants input start path out) v = false
-makes (join left right tests) v = false
-makes (over input (select test)) v = false
-makes (over input (order_by w desc)) v = false
-makes (over input (project keys)) v = false
 makes (over input (group_by keys piece out)) v = out == v
 makes (over input (concatenate pieces out)) v = out == v
 makes (over input (create_element label list out)) v = out == v
-makes (tuple_destroy input element) v = false
+makes op v = false
 
 -- the variable holds a node, or the operator makes its value
 abbrev pub IsMadeHere : Plan → ℕ → ℕ → Type 0
