@@ -1,9 +1,9 @@
 -- Where the value of a variable is made.
-use Rattle.std.specs.Prelude.{Bool, false, ◌==◌, IsTrue, ◌≡◌, ◌⊎◌, ℕ, suc, ◌<◌, ◌≤◌, Some}
+use Rattle.std.specs.Prelude.{Bool, false, ◌==◌, IsTrue, ◌≡◌, ◌⊎◌, ℕ, suc, ◌<◌, ◌≤◌, Some, Option, MatchOption}
 use Rattle.plan_core.specs.declared.plan.Plan.{Plan}
 use Rattle.plan_core.specs.PlanMade.{plan_value}
-use Rattle.plan_core.specs.Plans.{Operator, source, get_descendants, join, over, tuple_destroy}
-use Rattle.plan_core.specs.Unary.{select, order_by, project, group_by, concatenate, create_element}
+use Rattle.plan_core.specs.Plans.{Operator, over}
+use Rattle.plan_core.specs.Unary.{group_by, concatenate, create_element}
 use Rattle.plan_core.specs.ByNumber.{op_at}
 use Rattle.plan_core.specs.Valid.{kinds}
 use Rattle.plan_core.specs.Valid.{Kind, a_node, an_element, a_list}
@@ -76,6 +76,10 @@ makes op v = false
 -- the variable holds a node, or the operator makes its value
 abbrev pub IsMadeHere : Plan → ℕ → ℕ → Type 0
 IsMadeHere p n v = (kinds (plan_value p).ops n v ≡ Some a_node) ⊎ IsTrue (makes (op_at (plan_value p).ops n) v)
+
+-- the operator does not make the value of the variable, or it is made there
+abbrev pub GivesMade : BenchState → ℕ → Position → ℕ → Option Origin → Type 0
+GivesMade st n c v r = MatchOption r (makes (op_at (ops_of st) n) v ≡ false) (IsOriginOf st n c v)
 
 -- a node with the trees below it is the one tree of a piece
 pub record IsHeadOf (st : BenchState) (op index : ℕ) (c : Position) (h : Head) : Type 0 where
