@@ -64,7 +64,8 @@ pub record IsPassedOn (p : Plan) (n v i : ℕ) : Type 0 where
   pub size : size (plan_value p).ops i v ≤ size (plan_value p).ops n v
   pub extent : (bound : ℕ → ℕ) → extent bound (plan_value p).ops i v ≤ extent bound (plan_value p).ops n v
   pub labels : of.labels (plan_value p).ops n v ≡ of.labels (plan_value p).ops i v
-  pub value : (w : World) (row below : TolledRow) (es : RowEvents) → IsMadeOf (record { world = w; plan = p }) row i below es (op_at (plan_value p).ops n) → tolled_value row v ≡ tolled_value below v
+  pub value : (w : World) (row below : TolledRow) (es : RowEvents) → IsMadeOf (record { world = w; plan = p }) row i below es (op_at (plan_value p).ops n)
+      → tolled_value row v ≡ tolled_value below v
 
 -- an operator makes the value of a variable
 abbrev pub makes : Operator → ℕ → Bool
@@ -85,4 +86,5 @@ GivesMade st n c v r = MatchOption r (makes (op_at (ops_of st) n) v ≡ false) (
 pub record IsHeadOf (st : BenchState) (op index : ℕ) (c : Position) (h : Head) : Type 0 where
   pub head : IsHead st h
   pub rank : head_rank h ≤ op
-  pub trees : (rest : Tolled) → piece_items (documents st) (piece_at (ops_of st) op index) (binding_at st (input_at (ops_of st) op) c) rest ≡ item 0 (head_label st h) (head_trees st h) rest
+  pub trees : (rest : Tolled)
+      → piece_items (documents st) (piece_at (ops_of st) op index) (binding_at st (input_at (ops_of st) op) c) rest ≡ item 0 (head_label st h) (head_trees st h) rest
