@@ -134,8 +134,8 @@ impl Sources for MemSources {
         requires { s < (memory_view self.old).count }
         ensures came { CameFrom self.new self.old }
         // What the answer promises.
-        ensures closes { let old = memory_view self.old in
-            IfOk result (λ list. old.told s ≡ true → closed ((memory_view self.new).forest s) (plain list.items) ≡ old.forest s hole) }
+        ensures closes { let old = memory_view self.old in let new = memory_view self.new in
+            IfOk result (λ list. old.told s ≡ true → closed (new.forest s) (plain list.items) ≡ old.forest s hole) }
         ensures progress { IfOk result (λ list. IsProgress (plain list.items)) }
         ensures known { IfOk result (λ list. AllHoles ((memory_view self.new).knows s) (plain list.items)) }
         ensures lighter { IfOk result (λ list.

@@ -1,11 +1,17 @@
--- What is written of a rule, by the form that is asked for.
+-- What is written of a rule, by the form that is asked for, and the course of its reading.
 use Rattle.std.specs.Prelude.{ℕ, List}
+use Rattle.mix_io.specs.Views.{FilesView}
 use Rattle.xmas_rule.specs.Rules.{RuleValue}
+use Rattle.mix_top.specs.declared.reading.Reading.{Reading}
 use Rattle.mix_top.specs.declared.reading.RuleForm.{RuleForm}
 use Rattle.mix_top.specs.declared.reading.RuleForm.TheVariants.{Canonical, Plan}
-use Rattle.mix_top.specs.Course.{plan_lines, read_lines}
+use Rattle.mix_top.specs.Course.{Reads, plan_lines, read_lines}
 
 -- the canonical text and LF, or the plan
 abbrev pub rule_lines : RuleForm → List (List ℕ) → RuleValue → List ℕ
 rule_lines Canonical = read_lines
 rule_lines Plan = plan_lines
+
+-- the course of a view's reading
+abbrev pub ReadingCourse : FilesView → FilesView → Reading → ℕ → List ℕ → Type 0
+ReadingCourse old new reading = Reads (rule_lines reading.form) old new reading.view.now reading.catalog.now

@@ -1,7 +1,7 @@
 // Files that a command reads whole and accepts, one after another.
 ghost use Rattle.std.specs.Prelude.{◌≡◌, List, ℕ, true, length, OnOk, IfOk, IfErr};
 ghost use Rattle.mix_catalog.specs.Sources.{IsChunk};
-ghost use Rattle.mix_io.specs.Views.{FilesView, KeepsFiles};
+ghost use Rattle.mix_io.specs.Views.{FilesView, KeepsFiles, ReadsOnly};
 ghost use Rattle.xmas_rule.specs.RuleMade.{rule_of};
 ghost use Rattle.xmas_rule.specs.Rules.{IsAccepted};
 ghost use Rattle.xmas_read.specs.Results.{names_of_sources};
@@ -28,6 +28,7 @@ use xmas_rule::Rule;
 // The bytes of a file.
 fn load<F: Files>(alloc: Global, files: &mut F, path: &str) -> Result<Vec<u8>, Stop>
     ensures keeps { KeepsFiles (F.view files.new) (F.view files.old) }
+    ensures others { ReadsOnly path.now (F.view files.new) (F.view files.old) }
     ensures steady { OnOk result ((p : List ℕ) → (F.view files.new).faults p ≡ (F.view files.old).faults p) }
     ensures ok { IfOk result (λ bytes. IsRead (F.view files.old) path.now bytes.items) }
     ensures err { IfErr result (IsLoadStop IsNoBytes (F.view files.old) (F.view files.new) path.now) }
@@ -51,6 +52,7 @@ pub fn mount_tree<F: Files>(
 ) -> Result<Mount, Stop>
     requires { IsChunk chunk }
     ensures keeps { KeepsFiles (F.view files.new) (F.view files.old) }
+    ensures others { ReadsOnly path.now (F.view files.new) (F.view files.old) }
     ensures steady { OnOk result ((p : List ℕ) → (F.view files.new).faults p ≡ (F.view files.old).faults p) }
     ensures ok { IfOk result (IsMountedFile SpellsTree (F.view files.old) path.now chunk deep) }
     ensures err { IfErr result (IsLoadStop IsNoTree (F.view files.old) (F.view files.new) path.now) }
@@ -72,6 +74,7 @@ pub fn mount_table<F: Files>(
 ) -> Result<Mount, Stop>
     requires { IsChunk source.now.chunk }
     ensures keeps { KeepsFiles (F.view files.new) (F.view files.old) }
+    ensures others { ReadsOnly path.now (F.view files.new) (F.view files.old) }
     ensures steady { OnOk result ((p : List ℕ) → (F.view files.new).faults p ≡ (F.view files.old).faults p) }
     ensures ok { IfOk result (IsMountedFile (HoldsRows source.now.name columns.now) (F.view files.old) path.now source.now.chunk true) }
     ensures err { IfErr result (IsLoadStop (IsNoTable columns.now) (F.view files.old) (F.view files.new) path.now) }
@@ -86,6 +89,7 @@ pub fn mount_table<F: Files>(
 /// The tree that a file spells as the only source, given one child at a time. An error is as with `mount_tree`.
 pub fn mount_alone<F: Files>(alloc: Global, files: &mut F, path: &str) -> Result<Mounted, Stop>
     ensures keeps { KeepsFiles (F.view files.new) (F.view files.old) }
+    ensures others { ReadsOnly path.now (F.view files.new) (F.view files.old) }
     ensures steady { OnOk result ((p : List ℕ) → (F.view files.new).faults p ≡ (F.view files.old).faults p) }
     ensures ok { IfOk result (IsMounted (F.view files.old) path.now) }
     ensures err { IfErr result (IsLoadStop IsNoTree (F.view files.old) (F.view files.new) path.now) }
@@ -97,6 +101,7 @@ pub fn mount_alone<F: Files>(alloc: Global, files: &mut F, path: &str) -> Result
 /// The steps of a file that is a script. An error is as with a tree.
 pub fn load_script<F: Files>(alloc: Global, files: &mut F, path: &str) -> Result<Vec<Step>, Stop>
     ensures keeps { KeepsFiles (F.view files.new) (F.view files.old) }
+    ensures others { ReadsOnly path.now (F.view files.new) (F.view files.old) }
     ensures steady { OnOk result ((p : List ℕ) → (F.view files.new).faults p ≡ (F.view files.old).faults p) }
     ensures ok { IfOk result (λ steps. IsScript (F.view files.old) path.now steps.items) }
     ensures err { IfErr result (IsLoadStop IsNoScript (F.view files.old) (F.view files.new) path.now) }
@@ -111,6 +116,7 @@ pub fn load_script<F: Files>(alloc: Global, files: &mut F, path: &str) -> Result
 /// The catalog that a file spells. An error is as with a tree.
 pub fn load_catalog<F: Files>(alloc: Global, files: &mut F, path: &str) -> Result<Catalog, Stop>
     ensures keeps { KeepsFiles (F.view files.new) (F.view files.old) }
+    ensures others { ReadsOnly path.now (F.view files.new) (F.view files.old) }
     ensures steady { OnOk result ((p : List ℕ) → (F.view files.new).faults p ≡ (F.view files.old).faults p) }
     ensures ok { IfOk result (IsCatalogFile (F.view files.old) path.now) }
     ensures err { IfErr result (IsLoadStop IsNoCatalog (F.view files.old) (F.view files.new) path.now) }
@@ -130,6 +136,7 @@ pub fn load_rule<F: Files>(
     catalog: &Catalog,
 ) -> Result<Rule, Stop>
     ensures keeps { KeepsFiles (F.view files.new) (F.view files.old) }
+    ensures others { ReadsOnly path.now (F.view files.new) (F.view files.old) }
     ensures steady { OnOk result ((p : List ℕ) → (F.view files.new).faults p ≡ (F.view files.old).faults p) }
     ensures ok { IfOk result (λ rule. IsRuleFile (F.view files.old) path.now (names_of_sources catalog.now) (rule_of rule)) }
     ensures accepted { IfOk result (λ rule. IsAccepted (length (names_of_sources catalog.now)) (rule_of rule)) }

@@ -2,12 +2,13 @@
 ghost use Rattle.std.specs.Prelude.{◌≡◌, ◌<◌, List, ℕ, true, false, length, slice_get, Some, OnOk, IfOk, IfErr};
 ghost use Rattle.mix_catalog.specs.Grammar.{file_of};
 ghost use Rattle.mix_catalog.specs.Sources.{IsCatalog, IsChunk};
-ghost use Rattle.mix_io.specs.Views.{FilesView, KeepsFiles};
+ghost use Rattle.mix_io.specs.Views.{FilesView, KeepsFiles, ReadsOnly};
 ghost use Rattle.mix_mount.specs.declared.mount.Mount.TheVariants.{Absent};
 ghost use Rattle.xmas_rule.specs.RuleMade.{rule_of};
 ghost use Rattle.mix_top.specs.Course.{is_of, names_source};
 ghost use Rattle.mix_top.specs.Documents.{StandsForNone};
 ghost use Rattle.mix_top.specs.Mounting.{AreMounted, IsMountStop, IsMountedSource, IsMountFor, IsSourceStop};
+ghost use Rattle.mix_top.specs.FilesRead.{ReadsAmong, IsFileFor, SourceMayRead};
 ghost use Rattle.mix_top.specs.Stops.{IsLoadStop};
 
 use crate::load::{mount_table, mount_tree};
@@ -51,6 +52,7 @@ fn path_of(file: &Label) -> &str
 fn mount_spec<F: Files>(alloc: Global, files: &mut F, spec: &SourceSpec) -> Result<Mount, Stop>
     requires { IsChunk spec.now.chunk }
     ensures keeps { KeepsFiles (F.view files.new) (F.view files.old) }
+    ensures others { ReadsOnly (file_of spec.now.kind) (F.view files.new) (F.view files.old) }
     ensures steady { OnOk result ((p : List ℕ) → (F.view files.new).faults p ≡ (F.view files.old).faults p) }
     ensures ok { IfOk result (IsMountedSource (F.view files.old) spec.now) }
     ensures err { IfErr result (IsLoadStop (StandsForNone spec.now.kind) (F.view files.old) (F.view files.new) (file_of spec.now.kind)) }
@@ -75,6 +77,7 @@ fn mount_source<F: Files>(
 ) -> Result<Mount, Stop>
     requires { IsChunk spec.now.chunk }
     ensures keeps { KeepsFiles (F.view files.new) (F.view files.old) }
+    ensures reads { ReadsAmong (IsFileFor (rule_of rule.now) s spec.now) (F.view files.new) (F.view files.old) }
     ensures steady { OnOk result ((p : List ℕ) → (F.view files.new).faults p ≡ (F.view files.old).faults p) }
     ensures ok { IfOk result (IsMountFor (F.view files.old) (rule_of rule.now) s spec.now) }
     ensures err { IfErr result (IsSourceStop (F.view files.old) (F.view files.new) (rule_of rule.now) s spec.now) }
@@ -96,6 +99,8 @@ pub fn mount_sources<F: Files>(
 ) -> Result<Vec<Mount>, Stop>
     requires { (text : List ℕ) × IsCatalog text catalog.now }
     ensures keeps { KeepsFiles (F.view files.new) (F.view files.old) }
+    ensures reads { let old = F.view files.old in
+        ReadsAmong (SourceMayRead old (rule_of rule.now) catalog.now) (F.view files.new) old }
     ensures steady { OnOk result ((p : List ℕ) → (F.view files.new).faults p ≡ (F.view files.old).faults p) }
     ensures ok { IfOk result (λ docs. AreMounted (F.view files.old) (rule_of rule.now) catalog.now docs.items) }
     ensures err { IfErr result (IsMountStop (F.view files.old) (F.view files.new) (rule_of rule.now) catalog.now) }

@@ -1,0 +1,86 @@
+-- What is read by calls one after another.
+use Rattle.std.proofs.Common.{◌≡◌, ◌∙◌, inl, inr, ℕ, List, Some, refl, subst, sym, slice_get}
+use Rattle.mix_io.specs.Views.{FilesView, KeepsFiles, ReadsOnly}
+use Rattle.mix_catalog.specs.declared.source.SourceSpec.{SourceSpec}
+use Rattle.mix_catalog.specs.Grammar.{file_of}
+use Rattle.mix_script.specs.declared.step.Step.{Step}
+use Rattle.mix_tree.specs.Forest.{LabelledTree}
+use Rattle.xmas_rule.specs.Rules.{RuleValue}
+use Rattle.xmas_read.specs.Results.{names_of_sources}
+use Rattle.mix_mount.specs.declared.mount.Mount.{Mount}
+use Rattle.mix_top.specs.Course.{AreAccepted, IsCatalogFile, IsRuleFile, IsScript}
+use Rattle.mix_top.specs.Documents.{SpellsTree, StandsFor, IsDocument}
+use Rattle.mix_top.specs.FilesRead.{ReadsAmong, WalkMayRead, ViewMayRead, IsFileFor, SourceMayRead, RunMayRead}
+use Rattle.mix_top.proofs.MountLaws.{AreMountedTo, document_before}
+
+-- what each of two calls may read, both may
+pub reads_twice : (May : List ℕ → Type 0) (old mid new : FilesView) → ReadsAmong May mid old → ReadsAmong May new mid → ReadsAmong May new old
+reads_twice May old mid new a b = λ path no. b path no ∙ a path no
+
+-- a file that may be read was read alone
+pub reads_one : (May : List ℕ → Type 0) (path : List ℕ) (old new : FilesView) → May path → ReadsOnly path new old → ReadsAmong May new old
+reads_one May path old new may only = λ other no. only other (λ e. no (subst May (sym e) may))
+
+-- what may be read by one rule may be read by a wider one
+reads_wider : (A B : List ℕ → Type 0) (old new : FilesView) → ((path : List ℕ) → A path → B path) → ReadsAmong A new old → ReadsAmong B new old
+reads_wider A B old new wider reads = λ path no. reads path (λ a. no (wider path a))
+
+-- the document of a walk was read, and then its script
+pub walk_reads : (old mid new : FilesView) (file script : List ℕ) (t : LabelledTree) → IsDocument SpellsTree old file t → ReadsOnly file mid old → ReadsOnly script new mid
+    → ReadsAmong (WalkMayRead old file script) new old
+walk_reads old mid new file script t document first second =
+    let May = WalkMayRead old file script in
+    reads_twice May old mid new (reads_one May file old mid (inl refl) first) (reads_one May script mid new (inr (refl, t, document)) second)
+
+-- a catalog was read, and then a view
+pub view_reads : (old mid new : FilesView) (view catalog : List ℕ) (sources : List SourceSpec) → IsCatalogFile old catalog sources → ReadsOnly catalog mid old → ReadsOnly view new mid
+    → ReadsAmong (ViewMayRead old view catalog) new old
+view_reads old mid new view catalog sources accepted first second =
+    let May = ViewMayRead old view catalog in
+    reads_twice May old mid new (reads_one May catalog old mid (inl refl) first) (reads_one May view mid new (inr (refl, sources, accepted)) second)
+
+-- the sources before a number were mounted, so their files are accepted
+pub mounted_accepted : (files : FilesView) (v : RuleValue) (sources : List SourceSpec) (n : ℕ) (docs : List Mount) → AreMountedTo files v sources n docs → AreAccepted files v sources n
+mounted_accepted files v sources n docs h = λ k before less at is. let f = (h.each k before less at).named is in (f.tree, f.document_is)
+
+-- the file of one source more was read, where the rule names it
+pub source_reads : (old mid new : FilesView) (v : RuleValue) (sources : List SourceSpec) (n : ℕ) (docs : List Mount) (spec : SourceSpec) → AreMountedTo old v sources n docs
+    → slice_get sources n ≡ Some spec → ReadsAmong (SourceMayRead old v sources) mid old → ReadsAmong (IsFileFor v n spec) new mid → ReadsAmong (SourceMayRead old v sources) new old
+source_reads old mid new v sources n docs spec h there before now =
+    let May = SourceMayRead old v sources in
+    reads_twice May old mid new before
+    (reads_wider (IsFileFor v n spec) May mid new (λ path is. (n, spec, there, is, mounted_accepted old v sources n docs h)) now)
+
+-- what is accepted later was accepted before
+accepted_before : (old mid : FilesView) (v : RuleValue) (sources : List SourceSpec) (n : ℕ) → KeepsFiles mid old → AreAccepted mid v sources n → AreAccepted old v sources n
+accepted_before old mid v sources n keeps h = λ k before less at is.
+    let f = h k before less at is in
+    (f.0, document_before (StandsFor before.name before.kind) old mid (file_of before.kind) f.0 keeps f.1)
+
+module _ (old : FilesView) (view catalog script : List ℕ) where
+  -- the catalog of a run was read
+  pub run_reads_catalog : (new : FilesView) → ReadsOnly catalog new old → ReadsAmong (RunMayRead old view catalog script) new old
+  run_reads_catalog new only = reads_one (RunMayRead old view catalog script) catalog old new (inl refl) only
+
+  module _ (sources : List SourceSpec) (cat : IsCatalogFile old catalog sources) where
+    -- then its view
+    pub run_reads_view : (mid new : FilesView) → ReadsAmong (RunMayRead old view catalog script) mid old → ReadsOnly view new mid → ReadsAmong (RunMayRead old view catalog script) new old
+    run_reads_view mid new before only =
+        let May = RunMayRead old view catalog script in
+        reads_twice May old mid new before (reads_one May view mid new (inr (sources, cat, inl refl)) only)
+
+    module _ (v : RuleValue) (rule : IsRuleFile old view (names_of_sources sources) v) where
+      -- then its script
+      pub run_reads_script : (mid new : FilesView) → ReadsAmong (RunMayRead old view catalog script) mid old → ReadsOnly script new mid → ReadsAmong (RunMayRead old view catalog script) new old
+      run_reads_script mid new before only =
+          let May = RunMayRead old view catalog script in
+          reads_twice May old mid new before (reads_one May script mid new (inr (sources, cat, inr (v, rule, inl refl))) only)
+
+      -- then the files of its sources
+      pub run_reads_sources : (mid new : FilesView) (steps : List Step) → IsScript old script steps → KeepsFiles mid old → ReadsAmong (RunMayRead old view catalog script) mid old
+          → ReadsAmong (SourceMayRead mid v sources) new mid → ReadsAmong (RunMayRead old view catalog script) new old
+      run_reads_sources mid new steps scr keeps before reads =
+          let May = RunMayRead old view catalog script in
+          reads_twice May old mid new before
+          (reads_wider (SourceMayRead mid v sources) May mid new
+          (λ path h. inr (sources, cat, inr (v, rule, inr (steps, scr, (h.0, h.1, h.2, h.3, accepted_before old mid v sources h.0 keeps h.4))))) reads)

@@ -1,0 +1,50 @@
+-- Which files a command may read: each behind those that are accepted before it.
+use Rattle.std.specs.Prelude.{◌≡◌, ◌⊎◌, ℕ, IsTrue, List, Some, slice_get}
+use Rattle.mix_tree.specs.Forest.{LabelledTree}
+use Rattle.mix_io.specs.Views.{FilesView}
+use Rattle.mix_script.specs.declared.step.Step.{Step}
+use Rattle.mix_catalog.specs.declared.source.SourceSpec.{SourceSpec}
+use Rattle.mix_catalog.specs.Grammar.{file_of}
+use Rattle.xmas_rule.specs.Rules.{RuleValue}
+use Rattle.xmas_read.specs.Results.{names_of_sources}
+use Rattle.mix_top.specs.Commands.{Command, help, version, walk, read, plan, run, unknown}
+use Rattle.mix_top.specs.Course.{AreAccepted, IsCatalogFile, IsRuleFile, IsScript, names_source}
+use Rattle.mix_top.specs.Documents.{SpellsTree, IsDocument}
+
+-- of no path but those that may be read was more read than before
+abbrev pub ReadsAmong : (List ℕ → Type 0) → FilesView → FilesView → Type 0
+ReadsAmong May new old = (path : List ℕ) → ¬ May path → new.furthest path ≡ old.furthest path
+
+-- a walk may read its document, and behind one that is accepted its script
+abbrev pub WalkMayRead : FilesView → List ℕ → List ℕ → List ℕ → Type 0
+WalkMayRead files file script path = (path ≡ file) ⊎ ((path ≡ script) × (t : LabelledTree) × IsDocument SpellsTree files file t)
+
+-- a view's reading may read the catalog, and behind one that is accepted the view
+abbrev pub ViewMayRead : FilesView → List ℕ → List ℕ → List ℕ → Type 0
+ViewMayRead files view catalog path = (path ≡ catalog) ⊎ ((path ≡ view) × (sources : List SourceSpec) × IsCatalogFile files catalog sources)
+
+-- the file of a source that a rule names
+abbrev pub IsFileFor : RuleValue → ℕ → SourceSpec → List ℕ → Type 0
+IsFileFor v s spec path = IsTrue (names_source v s) × (path ≡ file_of spec.kind)
+
+-- such a file may be read where those of all sources before it are accepted
+abbrev pub SourceMayRead : FilesView → RuleValue → List SourceSpec → List ℕ → Type 0
+SourceMayRead files v sources path =
+    (s : ℕ) × (spec : SourceSpec) × (slice_get sources s ≡ Some spec) × IsFileFor v s spec path × AreAccepted files v sources s
+
+-- a run may read the catalog, the view, the script, and then the files of the sources that the view names
+abbrev pub RunMayRead : FilesView → List ℕ → List ℕ → List ℕ → List ℕ → Type 0
+RunMayRead files view catalog script path =
+    (path ≡ catalog) ⊎ ((sources : List SourceSpec) × IsCatalogFile files catalog sources
+    × ((path ≡ view) ⊎ ((v : RuleValue) × IsRuleFile files view (names_of_sources sources) v
+    × ((path ≡ script) ⊎ ((steps : List Step) × IsScript files script steps × SourceMayRead files v sources path)))))
+
+-- what a command may read
+abbrev pub MayRead : FilesView → Command → List ℕ → Type 0
+MayRead files help path = ⊥
+MayRead files version path = ⊥
+MayRead files (walk file script) path = WalkMayRead files file script path
+MayRead files (read view catalog) path = ViewMayRead files view catalog path
+MayRead files (plan view catalog) path = ViewMayRead files view catalog path
+MayRead files (run view catalog script) path = RunMayRead files view catalog script path
+MayRead files unknown path = ⊥
