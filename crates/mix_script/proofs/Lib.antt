@@ -2,5 +2,6 @@ pub mod Answering
 pub mod Finished
 pub mod Held
 pub mod Holding
+pub mod LineForms
 pub mod Reading
 pub mod WorkedRow

@@ -3,6 +3,7 @@ pub mod Answers
 pub mod Finished
 pub mod Forms
 pub mod Holding
+pub mod Lines
 pub mod Names
 pub mod Steps
 pub mod Trails

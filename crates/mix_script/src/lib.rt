@@ -2,11 +2,13 @@
 #![tactic(auto)]
 
 mod answer;
+mod forms;
+mod line;
 mod names;
 mod script;
 mod step;
 
-pub use answer::{Answer, write_answer};
+pub use answer::{Answer, Text, write_answer};
 pub use names::Names;
 pub use script::{ScriptFault, read_script};
 pub use step::{Act, Step, Way};
