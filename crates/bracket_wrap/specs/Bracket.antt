@@ -34,10 +34,6 @@ weight d h = nodes_of (forest d h)
 abbrev pub root_hole : BracketDoc → HoleId
 root_hole d = rest_hole (all_of (length d.nodes - 1))
 
--- the hole of all children of the root, whose node stands right before the document node
-abbrev pub kids_hole : BracketDoc → HoleId
-kids_hole d = rest_hole (all_of (length d.nodes - 1 - 1))
-
 -- the whole document
 abbrev pub document : BracketDoc → Forest
 document d = forest d (root_hole d)

@@ -27,7 +27,7 @@ impl BracketDoc {
     ghost use Rattle.document_store.specs.Laid.{IsDocument};
     ghost use Rattle.lxp_core.specs.Open.{closed, weight_of, AllHoles, IsProgress, begins_with_hole};
     ghost use Rattle.lxp_core.specs.Plain.{plain};
-    ghost use Rattle.bracket_wrap.specs.Bracket.{chunk_of, deep_of, root_hole, kids_hole, knows, forest, weight, document, given};
+    ghost use Rattle.bracket_wrap.specs.Bracket.{chunk_of, deep_of, root_hole, knows, forest, weight, document, given};
 
     /// A document, to be given `chunk` children at a time, `deep` or not. A chunk is 1 to 1,000.
     pub fn open(nodes: Store, chunk: u32, deep: bool) -> BracketDoc
@@ -47,18 +47,6 @@ impl BracketDoc {
     {
         let top = self.nodes.len() - 1;
         Rest { node: top, to: top }.hole()
-    }
-
-    /// The hole that stands for all children of the root.
-    pub fn kids_hole(&self) -> HoleId
-        ensures { result ≡ kids_hole self.now }
-    {
-        let root = (self.nodes.len() - 1).saturating_sub(1);
-        Rest {
-            node: root,
-            to: root,
-        }
-        .hole()
     }
 
     /// The list of a hole. `UnknownHole`: the document doesn't know the hole. It never answers `Failed`.

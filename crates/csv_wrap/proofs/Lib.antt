@@ -1,5 +1,6 @@
 pub mod FieldFacts
 pub mod FrontFacts
+pub mod Given
 pub mod ReachFacts
-pub mod RootFacts
 pub mod RowFacts
+pub mod Shown

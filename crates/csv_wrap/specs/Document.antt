@@ -1,45 +1,76 @@
 -- What a CSV document and its holes mean.
-use Rattle.std.specs.Prelude.{◌≡◌, ℕ, Bool, true, cond}
-use Rattle.std.specs.Str.{bytes_eq}
-use Rattle.mix_tree.specs.Forest.{Forest}
+use Rattle.std.specs.Prelude.{◌≡◌, ℕ, ◌+◌, Bool, true, false, cond, nat_le, nat_lt, List, take, drop, length, Option, Some, None, refl}
+use Rattle.mix_tree.specs.Forest.{Forest, none, alone}
+use Rattle.mix_tree.specs.Weight.{nodes_of}
 use Rattle.lxp_core.specs.declared.open_tree.HoleId.{HoleId}
-use Rattle.lxp_core.specs.Open.{Open, nil, node, hole}
-use Rattle.bracket_wrap.specs.Bracket as bracket
+use Rattle.lxp_core.specs.Open.{Open, nil, node, hole, open_followed, without_holes}
 use Rattle.csv_wrap.specs.declared.document.CsvDoc.{CsvDoc}
+use Rattle.csv_wrap.specs.declared.parts.Part.{Part}
+use Rattle.csv_wrap.specs.declared.parts.Part.TheVariants.{Name, RowsFrom}
+use Rattle.csv_wrap.specs.Parts.{hole_of, part_of}
+use Rattle.csv_wrap.specs.Rows.{row_forest, file_tree}
+use Rattle.csv_wrap.specs.Table.{rows_in}
 
 -- how many rows a list has at most
 abbrev pub chunk_of : CsvDoc → ℕ
-chunk_of d = bracket.chunk_of d.rows
+chunk_of d = d.chunk
+
+-- the columns of a document
+abbrev pub columns_of : CsvDoc → List (List ℕ)
+columns_of d = d.columns.items
+
+-- the rows of a document
+abbrev pub rows_of : CsvDoc → List (List (List ℕ))
+rows_of d = rows_in (length d.columns.items) d.table
+
+-- whether a document has a part: the name, and the rows from one on, or none behind the last
+abbrev pub has_part : CsvDoc → Option Part → Bool
+has_part d None = false
+has_part d (Some Name) = true
+has_part d (Some (RowsFrom first)) = nat_le first (length (rows_of d))
+
+-- the trees of a part
+abbrev pub part_forest : CsvDoc → Option Part → Forest
+part_forest d None = none
+part_forest d (Some Name) = alone (file_tree d.name (columns_of d) (rows_of d))
+part_forest d (Some (RowsFrom first)) = row_forest (columns_of d) (drop first (rows_of d))
+
+-- a hole for the rows from one on, where there are any
+abbrev pub rest_given : CsvDoc → ℕ → Open
+rest_given d first = cond (nat_lt first (length (rows_of d))) (hole (hole_of (RowsFrom first)) nil) nil
+
+-- the list of a part: the name with the hole of all rows below it; of rows the next, at most a chunk, each whole, and a hole
+-- behind them exactly where more remain
+abbrev pub part_given : CsvDoc → Option Part → Open
+part_given d None = nil
+part_given d (Some Name) = node d.name (hole (hole_of (RowsFrom 0)) nil) nil
+part_given d (Some (RowsFrom first)) =
+    open_followed (without_holes (row_forest (columns_of d) (take d.chunk (drop first (rows_of d))))) (rest_given d (first + d.chunk))
 
 -- whether a document knows a hole
 abbrev pub knows : CsvDoc → HoleId → Bool
-knows d = bracket.knows d.rows
+knows d h = has_part d (part_of h)
 
 -- the trees that a hole stands for
 abbrev pub forest : CsvDoc → HoleId → Forest
-forest d = bracket.forest d.rows
+forest d h = part_forest d (part_of h)
 
 -- the weight of a hole: the number of nodes that it stands for
 abbrev pub weight : CsvDoc → HoleId → ℕ
-weight d = bracket.weight d.rows
+weight d h = nodes_of (forest d h)
 
 -- the hole of the root
 abbrev pub root_hole : CsvDoc → HoleId
-root_hole d = bracket.root_hole d.rows
+root_hole d = hole_of Name
 
 -- the whole document
 abbrev pub document : CsvDoc → Forest
-document d = bracket.document d.rows
+document d = forest d (root_hole d)
+
+-- the list of a hole
+abbrev pub given : CsvDoc → HoleId → Open
+given d h = part_given d (part_of h)
 
 -- the hole of the root is known
 pub root_known : (d : CsvDoc) → knows d (root_hole d) ≡ true
-root_known d = bracket.root_known d.rows
-
--- the list of the root's hole: the name, with the hole of all rows below it
-abbrev pub given_name : CsvDoc → Open
-given_name d = node d.name (hole (bracket.kids_hole d.rows) nil) nil
-
--- the list of a hole: the name where it is the root's, else the next rows, at most a chunk, each whole, and a hole behind them
--- exactly where more remain
-abbrev pub given : CsvDoc → HoleId → Open
-given d h = cond (bytes_eq h.words (root_hole d).words) (given_name d) (bracket.given d.rows h)
+root_known d = refl

@@ -1,4 +1,5 @@
 pub mod Csv
 pub mod Document
-pub mod Named
+pub mod Parts
 pub mod Rows
+pub mod Table

@@ -1,24 +1,29 @@
 // CSV documents, given so many rows at a time.
-ghost use Rattle.std.specs.Prelude.{◌≡◌, ◌≤◌};
-ghost use Rattle.csv_wrap.specs.Named.{IsNamed};
+ghost use Rattle.std.specs.Prelude.{◌≡◌, ◌≤◌, length};
+ghost use Rattle.csv_wrap.specs.Table.{IsFull};
 
 use crate::CsvFault;
-use crate::reading::read_document;
-use bracket_wrap::BracketDoc;
+use crate::parts::Part;
+use crate::reading::read_rows;
+use crate::table::{Table, copy_columns};
 use lxp_core::{HoleId, OpenTree, SourceFault};
 use mix_tree::Label;
-use std::alloc::{AllocError, Global};
+use std::alloc::Global;
 
 /// The document of a CSV file, which is given so many rows at a time.
 ///
 /// The root's hole stands for the source's name. Its list is the name, with one hole below it, also where there are no rows.
 /// That hole stands for all rows. The list of a hole for rows has the next of them, at most a chunk, each whole, and behind
-/// these one hole exactly where more remain. No list begins with a hole.
+/// these one hole exactly where more remain. No list begins with a hole. The columns are kept once, and a row's nodes are made
+/// when they are given.
 #[derive(Drop)]
 pub struct CsvDoc {
-    rows: BracketDoc,
-    name: Label,
-    ghost named: { IsNamed rows name },
+    pub(crate) name: Label,
+    pub(crate) columns: Vec<Label>,
+    pub(crate) table: Table,
+    pub(crate) chunk: u32,
+    ghost some: { 1 ≤ chunk },
+    ghost full: { IsFull (length columns.items) table },
 }
 
 impl CsvDoc {
@@ -28,7 +33,7 @@ impl CsvDoc {
     ghost use Rattle.lxp_core.specs.Plain.{plain};
     ghost use Rattle.csv_wrap.specs.Csv.{Explains, IsFile};
     ghost use Rattle.csv_wrap.specs.Rows.{file_tree};
-    ghost use Rattle.csv_wrap.specs.Document.{chunk_of, root_hole, knows, forest, weight, document, given, given_name};
+    ghost use Rattle.csv_wrap.specs.Document.{chunk_of, root_hole, knows, forest, weight, document, given};
 
     /// The document of a file with these columns, as a source of this name, to be given `chunk` rows at a time
     /// (docs/FORMATS.md, "CSV files"). A chunk is 1 to 1,000.
@@ -48,11 +53,12 @@ impl CsvDoc {
         // Or it is no file with these columns, for this cause, or memory ran out.
         ensures refused { IfErr result (Explains bytes.now columns.now) }
     {
-        let nodes = read_document(alloc, bytes, name, columns)?;
-        let name = name.copy(alloc)?;
+        let table = read_rows(alloc, bytes, columns)?;
         Ok(CsvDoc {
-            rows: BracketDoc::open(nodes, chunk, true),
-            name,
+            name: name.copy(alloc)?,
+            columns: copy_columns(alloc, columns)?,
+            table,
+            chunk,
         })
     }
 
@@ -60,19 +66,7 @@ impl CsvDoc {
     pub fn root_hole(&self) -> HoleId
         ensures { result ≡ root_hole self.now }
     {
-        self.rows.root_hole()
-    }
-
-    // The list of the root's hole.
-    fn give_name(&self, alloc: Global) -> Result<Vec<OpenTree>, AllocError>
-        ensures { IfOk result (λ list. plain list.items ≡ given_name self.now) }
-    {
-        let mut kids = Vec::new(alloc);
-        kids.push(OpenTree::Hole(self.rows.kids_hole()))?;
-        let label = self.name.copy(alloc)?;
-        let mut list = Vec::new(alloc);
-        list.push(OpenTree::Node { label, kids })?;
-        Ok(list)
+        Part::Name.hole()
     }
 
     /// The list of a hole. `UnknownHole`: the document doesn't know the hole. It never answers `Failed`.
@@ -89,9 +83,9 @@ impl CsvDoc {
         ensures unknown { IsErrOf result SourceFault.UnknownHole → knows self.now hole ≡ false }
         ensures only_unknown { knows self.now hole ≡ false → IsErrOf result SourceFault.UnknownHole }
     {
-        if hole == self.root_hole() {
-            return Ok(self.give_name(alloc)?);
-        }
-        self.rows.fill(alloc, hole)
+        let Some(part) = self.part(hole) else {
+            return Err(SourceFault::UnknownHole);
+        };
+        Ok(self.give(alloc, part)?)
     }
 }

@@ -3,10 +3,12 @@
 
 mod document;
 mod fault;
+mod giving;
 mod marks;
+mod parts;
 mod reading;
 mod records;
-mod rows;
+mod table;
 
 pub use document::CsvDoc;
 pub use fault::CsvFault;

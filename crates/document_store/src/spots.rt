@@ -51,9 +51,9 @@ pub fn spot_at(spots: &[Spot], i: usize) -> Spot
     Spot { end: 0, below: 0 }
 }
 
-// The bytes between two places.
+/// The bytes between two places.
 #[inline]
-fn part(bytes: &[u8], from: usize, to: usize) -> &[u8]
+pub fn part(bytes: &[u8], from: usize, to: usize) -> &[u8]
     requires order { from ≤ to }
     requires inside { to ≤ length bytes.now }
     ensures { result.now ≡ slice_range bytes.now from to }

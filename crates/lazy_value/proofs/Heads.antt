@@ -1,5 +1,5 @@
 -- The trees of pieces that are no lists.
-use Rattle.std.proofs.Common.{◌≡◌, ℕ, ◌∙◌, sym, ap, subst}
+use Rattle.std.proofs.Common.{◌≡◌, ◌<◌, ℕ, ◌∙◌, sym, ap, subst, arith}
 use Rattle.std.specs.Prelude.{Result, Ok, Err, IfOk}
 use Rattle.mix_tree.specs.Nodes.{Node, label_at}
 use Rattle.tree_buffer.specs.declared.spot.Spot.{Spot}
@@ -11,8 +11,8 @@ use Rattle.lazy_plan.specs.Bench.{BenchState, ops_of, documents, binding_at, IsS
 use Rattle.lazy_plan.specs.declared.position.Position.{Position}
 use Rattle.lazy_value.specs.Forms.{input_at, piece_at}
 use Rattle.lazy_value.specs.Origins.{IsOriginOf, IsHeadOf}
-use Rattle.lazy_value.specs.declared.ids.Head.TheVariants.{Whole, Leaf}
-use Rattle.lazy_value.specs.declared.ids.Origin.TheVariants.{Node as node_origin}
+use Rattle.lazy_value.specs.declared.ids.Head.TheVariants.{Whole, Built, Leaf}
+use Rattle.lazy_value.specs.declared.ids.Origin.TheVariants.{Node as node_origin, Element as element_origin}
 
 -- what is said of an answer, where something that follows from it is asked
 pub if_ok : {T E : Type 0} (r : Result T E) (P Q : T → Type 0) → ((x : T) → P x → Q x) → IfOk r P → IfOk r Q
@@ -30,6 +30,7 @@ module _ (st : BenchState) (op index input : ℕ) (c : Position) (p : Piece) (v 
   pub leaf_head : (s : ℕ) (x : Spot) → p ≡ label_piece v → s ≡ (row_node (binding_at st input c) v).source → IsSpotOf st input c v (row_node (binding_at st input c) v).source x → IsHeadOf st op index c (Leaf s x)
   leaf_head s x z k h = record {
     head = subst (λ (r : ℕ). IsSpotAt st r x) (sym k) h.spot;
+    rank = omega arith;
     trees = λ rest. items_are (label_piece v) z rest
         ∙ ap (λ (n : Node). item 0 (label_at (documents st) n) (ends 0) rest) (ap source_node h.value ∙ ap (λ (r : ℕ). node_at st r x) (sym k));
   }
@@ -38,5 +39,14 @@ module _ (st : BenchState) (op index input : ℕ) (c : Position) (p : Piece) (v 
   pub node_head : (s : ℕ) (x : Spot) → p ≡ var_piece v → IsOriginOf st input c v (node_origin s x) → IsHeadOf st op index c (Whole s x)
   node_head s x z o = record {
     head = o.origin;
+    rank = omega arith;
+    trees = λ rest. items_are (var_piece v) z rest ∙ ap (λ (t : TolledValue). value_trees (documents st) t rest) o.value;
+  }
+
+  -- an element that an operator makes
+  pub element_head : (maker : ℕ) (at : Position) → p ≡ var_piece v → IsOriginOf st input c v (element_origin maker at) → input < op → IsHeadOf st op index c (Built maker at)
+  element_head maker at z o l = record {
+    head = o.origin;
+    rank = (let r = o.rank in omega (arith, r, l));
     trees = λ rest. items_are (var_piece v) z rest ∙ ap (λ (t : TolledValue). value_trees (documents st) t rest) o.value;
   }

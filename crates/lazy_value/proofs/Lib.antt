@@ -4,6 +4,7 @@ pub mod Gathering
 pub mod Going
 pub mod Having
 pub mod Heads
+pub mod Heights
 pub mod Keep
 pub mod Lasts
 pub mod Laws

@@ -106,6 +106,7 @@ module _ (st : BenchState) (typed : IsTyped (ops_of st)) (n : ℕ) (within : n <
     kind = k;
     size = omega arith;
     extent = node_extent (ops_of st) typed (size_of st) n v within k;
+    rank = omega arith;
   }
 
   -- all bindings
@@ -124,6 +125,7 @@ module _ (st : BenchState) (typed : IsTyped (ops_of st)) (n : ℕ) (within : n <
         kind = k ∙ cond_true (out == v) _ _ t;
         size = omega (arith, s);
         extent = (let y : size_of st (input_at (ops_of st) n) ≡ size_of st i = ap (λ (p : Operator). size_of st (input_of p)) (sym f) in omega (arith, x, y));
+        rank = omega arith;
       }
 
   -- the form of groups
@@ -161,6 +163,7 @@ module _ (st : BenchState) (typed : IsTyped (ops_of st)) (n : ℕ) (within : n <
         kind = k ∙ cond_true (out == v) _ _ t;
         size = omega (arith, s);
         extent = (let y : size_of st (input_at (ops_of st) n) ≡ size_of st i = ap (λ (p : Operator). size_of st (input_of p)) (sym e) in omega (arith, x, y));
+        rank = omega arith;
       }
 
   -- a concatenation
@@ -179,6 +182,7 @@ module _ (st : BenchState) (typed : IsTyped (ops_of st)) (n : ℕ) (within : n <
         kind = k ∙ cond_true (out == v) _ _ t;
         size = omega (arith, s, sizes);
         extent = omega (arith, x, extents);
+        rank = omega arith;
       }
 
   -- an element
@@ -195,6 +199,7 @@ module _ (st : BenchState) (typed : IsTyped (ops_of st)) (n : ℕ) (within : n <
         kind = k ∙ cond_true (out == v) _ _ t;
         size = omega arith;
         extent = omega (arith, x);
+        rank = omega arith;
       }
 
 -- a value that is passed on is made where that of the input is
@@ -205,4 +210,5 @@ origin_passed st n i v c d r p u o = record {
   kind = p.kind ∙ o.kind;
   size = (let x = p.size in let y = o.size in omega (arith, x, y));
   extent = (let x = p.extent (size_of st) in let y = o.extent in omega (arith, x, y));
+  rank = (let x = p.within in let y = o.rank in omega (arith, x, y));
 }

@@ -17,17 +17,11 @@ pub data Form : Type 0 where
 
 -- what an operator makes
 abbrev pub form : Operator → Form
-form (source s out) = makes_nothing
-form (get_descendants input start path out) = makes_nothing
-form (join left right tests) = makes_nothing
-form (over input (select test)) = makes_nothing
-form (over input (order_by v desc)) = makes_nothing
-form (over input (project keys)) = makes_nothing
 form (over input (group_by [] piece out)) = gathers_all
 form (over input (group_by (k ∷ keys) piece out)) = gathers_groups
 form (over input (concatenate pieces out)) = makes_list
 form (over input (create_element label list out)) = makes_element
-form (tuple_destroy input element) = makes_nothing
+form op = makes_nothing
 
 -- the input of an operator with one input
 abbrev pub input_of : Operator → ℕ
@@ -39,42 +33,20 @@ input_of (tuple_destroy input element) = input
 
 -- the pieces of a list, or the one of a group's or of an element
 abbrev pub pieces_of : Operator → List Piece
-pieces_of (source s out) = []
-pieces_of (get_descendants input start path out) = []
-pieces_of (join left right tests) = []
-pieces_of (over input (select test)) = []
-pieces_of (over input (order_by v desc)) = []
-pieces_of (over input (project keys)) = []
 pieces_of (over input (group_by keys piece out)) = piece ∷ []
 pieces_of (over input (concatenate pieces out)) = pieces
 pieces_of (over input (create_element label list out)) = var_piece list ∷ []
-pieces_of (tuple_destroy input element) = []
+pieces_of op = []
 
 -- the keys of groups
 abbrev pub keys_of : Operator → List Key
-keys_of (source s out) = []
-keys_of (get_descendants input start path out) = []
-keys_of (join left right tests) = []
-keys_of (over input (select test)) = []
-keys_of (over input (order_by v desc)) = []
-keys_of (over input (project keys)) = []
 keys_of (over input (group_by keys piece out)) = keys
-keys_of (over input (concatenate pieces out)) = []
-keys_of (over input (create_element label list out)) = []
-keys_of (tuple_destroy input element) = []
+keys_of op = []
 
 -- the label of the elements
 abbrev pub label_in : Operator → List ℕ
-label_in (source s out) = []
-label_in (get_descendants input start path out) = []
-label_in (join left right tests) = []
-label_in (over input (select test)) = []
-label_in (over input (order_by v desc)) = []
-label_in (over input (project keys)) = []
-label_in (over input (group_by keys piece out)) = []
-label_in (over input (concatenate pieces out)) = []
 label_in (over input (create_element label list out)) = label
-label_in (tuple_destroy input element) = []
+label_in op = []
 
 -- a piece of a number
 abbrev pub piece_at : List Operator → ℕ → ℕ → Piece

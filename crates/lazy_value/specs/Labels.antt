@@ -18,12 +18,11 @@ either_label (Some k) l = Some k
 
 -- what an operator with one input makes of those of its input
 abbrev pub unary_labels : Unary → Labels → Labels
-unary_labels (select test) of v = of v
-unary_labels (order_by w desc) of v = of v
 unary_labels (project keys) of v = cond (has_var keys v) (of v) None
 unary_labels (group_by keys piece out) of v = cond (out == v) (Some None) (cond (has_var keys v) (of v) None)
 unary_labels (concatenate pieces out) of v = cond (out == v) (Some None) (of v)
 unary_labels (create_element label list out) of v = cond (out == v) (Some (Some label)) (of v)
+unary_labels op of v = of v
 
 -- what each operator makes of those of its inputs
 abbrev pub op_labels : Operator → (ℕ → Labels) → Labels

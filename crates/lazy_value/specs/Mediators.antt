@@ -7,10 +7,11 @@ use Rattle.plan_core.specs.declared.plan.Plan.{Plan}
 use Rattle.plan_core.specs.Plans.{PlanValue, document}
 use Rattle.plan_core.specs.Events.{visited}
 use Rattle.plan_core.specs.Valid.{IsValid}
-use Rattle.lazy_plan.specs.Bench.{BenchState, IsBenchOf, KeepsBench, AsksAtMost, told}
+use Rattle.lazy_plan.specs.Bench.{BenchState, IsBenchOf, KeepsBench, told}
 use Rattle.lazy_plan.specs.Bench as bench
 use Rattle.lazy_plan.specs.declared.fault.WalkFault.{WalkFault}
 use Rattle.lazy_value.specs.Ids as ids
+use Rattle.lazy_value.specs.Heights as heights
 use Rattle.lazy_value.specs.Places.{IsNode, IsAt, IsLabelAt, GivesPlace}
 use Rattle.lazy_value.specs.declared.ids.NodeId.{NodeId}
 use Rattle.lazy_value.specs.declared.mediator.Mediator.{Mediator}
@@ -18,10 +19,6 @@ use Rattle.lazy_value.specs.declared.mediator.Mediator.{Mediator}
 -- the state of a mediator whose sources mean this
 abbrev pub state_of : View → Mediator → BenchState
 state_of v m = bench.state_of v m.bench
-
--- the states before and after a call
-abbrev pub Between : {S : Type 0} → (S → View) → S → Mediator → S → Mediator → (BenchState → BenchState → Type 0) → Type 0
-Between view s m s' m' P = P (state_of (view s) m) (state_of (view s') m')
 
 -- its plan
 abbrev pub plan_of : Mediator → Plan
@@ -39,9 +36,21 @@ node_left st n = ids.site_left st n.site
 abbrev pub HasFewer : BenchState → ℕ → Option NodeId → Type 0
 HasFewer st w r = MatchOption r (Unit {0}) (λ n. node_left st n < w)
 
--- from an identifier at a place at most so many fills are asked
-abbrev pub AsksFrom : BenchState → BenchState → NodeId → List ℕ → ℕ → Type 0
-AsksFrom old new n p most = IsAt old n p → AsksAtMost old new most
+-- a number of an identifier that no call raises, that falls with each step down, and that no step to the right raises
+abbrev pub node_height : BenchState → NodeId → ℕ
+node_height st n = heights.site_height st n.site
+
+-- the node that was found stands lower than this
+abbrev pub HasLower : BenchState → ℕ → Option NodeId → Type 0
+HasLower st height r = MatchOption r (Unit {0}) (λ n. node_height st n < height)
+
+-- the node that was found stands no higher than this
+abbrev pub HasNoHigher : BenchState → ℕ → Option NodeId → Type 0
+HasNoHigher st height r = MatchOption r (Unit {0}) (λ n. node_height st n ≤ height)
+
+-- no earlier identifier stands higher than it stood
+abbrev pub KeepsHeights : BenchState → BenchState → Type 0
+KeepsHeights old new = (n : NodeId) → IsNode old n → node_height new n ≤ node_height old n
 
 -- from an identifier at a place the node at another is found, or there is none
 abbrev pub LeadsTo : BenchState → BenchState → NodeId → List ℕ → Option (List ℕ) → Result (Option NodeId) WalkFault → Type 0
@@ -57,12 +66,13 @@ pub record NodesStay (old new : BenchState) : Type 0 where
   pub place : (n : NodeId) (p : List ℕ) → IsAt old n p → IsAt new n p
   pub left : (n : NodeId) → IsNode old n → node_left new n ≤ node_left old n
 
--- what a call leaves, whatever it answers: each earlier identifier stays
+-- what a call leaves, whatever it answers: each earlier identifier stays, and stands no higher
 pub record MediatorWalked {S : Type 0} (view : S → View) (came_from : S → S → Type 0) (s : S) (m : Mediator) (s' : S) (m' : Mediator) : Type 0 where
   pub came : came_from s' s
   pub mediator : IsMediatorOf (view s') m'
   pub kept : KeepsBench (state_of (view s) m) (state_of (view s') m')
   pub nodes : NodesStay (state_of (view s) m) (state_of (view s') m')
+  pub heights : KeepsHeights (state_of (view s) m) (state_of (view s') m')
 
 -- whatever calls leave, each earlier identifier stays
 abbrev pub IdentifiersStay : Type 0

@@ -17,6 +17,7 @@ use Rattle.lazy_value.specs.Forms.{pieces_of, input_at, piece_at}
 use Rattle.lazy_value.specs.Labels as of
 use Rattle.lazy_value.specs.Sizes.{pieces_count, size, extent}
 use Rattle.lazy_value.specs.Ids.{IsOrigin, value_of, IsHead, head_label, head_trees}
+use Rattle.lazy_value.specs.Heights.{origin_rank, head_rank}
 use Rattle.lazy_value.specs.declared.ids.Head.{Head}
 use Rattle.lazy_value.specs.declared.ids.Origin.{Origin}
 use Rattle.lazy_value.specs.declared.ids.Origin.TheVariants.{Node, Element, Joined, All, Group as Same}
@@ -52,6 +53,7 @@ pub record IsOriginOf (st : BenchState) (n : ℕ) (c : Position) (v : ℕ) (r : 
   pub kind : kinds (ops_of st) n v ≡ Some (origin_kind r)
   pub size : origin_size st r ≤ size (ops_of st) n v
   pub extent : origin_extent st r ≤ extent (size_of st) (ops_of st) n v
+  pub rank : origin_rank r ≤ suc n
 
 -- the value of a variable is that in the binding of input i
 pub record IsPassedOn (p : Plan) (n v i : ℕ) : Type 0 where
@@ -66,16 +68,10 @@ pub record IsPassedOn (p : Plan) (n v i : ℕ) : Type 0 where
 
 -- an operator makes the value of a variable
 abbrev pub makes : Operator → ℕ → Bool
-makes (source s out) v = false
-makes (get_descendants input start path out) v = false
-makes (join left right tests) v = false
-makes (over input (select test)) v = false
-makes (over input (order_by w desc)) v = false
-makes (over input (project keys)) v = false
 makes (over input (group_by keys piece out)) v = out == v
 makes (over input (concatenate pieces out)) v = out == v
 makes (over input (create_element label list out)) v = out == v
-makes (tuple_destroy input element) v = false
+makes op v = false
 
 -- the variable holds a node, or the operator makes its value
 abbrev pub IsMadeHere : Plan → ℕ → ℕ → Type 0
@@ -84,4 +80,5 @@ IsMadeHere p n v = (kinds (plan_value p).ops n v ≡ Some a_node) ⊎ IsTrue (ma
 -- a node with the trees below it is the one tree of a piece
 pub record IsHeadOf (st : BenchState) (op index : ℕ) (c : Position) (h : Head) : Type 0 where
   pub head : IsHead st h
+  pub rank : head_rank h ≤ op
   pub trees : (rest : Tolled) → piece_items (documents st) (piece_at (ops_of st) op index) (binding_at st (input_at (ops_of st) op) c) rest ≡ item 0 (head_label st h) (head_trees st h) rest

@@ -19,12 +19,10 @@ pieces_count of (p ∷ ps) = piece_count of p + pieces_count of ps
 
 -- how many lists and pieces are entered on the way through the value of a variable, by those of the input
 abbrev pub unary_size : Unary → (ℕ → ℕ) → ℕ → ℕ
-unary_size (select test) of v = of v
-unary_size (order_by w desc) of v = of v
-unary_size (project keys) of v = of v
 unary_size (group_by keys piece out) of v = cond (out == v) 3 (of v)
 unary_size (concatenate pieces out) of v = cond (out == v) (suc (suc (pieces_count (λ w. suc (of w)) pieces))) (of v)
 unary_size (create_element label list out) of v = cond (out == v) 1 (of v)
+unary_size op of v = of v
 
 -- the same of each operator
 abbrev pub op_size : Operator → (ℕ → ℕ → ℕ) → ℕ → ℕ
@@ -40,12 +38,10 @@ size ops n = by_number op_size (λ v. 0) ops n
 
 -- how many trees the value of a variable has at most, where an operator has at most so many bindings
 abbrev pub unary_extent : ℕ → Unary → (ℕ → ℕ) → ℕ → ℕ
-unary_extent bound (select test) of v = of v
-unary_extent bound (order_by w desc) of v = of v
-unary_extent bound (project keys) of v = of v
 unary_extent bound (group_by keys piece out) of v = cond (out == v) (suc bound) (of v)
 unary_extent bound (concatenate pieces out) of v = cond (out == v) (pieces_count of pieces) (of v)
 unary_extent bound (create_element label list out) of v = cond (out == v) 1 (of v)
+unary_extent bound op of v = of v
 
 -- the same of each operator
 abbrev pub op_extent : (ℕ → ℕ) → Operator → (ℕ → ℕ → ℕ) → ℕ → ℕ

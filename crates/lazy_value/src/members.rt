@@ -11,6 +11,7 @@ ghost use Rattle.lazy_plan.specs.Steps.{HasCause};
 ghost use Rattle.lazy_value.specs.Forms.{gathers_groups, input_at};
 ghost use Rattle.lazy_value.specs.Ids.{Stands, GathersAll, IsRest, left, ahead_from};
 ghost use Rattle.lazy_value.specs.Steps.{Falls};
+ghost use Rattle.lazy_value.specs.Heights.{KeepsRank};
 ghost use Rattle.lazy_value.specs.Calls.{Between, GivesFrom, GivesMember, InEach, InSome, TurnsGroup, TurnsMembers, WalkedOver, WalkedTo, behind_group, behind_members, group_events, same_key_at, same_keys_at, trees_of_group, trees_of_members};
 
 use crate::entering::{group_member, list_member};
@@ -133,6 +134,7 @@ pub(crate) fn members<S: Sources>(
     ensures cause { HasCause (ops_of (state_of (S.view s.old) bench.old)) (S.view s.old) (S.view s.new) result }
     ensures answer { Between S.view s.old bench.old s.new bench.new (λ old new. IfOk result (TurnsMembers old new list.now up.now.value)) }
     ensures left { Between S.view s.old bench.old s.new bench.new (λ old new. IfOk result (Falls new (behind_members old list.now up.now.value))) }
+    ensures rank { IfOk result (KeepsRank list.now.op up.now.value) }
 {
     let input = input_of(bench.plan(), list.op);
     match behind(alloc, bench, s, input, list.at)? {
@@ -157,6 +159,7 @@ pub(crate) fn group<S: Sources>(
     ensures cause { HasCause (ops_of (state_of (S.view s.old) bench.old)) (S.view s.old) (S.view s.new) result }
     ensures answer { Between S.view s.old bench.old s.new bench.new (λ old new. IfOk result (TurnsGroup old new group.now up.now.value)) }
     ensures left { Between S.view s.old bench.old s.new bench.new (λ old new. IfOk result (Falls new (behind_group old group.now up.now.value))) }
+    ensures rank { IfOk result (KeepsRank group.now.op up.now.value) }
 {
     match next_of_group(alloc, bench, s, group)? {
         None => Ok(Turn::On(share(up)?)),

@@ -5,14 +5,14 @@ use Rattle.lazy_value.proofs.entering.enter.Goals as goal
 pub returns-in_ok-put-in-Joined-clause-answer : goal.returns-in_ok-put-in-Joined-clause-answer
 returns-in_ok-put-in-Joined-clause-answer c = λ view h o r.
     joined_goes (state_of view c.args.bench.now) c.args.origin.now c.args.behind.now.value c.in_ok-put-in-Joined.field-0.value o r
-    c.in-Joined.op c.in-Joined.at c.in_ok-at-in-Joined.at _ c.in_ok-up-in-Joined.up.value
-    c.in-Joined.is c.in_ok-put-in-Joined.ensures c.in_ok-up-in-Joined.ensures c.in_ok-at-in-Joined.ensures
+    c.in-Joined.op c.in-Joined.at c.in_ok-at-in-Joined.at _ c.in_ok-up.up.value
+    c.in-Joined.is c.in_ok-put-in-Joined.ensures c.in_ok-up.ensures c.in_ok-at-in-Joined.ensures
 
 pub returns-in_ok-put-in-All-clause-answer : goal.returns-in_ok-put-in-All-clause-answer
 returns-in_ok-put-in-All-clause-answer c = λ view h o r.
     all_goes (state_of view c.args.bench.now) c.args.origin.now c.args.behind.now.value c.in_ok-put-in-All.field-0.value o r
-    c.in-All.op _ c.in_ok-up-in-All.up.value
-    c.in-All.is c.in_ok-put-in-All.ensures c.in_ok-up-in-All.ensures
+    c.in-All.op _ c.in_ok-up.up.value
+    c.in-All.is c.in_ok-put-in-All.ensures c.in_ok-up.ensures
 
 pub returns-in_ok-group_member-in-Group-clause-answer : goal.returns-in_ok-group_member-in-Group-clause-answer
 returns-in_ok-group_member-in-Group-clause-answer c = λ view h o r.

@@ -1,5 +1,7 @@
 use Rattle.std.proofs.Common.{arith}
 use Rattle.lazy_value.proofs.Turns.{walked_then, paid_on}
+use Rattle.std.proofs.Common.{Some}
+use Rattle.lazy_value.proofs.Heights.{gives_ranked}
 use Rattle.lazy_value.proofs.turning.front.Goals as goal
 
 pub returns-in_err-turn-clause-walked : goal.returns-in_err-turn-clause-walked
@@ -20,4 +22,8 @@ turns-preserved g c =
       rest = h.rest;
       paid = paid_on c.turns.invariant.paid c.turn.ensures.walked.kept _ _ h;
       left = (let f = rw c.in-On.is at c.in_ok-turn.ensures.left in let l = c.turns.invariant.left in omega (arith, f, l));
+      rank = (let f = rw c.in-On.is at c.in_ok-turn.ensures.rank in let l = c.turns.invariant.rank in omega (arith, f, l));
     }
+
+pub returns-in-At-clause-rank : goal.returns-in-At-clause-rank
+returns-in-At-clause-rank g c = gives_ranked _ _ c.turns.invariant.rank (Some c.in-At.n) (rw c.in-At.is at c.in_ok-turn.ensures.rank)

@@ -3,23 +3,24 @@ use Rattle.plan_core.specs.PlanMade.{plan_value}
 use Rattle.lazy_plan.specs.Bench.{documents}
 use Rattle.lazy_plan.specs.Bench as bench
 use Rattle.lazy_value.specs.Mediators.{state_of, plan_of}
-use Rattle.lazy_value.proofs.Placing.{nodes_stay, down_asks, down_none, down_some}
+use Rattle.lazy_value.proofs.Heights.{mediator_walked}
+use Rattle.lazy_value.proofs.Placing.{down_asks, down_none, down_some}
 use Rattle.lazy_value.proofs.mediator.Mediator.down.Goals as goal
 
 pub returns-in_err-first_child-clause-walked : goal.returns-in_err-first_child-clause-walked
-returns-in_err-first_child-clause-walked g c = (let w = c.first_child.ensures.walked in record { came = w.came; mediator = w.bench; kept = w.kept; nodes = nodes_stay (state_of (g.S.Sources.view c.args.s.now) c.args.self.now) (bench.state_of (g.S.Sources.view c.first_child.new.s) c.first_child.new.bench) w.kept })
+returns-in_err-first_child-clause-walked g c = mediator_walked g.met.S.Sources.keeps c.args.s.now c.first_child.new.s c.args.self.now (record { bench = c.first_child.new.bench }) _ c.requires.mediator c.first_child.ensures.walked
 
 pub returns-in_err-first_child-clause-lazy : goal.returns-in_err-first_child-clause-lazy
 returns-in_err-first_child-clause-lazy g c = λ p h. down_asks (state_of (g.S.Sources.view c.args.s.now) c.args.self.now) (c.tolled_is_document.ensures (plan_value (plan_of c.args.self.now)) c.requires.mediator.valid (documents (state_of (g.S.Sources.view c.args.s.now) c.args.self.now))) c.args.n.now p h (bench.state_of (g.S.Sources.view c.first_child.new.s) c.first_child.new.bench) c.first_child.ensures.walked.asks
 
 pub returns-in-None-clause-walked : goal.returns-in-None-clause-walked
-returns-in-None-clause-walked g c = (let w = c.first_child.ensures.walked in record { came = w.came; mediator = w.bench; kept = w.kept; nodes = nodes_stay (state_of (g.S.Sources.view c.args.s.now) c.args.self.now) (bench.state_of (g.S.Sources.view c.first_child.new.s) c.first_child.new.bench) w.kept })
+returns-in-None-clause-walked g c = mediator_walked g.met.S.Sources.keeps c.args.s.now c.first_child.new.s c.args.self.now (record { bench = c.first_child.new.bench }) _ c.requires.mediator c.first_child.ensures.walked
 
 pub returns-in-None-clause-lazy : goal.returns-in-None-clause-lazy
 returns-in-None-clause-lazy g c = λ p h. down_asks (state_of (g.S.Sources.view c.args.s.now) c.args.self.now) (c.tolled_is_document.ensures (plan_value (plan_of c.args.self.now)) c.requires.mediator.valid (documents (state_of (g.S.Sources.view c.args.s.now) c.args.self.now))) c.args.n.now p h (bench.state_of (g.S.Sources.view c.first_child.new.s) c.first_child.new.bench) c.first_child.ensures.walked.asks
 
 pub returns-in-Some-clause-walked : goal.returns-in-Some-clause-walked
-returns-in-Some-clause-walked g c = (let w = c.first_child.ensures.walked in record { came = w.came; mediator = w.bench; kept = w.kept; nodes = nodes_stay (state_of (g.S.Sources.view c.args.s.now) c.args.self.now) (bench.state_of (g.S.Sources.view c.first_child.new.s) c.first_child.new.bench) w.kept })
+returns-in-Some-clause-walked g c = mediator_walked g.met.S.Sources.keeps c.args.s.now c.first_child.new.s c.args.self.now (record { bench = c.first_child.new.bench }) _ c.requires.mediator c.first_child.ensures.walked
 
 pub returns-in-Some-clause-lazy : goal.returns-in-Some-clause-lazy
 returns-in-Some-clause-lazy g c = λ p h. down_asks (state_of (g.S.Sources.view c.args.s.now) c.args.self.now) (c.tolled_is_document.ensures (plan_value (plan_of c.args.self.now)) c.requires.mediator.valid (documents (state_of (g.S.Sources.view c.args.s.now) c.args.self.now))) c.args.n.now p h (bench.state_of (g.S.Sources.view c.first_child.new.s) c.first_child.new.bench) c.first_child.ensures.walked.asks

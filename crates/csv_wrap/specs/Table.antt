@@ -1,0 +1,16 @@
+-- How rows are kept: their fields one after another, and how many rows there are.
+use Rattle.std.specs.Prelude.{◌≡◌, ℕ, zero, suc, ◌*◌, List, [], ◌∷◌, take, drop, length}
+use Rattle.csv_wrap.specs.declared.table.Table.{Table}
+
+-- fields cut into so many rows of so many each
+abbrev pub cut_rows : ℕ → ℕ → List (List ℕ) → List (List (List ℕ))
+cut_rows width zero fields = []
+cut_rows width (suc count) fields = take width fields ∷ cut_rows width count (drop width fields)
+
+-- the rows of a table of so many columns
+abbrev pub rows_in : ℕ → Table → List (List (List ℕ))
+rows_in width t = cut_rows width t.rows t.fields
+
+-- a table has as many fields as its rows have
+abbrev pub IsFull : ℕ → Table → Type 0
+IsFull width t = length t.fields ≡ t.rows * width

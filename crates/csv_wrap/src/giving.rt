@@ -1,0 +1,153 @@
+// The lists with which a CSV document answers.
+ghost use Rattle.std.specs.Prelude.{◌≡◌, ◌≤◌, ◌<◌, ◌+◌, [], length, get_or, min, true, false, Some, IfOk, OnOk, MatchOption};
+ghost use Rattle.std.specs.Str.{IsUtf8};
+ghost use Rattle.mix_tree.specs.Forest.{forest_of};
+ghost use Rattle.lxp_core.specs.Open.{Open, nil, node, without_holes};
+ghost use Rattle.lxp_core.specs.Plain.{plain, put_all};
+ghost use Rattle.csv_wrap.specs.Parts.{part_of};
+ghost use Rattle.csv_wrap.specs.Rows.{cells};
+ghost use Rattle.csv_wrap.specs.Document.{columns_of, rows_of, knows, has_part, part_given, rest_given};
+
+use crate::CsvDoc;
+use crate::parts::Part;
+use lxp_core::{HoleId, OpenTree};
+use mix_tree::Label;
+use std::alloc::{AllocError, Global};
+
+// Puts a node behind a list, above a list of its own.
+fn push_node(list: &mut Vec<OpenTree>, label: Label, kids: Vec<OpenTree>) -> Result<(), AllocError>
+    ensures { OnOk result ((rest : Open) → put_all list.new.items rest ≡ put_all list.old.items (node label (plain kids.items) rest)) }
+{
+    list.push(OpenTree::Node { label, kids })?;
+    Ok(())
+}
+
+impl CsvDoc {
+    // The field of a row at a column.
+    fn field(&self, row: usize, column: usize) -> &[u8]
+        requires row { row < self.now.table.rows }
+        requires column { column < length (columns_of self.now) }
+        ensures bytes { result.now ≡ get_or (get_or (rows_of self.now) row []) column [] }
+        ensures utf8 { ∥ IsUtf8 result.now ∥₁ }
+    {
+        // There are so many fields that their number is a usize, and with it the place below.
+        let _places = self.table.fields.len();
+        let width = self.columns.len();
+        self.table.fields.text(row * width + column)
+    }
+
+    // Puts a column of a row behind a list, with its field below it.
+    fn push_cell(
+        &self,
+        alloc: Global,
+        list: &mut Vec<OpenTree>,
+        row: usize,
+        column: usize,
+    ) -> Result<(), AllocError>
+        requires row { row < self.now.table.rows }
+        requires column { column < length (columns_of self.now) }
+        ensures { OnOk result ((rest : Open) → put_all list.new.items rest ≡ put_all list.old.items
+            (node (get_or (columns_of self.now) column []) (node (get_or (get_or (rows_of self.now) row []) column []) nil nil) rest)) }
+    {
+        let field = Label::of_text(alloc, self.field(row, column))?;
+        let mut below = Vec::new(alloc);
+        push_node(&mut below, field, Vec::new(alloc))?;
+        push_node(list, self.columns[column].copy(alloc)?, below)
+    }
+
+    // The columns of a row, each with its field below it.
+    fn cells(&self, alloc: Global, row: usize) -> Result<Vec<OpenTree>, AllocError>
+        requires { row < self.now.table.rows }
+        ensures { IfOk result (λ list. plain list.items
+            ≡ without_holes (forest_of (cells (columns_of self.now) (get_or (rows_of self.now) row [])))) }
+    {
+        let mut list = Vec::new(alloc);
+        'columns: for column in 0..self.columns.len() {
+            self.push_cell(alloc, &mut list, row, column)?;
+        }
+        Ok(list)
+    }
+
+    // The name, with the hole of all rows below it.
+    fn give_name(&self, alloc: Global) -> Result<Vec<OpenTree>, AllocError>
+        ensures { IfOk result (λ list. plain list.items ≡ part_given self.now (Some Part.Name)) }
+    {
+        let mut kids = Vec::new(alloc);
+        kids.push(OpenTree::Hole(Part::RowsFrom(0).hole()))?;
+        let mut list = Vec::new(alloc);
+        push_node(&mut list, self.name.copy(alloc)?, kids)?;
+        Ok(list)
+    }
+
+    // Where a chunk of rows ends that begins with this one.
+    fn chunk_end(&self, first: usize) -> usize
+        requires { first ≤ self.now.table.rows }
+        ensures { result ≡ min (first + self.now.chunk) self.now.table.rows }
+    {
+        let rows = self.table.rows;
+        let chunk = self.chunk as usize;
+        if chunk < rows - first {
+            first + chunk
+        } else {
+            rows
+        }
+    }
+
+    // Puts a hole for the rows from one on behind a list, where there are any.
+    fn push_rest(&self, list: &mut Vec<OpenTree>, first: usize) -> Result<(), AllocError>
+        ensures { OnOk result (plain list.new.items ≡ put_all list.old.items (rest_given self.now first)) }
+    {
+        if first >= self.table.rows {
+            return Ok(());
+        }
+        list.push(OpenTree::Hole(Part::RowsFrom(first).hole()))?;
+        Ok(())
+    }
+
+    // The rows from one on, at most a chunk, and a hole behind them where more remain.
+    fn give_rows(&self, alloc: Global, first: usize) -> Result<Vec<OpenTree>, AllocError>
+        requires { first ≤ self.now.table.rows }
+        ensures { IfOk result (λ list. plain list.items ≡ part_given self.now (Some (Part.RowsFrom first))) }
+    {
+        let last = self.chunk_end(first);
+        let mut list = Vec::new(alloc);
+        'rows: for row in first..last {
+            let label = Label::of_text(alloc, b"row")?;
+            push_node(&mut list, label, self.cells(alloc, row)?)?;
+        }
+        self.push_rest(&mut list, last)?;
+        Ok(list)
+    }
+
+    // Whether the document has a part.
+    fn has(&self, part: Part) -> bool
+        ensures { result ≡ has_part self.now (Some part) }
+    {
+        match part {
+            Part::Name => true,
+            Part::RowsFrom(first) => first <= self.table.rows,
+        }
+    }
+
+    /// The part that a hole stands for; `None` where the document doesn't know the hole.
+    pub fn part(&self, hole: HoleId) -> Option<Part>
+        ensures { MatchOption result (knows self.now hole ≡ false)
+            (λ part. (part_of hole ≡ Some part) × (has_part self.now (Some part) ≡ true)) }
+    {
+        let Some(part) = Part::of_hole(hole) else {
+            return None;
+        };
+        if self.has(part) { Some(part) } else { None }
+    }
+
+    /// The list of a part.
+    pub fn give(&self, alloc: Global, part: Part) -> Result<Vec<OpenTree>, AllocError>
+        requires { has_part self.now (Some part) ≡ true }
+        ensures { IfOk result (λ list. plain list.items ≡ part_given self.now (Some part)) }
+    {
+        match part {
+            Part::Name => self.give_name(alloc),
+            Part::RowsFrom(first) => self.give_rows(alloc, first),
+        }
+    }
+}

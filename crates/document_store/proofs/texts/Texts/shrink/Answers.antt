@@ -1,0 +1,6 @@
+use Rattle.std.proofs.Common.{sym, subst}
+use Rattle.document_store.specs.Texts.{AreKept}
+use Rattle.document_store.proofs.texts.Texts.shrink.Goals as goal
+
+pub invariant_of-self : goal.invariant_of-self
+invariant_of-self c = rw (c.shrink_to_fit.ensures.items, c.shrink_to_fit-2.ensures.items) c.self.invariant

@@ -1,0 +1,77 @@
+-- How far the document goes on below an identifier: numbers by which walks down end.
+use Rattle.std.specs.Prelude.{ℕ, suc, ◌+◌, ◌<◌, ◌≤◌, max, length, Option, MatchOption}
+use Rattle.lazy_plan.specs.World.{roots_weight}
+use Rattle.lazy_plan.specs.Bench.{BenchState, ops_of, below_at, after_at}
+use Rattle.lazy_value.specs.declared.ids.Head.{Head}
+use Rattle.lazy_value.specs.declared.ids.Head.TheVariants.{Whole, Built, Leaf, Text}
+use Rattle.lazy_value.specs.declared.ids.Origin.{Origin}
+use Rattle.lazy_value.specs.declared.ids.Origin.TheVariants.{Node, Element, Joined, All, Group as Same}
+use Rattle.lazy_value.specs.declared.ids.Rest.{Rest, End, Pieces', Members', Group'}
+use Rattle.lazy_value.specs.declared.ids.Site.{Site}
+use Rattle.lazy_value.specs.declared.ids.Site.TheVariants.{Root, Inside, Item}
+use Rattle.lazy_value.specs.declared.ids.Turn.{Turn}
+use Rattle.lazy_value.specs.declared.ids.Turn.TheVariants.{Over, At, On}
+
+-- RANKS: THE OPERATORS THAT MAKE THE ELEMENTS OF A LIST HAVE SMALLER NUMBERS
+
+-- those that make the elements of a value
+abbrev pub origin_rank : Origin → ℕ
+origin_rank (Node s p) = 0
+origin_rank (Element op at) = suc op
+origin_rank (Joined op at) = op
+origin_rank (All op) = op
+origin_rank (Same op c) = op
+
+-- the one that makes a node, where it is an element
+abbrev pub head_rank : Head → ℕ
+head_rank (Whole s p) = 0
+head_rank (Built op at) = suc op
+head_rank (Leaf s p) = 0
+head_rank (Text op index) = 0
+
+-- those that make the elements behind a node
+abbrev pub rest_rank : Rest → ℕ
+rest_rank End = 0
+rest_rank (Pieces' op at next q up) = max op (rest_rank up)
+rest_rank (Members' op at q up) = max op (rest_rank up)
+rest_rank (Group' op first at q up) = max op (rest_rank up)
+
+-- a member of a list that the plan makes, in which no rank is greater
+abbrev pub IsRanked : ℕ → Site → Type 0
+IsRanked k Root = ⊥
+IsRanked k (Inside s p) = ⊥
+IsRanked k (Item head rest) = (head_rank head ≤ k) × (rest_rank rest.value ≤ k)
+
+-- there is none, or it is such a member
+abbrev pub GivesRanked : ℕ → Option Site → Type 0
+GivesRanked k r = MatchOption r (Unit {0}) (IsRanked k)
+
+-- what a turn leaves of a list in which no rank is greater
+abbrev pub TurnsRanked : ℕ → Turn → Type 0
+TurnsRanked k Over = Unit {0}
+TurnsRanked k (At n) = IsRanked k n
+TurnsRanked k (On r) = rest_rank r.value ≤ k
+
+-- what a turn leaves of trees of this rank and what is behind them
+abbrev pub KeepsRank : ℕ → Rest → Turn → Type 0
+KeepsRank rank behind t = (k : ℕ) → rank ≤ k → rest_rank behind ≤ k → TurnsRanked k t
+
+-- HEIGHTS
+
+-- what lies below a node of any source weighs at most so much
+abbrev pub roots_of : BenchState → ℕ
+roots_of st = roots_weight st.world.view st.world.view.count
+
+-- a number of an identifier that no call raises, that falls with each step down, and that no step to the right raises
+abbrev pub site_height : BenchState → Site → ℕ
+site_height st Root = roots_of st + length (ops_of st)
+site_height st (Inside s p) = below_at st s p + after_at st s p
+site_height st (Item head rest) = roots_of st + max (head_rank head) (rest_rank rest.value)
+
+-- the node that was found stands lower than this
+abbrev pub IsLower : BenchState → ℕ → Option Site → Type 0
+IsLower st height r = MatchOption r (Unit {0}) (λ n. site_height st n < height)
+
+-- the node that was found stands no higher than this
+abbrev pub IsNoHigher : BenchState → ℕ → Option Site → Type 0
+IsNoHigher st height r = MatchOption r (Unit {0}) (λ n. site_height st n ≤ height)
