@@ -1,4 +1,5 @@
 pub mod Answering
+pub mod Apart
 pub mod Finished
 pub mod Held
 pub mod Holding

@@ -1,5 +1,6 @@
 pub mod Allowed
 pub mod Answers
+pub mod Clients
 pub mod Finished
 pub mod Forms
 pub mod Holding
