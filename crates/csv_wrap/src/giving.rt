@@ -16,10 +16,27 @@ use std::alloc::{AllocError, Global};
 
 // Puts a node behind a list, above a list of its own.
 fn push_node(list: &mut Vec<OpenTree>, label: Label, kids: Vec<OpenTree>) -> Result<(), AllocError>
-    ensures { OnOk result ((rest : Open) → put_all list.new.items rest ≡ put_all list.old.items (node label (plain kids.items) rest)) }
+    ensures { OnOk result ((rest : Open) → put_all list.new.items rest
+        ≡ put_all list.old.items (node label (plain kids.items) rest)) }
 {
     list.push(OpenTree::Node { label, kids })?;
     Ok(())
+}
+
+// Puts a column of a row behind a list, with its field below it.
+fn push_cell(
+    alloc: Global,
+    list: &mut Vec<OpenTree>,
+    column: &Label,
+    field: &[u8],
+) -> Result<(), AllocError>
+    requires { IsUtf8 field.now }
+    ensures { OnOk result ((rest : Open) → put_all list.new.items rest
+        ≡ put_all list.old.items (node column.now (node field.now nil nil) rest)) }
+{
+    let mut below = Vec::new(alloc);
+    push_node(&mut below, Label::of_text(alloc, field)?, Vec::new(alloc))?;
+    push_node(list, column.copy(alloc)?, below)
 }
 
 impl CsvDoc {
@@ -36,25 +53,6 @@ impl CsvDoc {
         self.table.fields.text(row * width + column)
     }
 
-    // Puts a column of a row behind a list, with its field below it.
-    fn push_cell(
-        &self,
-        alloc: Global,
-        list: &mut Vec<OpenTree>,
-        row: usize,
-        column: usize,
-    ) -> Result<(), AllocError>
-        requires row { row < self.now.table.rows }
-        requires column { column < length (columns_of self.now) }
-        ensures { OnOk result ((rest : Open) → put_all list.new.items rest ≡ put_all list.old.items
-            (node (get_or (columns_of self.now) column []) (node (get_or (get_or (rows_of self.now) row []) column []) nil nil) rest)) }
-    {
-        let field = Label::of_text(alloc, self.field(row, column))?;
-        let mut below = Vec::new(alloc);
-        push_node(&mut below, field, Vec::new(alloc))?;
-        push_node(list, self.columns[column].copy(alloc)?, below)
-    }
-
     // The columns of a row, each with its field below it.
     fn cells(&self, alloc: Global, row: usize) -> Result<Vec<OpenTree>, AllocError>
         requires { row < self.now.table.rows }
@@ -63,7 +61,8 @@ impl CsvDoc {
     {
         let mut list = Vec::new(alloc);
         'columns: for column in 0..self.columns.len() {
-            self.push_cell(alloc, &mut list, row, column)?;
+            let field = self.field(row, column);
+            push_cell(alloc, &mut list, &self.columns[column], field)?;
         }
         Ok(list)
     }

@@ -1,6 +1,6 @@
 -- Values where an operator makes them.
 use Rattle.std.proofs.Common.{◌≡◌, ◌<◌, ◌≤◌, ◌+◌, inl, inr, ℕ, zero, suc, Bool, true, false, cond, List, [], ◌∷◌, Option, Some, None, length, refl, ◌∙◌, sym, ap, subst, arith}
-use Rattle.std.specs.Prelude.{◌==◌, slice_index_or}
+use Rattle.std.specs.Prelude.{◌==◌, not, slice_index_or}
 use Rattle.std.specs.List.{AllByRecursion}
 use Rattle.std.proofs.lemmas.Bool.Decides.{nat_tests}
 use Rattle.mix_base.proofs.Firsts.{each_weaker}
@@ -35,6 +35,16 @@ use Rattle.lazy_value.proofs.Numbering as numbering
 pub cond_true : {A : Type 0} (b : Bool) (x y : A) → b ≡ true → cond b x y ≡ x
 cond_true true x y h = refl
 cond_true false x y h = cc
+
+-- a test for another variable that fails
+pub not_other : (b r : Bool) → r ≡ not b → r ≡ false → b ≡ true
+not_other true r e h = refl
+not_other false r e h = cc
+
+-- one that holds
+pub is_other : (b r : Bool) → r ≡ not b → r ≡ true → b ≡ false
+is_other true r e h = cc
+is_other false r e h = refl
 
 -- a list without members
 pub no_items : {X : Type 0} (xs : List X) (len : ℕ) (b : Bool) → len ≡ length xs → b ≡ (len == 0) → b ≡ true → xs ≡ []

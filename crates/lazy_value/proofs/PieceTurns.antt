@@ -11,7 +11,7 @@ use Rattle.lazy_plan.specs.Bench.{BenchState, ops_of, documents, binding_at, siz
 use Rattle.lazy_plan.specs.declared.position.Position.{Position}
 use Rattle.lazy_value.specs.Forms.{input_at, pieces_of, piece_at, makes_list}
 use Rattle.lazy_value.specs.Sizes.{piece_count, pieces_count, size, extent}
-use Rattle.lazy_value.specs.Ids.{pieces_trees, Stands, IsOrigin, value_of, head_label, head_trees, IsRest, rest_trees, weight, left}
+use Rattle.lazy_value.specs.Ids.{pieces_trees, Stands, IsOrigin, value_of, head_label, head_trees, IsRest, rest_trees, weight, left, pieces_size, pieces_extent}
 use Rattle.lazy_value.specs.Origins.{origin_size, origin_extent, IsOriginOf, IsHeadOf}
 use Rattle.lazy_value.specs.Steps.{StandsFor, GoesOn, Turns, Falls}
 use Rattle.lazy_value.proofs.Laws.{dearer_zero}
@@ -63,7 +63,7 @@ module _ (st : BenchState) (op next : ℕ) (at : Position) (up : Rest) (there : 
 
     -- a turn into the value of a piece is one over the pieces
     var_turns : (t : Turn) → Turns st st (value_trees (documents st) (value_of st origin) (rest_trees st (Pieces' op at (next + 1) q up))) (suc (origin_size st origin + weight st (Pieces' op at (next + 1) q up))) t
-        → Turns st st (pieces_trees st op at next (rest_trees st up)) (suc (pieces_count (λ v. suc (size (ops_of st) (input_at (ops_of st) op) v)) (drop next (pieces_of (op_at (ops_of st) op))) + weight st up)) t
+        → Turns st st (pieces_trees st op at next (rest_trees st up)) (suc (pieces_size st op next + weight st up)) t
     var_turns t w =
         let c = count_on (λ v. suc (size (ops_of st) (input_at (ops_of st) op) v)) in
         let d = ap (piece_count (λ v. suc (size (ops_of st) (input_at (ops_of st) op) v))) p in
@@ -74,13 +74,13 @@ module _ (st : BenchState) (op next : ℕ) (at : Position) (up : Rest) (there : 
     -- the same, where the rest is put together apart
     pub var_turned : (x : Rest) → x ≡ Pieces' op at (next + 1) q up → (t : Turn)
         → (IsOrigin st origin → IsRest st x → Turns st st (value_trees (documents st) (value_of st origin) (rest_trees st x)) (suc (origin_size st origin + weight st x)) t)
-        → Turns st st (pieces_trees st op at next (rest_trees st up)) (suc (pieces_count (λ v. suc (size (ops_of st) (input_at (ops_of st) op) v)) (drop next (pieces_of (op_at (ops_of st) op))) + weight st up)) t
+        → Turns st st (pieces_trees st op at next (rest_trees st up)) (suc (pieces_size st op next + weight st up)) t
     var_turned x e t f =
         var_turns t (subst (λ (r : Rest). Turns st st (value_trees (documents st) (value_of st origin) (rest_trees st r)) (suc (origin_size st origin + weight st r)) t) e
         (f o.origin (subst (λ (r : Rest). IsRest st r) (sym e) rest_on)))
 
     var_falls : (t : Turn) → Falls st (origin_extent st origin + left st (Pieces' op at (next + 1) q up)) t
-        → Falls st (pieces_count (extent (size_of st) (ops_of st) (input_at (ops_of st) op)) (drop next (pieces_of (op_at (ops_of st) op))) + left st up) t
+        → Falls st (pieces_extent st op next + left st up) t
     var_falls t w =
         let c = count_on (extent (size_of st) (ops_of st) (input_at (ops_of st) op)) in
         let d = ap (piece_count (extent (size_of st) (ops_of st) (input_at (ops_of st) op))) p in
@@ -89,7 +89,7 @@ module _ (st : BenchState) (op next : ℕ) (at : Position) (up : Rest) (there : 
 
     -- the same, where the rest is put together apart
     pub var_fallen : (x : Rest) → x ≡ Pieces' op at (next + 1) q up → (t : Turn) → (IsOrigin st origin → IsRest st x → Falls st (origin_extent st origin + left st x) t)
-        → Falls st (pieces_count (extent (size_of st) (ops_of st) (input_at (ops_of st) op)) (drop next (pieces_of (op_at (ops_of st) op))) + left st up) t
+        → Falls st (pieces_extent st op next + left st up) t
     var_fallen x e t f =
         var_falls t (subst (λ (r : Rest). Falls st (origin_extent st origin + left st r) t) e (f o.origin (subst (λ (r : Rest). IsRest st r) (sym e) rest_on)))
 
@@ -105,7 +105,7 @@ module _ (st : BenchState) (op next : ℕ) (at : Position) (up : Rest) (there : 
         }
 
     pub head_falls : ((v : ℕ) → piece_at (ops_of st) op next ≡ var_piece v → ⊥) → (r : Rest) → r ≡ Pieces' op at (next + 1) q up
-        → left st r < pieces_count (extent (size_of st) (ops_of st) (input_at (ops_of st) op)) (drop next (pieces_of (op_at (ops_of st) op))) + left st up
+        → left st r < pieces_extent st op next + left st up
     head_falls other r e =
         let c = count_on (extent (size_of st) (ops_of st) (input_at (ops_of st) op)) in
         let l = ap (left st) e in
@@ -127,7 +127,7 @@ there_is n m r k l e p d = omega (arith, l, e, p, d)
 
 -- a turn over a rest is one over the pieces that it begins with
 pub rest_turns : (st : BenchState) (x : Rest) (op next : ℕ) (at : Position) (q : _) (up : Rest) (t : Turn) → x ≡ Pieces' op at next q up → IsRest st x
-    → (Stands st op makes_list at → IsRest st up → Turns st st (pieces_trees st op at next (rest_trees st up)) (suc (pieces_count (λ v. suc (size (ops_of st) (input_at (ops_of st) op) v)) (drop next (pieces_of (op_at (ops_of st) op))) + weight st up)) t)
+    → (Stands st op makes_list at → IsRest st up → Turns st st (pieces_trees st op at next (rest_trees st up)) (suc (pieces_size st op next + weight st up)) t)
     → Turns st st (rest_trees st x) (weight st x) t
 rest_turns st x op next at q up t e h f =
     let k = subst (λ (r : Rest). IsRest st r) e h in
@@ -135,7 +135,7 @@ rest_turns st x op next at q up t e h f =
 
 -- behind the last piece comes what is behind them all
 pub over_pieces : (st : BenchState) (op next : ℕ) (at : Position) (up r : Rest) → next ≡ length (pieces_of (op_at (ops_of st) op)) → r ≡ up → IsRest st up
-    → GoesOn st st (pieces_trees st op at next (rest_trees st up)) (suc (pieces_count (λ v. suc (size (ops_of st) (input_at (ops_of st) op) v)) (drop next (pieces_of (op_at (ops_of st) op))) + weight st up)) r
+    → GoesOn st st (pieces_trees st op at next (rest_trees st up)) (suc (pieces_size st op next + weight st up)) r
 over_pieces st op next at up r n e h =
     let none : drop next (pieces_of (op_at (ops_of st) op)) ≡ [] = drop_all next (pieces_of (op_at (ops_of st) op)) (omega (arith, n)) in
     let w = ap (weight st) e in

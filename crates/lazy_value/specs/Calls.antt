@@ -1,5 +1,5 @@
 -- What contracts say of the states of a bench, each state named once.
-use Rattle.std.specs.Prelude.{◌≡◌, ℕ, suc, Bool, ◌+◌, ◌<◌, ◌≤◌, length, IsTrue, Option, Some, MatchOption, List, drop}
+use Rattle.std.specs.Prelude.{◌≡◌, ℕ, suc, Bool, ◌+◌, ◌<◌, ◌≤◌, length, IsTrue, Option, Some, MatchOption, List}
 use Rattle.mix_base.specs.Events.{nothing, found, cost}
 use Rattle.mix_tree.specs.Forest.{first_kids, behind}
 use Rattle.mix_tree.specs.declared.var.Key.{Key}
@@ -10,11 +10,10 @@ use Rattle.plan_core.specs.Tolled.{Tolled, toll, charged}
 use Rattle.plan_core.specs.TolledRows.{key_value, key_values, same_value, same_values, row_node, value_trees}
 use Rattle.lazy_plan.specs.declared.bench.Bench.{Bench}
 use Rattle.lazy_plan.specs.declared.position.Position.{Position}
-use Rattle.lazy_plan.specs.Bench.{BenchState, state_of, IsBenchOf, ops_of, told, documents, size_of, binding_at, number_at, trees_at_spot, GivesFirst}
+use Rattle.lazy_plan.specs.Bench.{BenchState, state_of, IsBenchOf, ops_of, told, documents, binding_at, number_at, trees_at_spot, GivesFirst}
 use Rattle.lazy_value.specs.Forms.{makes_list, gathers_all, gathers_groups, input_at, pieces_of}
-use Rattle.lazy_value.specs.Ids.{Stands, IsOrigin, value_of, IsRest, rest_trees, weight, left, site_left, pieces_trees, member_trees, members_trees, group_ahead, group_trees, ahead_from, number_from}
+use Rattle.lazy_value.specs.Ids.{Stands, IsOrigin, value_of, IsRest, rest_trees, weight, left, site_left, pieces_size, pieces_extent, pieces_trees, member_trees, members_trees, group_ahead, group_trees, ahead_from, number_from}
 use Rattle.lazy_value.specs.Origins.{origin_size, origin_extent}
-use Rattle.lazy_value.specs.Sizes.{pieces_count, size, extent}
 use Rattle.lazy_value.specs.Steps.{Walked, StandsFor, Turns, Falls, IsMember}
 use Rattle.lazy_value.specs.declared.ids.GroupFrom.{GroupFrom}
 use Rattle.lazy_value.specs.declared.ids.MembersFrom.{MembersFrom}
@@ -63,7 +62,8 @@ behind_spot st s p = charged (behind (trees_at_spot st s p))
 
 -- what entering a value comes to, with this behind it
 abbrev pub Enters : BenchState → Origin → Rest → Turn → Type 0
-Enters st o r t = IsOrigin st o → IsRest st r → Turns st st (value_trees (documents st) (value_of st o) (rest_trees st r)) (suc (origin_size st o + weight st r)) t
+Enters st o r t =
+    IsOrigin st o → IsRest st r → Turns st st (value_trees (documents st) (value_of st o) (rest_trees st r)) (suc (origin_size st o + weight st r)) t
 
 -- and how many trees are left then
 abbrev pub EnteringFalls : BenchState → Origin → Rest → Turn → Type 0
@@ -76,12 +76,12 @@ InPieces st p up = Stands st p.op makes_list p.at.now × (p.next ≤ length (pie
 -- what a turn over these pieces comes to
 abbrev pub TurnsPieces : BenchState → PiecesFrom → Rest → Turn → Type 0
 TurnsPieces st p up t = Stands st p.op makes_list p.at.now → IsRest st up → Turns st st (pieces_trees st p.op p.at.now p.next (rest_trees st up))
-    (suc (pieces_count (λ v. suc (size (ops_of st) (input_at (ops_of st) p.op) v)) (drop p.next (pieces_of (op_at (ops_of st) p.op))) + weight st up)) t
+    (suc (pieces_size st p.op p.next + weight st up)) t
 
 -- and how many trees are left then
 abbrev pub PiecesFall : BenchState → PiecesFrom → Rest → Turn → Type 0
 PiecesFall st p up t = Stands st p.op makes_list p.at.now → IsRest st up
-    → Falls st (pieces_count (extent (size_of st) (ops_of st) (input_at (ops_of st) p.op)) (drop p.next (pieces_of (op_at (ops_of st) p.op))) + left st up) t
+    → Falls st (pieces_extent st p.op p.next + left st up) t
 
 -- what a turn over a rest comes to
 abbrev pub TurnsRest : BenchState → BenchState → Rest → Turn → Type 0
@@ -91,7 +91,8 @@ TurnsRest old new r t = Turns old new (rest_trees old r) (weight old r) t
 
 -- whether the bindings at two cursors are the same by a key
 abbrev pub same_key_at : BenchState → ℕ → Position → Position → Key → Bool
-same_key_at st op first c key = same_value (key_value (documents st) (row_node (binding_at st op first)) key) (key_value (documents st) (row_node (binding_at st op c)) key)
+same_key_at st op first c key =
+    same_value (key_value (documents st) (row_node (binding_at st op first)) key) (key_value (documents st) (row_node (binding_at st op c)) key)
 
 -- by all keys
 abbrev pub same_keys_at : BenchState → ℕ → Position → Position → List Key → Bool
@@ -108,7 +109,8 @@ IsGroupMember st g up n = Stands st g.op gathers_groups g.first.now → Stands s
 
 -- the same of a list of all bindings
 abbrev pub IsListMember : BenchState → ℕ → Position → Rest → Site → Type 0
-IsListMember st op at up n = Stands st op gathers_all at → IsRest st up → StandsFor st st (member_trees st op at (members_trees st op (Some at) (rest_trees st up))) n
+IsListMember st op at up n =
+    Stands st op gathers_all at → IsRest st up → StandsFor st st (member_trees st op at (members_trees st op (Some at) (rest_trees st up))) n
 
 -- how many trees are behind the member at a cursor at most
 abbrev pub behind_member : BenchState → ℕ → Position → Rest → ℕ

@@ -4,7 +4,7 @@ use Rattle.mix_tree.specs.declared.var.Key.{Key}
 use Rattle.plan_core.specs.declared.plan.Piece.{Piece}
 use Rattle.plan_core.specs.declared.plan.Piece.TheVariants.{Var as var_piece, Text as text_piece}
 use Rattle.plan_core.specs.Plans.{Operator, source, get_descendants, join, over, tuple_destroy}
-use Rattle.plan_core.specs.Unary.{select, order_by, project, group_by, concatenate, create_element}
+use Rattle.plan_core.specs.Unary.{group_by, concatenate, create_element}
 use Rattle.plan_core.specs.ByNumber.{op_at}
 
 -- what an operator makes

@@ -153,10 +153,18 @@ IsSite st Root = Unit {0}
 IsSite st (Inside s p) = IsSpotAt st s p
 IsSite st (Item head rest) = IsHead st head × IsRest st rest.value
 
+-- how many lists and pieces are entered on the way through the pieces of a concatenation from one on
+abbrev pub pieces_size : BenchState → ℕ → ℕ → ℕ
+pieces_size st op next = pieces_count (λ v. suc (size (ops_of st) (input_at (ops_of st) op) v)) (drop next (pieces_of (op_at (ops_of st) op)))
+
+-- how many trees these have at most
+abbrev pub pieces_extent : BenchState → ℕ → ℕ → ℕ
+pieces_extent st op next = pieces_count (extent (size_of st) (ops_of st) (input_at (ops_of st) op)) (drop next (pieces_of (op_at (ops_of st) op)))
+
 -- how many lists and pieces are still to be entered
 abbrev pub weight : BenchState → Rest → ℕ
 weight st End = 0
-weight st (Pieces' op at next q up) = suc (pieces_count (λ v. suc (size (ops_of st) (input_at (ops_of st) op) v)) (drop next (pieces_of (op_at (ops_of st) op))) + weight st up)
+weight st (Pieces' op at next q up) = suc (pieces_size st op next + weight st up)
 weight st (Members' op at q up) = suc (weight st up)
 weight st (Group' op first at q up) = suc (weight st up)
 
@@ -168,7 +176,7 @@ number_from st n (Some c) = number_at st n c
 -- how many trees are behind a node at most
 abbrev pub left : BenchState → Rest → ℕ
 left st End = 0
-left st (Pieces' op at next q up) = pieces_count (extent (size_of st) (ops_of st) (input_at (ops_of st) op)) (drop next (pieces_of (op_at (ops_of st) op))) + left st up
+left st (Pieces' op at next q up) = pieces_extent st op next + left st up
 left st (Members' op at q up) = number_from st (input_at (ops_of st) op) at + left st up
 left st (Group' op first at q up) = number_at st (input_at (ops_of st) op) at + left st up
 

@@ -3,7 +3,7 @@ use Rattle.std.specs.Prelude.{ℕ, Bool, cond, ◌==◌, List, Option, Some, Non
 use Rattle.std.specs.List.{list_any}
 use Rattle.mix_tree.specs.Keys.{has_var}
 use Rattle.plan_core.specs.Plans.{Operator, source, get_descendants, join, over, tuple_destroy}
-use Rattle.plan_core.specs.Unary.{Unary, select, order_by, project, group_by, concatenate, create_element}
+use Rattle.plan_core.specs.Unary.{Unary, project, group_by, concatenate, create_element}
 use Rattle.plan_core.specs.ByNumber.{by_number}
 use Rattle.plan_core.specs.TolledRows.{TolledRow}
 

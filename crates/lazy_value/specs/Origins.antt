@@ -1,9 +1,9 @@
 -- Where the value of a variable is made.
-use Rattle.std.specs.Prelude.{Bool, false, ◌==◌, IsTrue, ◌≡◌, ◌⊎◌, ℕ, suc, ◌<◌, ◌≤◌, Some}
+use Rattle.std.specs.Prelude.{Bool, false, ◌==◌, IsTrue, ◌≡◌, ◌⊎◌, ℕ, suc, ◌<◌, ◌≤◌, Some, Option, MatchOption}
 use Rattle.plan_core.specs.declared.plan.Plan.{Plan}
 use Rattle.plan_core.specs.PlanMade.{plan_value}
-use Rattle.plan_core.specs.Plans.{Operator, source, get_descendants, join, over, tuple_destroy}
-use Rattle.plan_core.specs.Unary.{select, order_by, project, group_by, concatenate, create_element}
+use Rattle.plan_core.specs.Plans.{Operator, over}
+use Rattle.plan_core.specs.Unary.{group_by, concatenate, create_element}
 use Rattle.plan_core.specs.ByNumber.{op_at}
 use Rattle.plan_core.specs.Valid.{kinds}
 use Rattle.plan_core.specs.Valid.{Kind, a_node, an_element, a_list}
@@ -64,7 +64,8 @@ pub record IsPassedOn (p : Plan) (n v i : ℕ) : Type 0 where
   pub size : size (plan_value p).ops i v ≤ size (plan_value p).ops n v
   pub extent : (bound : ℕ → ℕ) → extent bound (plan_value p).ops i v ≤ extent bound (plan_value p).ops n v
   pub labels : of.labels (plan_value p).ops n v ≡ of.labels (plan_value p).ops i v
-  pub value : (w : World) (row below : TolledRow) (es : RowEvents) → IsMadeOf (record { world = w; plan = p }) row i below es (op_at (plan_value p).ops n) → tolled_value row v ≡ tolled_value below v
+  pub value : (w : World) (row below : TolledRow) (es : RowEvents) → IsMadeOf (record { world = w; plan = p }) row i below es (op_at (plan_value p).ops n)
+      → tolled_value row v ≡ tolled_value below v
 
 -- an operator makes the value of a variable
 abbrev pub makes : Operator → ℕ → Bool
@@ -77,8 +78,13 @@ makes op v = false
 abbrev pub IsMadeHere : Plan → ℕ → ℕ → Type 0
 IsMadeHere p n v = (kinds (plan_value p).ops n v ≡ Some a_node) ⊎ IsTrue (makes (op_at (plan_value p).ops n) v)
 
+-- the operator does not make the value of the variable, or it is made there
+abbrev pub GivesMade : BenchState → ℕ → Position → ℕ → Option Origin → Type 0
+GivesMade st n c v r = MatchOption r (makes (op_at (ops_of st) n) v ≡ false) (IsOriginOf st n c v)
+
 -- a node with the trees below it is the one tree of a piece
 pub record IsHeadOf (st : BenchState) (op index : ℕ) (c : Position) (h : Head) : Type 0 where
   pub head : IsHead st h
   pub rank : head_rank h ≤ op
-  pub trees : (rest : Tolled) → piece_items (documents st) (piece_at (ops_of st) op index) (binding_at st (input_at (ops_of st) op) c) rest ≡ item 0 (head_label st h) (head_trees st h) rest
+  pub trees : (rest : Tolled)
+      → piece_items (documents st) (piece_at (ops_of st) op index) (binding_at st (input_at (ops_of st) op) c) rest ≡ item 0 (head_label st h) (head_trees st h) rest

@@ -3,7 +3,7 @@ use Rattle.std.specs.Prelude.{ℕ, suc, ◌+◌, cond, ◌==◌, List, [], ◌�
 use Rattle.plan_core.specs.declared.plan.Piece.{Piece}
 use Rattle.plan_core.specs.declared.plan.Piece.TheVariants.{Var as var_piece, LabelOf as label_piece, Text as text_piece}
 use Rattle.plan_core.specs.Plans.{Operator, source, get_descendants, join, over, tuple_destroy}
-use Rattle.plan_core.specs.Unary.{Unary, select, order_by, project, group_by, concatenate, create_element}
+use Rattle.plan_core.specs.Unary.{Unary, group_by, concatenate, create_element}
 use Rattle.plan_core.specs.ByNumber.{by_number}
 
 -- what a piece counts for, where a variable's value counts for so much

@@ -2,14 +2,13 @@
 use Rattle.std.specs.Prelude.{◌≡◌, ℕ, ◌+◌, ◌<◌, ◌≤◌, false, IsTrue, Option, MatchOption}
 use Rattle.mix_base.specs.Events.{finds, found}
 use Rattle.lxp_core.specs.View.{View}
-use Rattle.plan_core.specs.Events.{RowEvents, same_group}
+use Rattle.plan_core.specs.Events.{RowEvents}
 use Rattle.plan_core.specs.Tolled.{Tolled, dearer, paid, is_item}
-use Rattle.plan_core.specs.ByNumber.{op_at}
 use Rattle.lazy_plan.specs.declared.bench.Bench.{Bench}
 use Rattle.lazy_plan.specs.declared.position.Position.{Position}
-use Rattle.lazy_plan.specs.Bench.{BenchState, state_of, IsBenchOf, told, forward, fills_of, ops_of, documents, IsCursor, binding_at, ahead_at, number_at, KeepsBench, AsksAtMost}
-use Rattle.lazy_value.specs.Forms.{input_at, keys_of}
-use Rattle.lazy_value.specs.Ids.{here, IsSite, rest_trees, IsRest, weight, left, site_left}
+use Rattle.lazy_plan.specs.Bench.{BenchState, state_of, IsBenchOf, told, forward, fills_of, ops_of, IsCursor, binding_at, number_at, KeepsBench, AsksAtMost}
+use Rattle.lazy_value.specs.Forms.{input_at}
+use Rattle.lazy_value.specs.Ids.{group_ahead, here, IsSite, rest_trees, IsRest, weight, left, site_left}
 use Rattle.lazy_value.specs.declared.ids.Site.{Site}
 use Rattle.lazy_value.specs.declared.ids.Rest.{Rest}
 use Rattle.lazy_value.specs.declared.ids.Turn.{Turn}
@@ -64,5 +63,4 @@ Falls st w (On r) = left st r.value ≤ w
 pub record IsMember (old new : BenchState) (op : ℕ) (first : Position) (es : RowEvents) (top : ℕ) (c : Position) : Type 0 where
   pub cursor : IsCursor new (input_at (ops_of new) op) c
   pub falls : number_at new (input_at (ops_of new) op) c < top
-  pub found : IsTrue (told old) → found es ≡ finds (binding_at new (input_at (ops_of new) op) c)
-      (same_group (documents new) (keys_of (op_at (ops_of new) op)) (binding_at new (input_at (ops_of new) op) first) (ahead_at new (input_at (ops_of new) op) c))
+  pub found : IsTrue (told old) → found es ≡ finds (binding_at new (input_at (ops_of new) op) c) (group_ahead new op first c)

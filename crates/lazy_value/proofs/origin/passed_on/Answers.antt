@@ -4,8 +4,8 @@ use Rattle.lazy_value.proofs.Numbering.{kind_of}
 use Rattle.lazy_value.proofs.Passing.{passed_visit, passed_select, passed_order, passed_list, passed_element, passed_left, passed_right, made_source, made_visit, made_project, made_group, none_bound}
 use Rattle.lazy_value.proofs.origin.passed_on.Goals as goal
 
-pub unreachable-requires : goal.unreachable-requires
-unreachable-requires c = none_bound _ _ (kind_of (plan_value c.args.plan.now).ops c.requires.typed c.args.op c.requires.op _ (ap op_of (sym c.in-TupleDestroy.is) ∙ c.operator.ensures) c.args.v) c.requires.kind.1
+pub returns-in-TupleDestroy : goal.returns-in-TupleDestroy
+returns-in-TupleDestroy c = absurd (none_bound _ _ (kind_of (plan_value c.args.plan.now).ops c.requires.typed c.args.op c.requires.op _ (ap op_of (sym c.in-TupleDestroy.is) ∙ c.operator.ensures) c.args.v) c.requires.kind.1)
 
 pub returns-in-Source : goal.returns-in-Source
 returns-in-Source c = made_source c.args.plan.now c.requires.typed c.args.op c.requires.op c.args.v c.in-Source.source c.in-Source.out (ap op_of (sym c.in-Source.is) ∙ c.operator.ensures) c.requires.kind
