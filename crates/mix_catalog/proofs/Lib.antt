@@ -9,4 +9,3 @@ pub mod Numbered
 pub mod OneAnswer
 pub mod Seens
 pub mod Spelled
-pub mod WordPlaces

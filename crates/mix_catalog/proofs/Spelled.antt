@@ -22,11 +22,11 @@ use Rattle.mix_catalog.specs.declared.source.SourceKind.TheVariants.{Bracket, Cs
 use Rattle.mix_catalog.specs.Columns as columns
 use Rattle.mix_catalog.specs.Columns.{SpellsColumns, columns_at, columns_from, ended}
 use Rattle.mix_catalog.specs.Forms.{is_source_name, form_of, front_with, front_of, cutting_of, chunk_behind, is_columns_word}
-use Rattle.mix_catalog.specs.Places.{blank_behind, place_of_word}
+use Rattle.mix_words.specs.Places.{blank_behind, place_of_word}
 use Rattle.mix_catalog.specs.Seen.{bracket, csv, columns_seen, csv_at, form_behind, source_behind, source_seen, source_at, line_source}
 use Rattle.mix_catalog.specs.Grammar.{SpellsCutting, SpellsBetween, SpellsBehind, Spells, SpellsNone, form_in, form_word, file_of, front_words}
 use Rattle.mix_catalog.proofs.NameText.{name_tested, name_passes}
-use Rattle.mix_catalog.proofs.WordPlaces.{place_found, place_apart}
+use Rattle.mix_words.proofs.WordPlaces.{place_found, place_apart}
 use Rattle.mix_catalog.proofs.Seens.{Begins, spelling_begins, spelling_seen, word_end_stops}
 use Rattle.mix_catalog.proofs.ColumnsSpelled.{columns_begin, spelled_seen, seen_spelled}
 use Rattle.mix_catalog.proofs.Cuttings.{same_bytes, mapped_some, cutting_found, cutting_given, chunk_found, chunk_given, columns_word}

@@ -12,7 +12,7 @@ use Rattle.mix_catalog.specs.declared.source.SourceKind.TheVariants.{Bracket, Cs
 use Rattle.mix_catalog.specs.declared.form.Form.{Form}
 use Rattle.mix_catalog.specs.declared.form.Form.TheVariants as form
 use Rattle.mix_catalog.specs.Columns.{SpellsColumns}
-use Rattle.mix_catalog.specs.Places.{blank_behind}
+use Rattle.mix_words.specs.Places.{blank_behind}
 
 -- 1 to 9 digits write the number; they may begin with zeros
 pub record IsNumber (word : List ℕ) (n : ℕ) : Type 0 where

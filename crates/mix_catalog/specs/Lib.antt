@@ -2,6 +2,5 @@ pub mod Columns
 pub mod Forms
 pub mod Grammar
 pub mod Kept
-pub mod Places
 pub mod Seen
 pub mod Sources

@@ -11,7 +11,7 @@ use Rattle.mix_catalog.specs.declared.source.SourceKind.TheVariants.{Bracket, Cs
 use Rattle.mix_catalog.specs.Columns.{columns_at}
 use Rattle.mix_catalog.specs.Columns as columns
 use Rattle.mix_catalog.specs.Forms.{front_of, cutting_of, chunk_behind, is_columns_word}
-use Rattle.mix_catalog.specs.Places.{place_of_word}
+use Rattle.mix_words.specs.Places.{place_of_word}
 
 -- a bracket source
 abbrev pub bracket : List ℕ → List ℕ → Cutting → SourceSpec

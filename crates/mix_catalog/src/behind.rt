@@ -7,9 +7,9 @@ ghost use Rattle.mix_catalog.specs.Seen.{form_behind, source_behind};
 
 use crate::columns::{Columns, read_columns};
 use crate::form::{Cutting, Form, Front, is_columns_word, read_chunk, read_cutting};
-use crate::place::word_place;
 use crate::{ColumnNames, SourceKind, SourceSpec};
 use mix_tree::Label;
+use mix_words::places::word_place;
 use mix_words::words::{cut_words, is_blank_byte};
 use std::alloc::{AllocError, Global};
 

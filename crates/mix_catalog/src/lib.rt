@@ -7,7 +7,6 @@ mod columns;
 mod fault;
 mod form;
 mod line;
-mod place;
 mod reading;
 mod source;
 

@@ -1,16 +1,16 @@
 // The source that a line spells.
 ghost use Rattle.std.specs.Prelude.{◌≡◌, ◌<◌, IfOk, IsTrue, IsUtf8, MatchOption, length, take, true};
+ghost use Rattle.mix_words.specs.Places.{blank_behind};
 ghost use Rattle.mix_words.specs.Words.{words_of};
 ghost use Rattle.mix_catalog.specs.Forms.{front_of};
-ghost use Rattle.mix_catalog.specs.Places.{blank_behind};
 ghost use Rattle.mix_catalog.specs.Seen.{source_at};
 ghost use Rattle.mix_catalog.specs.Grammar.{Spells, SpellsNone};
 
 use crate::SourceSpec;
 use crate::behind::read_behind;
 use crate::form::{Front, read_front};
-use crate::place::word_place;
 use mix_tree::{LabelRead, read_label};
+use mix_words::places::word_place;
 use mix_words::words::cut_words;
 use std::alloc::{AllocError, Global};
 use std::str;

@@ -7,22 +7,24 @@ use Rattle.mix_io.specs.Views.{SinkView}
 use Rattle.mix_io.specs.Contents.{Appends}
 use Rattle.lxp_core.specs.View.{View}
 use Rattle.mix_script.specs.Names.{NamesOf, no_names}
-use Rattle.mix_script.specs.Trails.{Trail, names_on}
+use Rattle.mix_script.specs.Trails.{Trail, TakeOneWay, names_on}
 use Rattle.mix_script.specs.Answers.{line_of, IsNamed}
-use Rattle.mix_script.specs.Transcript.{answered, names_after}
-use Rattle.mix_script.specs.Allowed.{MayFind, MayFindRoot, WhereHeld, MayAnswer, AreAnswers, nodes_after, answer_lines, mark_of, is_fault}
+use Rattle.mix_script.specs.Transcript.{Names, answered, names_after}
+use Rattle.mix_script.specs.Allowed.{MayFind, MayFindRoot, MayPrint, WhereHeld, MayAnswer, AreAnswers, nodes_after, answer_lines, mark_of, is_fault}
 use Rattle.mix_script.specs.Finished.{AreOf}
 use Rattle.mix_script.specs.Holding.{HoldBoth}
 use Rattle.mix_script.specs.declared.step.Act.{Act}
-use Rattle.mix_script.specs.declared.step.Act.TheVariants.{Root, Move, Fetch}
+use Rattle.mix_script.specs.declared.step.Act.TheVariants.{Root, Move, Select, Fetch, Print}
 use Rattle.mix_script.specs.declared.step.Step.{Step}
 use Rattle.mix_script.specs.declared.answer.Answer.{Answer}
 use Rattle.mix_script.specs.declared.answer.Answer.TheVariants as answer
 use Rattle.mix_script.proofs.Answering.{faults_push, may_named}
 use Rattle.mix_script.proofs.Holding.{hold_none}
 use Rattle.mix_session.specs.Meaning.{Course, Meaning, GoesOn}
-use Rattle.mix_session.specs.Held.{HoldNodes, HoldTold, IsSession}
-use Rattle.mix_session.specs.Stepped.{IsStep, Stepped, held_toll, act_toll}
+use Rattle.mix_session.specs.Held.{HoldNodes, HoldPlaces, HoldTold, IsSession}
+use Rattle.mix_session.specs.Stepped.{IsStep, Stepped, act_toll, tree_toll}
+use Rattle.mix_session.proofs.TollLess.{act_toll_less, tree_toll_less}
+use Rattle.mix_session.proofs.Walking.{goes_on_twice, goes_on_same}
 use Rattle.mix_lines.specs.declared.fault.LinesFault.{LinesFault}
 use Rattle.mix_lines.specs.declared.fault.LinesFault.TheVariants.{OutOfMemory}
 use Rattle.mix_lines.specs.Cuts.{IsStepCut}
@@ -31,28 +33,13 @@ use Rattle.mix_lines.specs.Written.{AreWritten, IsOnTree, IsSoFar, IsFar}
 use Rattle.mix_lines.proofs.Stepping.{written_start, spent_start, later_at, written_step, spent_step, spent_begun, spent_whole}
 use Rattle.mix_lines.proofs.Ending.{run_whole, run_cut}
 
--- a course that goes on, and on
-goes_on_twice : {W : Type 0} {a b c : Course W} → GoesOn a b → GoesOn b c → GoesOn a c
-goes_on_twice k l = record {
-  roots = l.roots ∙ k.roots;
-  may = λ s h. k.may s (l.may s h);
-  document = λ t h. l.document t (k.document t h);
-  tolls = λ h. l.tolls (k.tolls h);
-  trail = l.trail ∙ k.trail;
-  root_toll = omega (arith, k.root_toll, l.root_toll);
-  toll = λ way x. omega (arith, k.toll way x, l.toll way x);
-}
-
--- a course goes on where nothing was done
-goes_on_same : {W : Type 0} (c : Course W) → GoesOn c c
-goes_on_same c = record { roots = refl; may = λ s h. h; document = λ t h. h; tolls = λ h. h; trail = refl; root_toll = omega arith; toll = λ way x. omega arith }
-
 module _ (May May' : ℕ → Type 0) (more : (s : ℕ) → May s → May' s) where
   -- an answer to a search may be given where more sources may fail
   find_more : (a : Answer) → MayFind May a → MayFind May' a
   find_more answer.Node h = tt
   find_more answer.None h = tt
   find_more (answer.Label l) h = h
+  find_more (answer.Text x) h = h
   find_more answer.NoNode h = h
   find_more (answer.Fault s) h = more s h
 
@@ -66,22 +53,27 @@ module _ (May May' : ℕ → Type 0) (more : (s : ℕ) → May s → May' s) whe
   held_more None a h = h
   held_more (Some node) a h = find_more a h
 
+  -- and one to a print
+  print_more : (a : Answer) → MayPrint May a → MayPrint May' a
+  print_more answer.Node h = h
+  print_more answer.None h = h
+  print_more (answer.Label l) h = h
+  print_more (answer.Text x) h = h
+  print_more answer.NoNode h = h
+  print_more (answer.Fault s) h = more s h
+
+  -- of what a name holds
+  text_more : (o : Option (Unit {0})) (a : Answer) → WhereHeld o (MayPrint May) a → WhereHeld o (MayPrint May') a
+  text_more None a h = h
+  text_more (Some node) a h = print_more a h
+
   -- and each answer
   answer_more : (roots : Bool) (nodes : NamesOf (Unit {0})) (client : List ℕ) (act : Act) (a : Answer) → MayAnswer roots May nodes client act a → MayAnswer roots May' nodes client act a
   answer_more roots nodes client (Root name) a h = root_more roots a h
   answer_more roots nodes client (Move way name from) a h = held_more (nodes client from) a h
+  answer_more roots nodes client (Select name from label) a h = held_more (nodes client from) a h
   answer_more roots nodes client (Fetch from) a h = h
-
--- the toll of what a name holds did not rise
-held_toll_less : {W : Type 0} (toll toll' : W → ℕ) → ((x : W) → toll' x ≤ toll x) → (o : Option W) → held_toll toll' o ≤ held_toll toll o
-held_toll_less toll toll' less None = omega arith
-held_toll_less toll toll' less (Some x) = less x
-
--- nor did that of an act
-act_toll_less : {W : Type 0} (c d : Course W) → GoesOn c d → (xs : NamesOf W) (client : List ℕ) (act : Act) → act_toll d xs client act ≤ act_toll c xs client act
-act_toll_less c d goes xs client (Root name) = goes.root_toll
-act_toll_less c d goes xs client (Move way name from) = held_toll_less (c.toll way) (d.toll way) (λ x. goes.toll way x) (xs client from)
-act_toll_less c d goes xs client (Fetch from) = omega arith
+  answer_more roots nodes client (Print from) a h = text_more (nodes client from) a h
 
 -- answers, and one more before those to come
 behind : (answers : List Answer) (a : Answer) (more : List Answer) → (answers ++ a ∷ []) ++ more ≡ answers ++ a ∷ more
@@ -101,7 +93,9 @@ far_start {V} {W} m v values names steps before session none = record {
     allowed = λ more h. h;
     told = λ t one. record { places = no_names; hold = subst (λ (s : NamesOf V). HoldBoth m.IsAt s no_names) (sym none) (hold_none m.IsAt); then = λ more h. h };
     counted = λ s. omega arith;
-    spent = λ tolls. spent_start m.IsTold (act_toll m.course) (names_on m.course.trail) v.fills values steps none;
+    ways = λ ways. ways;
+    spent = λ ways tolls. spent_start m.IsTold (act_toll m.course) (names_on m.course.trail) v.fills values steps none;
+    spent_on = λ tolls t one. spent_start m.IsAt (tree_toll m.course t) (names_after t) v.fills values steps none;
   };
 }
 
@@ -130,15 +124,26 @@ step_named c m m' old v v' values values' names steps before now marked step lat
 
 module _ {V W : Type 0} (c : Course W) (m m' : Meaning V W) (old v v' : View) (values values' : NamesOf V) (names : List (List ℕ)) (steps : List Step) (before now : Option (List ℕ)) (marked : Bool) (step : Step) (later : List Step)
     (far : IsFar c m old v values names steps before now marked (step ∷ later)) (rises : (s : ℕ) → v.faults s ≤ v'.faults s) (r : Result Answer AllocError) (done : Stepped m m' v v' values values' step.client step.act r) where
-  -- the fills that were asked for the step
-  asked : c.HasTolls → (xs : NamesOf W) → HoldTold m values xs → v'.fills ≤ v.fills + act_toll c xs step.client step.act
-  asked tolls xs hold = let h = done.toll (far.so.course.tolls tolls) xs hold in omega (arith, h, act_toll_less c m.course far.so.course xs step.client step.act)
+  -- the fills that were asked for the step, where it takes at most one way
+  asked : TakeOneWay steps → c.HasTolls → (xs : NamesOf W) → HoldTold m values xs → v'.fills ≤ v.fills + act_toll c xs step.client step.act
+  asked ways tolls xs hold =
+      let h = done.toll (far.so.ways ways).0 (far.so.course.tolls tolls) xs hold in omega (arith, h, act_toll_less c m.course far.so.course xs step.client step.act)
+
+  -- and where a tree is the document
+  asked_on : c.HasTolls → (t : LabelledTree) → c.IsDocument t → (places : Names) → HoldPlaces m values places → v'.fills ≤ v.fills + tree_toll c t places step.client step.act
+  asked_on tolls t one places hold =
+      let h = done.cost (far.so.course.tolls tolls) t (far.so.course.document t one) places hold in omega (arith, h, tree_toll_less c m.course far.so.course t places step.client step.act)
 
   -- what the answers so far and this step cost
   lazy_begun : IsLazy c old.fills v'.fills steps far.answers
-  lazy_begun tolls =
-      let spent = far.so.spent tolls in
-      spent_begun m.IsTold (act_toll c) (names_on c.trail) old.fills v.fills v'.fills values steps step later far.answers spent (asked tolls spent.names spent.hold)
+  lazy_begun = record {
+    ways = λ ways tolls.
+        let spent = far.so.spent ways tolls in
+        spent_begun m.IsTold (act_toll c) (names_on c.trail) old.fills v.fills v'.fills values steps step later far.answers spent (asked ways tolls spent.names spent.hold);
+    tree = λ tolls t one.
+        let spent = far.so.spent_on tolls t one in
+        spent_begun m.IsAt (tree_toll c t) (names_after t) old.fills v.fills v'.fills values steps step later far.answers spent (asked_on tolls t one spent.names spent.hold);
+  }
 
   -- the answers so far are those of a run
   earlier : IsRun c old.faults v'.faults steps far.answers
@@ -161,7 +166,7 @@ module _ {V W : Type 0} (c : Course W) (m m' : Meaning V W) (old v v' : View) (v
         let both = is.told t (far.so.course.document t one) on.places on.hold in
         record {
           places = (answered t on.places (mark_of a) step).1;
-          hold = subst (λ x. HoldBoth m'.IsAt values' (names_after on.places step.client step.act x)) both.0 both.1;
+          hold = subst (λ x. HoldBoth m'.IsAt values' (names_after t on.places step.client step.act x)) both.0 both.1;
           then = λ more h. subst (λ xs. AreOf t no_names xs steps) (sym (behind far.answers a more)) (on.then (a ∷ more) (both.0, h));
         }
 
@@ -179,11 +184,16 @@ module _ {V W : Type 0} (c : Course W) (m m' : Meaning V W) (old v v' : View) (v
       allowed = λ more h. subst (λ xs. AreAnswers c.roots c.MayFail no_names xs steps) (sym (behind far.answers a more)) (far.so.allowed (a ∷ more) (may, h));
       told = on_tree;
       counted = λ s. let h = far.so.counted s in let k = is.counted s in omega (arith, h, k, faults_push s far.answers a);
-      spent = λ tolls.
-          let spent = far.so.spent tolls in
+      ways = λ ways. (far.so.ways ways).1;
+      spent = λ ways tolls.
+          let spent = far.so.spent ways tolls in
           let Holds : Trail W → Type 0 = λ trail. HoldTold m' values' (names_on trail spent.names step.client step.act a) in
           spent_step m.IsTold m'.IsTold (act_toll c) (names_on c.trail) old.fills v.fills v'.fills values values' steps step later far.answers a spent
-          (asked tolls spent.names spent.hold) (subst Holds far.so.course.trail (is.trail (far.so.course.tolls tolls) spent.names spent.hold));
+          (asked ways tolls spent.names spent.hold) (subst Holds far.so.course.trail (is.trail (far.so.ways ways).0 (far.so.course.tolls tolls) spent.names spent.hold));
+      spent_on = λ tolls t one.
+          let spent = far.so.spent_on tolls t one in
+          spent_step m.IsAt m'.IsAt (tree_toll c t) (names_after t) old.fills v.fills v'.fills values values' steps step later far.answers a spent
+          (asked_on tolls t one spent.names spent.hold) (is.told t (far.so.course.document t one) spent.names spent.hold).1;
     }
 
     -- and its line was written
@@ -210,4 +220,7 @@ pub far_done : {V W : Type 0} (c : Course W) (m : Meaning V W) (old now : View) 
 far_done c m old now values names steps later sink sink' marked none far =
     run_whole (IsRun c old.faults now.faults steps) (IsLazy c old.fills now.fills steps) names steps later sink sink' sink' marked far.answers none far.written
     (so_far_run c m old now now values steps later far.answers far.so (λ s. omega arith))
-    (λ tolls. spent_whole m.IsTold (act_toll c) (names_on c.trail) old.fills now.fills values steps later far.answers (far.so.spent tolls))
+    (record {
+      ways = λ ways tolls. spent_whole m.IsTold (act_toll c) (names_on c.trail) old.fills now.fills values steps later far.answers (far.so.spent ways tolls);
+      tree = λ tolls t one. spent_whole m.IsAt (tree_toll c t) (names_after t) old.fills now.fills values steps later far.answers (far.so.spent_on tolls t one);
+    })

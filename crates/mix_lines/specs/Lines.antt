@@ -6,10 +6,11 @@ use Rattle.mix_io.specs.Views.{SinkView}
 use Rattle.mix_io.specs.Contents.{Appends}
 use Rattle.mix_script.specs.Names.{no_names}
 use Rattle.lxp_core.specs.View.{View}
-use Rattle.mix_script.specs.Trails.{names_on}
+use Rattle.mix_script.specs.Trails.{TakeOneWay, names_on}
+use Rattle.mix_script.specs.Transcript.{names_after}
 use Rattle.mix_script.specs.Allowed.{AreAnswers, answer_lines, has_fault, faults_of, begun}
 use Rattle.mix_session.specs.Meaning.{Course}
-use Rattle.mix_session.specs.Stepped.{act_toll}
+use Rattle.mix_session.specs.Stepped.{act_toll, tree_toll}
 use Rattle.mix_script.specs.Finished.{AreOf}
 use Rattle.mix_script.specs.declared.step.Step.{Step}
 use Rattle.mix_script.specs.declared.answer.Answer.{Answer}
@@ -23,9 +24,11 @@ pub record IsRun {W : Type 0} (c : Course W) (faults faults' : ℕ → ℕ) (ste
   pub told : (t : LabelledTree) → c.IsDocument t → AreOf t no_names answers steps
   pub counted : (s : ℕ) → HasRisenBy (faults_of s answers) (faults s) (faults' s)
 
--- no more fills were asked than the tolls of the steps that were begun come to
-abbrev pub IsLazy : {W : Type 0} → Course W → ℕ → ℕ → List Step → List Answer → Type 0
-IsLazy c fills fills' steps answers = c.HasTolls → fills' ≤ fills + begun (act_toll c) (names_on c.trail) no_names answers steps
+-- no more fills were asked than the tolls of the steps that were begun come to: where no step takes more than one way, and
+-- where a tree is the document
+pub record IsLazy {W : Type 0} (c : Course W) (fills fills' : ℕ) (steps : List Step) (answers : List Answer) : Type 0 where
+  pub ways : TakeOneWay steps → c.HasTolls → fills' ≤ fills + begun (act_toll c) (names_on c.trail) no_names answers steps
+  pub tree : c.HasTolls → (t : LabelledTree) → c.IsDocument t → fills' ≤ fills + begun (tree_toll c t) (names_after t) no_names answers steps
 
 -- all steps were answered, and the lines of their answers were written; a fault line was written where this is marked. The
 -- first says what the answers are, the second what they and one step more may have cost

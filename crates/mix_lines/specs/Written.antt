@@ -5,8 +5,8 @@ use Rattle.mix_tree.specs.Forest.{LabelledTree}
 use Rattle.mix_io.specs.Contents.{Appends}
 use Rattle.mix_script.specs.Names.{NamesOf, no_names}
 use Rattle.lxp_core.specs.View.{View}
-use Rattle.mix_script.specs.Trails.{names_on}
-use Rattle.mix_script.specs.Transcript.{Names}
+use Rattle.mix_script.specs.Trails.{TakeOneWay, names_on}
+use Rattle.mix_script.specs.Transcript.{Names, names_after}
 use Rattle.mix_script.specs.Allowed.{Nodes, AreAnswers, answer_lines, has_fault, faults_of, begun}
 use Rattle.mix_script.specs.Finished.{AreOf}
 use Rattle.mix_script.specs.Holding.{HoldBoth}
@@ -15,7 +15,7 @@ use Rattle.mix_script.specs.declared.step.Step.{Step}
 use Rattle.mix_script.specs.declared.answer.Answer.{Answer}
 use Rattle.mix_session.specs.Meaning.{Course, Meaning, GoesOn}
 use Rattle.mix_session.specs.Held.{HoldNodes, IsSession}
-use Rattle.mix_session.specs.Stepped.{act_toll}
+use Rattle.mix_session.specs.Stepped.{act_toll, tree_toll}
 
 -- the lines of answers to the steps before the later ones were written; this tells whether one of them is a fault
 pub record AreWritten (names : List (List ℕ)) (steps later : List Step) (before after : Option (List ℕ)) (marked : Bool) (answers : List Answer) : Type 0 where
@@ -46,7 +46,9 @@ pub record IsSoFar {V W : Type 0} (c : Course W) (m : Meaning V W) (old now : Vi
   pub allowed : (more : List Answer) → AreAnswers c.roots c.MayFail nodes more later → AreAnswers c.roots c.MayFail no_names (answers ++ more) steps
   pub told : (t : LabelledTree) → c.IsDocument t → IsOnTree m.IsAt t values steps later answers
   pub counted : (s : ℕ) → HasRisenBy (faults_of s answers) (old.faults s) (now.faults s)
-  pub spent : c.HasTolls → IsSpent m.IsTold (act_toll c) (names_on c.trail) old.fills now.fills values steps later answers
+  pub ways : TakeOneWay steps → TakeOneWay later
+  pub spent : TakeOneWay steps → c.HasTolls → IsSpent m.IsTold (act_toll c) (names_on c.trail) old.fills now.fills values steps later answers
+  pub spent_on : c.HasTolls → (t : LabelledTree) → c.IsDocument t → IsSpent m.IsAt (tree_toll c t) (names_after t) old.fills now.fills values steps later answers
 
 -- the steps before the later ones were answered by a session, and their lines written
 pub record IsFar {V W : Type 0} (c : Course W) (m : Meaning V W) (old now : View) (values : NamesOf V) (names : List (List ℕ)) (steps : List Step) (before after : Option (List ℕ)) (marked : Bool) (later : List Step) : Type 0 where

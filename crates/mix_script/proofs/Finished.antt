@@ -7,7 +7,7 @@ use Rattle.mix_script.specs.Names.{no_names}
 use Rattle.mix_script.specs.Answers.{line_of}
 use Rattle.mix_script.specs.Transcript.{Names, label_answer, if_held, answer_of, answered, lines_from, transcript, may_mark, MayBeMarked, AreMarks}
 use Rattle.mix_script.specs.declared.step.Act.{Act}
-use Rattle.mix_script.specs.declared.step.Act.TheVariants.{Root, Move, Fetch}
+use Rattle.mix_script.specs.declared.step.Act.TheVariants.{Root, Move, Select, Fetch, Print}
 use Rattle.mix_script.specs.declared.step.Step.{Step}
 use Rattle.mix_script.specs.declared.answer.Answer.{Answer}
 use Rattle.mix_script.specs.declared.answer.Answer.TheVariants as answer
@@ -63,12 +63,15 @@ module _ (roots : Bool) (MayFail : ℕ → Type 0) (t : LabelledTree) where
   marks_are nodes names answer.Node step may e = tt
   marks_are nodes names answer.None step may e = tt
   marks_are nodes names (answer.Label l) step may e = tt
+  marks_are nodes names (answer.Text x) step may e = tt
   marks_are nodes names answer.NoNode step may e = tt
   marks_are nodes names (answer.Fault s) step may e = of step.act may e
     where
       of : (act : Act) → MayAnswer roots MayFail nodes step.client act (answer.Fault s) → answer.Fault s ≡ answer_of t names (Some s) step.client act → IsTrue (may_mark roots names step.client act)
       of (Root name) m k = root_mark roots MayFail s m
       of (Move way name from) m k = held_mark (names step.client from) _ s k
+      of (Select name from label) m k = held_mark (names step.client from) _ s k
+      of (Print from) m k = held_mark (names step.client from) _ s k
       of (Fetch from) m k = never (option_and_then (tree_at t) (names step.client from)) k
         where
           never : {X : Type 0} (o : Option LabelledTree) → answer.Fault s ≡ label_answer o → X
@@ -96,6 +99,7 @@ same_line : (sources others : List (List ℕ)) (client : List ℕ) (a : Answer) 
 same_line sources others client answer.Node e = refl
 same_line sources others client answer.None e = refl
 same_line sources others client (answer.Label l) e = refl
+same_line sources others client (answer.Text x) e = refl
 same_line sources others client answer.NoNode e = refl
 same_line sources others client (answer.Fault s) e = cc
 

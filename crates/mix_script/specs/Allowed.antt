@@ -2,9 +2,11 @@
 use Rattle.std.specs.Prelude.{◌≡◌, ℕ, ◌+◌, ◌==◌, Bool, true, false, ◌||◌, List, [], ◌∷◌, ◌++◌, Option, Some, None, is_some, cond}
 use Rattle.mix_script.specs.Names.{NamesOf}
 use Rattle.mix_script.specs.Answers.{line_of}
-use Rattle.mix_script.specs.Trails.{node_trail, names_on}
+use Rattle.mix_script.specs.Trails.{names_with}
+use Rattle.bracket_text.specs.Canonical.{canon}
+use Rattle.mix_tree.specs.Forest.{LabelledTree}
 use Rattle.mix_script.specs.declared.step.Act.{Act}
-use Rattle.mix_script.specs.declared.step.Act.TheVariants.{Root, Move, Fetch}
+use Rattle.mix_script.specs.declared.step.Act.TheVariants.{Root, Move, Select, Fetch, Print}
 use Rattle.mix_script.specs.declared.step.Step.{Step}
 use Rattle.mix_script.specs.declared.answer.Answer.{Answer}
 use Rattle.mix_script.specs.declared.answer.Answer.TheVariants as answer
@@ -18,6 +20,7 @@ abbrev pub MayFind : (ℕ → Type 0) → Answer → Type 0
 MayFind MayFail answer.Node = Unit {0}
 MayFind MayFail answer.None = Unit {0}
 MayFind MayFail (answer.Label l) = ⊥
+MayFind MayFail (answer.Text x) = ⊥
 MayFind MayFail answer.NoNode = ⊥
 MayFind MayFail (answer.Fault s) = MayFail s
 
@@ -31,8 +34,18 @@ abbrev pub MayRead : Answer → Type 0
 MayRead answer.Node = ⊥
 MayRead answer.None = ⊥
 MayRead (answer.Label l) = Unit {0}
+MayRead (answer.Text x) = ⊥
 MayRead answer.NoNode = ⊥
 MayRead (answer.Fault s) = ⊥
+
+-- the answers to a command that prints a subtree: the canonical text of a tree, or a fault of a source that has this property
+abbrev pub MayPrint : (ℕ → Type 0) → Answer → Type 0
+MayPrint MayFail answer.Node = ⊥
+MayPrint MayFail answer.None = ⊥
+MayPrint MayFail (answer.Label l) = ⊥
+MayPrint MayFail (answer.Text x) = (t : LabelledTree) × (x ≡ canon t)
+MayPrint MayFail answer.NoNode = ⊥
+MayPrint MayFail (answer.Fault s) = MayFail s
 
 -- no node is answered exactly where the operand's name holds none
 abbrev pub WhereHeld : Option (Unit {0}) → (Answer → Type 0) → Answer → Type 0
@@ -43,11 +56,13 @@ WhereHeld (Some node) May a = May a
 abbrev pub MayAnswer : Bool → (ℕ → Type 0) → Nodes → List ℕ → Act → Answer → Type 0
 MayAnswer roots MayFail nodes client (Root name) a = MayFindRoot roots MayFail a
 MayAnswer roots MayFail nodes client (Move way name from) a = WhereHeld (nodes client from) (MayFind MayFail) a
+MayAnswer roots MayFail nodes client (Select name from label) a = WhereHeld (nodes client from) (MayFind MayFail) a
 MayAnswer roots MayFail nodes client (Fetch from) a = WhereHeld (nodes client from) MayRead a
+MayAnswer roots MayFail nodes client (Print from) a = WhereHeld (nodes client from) (MayPrint MayFail) a
 
 -- which names hold a node after an answer: the act's name after a node and not after none, and else those that did
 abbrev pub nodes_after : Nodes → List ℕ → Act → Answer → Nodes
-nodes_after nodes client act a = names_on node_trail nodes client act a
+nodes_after nodes client act a = names_with (Some tt) nodes client act a
 
 -- answers to the first of these steps, each of which its step may have after those before it
 abbrev pub AreAnswers : Bool → (ℕ → Type 0) → Nodes → List Answer → List Step → Type 0
@@ -67,6 +82,7 @@ abbrev pub mark_of : Answer → Option ℕ
 mark_of answer.Node = None
 mark_of answer.None = None
 mark_of (answer.Label l) = None
+mark_of (answer.Text x) = None
 mark_of answer.NoNode = None
 mark_of (answer.Fault s) = Some s
 

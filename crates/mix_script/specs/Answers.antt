@@ -9,6 +9,7 @@ abbrev pub IsNamed : ℕ → Answer → Type 0
 IsNamed count answer.Node = Unit {0}
 IsNamed count answer.None = Unit {0}
 IsNamed count (answer.Label l) = Unit {0}
+IsNamed count (answer.Text x) = Unit {0}
 IsNamed count answer.NoNode = Unit {0}
 IsNamed count (answer.Fault source) = source < count
 
@@ -22,6 +23,7 @@ abbrev pub answer_text : List (List ℕ) → Answer → List ℕ
 answer_text sources answer.Node = codes "node"
 answer_text sources answer.None = codes "none"
 answer_text sources (answer.Label l) = codes "label " ++ spelling l
+answer_text sources (answer.Text x) = codes "text " ++ x
 answer_text sources answer.NoNode = codes "no node"
 answer_text sources (answer.Fault source) = codes "fault " ++ get_or sources source []
 

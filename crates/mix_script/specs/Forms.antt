@@ -1,9 +1,9 @@
 -- The forms of a script's lines, by their words.
-use Rattle.std.specs.Prelude.{ℕ, cond, ◌&&◌, List, [], ◌∷◌, Option, Some, None, option_map, codes}
+use Rattle.std.specs.Prelude.{ℕ, Bool, cond, ◌&&◌, List, [], ◌∷◌, Option, Some, None, option_map, codes}
 use Rattle.std.specs.Str.{bytes_eq}
 use Rattle.mix_words.specs.Words.{is_name}
 use Rattle.mix_script.specs.declared.step.Act.{Act}
-use Rattle.mix_script.specs.declared.step.Act.TheVariants.{Root, Move, Fetch}
+use Rattle.mix_script.specs.declared.step.Act.TheVariants.{Root, Move, Select, Fetch, Print}
 use Rattle.mix_script.specs.declared.step.Way.{Way}
 use Rattle.mix_script.specs.declared.step.Way.TheVariants.{Down, Right}
 
@@ -23,15 +23,32 @@ move_form x is command y = cond (is_name x && bytes_eq is (codes "=") && is_name
 abbrev pub root_form : List ℕ → List ℕ → List ℕ → Option Act
 root_form x is command = cond (is_name x && bytes_eq is (codes "=") && bytes_eq command (codes "root")) (Some (Root x)) None
 
--- fetch Y
-abbrev pub fetch_form : List ℕ → List ℕ → Option Act
-fetch_form command y = cond (bytes_eq command (codes "fetch") && is_name y) (Some (Fetch y)) None
+-- what a word asks for that stands alone before a name
+abbrev pub reading_named : List ℕ → List ℕ → Option Act
+reading_named command y = cond (bytes_eq command (codes "fetch")) (Some (Fetch y)) (cond (bytes_eq command (codes "print")) (Some (Print y)) None)
 
--- what the words of a line ask for, where they are of a form
+-- fetch Y, and print Y
+abbrev pub read_form : List ℕ → List ℕ → Option Act
+read_form command y = cond (is_name y) (reading_named command y) None
+
+-- what words ask for that end with a name or root, where they are of a form
 abbrev pub act_of : List (List ℕ) → Option Act
 act_of [] = None
 act_of (w ∷ []) = None
-act_of (command ∷ y ∷ []) = fetch_form command y
+act_of (command ∷ y ∷ []) = read_form command y
 act_of (x ∷ is ∷ command ∷ []) = root_form x is command
 act_of (x ∷ is ∷ command ∷ y ∷ []) = move_form x is command y
 act_of (x ∷ is ∷ command ∷ y ∷ w ∷ words) = None
+
+-- X = select Y
+abbrev pub is_select_form : List ℕ → List ℕ → List ℕ → List ℕ → Bool
+is_select_form x is command y = is_name x && bytes_eq is (codes "=") && bytes_eq command (codes "select") && is_name y
+
+-- what words ask for that stand before a label: they are X = select Y
+abbrev pub select_of : List (List ℕ) → List ℕ → Option Act
+select_of [] label = None
+select_of (a ∷ []) label = None
+select_of (a ∷ b ∷ []) label = None
+select_of (a ∷ b ∷ c ∷ []) label = None
+select_of (x ∷ is ∷ command ∷ y ∷ []) label = cond (is_select_form x is command y) (Some (Select x y label)) None
+select_of (a ∷ b ∷ c ∷ d ∷ e ∷ words) label = None

@@ -1,8 +1,10 @@
 pub mod Allowed
 pub mod Answers
+pub mod Clients
 pub mod Finished
 pub mod Forms
 pub mod Holding
+pub mod Lines
 pub mod Names
 pub mod Steps
 pub mod Trails

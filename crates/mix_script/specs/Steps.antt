@@ -1,18 +1,12 @@
 -- The steps of a script.
 use Rattle.std.specs.Prelude.{ℕ, ◌+◌, cond, List, [], ◌∷◌, ◌++◌, option_map, Option, Some, None, Result, Ok, Err}
-use Rattle.mix_words.specs.Words.{words_of}
 use Rattle.mix_words.specs.Lines.{lines_of, is_passed}
-use Rattle.mix_script.specs.Forms.{act_of}
-use Rattle.mix_script.specs.declared.step.Act.{Act}
+use Rattle.mix_script.specs.Lines.{utf8_step}
 use Rattle.mix_script.specs.declared.step.Step.{Step}
-
--- the step of a line without a client's prefix
-abbrev pub unnamed : Act → Step
-unnamed act = record { client = []; act = act }
 
 -- the steps of a line: none where it is passed over, and else one; None where it is of no form
 abbrev pub line_steps : List ℕ → Option (List Step)
-line_steps line = cond (is_passed line) (Some []) (option_map (λ act. unnamed act ∷ []) (act_of (words_of line)))
+line_steps line = cond (is_passed line) (Some []) (option_map (λ step. step ∷ []) (utf8_step line))
 
 -- the steps of a line of this number, and those of the lines behind it
 abbrev pub with_line : Option (List Step) → ℕ → Result (List Step) ℕ → Result (List Step) ℕ

@@ -1,9 +1,10 @@
 -- What is told of the nodes that names hold: of the root, and of the nodes to which a way leads.
-use Rattle.std.specs.Prelude.{ℕ, List, [], Option, Some, None, option_and_then}
+use Rattle.std.specs.Prelude.{ℕ, Bool, true, false, IsTrue, List, [], ◌∷◌, Option, Some, None, option_and_then}
 use Rattle.mix_tree.specs.Place.{child_place, next_place}
 use Rattle.mix_script.specs.Names.{NamesOf, with_name}
 use Rattle.mix_script.specs.declared.step.Act.{Act}
-use Rattle.mix_script.specs.declared.step.Act.TheVariants.{Root, Move, Fetch}
+use Rattle.mix_script.specs.declared.step.Act.TheVariants.{Root, Move, Select, Fetch, Print}
+use Rattle.mix_script.specs.declared.step.Step.{Step}
 use Rattle.mix_script.specs.declared.step.Way.{Way}
 use Rattle.mix_script.specs.declared.step.Way.TheVariants.{Down, Right}
 use Rattle.mix_script.specs.declared.answer.Answer.{Answer}
@@ -27,22 +28,46 @@ place_to Right place = next_place place
 abbrev pub place_trail : Trail (List ℕ)
 place_trail = record { first = []; to = place_to }
 
+-- whether an act takes at most one way from a node: it searches no siblings and prints no subtree
+abbrev pub takes_one_way : Act → Bool
+takes_one_way (Root name) = true
+takes_one_way (Move way name from) = true
+takes_one_way (Select name from label) = false
+takes_one_way (Fetch from) = true
+takes_one_way (Print from) = false
+
+-- each step takes at most one way
+abbrev pub TakeOneWay : List Step → Type 0
+TakeOneWay [] = Unit {0}
+TakeOneWay (step ∷ steps) = IsTrue (takes_one_way step.act) × TakeOneWay steps
+
 -- what names hold where the one that an act names, if any, holds this
 abbrev pub with_named : {V : Type 0} → NamesOf V → List ℕ → Act → Option V → NamesOf V
 with_named names client (Root name) value = with_name names client name value
 with_named names client (Move way name from) value = with_name names client name value
+with_named names client (Select name from label) value = with_name names client name value
 with_named names client (Fetch from) value = names
+with_named names client (Print from) value = names
 
--- what is told of the node that an act asks for: the root, or the one to which a way leads from what its operand holds
+-- the names after an answer, where this is told of the node that was sought: the act's name holds that or none, or all hold
+-- what they held
+abbrev pub names_with : {V : Type 0} → Option V → NamesOf V → List ℕ → Act → Answer → NamesOf V
+names_with goal names client act answer.Node = with_named names client act goal
+names_with goal names client act answer.None = with_named names client act None
+names_with goal names client act (answer.Label l) = names
+names_with goal names client act (answer.Text x) = names
+names_with goal names client act answer.NoNode = names
+names_with goal names client act (answer.Fault source) = names
+
+-- what is told of the node that an act of at most one way asks for: the root, or the one to which a way leads from what its
+-- operand holds
 abbrev pub goal_on : {W : Type 0} → Trail W → NamesOf W → List ℕ → Act → Option W
 goal_on trail names client (Root name) = Some trail.first
 goal_on trail names client (Move way name from) = option_and_then (trail.to way) (names client from)
+goal_on trail names client (Select name from label) = None
 goal_on trail names client (Fetch from) = None
+goal_on trail names client (Print from) = None
 
--- the names after an answer: the act's name holds what is told of the node that was found, or none, or all hold what they held
+-- the names after an answer to such an act
 abbrev pub names_on : {W : Type 0} → Trail W → NamesOf W → List ℕ → Act → Answer → NamesOf W
-names_on trail names client act answer.Node = with_named names client act (goal_on trail names client act)
-names_on trail names client act answer.None = with_named names client act None
-names_on trail names client act (answer.Label l) = names
-names_on trail names client act answer.NoNode = names
-names_on trail names client act (answer.Fault source) = names
+names_on trail names client act a = names_with (goal_on trail names client act) names client act a

@@ -5,14 +5,46 @@ ghost use Rattle.mix_script.specs.Answers.{line_of, answer_text, prefix_of, IsNa
 use crate::Step;
 use mix_tree::{Label, push_label};
 use std::alloc::{AllocError, Global};
+use std::marker::Model;
 
-/// The answer to a command: a node was found, or none; a node's label; the name holds no node; or the source of this
-/// number failed.
+/// A text, seen as its bytes.
+#[derive(Drop)]
+pub struct Text {
+    bytes: Vec<u8>,
+}
+
+impl Model for Text {
+    ghost use Rattle.std.specs.Prelude.{List, ℕ};
+
+    ghost Value = { List ℕ };
+
+    ghost view = { λ t. t.bytes.items };
+}
+
+impl Text {
+    /// The text of these bytes.
+    pub fn new(bytes: Vec<u8>) -> Text
+        ensures { result ≡ bytes.items }
+    {
+        Text { bytes }
+    }
+
+    /// The bytes.
+    pub fn bytes(&self) -> &[u8]
+        ensures { result.now ≡ self.now }
+    {
+        &self.bytes
+    }
+}
+
+/// The answer to a command: a node was found, or none; a node's label; the canonical bracket text of a subtree; the name
+/// holds no node; or the source of this number failed.
 #[derive(Drop)]
 pub enum Answer {
     Node,
     None,
     Label(Label),
+    Text(Text),
     NoNode,
     Fault(u32),
 }
@@ -40,6 +72,10 @@ fn push_answer(line: &mut Vec<u8>, answer: &Answer, sources: &[Label]) -> Result
         Answer::Label(label) => {
             line.extend_from_slice(b"label ")?;
             push_label(line, label)
+        }
+        Answer::Text(text) => {
+            line.extend_from_slice(b"text ")?;
+            line.extend_from_slice(text.bytes())
         }
         Answer::NoNode => line.extend_from_slice(b"no node"),
         Answer::Fault(source) => {

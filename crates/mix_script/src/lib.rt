@@ -2,11 +2,15 @@
 #![tactic(auto)]
 
 mod answer;
+mod forms;
+mod law;
+mod line;
 mod names;
 mod script;
 mod step;
 
-pub use answer::{Answer, write_answer};
+pub use answer::{Answer, Text, write_answer};
+pub use law::clients_are_apart;
 pub use names::Names;
 pub use script::{ScriptFault, read_script};
 pub use step::{Act, Step, Way};

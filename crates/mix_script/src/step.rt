@@ -18,7 +18,25 @@ pub enum Way {
 /// A command: `name` is the name that the node found is given, `from` the name of the node to begin at.
 #[derive(Drop)]
 pub enum Act {
-    Root { name: Label },
-    Move { way: Way, name: Label, from: Label },
-    Fetch { from: Label },
+    Root {
+        name: Label,
+    },
+    Move {
+        way: Way,
+        name: Label,
+        from: Label,
+    },
+    /// The first later sibling with a label.
+    Select {
+        name: Label,
+        from: Label,
+        label: Label,
+    },
+    Fetch {
+        from: Label,
+    },
+    /// The text of a subtree.
+    Print {
+        from: Label,
+    },
 }

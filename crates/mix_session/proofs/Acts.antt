@@ -1,19 +1,19 @@
 -- What a search, or none, becomes as the answer to an act.
 use Rattle.std.proofs.Common.{◌≡◌, ◌∙◌, ◌≤◌, ◌+◌, ℕ, Bool, true, false, List, Option, Some, None, Result, Ok, Err, refl, ap, sym, subst, arith}
-use Rattle.std.specs.Prelude.{IfOk, OnErr, option_and_then}
+use Rattle.std.specs.Prelude.{IfOk, OnErr, IsTrue, option_and_then}
 use Rattle.std.specs.declared.alloc.AllocError.{AllocError}
 use Rattle.mix_base.specs.Counts.{HasRisen}
 use Rattle.mix_tree.specs.Forest.{LabelledTree}
 use Rattle.mix_tree.specs.Place.{tree_at}
 use Rattle.lxp_core.specs.View.{View}
 use Rattle.mix_script.specs.Names.{NamesOf, no_names, with_name}
-use Rattle.mix_script.specs.Trails.{Trail, node_trail, place_trail, with_named, goal_on, names_on}
-use Rattle.mix_script.specs.Transcript.{Names, move_answer, label_answer, if_held, unless_marked, answer_of}
-use Rattle.mix_script.specs.Allowed.{Nodes, MayFind, MayFindRoot, MayRead, WhereHeld, MayAnswer, nodes_after, mark_of}
+use Rattle.mix_script.specs.Trails.{takes_one_way, place_to, with_named, names_with, goal_on, names_on}
+use Rattle.mix_script.specs.Transcript.{Names, move_answer, label_answer, text_answer, if_held, unless_marked, goal_of, selected, answer_of}
+use Rattle.mix_script.specs.Allowed.{Nodes, MayFind, MayFindRoot, MayRead, MayPrint, WhereHeld, MayAnswer, nodes_after, mark_of}
 use Rattle.mix_script.specs.Holding.{HoldBoth}
 use Rattle.mix_script.specs.declared.step.Way.{Way}
 use Rattle.mix_script.specs.declared.step.Act.{Act}
-use Rattle.mix_script.specs.declared.step.Act.TheVariants.{Root, Move, Fetch}
+use Rattle.mix_script.specs.declared.step.Act.TheVariants.{Root, Move, Select, Fetch, Print}
 use Rattle.mix_script.specs.declared.answer.Answer.{Answer}
 use Rattle.mix_script.specs.declared.answer.Answer.TheVariants as answer
 use Rattle.mix_script.proofs.Answering.{counted_answer}
@@ -21,26 +21,28 @@ use Rattle.mix_script.proofs.Holding.{hold_none, hold_with, hold_weaker, some_ot
 use Rattle.mix_session.specs.declared.walker.Found.{Found}
 use Rattle.mix_session.specs.declared.walker.Found.TheVariants as found
 use Rattle.mix_session.specs.Meaning.{Meaning, Stays}
-use Rattle.mix_session.specs.Seeking.{IfNode, HasCause, IsAsked, IsMoved, IsRoot, IsNext, ReadsLabel, answer_found, names_found}
+use Rattle.mix_session.specs.Seeking.{IfNode, HasCause, IsAsked, IsMoved, IsRoot, IsNext, IsSelected, ReadsLabel, answer_found, names_found}
 use Rattle.mix_session.specs.Held.{HoldNodes, HoldPlaces, HoldTold, IsSession}
-use Rattle.mix_session.specs.Stepped.{IsStep, NamesGiven, IsTolled, Stepped, held_toll}
+use Rattle.mix_session.specs.Stepped.{IsStep, NamesGiven, IsTolled, IsTolledOn, Stepped}
+use Rattle.mix_session.specs.Tolls.{toll_from, select_toll, print_toll}
+use Rattle.mix_session.specs.Printing.{place_toll, PrintsTree, IsPrinted, CostsOn}
 
 -- names that hold nothing hold no wrong node
 pub session_start : {V W : Type 0} (m : Meaning V W) (values : NamesOf V) → m.IsReady → values ≡ no_names → IsSession m values
 session_start m values ready none = record { ready = ready; nodes = (no_names, subst (λ s. HoldNodes m s no_names) (sym none) (hold_none {W = Unit {0}} (λ n node. m.IsNode n))) }
 
 -- a search by an act becomes an answer: what is told of the node that was found is what was asked for
-on_trail : {V W : Type 0} (trail : Trail W) (With With' : V → W → Type 0) → ((n : V) (x : W) → With n x → With' n x) → (values : NamesOf V) (client name : List ℕ) (act : Act)
-    → ((xs : NamesOf W) (x : Option W) → with_named xs client act x ≡ with_name xs client name x) → (r : Found V) (xs : NamesOf W) → HoldBoth With values xs
-    → IfNode (IsAsked With' (goal_on trail xs client act)) r → HoldBoth With' (names_found values client name r) (names_on trail xs client act (answer_found r))
-on_trail {V} {W} trail With With' stay values client name act same (found.Node n) xs hold asked =
+on_goal : {V W : Type 0} (With With' : V → W → Type 0) → ((n : V) (x : W) → With n x → With' n x) → (values : NamesOf V) (client name : List ℕ) (act : Act)
+    → ((xs : NamesOf W) (x : Option W) → with_named xs client act x ≡ with_name xs client name x) → (r : Found V) (xs : NamesOf W) (goal : Option W) → HoldBoth With values xs
+    → IfNode (IsAsked With' goal) r → HoldBoth With' (names_found values client name r) (names_with goal xs client act (answer_found r))
+on_goal {V} {W} With With' stay values client name act same (found.Node n) xs goal hold asked =
     let Holds : NamesOf W → Type 0 = λ ys. HoldBoth With' (with_name values client name (Some n)) ys in
     subst (λ (g : Option W). Holds (with_named xs client act g)) (sym asked.1)
     (subst Holds (sym (same xs (Some asked.0))) (hold_with With' values xs client name (Some n) (Some asked.0) (hold_weaker With With' values xs stay hold) asked.2))
-on_trail {V} {W} trail With With' stay values client name act same found.None xs hold asked =
+on_goal {V} {W} With With' stay values client name act same found.None xs goal hold asked =
     let Holds : NamesOf W → Type 0 = λ ys. HoldBoth With' (with_name values client name None) ys in
     subst Holds (sym (same xs None)) (hold_with With' values xs client name None None (hold_weaker With With' values xs stay hold) tt)
-on_trail trail With With' stay values client name act same (found.Fault s) xs hold asked = hold_weaker With With' values xs stay hold
+on_goal With With' stay values client name act same (found.Fault s) xs goal hold asked = hold_weaker With With' values xs stay hold
 
 -- a search may be answered so
 may_find : {V : Type 0} (MayFail : ℕ → Type 0) (before after : ℕ → ℕ) (r : Found V) → HasCause MayFail before after r → MayFind MayFail (answer_found r)
@@ -67,11 +69,11 @@ moved_asked IsAt t goal (found.Node n) h = h.1
 moved_asked IsAt t goal found.None h = tt
 moved_asked IsAt t goal (found.Fault s) h = tt
 
--- a node that was found is one, where that is asked
-node_asked : {V : Type 0} (Is : V → Type 0) (goal : Option (Unit {0})) (r : Found V) → goal ≡ Some tt → IfNode Is r → IfNode (IsAsked (λ n node. Is n) goal) r
-node_asked Is goal (found.Node n) e h = (tt, e, h)
-node_asked Is goal found.None e h = tt
-node_asked Is goal (found.Fault s) e h = tt
+-- a node that was found is one
+node_asked : {V : Type 0} (Is : V → Type 0) (r : Found V) → IfNode Is r → IfNode (IsAsked (λ n node. Is n) (Some tt)) r
+node_asked Is (found.Node n) h = let unit : Unit {0} = tt in (unit, refl, h)
+node_asked Is found.None h = tt
+node_asked Is (found.Fault s) h = tt
 
 -- the names after what was found
 names_given : {V : Type 0} (values : NamesOf V) (client name : List ℕ) (act : Act) (r : Found V) → ((xs : NamesOf V) (x : Option V) → with_named xs client act x ≡ with_name xs client name x)
@@ -88,7 +90,7 @@ module _ {V W : Type 0} (m m' : Meaning V W) (v v' : View) (rises : (s : ℕ) �
     nodes = (session.nodes.0, hold_weaker (λ n node. m.IsNode n) (λ n node. m'.IsNode n) values session.nodes.0 (λ n node h. stays.node n h) session.nodes.1);
   }
 
-  module _ (client : List ℕ) (act : Act) (toll : IsTolled m v.fills v'.fills values client act) where
+  module _ (client : List ℕ) (act : Act) (toll : IsTolled m v.fills v'.fills values client act) (cost : IsTolledOn m v.fills v'.fills values client act) where
     -- memory ran out
     pub refused : (values' : NamesOf V) (e : AllocError) → values' ≡ values → Stepped m m' v v' values values' client act (Err e)
     refused values' e still = record {
@@ -98,6 +100,7 @@ module _ {V W : Type 0} (m m' : Meaning V W) (v v' : View) (rises : (s : ℕ) �
       names = tt;
       still = still;
       toll = toll;
+      cost = cost;
     }
 
     -- a step was answered
@@ -109,29 +112,30 @@ module _ {V W : Type 0} (m m' : Meaning V W) (v v' : View) (rises : (s : ℕ) �
       names = given;
       still = tt;
       toll = toll;
+      cost = cost;
     }
 
     module _ (name : List ℕ) (same : (X : Type 0) (xs : NamesOf X) (x : Option X) → with_named xs client act x ≡ with_name xs client name x) (r : Found V)
         (cause : HasCause m.course.MayFail v.faults v'.faults r) (node : IfNode m'.IsNode r)
-        (may : (nodes : Nodes) → HoldNodes m values nodes → (goal_on node_trail nodes client act ≡ Some tt) × MayAnswer m.course.roots m.course.MayFail nodes client act (answer_found r))
-        (place : (t : LabelledTree) → m.course.IsDocument t → (places : Names) → HoldPlaces m values places → ((mark : Option ℕ) → answer_of t places mark client act ≡ unless_marked mark (move_answer t (goal_on place_trail places client act)))
-        × IsMoved m'.IsAt t (goal_on place_trail places client act) r)
-        (told : m.course.HasTolls → (xs : NamesOf W) → HoldTold m values xs → IfNode (IsAsked m'.IsTold (goal_on m.course.trail xs client act)) r) where
+        (may : (nodes : Nodes) → HoldNodes m values nodes → MayAnswer m.course.roots m.course.MayFail nodes client act (answer_found r))
+        (place : (t : LabelledTree) → m.course.IsDocument t → (places : Names) → HoldPlaces m values places → ((mark : Option ℕ) → answer_of t places mark client act ≡ unless_marked mark (move_answer t (goal_of t places client act)))
+        × IsMoved m'.IsAt t (goal_of t places client act) r)
+        (told : IsTrue (takes_one_way act) → m.course.HasTolls → (xs : NamesOf W) → HoldTold m values xs → IfNode (IsAsked m'.IsTold (goal_on m.course.trail xs client act)) r) where
       -- a search is a step
       found_step : IsStep m m' v.faults v'.faults values (names_found values client name r) client act (answer_found r)
       found_step = record {
-        allowed = λ nodes hold.
-            let given = may nodes hold in (
-              given.1,
-              on_trail node_trail (λ n node. m.IsNode n) (λ n node. m'.IsNode n) (λ n node h. stays.node n h) values client name act (λ xs x. same (Unit {0}) xs x) r nodes hold (node_asked m'.IsNode (goal_on node_trail nodes client act) r given.0 node),
-            );
+        allowed = λ nodes hold. (
+          may nodes hold,
+          on_goal (λ n node. m.IsNode n) (λ n node. m'.IsNode n) (λ n node h. stays.node n h) values client name act (λ xs x. same (Unit {0}) xs x) r nodes (Some tt) hold (node_asked m'.IsNode r node),
+        );
         told = λ t one places hold.
             let given = place t one places hold in
-            let goal = goal_on place_trail places client act in (
-              moved_answer m'.IsAt t (goal_on place_trail places client act) r given.1 ∙ sym (given.0 (mark_of (answer_found r))),
-              on_trail place_trail m.IsAt m'.IsAt stays.place values client name act (λ xs x. same (List ℕ) xs x) r places hold (moved_asked m'.IsAt t (goal_on place_trail places client act) r given.1),
+            let goal = goal_of t places client act in (
+              moved_answer m'.IsAt t (goal_of t places client act) r given.1 ∙ sym (given.0 (mark_of (answer_found r))),
+              on_goal m.IsAt m'.IsAt stays.place values client name act (λ xs x. same (List ℕ) xs x) r places (goal_of t places client act) hold (moved_asked m'.IsAt t (goal_of t places client act) r given.1),
             );
-        trail = λ tolls xs hold. on_trail m.course.trail m.IsTold m'.IsTold stays.told values client name act (λ xs x. same W xs x) r xs hold (told tolls xs hold);
+        trail = λ one tolls xs hold.
+            on_goal m.IsTold m'.IsTold stays.told values client name act (λ xs x. same W xs x) r xs (goal_on m.course.trail xs client act) hold (told one tolls xs hold);
         counted = counted_answer v.faults v'.faults (answer_found r) rises (λ s e. fault_counted m.course.MayFail v.faults v'.faults r s cause e);
       }
 
@@ -147,7 +151,10 @@ module _ {V W : Type 0} (m m' : Meaning V W) (v v' : View) (rises : (s : ℕ) �
   -- the root was sought
   module _ (client name : List ℕ) (toll : m.course.HasTolls → v'.fills ≤ v.fills + m.course.root_toll) where
     pub root_tolled : IsTolled m v.fills v'.fills values client (Root name)
-    root_tolled tolls xs hold = toll tolls
+    root_tolled one tolls xs hold = toll tolls
+
+    pub root_costs : IsTolledOn m v.fills v'.fills values client (Root name)
+    root_costs tolls t one places hold = toll tolls
 
     -- the root may be answered so
     may_root : (roots : Bool) (MayFail : ℕ → Type 0) (r : Found V) → (roots ≡ false → answer_found r ≡ answer.Node) → MayFind MayFail (answer_found r) → MayFindRoot roots MayFail (answer_found r)
@@ -156,39 +163,148 @@ module _ {V W : Type 0} (m m' : Meaning V W) (v v' : View) (rises : (s : ℕ) �
 
     pub root_taken : (r : Found V) → IsRoot m m' v.faults v'.faults r → (values' : NamesOf V) (o : Result Answer AllocError) → IfOk o (λ a. a ≡ answer_found r) → IfOk o (λ a. values' ≡ names_found values client name r)
         → OnErr o (values' ≡ values) → Stepped m m' v v' values values' client (Root name) o
-    root_taken r root = taken client (Root name) root_tolled name (λ X xs x. refl) r root.cause root.node
-        (λ nodes hold. (refl, may_root m.course.roots m.course.MayFail r root.sure (may_find m.course.MayFail v.faults v'.faults r root.cause)))
-        (λ t one places hold. (λ mark. refl, root.place t one)) (λ tolls xs hold. root.told tolls)
+    root_taken r root = taken client (Root name) root_tolled root_costs name (λ X xs x. refl) r root.cause root.node
+        (λ nodes hold. may_root m.course.roots m.course.MayFail r root.sure (may_find m.course.MayFail v.faults v'.faults r root.cause))
+        (λ t one places hold. (λ mark. refl, root.place t one)) (λ one tolls xs hold. root.told tolls)
 
-  -- a way from the node was taken that a name holds
-  module _ (client name from : List ℕ) (way : Way) (n : V) (held : values client from ≡ Some n) where
-    module _ (toll : (x : W) → m.IsTold n x → m.course.HasTolls → v'.fills ≤ v.fills + m.course.toll way x) where
+  -- a node was sought from the one that a name holds
+  module _ (client from : List ℕ) (n : V) (held : values client from ≡ Some n) where
+    -- the place that the name holds
+    own_place : (places : Names) → HoldPlaces m values places → (p : List ℕ) × (places client from ≡ Some p) × m.IsAt n p
+    own_place places hold = some_other m.IsAt (values client from) (places client from) n held (hold client from)
+
+    -- one may be answered so
+    sought_may : (r : Found V) → HasCause m.course.MayFail v.faults v'.faults r → (nodes : Nodes) → HoldNodes m values nodes → WhereHeld (nodes client from) (MayFind m.course.MayFail) (answer_found r)
+    sought_may r cause nodes hold =
+        let node = some_other (λ n node. m.IsNode n) (values client from) (nodes client from) n held (hold client from) in
+        subst (λ o. WhereHeld o (MayFind m.course.MayFail) (answer_found r)) (sym node.1) (may_find m.course.MayFail v.faults v'.faults r cause)
+
+    -- what is asked from its place costs at most the toll there
+    own_costs : (toll : LabelledTree → List ℕ → ℕ) → (m.course.HasTolls → (p : List ℕ) → m.IsAt n p → (t : LabelledTree) → m.course.IsDocument t → v'.fills ≤ v.fills + toll t p)
+        → m.course.HasTolls → (t : LabelledTree) → m.course.IsDocument t → (places : Names) → HoldPlaces m values places → v'.fills ≤ v.fills + toll_from (toll t) (places client from)
+    own_costs toll asks tolls t one places hold =
+        let place = own_place places hold in
+        subst (λ (o : Option (List ℕ)). v'.fills ≤ v.fills + toll_from (toll t) o) (sym place.1) (asks tolls place.0 place.2 t one)
+
+    -- by a way
+    module _ (name : List ℕ) (way : Way) (toll : (x : W) → m.IsTold n x → m.course.HasTolls → v'.fills ≤ v.fills + m.course.toll way x) where
       pub move_tolled : IsTolled m v.fills v'.fills values client (Move way name from)
-      move_tolled tolls xs hold =
+      move_tolled one tolls xs hold =
           let x = some_other m.IsTold (values client from) (xs client from) n held (hold client from) in
-          subst (λ (o : Option W). v'.fills ≤ v.fills + held_toll (m.course.toll way) o) (sym x.1) (toll x.0 x.2 tolls)
+          subst (λ (o : Option W). v'.fills ≤ v.fills + toll_from (m.course.toll way) o) (sym x.1) (toll x.0 x.2 tolls)
+
+      pub move_costs : IsTolledOn m v.fills v'.fills values client (Move way name from)
+      move_costs = own_costs (λ t. place_toll m.course way) (λ tolls p at t one. toll (m.course.at p) (m.told_at n p at) tolls)
 
       pub move_taken : (r : Found V) → IsNext m m' v.faults v'.faults way n r → (values' : NamesOf V) (o : Result Answer AllocError) → IfOk o (λ a. a ≡ answer_found r) → IfOk o (λ a. values' ≡ names_found values client name r)
           → OnErr o (values' ≡ values) → Stepped m m' v v' values values' client (Move way name from) o
-      move_taken r next = taken client (Move way name from) move_tolled name (λ X xs x. refl) r next.cause next.node
-          (λ nodes hold.
-          let node = some_other (λ n node. m.IsNode n) (values client from) (nodes client from) n held (hold client from) in (
-            ap (λ (o : Option (Unit {0})). option_and_then (node_trail.to way) o) node.1,
-            subst (λ o. WhereHeld o (MayFind m.course.MayFail) (answer_found r)) (sym node.1) (may_find m.course.MayFail v.faults v'.faults r next.cause),
-          ))
+      move_taken r next = taken client (Move way name from) move_tolled move_costs name (λ X xs x. refl) r next.cause next.node (sought_may r next.cause)
           (λ t one places hold.
-          let place = some_other m.IsAt (values client from) (places client from) n held (hold client from) in (
-            λ mark. ap (λ o. if_held o (unless_marked mark (move_answer t (goal_on place_trail places client (Move way name from))))) place.1,
-            subst (λ (o : Option (List ℕ)). IsMoved m'.IsAt t (option_and_then (place_trail.to way) o) r) (sym place.1) (next.place place.0 place.2 t one),
+          let place = own_place places hold in (
+            λ mark. ap (λ o. if_held o (unless_marked mark (move_answer t (goal_of t places client (Move way name from))))) place.1,
+            subst (λ (o : Option (List ℕ)). IsMoved m'.IsAt t (option_and_then (place_to way) o) r) (sym place.1) (next.place place.0 place.2 t one),
           ))
-          (λ tolls xs hold.
+          (λ one tolls xs hold.
           let x = some_other m.IsTold (values client from) (xs client from) n held (hold client from) in
           subst (λ (o : Option W). IfNode (IsAsked m'.IsTold (option_and_then (m.course.trail.to way) o)) r) (sym x.1) (next.told x.0 x.2 tolls))
+
+    -- among later siblings
+    module _ (name label : List ℕ) (cost : CostsOn m n v.fills v'.fills (λ toll t p. select_toll toll t label p)) where
+      pub select_tolled : IsTolled m v.fills v'.fills values client (Select name from label)
+      select_tolled one = cc
+
+      pub select_costs : IsTolledOn m v.fills v'.fills values client (Select name from label)
+      select_costs = own_costs (λ t. select_toll (place_toll m.course) t label) cost
+
+      pub select_taken : (r : Found V) → IsSelected m m' v.faults v'.faults label n r → (values' : NamesOf V) (o : Result Answer AllocError) → IfOk o (λ a. a ≡ answer_found r) → IfOk o (λ a. values' ≡ names_found values client name r)
+          → OnErr o (values' ≡ values) → Stepped m m' v v' values values' client (Select name from label) o
+      select_taken r is = taken client (Select name from label) select_tolled select_costs name (λ X xs x. refl) r is.cause is.node (sought_may r is.cause)
+          (λ t one places hold.
+          let place = own_place places hold in (
+            λ mark. ap (λ o. if_held o (unless_marked mark (move_answer t (goal_of t places client (Select name from label))))) place.1,
+            subst (λ (o : Option (List ℕ)). IsMoved m'.IsAt t (option_and_then (selected t label) o) r) (sym place.1) (is.place place.0 place.2 t one),
+          ))
+          (λ one. cc)
+
+    -- the text of its subtree was asked for
+    module _ (cost : CostsOn m n v.fills v'.fills print_toll) where
+      pub print_tolled : IsTolled m v.fills v'.fills values client (Print from)
+      print_tolled one = cc
+
+      pub print_costs : IsTolledOn m v.fills v'.fills values client (Print from)
+      print_costs = own_costs (print_toll (place_toll m.course)) cost
+
+      -- the answer may be given
+      print_may : (a : Answer) → IsPrinted m v.faults v'.faults n a → MayPrint m.course.MayFail a
+      print_may answer.Node h = h
+      print_may answer.None h = h
+      print_may (answer.Label l) h = h
+      print_may (answer.Text x) h = (h.subtree, h.text)
+      print_may answer.NoNode h = h
+      print_may (answer.Fault s) h = h.0
+
+      -- it is that of a tree, under the mark that it shows
+      print_told : (a : Answer) → IsPrinted m v.faults v'.faults n a → (t : LabelledTree) → m.course.IsDocument t → (p : List ℕ) → m.IsAt n p → a ≡ unless_marked (mark_of a) (text_answer (tree_at t p))
+      print_told answer.Node h t one p at = absurd h
+      print_told answer.None h t one p at = absurd h
+      print_told (answer.Label l) h t one p at = absurd h
+      print_told (answer.Text x) h t one p at = ap answer.Text h.text ∙ sym (ap text_answer (h.place p at t one))
+      print_told answer.NoNode h t one p at = absurd h
+      print_told (answer.Fault s) h t one p at = refl
+
+      -- a fault was counted
+      print_counted : (a : Answer) → IsPrinted m v.faults v'.faults n a → (s : ℕ) → a ≡ answer.Fault s → HasRisen (v.faults s) (v'.faults s)
+      print_counted answer.Node h s e = cc
+      print_counted answer.None h s e = cc
+      print_counted (answer.Label l) h s e = cc
+      print_counted (answer.Text x) h s e = cc
+      print_counted answer.NoNode h s e = cc
+      print_counted (answer.Fault k) h s e = let same : k ≡ s = cc in subst (λ j. HasRisen (v.faults j) (v'.faults j)) same h.1
+
+      -- no name is given
+      print_names : {X : Type 0} (a : Answer) → IsPrinted m v.faults v'.faults n a → (goal : Option X) (xs : NamesOf X) → names_with goal xs client (Print from) a ≡ xs
+      print_names answer.Node h goal xs = refl
+      print_names answer.None h goal xs = refl
+      print_names (answer.Label l) h goal xs = refl
+      print_names (answer.Text x) h goal xs = refl
+      print_names answer.NoNode h goal xs = refl
+      print_names (answer.Fault s) h goal xs = refl
+
+      print_given : (a : Answer) → IsPrinted m v.faults v'.faults n a → NamesGiven values values client (Print from) a
+      print_given answer.Node h = absurd h
+      print_given answer.None h = absurd h
+      print_given (answer.Label l) h = absurd h
+      print_given (answer.Text x) h = refl
+      print_given answer.NoNode h = absurd h
+      print_given (answer.Fault s) h = refl
+
+      pub printed : (o : Result Answer AllocError) → IfOk o (IsPrinted m v.faults v'.faults n) → Stepped m m' v v' values values client (Print from) o
+      printed (Ok a) h = answered client (Print from) print_tolled print_costs values a
+          (record {
+            allowed = λ nodes hold.
+                let node = some_other (λ n node. m.IsNode n) (values client from) (nodes client from) n held (hold client from) in (
+                  subst (λ o. WhereHeld o (MayPrint m.course.MayFail) a) (sym node.1) (print_may a h),
+                  subst (λ ys. HoldNodes m' values ys) (sym (print_names a h (Some tt) nodes)) (hold_weaker (λ n node. m.IsNode n) (λ n node. m'.IsNode n) values nodes (λ n node h. stays.node n h) hold),
+                );
+            told = λ t one places hold.
+                let place = own_place places hold in (
+                  print_told a h t one place.0 place.2
+                      ∙ sym (ap (λ o. if_held o (unless_marked (mark_of a) (text_answer (option_and_then (tree_at t) o)))) place.1),
+                  subst (λ ys. HoldPlaces m' values ys) (sym (print_names a h (goal_of t places client (Print from)) places)) (hold_weaker m.IsAt m'.IsAt values places stays.place hold),
+                );
+            trail = λ one. cc;
+            counted = counted_answer v.faults v'.faults a rises (print_counted a h);
+          }) (print_given a h)
+      printed (Err e) h = refused client (Print from) print_tolled print_costs values e refl
 
 module _ {V W : Type 0} (m : Meaning V W) (v : View) (stays : Stays m m) (values : NamesOf V) (session : IsSession m values) (client from : List ℕ) where
   -- nothing was asked
   idle : (act : Act) → IsTolled m v.fills v.fills values client act
-  idle act tolls xs hold = omega arith
+  idle act one tolls xs hold = omega arith
+
+  -- so it cost nothing
+  free : (act : Act) → IsTolledOn m v.fills v.fills values client act
+  free act tolls t one places hold = omega arith
 
   -- no node where the name holds nothing
   module _ (none : values client from ≡ None) where
@@ -199,26 +315,44 @@ module _ {V W : Type 0} (m : Meaning V W) (v : View) (stays : Stays m m) (values
     no_place places hold = none_other m.IsAt (values client from) (places client from) none (hold client from)
 
     pub no_move : (way : Way) (name : List ℕ) → Stepped m m v v values values client (Move way name from) (Ok answer.NoNode)
-    no_move way name = answered m m v v (λ s. omega arith) stays values session client (Move way name from) (idle (Move way name from)) values answer.NoNode
+    no_move way name = answered m m v v (λ s. omega arith) stays values session client (Move way name from) (idle (Move way name from)) (free (Move way name from)) values answer.NoNode
         (record {
           allowed = λ nodes hold. (subst (λ o. WhereHeld o (MayFind m.course.MayFail) answer.NoNode) (sym (no_node nodes hold)) refl, hold);
-          told = λ t one places hold. (sym (ap (λ o. if_held o (move_answer t (option_and_then (place_trail.to way) o))) (no_place places hold)), hold);
-          trail = λ tolls xs hold. hold;
+          told = λ t one places hold. (sym (ap (λ o. if_held o (move_answer t (option_and_then (place_to way) o))) (no_place places hold)), hold);
+          trail = λ one tolls xs hold. hold;
+          counted = λ s. omega arith;
+        }) refl
+
+    pub no_select : (name label : List ℕ) → Stepped m m v v values values client (Select name from label) (Ok answer.NoNode)
+    no_select name label = answered m m v v (λ s. omega arith) stays values session client (Select name from label) (idle (Select name from label)) (free (Select name from label)) values answer.NoNode
+        (record {
+          allowed = λ nodes hold. (subst (λ o. WhereHeld o (MayFind m.course.MayFail) answer.NoNode) (sym (no_node nodes hold)) refl, hold);
+          told = λ t one places hold. (sym (ap (λ o. if_held o (move_answer t (option_and_then (selected t label) o))) (no_place places hold)), hold);
+          trail = λ one tolls xs hold. hold;
+          counted = λ s. omega arith;
+        }) refl
+
+    pub no_print : Stepped m m v v values values client (Print from) (Ok answer.NoNode)
+    no_print = answered m m v v (λ s. omega arith) stays values session client (Print from) (idle (Print from)) (free (Print from)) values answer.NoNode
+        (record {
+          allowed = λ nodes hold. (subst (λ o. WhereHeld o (MayPrint m.course.MayFail) answer.NoNode) (sym (no_node nodes hold)) refl, hold);
+          told = λ t one places hold. (sym (ap (λ o. if_held o (text_answer (option_and_then (tree_at t) o))) (no_place places hold)), hold);
+          trail = λ one tolls xs hold. hold;
           counted = λ s. omega arith;
         }) refl
 
     pub no_fetch : Stepped m m v v values values client (Fetch from) (Ok answer.NoNode)
-    no_fetch = answered m m v v (λ s. omega arith) stays values session client (Fetch from) (idle (Fetch from)) values answer.NoNode
+    no_fetch = answered m m v v (λ s. omega arith) stays values session client (Fetch from) (idle (Fetch from)) (free (Fetch from)) values answer.NoNode
         (record {
           allowed = λ nodes hold. (subst (λ o. WhereHeld o MayRead answer.NoNode) (sym (no_node nodes hold)) refl, hold);
           told = λ t one places hold. (sym (ap (λ o. label_answer (option_and_then (tree_at t) o)) (no_place places hold)), hold);
-          trail = λ tolls xs hold. hold;
+          trail = λ one tolls xs hold. hold;
           counted = λ s. omega arith;
         }) refl
 
   -- the label of what the name holds
   pub fetched : (n : V) (label : List ℕ) → values client from ≡ Some n → ReadsLabel m n label → Stepped m m v v values values client (Fetch from) (Ok (answer.Label label))
-  fetched n label held reads = answered m m v v (λ s. omega arith) stays values session client (Fetch from) (idle (Fetch from)) values (answer.Label label)
+  fetched n label held reads = answered m m v v (λ s. omega arith) stays values session client (Fetch from) (idle (Fetch from)) (free (Fetch from)) values (answer.Label label)
       (record {
         allowed = λ nodes hold.
             let node = some_other (λ n node. m.IsNode n) (values client from) (nodes client from) n held (hold client from) in
@@ -229,20 +363,10 @@ module _ {V W : Type 0} (m : Meaning V W) (v : View) (stays : Stays m m) (values
             let e : label_answer (option_and_then (tree_at t) (places client from)) ≡ answer.Label label =
             ap (λ o. label_answer (option_and_then (tree_at t) o)) place.1 ∙ ap label_answer there.1 ∙ ap answer.Label (sym there.2) in
             (sym e, hold);
-        trail = λ tolls xs hold. hold;
+        trail = λ one tolls xs hold. hold;
         counted = λ s. omega arith;
       }) refl
 
   -- memory ran out while a label was copied
   pub unread : (e : AllocError) → Stepped m m v v values values client (Fetch from) (Err e)
-  unread e = refused m m v v (λ s. omega arith) stays values session client (Fetch from) (idle (Fetch from)) values e refl
-
--- where there is no call, all stays
-pub stays_same : {V W : Type 0} (m : Meaning V W) → m.IsReady → Stays m m
-stays_same m ready = record {
-  ready = ready;
-  course = record { roots = refl; may = λ s h. h; document = λ t h. h; tolls = λ h. h; trail = refl; root_toll = omega arith; toll = λ way x. omega arith };
-  node = λ n h. h;
-  place = λ n p h. h;
-  told = λ n x h. h;
-}
+  unread e = refused m m v v (λ s. omega arith) stays values session client (Fetch from) (idle (Fetch from)) (free (Fetch from)) values e refl

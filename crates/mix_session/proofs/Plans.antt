@@ -20,15 +20,16 @@ use Rattle.lazy_plan.proofs.Singles.{read_within}
 use Rattle.lazy_value.specs.declared.ids.NodeId.{NodeId}
 use Rattle.lazy_value.specs.declared.mediator.Mediator.{Mediator}
 use Rattle.lazy_value.specs.Places.{IsNode, IsAt, GivesNode, GivesPlace}
-use Rattle.lazy_value.specs.Mediators.{IsMediatorOf, NodesStay, state_of}
+use Rattle.lazy_value.specs.Mediators.{IsMediatorOf, NodesStay, KeepsHeights, state_of, node_left, node_height, HasFewer, HasLower, HasNoHigher}
 use Rattle.mix_script.specs.Trails.{place_to}
 use Rattle.mix_script.specs.Transcript.{move_answer}
 use Rattle.mix_script.specs.declared.step.Way.{Way}
+use Rattle.mix_script.specs.declared.step.Way.TheVariants.{Down, Right}
 use Rattle.mix_script.specs.declared.answer.Answer.TheVariants as answer
 use Rattle.mix_session.specs.declared.walker.Found.{Found}
 use Rattle.mix_session.specs.declared.walker.Found.TheVariants as found
 use Rattle.mix_session.specs.Meaning.{Stays}
-use Rattle.mix_session.specs.Seeking.{IfNode, HasCause, IsAsked, IsMoved, IsRoot, IsNext}
+use Rattle.mix_session.specs.Seeking.{IsSmaller, IfNode, HasCause, IsAsked, IsMoved, IsRoot, IsNext}
 use Rattle.mix_session.specs.Refusals.{of_plan}
 use Rattle.mix_session.specs.Walks.{IsDocument, place_toll, plan_meaning}
 
@@ -59,8 +60,9 @@ same_toll old st kept way p =
     ap (λ (ops : List Operator). place_toll (documents st) ops way p) (same_ops old st kept) ∙ ap (λ (docs : Documents). place_toll docs (ops_of old) way p) kept.documents
 
 -- what a call of a mediator leaves
-pub plan_stays : (v v' : View) (m m' : Mediator) → IsMediatorOf v' m' → KeepsBench (state_of v m) (state_of v' m') → NodesStay (state_of v m) (state_of v' m') → Stays (plan_meaning v m) (plan_meaning v' m')
-plan_stays v v' m m' ready kept stay = record {
+pub plan_stays : (v v' : View) (m m' : Mediator) → IsMediatorOf v' m' → KeepsBench (state_of v m) (state_of v' m') → NodesStay (state_of v m) (state_of v' m') → KeepsHeights (state_of v m) (state_of v' m')
+    → Stays (plan_meaning v m) (plan_meaning v' m')
+plan_stays v v' m m' ready kept stay heights = record {
   ready = ready;
   course = record {
     roots = refl;
@@ -68,12 +70,15 @@ plan_stays v v' m m' ready kept stay = record {
     document = same_document (state_of v m) (state_of v' m') kept;
     tolls = λ both. (kept.told ∙ both.0, kept.forward ∙ both.1);
     trail = refl;
+    at = refl;
     root_toll = omega arith;
     toll = λ way p. omega (arith, same_toll (state_of v m) (state_of v' m') kept way p);
   };
   node = stay.node;
   place = stay.place;
   told = stay.place;
+  left = stay.left;
+  height = heights;
 }
 
 -- the root of a mediator was found
@@ -133,10 +138,25 @@ asked old new goal (Ok None) one h = tt
 asked old new goal (Ok (Some n)) one h = let there = h one in (there.place, there.asked, there.at)
 asked old new goal (Err fault) one h = tt
 
+-- the number of a child that was found
+pub lower_down : (v v' : View) (m m' : Mediator) (n : NodeId) (o : Result (Option NodeId) WalkFault) → IfOk o (HasLower (state_of v' m') (node_height (state_of v m) n))
+    → Lifts (IfNode (IsSmaller (plan_meaning v m) (plan_meaning v' m') Down n)) o
+lower_down v v' m m' n (Ok None) h = tt
+lower_down v v' m m' n (Ok (Some c)) h = h
+lower_down v v' m m' n (Err fault) h = tt
+
+-- the numbers of a next sibling that was found
+pub fewer_right : (v v' : View) (m m' : Mediator) (n : NodeId) (o : Result (Option NodeId) WalkFault) → IfOk o (HasFewer (state_of v' m') (node_left (state_of v m) n))
+    → IfOk o (HasNoHigher (state_of v' m') (node_height (state_of v m) n)) → Lifts (IfNode (IsSmaller (plan_meaning v m) (plan_meaning v' m') Right n)) o
+fewer_right v v' m m' n (Ok None) h k = tt
+fewer_right v v' m m' n (Ok (Some c)) h k = (h, k)
+fewer_right v v' m m' n (Err fault) h k = tt
+
 -- the node to which a way leads was sought
 pub plan_next : (v v' : View) (m m' : Mediator) (way : Way) (n : NodeId) (o : Result (Option NodeId) WalkFault) (r : Found NodeId) → of_plan o r → steps.HasCause (ops_of (state_of v m)) v v' o → IfOk o (GivesNode (state_of v' m'))
-    → ((p : List ℕ) → IsAt (state_of v m) n p → IfOk o (GivesPlace (state_of v m) (state_of v' m') (place_to way p))) → IsNext (plan_meaning v m) (plan_meaning v' m') v.faults v'.faults way n r
-plan_next v v' m m' way n o r is cause node place =
+    → ((p : List ℕ) → IsAt (state_of v m) n p → IfOk o (GivesPlace (state_of v m) (state_of v' m') (place_to way p)))
+    → Lifts (IfNode (IsSmaller (plan_meaning v m) (plan_meaning v' m') way n)) o → IsNext (plan_meaning v m) (plan_meaning v' m') v.faults v'.faults way n r
+plan_next v v' m m' way n o r is cause node place less =
     let old = state_of v m in
     let new = state_of v' m' in
     record {
@@ -144,4 +164,5 @@ plan_next v v' m m' way n o r is cause node place =
       node = lifted (IfNode (IsNode (state_of v' m'))) o r is (found_node (state_of v' m') o node) (λ s e. tt);
       place = λ p at t one. lifted (IsMoved (IsAt (state_of v' m')) t (place_to way p)) o r is (moved (state_of v m) (state_of v' m') t (place_to way p) o one (place p at)) (λ s e. tt);
       told = λ p at tolls. lifted (IfNode (IsAsked (IsAt (state_of v' m')) (place_to way p))) o r is (asked (state_of v m) (state_of v' m') (place_to way p) o tolls.0 (place p at)) (λ s e. tt);
+      smaller = lifted (IfNode (IsSmaller (plan_meaning v m) (plan_meaning v' m') way n)) o r is less (λ s e. tt);
     }

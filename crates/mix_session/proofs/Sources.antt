@@ -1,5 +1,5 @@
 -- A buffer as a walker of its source's document.
-use Rattle.std.proofs.Common.{◌≡◌, ◌∙◌, ℕ, true, false, cond, List, [], ◌∷◌, Option, Some, None, Result, Ok, Err, refl, ap, sym, subst, arith}
+use Rattle.std.proofs.Common.{◌≡◌, ◌∙◌, ◌+◌, ◌≤◌, ℕ, true, false, cond, List, [], ◌∷◌, Option, Some, None, Result, Ok, Err, refl, ap, sym, subst, arith}
 use Rattle.std.specs.Prelude.{IfOk, IfSome, IsErrOf, is_some, option_map}
 use Rattle.mix_base.specs.Counts.{HasRisen}
 use Rattle.mix_tree.specs.Forest.{Forest, none, tree, LabelledTree, alone, first_kids, first_label, first_tree}
@@ -11,14 +11,14 @@ use Rattle.tree_buffer.specs.declared.spot.Spot.{Spot}
 use Rattle.tree_buffer.specs.declared.fault.BufferFault.{BufferFault}
 use Rattle.tree_buffer.specs.declared.fault.BufferFault.TheVariants as buffer
 use Rattle.tree_buffer.specs.Document.{document_node, has_given, has_next}
-use Rattle.tree_buffer.specs.Buffer.{IsSpot, IsSourcesOf, Goes, number_of, place_of, label_of, IsChildSpot, IsNextSpot}
+use Rattle.tree_buffer.specs.Buffer.{IsSpot, IsSourcesOf, Goes, number_of, place_of, label_of, below, after, from_spot, IsChildSpot, IsNextSpot}
 use Rattle.mix_script.specs.Transcript.{move_answer}
 use Rattle.mix_script.specs.declared.step.Way.TheVariants.{Down, Right}
 use Rattle.mix_script.specs.declared.answer.Answer.TheVariants as answer
 use Rattle.mix_session.specs.declared.walker.Found.{Found}
 use Rattle.mix_session.specs.declared.walker.Found.TheVariants as found
 use Rattle.mix_session.specs.Meaning.{Stays}
-use Rattle.mix_session.specs.Seeking.{IfNode, HasCause, IsAsked, IsMoved, IsRoot, IsNext, ReadsLabel}
+use Rattle.mix_session.specs.Seeking.{IsSmaller, IfNode, HasCause, IsAsked, IsMoved, IsRoot, IsNext, ReadsLabel}
 use Rattle.mix_session.specs.Refusals.{of_source}
 use Rattle.mix_session.specs.Walks.{IsPlace, source_meaning}
 
@@ -128,13 +128,30 @@ module _ (v v' : View) (b b' : Buffer) (goes : Goes v b v' b') where
       document = λ t one. (goes.told ∙ one.0, ap first_kids goes.document ∙ one.1);
       tolls = λ f. goes.forward ∙ f;
       trail = refl;
+      at = refl;
       root_toll = omega arith;
       toll = λ way x. omega arith;
     };
     node = goes.spot;
     place = λ x p h. (goes.spot x h.0, goes.place x h.0 ∙ h.1);
     told = λ x node h. goes.spot x h;
+    left = goes.after;
+    height = λ x h. let b = goes.below x h in let a = goes.after x h in omega (arith, a, b);
   }
+
+  -- the numbers of a child that was found
+  smaller_down : (x : Spot) (o : Result (Option Spot) BufferFault) → IfOk o (λ r. IfSome r (λ c. from_spot v' b' c ≤ below v b x))
+      → Lifts (IfNode (IsSmaller (source_meaning v b) (source_meaning v' b') Down x)) o
+  smaller_down x (Ok None) h = tt
+  smaller_down x (Ok (Some c)) h = let less : 1 + below v' b' c + after v' b' c ≤ below v b x = h in omega (arith, less)
+  smaller_down x (Err fault) h = tt
+
+  -- and of a next sibling
+  smaller_right : (x : Spot) (o : Result (Option Spot) BufferFault) → IfOk o (λ r. IfSome r (λ c. from_spot v' b' c ≤ after v b x))
+      → Lifts (IfNode (IsSmaller (source_meaning v b) (source_meaning v' b') Right x)) o
+  smaller_right x (Ok None) h = tt
+  smaller_right x (Ok (Some c)) h = let less : 1 + below v' b' c + after v' b' c ≤ after v b x = h in (omega (arith, less), omega (arith, less))
+  smaller_right x (Err fault) h = tt
 
   module _ (n : ℕ) (own : n ≡ number_of b) (o : Result (Option Spot) BufferFault) (r : Found Spot) (is : of_source n o r)
       (failed : IsErrOf o buffer.Failed → HasRisen (v.faults (number_of b)) (v'.faults (number_of b))) where
@@ -153,8 +170,8 @@ module _ (v v' : View) (b b' : Buffer) (goes : Goes v b v' b') where
     -- the first child was sought
     pub source_down : (x : Spot) → IsSpot b x → IfOk o (λ r. IfSome r (IsChildSpot b' x 0))
         → IfOk o (λ r. v.told (number_of b) ≡ true → is_some r ≡ has_place (document_node v (number_of b)) (child_place (place_of b x)))
-        → IsNext (source_meaning v b) (source_meaning v' b') v.faults v'.faults Down x r
-    source_down x spot child exact = record {
+        → IfOk o (λ r. IfSome r (λ c. from_spot v' b' c ≤ below v b x)) → IsNext (source_meaning v b) (source_meaning v' b') v.faults v'.faults Down x r
+    source_down x spot child exact less = record {
       cause = cause;
       node = given (IsSpot b') (child_found (IsSpot b') b' x o (λ c h. h) child);
       place = λ p at t one.
@@ -162,13 +179,14 @@ module _ (v v' : View) (b b' : Buffer) (goes : Goes v b v' b') where
           (λ r e. e ∙ ap (λ q. has_place (document_node v (number_of b)) (child_place q)) at.1 ∙ ap (λ f. has_place f (child_place (0 ∷ p))) (node_is v (number_of b) t one.1)) exact in
           moved t (Some (child_place p)) (moved_down t b' x (0 ∷ p) o (goes.place x at.0 ∙ at.1) child there (child_place p) refl);
       told = λ node at tolls. given (IsAsked (λ x node. IsSpot b' x) (Some tt)) (child_found (IsAsked (λ x node. IsSpot b' x) (Some tt)) b' x o (λ c h. (tt, refl, h)) child);
+      smaller = given (IsSmaller (source_meaning v b) (source_meaning v' b') Down x) (smaller_down x o less);
     }
 
     -- the next sibling was sought
     pub source_right : (x : Spot) → IsSpot b x → IfOk o (λ r. IfSome r (IsNextSpot b' x))
         → IfOk o (λ r. v.told (number_of b) ≡ true → is_some r ≡ has_next (document_node v (number_of b)) (place_of b x))
-        → IsNext (source_meaning v b) (source_meaning v' b') v.faults v'.faults Right x r
-    source_right x spot next exact = record {
+        → IfOk o (λ r. IfSome r (λ c. from_spot v' b' c ≤ after v b x)) → IsNext (source_meaning v b) (source_meaning v' b') v.faults v'.faults Right x r
+    source_right x spot next exact less = record {
       cause = cause;
       node = given (IsSpot b') (next_found (IsSpot b') b' x o (λ c h. h) next);
       place = λ p at t one.
@@ -176,6 +194,7 @@ module _ (v v' : View) (b b' : Buffer) (goes : Goes v b v' b') where
           (λ r e. e ∙ ap (has_next (document_node v (number_of b))) at.1 ∙ ap (λ f. has_next f (0 ∷ p)) (node_is v (number_of b) t one.1)) exact in
           moved t (next_place p) (moved_right t b' x p o (goes.place x at.0 ∙ at.1) next there);
       told = λ node at tolls. given (IsAsked (λ x node. IsSpot b' x) (Some tt)) (next_found (IsAsked (λ x node. IsSpot b' x) (Some tt)) b' x o (λ c h. (tt, refl, h)) next);
+      smaller = given (IsSmaller (source_meaning v b) (source_meaning v' b') Right x) (smaller_right x o less);
     }
 
     -- the root was sought, which is the first child of the document node

@@ -1,5 +1,5 @@
--- Where there is no call, walkers keep what calls keep.
-use Rattle.std.proofs.Common.{refl, arith}
+-- What walkers keep where there is no call, and over two.
+use Rattle.std.proofs.Common.{refl, ◌∙◌, arith}
 use Rattle.lxp_core.specs.View.{View}
 use Rattle.tree_buffer.specs.declared.buffer.Buffer.{Buffer}
 use Rattle.lazy_plan.proofs.Benches.{keeps_on}
@@ -24,6 +24,39 @@ source_kept_same v b = record {
   siblings = λ x h k. k;
 }
 
+-- a buffer goes on, and on
+pub source_kept_twice : (v : View) (b : Buffer) (v' : View) (b' : Buffer) (v'' : View) (b'' : Buffer) → SourceKept v b v' b' → SourceKept v' b' v'' b'' → SourceKept v b v'' b''
+source_kept_twice v b v' b' v'' b'' first second = record {
+  number = second.number ∙ first.number;
+  told = second.told ∙ first.told;
+  forward = second.forward ∙ first.forward;
+  document = second.document ∙ first.document;
+  more = omega (arith, second.more, first.more);
+  spot = λ x h. second.spot x (first.spot x h);
+  place = λ x h. second.place x (first.spot x h) ∙ first.place x h;
+  label = λ x h. second.label x (first.spot x h) ∙ first.label x h;
+  below = λ x h. omega (arith, second.below x (first.spot x h), first.below x h);
+  after = λ x h. omega (arith, second.after x (first.spot x h), first.after x h);
+  children = λ x h all. second.children x (first.spot x h) (first.children x h all);
+  siblings = λ x h all. second.siblings x (first.spot x h) (first.siblings x h all);
+}
+
 -- where there is no call, all is as it was
 pub plan_kept_same : (v : View) (m : Mediator) → PlanKept v m v m
-plan_kept_same v m = record { kept = keeps_on.same (state_of v m); stay = record { node = λ n h. h; place = λ n p h. h; left = λ n h. omega arith } }
+plan_kept_same v m = record {
+  kept = keeps_on.same (state_of v m);
+  stay = record { node = λ n h. h; place = λ n p h. h; left = λ n h. omega arith };
+  heights = λ n h. omega arith;
+}
+
+-- what two calls of a mediator keep
+pub plan_kept_twice : (v : View) (m : Mediator) (v' : View) (m' : Mediator) (v'' : View) (m'' : Mediator) → PlanKept v m v' m' → PlanKept v' m' v'' m'' → PlanKept v m v'' m''
+plan_kept_twice v m v' m' v'' m'' first second = record {
+  kept = keeps_on.twice (state_of v m) (state_of v' m') (state_of v'' m'') first.kept second.kept;
+  stay = record {
+    node = λ n h. second.stay.node n (first.stay.node n h);
+    place = λ n p h. second.stay.place n p (first.stay.place n p h);
+    left = λ n h. omega (arith, second.stay.left n (first.stay.node n h), first.stay.left n h);
+  };
+  heights = λ n h. omega (arith, second.heights n (first.stay.node n h), first.heights n h);
+}

@@ -1,7 +1,10 @@
 pub mod Held
 pub mod Kept
 pub mod Meaning
+pub mod Printing
 pub mod Refusals
+pub mod Searches
 pub mod Seeking
 pub mod Stepped
+pub mod Tolls
 pub mod Walks

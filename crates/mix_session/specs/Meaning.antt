@@ -16,6 +16,8 @@ pub record Course (W : Type 0) : Type 1 where
   pub HasTolls : Type 0
   -- what is told of nodes for their tolls
   pub trail : Trail W
+  -- what is told so of the node at a place of the document
+  pub at : List ℕ → W
   -- the toll of the root
   pub root_toll : ℕ
   -- the toll of a way from a node
@@ -32,6 +34,12 @@ pub record Meaning (V W : Type 0) : Type 1 where
   pub IsAt : V → List ℕ → Type 0
   -- this is told of it
   pub IsTold : V → W → Type 0
+  -- what its place tells is told of it
+  pub told_at : (n : V) (p : List ℕ) → IsAt n p → IsTold n (course.at p)
+  -- a number that falls with each step to the right
+  pub left : V → ℕ
+  -- a number that falls with each step down, and does not rise with a step to the right
+  pub height : V → ℕ
 
 -- the walk of a course goes on: the document is the same, no other source may fail, and no toll rose
 pub record GoesOn {W : Type 0} (old new : Course W) : Type 0 where
@@ -40,13 +48,16 @@ pub record GoesOn {W : Type 0} (old new : Course W) : Type 0 where
   pub document : (t : LabelledTree) → old.IsDocument t → new.IsDocument t
   pub tolls : old.HasTolls → new.HasTolls
   pub trail : new.trail ≡ old.trail
+  pub at : new.at ≡ old.at
   pub root_toll : new.root_toll ≤ old.root_toll
   pub toll : (way : Way) (x : W) → new.toll way x ≤ old.toll way x
 
--- what a call leaves: the course goes on, and each earlier node stays one, where it stood
+-- what a call leaves: the course goes on, and each earlier node stays one, where it stood; its numbers did not rise
 pub record Stays {V W : Type 0} (old new : Meaning V W) : Type 0 where
   pub ready : new.IsReady
   pub course : GoesOn old.course new.course
   pub node : (n : V) → old.IsNode n → new.IsNode n
   pub place : (n : V) (p : List ℕ) → old.IsAt n p → new.IsAt n p
   pub told : (n : V) (x : W) → old.IsTold n x → new.IsTold n x
+  pub left : (n : V) → old.IsNode n → new.left n ≤ old.left n
+  pub height : (n : V) → old.IsNode n → new.height n ≤ old.height n

@@ -1,12 +1,13 @@
 -- What a search comes to.
-use Rattle.std.specs.Prelude.{◌≡◌, ℕ, false, List, [], Option, Some, None}
+use Rattle.std.specs.Prelude.{◌≡◌, ◌<◌, ◌≤◌, ℕ, false, List, [], Option, Some, None}
 use Rattle.mix_base.specs.Counts.{HasRisen}
 use Rattle.mix_tree.specs.Forest.{LabelledTree}
 use Rattle.mix_tree.specs.Place.{tree_at}
 use Rattle.mix_script.specs.Names.{NamesOf, with_name}
 use Rattle.mix_script.specs.Trails.{place_to}
-use Rattle.mix_script.specs.Transcript.{move_answer}
+use Rattle.mix_script.specs.Transcript.{move_answer, selected}
 use Rattle.mix_script.specs.declared.step.Way.{Way}
+use Rattle.mix_script.specs.declared.step.Way.TheVariants.{Down, Right}
 use Rattle.mix_script.specs.declared.answer.Answer.{Answer}
 use Rattle.mix_script.specs.declared.answer.Answer.TheVariants as answer
 use Rattle.mix_session.specs.declared.walker.Found.{Found}
@@ -49,12 +50,24 @@ pub record IsRoot {V W : Type 0} (m m' : Meaning V W) (before after : ℕ → �
   pub place : (t : LabelledTree) → m.course.IsDocument t → IsMoved m'.IsAt t (Some []) r
   pub told : m.course.HasTolls → IfNode (IsAsked m'.IsTold (Some m.course.trail.first)) r
 
+-- the numbers of a node to which a way leads from another
+abbrev pub IsSmaller : {V W : Type 0} → Meaning V W → Meaning V W → Way → V → V → Type 0
+IsSmaller m m' Down n c = m'.height c < m.height n
+IsSmaller m m' Right n c = (m'.left c < m.left n) × (m'.height c ≤ m.height n)
+
 -- a search for the node to which a way leads
 pub record IsNext {V W : Type 0} (m m' : Meaning V W) (before after : ℕ → ℕ) (way : Way) (n : V) (r : Found V) : Type 0 where
   pub cause : HasCause m.course.MayFail before after r
   pub node : IfNode m'.IsNode r
   pub place : (p : List ℕ) → m.IsAt n p → (t : LabelledTree) → m.course.IsDocument t → IsMoved m'.IsAt t (place_to way p) r
   pub told : (x : W) → m.IsTold n x → m.course.HasTolls → IfNode (IsAsked m'.IsTold (m.course.trail.to way x)) r
+  pub smaller : IfNode (IsSmaller m m' way n) r
+
+-- a search among the later siblings of a node for the first one with a label
+pub record IsSelected {V W : Type 0} (m m' : Meaning V W) (before after : ℕ → ℕ) (label : List ℕ) (n : V) (r : Found V) : Type 0 where
+  pub cause : HasCause m.course.MayFail before after r
+  pub node : IfNode m'.IsNode r
+  pub place : (p : List ℕ) → m.IsAt n p → (t : LabelledTree) → m.course.IsDocument t → IsMoved m'.IsAt t (selected t label p) r
 
 -- a label is the document's at the place of a node
 abbrev pub ReadsLabel : {V W : Type 0} → Meaning V W → V → List ℕ → Type 0

@@ -1,19 +1,21 @@
 -- What one step comes to.
-use Rattle.std.specs.Prelude.{◌≡◌, ◌≤◌, ◌+◌, ℕ, List, [], ◌∷◌, Option, Some, None, Result, IfOk, OnErr}
+use Rattle.std.specs.Prelude.{◌≡◌, ◌≤◌, ◌+◌, ℕ, IsTrue, List, [], ◌∷◌, Option, Some, None, Result, IfOk, OnErr}
 use Rattle.std.specs.declared.alloc.AllocError.{AllocError}
 use Rattle.mix_base.specs.Counts.{HasRisenBy}
 use Rattle.mix_tree.specs.Forest.{LabelledTree}
 use Rattle.lxp_core.specs.View.{View}
 use Rattle.mix_script.specs.Names.{NamesOf}
-use Rattle.mix_script.specs.Trails.{with_named, names_on}
+use Rattle.mix_script.specs.Trails.{takes_one_way, with_named, names_on}
 use Rattle.mix_script.specs.Transcript.{Names, answer_of, names_after}
 use Rattle.mix_script.specs.Allowed.{Nodes, MayAnswer, nodes_after, mark_of, faults_of}
 use Rattle.mix_script.specs.declared.step.Act.{Act}
-use Rattle.mix_script.specs.declared.step.Act.TheVariants.{Root, Move, Fetch}
+use Rattle.mix_script.specs.declared.step.Act.TheVariants.{Root, Move, Select, Fetch, Print}
 use Rattle.mix_script.specs.declared.answer.Answer.{Answer}
 use Rattle.mix_script.specs.declared.answer.Answer.TheVariants as answer
 use Rattle.mix_session.specs.Meaning.{Course, Meaning, Stays}
 use Rattle.mix_session.specs.Held.{HoldNodes, HoldPlaces, HoldTold, IsSession}
+use Rattle.mix_session.specs.Printing.{place_toll}
+use Rattle.mix_session.specs.Tolls.{toll_from, select_toll, print_toll}
 
 -- a client's act was answered: the answer may be given, a fault by a source that may fail alone; where a tree is the document,
 -- it is that of the tree under the mark that it shows; the names hold what they should then; and the count of a source that it
@@ -22,8 +24,8 @@ pub record IsStep {V W : Type 0} (m m' : Meaning V W) (before after : ℕ → �
   pub allowed : (nodes : Nodes) → HoldNodes m values nodes
       → MayAnswer m.course.roots m.course.MayFail nodes client act a × HoldNodes m' values' (nodes_after nodes client act a)
   pub told : (t : LabelledTree) → m.course.IsDocument t → (places : Names) → HoldPlaces m values places
-      → (a ≡ answer_of t places (mark_of a) client act) × HoldPlaces m' values' (names_after places client act a)
-  pub trail : m.course.HasTolls → (xs : NamesOf W) → HoldTold m values xs → HoldTold m' values' (names_on m.course.trail xs client act a)
+      → (a ≡ answer_of t places (mark_of a) client act) × HoldPlaces m' values' (names_after t places client act a)
+  pub trail : IsTrue (takes_one_way act) → m.course.HasTolls → (xs : NamesOf W) → HoldTold m values xs → HoldTold m' values' (names_on m.course.trail xs client act a)
   pub counted : (s : ℕ) → HasRisenBy (faults_of s (a ∷ [])) (before s) (after s)
 
 -- what names hold after an answer: the act's name holds a node that was found, or nothing where there is none; after every
@@ -32,24 +34,35 @@ abbrev pub NamesGiven : {V : Type 0} → NamesOf V → NamesOf V → List ℕ �
 NamesGiven {V} values values' client act answer.Node = (n : V) × (values' ≡ with_named values client act (Some n))
 NamesGiven values values' client act answer.None = values' ≡ with_named values client act None
 NamesGiven values values' client act (answer.Label l) = values' ≡ values
+NamesGiven values values' client act (answer.Text x) = values' ≡ values
 NamesGiven values values' client act answer.NoNode = values' ≡ values
 NamesGiven values values' client act (answer.Fault s) = values' ≡ values
 
--- the toll of a way from what a name holds, and none where it holds nothing
-abbrev pub held_toll : {W : Type 0} → (W → ℕ) → Option W → ℕ
-held_toll toll None = 0
-held_toll toll (Some x) = toll x
-
--- the toll of a client's act, where this is told of what names hold
+-- the toll of a client's act of at most one way, where this is told of what names hold
 abbrev pub act_toll : {W : Type 0} → Course W → NamesOf W → List ℕ → Act → ℕ
 act_toll c xs client (Root name) = c.root_toll
-act_toll c xs client (Move way name from) = held_toll (c.toll way) (xs client from)
+act_toll c xs client (Move way name from) = toll_from (c.toll way) (xs client from)
+act_toll c xs client (Select name from label) = 0
 act_toll c xs client (Fetch from) = 0
+act_toll c xs client (Print from) = 0
 
--- an act asked at most its toll
+-- the toll of a client's act on a tree that is the document, where names hold these places
+abbrev pub tree_toll : {W : Type 0} → Course W → LabelledTree → Names → List ℕ → Act → ℕ
+tree_toll c t places client (Root name) = c.root_toll
+tree_toll c t places client (Move way name from) = toll_from (place_toll c way) (places client from)
+tree_toll c t places client (Select name from label) = toll_from (select_toll (place_toll c) t label) (places client from)
+tree_toll c t places client (Fetch from) = 0
+tree_toll c t places client (Print from) = toll_from (print_toll (place_toll c) t) (places client from)
+
+-- an act of at most one way asked at most its toll
 abbrev pub IsTolled : {V W : Type 0} → Meaning V W → ℕ → ℕ → NamesOf V → List ℕ → Act → Type 0
 IsTolled {V} {W} m fills fills' values client act =
-    m.course.HasTolls → (xs : NamesOf W) → HoldTold m values xs → fills' ≤ fills + act_toll m.course xs client act
+    IsTrue (takes_one_way act) → m.course.HasTolls → (xs : NamesOf W) → HoldTold m values xs → fills' ≤ fills + act_toll m.course xs client act
+
+-- an act on a tree that is the document asked at most its toll there
+abbrev pub IsTolledOn : {V W : Type 0} → Meaning V W → ℕ → ℕ → NamesOf V → List ℕ → Act → Type 0
+IsTolledOn m fills fills' values client act =
+    m.course.HasTolls → (t : LabelledTree) → m.course.IsDocument t → (places : Names) → HoldPlaces m values places → fills' ≤ fills + tree_toll m.course t places client act
 
 -- what a step leaves, whatever it answers; want of memory leaves the names
 pub record Stepped {V W : Type 0} (m m' : Meaning V W) (v v' : View) (values values' : NamesOf V) (client : List ℕ) (act : Act) (r : Result Answer AllocError) : Type 0 where
@@ -59,3 +72,4 @@ pub record Stepped {V W : Type 0} (m m' : Meaning V W) (v v' : View) (values val
   pub names : IfOk r (NamesGiven values values' client act)
   pub still : OnErr r (values' ≡ values)
   pub toll : IsTolled m v.fills v'.fills values client act
+  pub cost : IsTolledOn m v.fills v'.fills values client act

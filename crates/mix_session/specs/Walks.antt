@@ -1,18 +1,18 @@
 -- What is walked: the document of one source, by a buffer, and that of a plan, by a mediator.
-use Rattle.std.specs.Prelude.{◌≡◌, ℕ, true, false, IsTrue, List, ◌∷◌, Some}
+use Rattle.std.specs.Prelude.{◌≡◌, ◌+◌, ℕ, true, false, IsTrue, List, ◌∷◌, Some}
 use Rattle.mix_tree.specs.Forest.{LabelledTree, alone}
 use Rattle.mix_tree.specs.Nodes.{Documents}
 use Rattle.lxp_core.specs.View.{View, document}
 use Rattle.tree_buffer.specs.declared.buffer.Buffer.{Buffer}
 use Rattle.tree_buffer.specs.declared.spot.Spot.{Spot}
-use Rattle.tree_buffer.specs.Buffer.{IsSpot, IsSourcesOf, Goes, number_of, place_of}
+use Rattle.tree_buffer.specs.Buffer.{IsSpot, IsSourcesOf, Goes, number_of, place_of, below, after}
 use Rattle.plan_core.specs.Plans.{Operator}
 use Rattle.lazy_plan.specs.Bench.{BenchState, KeepsBench, ops_of, told, forward, documents}
 use Rattle.lazy_plan.specs.Cursors.{IsRead}
 use Rattle.lazy_value.specs.declared.ids.NodeId.{NodeId}
 use Rattle.lazy_value.specs.declared.mediator.Mediator.{Mediator}
 use Rattle.lazy_value.specs.Places.{IsNode, IsAt, plan_document, down_toll, right_toll}
-use Rattle.lazy_value.specs.Mediators.{IsMediatorOf, NodesStay, state_of}
+use Rattle.lazy_value.specs.Mediators.{IsMediatorOf, NodesStay, KeepsHeights, state_of, node_left, node_height}
 use Rattle.mix_script.specs.Trails.{node_trail, place_trail}
 use Rattle.mix_script.specs.declared.step.Way.{Way}
 use Rattle.mix_script.specs.declared.step.Way.TheVariants.{Down, Right}
@@ -32,6 +32,7 @@ source_course v source = record {
   IsDocument = IsSourceDocument v source;
   HasTolls = v.forward source ≡ true;
   trail = node_trail;
+  at = λ p. tt;
   root_toll = 1;
   toll = λ way node. 1;
 }
@@ -48,6 +49,9 @@ source_meaning v b = record {
   IsNode = IsSpot b;
   IsAt = IsPlace b;
   IsTold = λ x node. IsSpot b x;
+  told_at = λ x p at. at.0;
+  left = after v b;
+  height = λ x. below v b x + after v b x;
 }
 
 -- a buffer goes on
@@ -74,6 +78,7 @@ plan_course st = record {
   IsDocument = IsDocument st;
   HasTolls = IsTrue (told st) × IsTrue (forward st);
   trail = place_trail;
+  at = λ p. p;
   root_toll = 0;
   toll = place_toll (documents st) (ops_of st);
 }
@@ -86,9 +91,13 @@ plan_meaning v m = record {
   IsNode = IsNode (state_of v m);
   IsAt = IsAt (state_of v m);
   IsTold = IsAt (state_of v m);
+  told_at = λ n p at. at;
+  left = node_left (state_of v m);
+  height = node_height (state_of v m);
 }
 
--- the plan and the documents are the same, and each earlier identifier stays where it stood
+-- the plan and the documents are the same, and each earlier identifier stays where it stood, and no higher
 pub record PlanKept (v : View) (m : Mediator) (v' : View) (m' : Mediator) : Type 0 where
   pub kept : KeepsBench (state_of v m) (state_of v' m')
   pub stay : NodesStay (state_of v m) (state_of v' m')
+  pub heights : KeepsHeights (state_of v m) (state_of v' m')

@@ -2,6 +2,8 @@
 #![tactic(auto)]
 
 mod plan;
+mod printing;
+mod searching;
 mod session;
 mod source;
 mod walker;

@@ -25,7 +25,7 @@ fn found_in(found: Result<Option<NodeId>, WalkFault>) -> Result<Found<NodeId>, A
 impl Walker for Mediator {
     ghost use Rattle.std.specs.Prelude.{List, ℕ};
     ghost use Rattle.mix_session.specs.Walks.{plan_meaning, PlanKept};
-    ghost use Rattle.mix_session.specs.Kept.{plan_kept_same};
+    ghost use Rattle.mix_session.specs.Kept.{plan_kept_same, plan_kept_twice};
 
     type Node = NodeId;
 
@@ -55,6 +55,8 @@ impl Walker for Mediator {
     fn read_label(&self, n: &NodeId) -> &Label {
         self.fetch(n)
     }
+
+    ghost twice = { plan_kept_twice };
 
     ghost same = { plan_kept_same };
 }

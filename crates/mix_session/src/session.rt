@@ -3,6 +3,8 @@ ghost use Rattle.std.specs.Prelude.{◌≡◌, IfOk, OnErr};
 ghost use Rattle.mix_script.specs.Names.{held};
 ghost use Rattle.mix_session.specs.Seeking.{answer_found, names_found};
 
+use crate::printing::print;
+use crate::searching::select;
 use crate::walker::{Found, Walker};
 use lxp_core::Sources;
 use mix_script::{Act, Answer, Names, Step};
@@ -87,11 +89,24 @@ impl<W: Walker + Drop> Session<W> {
                 let found = self.walker.seek(alloc, s, *way, node)?;
                 take_found(alloc, &mut self.names, client, name, found)
             }
+            Act::Select { name, from, label } => {
+                let Some(node) = self.names.get(client, from) else {
+                    return Ok(Answer::NoNode);
+                };
+                let found = select(alloc, s, &mut self.walker, node, label)?;
+                take_found(alloc, &mut self.names, client, name, found)
+            }
             Act::Fetch { from } => {
                 let Some(node) = self.names.get(client, from) else {
                     return Ok(Answer::NoNode);
                 };
                 Ok(Answer::Label(self.walker.read_label(node).copy(alloc)?))
+            }
+            Act::Print { from } => {
+                let Some(node) = self.names.get(client, from) else {
+                    return Ok(Answer::NoNode);
+                };
+                print(alloc, s, &mut self.walker, node)
             }
         }
     }

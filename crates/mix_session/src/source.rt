@@ -26,7 +26,7 @@ fn found_in(
 
 impl Walker for Buffer {
     ghost use Rattle.mix_session.specs.Walks.{source_meaning, SourceKept};
-    ghost use Rattle.mix_session.specs.Kept.{source_kept_same};
+    ghost use Rattle.mix_session.specs.Kept.{source_kept_same, source_kept_twice};
 
     type Node = Spot;
 
@@ -64,6 +64,8 @@ impl Walker for Buffer {
     fn read_label(&self, n: &Spot) -> &Label {
         self.label(n)
     }
+
+    ghost twice = { source_kept_twice };
 
     ghost same = { source_kept_same };
 }

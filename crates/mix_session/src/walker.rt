@@ -47,6 +47,7 @@ pub trait Walker {
             c.HasTolls → (S.view s.new).fills ≤ (S.view s.old).fills + c.root_toll };
 
     /// The node to which a way leads from a node. Every earlier node stays, whatever is answered, and after want of memory.
+    /// By the numbers of nodes each walk ends.
     fn seek<S: Sources>(
         &mut self,
         alloc: Global,
@@ -68,6 +69,10 @@ pub trait Walker {
     fn read_label(&self, n: &Self::Node) -> &Label
         requires { (v : View) × (means v self.now).IsReady × (means v self.now).IsNode n.now }
         ensures { (v : View) → (means v self.now).IsReady → ReadsLabel (means v self.now) n.now result.now };
+
+    /// What two calls have kept, one after the other.
+    ghost twice: { (v : View) (w : Self) (v' : View) (w' : Self) (v'' : View) (w'' : Self)
+        → keeps v w v' w' → keeps v' w' v'' w'' → keeps v w v'' w'' };
 
     /// Where there is no call, all is kept.
     ghost same: { (v : View) (w : Self) → keeps v w v w };

@@ -3,3 +3,4 @@ pub mod NameBytes
 pub mod Pieces
 pub mod Trims
 pub mod WordCuts
+pub mod WordPlaces

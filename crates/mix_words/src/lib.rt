@@ -2,4 +2,5 @@
 #![tactic(auto)]
 
 pub mod lines;
+pub mod places;
 pub mod words;

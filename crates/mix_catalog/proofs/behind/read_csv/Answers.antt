@@ -1,5 +1,5 @@
 use Rattle.std.proofs.Common.{arith}
-use Rattle.mix_catalog.proofs.WordPlaces.{boundary_behind_blank}
+use Rattle.mix_words.proofs.WordPlaces.{boundary_behind_blank}
 use Rattle.mix_catalog.proofs.behind.read_csv.Goals as goal
 
 pub read_columns-requires-clause-boundary : goal.read_columns-requires-clause-boundary

@@ -4,7 +4,7 @@ use Rattle.std.proofs.lemmas.Result.{IfOk-weaker}
 use Rattle.std.proofs.lemmas.Str.{IsUtf8-drop}
 use Rattle.mix_tree.specs.LabelReads.{seen_of}
 use Rattle.mix_catalog.specs.Seen.{source_behind}
-use Rattle.mix_catalog.proofs.WordPlaces.{boundary_behind_blank}
+use Rattle.mix_words.proofs.WordPlaces.{boundary_behind_blank}
 use Rattle.mix_catalog.proofs.Spelled.{unread_is_none, read_is_found}
 use Rattle.mix_catalog.proofs.line.read_at.Goals as goal
 

@@ -1,7 +1,7 @@
 use Rattle.std.proofs.Common.{◌≡◌, Some, sym}
 use Rattle.lxp_core.specs.View.{Keeps}
 use Rattle.mix_script.specs.Names.{held}
-use Rattle.mix_session.proofs.Acts.{root_taken, move_taken}
+use Rattle.mix_session.proofs.Acts.{root_taken, move_taken, select_taken, printed}
 use Rattle.mix_session.proofs.session.Session.step.Goals as goal
 
 pub returns-in_ok-found-in-Root-clause-stepped : goal.returns-in_ok-found-in-Root-clause-stepped
@@ -24,5 +24,17 @@ returns-in_ok-found-in-Move-clause-stepped g c =
     let taken = c.take_found-in-Move.ensures in
     let here : held c.args.self.now.names c.args.step.now.client c.in-Move.from ≡ Some c.in-Some.node.now = sym (rw c.in-Some.is at c.get.ensures) in
     rw c.in-Move.is (move_taken (means (view c.args.s.now) c.args.self.now.walker) (means (view c.seek.new.s) c.seek.new.self) (view c.args.s.now) (view c.seek.new.s) keeps.faults ran.stays
-    (held c.args.self.now.names) c.requires c.args.step.now.client c.in-Move.name c.in-Move.from c.in-Move.way c.in-Some.node.now here ran.toll c.in_ok-found-in-Move.found c.in_ok-found-in-Move.ensures.found
+    (held c.args.self.now.names) c.requires c.args.step.now.client c.in-Move.from c.in-Some.node.now here c.in-Move.name c.in-Move.way ran.toll c.in_ok-found-in-Move.found c.in_ok-found-in-Move.ensures.found
     (held c.take_found-in-Move.new.names) c.take_found-in-Move.result taken.answer taken.names taken.still)
+
+pub returns-in_ok-found-in-Select-clause-stepped : goal.returns-in_ok-found-in-Select-clause-stepped
+returns-in_ok-found-in-Select-clause-stepped g c =
+    let view = g.S.Sources.view in
+    let means = g.W.Walker.means in
+    let ran = c.select.ensures in
+    let keeps : Keeps (view c.select.new.s) (view c.args.s.now) = g.met.S.Sources.keeps _ _ ran.came in
+    let taken = c.take_found-in-Select.ensures in
+    let here : held c.args.self.now.names c.args.step.now.client c.in-Select.from ≡ Some c.in-Some-2.node.now = sym (rw c.in-Some-2.is at c.get-in-Select.ensures) in
+    rw c.in-Select.is (select_taken (means (view c.args.s.now) c.args.self.now.walker) (means (view c.select.new.s) c.select.new.walker) (view c.args.s.now) (view c.select.new.s) keeps.faults ran.stays
+    (held c.args.self.now.names) c.requires c.args.step.now.client c.in-Select.from c.in-Some-2.node.now here c.in-Select.name c.in-Select.label ran.cost c.in_ok-found-in-Select.found c.in_ok-found-in-Select.ensures.found
+    (held c.take_found-in-Select.new.names) c.take_found-in-Select.result taken.answer taken.names taken.still)

@@ -10,4 +10,4 @@ returns-in-Right-clause-found g c =
     let b' = c.right.new.self in
     let right = c.right.ensures in
     rw c.in-Right.is (if_ok c.found_in-in-Right.result (of_source c.number-number.result c.right.result) _
-    (λ r is. source_right v v' b b' right.ran.goes c.number-number.result c.number-number.ensures c.right.result r is right.failed c.args.n.now c.requires.node right.next right.exact) c.found_in-in-Right.ensures)
+    (λ r is. source_right v v' b b' right.ran.goes c.number-number.result c.number-number.ensures c.right.result r is right.failed c.args.n.now c.requires.node right.next right.exact right.smaller) c.found_in-in-Right.ensures)

@@ -1,8 +1,8 @@
 // Where a word of a line begins.
 ghost use Rattle.std.specs.Prelude.{◌≡◌, ◌<◌, IfSome, IsTrue, true, length, take};
-ghost use Rattle.mix_catalog.specs.Places.{place_of_word, blank_behind};
+ghost use Rattle.mix_words.specs.Places.{place_of_word, blank_behind};
 
-use mix_words::words::is_blank_byte;
+use crate::words::is_blank_byte;
 
 /// Where the word begins that has so many words before it; `None` where the line has no such word.
 pub fn word_place(line: &[u8], count: usize) -> Option<usize>

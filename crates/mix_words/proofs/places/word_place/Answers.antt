@@ -1,7 +1,7 @@
 use Rattle.std.proofs.Common.{◌≡◌, ◌<◌, ◌∙◌, false, true, ◌&&◌, not, refl, sym, arith}
-use Rattle.mix_catalog.proofs.WordPlaces.{blank_before, looked_next, looked_other}
-use Rattle.mix_catalog.proofs.place.word_place.Goals as goal
-use Rattle.mix_catalog.proofs.place.word_place.Goals.{then-is_apart+then-not-is_blank+else-left-eq0, else-is_apart, else-is_apart-via-then-is_apart+else-not-is_blank, else-is_apart-via-else-is_apart}
+use Rattle.mix_words.proofs.WordPlaces.{blank_before, looked_next, looked_other}
+use Rattle.mix_words.proofs.places.word_place.Goals as goal
+use Rattle.mix_words.proofs.places.word_place.Goals.{then-is_apart+then-not-is_blank+else-left-eq0, else-is_apart, else-is_apart-via-then-is_apart+else-not-is_blank, else-is_apart-via-else-is_apart}
 
 pub loop-at-preserved : goal.loop-at-preserved
 loop-at-preserved c =

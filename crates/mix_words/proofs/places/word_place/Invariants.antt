@@ -1,6 +1,6 @@
 use Rattle.std.proofs.Common.{◌≡◌, true, take, drop}
-use Rattle.mix_catalog.specs.Places.{word_from, place_of_word, blank_behind}
-use Rattle.mix_catalog.proofs.place.word_place.Given as goal
+use Rattle.mix_words.specs.Places.{word_from, place_of_word, blank_behind}
+use Rattle.mix_words.proofs.places.word_place.Given as goal
 
 abbrev pub invariant-loop-at : goal.invariant-loop-at
 invariant-loop-at l = record {

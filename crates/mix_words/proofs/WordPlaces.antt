@@ -6,7 +6,7 @@ use Rattle.std.proofs.lemmas.Str.{IsCharBoundary-start, IsCharBoundary-after_asc
 use Rattle.std.specs.Str.{IsUtf8, IsCharBoundary}
 use Rattle.mix_base.proofs.Choices.{and_parts, some_is, none_some}
 use Rattle.mix_words.specs.Words.{is_blank, words_of, with_first, ends_word}
-use Rattle.mix_catalog.specs.Places.{blank_behind, word_from, place_of_word}
+use Rattle.mix_words.specs.Places.{blank_behind, word_from, place_of_word}
 
 -- one byte more
 pub blank_behind-push : (p : Bool) (xs : List ℕ) (b : ℕ) → blank_behind p (xs ++ b ∷ []) ≡ is_blank b

@@ -1,0 +1,118 @@
+-- A client's steps are answered as if the others' were not there.
+use Rattle.std.proofs.Common.{◌≡◌, ◌∙◌, ℕ, Bool, true, false, cond, ◌&&◌, List, [], ◌∷◌, ◌++◌, Option, None, option_and_then, refl, ap, sym, subst}
+use Rattle.std.proofs.lemmas.Slice.Eq.{bytes_eq-Decides}
+use Rattle.std.specs.Str.{bytes_eq}
+use Rattle.mix_tree.specs.Forest.{LabelledTree}
+use Rattle.mix_tree.specs.Place.{tree_at}
+use Rattle.mix_script.specs.Names.{with_name, no_names}
+use Rattle.mix_script.specs.Answers.{line_of}
+use Rattle.mix_script.specs.Trails.{place_to, with_named}
+use Rattle.mix_script.specs.Transcript.{Names, selected, goal_of, move_answer, label_answer, text_answer, if_held, unless_marked, answer_of, names_after, answered, first_mark, later_marks, lines_from}
+use Rattle.mix_script.specs.Clients.{own_steps, own_marks, own_lines_from, ClientsAreApart}
+use Rattle.mix_script.specs.declared.step.Act.{Act}
+use Rattle.mix_script.specs.declared.step.Act.TheVariants.{Root, Move, Select, Fetch, Print}
+use Rattle.mix_script.specs.declared.step.Step.{Step}
+use Rattle.mix_script.specs.declared.answer.Answer.{Answer}
+use Rattle.mix_script.specs.declared.answer.Answer.TheVariants as answer
+
+-- the names of a client hold the same
+abbrev Agree : List ℕ → Names → Names → Type 0
+Agree client names others = (n : List ℕ) → names client n ≡ others client n
+
+module _ (t : LabelledTree) (client : List ℕ) (names others : Names) (same : Agree client names others) where
+  -- its acts ask for the same
+  same_goal : (act : Act) → goal_of t names client act ≡ goal_of t others client act
+  same_goal (Root name) = refl
+  same_goal (Move way name from) = ap (option_and_then (place_to way)) (same from)
+  same_goal (Select name from label) = ap (option_and_then (selected t label)) (same from)
+  same_goal (Fetch from) = refl
+  same_goal (Print from) = refl
+
+  -- they are answered alike
+  same_answer : (mark : Option ℕ) (act : Act) → answer_of t names mark client act ≡ answer_of t others mark client act
+  same_answer mark (Root name) = refl
+  same_answer mark (Move way name from) = ap (λ o. if_held o (unless_marked mark (move_answer t (option_and_then (place_to way) o)))) (same from)
+  same_answer mark (Select name from label) = ap (λ o. if_held o (unless_marked mark (move_answer t (option_and_then (selected t label) o)))) (same from)
+  same_answer mark (Fetch from) = ap (λ o. label_answer (option_and_then (tree_at t) o)) (same from)
+  same_answer mark (Print from) = ap (λ o. if_held o (unless_marked mark (text_answer (option_and_then (tree_at t) o)))) (same from)
+
+  -- a name that is given leaves them the same
+  same_with : (name : List ℕ) (v w : Option (List ℕ)) → v ≡ w → Agree client (with_name names client name v) (with_name others client name w)
+  same_with name v w e n = of (bytes_eq client client && bytes_eq name n)
+    where
+      of : (b : Bool) → cond b v (names client n) ≡ cond b w (others client n)
+      of true = e
+      of false = same n
+
+  same_named : (act : Act) (v w : Option (List ℕ)) → v ≡ w → Agree client (with_named names client act v) (with_named others client act w)
+  same_named (Root name) v w e = same_with name v w e
+  same_named (Move way name from) v w e = same_with name v w e
+  same_named (Select name from label) v w e = same_with name v w e
+  same_named (Fetch from) v w e = same
+  same_named (Print from) v w e = same
+
+  -- so does each answer
+  same_after : (act : Act) (a : Answer) → Agree client (names_after t names client act a) (names_after t others client act a)
+  same_after act answer.Node = same_named act (goal_of t names client act) (goal_of t others client act) (same_goal act)
+  same_after act answer.None = same_named act None None refl
+  same_after act (answer.Label l) = same
+  same_after act (answer.Text x) = same
+  same_after act answer.NoNode = same
+  same_after act (answer.Fault s) = same
+
+module _ (client other : List ℕ) (apart : bytes_eq other client ≡ false) (names others : Names) (same : Agree client names others) where
+  -- a name that another client is given leaves them the same
+  apart_with : (name : List ℕ) (v : Option (List ℕ)) → Agree client (with_name names other name v) others
+  apart_with name v n = ap (λ b. cond (b && bytes_eq name n) v (names client n)) apart ∙ same n
+
+  apart_named : (act : Act) (v : Option (List ℕ)) → Agree client (with_named names other act v) others
+  apart_named (Root name) v = apart_with name v
+  apart_named (Move way name from) v = apart_with name v
+  apart_named (Select name from label) v = apart_with name v
+  apart_named (Fetch from) v = same
+  apart_named (Print from) v = same
+
+  -- so does each answer to another client
+  apart_after : (t : LabelledTree) (act : Act) (a : Answer) → Agree client (names_after t names other act a) others
+  apart_after t act answer.Node = apart_named act (goal_of t names other act)
+  apart_after t act answer.None = apart_named act None
+  apart_after t act (answer.Label l) = same
+  apart_after t act (answer.Text x) = same
+  apart_after t act answer.NoNode = same
+  apart_after t act (answer.Fault s) = same
+
+module _ (t : LabelledTree) (sources : List (List ℕ)) (client : List ℕ) where
+  -- a client's lines among all are those of its steps alone, where its names hold the same
+  own_alone : (names others : Names) (marks : List (Option ℕ)) (steps : List Step) → Agree client names others
+      → own_lines_from t sources client names marks steps ≡ lines_from t sources others (own_marks client marks steps) (own_steps client steps)
+  own_alone names others marks [] same = refl
+  own_alone names others marks (step ∷ steps) same = by_client (bytes_eq step.client client) refl (λ after. own_alone (answered t names (first_mark marks) step).1 after (later_marks marks) steps)
+    where
+      -- what is said of one step and those behind it, where the step is the client's or not
+      Said : Bool → Type 0
+      Said b =
+          cond b (line_of sources step.client (answered t names (first_mark marks) step).0 ++ own_lines_from t sources client (answered t names (first_mark marks) step).1 (later_marks marks) steps)
+          (own_lines_from t sources client (answered t names (first_mark marks) step).1 (later_marks marks) steps)
+          ≡ lines_from t sources others (cond b (first_mark marks ∷ own_marks client (later_marks marks) steps) (own_marks client (later_marks marks) steps)) (cond b (step ∷ own_steps client steps) (own_steps client steps))
+
+      by_client : (b : Bool) → bytes_eq step.client client ≡ b
+          → ((after : Names) → Agree client (answered t names (first_mark marks) step).1 after
+          → own_lines_from t sources client (answered t names (first_mark marks) step).1 (later_marks marks) steps ≡ lines_from t sources after (own_marks client (later_marks marks) steps) (own_steps client steps))
+          → Said b
+      by_client false e later = later others (apart_after client step.client e names others same t step.act (answer_of t names (first_mark marks) step.client step.act))
+      by_client true e later =
+          let own : step.client ≡ client = (bytes_eq-Decides step.client client).0 e in
+          let agree : Agree step.client names others = subst (λ c. Agree c names others) (sym own) same in
+          let mark = first_mark marks in
+          let said : answer_of t names (first_mark marks) step.client step.act ≡ answer_of t others (first_mark marks) step.client step.act =
+          same_answer t step.client names others agree (first_mark marks) step.act in
+          let after : Agree client (answered t names (first_mark marks) step).1 (answered t others (first_mark marks) step).1 =
+          subst (λ c. Agree c (answered t names (first_mark marks) step).1 (answered t others (first_mark marks) step).1) own
+          (subst (λ a. Agree step.client (answered t names (first_mark marks) step).1 (names_after t others step.client step.act a)) said
+          (same_after t step.client names others agree step.act (answer_of t names (first_mark marks) step.client step.act))) in
+          ap (λ x. line_of sources step.client (answered t names (first_mark marks) step).0 ++ x) (later (answered t others (first_mark marks) step).1 after)
+          ∙ ap (λ a. line_of sources step.client a ++ lines_from t sources (answered t others (first_mark marks) step).1 (own_marks client (later_marks marks) steps) (own_steps client steps)) said
+
+-- each client's lines are those of its own steps alone
+pub clients_apart : ClientsAreApart
+clients_apart t sources client marks steps = own_alone t sources client no_names no_names marks steps (λ n. refl)

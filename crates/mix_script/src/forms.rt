@@ -1,0 +1,144 @@
+// What the words of a line ask for.
+ghost use Rattle.std.specs.Prelude.{◌≡◌, IfOk, IsTrue, map};
+ghost use Rattle.mix_words.specs.Words.{is_name};
+ghost use Rattle.mix_script.specs.Forms.{act_of, read_form, reading_named, root_form, move_form, way_named, act_named, is_select_form, select_of};
+
+use crate::{Act, Way};
+use mix_tree::Label;
+use mix_words::words::is_script_name;
+use std::alloc::{AllocError, Global};
+
+// The label of a name.
+fn name_label(alloc: Global, name: &[u8]) -> Result<Label, AllocError>
+    requires { IsTrue (is_name name.now) }
+    ensures { IfOk result (λ l. l ≡ name.now) }
+{
+    Label::of_text(alloc, name)
+}
+
+// The way that a word names.
+fn read_way(word: &[u8]) -> Option<Way>
+    ensures { result ≡ way_named word.now }
+{
+    if word == b"down".as_slice() {
+        return Some(Way::Down);
+    }
+    if word == b"right".as_slice() {
+        return Some(Way::Right);
+    }
+    None
+}
+
+// The command of a word that stands before a name.
+fn read_command(
+    alloc: Global,
+    name: &[u8],
+    command: &[u8],
+    from: &[u8],
+) -> Result<Option<Act>, AllocError>
+    requires name { IsTrue (is_name name.now) }
+    requires from { IsTrue (is_name from.now) }
+    ensures { IfOk result (λ act. act ≡ act_named name.now command.now from.now) }
+{
+    let Some(way) = read_way(command) else {
+        return Ok(None);
+    };
+    let name = name_label(alloc, name)?;
+    let from = name_label(alloc, from)?;
+    Ok(Some(Act::Move { way, name, from }))
+}
+
+// `X = down Y` and `X = right Y`.
+fn read_move(
+    alloc: Global,
+    name: &[u8],
+    is: &[u8],
+    command: &[u8],
+    from: &[u8],
+) -> Result<Option<Act>, AllocError>
+    ensures { IfOk result (λ act. act ≡ move_form name.now is.now command.now from.now) }
+{
+    if is_script_name(name) && is == b"=".as_slice() && is_script_name(from) {
+        return read_command(alloc, name, command, from);
+    }
+    Ok(None)
+}
+
+// `X = root`.
+fn read_root(
+    alloc: Global,
+    name: &[u8],
+    is: &[u8],
+    command: &[u8],
+) -> Result<Option<Act>, AllocError>
+    ensures { IfOk result (λ act. act ≡ root_form name.now is.now command.now) }
+{
+    if is_script_name(name) && is == b"=".as_slice() && command == b"root".as_slice() {
+        return Ok(Some(Act::Root {
+            name: name_label(alloc, name)?,
+        }));
+    }
+    Ok(None)
+}
+
+// What a word asks for that stands alone before a name.
+fn read_reading(alloc: Global, command: &[u8], from: &[u8]) -> Result<Option<Act>, AllocError>
+    requires { IsTrue (is_name from.now) }
+    ensures { IfOk result (λ act. act ≡ reading_named command.now from.now) }
+{
+    if command == b"fetch".as_slice() {
+        let from = name_label(alloc, from)?;
+        return Ok(Some(Act::Fetch { from }));
+    }
+    if command == b"print".as_slice() {
+        let from = name_label(alloc, from)?;
+        return Ok(Some(Act::Print { from }));
+    }
+    Ok(None)
+}
+
+// `fetch Y` and `print Y`.
+fn read_of(alloc: Global, command: &[u8], from: &[u8]) -> Result<Option<Act>, AllocError>
+    ensures { IfOk result (λ act. act ≡ read_form command.now from.now) }
+{
+    if is_script_name(from) {
+        return read_reading(alloc, command, from);
+    }
+    Ok(None)
+}
+
+/// What the words of a line ask for; `None` where they are of no form that ends with a name or `root`.
+pub fn read_act(alloc: Global, words: &[&[u8]]) -> Result<Option<Act>, AllocError>
+    ensures { IfOk result (λ act. act ≡ act_of (map (λ word. word.now) words.now)) }
+{
+    match words {
+        [command, from] => read_of(alloc, command, from),
+        [name, is, command] => read_root(alloc, name, is, command),
+        [name, is, command, from] => read_move(alloc, name, is, command, from),
+        _ => Ok(None),
+    }
+}
+
+// Whether words are `X = select Y`.
+fn is_select(name: &[u8], is: &[u8], command: &[u8], from: &[u8]) -> bool
+    ensures { result ≡ is_select_form name.now is.now command.now from.now }
+{
+    is_script_name(name)
+        && is == b"=".as_slice()
+        && command == b"select".as_slice()
+        && is_script_name(from)
+}
+
+/// What the words in front of a label ask for, which are `X = select Y`; `None` where they are others.
+pub fn read_select(alloc: Global, words: &[&[u8]], label: Label) -> Result<Option<Act>, AllocError>
+    ensures { IfOk result (λ act. act ≡ select_of (map (λ word. word.now) words.now) label) }
+{
+    match words {
+        [name, is, command, from] if is_select(name, is, command, from) => {
+            let name = name_label(alloc, name)?;
+            let from = name_label(alloc, from)?;
+            Ok(Some(Act::Select { name, from, label }))
+        }
+        _ => Ok(None),
+    }
+}

@@ -1,0 +1,124 @@
+// The step of a line.
+ghost use Rattle.std.specs.Prelude.{◌≡◌, ◌<◌, IfOk, IfSome, IsTrue, IsUtf8, length, map, option_map, take, true};
+ghost use Rattle.mix_words.specs.Words.{is_name, words_of};
+ghost use Rattle.mix_words.specs.Places.{blank_behind};
+ghost use Rattle.mix_script.specs.Forms.{act_of};
+ghost use Rattle.mix_script.specs.Lines.{before_colon, client_named, client_of, select_at, act_in, step_with, step_in, utf8_step, no_words};
+
+use crate::forms::{read_act, read_select};
+use crate::{Act, Step};
+use mix_tree::{Label, LabelRead, read_label};
+use mix_words::places::word_place;
+use mix_words::words::{cut_words, is_script_name};
+use std::alloc::{AllocError, Global};
+use std::str;
+
+// How many words stand in front of the label of a `select`.
+const BEFORE_LABEL: usize = 4;
+
+// What stands before a colon that is the last byte of a word.
+fn before_colon(word: &[u8]) -> Option<&[u8]>
+    ensures { option_map (λ name. name.now) result ≡ before_colon word.now }
+{
+    match word {
+        [name @ .., b':'] => Some(name),
+        _ => None,
+    }
+}
+
+// The client that a word names: a script name with a colon at once behind it.
+fn client_in(word: &[u8]) -> Option<&[u8]>
+    ensures client { option_map (λ name. name.now) result ≡ client_named word.now }
+    ensures name { IfSome result (λ name. IsTrue (is_name name.now)) }
+{
+    let name = before_colon(word)?;
+    if is_script_name(name) {
+        return Some(name);
+    }
+    None
+}
+
+// The client of a prefix.
+fn read_client(alloc: Global, front: &[u8]) -> Result<Option<&[u8]>, AllocError>
+    ensures client { IfOk result (λ found. option_map (λ name. name.now) found ≡ client_of (words_of front.now)) }
+    ensures name { IfOk result (λ found. IfSome found (λ name. IsTrue (is_name name.now))) }
+{
+    let words = cut_words(alloc, front)?;
+    match words.as_slice() {
+        [word] => Ok(client_in(word)),
+        _ => Ok(None),
+    }
+}
+
+// Whether a text has no words.
+fn is_wordless(alloc: Global, text: &[u8]) -> Result<bool, AllocError>
+    ensures { IfOk result (λ none. none ≡ no_words (words_of text.now)) }
+{
+    let words = cut_words(alloc, text)?;
+    Ok(words.is_empty())
+}
+
+// What a line asks for whose label begins at a place.
+fn read_select_at(alloc: Global, line: &[u8], at: usize) -> Result<Option<Act>, AllocError>
+    requires utf8 { IsUtf8 line.now }
+    requires inside { at < length line.now }
+    requires apart { IsTrue (blank_behind true (take at line.now)) }
+    ensures { IfOk result (λ act. act ≡ select_at line.now at) }
+{
+    let LabelRead::Got { label, end } = read_label(alloc, line, at)? else {
+        return Ok(None);
+    };
+    if !is_wordless(alloc, &line[end..])? {
+        return Ok(None);
+    }
+    let words = cut_words(alloc, &line[..at])?;
+    read_select(alloc, &words, label)
+}
+
+// What a line without a prefix asks for.
+fn read_act_in(alloc: Global, line: &[u8]) -> Result<Option<Act>, AllocError>
+    requires { IsUtf8 line.now }
+    ensures { IfOk result (λ act. act ≡ act_in line.now) }
+{
+    if let Some(at) = word_place(line, BEFORE_LABEL) {
+        return read_select_at(alloc, line, at);
+    }
+    let words = cut_words(alloc, line)?;
+    read_act(alloc, &words)
+}
+
+// The step of a client whose prefix stands in front of a line.
+fn read_step(alloc: Global, client: &[u8], line: &[u8]) -> Result<Option<Step>, AllocError>
+    requires client { IsUtf8 client.now }
+    requires line { IsUtf8 line.now }
+    ensures { IfOk result (λ step. step ≡ option_map (step_with client.now) (act_in line.now)) }
+{
+    let Some(act) = read_act_in(alloc, line)? else {
+        return Ok(None);
+    };
+    let client = Label::of_text(alloc, client)?;
+    Ok(Some(Step { client, act }))
+}
+
+// The step of a line that is UTF-8.
+fn read_utf8(alloc: Global, line: &[u8]) -> Result<Option<Step>, AllocError>
+    requires { IsUtf8 line.now }
+    ensures { IfOk result (λ step. step ≡ step_in line.now) }
+{
+    if let Some(at) = word_place(line, 1) {
+        if let Some(client) = read_client(alloc, &line[..at])? {
+            return read_step(alloc, client, &line[at..]);
+        }
+    }
+    read_step(alloc, b"", line)
+}
+
+/// The step of a line; `None` where it is not UTF-8 or fits no form (docs/FORMATS.md, "Scripts").
+pub fn read_line(alloc: Global, line: &[u8]) -> Result<Option<Step>, AllocError>
+    ensures { IfOk result (λ step. step ≡ utf8_step line.now) }
+{
+    if str::from_utf8(line).is_err() {
+        return Ok(None);
+    }
+    read_utf8(alloc, line)
+}

@@ -1,0 +1,306 @@
+-- The text of a subtree, one tree after another.
+use Rattle.std.proofs.Common.{◌≡◌, ◌∙◌, ◌+◌, ◌≤◌, ◌<◌, ℕ, Bool, true, false, cond, List, [], ◌∷◌, ◌++◌, Option, Some, None, refl, ap, sym, subst, arith, append_assoc, option_map}
+use Rattle.std.specs.Prelude.{is_some}
+use Rattle.mix_base.proofs.Lists.{append_nil}
+use Rattle.mix_tree.specs.Forest.{Forest, none, tree, LabelledTree, alone, first_tree, first_label, first_kids, behind, followed}
+use Rattle.mix_tree.specs.Place.{trees_at, tree_at, has_place, child_place, next_place}
+use Rattle.mix_tree.specs.Spelling.{spelling}
+use Rattle.mix_tree.proofs.Forests.{followed_assoc}
+use Rattle.mix_tree.proofs.Places.{trees_at-child}
+use Rattle.bracket_text.specs.Canonical.{canon, canon_trees, canon_brackets, canon_rest}
+use Rattle.mix_script.specs.Transcript.{move_answer}
+use Rattle.mix_script.specs.Trails.{place_to}
+use Rattle.mix_script.specs.declared.answer.Answer.TheVariants as answer
+use Rattle.mix_script.specs.declared.step.Way.{Way}
+use Rattle.mix_script.specs.declared.step.Way.TheVariants.{Down, Right}
+use Rattle.mix_session.specs.declared.walker.Found.{Found}
+use Rattle.mix_session.specs.declared.walker.Found.TheVariants as found
+use Rattle.mix_session.specs.Meaning.{Course, Meaning, GoesOn, Stays}
+use Rattle.mix_session.specs.Seeking.{IsAsked, IsMoved, ReadsLabel}
+use Rattle.mix_session.specs.Printing.{place_toll, CostsOn, IsThere, IsStepTo, PrintsTree, PrintsTrees, found_as}
+use Rattle.mix_session.specs.Tolls.{toll_from, trees_toll, print_toll, siblings_toll}
+use Rattle.mix_session.proofs.Walking.{stays_twice, place_toll_less, trees_at-next}
+
+-- TREES
+
+-- where there is a place there is a tree
+tree_there : (t : LabelledTree) (p : List ℕ) → has_place (alone t) p ≡ true → (u : LabelledTree) × (trees_at (alone t) p ≡ tree u.label u.kids (behind (trees_at (alone t) p)))
+tree_there t p h = of (trees_at (alone t) p) h
+  where
+    of : (f : Forest) → is_some (first_label f) ≡ true → (u : LabelledTree) × (f ≡ tree u.label u.kids (behind f))
+    of none e = cc
+    of (tree label kids rest) e = (record { label = label; kids = kids }, refl)
+
+-- a tree at a place, and those behind it
+trees_of : (t u : LabelledTree) (p : List ℕ) → tree_at t p ≡ Some u → trees_at (alone t) p ≡ tree u.label u.kids (behind (trees_at (alone t) p))
+trees_of t u p h = of (trees_at (alone t) p) h
+  where
+    at_label : Option LabelledTree → List ℕ
+    at_label None = []
+    at_label (Some x) = x.label
+
+    at_kids : Option LabelledTree → Forest
+    at_kids None = none
+    at_kids (Some x) = x.kids
+
+    of : (f : Forest) → first_tree f ≡ Some u → f ≡ tree u.label u.kids (behind f)
+    of none e = cc
+    of (tree label kids rest) e = ap (λ l. tree l kids rest) (ap at_label e) ∙ ap (λ k. tree u.label k rest) (ap at_kids e)
+
+-- no trees stand where no place is
+no_trees : (t : LabelledTree) (q : List ℕ) → move_answer t (Some q) ≡ answer.None → trees_at (alone t) q ≡ none
+no_trees t q h = of (trees_at (alone t) q) refl
+  where
+    of : (f : Forest) → trees_at (alone t) q ≡ f → f ≡ none
+    of none e = refl
+    of (tree label kids rest) e = let z : answer.Node ≡ answer.None = ap (λ g. cond (is_some (first_label g)) answer.Node answer.None) (sym e) ∙ h in cc
+
+-- there is a place where a node was found
+has_there : (t : LabelledTree) (q : List ℕ) → move_answer t (Some q) ≡ answer.Node → has_place (alone t) q ≡ true
+has_there t q h = of (has_place (alone t) q) h
+  where
+    of : (b : Bool) → cond b answer.Node answer.None ≡ answer.Node → b ≡ true
+    of true e = refl
+    of false e = cc
+
+-- the root alone has no next place
+next_none : (p : List ℕ) → next_place p ≡ None → p ≡ []
+next_none [] e = refl
+next_none (i ∷ []) e = cc
+next_none (i ∷ j ∷ p) e = deeper (next_place (j ∷ p)) (λ z. next_none (j ∷ p) z) refl e
+  where
+    deeper : (o : Option (List ℕ)) → (next_place (j ∷ p) ≡ None → j ∷ p ≡ []) → next_place (j ∷ p) ≡ o → option_map (λ q. i ∷ q) o ≡ None → i ∷ j ∷ p ≡ []
+    deeper None more h k = let z : j ∷ p ≡ [] = more h in cc
+    deeper (Some q) more h k = cc
+
+-- nothing stands behind a node that has no next sibling
+behind_none : (t : LabelledTree) (p : List ℕ) → move_answer t (next_place p) ≡ answer.None → behind (trees_at (alone t) p) ≡ none
+behind_none t p h = by_next (next_place p) refl h
+  where
+    by_next : (o : Option (List ℕ)) → next_place p ≡ o → move_answer t o ≡ answer.None → behind (trees_at (alone t) p) ≡ none
+    by_next None e k = ap (λ q. behind (trees_at (alone t) q)) (next_none p e)
+    by_next (Some q) e k = sym (trees_at-next (alone t) p q e) ∙ no_trees t q k
+
+-- TEXTS
+
+-- a tree in front of others
+canon_front : (u : LabelledTree) (label : List ℕ) (kids rest : Forest) → canon_trees (tree u.label u.kids (tree label kids rest)) ≡ canon u ++ 44 ∷ canon_trees (tree label kids rest)
+canon_front u label kids rest = refl
+
+-- a tree alone
+canon_alone : (u : LabelledTree) → canon_trees (tree u.label u.kids none) ≡ canon u
+canon_alone u = append_nil (canon u)
+
+-- TOLLS
+
+module _ (toll toll' : Way → List ℕ → ℕ) (less : (way : Way) (p : List ℕ) → toll' way p ≤ toll way p) where
+  -- lower tolls of ways make a lower toll of trees
+  pub trees_less : (f : Forest) (p : List ℕ) → trees_toll toll' f p ≤ trees_toll toll f p
+  trees_less none p = omega arith
+  trees_less (tree label kids rest) p =
+      let down = less Down p in
+      let right = less Right p in
+      let below = trees_less kids (child_place p) in
+      let later = from_less (trees_less rest) (next_place p) in
+      omega (arith, down, right, below, later)
+    where
+      from_less : ((q : List ℕ) → trees_toll toll' rest q ≤ trees_toll toll rest q) → (o : Option (List ℕ)) → toll_from (trees_toll toll' rest) o ≤ toll_from (trees_toll toll rest) o
+      from_less more None = omega arith
+      from_less more (Some q) = more q
+
+-- the toll from a node on is that of its subtree, of the way to the right, and of what stands behind it
+siblings_are : (toll : Way → List ℕ → ℕ) (t : LabelledTree) (p : List ℕ) → has_place (alone t) p ≡ true
+    → siblings_toll toll t p ≡ print_toll toll t p + toll Right p + toll_from (trees_toll toll (behind (trees_at (alone t) p))) (next_place p)
+siblings_are toll t p h = of (trees_at (alone t) p) h
+  where
+    of : (f : Forest) → is_some (first_label f) ≡ true → trees_toll toll f p ≡ toll Down p + trees_toll toll (first_kids f) (child_place p) + toll Right p + toll_from (trees_toll toll (behind f)) (next_place p)
+    of none e = cc
+    of (tree label kids rest) e = refl
+
+module _ {V W : Type 0} (m : Meaning V W) (n : V) where
+  -- A NODE'S SUBTREE
+
+  -- the way down costs no more
+  pub down_costs : (fills fills' : ℕ) → CostsOn m n fills fills' (λ toll t p. toll Down p) → CostsOn m n fills fills' print_toll
+  down_costs fills fills' cost tolls p at t one = let h = cost tolls p at t one in omega (arith, h)
+
+  -- a node without children was printed
+  pub prints_leaf : (m' : Meaning V W) (label before mid after : List ℕ) → ReadsLabel m n label → IsStepTo m m' Down n None → mid ≡ before ++ spelling label → after ≡ mid → PrintsTree m n before after
+  prints_leaf m' label before mid after reads step text same = record {
+    subtree = record { label = label; kids = none };
+    text = same ∙ text ∙ ap (λ x. before ++ x) (sym (append_nil (spelling label)));
+    place = λ p at t one.
+        let there = reads p at t one in
+        let below : first_kids (trees_at (alone t) p) ≡ none = sym (trees_at-child (alone t) p) ∙ no_trees t (child_place p) (step.place p at t one) in
+        let trees = trees_of t there.0 p there.1 in
+        let kids : there.0.kids ≡ none = sym (ap first_kids trees) ∙ below in
+        there.1 ∙ ap Some (ap (λ l. record { label = l; kids = there.0.kids }) (sym there.2) ∙ ap (λ k. record { label = label; kids = k }) kids);
+  }
+
+  module _ (m' : Meaning V W) (first : V) (stays : Stays m m') (step : IsStepTo m m' Down n (Some first)) where
+    -- the place of the first child
+    child_at : (p : List ℕ) → m.IsAt n p → (t : LabelledTree) → m.course.IsDocument t → m'.IsAt first (child_place p)
+    child_at p at t one =
+        let asked = (step.place p at t one).1 in
+        let same : child_place p ≡ asked.0 = of (child_place p) asked.0 asked.1 in
+        subst (m'.IsAt first) (sym same) asked.2
+      where
+        of : (x y : List ℕ) → Some x ≡ Some y → x ≡ y
+        of x y e = cc
+
+    -- the trees below were printed between brackets
+    pub prints_node : (label before mid inner inner' after : List ℕ) → ReadsLabel m n label → mid ≡ before ++ spelling label → inner ≡ mid ++ 91 ∷ [] → PrintsTrees m' first inner inner' → after ≡ inner' ++ 93 ∷ []
+        → PrintsTree m n before after
+    prints_node label before mid inner inner' after reads text open' trees close = record {
+      subtree = record { label = label; kids = tree trees.label trees.kids trees.rest };
+      text = close ∙ ap (λ x. x ++ 93 ∷ []) (trees.text ∙ ap (λ x. x ++ below) (open' ∙ ap (λ x. x ++ 91 ∷ []) text)) ∙ bracketed before (spelling label) below;
+      place = λ p at t one.
+          let there = reads p at t one in
+          let kids : first_kids (trees_at (alone t) p) ≡ tree trees.label trees.kids trees.rest =
+          sym (trees_at-child (alone t) p) ∙ trees.place (child_place p) (child_at p at t one) t (stays.course.document t one) in
+          let same : there.0.kids ≡ tree trees.label trees.kids trees.rest = sym (ap first_kids (trees_of t there.0 p there.1)) ∙ kids in
+          there.1 ∙ ap Some (ap (λ l. record { label = l; kids = there.0.kids }) (sym there.2) ∙ ap (λ k. record { label = label; kids = k }) same);
+    }
+      where
+        below : List ℕ
+        below = canon_trees (tree trees.label trees.kids trees.rest)
+
+        bracketed : (x y z : List ℕ) → (((x ++ y) ++ 91 ∷ []) ++ z) ++ 93 ∷ [] ≡ x ++ (y ++ ((91 ∷ z) ++ 93 ∷ []))
+        bracketed x y z =
+            append_assoc ((x ++ y) ++ 91 ∷ []) z (93 ∷ []) ∙ append_assoc (x ++ y) (91 ∷ []) (z ++ 93 ∷ []) ∙ append_assoc x y ((91 ∷ z) ++ 93 ∷ [])
+
+    -- what both cost
+    pub node_costs : (fills fills' fills'' : ℕ) → CostsOn m n fills fills' (λ toll t p. toll Down p) → CostsOn m' first fills' fills'' siblings_toll → CostsOn m n fills fills'' print_toll
+    node_costs fills fills' fills'' down cost tolls p at t one =
+        let own = down tolls p at t one in
+        let rest = cost (stays.course.tolls tolls) (child_place p) (child_at p at t one) t (stays.course.document t one) in
+        let less = trees_less (place_toll m.course) (place_toll m'.course) (place_toll_less m.course m'.course stays.course) (trees_at (alone t) (child_place p)) (child_place p) in
+        let same = ap (λ f. trees_toll (place_toll m.course) f (child_place p)) (trees_at-child (alone t) p) in
+        omega (arith, own, rest, less, same)
+
+-- a label that was read is that of a node of the document
+pub read_there : {V W : Type 0} (m : Meaning V W) (n : V) (label : List ℕ) → ReadsLabel m n label → IsThere m n
+read_there m n label reads p at t one = let there = reads p at t one in ap (λ o. is_some (first_label o)) (trees_of t there.0 p there.1)
+
+-- the trees from a node on were printed up to a node, which stands here
+pub record IsOnWay {V W : Type 0} (m m' : Meaning V W) (fills fills' : ℕ) (front : Forest) (node : V) (p : List ℕ) (t : LabelledTree) : Type 0 where
+  pub here : List ℕ
+  pub at : m'.IsAt node here
+  pub trees : trees_at (alone t) p ≡ followed front (trees_at (alone t) here)
+  pub cost : m.course.HasTolls → fills' + siblings_toll (place_toll m.course) t here ≤ fills + siblings_toll (place_toll m.course) t p
+
+-- so they were, wherever the first one stands; a comma stands behind each
+pub record ArePrinted {V W : Type 0} (m m' : Meaning V W) (fills fills' : ℕ) (before now : List ℕ) (first node : V) : Type 0 where
+  pub stays : Stays m m'
+  pub is_node : m'.IsNode node
+  pub low : m'.height node ≤ m.height first
+  pub front : Forest
+  pub text : (label : List ℕ) (kids rest : Forest) → now ++ canon_trees (tree label kids rest) ≡ before ++ canon_trees (followed front (tree label kids rest))
+  pub place : (p : List ℕ) → m.IsAt first p → (t : LabelledTree) → m.course.IsDocument t → IsOnWay m m' fills fills' front node p t
+
+-- none was printed yet
+pub printed_start : {V W : Type 0} (m : Meaning V W) (first : V) (fills : ℕ) (before : List ℕ) → Stays m m → m.IsNode first → ArePrinted m m fills fills before before first first
+printed_start m first fills before stays node = record {
+  stays = stays;
+  is_node = node;
+  low = omega arith;
+  front = none;
+  text = λ label kids rest. refl;
+  place = λ p at t one. record { here = p; at = at; trees = refl; cost = λ tolls. omega arith };
+}
+
+-- trees behind others are trees
+trees_behind : (front : Forest) (u : LabelledTree) → (label : List ℕ) × (kids : Forest) × (rest : Forest) × (followed front (tree u.label u.kids none) ≡ tree label kids rest)
+trees_behind none u = (u.label, u.kids, none, refl)
+trees_behind (tree label kids rest) u = (label, kids, followed rest (tree u.label u.kids none), refl)
+
+module _ {V W : Type 0} (m m' m'' : Meaning V W) (first node : V) (fills fills' fills'' : ℕ) (before now : List ℕ) (so : ArePrinted m m' fills fills' before now first node) (stays : Stays m' m'') (there : IsThere m' node)
+    (cost : CostsOn m' node fills' fills'' print_toll) where
+  -- the next one was printed
+  module _ (p : List ℕ) (at : m.IsAt first p) (t : LabelledTree) (one : m.course.IsDocument t) where
+    on : IsOnWay m m' fills fills' so.front node p t
+    on = so.place p at t one
+
+    paid : m.course.HasTolls
+        → fills'' + place_toll m.course Right on.here + toll_from (trees_toll (place_toll m.course) (behind (trees_at (alone t) on.here))) (next_place on.here) ≤ fills + siblings_toll (place_toll m.course) t p
+    paid tolls =
+        let own = cost (so.stays.course.tolls tolls) on.here on.at t (so.stays.course.document t one) in
+        let so_far = on.cost tolls in
+        let all = siblings_are (place_toll m.course) t on.here (there on.here on.at t (so.stays.course.document t one)) in
+        let down = place_toll_less m.course m'.course so.stays.course Down on.here in
+        let below = trees_less (place_toll m.course) (place_toll m'.course) (place_toll_less m.course m'.course so.stays.course) (first_kids (trees_at (alone t) on.here)) (child_place on.here) in
+        omega (arith, own, so_far, all, down, below)
+
+  -- and costs no more
+  pub printed_costs : CostsOn m first fills fills'' siblings_toll
+  printed_costs tolls p at t one = let h = paid p at t one tolls in omega (arith, h)
+
+  module _ (fills3 : ℕ) (m3 : Meaning V W) (stays3 : Stays m'' m3) (right : CostsOn m'' node fills'' fills3 (λ toll t p. toll Right p)) where
+    -- the way to its next sibling was paid for
+    paid_right : (p : List ℕ) (at : m.IsAt first p) (t : LabelledTree) (one : m.course.IsDocument t) → m.course.HasTolls
+        → fills3 + toll_from (trees_toll (place_toll m.course) (behind (trees_at (alone t) (on p at t one).here))) (next_place (on p at t one).here) ≤ fills + siblings_toll (place_toll m.course) t p
+    paid_right p at t one tolls =
+        let h = paid p at t one tolls in
+        let both = stays_twice so.stays stays in
+        let step = right (both.course.tolls tolls) (on p at t one).here (stays.place node (on p at t one).here (on p at t one).at) t (both.course.document t one) in
+        let less = place_toll_less m.course m''.course both.course Right (on p at t one).here in
+        omega (arith, h, step, less)
+
+    pub right_costs : CostsOn m first fills fills3 siblings_toll
+    right_costs tolls p at t one = let h = paid_right p at t one tolls in omega (arith, h)
+
+    module _ (now' : List ℕ) (tree' : PrintsTree m' node now now') where
+      -- the subtree of the node, and those behind it
+      own_trees : (p : List ℕ) (at : m.IsAt first p) (t : LabelledTree) (one : m.course.IsDocument t)
+          → trees_at (alone t) (on p at t one).here ≡ tree tree'.subtree.label tree'.subtree.kids (behind (trees_at (alone t) (on p at t one).here))
+      own_trees p at t one = trees_of t tree'.subtree (on p at t one).here (tree'.place (on p at t one).here (on p at t one).at t (so.stays.course.document t one))
+
+      -- there is no next sibling
+      pub printed_all : IsStepTo m'' m3 Right node None → PrintsTrees m first before now'
+      printed_all step =
+          let u = tree'.subtree in
+          let all = trees_behind so.front tree'.subtree in record {
+            label = all.0;
+            kids = all.1;
+            rest = all.2;
+            text = tree'.text ∙ ap (λ x. now ++ x) (sym (canon_alone tree'.subtree)) ∙ so.text tree'.subtree.label tree'.subtree.kids none ∙ ap (λ f. before ++ canon_trees f) all.3;
+            place = λ p at t one.
+                let here = (on p at t one).here in
+                let both = stays_twice so.stays stays in
+                let last : behind (trees_at (alone t) (on p at t one).here) ≡ none =
+                behind_none t (on p at t one).here (step.place (on p at t one).here (stays.place node (on p at t one).here (on p at t one).at) t (both.course.document t one)) in
+                (on p at t one).trees ∙ ap (followed so.front) (own_trees p at t one ∙ ap (tree tree'.subtree.label tree'.subtree.kids) last) ∙ all.3;
+          }
+
+      -- there is one, and a comma was put behind the text
+      pub printed_more : (next : V) → IsStepTo m'' m3 Right node (Some next) → (now'' : List ℕ) → now'' ≡ now' ++ 44 ∷ [] → ArePrinted m m3 fills fills3 before now'' first next
+      printed_more next step now'' comma =
+          let both = stays_twice so.stays stays in record {
+            stays = stays_twice (stays_twice so.stays stays) stays3;
+            is_node = step.node;
+            low = let a = so.low in let b = stays.height node so.is_node in let c = step.smaller.1 in omega (arith, a, b, c);
+            front = followed so.front (tree tree'.subtree.label tree'.subtree.kids none);
+            text = λ label kids rest.
+                ap (λ x. x ++ canon_trees (tree label kids rest)) (comma ∙ ap (λ x. x ++ 44 ∷ []) tree'.text)
+                ∙ joined now (canon tree'.subtree) (canon_trees (tree label kids rest))
+                ∙ ap (λ x. now ++ x) (sym (canon_front tree'.subtree label kids rest))
+                ∙ so.text tree'.subtree.label tree'.subtree.kids (tree label kids rest)
+                ∙ ap (λ f. before ++ canon_trees f) (sym (followed_assoc so.front (tree tree'.subtree.label tree'.subtree.kids none) (tree label kids rest)));
+            place = λ p at t one.
+                let moved = (step.place (on p at t one).here (stays.place node (on p at t one).here (on p at t one).at) t (both.course.document t one)).1 in
+                let behind_is : behind (trees_at (alone t) (on p at t one).here) ≡ trees_at (alone t) moved.0 = sym (trees_at-next (alone t) (on p at t one).here moved.0 moved.1) in
+                record {
+                  here = moved.0;
+                  at = moved.2;
+                  trees = (on p at t one).trees ∙ ap (followed so.front) (own_trees p at t one ∙ ap (tree tree'.subtree.label tree'.subtree.kids) behind_is)
+                      ∙ sym (followed_assoc so.front (tree tree'.subtree.label tree'.subtree.kids none) (trees_at (alone t) moved.0));
+                  cost = λ tolls.
+                      let h = paid_right p at t one tolls in
+                      let e = ap (toll_from (trees_toll (place_toll m.course) (behind (trees_at (alone t) (on p at t one).here)))) moved.1 in
+                      let k = ap (λ f. trees_toll (place_toll m.course) f moved.0) behind_is in
+                      omega (arith, h, e, k);
+                };
+          }
+        where
+          joined : (x y z : List ℕ) → ((x ++ y) ++ 44 ∷ []) ++ z ≡ x ++ (y ++ 44 ∷ z)
+          joined x y z = append_assoc (x ++ y) (44 ∷ []) z ∙ append_assoc x y (44 ∷ z)

@@ -1,0 +1,87 @@
+use Rattle.std.proofs.Common.{◌≡◌, ◌∙◌, false, true, sym}
+use Rattle.std.specs.Str.{bytes_eq}
+use Rattle.lxp_core.specs.View.{Keeps}
+use Rattle.mix_session.proofs.Searches.{sought_found, sought_costs, more_costs, sought_more, sought_none}
+use Rattle.mix_session.proofs.searching.search.Goals as goal
+
+pub returns-then-same_label-clause-found : goal.returns-then-same_label-clause-found
+returns-then-same_label-clause-found g c =
+    let view = g.S.Sources.view in
+    let m = g.W.Walker.means (view c.args.s.now) c.args.walker.now in
+    let m' = g.W.Walker.means (view c.siblings.s) c.siblings.walker in
+    let so = c.siblings.invariant.sought in
+    let reads = c.read_label.ensures (view c.siblings.s) so.stays.ready in
+    sought_found m c.args.label.now c.args.first m' (view c.args.s.now).fills (view c.siblings.s).fills c.siblings.node so c.read_label.result.now reads
+    (view c.args.s.now).faults (view c.siblings.s).faults (sym c.same_label.ensures ∙ c.if-same_label.true)
+
+pub returns-then-same_label-clause-cost : goal.returns-then-same_label-clause-cost
+returns-then-same_label-clause-cost g c =
+    let view = g.S.Sources.view in
+    let m = g.W.Walker.means (view c.args.s.now) c.args.walker.now in
+    let m' = g.W.Walker.means (view c.siblings.s) c.siblings.walker in
+    let so = c.siblings.invariant.sought in
+    let reads = c.read_label.ensures (view c.siblings.s) so.stays.ready in
+    sought_costs m c.args.label.now c.args.first m' (view c.args.s.now).fills (view c.siblings.s).fills c.siblings.node so c.read_label.result.now reads
+
+pub returns-in_err-next-clause-cost : goal.returns-in_err-next-clause-cost
+returns-in_err-next-clause-cost g c =
+    let view = g.S.Sources.view in
+    let m = g.W.Walker.means (view c.args.s.now) c.args.walker.now in
+    let m' = g.W.Walker.means (view c.siblings.s) c.siblings.walker in
+    let m'' = g.W.Walker.means (view c.seek.new.s) c.seek.new.self in
+    let so = c.siblings.invariant.sought in
+    let reads = c.read_label.ensures (view c.siblings.s) so.stays.ready in
+    let other : bytes_eq c.read_label.result.now c.args.label.now ≡ false = sym c.same_label.ensures ∙ c.if-same_label.false in
+    more_costs m c.args.label.now c.args.first m' (view c.args.s.now).fills (view c.siblings.s).fills c.siblings.node so c.read_label.result.now reads m'' (view c.seek.new.s).fills other c.seek.ensures.stays c.seek.ensures.toll
+
+pub returns-in-None-clause-cost : goal.returns-in-None-clause-cost
+returns-in-None-clause-cost g c =
+    let view = g.S.Sources.view in
+    let m = g.W.Walker.means (view c.args.s.now) c.args.walker.now in
+    let m' = g.W.Walker.means (view c.siblings.s) c.siblings.walker in
+    let m'' = g.W.Walker.means (view c.seek.new.s) c.seek.new.self in
+    let so = c.siblings.invariant.sought in
+    let reads = c.read_label.ensures (view c.siblings.s) so.stays.ready in
+    let other : bytes_eq c.read_label.result.now c.args.label.now ≡ false = sym c.same_label.ensures ∙ c.if-same_label.false in
+    more_costs m c.args.label.now c.args.first m' (view c.args.s.now).fills (view c.siblings.s).fills c.siblings.node so c.read_label.result.now reads m'' (view c.seek.new.s).fills other c.seek.ensures.stays c.seek.ensures.toll
+
+pub returns-in-Fault-clause-cost : goal.returns-in-Fault-clause-cost
+returns-in-Fault-clause-cost g c =
+    let view = g.S.Sources.view in
+    let m = g.W.Walker.means (view c.args.s.now) c.args.walker.now in
+    let m' = g.W.Walker.means (view c.siblings.s) c.siblings.walker in
+    let m'' = g.W.Walker.means (view c.seek.new.s) c.seek.new.self in
+    let so = c.siblings.invariant.sought in
+    let reads = c.read_label.ensures (view c.siblings.s) so.stays.ready in
+    let other : bytes_eq c.read_label.result.now c.args.label.now ≡ false = sym c.same_label.ensures ∙ c.if-same_label.false in
+    more_costs m c.args.label.now c.args.first m' (view c.args.s.now).fills (view c.siblings.s).fills c.siblings.node so c.read_label.result.now reads m'' (view c.seek.new.s).fills other c.seek.ensures.stays c.seek.ensures.toll
+
+pub siblings-preserved : goal.siblings-preserved
+siblings-preserved g c =
+    let view = g.S.Sources.view in
+    let m = g.W.Walker.means (view c.args.s.now) c.args.walker.now in
+    let m' = g.W.Walker.means (view c.siblings.s) c.siblings.walker in
+    let m'' = g.W.Walker.means (view c.seek.new.s) c.seek.new.self in
+    let so = c.siblings.invariant.sought in
+    let reads = c.read_label.ensures (view c.siblings.s) so.stays.ready in
+    let other : bytes_eq c.read_label.result.now c.args.label.now ≡ false = sym c.same_label.ensures ∙ c.if-same_label.false in
+    let keeps : Keeps (view c.siblings.s) (view c.args.s.now) = g.met.S.Sources.keeps _ _ c.siblings.invariant.came in
+    record {
+      came = g.met.S.Sources.after _ _ _ c.siblings.invariant.came c.seek.ensures.came;
+      kept = g.met.W.Walker.twice _ _ _ _ _ _ c.siblings.invariant.kept c.seek.ensures.kept;
+      sought = sought_more m c.args.label.now c.args.first m' (view c.args.s.now).fills (view c.siblings.s).fills c.siblings.node so c.read_label.result.now reads m'' (view c.seek.new.s).fills other c.seek.ensures.stays
+          c.seek.ensures.toll (view c.args.s.now).faults (view c.siblings.s).faults (view c.seek.new.s).faults keeps.faults c.in_ok-next.field-0 c.in_ok-next.ensures.found c.in-Node.next c.in-Node.is;
+    }
+
+pub returns-in-None-clause-found : goal.returns-in-None-clause-found
+returns-in-None-clause-found g c =
+    let view = g.S.Sources.view in
+    let m = g.W.Walker.means (view c.args.s.now) c.args.walker.now in
+    let m' = g.W.Walker.means (view c.siblings.s) c.siblings.walker in
+    let m'' = g.W.Walker.means (view c.seek.new.s) c.seek.new.self in
+    let so = c.siblings.invariant.sought in
+    let reads = c.read_label.ensures (view c.siblings.s) so.stays.ready in
+    let other : bytes_eq c.read_label.result.now c.args.label.now ≡ false = sym c.same_label.ensures ∙ c.if-same_label.false in
+    let keeps : Keeps (view c.siblings.s) (view c.args.s.now) = g.met.S.Sources.keeps _ _ c.siblings.invariant.came in
+    sought_none m c.args.label.now c.args.first m' (view c.args.s.now).fills (view c.siblings.s).fills c.siblings.node so c.read_label.result.now reads m'' (view c.seek.new.s).fills other c.seek.ensures.stays
+    c.seek.ensures.toll (view c.args.s.now).faults (view c.siblings.s).faults (view c.seek.new.s).faults keeps.faults c.in_ok-next.field-0 c.in_ok-next.ensures.found c.in-None.is

@@ -1,0 +1,69 @@
+-- What printing comes to.
+use Rattle.std.specs.Prelude.{◌≡◌, ◌≤◌, ◌+◌, ℕ, true, List, [], ◌++◌, Option, Some, None, Result, Ok, Err, IfSome}
+use Rattle.mix_base.specs.Counts.{HasRisen}
+use Rattle.mix_tree.specs.Forest.{Forest, tree, LabelledTree, alone}
+use Rattle.mix_tree.specs.Place.{has_place, tree_at, trees_at}
+use Rattle.bracket_text.specs.Canonical.{canon, canon_trees}
+use Rattle.lazy_plan.specs.declared.fault.WalkFault.{WalkFault}
+use Rattle.lazy_plan.specs.declared.fault.WalkFault.TheVariants.{Failed, OutOfMemory}
+use Rattle.mix_script.specs.Trails.{place_to}
+use Rattle.mix_script.specs.declared.step.Way.{Way}
+use Rattle.mix_script.specs.declared.answer.Answer.{Answer}
+use Rattle.mix_script.specs.declared.answer.Answer.TheVariants as answer
+use Rattle.mix_session.specs.declared.walker.Found.{Found}
+use Rattle.mix_session.specs.declared.walker.Found.TheVariants as found
+use Rattle.mix_session.specs.Meaning.{Course, Meaning}
+use Rattle.mix_session.specs.Seeking.{IsMoved, IsSmaller}
+
+-- the toll of a way from a place of the document
+abbrev pub place_toll : {W : Type 0} → Course W → Way → List ℕ → ℕ
+place_toll c way p = c.toll way (c.at p)
+
+-- a source that is said to have failed is one that may, and its count of faults rose
+abbrev pub FailsBy : {X : Type 0} → (ℕ → Type 0) → (ℕ → ℕ) → (ℕ → ℕ) → Result X WalkFault → Type 0
+FailsBy MayFail before after (Ok x) = Unit {0}
+FailsBy MayFail before after (Err (Failed s)) = MayFail s × HasRisen (before s) (after s)
+FailsBy MayFail before after (Err OutOfMemory) = Unit {0}
+
+-- the canonical text of a tree was put behind a text; where a node stands at a place of the document, it is the subtree there
+pub record PrintsTree {V W : Type 0} (m : Meaning V W) (n : V) (before after : List ℕ) : Type 0 where
+  pub subtree : LabelledTree
+  pub text : after ≡ before ++ canon subtree
+  pub place : (p : List ℕ) → m.IsAt n p → (t : LabelledTree) → m.course.IsDocument t → tree_at t p ≡ Some subtree
+
+-- so was that of one or more trees, with commas between them: the subtree of a node, and those of its later siblings
+pub record PrintsTrees {V W : Type 0} (m : Meaning V W) (n : V) (before after : List ℕ) : Type 0 where
+  pub label : List ℕ
+  pub kids : Forest
+  pub rest : Forest
+  pub text : after ≡ before ++ canon_trees (tree label kids rest)
+  pub place : (p : List ℕ) → m.IsAt n p → (t : LabelledTree) → m.course.IsDocument t → trees_at (alone t) p ≡ tree label kids rest
+
+-- from a node at a place of the document at most so many fills were asked as a toll of that place says
+abbrev pub CostsOn : {V W : Type 0} → Meaning V W → V → ℕ → ℕ → ((Way → List ℕ → ℕ) → LabelledTree → List ℕ → ℕ) → Type 0
+CostsOn m n fills fills' toll =
+    m.course.HasTolls → (p : List ℕ) → m.IsAt n p → (t : LabelledTree) → m.course.IsDocument t → fills' ≤ fills + toll (place_toll m.course) t p
+
+-- where a node stands at a place of the document, the document has that place
+abbrev pub IsThere : {V W : Type 0} → Meaning V W → V → Type 0
+IsThere m n = (p : List ℕ) → m.IsAt n p → (t : LabelledTree) → m.course.IsDocument t → has_place (alone t) p ≡ true
+
+-- a node or none, as what a search comes to
+abbrev pub found_as : {V : Type 0} → Option V → Found V
+found_as None = found.None
+found_as (Some n) = found.Node n
+
+-- a way from a node leads to a node, or to none where there is none
+pub record IsStepTo {V W : Type 0} (m m' : Meaning V W) (way : Way) (n : V) (r : Option V) : Type 0 where
+  pub node : IfSome r m'.IsNode
+  pub place : (p : List ℕ) → m.IsAt n p → (t : LabelledTree) → m.course.IsDocument t → IsMoved m'.IsAt t (place_to way p) (found_as r)
+  pub smaller : IfSome r (IsSmaller m m' way n)
+
+-- an answer is the canonical text of the subtree of a node, or a fault of a source that may fail and whose count of faults rose
+abbrev pub IsPrinted : {V W : Type 0} → Meaning V W → (ℕ → ℕ) → (ℕ → ℕ) → V → Answer → Type 0
+IsPrinted m before after n answer.Node = ⊥
+IsPrinted m before after n answer.None = ⊥
+IsPrinted m before after n (answer.Label l) = ⊥
+IsPrinted m before after n (answer.Text x) = PrintsTree m n [] x
+IsPrinted m before after n answer.NoNode = ⊥
+IsPrinted m before after n (answer.Fault s) = m.course.MayFail s × HasRisen (before s) (after s)
