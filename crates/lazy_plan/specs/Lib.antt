@@ -1,6 +1,5 @@
 pub mod Bench
 pub mod Cursors
-pub mod Faults
 pub mod Keeping
 pub mod KeyLaws
 pub mod Keys

@@ -10,7 +10,7 @@ use Rattle.tree_buffer.specs.declared.spot.Spot.{Spot}
 use Rattle.lazy_descend.specs.declared.cursor.DescCursor.{DescCursor}
 use Rattle.plan_core.specs.Plans.{Operator}
 use Rattle.plan_core.specs.TolledRows.{row_node}
-use Rattle.lazy_plan.specs.declared.fault.WalkFault.{WalkFault}
+use Rattle.lxp_core.specs.declared.fault.WalkFault.{WalkFault}
 use Rattle.lazy_plan.specs.declared.parts.Growing.{Growing}
 use Rattle.lazy_plan.specs.declared.visits.Visit.{Visit}
 use Rattle.lazy_plan.specs.World.{World, docs_of, place_in, bound_of, match_ahead, match_number}

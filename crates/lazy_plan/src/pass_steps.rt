@@ -5,12 +5,11 @@ ghost use Rattle.plan_core.specs.Shapes.{filters, extends, first_by_keys, passes
 ghost use Rattle.lazy_plan.specs.Parts.{shape_walked};
 ghost use Rattle.lazy_plan.specs.Steps.{CanWalk, StepsOn};
 
-use crate::fault::WalkFault;
 use crate::firsts::{KeyEvent, first_of_key, seen_up_to};
 use crate::parts::{Growing, Walk};
 use crate::position::{Position, inside, put};
 use crate::step::Step;
-use lxp_core::Sources;
+use lxp_core::{Sources, WalkFault};
 use mix_tree::{Key, Test};
 use std::alloc::Global;
 use std::rc::Rc;

@@ -1,3 +1,4 @@
+pub mod Causes
 pub mod Opens
 pub mod Plains
 pub mod Views

@@ -1,3 +1,4 @@
+pub mod Causes
 pub mod Open
 pub mod Plain
 pub mod View

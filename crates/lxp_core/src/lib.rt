@@ -5,6 +5,6 @@ mod fault;
 mod open_tree;
 mod sources;
 
-pub use fault::SourceFault;
+pub use fault::{SourceFault, WalkFault};
 pub use open_tree::{HoleId, OpenTree};
 pub use sources::Sources;

@@ -5,13 +5,13 @@ use Rattle.mix_tree.specs.Forest.{LabelledTree, alone}
 use Rattle.mix_tree.specs.Place.{has_place}
 use Rattle.mix_tree.specs.Nodes.{Documents}
 use Rattle.lxp_core.specs.View.{View}
+use Rattle.lxp_core.specs.declared.fault.WalkFault.{WalkFault}
+use Rattle.lxp_core.specs.declared.fault.WalkFault.TheVariants as walk
 use Rattle.plan_core.specs.declared.plan.Plan.{Plan}
 use Rattle.plan_core.specs.PlanMade.{plan_value}
 use Rattle.plan_core.specs.Plans.{Operator, document}
 use Rattle.plan_core.specs.Events.{visited}
 use Rattle.lazy_plan.specs.declared.bench.Bench.{Bench}
-use Rattle.lazy_plan.specs.declared.fault.WalkFault.{WalkFault}
-use Rattle.lazy_plan.specs.declared.fault.WalkFault.TheVariants as walk
 use Rattle.lazy_plan.specs.Bench.{BenchState, KeepsBench, IsBenchOf, ops_of, told, documents}
 use Rattle.lazy_plan.specs.Bench as bench
 use Rattle.lazy_plan.specs.Cursors.{IsRead}
@@ -30,7 +30,7 @@ use Rattle.mix_session.specs.declared.walker.Found.{Found}
 use Rattle.mix_session.specs.declared.walker.Found.TheVariants as found
 use Rattle.mix_session.specs.Meaning.{Stays}
 use Rattle.mix_session.specs.Seeking.{IsSmaller, IfNode, HasCause, IsAsked, IsMoved, IsRoot, IsNext}
-use Rattle.mix_session.specs.Refusals.{of_plan}
+use Rattle.mix_session.specs.Refusals.{of_walk}
 use Rattle.mix_session.specs.Walks.{IsDocument, place_toll, plan_meaning}
 
 -- each source that the plan of a bench reads is there
@@ -98,14 +98,14 @@ Lifts P (Ok (Some n)) = P (found.Node n)
 Lifts P (Err fault) = Unit {0}
 
 -- and of each fault that it named
-lifted : (P : Found NodeId → Type 0) (o : Result (Option NodeId) WalkFault) (r : Found NodeId) → of_plan o r → Lifts P o → ((s : ℕ) → o ≡ Err (walk.Failed s) → P (found.Fault s)) → P r
+lifted : (P : Found NodeId → Type 0) (o : Result (Option NodeId) WalkFault) (r : Found NodeId) → of_walk o r → Lifts P o → ((s : ℕ) → o ≡ Err (walk.Failed s) → P (found.Fault s)) → P r
 lifted P (Ok None) r is h k = subst P (sym is) h
 lifted P (Ok (Some n)) r is h k = subst P (sym is) h
 lifted P (Err (walk.Failed s)) r is h k = subst P (sym is) (k s refl)
 lifted P (Err walk.OutOfMemory) r is h k = absurd is
 
 -- a refusal that has its cause
-caused : (ops : List Operator) (v v' : View) (o : Result (Option NodeId) WalkFault) (r : Found NodeId) → of_plan o r → steps.HasCause ops v v' o → HasCause (IsRead ops) v.faults v'.faults r
+caused : (ops : List Operator) (v v' : View) (o : Result (Option NodeId) WalkFault) (r : Found NodeId) → of_walk o r → steps.HasCause ops v v' o → HasCause (IsRead ops) v.faults v'.faults r
 caused ops v v' (Ok None) r is h = subst (HasCause (IsRead ops) v.faults v'.faults) (sym is) tt
 caused ops v v' (Ok (Some n)) r is h = subst (HasCause (IsRead ops) v.faults v'.faults) (sym is) tt
 caused ops v v' (Err (walk.Failed s)) r is h = subst (HasCause (IsRead ops) v.faults v'.faults) (sym is) (h.0, h.1)
@@ -153,7 +153,7 @@ fewer_right v v' m m' n (Ok (Some c)) h k = (h, k)
 fewer_right v v' m m' n (Err fault) h k = tt
 
 -- the node to which a way leads was sought
-pub plan_next : (v v' : View) (m m' : Mediator) (way : Way) (n : NodeId) (o : Result (Option NodeId) WalkFault) (r : Found NodeId) → of_plan o r → steps.HasCause (ops_of (state_of v m)) v v' o → IfOk o (GivesNode (state_of v' m'))
+pub plan_next : (v v' : View) (m m' : Mediator) (way : Way) (n : NodeId) (o : Result (Option NodeId) WalkFault) (r : Found NodeId) → of_walk o r → steps.HasCause (ops_of (state_of v m)) v v' o → IfOk o (GivesNode (state_of v' m'))
     → ((p : List ℕ) → IsAt (state_of v m) n p → IfOk o (GivesPlace (state_of v m) (state_of v' m') (place_to way p)))
     → Lifts (IfNode (IsSmaller (plan_meaning v m) (plan_meaning v' m') way n)) o → IsNext (plan_meaning v m) (plan_meaning v' m') v.faults v'.faults way n r
 plan_next v v' m m' way n o r is cause node place less =

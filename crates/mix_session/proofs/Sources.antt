@@ -1,17 +1,17 @@
 -- A buffer as a walker of its source's document.
 use Rattle.std.proofs.Common.{◌≡◌, ◌∙◌, ◌+◌, ◌≤◌, ℕ, true, false, cond, List, [], ◌∷◌, Option, Some, None, Result, Ok, Err, refl, ap, sym, subst, arith}
-use Rattle.std.specs.Prelude.{IfOk, IfSome, IsErrOf, is_some, option_map}
-use Rattle.mix_base.specs.Counts.{HasRisen}
+use Rattle.std.specs.Prelude.{IfOk, IfErr, IfSome, is_some, option_map}
 use Rattle.mix_tree.specs.Forest.{Forest, none, tree, LabelledTree, alone, first_kids, first_label, first_tree}
 use Rattle.mix_tree.specs.Place.{has_place, trees_at, child_place, next_place}
 use Rattle.mix_tree.proofs.Places.{trees_at_none}
+use Rattle.lxp_core.specs.Causes as Causes
 use Rattle.lxp_core.specs.View.{View, document}
+use Rattle.lxp_core.specs.declared.fault.WalkFault.{WalkFault}
+use Rattle.lxp_core.specs.declared.fault.WalkFault.TheVariants as walk
 use Rattle.tree_buffer.specs.declared.buffer.Buffer.{Buffer}
 use Rattle.tree_buffer.specs.declared.spot.Spot.{Spot}
-use Rattle.tree_buffer.specs.declared.fault.BufferFault.{BufferFault}
-use Rattle.tree_buffer.specs.declared.fault.BufferFault.TheVariants as buffer
 use Rattle.tree_buffer.specs.Document.{document_node, has_given, has_next}
-use Rattle.tree_buffer.specs.Buffer.{IsSpot, IsSourcesOf, Goes, number_of, place_of, label_of, below, after, from_spot, IsChildSpot, IsNextSpot}
+use Rattle.tree_buffer.specs.Buffer.{IsSpot, IsSourceOf, IsSourcesOf, Goes, number_of, place_of, label_of, below, after, from_spot, IsChildSpot, IsNextSpot}
 use Rattle.mix_script.specs.Transcript.{move_answer}
 use Rattle.mix_script.specs.declared.step.Way.TheVariants.{Down, Right}
 use Rattle.mix_script.specs.declared.answer.Answer.TheVariants as answer
@@ -19,21 +19,21 @@ use Rattle.mix_session.specs.declared.walker.Found.{Found}
 use Rattle.mix_session.specs.declared.walker.Found.TheVariants as found
 use Rattle.mix_session.specs.Meaning.{Stays}
 use Rattle.mix_session.specs.Seeking.{IsSmaller, IfNode, HasCause, IsAsked, IsMoved, IsRoot, IsNext, ReadsLabel}
-use Rattle.mix_session.specs.Refusals.{of_source}
+use Rattle.mix_session.specs.Refusals.{of_walk}
 use Rattle.mix_session.specs.Walks.{IsPlace, source_meaning}
 
 -- what is said of what a buffer found, where it refused nothing
-abbrev Lifts : (Found Spot → Type 0) → Result (Option Spot) BufferFault → Type 0
+abbrev Lifts : (Found Spot → Type 0) → Result (Option Spot) WalkFault → Type 0
 Lifts P (Ok None) = P found.None
 Lifts P (Ok (Some x)) = P (found.Node x)
 Lifts P (Err fault) = Unit {0}
 
--- and where it failed
-lifted : (P : Found Spot → Type 0) (n : ℕ) (o : Result (Option Spot) BufferFault) (r : Found Spot) → of_source n o r → Lifts P o → (IsErrOf o buffer.Failed → P (found.Fault n)) → P r
-lifted P n (Ok None) r is h k = subst P (sym is) h
-lifted P n (Ok (Some x)) r is h k = subst P (sym is) h
-lifted P n (Err buffer.Failed) r is h k = subst P (sym is) (k refl)
-lifted P n (Err buffer.OutOfMemory) r is h k = absurd is
+-- and of each fault that it named
+lifted : (P : Found Spot → Type 0) (o : Result (Option Spot) WalkFault) (r : Found Spot) → of_walk o r → Lifts P o → ((s : ℕ) → o ≡ Err (walk.Failed s) → P (found.Fault s)) → P r
+lifted P (Ok None) r is h k = subst P (sym is) h
+lifted P (Ok (Some x)) r is h k = subst P (sym is) h
+lifted P (Err (walk.Failed s)) r is h k = subst P (sym is) (k s refl)
+lifted P (Err walk.OutOfMemory) r is h k = absurd is
 
 -- the document node above a tree
 abbrev above : LabelledTree → Forest
@@ -44,12 +44,12 @@ node_is : (v : View) (n : ℕ) (t : LabelledTree) → document v n ≡ alone t �
 node_is v n t e = ap (λ f. tree [] f none) e
 
 -- an exact answer over a document that is one tree
-exact_on : (o : Result (Option Spot) BufferFault) (P : Type 0) (x y : Option Spot → Type 0) → P → ((r : Option Spot) → x r → y r) → IfOk o (λ r. P → x r) → IfOk o y
+exact_on : (o : Result (Option Spot) WalkFault) (P : Type 0) (x y : Option Spot → Type 0) → P → ((r : Option Spot) → x r → y r) → IfOk o (λ r. P → x r) → IfOk o y
 exact_on (Ok r) P x y h f k = f r (k h)
 exact_on (Err fault) P x y h f k = tt
 
 -- what `down` found from a place of a tree
-moved_down : (t : LabelledTree) (b : Buffer) (x : Spot) (place : List ℕ) (o : Result (Option Spot) BufferFault) → place_of b x ≡ place
+moved_down : (t : LabelledTree) (b : Buffer) (x : Spot) (place : List ℕ) (o : Result (Option Spot) WalkFault) → place_of b x ≡ place
     → IfOk o (λ r. IfSome r (IsChildSpot b x 0)) → IfOk o (λ r. is_some r ≡ has_place (above t) (child_place place))
     → (goal : List ℕ) → child_place place ≡ 0 ∷ goal → Lifts (IsMoved (IsPlace b) t (Some goal)) o
 moved_down t b x place (Ok None) at child exact goal e = ap (λ h. cond h answer.Node answer.None) (sym (exact ∙ ap (has_place (above t)) e))
@@ -83,7 +83,7 @@ next_is (i ∷ place) q e t h = given (next_place (i ∷ place)) e h
     given (Some goal) k there = (goal, refl, ap tail_of k)
 
 -- what `right` found from a place of a tree
-moved_right : (t : LabelledTree) (b : Buffer) (x : Spot) (place : List ℕ) (o : Result (Option Spot) BufferFault) → place_of b x ≡ 0 ∷ place
+moved_right : (t : LabelledTree) (b : Buffer) (x : Spot) (place : List ℕ) (o : Result (Option Spot) WalkFault) → place_of b x ≡ 0 ∷ place
     → IfOk o (λ r. IfSome r (IsNextSpot b x)) → IfOk o (λ r. is_some r ≡ has_next (above t) (0 ∷ place)) → Lifts (IsMoved (IsPlace b) t (next_place place)) o
 moved_right t b x place (Ok None) at next exact = nowhere (next_place place) (exact ∙ next_above t place)
   where
@@ -100,19 +100,19 @@ moved_right t b x place (Ok (Some q)) at next exact =
 moved_right t b x place (Err fault) at next exact = tt
 
 -- what is said of each child that was found
-child_found : (P : Spot → Type 0) (b : Buffer) (x : Spot) (o : Result (Option Spot) BufferFault) → ((c : Spot) → IsSpot b c → P c) → IfOk o (λ r. IfSome r (IsChildSpot b x 0)) → Lifts (IfNode P) o
+child_found : (P : Spot → Type 0) (b : Buffer) (x : Spot) (o : Result (Option Spot) WalkFault) → ((c : Spot) → IsSpot b c → P c) → IfOk o (λ r. IfSome r (IsChildSpot b x 0)) → Lifts (IfNode P) o
 child_found P b x (Ok None) f h = tt
 child_found P b x (Ok (Some c)) f h = f c h.spot
 child_found P b x (Err fault) f h = tt
 
 -- and of each next sibling
-next_found : (P : Spot → Type 0) (b : Buffer) (x : Spot) (o : Result (Option Spot) BufferFault) → ((c : Spot) → IsSpot b c → P c) → IfOk o (λ r. IfSome r (IsNextSpot b x)) → Lifts (IfNode P) o
+next_found : (P : Spot → Type 0) (b : Buffer) (x : Spot) (o : Result (Option Spot) WalkFault) → ((c : Spot) → IsSpot b c → P c) → IfOk o (λ r. IfSome r (IsNextSpot b x)) → Lifts (IfNode P) o
 next_found P b x (Ok None) f h = tt
 next_found P b x (Ok (Some c)) f h = f c h.spot
 next_found P b x (Err fault) f h = tt
 
 -- no cause is asked of what was found
-found_cause : (MayFail : ℕ → Type 0) (before after : ℕ → ℕ) (o : Result (Option Spot) BufferFault) → Lifts (HasCause MayFail before after) o
+found_cause : (MayFail : ℕ → Type 0) (before after : ℕ → ℕ) (o : Result (Option Spot) WalkFault) → Lifts (HasCause MayFail before after) o
 found_cause MayFail before after (Ok None) = tt
 found_cause MayFail before after (Ok (Some x)) = tt
 found_cause MayFail before after (Err fault) = tt
@@ -140,32 +140,31 @@ module _ (v v' : View) (b b' : Buffer) (goes : Goes v b v' b') where
   }
 
   -- the numbers of a child that was found
-  smaller_down : (x : Spot) (o : Result (Option Spot) BufferFault) → IfOk o (λ r. IfSome r (λ c. from_spot v' b' c ≤ below v b x))
+  smaller_down : (x : Spot) (o : Result (Option Spot) WalkFault) → IfOk o (λ r. IfSome r (λ c. from_spot v' b' c ≤ below v b x))
       → Lifts (IfNode (IsSmaller (source_meaning v b) (source_meaning v' b') Down x)) o
   smaller_down x (Ok None) h = tt
   smaller_down x (Ok (Some c)) h = let less : 1 + below v' b' c + after v' b' c ≤ below v b x = h in omega (arith, less)
   smaller_down x (Err fault) h = tt
 
   -- and of a next sibling
-  smaller_right : (x : Spot) (o : Result (Option Spot) BufferFault) → IfOk o (λ r. IfSome r (λ c. from_spot v' b' c ≤ after v b x))
+  smaller_right : (x : Spot) (o : Result (Option Spot) WalkFault) → IfOk o (λ r. IfSome r (λ c. from_spot v' b' c ≤ after v b x))
       → Lifts (IfNode (IsSmaller (source_meaning v b) (source_meaning v' b') Right x)) o
   smaller_right x (Ok None) h = tt
   smaller_right x (Ok (Some c)) h = let less : 1 + below v' b' c + after v' b' c ≤ after v b x = h in (omega (arith, less), omega (arith, less))
   smaller_right x (Err fault) h = tt
 
-  module _ (n : ℕ) (own : n ≡ number_of b) (o : Result (Option Spot) BufferFault) (r : Found Spot) (is : of_source n o r)
-      (failed : IsErrOf o buffer.Failed → HasRisen (v.faults (number_of b)) (v'.faults (number_of b))) where
+  module _ (o : Result (Option Spot) WalkFault) (r : Found Spot) (is : of_walk o r) (refused : Causes.HasCause (IsSourceOf b) v v' o) where
     cause : HasCause (λ s. s ≡ number_of b) v.faults v'.faults r
-    cause = lifted (HasCause (λ s. s ≡ number_of b) v.faults v'.faults) n o r is (found_cause (λ s. s ≡ number_of b) v.faults v'.faults o)
-        (λ e. (own, subst (λ k. HasRisen (v.faults k) (v'.faults k)) (sym own) (failed e)))
+    cause = lifted (HasCause (λ s. s ≡ number_of b) v.faults v'.faults) o r is (found_cause (λ s. s ≡ number_of b) v.faults v'.faults o)
+        (λ s e. subst (λ z. IfErr z (Causes.HasRose (IsSourceOf b) v v')) e refused)
 
     -- a node was found
     given : (P : Spot → Type 0) → Lifts (IfNode P) o → IfNode P r
-    given P h = lifted (IfNode P) n o r is h (λ e. tt)
+    given P h = lifted (IfNode P) o r is h (λ s e. tt)
 
     -- a place was found
     moved : (t : LabelledTree) (goal : Option (List ℕ)) → Lifts (IsMoved (IsPlace b') t goal) o → IsMoved (IsPlace b') t goal r
-    moved t goal h = lifted (IsMoved (IsPlace b') t goal) n o r is h (λ e. tt)
+    moved t goal h = lifted (IsMoved (IsPlace b') t goal) o r is h (λ s e. tt)
 
     -- the first child was sought
     pub source_down : (x : Spot) → IsSpot b x → IfOk o (λ r. IfSome r (IsChildSpot b' x 0))

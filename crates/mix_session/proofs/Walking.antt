@@ -4,8 +4,8 @@ use Rattle.mix_tree.specs.Forest.{Forest, none, tree, LabelledTree, alone, first
 use Rattle.mix_tree.specs.Place.{trees_at, next_place}
 use Rattle.mix_base.specs.Counts.{HasRisen}
 use Rattle.mix_base.proofs.Risen.{risen_before}
-use Rattle.lazy_plan.specs.declared.fault.WalkFault.{WalkFault}
-use Rattle.lazy_plan.specs.declared.fault.WalkFault.TheVariants.{Failed, OutOfMemory}
+use Rattle.lxp_core.specs.declared.fault.WalkFault.{WalkFault}
+use Rattle.lxp_core.specs.declared.fault.WalkFault.TheVariants.{Failed, OutOfMemory}
 use Rattle.mix_script.specs.declared.step.Way.{Way}
 use Rattle.mix_session.specs.declared.walker.Found.{Found}
 use Rattle.mix_session.specs.declared.walker.Found.TheVariants as found

@@ -4,8 +4,8 @@ use Rattle.mix_base.specs.Counts.{HasRisen}
 use Rattle.mix_tree.specs.Forest.{Forest, tree, LabelledTree, alone}
 use Rattle.mix_tree.specs.Place.{has_place, tree_at, trees_at}
 use Rattle.bracket_text.specs.Canonical.{canon, canon_trees}
-use Rattle.lazy_plan.specs.declared.fault.WalkFault.{WalkFault}
-use Rattle.lazy_plan.specs.declared.fault.WalkFault.TheVariants.{Failed, OutOfMemory}
+use Rattle.lxp_core.specs.declared.fault.WalkFault.{WalkFault}
+use Rattle.lxp_core.specs.declared.fault.WalkFault.TheVariants.{Failed, OutOfMemory}
 use Rattle.mix_script.specs.Trails.{place_to}
 use Rattle.mix_script.specs.declared.step.Way.{Way}
 use Rattle.mix_script.specs.declared.answer.Answer.{Answer}

@@ -1,26 +1,10 @@
 // The document of a plan, walked by a mediator.
-ghost use Rattle.std.specs.Prelude.{IfOk};
-ghost use Rattle.mix_session.specs.Refusals.{of_plan};
-
-use crate::walker::{Found, Walker};
-use lazy_plan::WalkFault;
+use crate::walker::{Found, Walker, found_in};
 use lazy_value::{Mediator, NodeId};
 use lxp_core::Sources;
 use mix_script::Way;
 use mix_tree::Label;
 use std::alloc::{AllocError, Global};
-
-// What a mediator found.
-fn found_in(found: Result<Option<NodeId>, WalkFault>) -> Result<Found<NodeId>, AllocError>
-    ensures { IfOk result (of_plan found) }
-{
-    match found {
-        Ok(Some(node)) => Ok(Found::Node(node)),
-        Ok(None) => Ok(Found::None),
-        Err(WalkFault::Failed(source)) => Ok(Found::Fault(source)),
-        Err(WalkFault::OutOfMemory) => Err(AllocError),
-    }
-}
 
 impl Walker for Mediator {
     ghost use Rattle.std.specs.Prelude.{List, ℕ};

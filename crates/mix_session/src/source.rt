@@ -1,28 +1,10 @@
 // The document of one source, walked by a buffer.
-ghost use Rattle.std.specs.Prelude.{◌≡◌, IfOk, Result, Option};
-ghost use Rattle.mix_session.specs.Refusals.{of_source};
-
-use crate::walker::{Found, Walker};
+use crate::walker::{Found, Walker, found_in};
 use lxp_core::Sources;
 use mix_script::Way;
 use mix_tree::Label;
 use std::alloc::{AllocError, Global};
-use tree_buffer::{Buffer, BufferFault, Spot};
-
-// What the buffer of the source of this number found.
-fn found_in(
-    number: u32,
-    found: Result<Option<Spot>, BufferFault>,
-) -> Result<Found<Spot>, AllocError>
-    ensures { IfOk result (of_source number found) }
-{
-    match found {
-        Ok(Some(spot)) => Ok(Found::Node(spot)),
-        Ok(None) => Ok(Found::None),
-        Err(BufferFault::Failed) => Ok(Found::Fault(number)),
-        Err(BufferFault::OutOfMemory) => Err(AllocError),
-    }
-}
+use tree_buffer::{Buffer, Spot};
 
 impl Walker for Buffer {
     ghost use Rattle.mix_session.specs.Walks.{source_meaning, SourceKept};
@@ -42,9 +24,8 @@ impl Walker for Buffer {
         alloc: Global,
         s: &mut S,
     ) -> Result<Found<Spot>, AllocError> {
-        let number = self.number();
         let top = self.top();
-        found_in(number, self.down(alloc, s, &top))
+        found_in(self.down(alloc, s, &top))
     }
 
     fn seek<S: Sources>(
@@ -54,10 +35,9 @@ impl Walker for Buffer {
         way: Way,
         n: &Spot,
     ) -> Result<Found<Spot>, AllocError> {
-        let number = self.number();
         match way {
-            Way::Down => found_in(number, self.down(alloc, s, n)),
-            Way::Right => found_in(number, self.right(alloc, s, n)),
+            Way::Down => found_in(self.down(alloc, s, n)),
+            Way::Right => found_in(self.right(alloc, s, n)),
         }
     }
 

@@ -2,9 +2,10 @@
 ghost use Rattle.std.specs.Prelude.{◌≤◌, ◌+◌, IfOk};
 ghost use Rattle.lxp_core.specs.View.{View};
 ghost use Rattle.mix_session.specs.Meaning.{Meaning, Stays};
+ghost use Rattle.mix_session.specs.Refusals.{of_walk};
 ghost use Rattle.mix_session.specs.Seeking.{IsRoot, IsNext, ReadsLabel};
 
-use lxp_core::Sources;
+use lxp_core::{Sources, WalkFault};
 use mix_script::Way;
 use mix_tree::Label;
 use std::alloc::{AllocError, Global};
@@ -15,6 +16,20 @@ pub enum Found<N> {
     Node(N),
     None,
     Fault(u32),
+}
+
+// What a buffer or a mediator found.
+pub(crate) fn found_in<N: Drop>(
+    found: Result<Option<N>, WalkFault>,
+) -> Result<Found<N>, AllocError>
+    ensures { IfOk result (of_walk found) }
+{
+    match found {
+        Ok(Some(node)) => Ok(Found::Node(node)),
+        Ok(None) => Ok(Found::None),
+        Err(WalkFault::Failed(source)) => Ok(Found::Fault(source)),
+        Err(WalkFault::OutOfMemory) => Err(AllocError),
+    }
 }
 
 /// A document over sources that is walked node by node.

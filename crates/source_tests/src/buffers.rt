@@ -1,9 +1,10 @@
 // What no clause says of buffers: that steps and walks succeed at each cutting, with fills counted by hand, again after each
 // fault, and over two documents.
 use crate::documents::{Cutting, document, joined, source};
+use lxp_core::WalkFault;
 use lxp_memory::MemSources;
 use std::test::Fail;
-use tree_buffer::{Buffer, BufferFault};
+use tree_buffer::Buffer;
 use walk_tree::{walk, walk_all, walk_two};
 
 const DOCUMENT: &str = "a[b[d,e],c]";
@@ -21,7 +22,7 @@ fn a_child_stands_at_its_place(rt: HostRuntime) -> Result<(), Fail> {
     let top = buffer.top();
     let root = buffer.down(alloc, &mut s, &top)?.ok_or("no root")?;
     // a fault leaves the node where it is
-    assert!(rt; buffer.down(alloc, &mut s, &root).err() == Some(BufferFault::Failed));
+    assert!(rt; buffer.down(alloc, &mut s, &root).err() == Some(WalkFault::Failed(0)));
     let b = buffer.down(alloc, &mut s, &root)?.ok_or("no child")?;
     let c = buffer.right(alloc, &mut s, &b)?.ok_or("no second child")?;
     assert_eq!(rt; buffer.place(alloc, &c)?.steps(), [0, 1].as_slice());
@@ -72,7 +73,7 @@ fn a_walk_answers_after_each_fault(rt: HostRuntime) -> Result<(), Fail> {
         let top = buffer.top();
         let mut out = Vec::new(alloc);
         assert!(rt;
-            walk(alloc, &mut s, &mut buffer, &top, &mut out).err() == Some(BufferFault::Failed)
+            walk(alloc, &mut s, &mut buffer, &top, &mut out).err() == Some(WalkFault::Failed(0))
         );
         let mut again = Vec::new(alloc);
         walk(alloc, &mut s, &mut buffer, &top, &mut again)?;

@@ -21,6 +21,10 @@ nodes_of b = nodes b.entries.items
 abbrev pub number_of : Buffer → ℕ
 number_of b = b.number
 
+-- the buffer is of the source of this number
+abbrev pub IsSourceOf : Buffer → ℕ → Type 0
+IsSourceOf b n = n ≡ number_of b
+
 -- the spot is one of the buffer's
 abbrev pub IsSpot : Buffer → Spot → Type 0
 IsSpot b x = x.number < length (nodes_of b).links

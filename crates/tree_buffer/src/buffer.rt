@@ -1,11 +1,10 @@
 // A buffer: the nodes of one source's document that were handed out, and what is known of the others.
-ghost use Rattle.std.specs.Prelude.{◌≡◌, ℕ, ◌+◌, ◌<◌, ◌≤◌, true, false, IfOk, IfSome, IsErrOf, is_some, IsTrue, ◌↔◌, []};
+ghost use Rattle.std.specs.Prelude.{◌≡◌, ℕ, ◌+◌, ◌<◌, ◌≤◌, true, false, IfOk, IfSome, is_some, IsTrue, ◌↔◌, []};
 ghost use Rattle.tree_buffer.specs.Entries.{AreLinked, HasBareTop};
 
-use crate::BufferFault;
 use crate::entry::Entry;
 use crate::spot::Spot;
-use lxp_core::{OpenTree, Sources};
+use lxp_core::{OpenTree, Sources, WalkFault};
 use mix_tree::{Label, Place};
 use std::alloc::{AllocError, Global};
 
@@ -20,14 +19,14 @@ pub struct Buffer {
 }
 
 impl Buffer {
-    ghost use Rattle.mix_base.specs.Counts.{HasRisen};
+    ghost use Rattle.lxp_core.specs.Causes.{HasCause};
     ghost use Rattle.mix_tree.specs.Forest.{first_kids, behind};
     ghost use Rattle.mix_tree.specs.Place.{trees_at, has_place, child_place};
     ghost use Rattle.lxp_core.specs.Open.{begins_with_hole};
     ghost use Rattle.tree_buffer.specs.declared.buffer.Buffer.{Buffer};
     ghost use Rattle.tree_buffer.specs.declared.spot.Spot.{Spot};
     ghost use Rattle.tree_buffer.specs.Document.{has_next};
-    ghost use Rattle.tree_buffer.specs.Buffer.{IsSpot, number_of, place_of, label_of, rest_of, below, after, from_spot, IfTold, trees_from, IsChildSpot, IsNextSpot, HasAllChildren, HasAllSiblings, ChangesOnly, IsSourcesOf, Ran};
+    ghost use Rattle.tree_buffer.specs.Buffer.{IsSpot, IsSourceOf, number_of, place_of, label_of, rest_of, below, after, from_spot, IfTold, trees_from, IsChildSpot, IsNextSpot, HasAllChildren, HasAllSiblings, ChangesOnly, IsSourcesOf, Ran};
 
     /// A buffer of one source, of which nothing was asked yet. No fill is asked.
     pub fn open<S: Sources>(alloc: Global, s: &S, number: u32) -> Result<Buffer, AllocError>
@@ -101,13 +100,13 @@ impl Buffer {
     }
 
     /// The first child; `None` where the node has none. A fill is asked only while no child is known and a hole stands
-    /// at the front of the children. `Failed`: the source failed in such a fill.
+    /// at the front of the children. `Failed`: the source failed in such a fill, and the fault names it.
     pub fn down<S: Sources>(
         &mut self,
         alloc: Global,
         s: &mut S,
         p: &Spot,
-    ) -> Result<Option<Spot>, BufferFault>
+    ) -> Result<Option<Spot>, WalkFault>
         requires spot { IsSpot self.old p.now }
         requires sources { IsSourcesOf (S.view s.old) self.old }
         ensures ran { Ran S.view S.came_from s.old self.old s.new self.new }
@@ -124,8 +123,7 @@ impl Buffer {
         ensures none { IfOk result (λ r. is_some r ≡ false → HasAllChildren self.new p.now) }
         ensures again { HasAllChildren self.old p.now → s.new ≡ s.old }
         // The cause.
-        ensures failed { IsErrOf result BufferFault.Failed
-            → HasRisen ((S.view s.old).faults (number_of self.old)) ((S.view s.new).faults (number_of self.old)) }
+        ensures cause { HasCause (IsSourceOf self.old) (S.view s.old) (S.view s.new) result }
     {
         let entry = &self.entries[p.number];
         if entry.count > 0 {
@@ -138,13 +136,13 @@ impl Buffer {
     }
 
     /// The next sibling; `None` where the node has none, as the document node. A fill is asked only while that sibling
-    /// isn't known and a hole stands where it would be. `Failed`: the source failed in such a fill.
+    /// isn't known and a hole stands where it would be. `Failed`: the source failed in such a fill, and the fault names it.
     pub fn right<S: Sources>(
         &mut self,
         alloc: Global,
         s: &mut S,
         p: &Spot,
-    ) -> Result<Option<Spot>, BufferFault>
+    ) -> Result<Option<Spot>, WalkFault>
         requires spot { IsSpot self.old p.now }
         requires sources { IsSourcesOf (S.view s.old) self.old }
         ensures ran { Ran S.view S.came_from s.old self.old s.new self.new }
@@ -163,8 +161,7 @@ impl Buffer {
         ensures none { IfOk result (λ r. is_some r ≡ false → HasAllSiblings self.new p.now) }
         ensures again { HasAllSiblings self.old p.now → s.new ≡ s.old }
         // The cause.
-        ensures failed { IsErrOf result BufferFault.Failed
-            → HasRisen ((S.view s.old).faults (number_of self.old)) ((S.view s.new).faults (number_of self.old)) }
+        ensures cause { HasCause (IsSourceOf self.old) (S.view s.old) (S.view s.new) result }
     {
         if p.number == 0 {
             return Ok(None);

@@ -1,21 +1,20 @@
 // How a buffer comes to one node more.
-ghost use Rattle.std.specs.Prelude.{◌≡◌, ◌+◌, ◌<◌, ◌≤◌, true, false, is_some, OnOk, IfOk, MatchOption, IsErrOf, length};
+ghost use Rattle.std.specs.Prelude.{◌≡◌, ◌+◌, ◌<◌, ◌≤◌, true, false, is_some, OnOk, IfOk, MatchOption, length};
 
-use crate::BufferFault;
 use crate::buffer::Buffer;
 use crate::entry::Entry;
 use crate::spot::Spot;
 use crate::stacks::{pop_tree, settle};
-use lxp_core::Sources;
+use lxp_core::{Sources, WalkFault};
 use std::alloc::{AllocError, Global};
 
 impl Buffer {
     ghost use Rattle.std.proofs.Common.{get_or};
-    ghost use Rattle.mix_base.specs.Counts.{HasRisen};
+    ghost use Rattle.lxp_core.specs.Causes.{HasCause};
     ghost use Rattle.lxp_core.specs.Open.{nil, begins_with_hole};
     ghost use Rattle.lxp_core.specs.View.{View};
     ghost use Rattle.tree_buffer.specs.Nodes.{IsChild, IsLast, KeepsLists};
-    ghost use Rattle.tree_buffer.specs.Buffer.{nodes_of, IsSourcesOf};
+    ghost use Rattle.tree_buffer.specs.Buffer.{nodes_of, IsSourcesOf, IsSourceOf};
     ghost use Rattle.tree_buffer.specs.Advance.{Advances, Advanced};
 
     // Asks fills until no hole stands at the front of a node's list.
@@ -24,7 +23,7 @@ impl Buffer {
         alloc: Global,
         s: &mut S,
         q: usize,
-    ) -> Result<(), BufferFault>
+    ) -> Result<(), WalkFault>
         requires spot { q < length (nodes_of self.old).links }
         requires sources { IsSourcesOf (S.view s.old) self.old }
         ensures advanced { Advanced S.view S.came_from s.old self.old s.new self.new }
@@ -34,7 +33,7 @@ impl Buffer {
         ensures settled { OnOk result (begins_with_hole (get_or (nodes_of self.new).rests q nil) ≡ false) }
         ensures lazy { (S.view s.old).forward self.old.number ≡ true → (S.view s.new).fills ≤ (S.view s.old).fills + 1 }
         ensures whole { begins_with_hole (get_or (nodes_of self.old).rests q nil) ≡ false → s.new ≡ s.old }
-        ensures failed { IsErrOf result BufferFault.Failed → HasRisen ((S.view s.old).faults self.old.number) ((S.view s.new).faults self.old.number) }
+        ensures cause { HasCause (IsSourceOf self.old) (S.view s.old) (S.view s.new) result }
     {
         let number = self.number;
         let entry = &mut self.entries[q];

@@ -3,13 +3,11 @@
 
 mod buffer;
 mod entry;
-mod fault;
 mod handing;
 mod law;
 mod spot;
 mod stacks;
 
 pub use buffer::Buffer;
-pub use fault::BufferFault;
 pub use law::{buffers_are_kept, no_call_runs, spots_are_one, two_calls_run};
 pub use spot::Spot;

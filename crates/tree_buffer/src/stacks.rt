@@ -1,6 +1,6 @@
 // Stacks of trees with holes, of which the last is the first of the list.
-ghost use Rattle.std.specs.Prelude.{◌≡◌, ◌+◌, ◌<◌, ◌≤◌, ◌++◌, ◌∷◌, [], List, true, false, MatchOption, OnOk, IsErrOf, length};
-ghost use Rattle.mix_base.specs.Counts.{HasRisen};
+ghost use Rattle.std.specs.Prelude.{◌≡◌, ◌+◌, ◌<◌, ◌≤◌, ◌++◌, ◌∷◌, [], List, true, false, MatchOption, OnOk, length};
+ghost use Rattle.lxp_core.specs.Causes.{HasCause};
 ghost use Rattle.lxp_core.specs.declared.open_tree.OpenTree.{OpenTree};
 ghost use Rattle.lxp_core.specs.declared.open_tree.OpenTree.TheVariants.{Hole};
 ghost use Rattle.lxp_core.specs.Open.{Open, nil, node, AllHoles, IsApart, begins_with_hole};
@@ -8,8 +8,7 @@ ghost use Rattle.lxp_core.specs.Plain.{put, stacked};
 ghost use Rattle.lxp_core.specs.View.{Keeps};
 ghost use Rattle.tree_buffer.specs.Fills.{IsRefined, IsLazy, left_in};
 
-use crate::BufferFault;
-use lxp_core::{HoleId, OpenTree, SourceFault, Sources};
+use lxp_core::{HoleId, OpenTree, SourceFault, Sources, WalkFault};
 use mix_tree::Label;
 use std::alloc::Global;
 
@@ -32,7 +31,7 @@ fn refill<S: Sources>(
     number: u32,
     hole: HoleId,
     stack: &mut Vec<OpenTree>,
-) -> Result<(), BufferFault>
+) -> Result<(), WalkFault>
     requires number { number < (S.view s.old).count }
     requires top { (front : List OpenTree) × (stack.old.items ≡ front ++ Hole hole ∷ []) }
     requires known { AllHoles ((S.view s.old).knows number) (stacked stack.old.items nil) }
@@ -43,12 +42,12 @@ fn refill<S: Sources>(
     ensures lazy { OnOk result (IsLazy (S.view s.old) (S.view s.new) number (stacked stack.old.items nil) (stacked stack.new.items nil)) }
     ensures at_most_one { (S.view s.new).fills ≤ (S.view s.old).fills + 1 }
     ensures falls { OnOk result (left_in (S.view s.new) number stack.new.items < left_in (S.view s.old) number stack.old.items) }
-    ensures failed { IsErrOf result BufferFault.Failed → HasRisen ((S.view s.old).faults number) ((S.view s.new).faults number) }
+    ensures cause { HasCause (λ n. n ≡ number) (S.view s.old) (S.view s.new) result }
 {
     let mut list = match s.fill(alloc, number, hole) {
         Ok(list) => list,
-        Err(SourceFault::Failed) => return Err(BufferFault::Failed),
-        Err(SourceFault::OutOfMemory) => return Err(BufferFault::OutOfMemory),
+        Err(SourceFault::Failed) => return Err(WalkFault::Failed(number)),
+        Err(SourceFault::OutOfMemory) => return Err(WalkFault::OutOfMemory),
         Err(SourceFault::UnknownHole) => unreachable!(),
     };
     list.reverse();
@@ -64,7 +63,7 @@ pub(crate) fn settle<S: Sources>(
     s: &mut S,
     number: u32,
     stack: &mut Vec<OpenTree>,
-) -> Result<(), BufferFault>
+) -> Result<(), WalkFault>
     requires number { number < (S.view s.old).count }
     requires known { AllHoles ((S.view s.old).knows number) (stacked stack.old.items nil) }
     requires apart { IsApart (stacked stack.old.items nil) }
@@ -74,7 +73,7 @@ pub(crate) fn settle<S: Sources>(
     ensures settled { OnOk result (begins_with_hole (stacked stack.new.items nil) ≡ false) }
     ensures lazy { (S.view s.old).forward number ≡ true → (S.view s.new).fills ≤ (S.view s.old).fills + 1 }
     ensures whole { begins_with_hole (stacked stack.old.items nil) ≡ false → s.new ≡ s.old }
-    ensures failed { IsErrOf result BufferFault.Failed → HasRisen ((S.view s.old).faults number) ((S.view s.new).faults number) }
+    ensures cause { HasCause (λ n. n ≡ number) (S.view s.old) (S.view s.new) result }
 {
     while let Some(hole) = top_hole(stack) {
         refill(alloc, s, number, hole, stack)?;

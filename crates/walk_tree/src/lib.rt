@@ -1,17 +1,17 @@
 //! An example of a buffer's use: the labels of a whole subtree, and of two documents in turn, by the buffer's public contract alone.
 #![tactic(auto)]
 
-ghost use Rattle.std.specs.Prelude.{◌≡◌, ◌+◌, ◌*◌, ◌<◌, ◌≤◌, ◌++◌, ◌∷◌, [], true, OnOk, IfOk, IfSome, IsErrOf, length};
-ghost use Rattle.mix_base.specs.Counts.{HasRisen};
+ghost use Rattle.std.specs.Prelude.{◌≡◌, ◌+◌, ◌*◌, ◌<◌, ◌≤◌, ◌++◌, ◌∷◌, [], true, OnOk, IfOk, IfSome, length};
 ghost use Rattle.mix_tree.specs.Forest.{labels_of};
+ghost use Rattle.lxp_core.specs.Causes.{HasCause};
 ghost use Rattle.lxp_core.specs.View.{document};
-ghost use Rattle.tree_buffer.specs.Buffer.{IsSpot, IsSourcesOf, Ran, number_of, below};
+ghost use Rattle.tree_buffer.specs.Buffer.{IsSpot, IsSourcesOf, IsSourceOf, Ran, number_of, below};
 ghost use Rattle.walk_tree.specs.Walk.{AsksOneLess, AsksTwo, labels_at, labels_from, left};
 
-use lxp_core::Sources;
+use lxp_core::{Sources, WalkFault};
 use mix_tree::Label;
 use std::alloc::Global;
-use tree_buffer::{Buffer, BufferFault, Spot, two_calls_run};
+use tree_buffer::{Buffer, Spot, two_calls_run};
 
 /// Puts the labels of the subtree of a node behind `out`, in document order. A node takes one step down, and one to the
 /// right for each node but the first; over a forward source each step asks at most one fill. `Failed`: the source failed.
@@ -23,7 +23,7 @@ pub fn walk<S: Sources>(
     b: &mut Buffer,
     p: &Spot,
     out: &mut Vec<Label>,
-) -> Result<(), BufferFault>
+) -> Result<(), WalkFault>
     requires spot { IsSpot b.old p.now }
     requires sources { IsSourcesOf (S.view s.old) b.old }
     ensures ran { Ran S.view S.came_from s.old b.old s.new b.new }
@@ -34,8 +34,7 @@ pub fn walk<S: Sources>(
     ensures steps { OnOk result (AsksOneLess (S.view s.old) b.old (S.view s.new) out.old.items out.new.items) }
     ensures lazy { AsksTwo (S.view s.old) b.old (S.view s.new) out.old.items out.new.items }
     // The cause.
-    ensures failed { IsErrOf result BufferFault.Failed
-        → HasRisen ((S.view s.old).faults (number_of b.old)) ((S.view s.new).faults (number_of b.old)) }
+    ensures cause { HasCause (IsSourceOf b.old) (S.view s.old) (S.view s.new) result }
 {
     two_calls_run::<S>();
     let label = b.label(p).copy(alloc)?;
@@ -52,7 +51,7 @@ fn walk_from<S: Sources>(
     b: &mut Buffer,
     first: Option<Spot>,
     out: &mut Vec<Label>,
-) -> Result<(), BufferFault>
+) -> Result<(), WalkFault>
     requires spot { IfSome first (IsSpot b.old) }
     requires sources { IsSourcesOf (S.view s.old) b.old }
     ensures ran { Ran S.view S.came_from s.old b.old s.new b.new }
@@ -60,8 +59,7 @@ fn walk_from<S: Sources>(
         → out.new.items ≡ out.old.items ++ labels_from (S.view s.old) b.old first) }
     ensures few { length out.new.items ≤ length out.old.items + left (S.view s.old) b.old first }
     ensures lazy { AsksTwo (S.view s.old) b.old (S.view s.new) out.old.items out.new.items }
-    ensures failed { IsErrOf result BufferFault.Failed
-        → HasRisen ((S.view s.old).faults (number_of b.old)) ((S.view s.new).faults (number_of b.old)) }
+    ensures cause { HasCause (IsSourceOf b.old) (S.view s.old) (S.view s.new) result }
 {
     two_calls_run::<S>();
     let mut at = first;
@@ -77,7 +75,7 @@ pub fn walk_all<S: Sources>(
     alloc: Global,
     s: &mut S,
     number: u32,
-) -> Result<Vec<Label>, BufferFault>
+) -> Result<Vec<Label>, WalkFault>
     requires { number < (S.view s.old).count }
     ensures came { S.came_from s.new s.old }
     ensures labels { IfOk result (λ labels. (S.view s.old).told number ≡ true
@@ -85,8 +83,7 @@ pub fn walk_all<S: Sources>(
     ensures few { IfOk result (λ labels. length labels.items ≤ 1 + (S.view s.old).weight number ((S.view s.old).root number)) }
     ensures lazy { IfOk result (λ labels. (S.view s.old).forward number ≡ true
         → (S.view s.new).fills + 1 ≤ (S.view s.old).fills + 2 * length labels.items) }
-    ensures failed { IsErrOf result BufferFault.Failed
-        → HasRisen ((S.view s.old).faults number) ((S.view s.new).faults number) }
+    ensures cause { HasCause (λ n. n ≡ number) (S.view s.old) (S.view s.new) result }
 {
     let mut buffer = Buffer::open(alloc, s, number)?;
     let mut labels = Vec::new(alloc);
@@ -102,7 +99,7 @@ pub fn walk_two<S: Sources>(
     s: &mut S,
     first: u32,
     second: u32,
-) -> Result<(Vec<Label>, Vec<Label>), BufferFault>
+) -> Result<(Vec<Label>, Vec<Label>), WalkFault>
     requires first { first < (S.view s.old).count }
     requires second { second < (S.view s.old).count }
     ensures came { S.came_from s.new s.old }

@@ -1,12 +1,12 @@
 use Rattle.std.proofs.Common.{rules, ◌≡◌, ◌+◌, ◌<◌, ◌++◌, ◌∷◌, [], length, ap, sym, subst, ◌∙◌, arith, append_assoc}
 use Rattle.std.proofs.lemmas.List.{length_push}
 use Rattle.std.proofs.lemmas.Result.{on_ok_weaker}
-use Rattle.mix_base.specs.Counts.{HasRisen}
-use Rattle.mix_base.proofs.Risen.{risen_before}
 use Rattle.mix_tree.specs.Place.{trees_at}
+use Rattle.lxp_core.specs.Causes.{HasCause}
 use Rattle.lxp_core.specs.View.{Keeps}
+use Rattle.lxp_core.proofs.Causes.{cause_since}
 use Rattle.tree_buffer.specs.Document.{document_node}
-use Rattle.tree_buffer.specs.Buffer.{IsSpot, IsNextSpot, number_of, place_of, label_of, below, after}
+use Rattle.tree_buffer.specs.Buffer.{IsSpot, IsSourceOf, IsNextSpot, number_of, place_of, label_of, below, after}
 use Rattle.walk_tree.specs.Walk.{first_labels, labels_from, left}
 use Rattle.walk_tree.proofs.Steps.{left_le, if_some_weaker, labels_down, labels_right}
 use Rattle.walk_tree.proofs.+walking.Goals as goal
@@ -43,11 +43,12 @@ walk-returns-clause-lazy g t c = λ forward.
     let pushed : length c.push.new.self.items ≡ length c.args.out.now.items + 1 = ap length c.in_ok-push.ensures.items ∙ length_push c.args.out.now.items c.in_ok-label.label in
     omega (arith, pushed, c.down.ensures.lazy forward, c.walk_from.ensures.lazy (goes.forward ∙ forward))
 
-pub walk-returns-clause-failed : goal.walk-returns-clause-failed
-walk-returns-clause-failed g t c = λ e.
+pub walk-returns-clause-cause : goal.walk-returns-clause-cause
+walk-returns-clause-cause g t c =
+    let goes = c.down.ensures.ran.goes in
     let keeps : Keeps (g.S.Sources.view c.down.new.s) (g.S.Sources.view c.args.s.now) = g.met.S.Sources.keeps _ _ c.down.ensures.ran.came in
-    risen_before _ _ _ (keeps.faults (number_of c.args.b.now))
-    (subst (λ n. HasRisen ((g.S.Sources.view c.down.new.s).faults n) ((g.S.Sources.view c.walk_from.new.s).faults n)) c.down.ensures.ran.goes.number (c.walk_from.ensures.failed e))
+    cause_since (IsSourceOf c.down.new.self) (IsSourceOf c.args.b.now) (g.S.Sources.view c.args.s.now) (g.S.Sources.view c.down.new.s) (g.S.Sources.view c.walk_from.new.s)
+    (λ n e. e ∙ goes.number) keeps.faults c.walk_from.result c.walk_from.ensures.cause
 
 pub walk_from-returns-in_err-walk-clause-ran : goal.walk_from-returns-in_err-walk-clause-ran
 walk_from-returns-in_err-walk-clause-ran g t c = c.two_calls_run.ensures _ _ _ _ _ _ c.loop-at.invariant.ran c.walk.ensures.ran
@@ -67,13 +68,21 @@ walk_from-returns-in_err-at-clause-lazy g t c = λ forward.
       c.right.ensures.lazy (both.goes.forward ∙ forward),
     )
 
-pub walk_from-returns-in_err-at-clause-failed : goal.walk_from-returns-in_err-at-clause-failed
-walk_from-returns-in_err-at-clause-failed g t c = λ e.
+pub walk_from-returns-in_err-walk-clause-cause : goal.walk_from-returns-in_err-walk-clause-cause
+walk_from-returns-in_err-walk-clause-cause g t c =
+    let so_far = c.loop-at.invariant.ran in
+    let keeps : Keeps (g.S.Sources.view c.loop-at.s) (g.S.Sources.view c.args.s.now) = g.met.S.Sources.keeps _ _ so_far.came in
+    let cause : HasCause (IsSourceOf c.loop-at.b) (g.S.Sources.view c.loop-at.s) (g.S.Sources.view c.walk.new.s) c.from_residual.result = search rules in
+    cause_since (IsSourceOf c.loop-at.b) (IsSourceOf c.args.b.now) (g.S.Sources.view c.args.s.now) (g.S.Sources.view c.loop-at.s) (g.S.Sources.view c.walk.new.s)
+    (λ n e. e ∙ so_far.goes.number) keeps.faults c.from_residual.result cause
+
+pub walk_from-returns-in_err-at-clause-cause : goal.walk_from-returns-in_err-at-clause-cause
+walk_from-returns-in_err-at-clause-cause g t c =
     let both = c.two_calls_run.ensures _ _ _ _ _ _ c.loop-at.invariant.ran c.walk.ensures.ran in
     let keeps : Keeps (g.S.Sources.view c.walk.new.s) (g.S.Sources.view c.args.s.now) = g.met.S.Sources.keeps _ _ both.came in
-    let risen : HasRisen ((g.S.Sources.view c.walk.new.s).faults (number_of c.walk.new.b)) ((g.S.Sources.view c.right.new.s).faults (number_of c.walk.new.b)) = search rules in
-    risen_before _ _ _ (keeps.faults (number_of c.args.b.now))
-    (subst (λ n. HasRisen ((g.S.Sources.view c.walk.new.s).faults n) ((g.S.Sources.view c.right.new.s).faults n)) both.goes.number risen)
+    let cause : HasCause (IsSourceOf c.walk.new.b) (g.S.Sources.view c.walk.new.s) (g.S.Sources.view c.right.new.s) c.from_residual-in_err-at.result = search rules in
+    cause_since (IsSourceOf c.walk.new.b) (IsSourceOf c.args.b.now) (g.S.Sources.view c.args.s.now) (g.S.Sources.view c.walk.new.s) (g.S.Sources.view c.right.new.s)
+    (λ n e. e ∙ both.goes.number) keeps.faults c.from_residual-in_err-at.result cause
 
 pub walk_from-loop-at-smaller : goal.walk_from-loop-at-smaller
 walk_from-loop-at-smaller g t c =
