@@ -1,4 +1,4 @@
-use Rattle.mix_session.specs.Refusals.{of_plan}
+use Rattle.mix_session.specs.Refusals.{of_walk}
 use Rattle.mix_session.proofs.Sources.{if_ok}
 use Rattle.mix_session.proofs.Plans.{plan_stays, plan_next, lower_down, fewer_right}
 use Rattle.mix_script.specs.declared.step.Way.TheVariants.{Down, Right}
@@ -21,7 +21,7 @@ returns-in-Down-clause-found g c =
     let m = c.args.self.now in
     let m' = c.down.new.self in
     let down = c.down.ensures in
-    rw c.in-Down.is (if_ok c.found_in.result (of_plan c.down.result) _
+    rw c.in-Down.is (if_ok c.found_in.result (of_walk c.down.result) _
     (λ r is. plan_next v v' m m' Down c.args.n.now c.down.result r is down.cause down.node down.place (lower_down v v' m m' c.args.n.now c.down.result down.height)) c.found_in.ensures)
 
 pub returns-in-Right-clause-found : goal.returns-in-Right-clause-found
@@ -31,5 +31,5 @@ returns-in-Right-clause-found g c =
     let m = c.args.self.now in
     let m' = c.right.new.self in
     let right = c.right.ensures in
-    rw c.in-Right.is (if_ok c.found_in-in-Right.result (of_plan c.right.result) _
+    rw c.in-Right.is (if_ok c.found_in-in-Right.result (of_walk c.right.result) _
     (λ r is. plan_next v v' m m' Right c.args.n.now c.right.result r is right.cause right.node right.place (fewer_right v v' m m' c.args.n.now c.right.result right.left right.height)) c.found_in-in-Right.ensures)
