@@ -2,6 +2,7 @@ pub mod Downs
 pub mod Enters
 pub mod Gathering
 pub mod Going
+pub mod Groups
 pub mod Having
 pub mod Heads
 pub mod Heights

@@ -71,11 +71,7 @@ fn walk_from<S: Sources>(
 }
 
 /// The labels of a whole document in document order, that of the document node before the others.
-pub fn walk_all<S: Sources>(
-    alloc: Global,
-    s: &mut S,
-    number: u32,
-) -> Result<Vec<Label>, WalkFault>
+pub fn walk_all<S: Sources>(alloc: Global, s: &mut S, number: u32) -> Result<Vec<Label>, WalkFault>
     requires { number < (S.view s.old).count }
     ensures came { S.came_from s.new s.old }
     ensures labels { IfOk result (λ labels. (S.view s.old).told number ≡ true

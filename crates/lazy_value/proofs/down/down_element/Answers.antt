@@ -41,3 +41,8 @@ returns-clause-rank g c =
     (let e = ap length (ap (λ (p : Plan). pieces_of (op_at (plan_value p).ops c.args.op)) (sym c.plan-2.ensures) ∙ c.element_list-list.ensures) in omega (arith, e))
     (c.input_of-input.ensures ∙ ap (λ (p : Plan). input_at (plan_value p).ops c.args.op) c.plan.ensures) c.in_ok-origin.origin (let o = (c.in_ok-origin.ensures (g.S.Sources.view c.args.s.now) c.requires.bench (subst (λ (n : ℕ). IsCursor (state_of (g.S.Sources.view c.args.s.now) c.args.bench.now) n c.args.at.now) (sym (c.input_of-input.ensures ∙ ap (λ (p : Plan). input_at (plan_value p).ops c.args.op) c.plan.ensures)) c.requires.stands.cursor)) in o.rank)) (let e = ap rest_rank c.in_ok-end.ensures in omega (arith, e)) in
     if_ok c.front.result (GivesRanked (rest_rank c.in-On.rest.value)) (GivesRanked c.args.op) (gives_ranked (rest_rank c.in-On.rest.value) c.args.op l) c.front.ensures.rank
+
+pub enter-requires : goal.enter-requires
+enter-requires g c =
+    let o = (c.in_ok-origin.ensures (g.S.Sources.view c.args.s.now) c.requires.bench (subst (λ (n : ℕ). IsCursor (state_of (g.S.Sources.view c.args.s.now) c.args.bench.now) n c.args.at.now) (sym (c.input_of-input.ensures ∙ ap (λ (p : Plan). input_at (plan_value p).ops c.args.op) c.plan.ensures)) c.requires.stands.cursor)) in
+    record { bench = (g.S.Sources.view c.args.s.now, c.requires.bench, (o.origin, end_rest (state_of (g.S.Sources.view c.args.s.now) c.args.bench.now) c.in_ok-end.end.value c.in_ok-end.ensures)) }

@@ -1,11 +1,14 @@
-use Rattle.std.proofs.Common.{ℕ, true, false, ◌∙◌, sym, ap, subst, arith}
+use Rattle.std.proofs.Common.{ℕ, List, true, false, ◌∙◌, sym, ap, subst, arith}
 use Rattle.plan_core.specs.declared.plan.Plan.{Plan}
 use Rattle.plan_core.specs.PlanMade.{plan_value}
 use Rattle.plan_core.specs.ByNumber.{op_at}
-use Rattle.lazy_plan.specs.Bench.{state_of, IsCursor}
+use Rattle.plan_core.specs.Valid.{kinds, AreNodes}
+use Rattle.mix_tree.specs.declared.var.Key.{Key}
+use Rattle.lazy_plan.specs.Bench.{state_of, ops_of, IsCursor}
 use Rattle.lazy_value.specs.Forms.{input_at, keys_of, gathers_groups}
 use Rattle.lazy_value.specs.Ids.{group_ahead}
 use Rattle.lazy_value.proofs.Keep.{input_kept, Stands-kept}
+use Rattle.lazy_value.proofs.Groups.{group_nodes}
 use Rattle.lazy_value.proofs.Going.{test_is, input_after, goes_walked, none_left, found_cursor, found_falls, member_found, goes_on}
 use Rattle.lazy_value.proofs.members.next_of_group.Goals as goal
 
@@ -60,3 +63,14 @@ members-preserved g c = record {
   low = (let f = found_falls g.met.S.Sources.after c.args.s.now c.members.s c.next.new.s c.args.bench.now c.members.bench c.next.new.self (group_ahead (state_of (g.S.Sources.view c.args.s.now) c.args.bench.now) c.args.group.now.op c.args.group.now.first.now c.args.group.now.at.now) c.args.group.now.op c.input_of-input.result c.args.group.now.first.now c.members.at
       c.members.invariant.came c.members.invariant.goes (c.input_of-input.ensures ∙ ap (λ (p : Plan). input_at (plan_value p).ops c.args.group.now.op) c.plan.ensures ∙ sym (input_kept (state_of (g.S.Sources.view c.args.s.now) c.args.bench.now) (state_of (g.S.Sources.view c.members.s) c.members.bench) c.members.invariant.goes.kept c.args.group.now.op)) c.next.ensures.ran c.next.ensures.lazy c.members.invariant.first.cursor c.in-Some.c (rw c.in-Some.is at c.in_ok-next.ensures.answer) in let l = c.members.invariant.low in omega (arith, f, l));
 }
+
+pub same_by_keys-requires-clause-nodes : goal.same_by_keys-requires-clause-nodes
+same_by_keys-requires-clause-nodes g c =
+    let first = Stands-kept (state_of (g.S.Sources.view c.members.s) c.members.bench) (state_of (g.S.Sources.view c.next.new.s) c.next.new.self) c.next.ensures.ran.kept c.args.group.now.op gathers_groups c.args.group.now.first.now c.members.invariant.first in
+    let ops = ops_of (state_of (g.S.Sources.view c.next.new.s) c.next.new.self) in
+    let input = (input_after g.met.S.Sources.after c.args.s.now c.members.s c.next.new.s c.args.bench.now c.members.bench c.next.new.self (group_ahead (state_of (g.S.Sources.view c.args.s.now) c.args.bench.now) c.args.group.now.op c.args.group.now.first.now c.args.group.now.at.now) c.args.group.now.op c.input_of-input.result c.args.group.now.first.now c.members.at
+    c.members.invariant.came c.members.invariant.goes (c.input_of-input.ensures ∙ ap (λ (p : Plan). input_at (plan_value p).ops c.args.group.now.op) c.plan.ensures ∙ sym (input_kept (state_of (g.S.Sources.view c.args.s.now) c.args.bench.now) (state_of (g.S.Sources.view c.members.s) c.members.bench) c.members.invariant.goes.kept c.args.group.now.op)) c.next.ensures.ran c.next.ensures.lazy) in
+    let keys = c.group_keys.ensures ∙ ap (λ (p : Plan). keys_of (op_at (plan_value p).ops c.args.group.now.op)) c.plan-in-Some.ensures in
+    subst (λ (i : ℕ). AreNodes c.group_keys.result.now (kinds ops i)) (sym input) (
+    subst (λ (ks : List Key). AreNodes ks (kinds ops (input_at ops c.args.group.now.op))) (sym keys) (group_nodes ops c.next.ensures.ran.bench.fixed.typed c.args.group.now.op first.within first.is)
+    )

@@ -1,4 +1,4 @@
-use Rattle.std.proofs.Common.{subst}
+use Rattle.std.proofs.Common.{arith, subst, sym, ◌∙◌}
 use Rattle.lxp_core.specs.View.{View}
 use Rattle.plan_core.specs.declared.plan.Plan.{Plan}
 use Rattle.lazy_plan.specs.Bench.{state_of, IsBenchOf, IsCursor}
@@ -16,3 +16,11 @@ returns-in_ok-below-in-Some t c =
     origin_passed (state_of view c.args.bench.now) c.args.op c.in-Some.input c.args.v c.args.c.now c.in_ok-below-in-Some.below r
     (subst (λ (p : Plan). IsPassedOn p c.args.op c.args.v c.in-Some.input) c.plan.ensures c.in-Some.ensures) u (k view h u.cursor))
     c.origin_of.ensures
+
+pub origin_of-requires : goal.origin_of-requires
+origin_of-requires t c =
+    let p = subst (λ (q : Plan). IsPassedOn q c.args.op c.args.v c.in-Some.input) c.plan.ensures c.in-Some.ensures in
+    let b = c.requires.bench in (
+      omega (arith, p.within, c.decreases),
+      (omega (arith, p.within, c.requires.op), ((b.0, b.1, (c.in_ok-below-in-Some.ensures b.0 b.1 b.2).cursor), (c.requires.kind.0, sym p.kind ∙ c.requires.kind.1))),
+    )
