@@ -29,7 +29,7 @@ struct Row {
     lines: &'static str,
 }
 
-const ROWS: [Row; 5] = [
+const ROWS: [Row; 7] = [
     // The homes with their schools: two answers, of which the first has a home and two schools. Old names are gone on from.
     Row {
         catalog: TWO,
@@ -79,6 +79,26 @@ const ROWS: [Row; 5] = [
         script: "fly\n",
         status: 3,
         lines: "v: unbound variable at 14\n",
+    },
+    // The whole answer as text, by two clients: one at once, one from home to home.
+    Row {
+        catalog: TWO,
+        view: MED_HOME,
+        homes: HOMES,
+        first: SCHOOLS,
+        script: "ann: r = root\nann: print r\nbob: r = root\nbob: m = down r\nbob: n = select m med_home\nbob: print n\nbob: o = select n med_home\nann: fetch n\n",
+        status: 0,
+        lines: "ann: node\nann: text answer[med_home[home[addr[\"La Jolla\"],zip[91220]],school[dir[Smith],zip[91220]],school[dir[Bar],zip[91220]]],med_home[home[addr[\"El Cajon\"],zip[91223]],school[dir[Hart],zip[91223]]]]\nbob: node\nbob: node\nbob: node\nbob: text med_home[home[addr[\"El Cajon\"],zip[91223]],school[dir[Hart],zip[91223]]]\nbob: none\nann: no node\n",
+    },
+    // Two homes that are alike are two, and an answer without homes is a leaf.
+    Row {
+        catalog: TWO,
+        view: MED_HOME,
+        homes: "homes[home[zip[1]],home[zip[1]]]",
+        first: "schools[school[zip[1]]]",
+        script: "r = root\nprint r\n",
+        status: 0,
+        lines: "node\ntext answer[med_home[home[zip[1]],school[zip[1]]],med_home[home[zip[1]],school[zip[1]]]]\n",
     },
 ];
 
