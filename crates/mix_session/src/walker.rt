@@ -19,9 +19,7 @@ pub enum Found<N> {
 }
 
 // What a buffer or a mediator found.
-pub(crate) fn found_in<N: Drop>(
-    found: Result<Option<N>, WalkFault>,
-) -> Result<Found<N>, AllocError>
+pub(crate) fn found_in<N: Drop>(found: Result<Option<N>, WalkFault>) -> Result<Found<N>, AllocError>
     ensures { IfOk result (of_walk found) }
 {
     match found {
