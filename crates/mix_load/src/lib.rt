@@ -1,0 +1,6 @@
+//! A large input made in memory: the CSV text of many people, and the count of the nodes of a printed tree.
+#![tactic(auto)]
+
+mod people;
+
+pub use people::people_text;
