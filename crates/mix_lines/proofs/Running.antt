@@ -1,5 +1,5 @@
 -- Lines on a course begin, come one step further, and end.
-use Rattle.std.proofs.Common.{◌≡◌, ◌∙◌, inl, ◌+◌, ◌<◌, ◌≤◌, ℕ, Bool, true, false, ◌||◌, List, [], ◌∷◌, ◌++◌, Option, Some, None, Ok, Err, Result, refl, sym, subst, arith, length, drop, get_or, append_assoc}
+use Rattle.std.proofs.Common.{◌≡◌, inl, ◌+◌, ◌<◌, ◌≤◌, ℕ, Bool, true, false, ◌||◌, List, [], ◌∷◌, ◌++◌, Option, Some, None, Ok, Err, Result, sym, subst, arith, length, drop, get_or, append_assoc}
 use Rattle.std.specs.declared.alloc.AllocError.{AllocError}
 use Rattle.mix_base.proofs.Lists.{append_nil}
 use Rattle.mix_tree.specs.Forest.{LabelledTree}
@@ -20,7 +20,7 @@ use Rattle.mix_script.specs.declared.answer.Answer.{Answer}
 use Rattle.mix_script.specs.declared.answer.Answer.TheVariants as answer
 use Rattle.mix_script.proofs.Answering.{faults_push, may_named}
 use Rattle.mix_script.proofs.Holding.{hold_none}
-use Rattle.mix_session.specs.Meaning.{Course, Meaning, GoesOn}
+use Rattle.mix_session.specs.Meaning.{Course, Meaning}
 use Rattle.mix_session.specs.Held.{HoldNodes, HoldPlaces, HoldTold, IsSession}
 use Rattle.mix_session.specs.Stepped.{IsStep, Stepped, act_toll, tree_toll}
 use Rattle.mix_session.proofs.TollLess.{act_toll_less, tree_toll_less}

@@ -7,7 +7,7 @@ use Rattle.mix_tree.specs.Forest.{LabelledTree}
 use Rattle.mix_tree.specs.Place.{tree_at}
 use Rattle.lxp_core.specs.View.{View}
 use Rattle.mix_script.specs.Names.{NamesOf, no_names, with_name}
-use Rattle.mix_script.specs.Trails.{takes_one_way, place_to, with_named, names_with, goal_on, names_on}
+use Rattle.mix_script.specs.Trails.{takes_one_way, place_to, with_named, names_with, goal_on}
 use Rattle.mix_script.specs.Transcript.{Names, move_answer, label_answer, text_answer, if_held, unless_marked, goal_of, selected, answer_of}
 use Rattle.mix_script.specs.Allowed.{Nodes, MayFind, MayFindRoot, MayRead, MayPrint, WhereHeld, MayAnswer, nodes_after, mark_of}
 use Rattle.mix_script.specs.Holding.{HoldBoth}
@@ -25,7 +25,7 @@ use Rattle.mix_session.specs.Seeking.{IfNode, HasCause, IsAsked, IsMoved, IsRoot
 use Rattle.mix_session.specs.Held.{HoldNodes, HoldPlaces, HoldTold, IsSession}
 use Rattle.mix_session.specs.Stepped.{IsStep, NamesGiven, IsTolled, IsTolledOn, Stepped}
 use Rattle.mix_session.specs.Tolls.{toll_from, select_toll, print_toll}
-use Rattle.mix_session.specs.Printing.{place_toll, PrintsTree, IsPrinted, CostsOn}
+use Rattle.mix_session.specs.Printing.{place_toll, IsPrinted, CostsOn}
 
 -- names that hold nothing hold no wrong node
 pub session_start : {V W : Type 0} (m : Meaning V W) (values : NamesOf V) → m.IsReady → values ≡ no_names → IsSession m values
@@ -70,8 +70,8 @@ moved_asked IsAt t goal found.None h = tt
 moved_asked IsAt t goal (found.Fault s) h = tt
 
 -- a node that was found is one
-node_asked : {V : Type 0} (Is : V → Type 0) (r : Found V) → IfNode Is r → IfNode (IsAsked (λ n node. Is n) (Some tt)) r
-node_asked Is (found.Node n) h = let unit : Unit {0} = tt in (unit, refl, h)
+node_asked : {V : Type 0} (Is : V → Type 0) (r : Found V) → IfNode Is r → IfNode (IsAsked (λ n node. Is n) (Some (tt {0}))) r
+node_asked Is (found.Node n) h = (tt, refl, h)
 node_asked Is found.None h = tt
 node_asked Is (found.Fault s) h = tt
 

@@ -1,5 +1,5 @@
 -- The text of a subtree, one tree after another.
-use Rattle.std.proofs.Common.{◌≡◌, ◌∙◌, ◌+◌, ◌≤◌, ◌<◌, ℕ, Bool, true, false, cond, List, [], ◌∷◌, ◌++◌, Option, Some, None, refl, ap, sym, subst, arith, append_assoc, option_map}
+use Rattle.std.proofs.Common.{◌≡◌, ◌∙◌, ◌+◌, ◌≤◌, ℕ, Bool, true, false, cond, List, [], ◌∷◌, ◌++◌, Option, Some, None, refl, ap, sym, subst, arith, append_assoc, option_map}
 use Rattle.std.specs.Prelude.{is_some}
 use Rattle.mix_base.proofs.Lists.{append_nil}
 use Rattle.mix_tree.specs.Forest.{Forest, none, tree, LabelledTree, alone, first_tree, first_label, first_kids, behind, followed}
@@ -7,17 +7,14 @@ use Rattle.mix_tree.specs.Place.{trees_at, tree_at, has_place, child_place, next
 use Rattle.mix_tree.specs.Spelling.{spelling}
 use Rattle.mix_tree.proofs.Forests.{followed_assoc}
 use Rattle.mix_tree.proofs.Places.{trees_at-child}
-use Rattle.bracket_text.specs.Canonical.{canon, canon_trees, canon_brackets, canon_rest}
+use Rattle.bracket_text.specs.Canonical.{canon, canon_trees}
 use Rattle.mix_script.specs.Transcript.{move_answer}
-use Rattle.mix_script.specs.Trails.{place_to}
 use Rattle.mix_script.specs.declared.answer.Answer.TheVariants as answer
 use Rattle.mix_script.specs.declared.step.Way.{Way}
 use Rattle.mix_script.specs.declared.step.Way.TheVariants.{Down, Right}
-use Rattle.mix_session.specs.declared.walker.Found.{Found}
-use Rattle.mix_session.specs.declared.walker.Found.TheVariants as found
-use Rattle.mix_session.specs.Meaning.{Course, Meaning, GoesOn, Stays}
-use Rattle.mix_session.specs.Seeking.{IsAsked, IsMoved, ReadsLabel}
-use Rattle.mix_session.specs.Printing.{place_toll, CostsOn, IsThere, IsStepTo, PrintsTree, PrintsTrees, found_as}
+use Rattle.mix_session.specs.Meaning.{Meaning, Stays}
+use Rattle.mix_session.specs.Seeking.{ReadsLabel}
+use Rattle.mix_session.specs.Printing.{place_toll, CostsOn, IsThere, IsStepTo, PrintsTree, PrintsTrees}
 use Rattle.mix_session.specs.Tolls.{toll_from, trees_toll, print_toll, siblings_toll}
 use Rattle.mix_session.proofs.Walking.{stays_twice, place_toll_less, trees_at-next}
 

@@ -1,5 +1,5 @@
 -- A search among later siblings, one after another.
-use Rattle.std.proofs.Common.{◌≡◌, ◌∙◌, ◌+◌, ◌≤◌, ℕ, Bool, true, false, cond, List, Option, Some, None, Result, Ok, Err, refl, ap, sym, subst, arith}
+use Rattle.std.proofs.Common.{◌≡◌, ◌∙◌, ◌+◌, ◌≤◌, ℕ, Bool, true, false, cond, List, Option, Some, None, refl, ap, sym, subst, arith}
 use Rattle.std.specs.Prelude.{is_some}
 use Rattle.std.specs.Str.{bytes_eq}
 use Rattle.mix_tree.specs.Forest.{Forest, none, tree, LabelledTree, alone, first_tree, first_label, behind}
@@ -10,8 +10,8 @@ use Rattle.mix_script.specs.declared.step.Way.{Way}
 use Rattle.mix_script.specs.declared.step.Way.TheVariants.{Right}
 use Rattle.mix_session.specs.declared.walker.Found.{Found}
 use Rattle.mix_session.specs.declared.walker.Found.TheVariants as found
-use Rattle.mix_session.specs.Meaning.{Course, Meaning, GoesOn, Stays}
-use Rattle.mix_session.specs.Seeking.{IfNode, HasCause, IsAsked, IsMoved, IsNext, IsSelected, ReadsLabel}
+use Rattle.mix_session.specs.Meaning.{Meaning, Stays}
+use Rattle.mix_session.specs.Seeking.{IfNode, IsAsked, IsMoved, IsNext, IsSelected, ReadsLabel}
 use Rattle.mix_session.specs.Searches.{labelled_from, labelled_at, ahead_from, ahead_at, IsFirst}
 use Rattle.mix_session.specs.Printing.{place_toll, CostsOn}
 use Rattle.mix_session.specs.Tolls.{toll_from, search_toll, select_toll}

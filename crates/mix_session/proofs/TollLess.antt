@@ -1,5 +1,5 @@
 -- Tolls on a course that goes on did not rise.
-use Rattle.std.proofs.Common.{◌≡◌, ◌+◌, ◌≤◌, ℕ, List, Option, Some, None, arith}
+use Rattle.std.proofs.Common.{◌≤◌, ℕ, List, Option, Some, None, arith}
 use Rattle.mix_tree.specs.Forest.{LabelledTree, alone, first_kids, behind}
 use Rattle.mix_tree.specs.Place.{trees_at, child_place}
 use Rattle.mix_script.specs.Names.{NamesOf}

@@ -1,8 +1,7 @@
 -- Calls of a walker, one after another.
-use Rattle.std.proofs.Common.{◌≡◌, ◌∙◌, ◌+◌, ◌≤◌, ◌<◌, ℕ, zero, suc, List, [], ◌∷◌, Option, Some, None, option_map, Result, Ok, Err, refl, ap, sym, subst, arith}
-use Rattle.mix_tree.specs.Forest.{Forest, none, tree, LabelledTree, alone, first_kids, behind, from}
+use Rattle.std.proofs.Common.{◌≡◌, ◌∙◌, ◌+◌, ◌≤◌, ℕ, zero, suc, List, [], ◌∷◌, Option, Some, None, option_map, Result, Ok, Err, refl, ap, subst, arith}
+use Rattle.mix_tree.specs.Forest.{Forest, first_kids, behind, from}
 use Rattle.mix_tree.specs.Place.{trees_at, next_place}
-use Rattle.mix_base.specs.Counts.{HasRisen}
 use Rattle.mix_base.proofs.Risen.{risen_before}
 use Rattle.lazy_plan.specs.declared.fault.WalkFault.{WalkFault}
 use Rattle.lazy_plan.specs.declared.fault.WalkFault.TheVariants.{Failed, OutOfMemory}

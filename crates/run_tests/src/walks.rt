@@ -17,8 +17,8 @@ fn steps_are_answered_on_the_document(rt: HostRuntime) -> Result<(), Fail> {
         ),
         (
             "\"\"",
-            "r = root\nfetch r\nx = down r",
-            "node\nlabel \"\"\nnone\n",
+            "r = root\nfetch r\nx = down r\nprint r",
+            "node\nlabel \"\"\nnone\ntext \"\"\n",
         ),
         (
             "\"La Jolla\"",
@@ -34,6 +34,21 @@ fn steps_are_answered_on_the_document(rt: HostRuntime) -> Result<(), Fail> {
             "l[a[b],c]",
             "x = root\nx = down x\ny = down x\nx = right x\nfetch x\nfetch y",
             "node\nnode\nnode\nnode\nlabel c\nlabel b\n",
+        ),
+        (
+            "l[a,b,a,c]",
+            "r = root\nx = down r\ny = select x a\nz = right y\nfetch z\nw = select y a",
+            "node\nnode\nnode\nnode\nlabel c\nnone\n",
+        ),
+        (
+            "a[b[d,e],c]",
+            "ann: x = root\nbob: x = root\nann: x = down x\nbob: fetch x\nann: fetch x\nbob: y = down z",
+            "ann: node\nbob: node\nann: node\nbob: label a\nann: label b\nbob: no node\n",
+        ),
+        (
+            "a[ b [d, \"e f\"] ,c[]]",
+            "r = root\nprint r\nb = down r\nprint b\nc = select b c\nprint c\nprint d",
+            "node\ntext a[b[d,\"e f\"],c]\nnode\ntext b[d,\"e f\"]\nnode\ntext c\nno node\n",
         ),
         ("a", "r = root\nfly", "s: no form fits line 2\n"),
         ("a", "", ""),

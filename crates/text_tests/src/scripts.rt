@@ -34,7 +34,27 @@ fn the_first_line_of_no_form_is_named(rt: HostRuntime) {
         (b"#\nx=right r\nfly\n".as_slice(), Err(ScriptFault::Line(2))),
         (b"1 = root".as_slice(), Err(ScriptFault::Line(1))),
         (b"fetch r #".as_slice(), Err(ScriptFault::Line(1))),
-        (b"ann: r = root".as_slice(), Err(ScriptFault::Line(1))),
+        (b"ann: r = root\nbob:\tfetch r".as_slice(), Ok(2)),
+        (
+            b"y = select x a\nann: y =\tselect x  \"La Jolla\" \nprint y".as_slice(),
+            Ok(3),
+        ),
+        (b"ann:r = root".as_slice(), Err(ScriptFault::Line(1))),
+        (b"ann : r = root".as_slice(), Err(ScriptFault::Line(1))),
+        (b"1a: r = root".as_slice(), Err(ScriptFault::Line(1))),
+        (b"ann: bob: r = root".as_slice(), Err(ScriptFault::Line(1))),
+        (b"ann:".as_slice(), Err(ScriptFault::Line(1))),
+        (b"y = select x".as_slice(), Err(ScriptFault::Line(1))),
+        (b"y = select x a b".as_slice(), Err(ScriptFault::Line(1))),
+        (b"y = select x \"a".as_slice(), Err(ScriptFault::Line(1))),
+        (b"y = select x \"a\"b".as_slice(), Err(ScriptFault::Line(1))),
+        (
+            b"y = select x \"\xff\"".as_slice(),
+            Err(ScriptFault::Line(1)),
+        ),
+        (b"select x a".as_slice(), Err(ScriptFault::Line(1))),
+        (b"y = print x".as_slice(), Err(ScriptFault::Line(1))),
+        (b"print 1".as_slice(), Err(ScriptFault::Line(1))),
     ];
     for (text, want) in scripts {
         assert_eq!(rt; count(rt.alloc(), text), want);

@@ -1,7 +1,7 @@
-use Rattle.std.proofs.Common.{rules, ◌≡◌, ◌∙◌, Some, None, refl, subst}
+use Rattle.std.proofs.Common.{rules, Some, None, refl, subst}
 use Rattle.lxp_core.specs.View.{Keeps}
 use Rattle.mix_script.specs.declared.step.Way.TheVariants.{Down, Right}
-use Rattle.mix_session.specs.Printing.{IsStepTo, PrintsTree}
+use Rattle.mix_session.specs.Printing.{IsStepTo}
 use Rattle.mix_session.proofs.Walking.{stays_same, stays_twice, fails_before}
 use Rattle.mix_session.proofs.Prints.{prints_leaf, prints_node, node_costs, printed_start, printed_costs, right_costs, printed_all, printed_more}
 use Rattle.mix_session.proofs.printing.+printing.Goals as goal

@@ -1,4 +1,4 @@
-use Rattle.std.proofs.Common.{◌≡◌, ◌∙◌, false, true, sym}
+use Rattle.std.proofs.Common.{◌≡◌, ◌∙◌, false, sym}
 use Rattle.std.specs.Str.{bytes_eq}
 use Rattle.lxp_core.specs.View.{Keeps}
 use Rattle.mix_session.proofs.Searches.{sought_found, sought_costs, more_costs, sought_more, sought_none}

@@ -1,4 +1,3 @@
-use Rattle.std.proofs.Common.{Ok}
 use Rattle.std.proofs.lemmas.Result.{IfOk-weaker}
 use Rattle.lxp_core.specs.View.{Keeps}
 use Rattle.mix_session.proofs.Searches.{start_costs, select_none, select_found, select_costs}

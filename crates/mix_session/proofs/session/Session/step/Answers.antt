@@ -34,7 +34,17 @@ returns-in_ok-found-in-Select-clause-stepped g c =
     let ran = c.select.ensures in
     let keeps : Keeps (view c.select.new.s) (view c.args.s.now) = g.met.S.Sources.keeps _ _ ran.came in
     let taken = c.take_found-in-Select.ensures in
-    let here : held c.args.self.now.names c.args.step.now.client c.in-Select.from ≡ Some c.in-Some-2.node.now = sym (rw c.in-Some-2.is at c.get-in-Select.ensures) in
+    let here : held c.args.self.now.names c.args.step.now.client c.in-Select.from ≡ Some c.in-Some-get.node.now = sym (rw c.in-Some-get.is at c.get-in-Select.ensures) in
     rw c.in-Select.is (select_taken (means (view c.args.s.now) c.args.self.now.walker) (means (view c.select.new.s) c.select.new.walker) (view c.args.s.now) (view c.select.new.s) keeps.faults ran.stays
-    (held c.args.self.now.names) c.requires c.args.step.now.client c.in-Select.from c.in-Some-2.node.now here c.in-Select.name c.in-Select.label ran.cost c.in_ok-found-in-Select.found c.in_ok-found-in-Select.ensures.found
+    (held c.args.self.now.names) c.requires c.args.step.now.client c.in-Select.from c.in-Some-get.node.now here c.in-Select.name c.in-Select.label ran.cost c.in_ok-found-in-Select.found c.in_ok-found-in-Select.ensures.found
     (held c.take_found-in-Select.new.names) c.take_found-in-Select.result taken.answer taken.names taken.still)
+
+pub returns-in-Some-get-3-clause-stepped : goal.returns-in-Some-get-3-clause-stepped
+returns-in-Some-get-3-clause-stepped g c =
+    let view = g.S.Sources.view in
+    let means = g.W.Walker.means in
+    let ran = c.print.ensures in
+    let keeps : Keeps (view c.print.new.s) (view c.args.s.now) = g.met.S.Sources.keeps _ _ ran.came in
+    let here : held c.args.self.now.names c.args.step.now.client c.in-Print.from ≡ Some c.in-Some-get-3.node.now = sym (rw c.in-Some-get-3.is at c.get-in-Print.ensures) in
+    rw c.in-Print.is (printed (means (view c.args.s.now) c.args.self.now.walker) (means (view c.print.new.s) c.print.new.walker) (view c.args.s.now) (view c.print.new.s) keeps.faults ran.stays
+    (held c.args.self.now.names) c.requires c.args.step.now.client c.in-Print.from c.in-Some-get-3.node.now here ran.cost c.print.result ran.printed)
