@@ -1,3 +1,3 @@
+mod Counted
 mod Fields
 mod Lines
-mod Counted

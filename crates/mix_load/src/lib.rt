@@ -1,8 +1,10 @@
-//! A large input made in memory: the CSV text of many people, and the count of the nodes of a printed tree.
+//! A large input made in memory: the CSV text of many people, the view of their names, and the count of the nodes of a printed tree.
 #![tactic(auto)]
 
 mod nodes;
 mod people;
+mod view;
 
 pub use nodes::count_nodes;
 pub use people::people_text;
+pub use view::names_rule;
