@@ -2,6 +2,8 @@
 use Rattle.std.specs.Prelude.{ℕ, zero, suc, ◌+◌, ◌*◌, ◌%◌, List, [], ◌∷◌, ◌++◌, map, codes}
 use Rattle.std.specs.Fmt.{decimal}
 use Rattle.std.specs.List.{concat, join_with_byte}
+use Rattle.mix_tree.specs.Forest.{LabelledTree}
+use Rattle.csv_wrap.specs.Rows.{file_tree}
 
 -- the columns
 abbrev pub people_columns : List (List ℕ)
@@ -23,3 +25,7 @@ record_line fields = join_with_byte 44 fields ++ 10 ∷ []
 -- the text of so many people, below the line of the columns
 abbrev pub people_text : ℕ → List ℕ
 people_text count = concat (map record_line (people_columns ∷ people count))
+
+-- their document: the rows below the source's name
+abbrev pub people_tree : ℕ → LabelledTree
+people_tree count = file_tree (codes "people") people_columns (people count)

@@ -10,8 +10,8 @@ use path_expr::{Node, Path};
 use std::alloc::{AllocError, Global};
 use xmas_rule::{Cond, Item, Rule, Template};
 
-// A text as a label.
-fn label(alloc: Global, text: &str) -> Result<Label, AllocError>
+/// A text as a label.
+pub(crate) fn label(alloc: Global, text: &str) -> Result<Label, AllocError>
     ensures { IfOk result (λ l. l ≡ text.now) }
 {
     Label::of_text(alloc, text.as_bytes())
