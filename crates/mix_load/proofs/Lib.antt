@@ -1,0 +1,4 @@
+mod Counted
+mod Fields
+mod Lines
+mod Opened

@@ -1,0 +1,12 @@
+//! A large input made in memory: the CSV text of many people, its document, the view of their names, and the count of the nodes of a printed tree.
+#![tactic(auto)]
+
+mod nodes;
+mod people;
+mod source;
+mod view;
+
+pub use nodes::count_nodes;
+pub use people::people_text;
+pub use source::people_document;
+pub use view::names_rule;

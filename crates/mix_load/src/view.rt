@@ -1,0 +1,90 @@
+// The view of many people: their names, an element for each person.
+ghost use Rattle.std.specs.Prelude.{◌≡◌, IfOk, string_bytes};
+ghost use Rattle.path_expr.specs.Form.{name, none};
+ghost use Rattle.xmas_rule.specs.RuleMade.{rule_of};
+ghost use Rattle.xmas_rule.specs.Rules.{IsAccepted};
+ghost use Rattle.mix_load.specs.View.{names_rule, names_condition, rows_condition, person_element};
+
+use mix_tree::{Key, Label, Var};
+use path_expr::{Node, Path};
+use std::alloc::{AllocError, Global};
+use xmas_rule::{Cond, Item, Rule, Template};
+
+/// A text as a label.
+pub(crate) fn label(alloc: Global, text: &str) -> Result<Label, AllocError>
+    ensures { IfOk result (λ l. l ≡ text.now) }
+{
+    Label::of_text(alloc, text.as_bytes())
+}
+
+// The path of a label alone.
+fn step(alloc: Global, text: &str) -> Result<Path, AllocError>
+    ensures { IfOk result (λ path. path ≡ record { head = name text.now; members = none }) }
+{
+    Ok(Path::new(Node::Name(label(alloc, text)?)))
+}
+
+// The rows of the people are found: `people people.row $R`.
+fn rows_condition(alloc: Global) -> Result<Cond, AllocError>
+    ensures { IfOk result (λ cond. cond ≡ rows_condition) }
+{
+    let people = step(alloc, "people")?;
+    let row = step(alloc, "row")?;
+    Ok(Cond::FromSource {
+        source: 0,
+        path: Path::new(Node::Seq(vec![in alloc; people, row]?)),
+        var: Var::new(0),
+    })
+}
+
+// Their names are found: `$R name._ $N`.
+fn names_condition(alloc: Global) -> Result<Cond, AllocError>
+    ensures { IfOk result (λ cond. cond ≡ names_condition) }
+{
+    let name = step(alloc, "name")?;
+    let any = Path::new(Node::Any);
+    Ok(Cond::FromVar {
+        start: Var::new(0),
+        path: Path::new(Node::Seq(vec![in alloc; name, any]?)),
+        var: Var::new(1),
+    })
+}
+
+// The element of a person: `<p> $N </p> {$R,$N}`.
+fn person_element(alloc: Global) -> Result<Template, AllocError>
+    ensures { IfOk result (λ t. t ≡ person_element) }
+{
+    let name = Item::Node {
+        var: Var::new(1),
+        keys: Vec::new(alloc),
+    };
+    let keys = vec![in alloc; Key::Node(Var::new(0)), Key::Node(Var::new(1))]?;
+    Ok(Template {
+        label: label(alloc, "p")?,
+        items: vec![in alloc; name]?,
+        keys,
+    })
+}
+
+/// The view of the names of people:
+/// `CONSTRUCT <names> <p> $N </p> {$R,$N} </names> {} WHERE people people.row $R AND $R name._ $N` over the one source `people`. It fails
+/// where memory runs out.
+pub fn names_rule(alloc: Global) -> Result<Rule, AllocError>
+    ensures rule { IfOk result (λ rule. rule_of rule ≡ names_rule) }
+    ensures accepted { IfOk result (λ rule. IsAccepted 1 (rule_of rule)) }
+{
+    let person = Item::Element(person_element(alloc)?);
+    let template = Template {
+        label: label(alloc, "names")?,
+        items: vec![in alloc; person]?,
+        keys: Vec::new(alloc),
+    };
+    let rows = rows_condition(alloc)?;
+    let names = names_condition(alloc)?;
+    Ok(Rule {
+        template,
+        conds: vec![in alloc; rows, names]?,
+        order: None,
+        names: vec![in alloc; label(alloc, "R")?, label(alloc, "N")?]?,
+    })
+}
