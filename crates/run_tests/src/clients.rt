@@ -1,22 +1,12 @@
 // Two clients on one answer: each one's lines are those of its steps alone, whatever the other asks in between.
 use crate::run::run_over;
+use crate::views::{HOMES, MED_HOME, SCHOOLS, TWO};
 use std::alloc::{AllocError, Global};
 use std::test::Fail;
 
 const RUN: [&str; 4] = ["run", "v", "cat", "s"];
 
 const WALK: [&str; 3] = ["walk", "doc", "s"];
-
-const MED_HOME: &str =
-    "CONSTRUCT <answer> <med_home> $H $S {$S} </med_home> {$H} </answer> {} WHERE homes homes.home $H AND $H zip._ $V1 AND schools schools.school $S AND $S zip._ $V2 AND $V1 = $V2";
-
-const TWO: &str = "source homes bracket h chunk 1\nsource schools bracket f chunk 1\n";
-
-const HOMES: &str =
-    "homes[home[addr[\"La Jolla\"],zip[91220]],home[addr[\"El Cajon\"],zip[91223]]]";
-
-const SCHOOLS: &str =
-    "schools[school[dir[Smith],zip[91220]],school[dir[Bar],zip[91220]],school[dir[Hart],zip[91223]]]";
 
 const ANSWER: &str =
     "answer[med_home[home[addr[\"La Jolla\"],zip[91220]],school[dir[Smith],zip[91220]],school[dir[Bar],zip[91220]]],med_home[home[addr[\"El Cajon\"],zip[91223]],school[dir[Hart],zip[91223]]]]";

@@ -1,25 +1,17 @@
 // Runs of `run` that print the whole answer, with texts worked out by hand. VIEW is the file `v`, CATALOG the file `cat`, and SCRIPT
 // the file `s`.
+use crate::lists::SIDE_BY_SIDE;
 use crate::run::{Outcome, run_over};
+use crate::views::{HOMES, MED_HOME, ONE, SCHOOLS, TWO};
 use std::alloc::{AllocError, Global};
 use std::test::Fail;
 
 const RUN: [&str; 4] = ["run", "v", "cat", "s"];
 
-const MED_HOME: &str =
-    "CONSTRUCT <answer> <med_home> $H $S {$S} </med_home> {$H} </answer> {} WHERE homes homes.home $H AND $H zip._ $V1 AND schools schools.school $S AND $S zip._ $V2 AND $V1 = $V2";
-
-const SIDE_BY_SIDE: &str =
-    "CONSTRUCT <a> $H $S </a> WHERE homes homes.home $H AND schools schools.school $S";
-
 const BY_ZIP: &str =
     "CONSTRUCT <o> <g> label $Z <m> $H </m> {$H} </g> {label $Z} </o> WHERE homes homes.home $H AND $H zip._ $Z";
 
-const TWO: &str = "source homes bracket h chunk 1\nsource schools bracket f chunk 1\n";
-
-const HOMES: &str = "source homes bracket f chunk 1\n";
-
-const ONE: &str = "source s bracket f chunk 1\n";
+const HOMES_ALONE: &str = "source homes bracket f chunk 1\n";
 
 const PEOPLE: &str = "source people csv f columns id,name,zip chunk 2\n";
 
@@ -28,9 +20,6 @@ const RECORDS: &str = "id,name,zip\n1,Ann,91220\n2,Bo,91223\n3,Ann,91220\n";
 const TABLE: &str = "source c csv f columns id,name chunk 1\n";
 
 const ROWS: &str = "CONSTRUCT <out> $R </out> WHERE c c.row $R";
-
-const LA_JOLLA: &str =
-    "homes[home[addr[\"La Jolla\"],zip[91220]],home[addr[\"El Cajon\"],zip[91223]]]";
 
 // A catalog, a view, the files `h` and `f`, and the text of the answer.
 struct Row {
@@ -46,15 +35,15 @@ const PRINTED: [Row; 14] = [
     Row {
         catalog: TWO,
         view: MED_HOME,
-        homes: LA_JOLLA,
-        first: "schools[school[dir[Smith],zip[91220]],school[dir[Bar],zip[91220]],school[dir[Hart],zip[91223]]]",
+        homes: HOMES,
+        first: SCHOOLS,
         text: "answer[med_home[home[addr[\"La Jolla\"],zip[91220]],school[dir[Smith],zip[91220]],school[dir[Bar],zip[91220]]],med_home[home[addr[\"El Cajon\"],zip[91223]],school[dir[Hart],zip[91223]]]]",
     },
     // Without schools no home is left.
     Row {
         catalog: TWO,
         view: MED_HOME,
-        homes: LA_JOLLA,
+        homes: HOMES,
         first: "schools",
         text: "answer",
     },
@@ -124,7 +113,7 @@ const PRINTED: [Row; 14] = [
     },
     // Groups by a label.
     Row {
-        catalog: HOMES,
+        catalog: HOMES_ALONE,
         view: BY_ZIP,
         homes: "",
         first: "homes[home[zip[1]],home[zip[2]],home[zip[1]]]",
