@@ -2,9 +2,13 @@
 #![tactic(auto)]
 
 #[cfg(test)]
+mod clients;
+#[cfg(test)]
 mod lists;
 #[cfg(test)]
 mod plans;
+#[cfg(test)]
+mod prints;
 #[cfg(test)]
 mod reads;
 #[cfg(test)]

@@ -5,8 +5,8 @@ use std::test::Fail;
 const CATALOG: &str =
     "source homes bracket h chunk 1\nsource schools bracket f chunk 1\nsource s bracket l chunk 2\n";
 
-// Two lists beside one another.
-const SIDE_BY_SIDE: &str =
+/// Two lists beside one another.
+pub const SIDE_BY_SIDE: &str =
     "CONSTRUCT <a> $H $S </a> WHERE homes homes.home $H AND schools schools.school $S";
 
 // Two lists in a group by a label.

@@ -5,17 +5,22 @@ use std::test::Fail;
 
 const RUN: [&str; 4] = ["run", "v", "cat", "s"];
 
-const MED_HOME: &str =
+/// The homes, each with its schools.
+pub const MED_HOME: &str =
     "CONSTRUCT <answer> <med_home> $H $S {$S} </med_home> {$H} </answer> {} WHERE homes homes.home $H AND $H zip._ $V1 AND schools schools.school $S AND $S zip._ $V2 AND $V1 = $V2";
 
-const TWO: &str = "source homes bracket h chunk 1\nsource schools bracket f chunk 1\n";
+/// A catalog of two sources.
+pub const TWO: &str = "source homes bracket h chunk 1\nsource schools bracket f chunk 1\n";
 
-const ONE: &str = "source s bracket f chunk 1\n";
+/// A catalog of one source.
+pub const ONE: &str = "source s bracket f chunk 1\n";
 
-const HOMES: &str =
+/// Two homes.
+pub const HOMES: &str =
     "homes[home[addr[\"La Jolla\"],zip[91220]],home[addr[\"El Cajon\"],zip[91223]]]";
 
-const SCHOOLS: &str =
+/// Schools by both.
+pub const SCHOOLS: &str =
     "schools[school[dir[Smith],zip[91220]],school[dir[Bar],zip[91220]],school[dir[Hart],zip[91223]]]";
 
 // A view over at most two documents `h` and `f`, a script, and the status and the lines that answer it.

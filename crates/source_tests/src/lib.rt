@@ -12,6 +12,8 @@ mod memory;
 #[cfg(test)]
 mod mounts;
 #[cfg(test)]
+mod prints;
+#[cfg(test)]
 mod tables;
 #[cfg(test)]
 mod visits;
