@@ -1,11 +1,12 @@
 -- Fronts: variables by whose first ones the bindings of an operator that agree stand side by side.
-use Rattle.std.specs.Prelude.{ℕ, Bool, true, false, cond, ◌&&◌, List, [], ◌∷◌, ◌++◌, map}
+use Rattle.std.specs.Prelude.{◌≡◌, ◌<◌, ℕ, Bool, true, false, cond, ◌&&◌, List, [], ◌∷◌, ◌++◌, map, length, slice_index_or}
 use Rattle.std.specs.List.{list_all, list_any}
 use Rattle.mix_tree.specs.Keys.{key_eq, stands}
 use Rattle.mix_tree.specs.declared.var.Key.{Key}
 use Rattle.mix_tree.specs.declared.var.Key.TheVariants.{Node as node_key}
 use Rattle.plan_core.specs.ByNumber.{by_number}
-use Rattle.plan_core.specs.Plans.{Operator}
+use Rattle.plan_core.specs.Plans.{Operator, source, get_descendants, join, over, tuple_destroy}
+use Rattle.plan_core.specs.Unary.{select, order_by, project, group_by, concatenate, create_element}
 use Rattle.plan_core.specs.Shapes.{Stage, filters, extends, first_by_keys, one_group, in_order, Shape, one_source, visits_below, pairs_up, passes_on, no_events, shape_of}
 
 -- variables in order, and whether no two bindings agree in all of them
@@ -62,3 +63,25 @@ front ops n = by_number op_front (no_front false) ops n
 -- groups by these keys over operator n end at the first other key
 abbrev pub stops_over : List Operator → ℕ → List Key → Bool
 stops_over ops n keys = are_contiguous keys (front ops n).vars
+
+-- the groups of an operator end at the first other key
+abbrev pub op_stops : List Operator → Operator → Bool
+op_stops ops (source s out) = false
+op_stops ops (get_descendants input start path out) = false
+op_stops ops (join left right tests) = false
+op_stops ops (over input (select test)) = false
+op_stops ops (over input (order_by v desc)) = false
+op_stops ops (over input (project keys)) = false
+op_stops ops (over input (group_by keys piece out)) = stops_over ops input keys
+op_stops ops (over input (concatenate pieces out)) = false
+op_stops ops (over input (create_element label list out)) = false
+op_stops ops (tuple_destroy input made) = false
+
+-- the front of a number among fronts; elsewhere none
+abbrev pub front_at : List Front → ℕ → Front
+front_at fronts n = slice_index_or fronts n (no_front false)
+
+-- these are the fronts of the operators
+pub record AreFronts (ops : List Operator) (fronts : List Front) : Type 0 where
+  pub count : length fronts ≡ length ops
+  pub each : (n : ℕ) → n < length ops → front_at fronts n ≡ front ops n

@@ -1,0 +1,74 @@
+-- Fronts as the program computes them.
+use Rattle.std.proofs.Common.{◌≡◌, ◌<◌, ◌≤◌, inl, inr, ℕ, ◌+◌, true, false, cond, List, [], ◌∷◌, ◌++◌, refl, sym, ap, ◌∙◌, arith, length, length-append, map}
+use Rattle.std.specs.Prelude.{Bool, ◌||◌, ◌==◌}
+use Rattle.std.specs.List.{list_any}
+use Rattle.std.proofs.Math.Path.{fun_ext}
+use Rattle.std.proofs.lemmas.Bool.{cases_lt}
+use Rattle.std.proofs.lemmas.List.{get_or_append_left, get_or_at, get_or_past}
+use Rattle.mix_tree.specs.Keys.{key_eq, key_var, stands}
+use Rattle.mix_tree.specs.declared.var.Key.{Key}
+use Rattle.mix_tree.specs.declared.var.Key.TheVariants.{Node as node_key}
+use Rattle.plan_core.specs.ByNumber.{op_at, below_op}
+use Rattle.plan_core.specs.Fronts.{Front, no_front, node_keys, shared, op_front, front, front_at, AreFronts, are_contiguous, stops_over}
+use Rattle.plan_core.specs.Plans.{Operator, source}
+use Rattle.plan_core.proofs.Numbers.{below_op-at, below_op-past, front-of}
+
+-- a key stands where its variable is one of the nodes'
+pub stands_nodes : (vs : List ℕ) (k : Key) → stands (node_keys vs) k ≡ list_any (λ w. w == key_var k) vs
+stands_nodes [] k = refl
+stands_nodes (v ∷ vs) k = ap (λ (b : Bool). (v == key_var k) || b) (stands_nodes vs k)
+
+-- one variable more is shared
+pub shared_more : (keys : List Key) (v : ℕ) (vs : List ℕ) → list_any (key_eq (node_key v)) keys ≡ true → shared keys (v ∷ vs) ≡ v ∷ shared keys vs
+shared_more keys v vs h = rw h refl
+
+-- or none from there on
+pub shared_end : (keys : List Key) (v : ℕ) (vs : List ℕ) → list_any (key_eq (node_key v)) keys ≡ false → shared keys (v ∷ vs) ≡ []
+shared_end keys v vs h = rw h refl
+
+-- the fronts of the operators before a number are those of the inputs
+pub fronts_below : (ops : List Operator) (fronts : List Front) (k : ℕ) → length fronts ≡ k → ((n : ℕ) → n < k → front_at fronts n ≡ front ops n) → front_at fronts ≡ below_op op_front (no_front false) ops k
+unfolding front
+fronts_below ops fronts k l h =
+    fun_ext (λ n. elim (cases_lt n k) as (λ z. front_at fronts n ≡ below_op op_front (no_front false) ops k n) [
+      | inl b ↦ h n b ∙ sym (below_op-at op_front (no_front false) ops k n b)
+      | inr b ↦ get_or_past fronts n (no_front false) (omega (arith, l, b)) ∙ sym (below_op-past op_front (no_front false) ops k n b)
+    ])
+
+-- so the front of the next operator is made of them
+pub front_next : (ops : List Operator) (fronts : List Front) (k : ℕ) (op : Operator) → op_at ops k ≡ op → length fronts ≡ k → ((n : ℕ) → n < k → front_at fronts n ≡ front ops n)
+    → op_front op (front_at fronts) ≡ front ops k
+unfolding front
+front_next ops fronts k op e l h = ap (λ (o : Operator). op_front o (front_at fronts)) (sym e) ∙ ap (op_front (op_at ops k)) (fronts_below ops fronts k l h)
+
+-- the fronts of the first operators
+pub record AreBelow (ops : List Operator) (fronts : List Front) (k : ℕ) : Type 0 where
+  pub count : length fronts ≡ k
+  pub each : (n : ℕ) → n < k → front_at fronts n ≡ front ops n
+
+-- with that of the next
+pub fronts_more : (ops : List Operator) (fronts : List Front) (k : ℕ) (op : Operator) (f : Front) → op_at ops k ≡ op → length fronts ≡ k
+    → ((n : ℕ) → n < k → front_at fronts n ≡ front ops n) → f ≡ op_front op (front_at fronts) → AreBelow ops (fronts ++ f ∷ []) (k + 1)
+fronts_more ops fronts k op f e l h is = record {
+  count = (let a = length-append fronts (f ∷ []) in omega (arith, a, l));
+  each = λ n b.
+      elim (cases_lt n k) as (λ z. front_at (fronts ++ f ∷ []) n ≡ front ops n) [
+        | inl c ↦ get_or_append_left fronts (f ∷ []) (no_front false) n (omega (arith, l, c)) ∙ h n c
+        | inr c ↦
+            (let q : n ≡ k = omega (arith, b, c) in
+            get_or_at fronts f [] (no_front false) n (sym (q ∙ sym l)) ∙ is ∙ front_next ops fronts k op e l h ∙ sym (ap (front ops) q))
+      ];
+}
+
+-- the variables of the front of any number; past the last operator there are none
+pub vars_found : (ops : List Operator) (fronts : List Front) → AreFronts ops fronts → (n : ℕ) → (front_at fronts n).vars ≡ (front ops n).vars
+vars_found ops fronts h n = elim (cases_lt n (length ops)) [
+  | inl b ↦ ap (λ (f : Front). f.vars) (h.each n b)
+  | inr b ↦ (let c = h.count in
+      ap (λ (f : Front). f.vars) (get_or_past fronts n (no_front false) (omega (arith, c, b)))
+      ∙ sym (ap (λ (f : Front). f.vars) (front-of ops n (source 0 0) (get_or_past ops n (source 0 0) b) tt)))
+]
+
+-- so whether groups stop
+pub stops_found : (ops : List Operator) (fronts : List Front) → AreFronts ops fronts → (n : ℕ) (keys : List Key) → are_contiguous keys (front_at fronts n).vars ≡ stops_over ops n keys
+stops_found ops fronts h n keys = ap (are_contiguous keys) (vars_found ops fronts h n)
