@@ -8,14 +8,14 @@ use Rattle.lxp_core.specs.View.{View}
 use Rattle.plan_core.specs.Plans.{Operator}
 use Rattle.plan_core.specs.ByNumber.{op_at}
 use Rattle.plan_core.specs.TolledRows.{TolledRow}
-use Rattle.plan_core.specs.Events.{RowEvents, only, same_group}
-use Rattle.plan_core.proofs.Found.{found-only_none, found-only_yes, found-only_no, cost-only_le, cost-only_no}
+use Rattle.plan_core.specs.Events.{RowEvents, only, passing}
+use Rattle.plan_core.proofs.Found.{found-only_no, cost-only_no, found-passing_none, found-passing_yes, found-run_no, cost-passing_le}
 use Rattle.lazy_plan.specs.declared.bench.Bench.{Bench}
 use Rattle.lazy_plan.specs.Bench.{BenchState, state_of, told, forward, fills_of, ops_of, documents, IsCursor, binding_at, ahead_at, number_at, KeepsBench, AsksAtMost, IsFirstOf, BenchRan}
 use Rattle.lazy_plan.specs.declared.position.Position.{Position}
 use Rattle.lazy_plan.proofs.Benches.{keeps_on}
 use Rattle.lazy_value.specs.Forms.{input_at, keys_of}
-use Rattle.lazy_value.specs.Ids.{group_ahead}
+use Rattle.lazy_value.specs.Ids.{stops_at, group_ahead}
 use Rattle.lazy_value.specs.Steps.{Walked, IsMember}
 use Rattle.lazy_value.proofs.Keep.{ops_kept, input_kept, binding_kept}
 use Rattle.lazy_value.proofs.Sames.{same_by}
@@ -43,8 +43,11 @@ module _ (b c : BenchState) (k : KeepsBench b c) (op : ℕ) (first : Position) (
       ∙ ap (λ (ops : List Operator). same_by (documents b) (binding_at c (input_at (ops_of c) op) first) row (keys_of (op_at ops op))) (ops_kept b c k)
       ∙ ap (λ (r : TolledRow). same_by (documents b) r row (keys_of (op_at (ops_of b) op))) (binding_kept b c k op first h)
 
-  only_kept : (es : RowEvents) → only (passes b op first) es ≡ same_group (documents c) (keys_of (op_at (ops_of c) op)) (binding_at c (input_at (ops_of c) op) first) es
-  only_kept es = ap {B = RowEvents} (λ (test : TolledRow → Bool). only test es) (λ i row. sym (passes_kept row) i)
+  -- so are the events that it leaves
+  behind_kept : (es : RowEvents) → passing (stops_at (ops_of b) op) (passes b op first) es ≡ passing (stops_at (ops_of c) op) (passes c op first) es
+  behind_kept es =
+      ap {B = RowEvents} (λ (test : TolledRow → Bool). passing (stops_at (ops_of b) op) test es) (λ i row. sym (passes_kept row) i)
+      ∙ ap (λ (ops : List Operator). passing (stops_at ops op) (passes c op first) es) (sym (ops_kept b c k))
 
 module _ (a b c : BenchState) (whole : RowEvents) (op : ℕ) (first at : Position) (g : Goes a b whole (group_ahead b op first at)) (k : KeepsBench b c)
     (e : AsksAtMost b c (cost (ahead_at b (input_at (ops_of b) op) at))) where
@@ -55,11 +58,11 @@ module _ (a b c : BenchState) (whole : RowEvents) (op : ℕ) (first at : Positio
   pub goes_asks : AsksAtMost a c (cost whole)
   goes_asks y w =
       let i = e (still_told g.kept y) (still_forward g.kept w) in let j = g.asks y w in
-      let l = cost-only_le (passes b op first) (ahead_at b (input_at (ops_of b) op) at) in omega (arith, i, j, l)
+      let l = cost-passing_le (stops_at (ops_of b) op) (passes b op first) (ahead_at b (input_at (ops_of b) op) at) in omega (arith, i, j, l)
 
   -- no further binding is no further member
   pub goes_done : (IsTrue (told b) → found (ahead_at b (input_at (ops_of b) op) at) ≡ nothing) → IsTrue (told a) → found whole ≡ nothing
-  goes_done h y = g.found y ∙ found-only_none (passes b op first) (ahead_at b (input_at (ops_of b) op) at) (h (still_told g.kept y))
+  goes_done h y = g.found y ∙ found-passing_none (stops_at (ops_of b) op) (passes b op first) (ahead_at b (input_at (ops_of b) op) at) (h (still_told g.kept y))
 
   module _ (h : IsCursor b (input_at (ops_of b) op) first) (d : Position) (f : IsFirstOf b c (input_at (ops_of b) op) (ahead_at b (input_at (ops_of b) op) at) (number_at b (input_at (ops_of b) op) at) d) where
     input_same : input_at (ops_of c) op ≡ input_at (ops_of b) op
@@ -81,25 +84,36 @@ module _ (a b c : BenchState) (whole : RowEvents) (op : ℕ) (first at : Positio
       cursor = cursor_same;
       falls = (let z = falls_same in omega (arith, z, low));
       found = λ y. g.found y
-          ∙ found-only_yes (passes b op first) (ahead_at b (input_at (ops_of b) op) at) _ _ (finds_it y)
+          ∙ found-passing_yes (stops_at (ops_of b) op) (passes b op first) (ahead_at b (input_at (ops_of b) op) at) _ _ (finds_it y)
           (sym (passes_kept b c k op first h (binding_at c (input_at (ops_of c) op) d)) ∙ t (still_told goes_kept y))
-          ∙ ap (finds (binding_at c (input_at (ops_of c) op) d)) (only_kept b c k op first h (ahead_at c (input_at (ops_of c) op) d));
+          ∙ ap (finds (binding_at c (input_at (ops_of c) op) d)) (behind_kept b c k op first h (ahead_at c (input_at (ops_of c) op) d));
     }
 
-    -- another one is passed
-    pub goes_no : (IsTrue (told c) → passes c op first (binding_at c (input_at (ops_of c) op) d) ≡ false) → Goes a c whole (group_ahead c op first d)
-    goes_no t = record {
-      kept = goes_kept;
-      found = λ y. g.found y
-          ∙ found-only_no (passes b op first) (ahead_at b (input_at (ops_of b) op) at) _ _ (finds_it y)
-          (sym (passes_kept b c k op first h (binding_at c (input_at (ops_of c) op) d)) ∙ t (still_told goes_kept y))
-          ∙ ap found (only_kept b c k op first h (ahead_at c (input_at (ops_of c) op) d));
-      asks = λ y w. (let i = e (still_told g.kept y) (still_forward g.kept w) in let j = g.asks y w in
-          let l = cost-only_no (passes b op first) (ahead_at b (input_at (ops_of b) op) at) _ _ (finds_it y)
-          (sym (passes_kept b c k op first h (binding_at c (input_at (ops_of c) op) d)) ∙ t (still_told goes_kept y)) in
-          let m = ap cost (only_kept b c k op first h (ahead_at c (input_at (ops_of c) op) d)) in
-          omega (arith, i, j, l, m));
-    }
+    -- it fails the test before the call as well
+    fails_it : (IsTrue (told c) → passes c op first (binding_at c (input_at (ops_of c) op) d) ≡ false) → IsTrue (told a) → passes b op first (binding_at c (input_at (ops_of c) op) d) ≡ false
+    fails_it t y = sym (passes_kept b c k op first h (binding_at c (input_at (ops_of c) op) d)) ∙ t (still_told goes_kept y)
+
+    -- another one is passed, where the group doesn't stop at it
+    pub goes_no : stops_at (ops_of b) op ≡ false → (IsTrue (told c) → passes c op first (binding_at c (input_at (ops_of c) op) d) ≡ false) → Goes a c whole (group_ahead c op first d)
+    goes_no n t =
+        let es : RowEvents = ahead_at b (input_at (ops_of b) op) at in
+        let is : passing (stops_at (ops_of b) op) (passes b op first) es ≡ only (passes b op first) es = ap (λ (w : Bool). passing w (passes b op first) es) n in
+        let later : RowEvents = ahead_at c (input_at (ops_of c) op) d in
+        let then : only (passes b op first) later ≡ group_ahead c op first d = ap (λ (w : Bool). passing w (passes b op first) later) (sym n) ∙ behind_kept b c k op first h later in
+        record {
+          kept = goes_kept;
+          found = λ y. g.found y ∙ ap found is ∙ found-only_no (passes b op first) es _ _ (finds_it y) (fails_it t y) ∙ ap found then;
+          asks = λ y w. (let i = e (still_told g.kept y) (still_forward g.kept w) in let j = g.asks y w in
+              let l = cost-only_no (passes b op first) es _ _ (finds_it y) (fails_it t y) in
+              let m = ap cost then in
+              let o = ap cost is in omega (arith, i, j, l, m, o));
+        }
+
+    -- where it stops there, there is no further member
+    pub goes_end : stops_at (ops_of b) op ≡ true → (IsTrue (told c) → passes c op first (binding_at c (input_at (ops_of c) op) d) ≡ false) → IsTrue (told a) → found whole ≡ nothing
+    goes_end n t y =
+        let es : RowEvents = ahead_at b (input_at (ops_of b) op) at in
+        g.found y ∙ ap (λ (w : Bool). found (passing w (passes b op first) es)) n ∙ found-run_no (passes b op first) es _ _ (finds_it y) (fails_it t y)
 
 -- what the code compared is the test
 pub test_is : (c : BenchState) (op input : ℕ) (first d : Position) (keys : List Key) (b t : Bool) → input ≡ input_at (ops_of c) op → keys ≡ keys_of (op_at (ops_of c) op)
@@ -152,7 +166,17 @@ module _ {S : Type 0} {view : S → View} {came_from : S → S → Type 0} (afte
         → IsMember (state_of (view s) p) (state_of (view u) r) op first whole top d
     member_found = goes_yes (state_of (view s) p) (state_of (view t) q) (state_of (view u) r) whole op first at g ran.kept asked h d first_found
 
-    -- another one is passed
-    pub goes_on : (IsTrue (told (state_of (view u) r)) → passes (state_of (view u) r) op first (binding_at (state_of (view u) r) (input_at (ops_of (state_of (view u) r)) op) d) ≡ false)
+    -- whether the group stops is the same after the call
+    stops_before : (w : Bool) → stops_at (ops_of (state_of (view u) r)) op ≡ w → stops_at (ops_of (state_of (view t) q)) op ≡ w
+    stops_before w n = ap (λ (ops : List Operator). stops_at ops op) (sym (ops_kept (state_of (view t) q) (state_of (view u) r) ran.kept)) ∙ n
+
+    -- another one is passed, where the group doesn't stop at it
+    pub goes_on : stops_at (ops_of (state_of (view u) r)) op ≡ false → (IsTrue (told (state_of (view u) r)) → passes (state_of (view u) r) op first (binding_at (state_of (view u) r) (input_at (ops_of (state_of (view u) r)) op) d) ≡ false)
         → Goes (state_of (view s) p) (state_of (view u) r) whole (group_ahead (state_of (view u) r) op first d)
-    goes_on = goes_no (state_of (view s) p) (state_of (view t) q) (state_of (view u) r) whole op first at g ran.kept asked h d first_found
+    goes_on n = goes_no (state_of (view s) p) (state_of (view t) q) (state_of (view u) r) whole op first at g ran.kept asked h d first_found (stops_before false n)
+
+    -- where it stops there, there is no further member
+    pub goes_over : stops_at (ops_of (state_of (view u) r)) op ≡ true
+        → (IsTrue (told (state_of (view u) r)) → passes (state_of (view u) r) op first (binding_at (state_of (view u) r) (input_at (ops_of (state_of (view u) r)) op) d) ≡ false)
+        → IsTrue (told (state_of (view s) p)) → found whole ≡ nothing
+    goes_over n = goes_end (state_of (view s) p) (state_of (view t) q) (state_of (view u) r) whole op first at g ran.kept asked h d first_found (stops_before true n)

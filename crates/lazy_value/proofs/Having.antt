@@ -16,6 +16,7 @@ use Rattle.plan_core.specs.Typed.{IsTyped}
 use Rattle.plan_core.specs.Valid.{Kinds, kinds, op_kinds, kept, a_list, an_element, inputs_of, is_single, IsValid}
 use Rattle.plan_core.specs.Tolled.{Tolled, ends, item, is_item, item_label, plain}
 use Rattle.plan_core.specs.TolledRows.{TolledRow, tolled_value}
+use Rattle.plan_core.specs.Fronts.{Front, front}
 use Rattle.plan_core.specs.Events.{RowEvents, expand, pairs, projected, concatenated_row, element_row, op_events, events, visited, first_row, element_alone, tolled_destroyed, tolled_document, TolledIsDocument}
 use Rattle.plan_core.proofs.Distinct.{distinct_new}
 use Rattle.plan_core.proofs.Found.{found-expand_some, found-pairs_yes, found-each_row_some}
@@ -42,9 +43,9 @@ found_front [] ys row rest e = cc
 found_front (skip ∷ xs) ys row rest e = found_front xs ys row rest e
 found_front (bind b ∷ xs) ys row rest e = let z : b ≡ row = cc in let y : xs ≡ rest = cc in rw (z, y) refl
 
-module _ (docs : Documents) (sg : ℕ → Bool) (of : ℕ → RowEvents) where
+module _ (docs : Documents) (fronts : ℕ → Front) (sg : ℕ → Bool) (of : ℕ → RowEvents) where
   -- a single operator has a binding, where its single inputs have one
-  op_one : (o : Operator) → is_single o sg ≡ true → AllByRecursion (λ i. sg i ≡ true → HasRow (of i)) (inputs_of o) → HasRow (op_events docs o of)
+  op_one : (o : Operator) → is_single o sg ≡ true → AllByRecursion (λ i. sg i ≡ true → HasRow (of i)) (inputs_of o) → HasRow (op_events docs fronts o of)
   op_one (source s out) e h = (_, ([], refl))
   op_one (get_descendants i start path out) e h = cc
   op_one (join l r []) e h =
@@ -77,7 +78,7 @@ single_row docs ops typed n h e = below (suc n) n (omega arith) h e
     below zero n l h e = absurd (omega (arith, l))
     below (suc m) n l h e =
         let rows = each_weaker (λ i. i < n) (λ i. single ops i ≡ true → HasRow (events docs ops i)) (λ i k. below m i (omega (arith, l, k)) (omega (arith, h, k))) (inputs_of (op_at ops n)) (typed.inputs n h) in
-        subst HasRow (sym (events-of docs ops n (op_at ops n) refl (typed.inputs n h))) (op_one docs (single ops) (events docs ops) (op_at ops n) (sym (single_at ops typed n h (shape_at ops n) refl) ∙ e) rows)
+        subst HasRow (sym (events-of docs ops n (op_at ops n) refl (typed.inputs n h))) (op_one docs (front ops) (single ops) (events docs ops) (op_at ops n) (sym (single_at ops typed n h (shape_at ops n) refl) ∙ e) rows)
 
 -- a variable that holds an element has a label
 pub element_label : (ops : List Operator) → IsTyped ops → (n v : ℕ) → n < length ops → kinds ops n v ≡ Some an_element → (x : List ℕ) × (labels ops n v ≡ Some (Some x))

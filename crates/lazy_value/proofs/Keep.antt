@@ -9,12 +9,12 @@ use Rattle.plan_core.specs.Plans.{Operator}
 use Rattle.plan_core.specs.ByNumber.{op_at}
 use Rattle.plan_core.specs.Tolled.{Tolled, ends, item, charged}
 use Rattle.plan_core.specs.TolledRows.{TolledRow, piece_items, all_items, collected}
-use Rattle.plan_core.specs.Events.{RowEvents, events, same_group, tolled_document}
+use Rattle.plan_core.specs.Events.{RowEvents, events, group_behind, tolled_document}
 use Rattle.lazy_plan.specs.Bench.{BenchState, ops_of, documents, events_of, size_of, IsCursor, CursorStays, binding_at, ahead_at, number_at, IsSpotAt, node_at, KeepsBench}
 use Rattle.lazy_plan.specs.declared.position.Position.{Position}
 use Rattle.lazy_value.specs.Forms.{Form, makes_list, makes_element, gathers_groups, form, input_at, pieces_of, keys_of, label_in, piece_at, piece_of}
 use Rattle.lazy_value.specs.Sizes.{pieces_count, size, extent}
-use Rattle.lazy_value.specs.Ids.{element_trees, pieces_trees, ahead_from, members_trees, group_ahead, group_trees, Stands, GathersAll, IsHead, head_label, head_trees, text_of, is_text, IsRest, rest_trees, here, IsSite, weight, number_from, left, site_left}
+use Rattle.lazy_value.specs.Ids.{element_trees, pieces_trees, ahead_from, members_trees, stops_at, group_ahead, group_trees, Stands, GathersAll, IsHead, head_label, head_trees, text_of, is_text, IsRest, rest_trees, here, IsSite, weight, number_from, left, site_left}
 use Rattle.lazy_value.specs.Steps.{KeepsSites}
 use Rattle.lazy_value.specs.declared.ids.Head.{Head}
 use Rattle.lazy_value.specs.declared.ids.Head.TheVariants.{Whole, Built, Leaf, Text}
@@ -97,10 +97,13 @@ module _ (a b : BenchState) (k : KeepsBench a b) where
 
   pub group_ahead-kept : (op : ℕ) (first at : Position) → Stands a op gathers_groups first → Stands a op gathers_groups at → group_ahead b op first at ≡ group_ahead a op first at
   group_ahead-kept op first at h i =
-      ap (λ (d : Documents). same_group d (keys_of (op_at (ops_of b) op)) (binding_at b (input_at (ops_of b) op) first) (ahead_at b (input_at (ops_of b) op) at)) k.documents
-      ∙ ap (λ (ops : List Operator). same_group (documents a) (keys_of (op_at ops op)) (binding_at b (input_at (ops_of b) op) first) (ahead_at b (input_at (ops_of b) op) at)) ops_kept
-      ∙ ap (λ (row : TolledRow). same_group (documents a) (keys_of (op_at (ops_of a) op)) row (ahead_at b (input_at (ops_of b) op) at)) (binding_kept op first h.cursor)
-      ∙ ap (λ (z : RowEvents). same_group (documents a) (keys_of (op_at (ops_of a) op)) (binding_at a (input_at (ops_of a) op) first) z) (ahead_kept op at i.cursor)
+      ap (λ (d : Documents). behind d (ops_of b) (binding_at b (input_at (ops_of b) op) first) (ahead_at b (input_at (ops_of b) op) at)) k.documents
+      ∙ ap (λ (ops : List Operator). behind (documents a) ops (binding_at b (input_at (ops_of b) op) first) (ahead_at b (input_at (ops_of b) op) at)) ops_kept
+      ∙ ap (λ (row : TolledRow). behind (documents a) (ops_of a) row (ahead_at b (input_at (ops_of b) op) at)) (binding_kept op first h.cursor)
+      ∙ ap (λ (z : RowEvents). behind (documents a) (ops_of a) (binding_at a (input_at (ops_of a) op) first) z) (ahead_kept op at i.cursor)
+    where
+      behind : Documents → List Operator → TolledRow → RowEvents → RowEvents
+      behind d ops row es = group_behind d (keys_of (op_at ops op)) (stops_at ops op) row es
 
   pub IsRest-kept : (r : Rest) → IsRest a r → IsRest b r
   IsRest-kept End h = tt

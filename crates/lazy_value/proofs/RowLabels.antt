@@ -17,6 +17,7 @@ use Rattle.plan_core.specs.Typed.{IsTyped}
 use Rattle.plan_core.specs.Valid.{Kind, Kinds, kinds, a_node, an_element, a_list, IsFit, inputs_of}
 use Rattle.plan_core.specs.Tolled.{Tolled, ends}
 use Rattle.plan_core.specs.TolledRows.{TolledRow, TolledValue, of_source, element, trees, tolled_value, row_node, tolled_restrict, KeyValue, key_values, is_seen, piece_items, collected}
+use Rattle.plan_core.specs.Fronts.{Front, are_contiguous, front}
 use Rattle.plan_core.specs.Events.{RowEvents, expand, each_row, only, with_node, nodes_found, descendants, passes_all, pairs, distinct, projected, group_row, concatenated_row, element_row, skips, sorted_rows, op_events, events}
 use Rattle.plan_core.proofs.Numbers.{events-of}
 use Rattle.lazy_value.specs.Labels.{Labels, either_label, op_labels, labels, stands_in}
@@ -160,10 +161,10 @@ each_as P Q f (bind row ∷ es) h = (f row h.0, each_as P Q f es h.1)
 
 -- THE OPERATORS
 
-module _ (docs : Documents) (ks : ℕ → Kinds) (ls : ℕ → Labels) (of : ℕ → RowEvents) where
+module _ (docs : Documents) (fronts : ℕ → Front) (ks : ℕ → Kinds) (ls : ℕ → Labels) (of : ℕ → RowEvents) where
   -- the bindings of an operator, where those of its inputs are such ones
   op_rows : (o : Operator) → IsFit o ks → AllByRecursion (λ i. EachRow (Fits (ls i)) (of i)) (inputs_of o) → AllByRecursion (λ i. (v : ℕ) → ks i v ≡ Some a_node → ls i v ≡ Some None) (inputs_of o)
-      → EachRow (Fits (op_labels o ls)) (op_events docs o of)
+      → EachRow (Fits (op_labels o ls)) (op_events docs fronts o of)
   op_rows (source s out) fit h n = (fits_entry out None (λ v. None) (of_source (document_node s)) [] refl (λ v. refl), tt)
   op_rows (get_descendants i start path out) fit h n =
       each_expand (Fits (ls i)) (Fits (op_labels (get_descendants i start path out) ls)) (descendants docs start path out)
@@ -180,7 +181,7 @@ module _ (docs : Documents) (ks : ℕ → Kinds) (ls : ℕ → Labels) (of : ℕ
       each_distinct (Fits (ls i)) (Fits (op_labels (over i (project keys)) ls)) docs keys (projected keys) (λ row es k. fits_restrict keys (ls i) row (λ v e. n.0 v (fit v e))) [] (of i) h.0
   op_rows (over i (group_by [] piece out)) fit h n = (fits_entry out None (λ v. None) (trees (collected docs piece (of i) (ends 0))) [] refl (λ v. refl), tt)
   op_rows (over i (group_by (k ∷ keys) piece out)) fit h n =
-      each_distinct (Fits (ls i)) (Fits (op_labels (over i (group_by (k ∷ keys) piece out)) ls)) docs (k ∷ keys) (group_row docs (k ∷ keys) piece out)
+      each_distinct (Fits (ls i)) (Fits (op_labels (over i (group_by (k ∷ keys) piece out)) ls)) docs (k ∷ keys) (group_row docs (k ∷ keys) (are_contiguous (k ∷ keys) (fronts i).vars) piece out)
       (λ row es j. fits_entry out None (λ v. cond (has_var (k ∷ keys) v) (ls i v) None) _ (tolled_restrict (k ∷ keys) row) refl (fits_restrict (k ∷ keys) (ls i) row (λ v e. n.0 v (fit.0 v e)))) [] (of i) h.0
   op_rows (over i (concatenate ps out)) fit h n =
       each_made (Fits (ls i)) (Fits (op_labels (over i (concatenate ps out)) ls)) (concatenated_row docs ps out) (λ row k. fits_entry out None (ls i) _ row refl k) (of i) h.0
@@ -209,4 +210,4 @@ rows_fit docs ops typed n h = below (suc n) n (omega arith) h
         subst (EachRow (Fits (labels ops n))) (sym (events-of docs ops n (op_at ops n) refl (typed.inputs n h)))
         (each_as (Fits (op_labels (op_at ops n) (labels ops))) (Fits (labels ops n))
         (λ row k v. subst (λ (x : Option (Option (List ℕ))). Holds x (stands_in row v) (tolled_value row v)) (sym (labels_of ops typed n h (op_at ops n) refl v)) (k v))
-        (op_events docs (op_at ops n) (events docs ops)) (op_rows docs (kinds ops) (labels ops) (events docs ops) (op_at ops n) (typed.fit n h) rows nodes))
+        (op_events docs (front ops) (op_at ops n) (events docs ops)) (op_rows docs (front ops) (kinds ops) (labels ops) (events docs ops) (op_at ops n) (typed.fit n h) rows nodes))

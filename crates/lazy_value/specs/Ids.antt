@@ -12,7 +12,8 @@ use Rattle.lazy_plan.specs.Steps.{single}
 use Rattle.plan_core.specs.ByNumber.{op_at}
 use Rattle.plan_core.specs.Tolled.{Tolled, ends, item, charged}
 use Rattle.plan_core.specs.TolledRows.{TolledValue, of_source, element, trees, piece_items, all_items, collected}
-use Rattle.plan_core.specs.Events.{RowEvents, same_group, tolled_document}
+use Rattle.plan_core.specs.Events.{RowEvents, group_behind, tolled_document}
+use Rattle.plan_core.specs.Fronts.{op_stops}
 use Rattle.lazy_plan.specs.Bench.{BenchState, ops_of, documents, events_of, size_of, IsCursor, binding_at, ahead_at, number_at, IsSpotAt, node_at, trees_at_spot, after_at}
 use Rattle.lazy_plan.specs.declared.position.Position.{Position}
 use Rattle.lazy_value.specs.Forms.{Form, makes_list, makes_element, gathers_all, gathers_groups, form, input_at, pieces_of, keys_of, label_in, piece_at, piece_of}
@@ -44,10 +45,15 @@ ahead_from st n (Some c) = ahead_at st n c
 abbrev pub members_trees : BenchState → ℕ → Option Position → Tolled → Tolled
 members_trees st op at rest = collected (documents st) (piece_of (ops_of st) op) (ahead_from st (input_at (ops_of st) op) at) rest
 
+-- the groups of an operator end at the first other key of its input
+abbrev pub stops_at : List Operator → ℕ → Bool
+stops_at ops op = op_stops ops (op_at ops op)
+
 -- the events of a group behind a cursor
 abbrev pub group_ahead : BenchState → ℕ → Position → Position → RowEvents
 group_ahead st op first at =
-    same_group (documents st) (keys_of (op_at (ops_of st) op)) (binding_at st (input_at (ops_of st) op) first) (ahead_at st (input_at (ops_of st) op) at)
+    let input = input_at (ops_of st) op in
+    group_behind (documents st) (keys_of (op_at (ops_of st) op)) (stops_at (ops_of st) op) (binding_at st input first) (ahead_at st input at)
 
 -- the members of a group behind a cursor
 abbrev pub group_trees : BenchState → ℕ → Position → Position → Tolled → Tolled

@@ -62,7 +62,7 @@ fn same_by_keys(bench: &Bench, op: u32, first: &Cursor, c: &Cursor, keys: &[Key]
     true
 }
 
-/// The next member of a group behind a cursor.
+/// The next member of a group behind a cursor. Where bindings of one group stand side by side it ends at the first of another.
 fn next_of_group<S: Sources>(
     alloc: Global,
     bench: &mut Bench,
@@ -90,6 +90,9 @@ fn next_of_group<S: Sources>(
                     group_keys(bench.plan(), group.op),
                 ) {
                     return Ok(Some(c));
+                }
+                if bench.stops(group.op) {
+                    return Ok(None);
                 }
                 at = c;
             }

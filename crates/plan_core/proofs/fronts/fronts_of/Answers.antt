@@ -8,6 +8,6 @@ pub ops-preserved : goal.ops-preserved
 ops-preserved c =
     let front = rw c.deref.ensures.value at c.in_ok-front.ensures in
     let more =
-        fronts_more (map op_of c.args.ops.now) c.ops.fronts.items c.ops.op-index (op_of c.op-item.result) c.in_ok-front.front
-        (op_read c.args.ops.now c.ops.op-index c.op-item.result (omega (arith, c.ops-test.true)) c.op-item.is) c.ops.invariant.count c.ops.invariant.each front in
+    fronts_more (map op_of c.args.ops.now) c.ops.fronts.items c.ops.op-index (op_of c.op-item.result) c.in_ok-front.front
+    (op_read c.args.ops.now c.ops.op-index c.op-item.result (omega (arith, c.ops-test.true)) c.op-item.is) c.ops.invariant.count c.ops.invariant.each front in
     rw c.in_ok-push.ensures.items (record { count = more.count; each = more.each })
