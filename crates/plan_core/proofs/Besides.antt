@@ -1,5 +1,5 @@
 -- Laws of bindings that stand side by side.
-use Rattle.std.proofs.Common.{◌≡◌, inl, inr, ℕ, true, false, cond, List, [], ◌∷◌, ◌++◌, refl, sym, ap, ◌∙◌}
+use Rattle.std.proofs.Common.{◌≡◌, inl, inr, true, false, cond, List, [], ◌∷◌, ◌++◌, refl, sym, ap, ◌∙◌}
 use Rattle.std.specs.Prelude.{Bool}
 use Rattle.mix_base.specs.Events.{skip, bind, without_skips}
 use Rattle.mix_tree.specs.Nodes.{Documents}

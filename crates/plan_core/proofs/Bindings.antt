@@ -1,5 +1,5 @@
 -- Laws of what is said of each binding among events.
-use Rattle.std.proofs.Common.{◌≡◌, ◌++◌, ℕ, true, false, cond, List, [], ◌∷◌, map}
+use Rattle.std.proofs.Common.{◌++◌, ℕ, true, false, cond, List, [], ◌∷◌, map}
 use Rattle.std.specs.Prelude.{Bool}
 use Rattle.std.specs.List.{AllByRecursion}
 use Rattle.mix_base.specs.Events.{Event, skip, bind, without_skips}

@@ -1,8 +1,7 @@
 -- Which variables a binding has values of, and which it lacks.
 use Rattle.std.proofs.Common.{◌≡◌, ℕ, true, false, cond, List, [], ◌∷◌, ◌++◌, refl, sym, ap, subst, ◌∙◌, append_assoc}
-use Rattle.std.specs.Prelude.{Bool, ◌||◌, ◌==◌, Option, Some, None}
+use Rattle.std.specs.Prelude.{◌||◌, ◌==◌, Option, Some, None}
 use Rattle.std.proofs.lemmas.Bool.{eqb-true}
-use Rattle.std.proofs.lemmas.Bool.Decides.{nat_tests}
 use Rattle.mix_tree.specs.Keys.{key_var, has_var}
 use Rattle.mix_tree.specs.Nodes.{Documents}
 use Rattle.mix_tree.specs.declared.var.Key.{Key}

@@ -1,6 +1,6 @@
 -- In a valid plan an operator binds anew only what its inputs do not bind, and the sides of a join bind nothing both.
 use Rattle.std.proofs.Common.{◌≡◌, ◌⊎◌, inl, inr, ℕ, zero, suc, ◌+◌, ◌<◌, ◌≤◌, true, false, cond, List, [], ◌∷◌, ◌++◌, refl, sym, ap, subst, ◌∙◌, arith, length}
-use Rattle.std.specs.Prelude.{Bool, ◌||◌, ◌==◌, Option, Some, None}
+use Rattle.std.specs.Prelude.{Bool, ◌||◌, ◌==◌, Some, None}
 use Rattle.std.specs.List.{list_any, flat_map, count_by}
 use Rattle.std.proofs.lemmas.Bool.{eqb-true}
 use Rattle.std.proofs.lemmas.Bool.Decides.{nat_tests}

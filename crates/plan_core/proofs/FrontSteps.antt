@@ -2,13 +2,11 @@
 use Rattle.std.proofs.Common.{◌≡◌, inl, inr, ℕ, zero, suc, ◌+◌, ◌-◌, ◌≤◌, true, false, cond, List, [], ◌∷◌, ◌++◌, refl, sym, ap, subst, ◌∙◌, arith, length, length-append, take, map}
 use Rattle.std.specs.Prelude.{Bool, ◌&&◌, ◌||◌, ◌==◌, Option, Some, None}
 use Rattle.std.specs.List.{list_any}
-use Rattle.std.proofs.lemmas.Bool.{cases_lt, and_parts, eqb-true}
+use Rattle.std.proofs.lemmas.Bool.{cases_lt, eqb-true}
 use Rattle.std.proofs.lemmas.Bool.Decides.{nat_tests}
 use Rattle.std.proofs.lemmas.List.Folds.{list_any-append}
-use Rattle.mix_base.specs.Ascents.{Among}
-use Rattle.mix_base.specs.Events.{skip, bind, without_skips}
+use Rattle.mix_base.specs.Events.{skip, bind}
 use Rattle.mix_base.proofs.Lists.{append_nil}
-use Rattle.mix_tree.specs.Comparisons.{passes}
 use Rattle.mix_tree.specs.Keys.{key_eq, key_var, has_var}
 use Rattle.mix_tree.specs.Nodes.{Documents, document_node}
 use Rattle.mix_tree.specs.declared.comparing.Test.{Test}
@@ -18,18 +16,17 @@ use Rattle.path_expr.specs.Form.{Form}
 use Rattle.path_auto.specs.Visit.{visits}
 use Rattle.path_auto.proofs.Bindings.{visits_are_matches}
 use Rattle.plan_core.specs.declared.plan.Piece.{Piece}
-use Rattle.plan_core.specs.Beside.{EachBinding, Agree, Differ, AreApart, StandsFirst, AreBeside, AreContiguous, HaveFront}
+use Rattle.plan_core.specs.Beside.{EachBinding, AreApart, AreBeside, HaveFront}
 use Rattle.plan_core.specs.Events.{RowEvents, expand, each_row, only, descendants, passes_all, pairs, distinct, kept_row, extended, made_value, whole_row, skips, sorted_rows}
-use Rattle.plan_core.specs.Fronts.{Front, no_front, node_keys, shared, covers, are_contiguous, stage_front, shape_front}
-use Rattle.plan_core.specs.Shapes.{Made, first_by_keys, one_group, in_order, filters, extends}
-use Rattle.plan_core.specs.Sorted.{sorted_by}
-use Rattle.plan_core.specs.TolledRows.{TolledRow, TolledValue, of_source, key_values, same_values, tolled_value, tolled_restrict, row_node}
+use Rattle.plan_core.specs.Fronts.{Front, no_front, node_keys, shared, stage_front}
+use Rattle.plan_core.specs.Shapes.{Made, first_by_keys}
+use Rattle.plan_core.specs.TolledRows.{TolledRow, of_source, key_values, tolled_value, tolled_restrict, row_node}
 use Rattle.plan_core.specs.Valid.{Kind, a_node, a_list, Kinds, no_kinds, with_kind, kept, either_kind, made_kind, stage_kinds, AreNodes}
 use Rattle.plan_core.proofs.Aparts.{apart_expand, apart_only, apart_each_row, apart_nodes, distinct_is, covered_apart}
 use Rattle.plan_core.proofs.Besides.{beside_none, beside_apart, beside_only, beside_each_row, beside_distinct, beside_expand, beside_pairs}
-use Rattle.plan_core.proofs.Bindings.{binding_weaker, binding_expand, binding_nodes, binding_each_row, binding_only, binding_distinct, binding_sorted, each_binding}
+use Rattle.plan_core.proofs.Bindings.{binding_expand, binding_nodes, binding_each_row, binding_only, binding_distinct, binding_sorted, each_binding}
 use Rattle.plan_core.proofs.BoundRows.{IsBound, bound_none, bound_with, bound_restrict, bound_both, fresh_differs, restrict_value, keys_with, nodes_with, nodes_kept, keys_left, keys_right}
-use Rattle.plan_core.proofs.KeyValues.{values_alike, covered_same, covers_shared, shared_front, take_front, length_front, take_length}
+use Rattle.plan_core.proofs.KeyValues.{values_alike, shared_front, take_front, length_front, take_length}
 
 -- what is known of an operator's events: which variables their bindings have, that its front's are nodes, and that they have the front
 pub record AreFronted (docs : Documents) (kinds : Kinds) (f : Front) (es : RowEvents) : Type 0 where

@@ -6,18 +6,18 @@ use Rattle.std.proofs.lemmas.List.{get_or_past}
 use Rattle.mix_base.specs.Ascents.{Among}
 use Rattle.mix_base.specs.Events.{skip, bind}
 use Rattle.mix_tree.specs.Comparisons.{passes}
-use Rattle.mix_tree.specs.Nodes.{Documents, document_node}
+use Rattle.mix_tree.specs.Nodes.{Documents}
 use Rattle.mix_tree.specs.declared.var.Key.{Key}
 use Rattle.plan_core.specs.declared.plan.Piece.{Piece}
-use Rattle.plan_core.specs.Beside.{EachBinding, Agree, Differ, StandsFirst, AreBeside, AreContiguous, HaveFront, FrontsAreOfEvents}
+use Rattle.plan_core.specs.Beside.{Differ, StandsFirst, AreBeside, AreContiguous, HaveFront, FrontsAreOfEvents}
 use Rattle.plan_core.specs.ByNumber.{op_at}
-use Rattle.plan_core.specs.Events.{RowEvents, op_events, shape_events, events}
+use Rattle.plan_core.specs.Events.{RowEvents, shape_events, events}
 use Rattle.plan_core.specs.Fronts.{Front, node_keys, shared, covers, are_contiguous, shape_front, front}
 use Rattle.plan_core.specs.Plans.{source, PlanValue}
 use Rattle.plan_core.specs.Shapes.{Stage, filters, extends, first_by_keys, one_group, in_order, Shape, one_source, visits_below, pairs_up, passes_on, no_events, shape_at}
-use Rattle.plan_core.specs.TolledRows.{TolledRow, of_source, key_values, same_values, row_node}
+use Rattle.plan_core.specs.TolledRows.{TolledRow, key_values, same_values, row_node}
 use Rattle.plan_core.specs.Typed.{IsTyped}
-use Rattle.plan_core.specs.Valid.{Kind, Kinds, AreNodes, IsStageFit, IsShapeFit, shape_kinds, shape_inputs, stage_outs, shape_outs, inputs_of, outs_of, kinds, IsValid}
+use Rattle.plan_core.specs.Valid.{Kinds, AreNodes, IsStageFit, IsShapeFit, shape_kinds, shape_inputs, shape_outs, kinds, IsValid}
 use Rattle.plan_core.proofs.Bindings.{binding_weaker}
 use Rattle.plan_core.proofs.Fresh.{out_fresh, sides_fresh}
 use Rattle.plan_core.proofs.FrontSteps.{AreFronted, source_fronted, visits_fronted, filtered_fronted, extended_fronted, grouped_fronted, ordered_fronted, kept_fronted, pairs_fronted}

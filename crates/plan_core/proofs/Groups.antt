@@ -1,10 +1,9 @@
 -- What a groupBy binds and needs, whether by keys or by none.
-use Rattle.std.proofs.Common.{◌≡◌, ℕ, true, List, [], ◌∷◌, refl}
-use Rattle.mix_tree.specs.Keys.{has_var}
+use Rattle.std.proofs.Common.{◌≡◌, ℕ, List, [], ◌∷◌, refl}
 use Rattle.mix_tree.specs.declared.var.Key.{Key}
 use Rattle.plan_core.specs.declared.plan.Piece.{Piece}
 use Rattle.plan_core.specs.Unary.{group_by}
-use Rattle.plan_core.specs.Valid.{Kinds, a_node, a_list, kept, with_kind, unary_kinds, AreNodes, IsSinglePiece, IsUnaryFit, unary_outs}
+use Rattle.plan_core.specs.Valid.{Kinds, a_list, kept, with_kind, unary_kinds, AreNodes, IsSinglePiece, IsUnaryFit, unary_outs}
 
 -- it binds the variables of its keys, and a list
 pub group_kinds : (keys : List Key) (piece : Piece) (out : ℕ) (kinds : Kinds) → unary_kinds (group_by keys piece out) kinds ≡ with_kind out a_list (kept keys kinds)

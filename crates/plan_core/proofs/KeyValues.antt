@@ -5,13 +5,12 @@ use Rattle.std.specs.List.{list_any}
 use Rattle.std.specs.Str.{bytes_eq}
 use Rattle.std.proofs.lemmas.Bool.{and_parts, and_from, eqb-true}
 use Rattle.std.proofs.lemmas.Bool.Decides.{nat_tests}
-use Rattle.std.proofs.lemmas.Slice.Eq.{bytes_eq-Decides}
 use Rattle.mix_tree.specs.Keys.{key_eq, gives, stands, key_var, has_var}
 use Rattle.mix_tree.specs.Nodes.{Documents, Node, same_node, label_at}
 use Rattle.mix_tree.specs.declared.var.Key.{Key}
 use Rattle.mix_tree.specs.declared.var.Key.TheVariants.{Node as node_key, LabelOf as label_key}
 use Rattle.mix_tree.proofs.SameKeys.{same_node-true, same_node-refl, bytes_eq-refl}
-use Rattle.plan_core.specs.Beside.{Agree, Differ}
+use Rattle.plan_core.specs.Beside.{Differ}
 use Rattle.plan_core.specs.Fronts.{node_keys, shared, covers}
 use Rattle.plan_core.specs.TolledRows.{TolledRow, KeyValue, by_node, by_label, key_value, key_values, same_value, same_values, tolled_value, row_node, source_node}
 

@@ -1,7 +1,4 @@
-use Rattle.std.proofs.Common.{◌≡◌, ◌∙◌, List, ap, sym}
-use Rattle.mix_tree.specs.declared.var.Key.{Key}
-use Rattle.plan_core.specs.Fronts.{covers, node_keys, op_stops, are_contiguous, front_at}
-use Rattle.plan_core.specs.PlanMade.{op_of}
+use Rattle.std.proofs.Common.{◌∙◌}
 use Rattle.plan_core.proofs.FrontCode.{stops_found}
 use Rattle.plan_core.proofs.fronts.stops.Goals as goal
 
