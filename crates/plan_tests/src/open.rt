@@ -21,6 +21,9 @@ use xmas_rule::Rule;
 pub const HOMES: &str =
     "source homes bracket homes.txt chunk 1\nsource schools bracket schools.txt chunk 10";
 
+/// A catalog of people.
+pub const PEOPLE: &str = "source people bracket people.txt chunk 1";
+
 /// A catalog of one source.
 pub const ONE: &str = "source s bracket s.txt chunk 1";
 

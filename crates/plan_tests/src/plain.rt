@@ -1,11 +1,9 @@
 // What rules mean over small documents, by the plain program. Files of records and tables stand here as the trees that they are.
-use crate::open::{HOMES, MED_HOMES, ONE, read, trees};
+use crate::open::{HOMES, MED_HOMES, ONE, PEOPLE, read, trees};
 use bracket_text::write_tree;
 use plain_rule::finished_document;
 use std::alloc::Global;
 use std::test::Fail;
-
-const PEOPLE: &str = "source people bracket people.txt chunk 1";
 
 const LA_JOLLA: &str =
     "homes[home[addr[\"La Jolla\"],zip[91220]],home[addr[\"El Cajon\"],zip[91223]]]";

@@ -1,5 +1,5 @@
 // What runs over views write, with lines worked out by hand.
-use crate::open::{Cutting, EACH_CHILD, HOMES, MED_HOMES, ONE, trees};
+use crate::open::{Cutting, EACH_CHILD, HOMES, MED_HOMES, ONE, PEOPLE, trees};
 use crate::run::{Setting, run, run_on};
 use mix_script::{Step, read_script};
 use mix_tree::Label;
@@ -272,6 +272,41 @@ fn a_first_screen_asks_the_same_of_any_documents(rt: HostRuntime) -> Result<(), 
         );
         // Four to the label in the first home, four to that in the first school, and three for each of two schools more.
         assert_eq!(rt; done.fills, 14);
+    }
+    Ok(())
+}
+
+// The values of each row, by the row.
+const ROW_VALUES: &str =
+    "CONSTRUCT <out> <z> $V {$V} </z> {$R} </out> WHERE people people.row $R AND $R _ $V";
+
+// Documents of so many rows.
+fn rows(alloc: Global, count: usize) -> Result<String, AllocError> {
+    let rows = listed(alloc, "row[id[1],name[Ann],zip[91220]]", count)?;
+    format!(in alloc; "people[{rows}]")
+}
+
+#[test]
+fn a_group_ends_at_the_first_other_key(rt: HostRuntime) -> Result<(), Fail> {
+    let alloc = rt.alloc();
+    let people = Setting {
+        catalog: PEOPLE,
+        view: ROW_VALUES,
+        docs: &[],
+        cutting: EACH_CHILD,
+    };
+    let script =
+        "r = root\nz = down r\nv = down z\nv = right v\nv = right v\nfetch v\nx = right v\ny = right z\n";
+    let steps = read_script(alloc, script.as_bytes())?;
+    for count in [2, 20, 200] {
+        let docs = trees(alloc, &[rows(alloc, count)?.as_str()])?;
+        let done = run_on(alloc, &people, docs, &[], &steps)?;
+        assert_eq!(rt;
+            done.lines.as_slice(),
+            b"node\nnode\nnode\nnode\nnode\nlabel zip\nnone\nnode\n".as_slice()
+        );
+        // At most four to the first row's first value, one to each of two more, three to the next row's, and that again for the next list.
+        assert!(rt; done.fills <= 12);
     }
     Ok(())
 }
