@@ -3,6 +3,7 @@
 
 mod behind;
 mod catalog;
+mod column;
 mod columns;
 mod fault;
 mod form;
@@ -11,6 +12,7 @@ mod reading;
 mod source;
 
 pub use catalog::Catalog;
+pub use column::Column;
 pub use fault::CatalogFault;
 pub use reading::read_catalog;
 pub use source::{ColumnNames, SourceKind, SourceSpec};

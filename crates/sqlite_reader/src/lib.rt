@@ -1,0 +1,14 @@
+//! Rows of the tables of an SQLite file, which is only read, and by pages.
+#![tactic(auto)]
+
+mod defaults;
+mod fault;
+mod layout;
+mod opening;
+mod query;
+mod reader;
+mod stamp;
+
+pub use fault::ReadFault;
+pub use query::Query;
+pub use reader::Reader;

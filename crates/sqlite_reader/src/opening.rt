@@ -1,0 +1,52 @@
+// From files to a store over them, with no page read but those of the schema.
+use crate::ReadFault;
+use crate::layout::{lay_out, without_roots};
+use page_disk::PageDisk;
+use sqlite_disk::Files;
+use sqlite_pager::{Options, Pager};
+use sqlite_schema::schema::Schema;
+use sqlite_store::{FileStore, Unopened};
+use sqlite_wal::probe_page_size;
+use std::alloc::Global;
+
+// How many bytes of pages are kept in memory.
+const CACHE: usize = 1 << 23;
+
+fn unopened(alloc: Global, mut files: Files<PageDisk>) -> Result<Unopened<PageDisk>, ReadFault> {
+    let Some(size) = probe_page_size(&mut files)? else {
+        return Err(ReadFault::Failed);
+    };
+    let options = Options {
+        cache_pages: CACHE / size.bytes().max(512),
+        spill_pages: 1,
+        checkpoint_frames: usize::MAX,
+        seed: 1,
+    };
+    let pager = Pager::new(alloc, files, size, options)?;
+    Ok(Unopened::new(alloc, pager, &[])?)
+}
+
+fn list(alloc: Global, files: &mut Unopened<PageDisk>) -> Result<Schema, ReadFault> {
+    let listed = files.read_catalog()?;
+    let roots = files.index_roots(listed.as_slice())?;
+    let rows = without_roots(alloc, listed.as_slice())?;
+    let (schema, kinds) = lay_out(alloc, rows.as_slice(), roots.as_slice())?;
+    if files.list_schema(rows.as_slice(), kinds.as_slice())? {
+        Ok(schema)
+    } else {
+        Err(ReadFault::Failed)
+    }
+}
+
+/// The store over the files, and its schema.
+pub fn open_store(
+    alloc: Global,
+    files: Files<PageDisk>,
+) -> Result<(FileStore<PageDisk>, Schema), ReadFault> {
+    let mut fresh = unopened(alloc, files)?;
+    let schema = list(alloc, &mut fresh)?;
+    match fresh.open_trusted() {
+        Ok(store) => Ok((store, schema)),
+        Err((error, _)) => Err(error.into()),
+    }
+}

@@ -1,0 +1,103 @@
+// Tables in SQLite files, with the counts of what was asked.
+ghost use Rattle.std.specs.Prelude.{◌≡◌, ◌≤◌, None, Ok, IfOk, IsErrOf};
+ghost use Rattle.mix_base.specs.Counts.{HasRisen};
+ghost use Rattle.std.proofs.lemmas.Option.{none-some};
+ghost use Rattle.sqlite_tables.specs.System.{sqlite_view};
+ghost use Rattle.table_keep.specs.Page.{IsPage};
+ghost use Rattle.table_keep.specs.Rows.{rows_of};
+ghost use Rattle.table_keep.specs.Views.{unasked};
+
+use crate::cells::table_rows;
+use crate::files::{OpenFile, found_rows};
+use sqlite_reader::ReadFault;
+use std::alloc::Global;
+use table_keep::{PageAsk, PageFault, TableRow, Tables, is_page};
+
+/// Tables in SQLite files, which are only read. A file is opened when it is first asked, and again where it has changed.
+pub struct SqliteTables {
+    rt: HostRuntime,
+    open: Vec<OpenFile>,
+    pages: u64,
+    faults: u64,
+}
+
+// It is written out, so that a crate above does not prove again how each part is dropped.
+impl Drop for SqliteTables {
+    fn drop(self) {
+        let SqliteTables {
+            rt: _,
+            open: _,
+            pages: _,
+            faults: _,
+        } = self;
+    }
+}
+
+impl SqliteTables {
+    /// The tables that the runtime reaches. No file is open.
+    pub fn new(rt: HostRuntime, alloc: Global) -> SqliteTables
+        ensures { sqlite_view result ≡ unasked (λ _. None) }
+    {
+        SqliteTables {
+            rt,
+            open: Vec::new(alloc),
+            pages: 0,
+            faults: 0,
+        }
+    }
+}
+
+// Whatever the file holds, what is not a page of what was asked is a fault.
+fn read(
+    rt: &HostRuntime,
+    alloc: Global,
+    files: &mut Vec<OpenFile>,
+    ask: &PageAsk<'_>,
+) -> Result<Vec<TableRow>, ReadFault>
+    ensures { IfOk result (λ rows. IsPage ask.now (rows_of rows.items)) }
+{
+    let found = found_rows(rt, alloc, files, ask)?;
+    let rows = table_rows(alloc, found.as_slice(), ask.columns.len())?;
+    if is_page(ask, rows.as_slice()) {
+        Ok(rows)
+    } else {
+        Err(ReadFault::Failed)
+    }
+}
+
+// Counts a fault; what is answered goes on as it is, and want of memory is none.
+fn counted(
+    answer: Result<Vec<TableRow>, ReadFault>,
+    faults: &mut u64,
+) -> Result<Vec<TableRow>, PageFault>
+    ensures rows { IfOk result (λ rows. answer ≡ Ok rows) }
+    ensures kept { faults.old ≤ faults.new }
+    ensures failed { IsErrOf result PageFault.Failed → HasRisen faults.old faults.new }
+{
+    match answer {
+        Ok(rows) => Ok(rows),
+        Err(ReadFault::OutOfMemory) => Err(PageFault::OutOfMemory),
+        Err(ReadFault::Failed) => {
+            *faults = faults.saturating_add(1);
+            Err(PageFault::Failed)
+        }
+    }
+}
+
+impl Tables for SqliteTables {
+    ghost view = { sqlite_view };
+
+    ghost rising = { λ _ _ rows told. absurd (none-some rows told) };
+
+    /// Fails where the file can't be read or has no such table, key or column, where a value is a REAL or a text that isn't UTF-8, where a
+    /// key is no whole number, and where the rows aren't a page of what was asked. docs/FORMATS.md has which files are refused.
+    fn page(&mut self, alloc: Global, ask: &PageAsk<'_>) -> Result<Vec<TableRow>, PageFault> {
+        self.pages = self.pages.saturating_add(1);
+        let answer = read(&self.rt, alloc, &mut self.open, ask);
+        counted(answer, &mut self.faults)
+    }
+
+    fn pages(&self) -> u64 {
+        self.pages
+    }
+}

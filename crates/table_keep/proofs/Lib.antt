@@ -1,0 +1,4 @@
+pub mod Nulls
+pub mod Points
+pub mod Projections
+pub mod Rising

@@ -1,0 +1,6 @@
+pub mod Memory
+pub mod Page
+pub mod Rows
+pub mod Table
+pub mod Told
+pub mod Views
