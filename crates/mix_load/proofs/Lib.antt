@@ -1,4 +1,6 @@
 mod Counted
 mod Fields
 mod Lines
+mod Named
 mod Opened
+mod Visiting

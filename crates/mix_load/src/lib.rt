@@ -5,8 +5,10 @@ mod nodes;
 mod people;
 mod source;
 mod view;
+mod visit;
 
 pub use nodes::count_nodes;
 pub use people::people_text;
 pub use source::people_document;
 pub use view::names_rule;
+pub use visit::{Visit, visit_people};

@@ -7,7 +7,7 @@ use Rattle.mix_catalog.specs.declared.source.SourceSpec.{SourceSpec}
 use Rattle.mix_catalog.specs.Grammar.{file_of}
 use Rattle.xmas_rule.specs.Rules.{RuleValue}
 use Rattle.xmas_read.specs.Results.{names_of_sources}
-use Rattle.mix_top.specs.Commands.{Command, help, version, walk, read, plan, run, unknown}
+use Rattle.mix_top.specs.Commands.{Command, help, version, walk, read, plan, run, load, unknown}
 use Rattle.mix_top.specs.Course.{AreAccepted, IsCatalogFile, IsRuleFile, IsScript, names_source}
 use Rattle.mix_top.specs.Documents.{SpellsTree, IsDocument}
 
@@ -47,4 +47,5 @@ MayRead files (walk file script) path = WalkMayRead files file script path
 MayRead files (read view catalog) path = ViewMayRead files view catalog path
 MayRead files (plan view catalog) path = ViewMayRead files view catalog path
 MayRead files (run view catalog script) path = RunMayRead files view catalog script path
+MayRead files (load count) path = ⊥
 MayRead files unknown path = ⊥

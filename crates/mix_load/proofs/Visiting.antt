@@ -1,0 +1,79 @@
+-- What a visitor's commands come to.
+use Rattle.std.proofs.Common.{◌≡◌, ◌∙◌, ◌+◌, ℕ, cond, List, [], ◌∷◌, Option, Some, None, Ok, refl, ap, sym, subst, arith, codes}
+use Rattle.std.specs.Prelude.{option_and_then}
+use Rattle.std.proofs.lemmas.Bool.{eq-eqb}
+use Rattle.mix_base.specs.Counts.{HasRisenBy}
+use Rattle.mix_tree.specs.Forest.{LabelledTree}
+use Rattle.mix_tree.specs.Place.{tree_at}
+use Rattle.bracket_text.specs.Canonical.{canon}
+use Rattle.mix_mount.specs.Mounts.{mounted_view}
+use Rattle.lazy_value.specs.declared.ids.NodeId.{NodeId}
+use Rattle.mix_script.specs.Names.{NamesOf, held, no_names}
+use Rattle.mix_script.specs.Allowed.{mark_of, faults_of}
+use Rattle.mix_script.specs.Transcript.{Names, answer_of, if_held, names_after, text_answer}
+use Rattle.mix_script.specs.declared.step.Act.{Act}
+use Rattle.mix_script.specs.declared.step.Act.TheVariants.{Root, Move, Print}
+use Rattle.mix_script.specs.declared.step.Way.{Way}
+use Rattle.mix_script.specs.declared.answer.Answer.{Answer}
+use Rattle.mix_script.specs.declared.answer.Answer.TheVariants as answer
+use Rattle.mix_session.specs.Held.{IsSession, HoldPlaces}
+use Rattle.mix_session.specs.Stepped.{Stepped}
+use Rattle.mix_load.specs.declared.visit.Visitor.{Visitor}
+use Rattle.mix_load.specs.Visit.{meaning_of, IsOn, HoldsRoot}
+
+-- an answer over sources that never fail is no fault
+no_fault : (a : Answer) → ((s : ℕ) → HasRisenBy (faults_of s (a ∷ [])) 0 0) → mark_of a ≡ None
+no_fault answer.Node h = refl
+no_fault answer.None h = refl
+no_fault (answer.Label l) h = refl
+no_fault (answer.Text x) h = refl
+no_fault answer.NoNode h = refl
+no_fault (answer.Fault s) h =
+    let one : faults_of s (answer.Fault s ∷ []) ≡ 1 = ap (λ b. cond b 1 0 + 0) (eq-eqb s s refl) in
+    absurd (omega (arith, h s, one))
+
+-- a visitor whose names hold nothing yet is on the tree that its session walks
+pub begun : (t : LabelledTree) (visitor : Visitor) → IsSession (meaning_of visitor) (held visitor.session.names) → held visitor.session.names ≡ no_names → (meaning_of visitor).course.IsDocument t
+    → IsOn t no_names visitor
+begun t visitor session none document = record {
+  session = session;
+  document = document;
+  hold = subst (λ (values : NamesOf NodeId). HoldPlaces (meaning_of visitor) values no_names) (sym none) (λ client name. tt);
+}
+
+-- a command of the client without a name was answered as on the tree
+pub taken : (old new : Visitor) (client : List ℕ) (act : Act) (a : Answer) → client ≡ []
+    → Stepped (meaning_of old) (meaning_of new) (mounted_view old.sources) (mounted_view new.sources) (held old.session.names) (held new.session.names) client act (Ok a)
+    → (t : LabelledTree) (places : Names) → IsOn t places old → (a ≡ answer_of t places None [] act) × IsOn t (names_after t places [] act a) new
+taken old new client act a none step t places on =
+    let told = step.answer.told t on.document places on.hold in
+    let mark : mark_of a ≡ None = no_fault a step.answer.counted in
+    subst (λ c. (a ≡ answer_of t places None c act) × IsOn t (names_after t places c act a) new) none (
+      subst (λ (m : Option ℕ). a ≡ answer_of t places m client act) mark told.0,
+      record { session = step.session; document = step.stays.course.document t on.document; hold = told.1 },
+    )
+
+module _ (t : LabelledTree) (places : Names) (new : Visitor) where
+  -- the root is held
+  pub root_held : (a : Answer) → a ≡ answer_of t places None [] (Root (codes "r")) → IsOn t (names_after t places [] (Root (codes "r")) a) new → HoldsRoot t new
+  root_held a e on = record {
+    places = names_after t places [] (Root (codes "r")) a;
+    on = on;
+    root = ap (λ (b : Answer). names_after t places [] (Root (codes "r")) b [] (codes "r")) e;
+  }
+
+  -- it stays held where the name x was given something
+  pub root_stays : (way : Way) (from : List ℕ) (a : Answer) → places [] (codes "r") ≡ Some [] → IsOn t (names_after t places [] (Move way (codes "x") from) a) new → HoldsRoot t new
+  root_stays way from a root on = record { places = names_after t places [] (Move way (codes "x") from) a; on = on; root = same a ∙ root }
+    where
+      same : (b : Answer) → names_after t places [] (Move way (codes "x") from) b [] (codes "r") ≡ places [] (codes "r")
+      same answer.Node = refl
+      same answer.None = refl
+      same (answer.Label l) = refl
+      same (answer.Text x) = refl
+      same answer.NoNode = refl
+      same (answer.Fault s) = refl
+
+-- the text of the root is that of the tree
+pub root_text : (t : LabelledTree) (places : Names) (a : Answer) → places [] (codes "r") ≡ Some [] → a ≡ answer_of t places None [] (Print (codes "r")) → a ≡ answer.Text (canon t)
+root_text t places a root e = e ∙ ap (λ (o : Option (List ℕ)). if_held o (text_answer (option_and_then (tree_at t) o))) root
