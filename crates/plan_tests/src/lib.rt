@@ -15,6 +15,8 @@ mod open;
 #[cfg(test)]
 mod plain;
 #[cfg(test)]
+mod prints;
+#[cfg(test)]
 mod run;
 #[cfg(test)]
 mod texts;

@@ -6,6 +6,8 @@ mod clients;
 #[cfg(test)]
 mod lists;
 #[cfg(test)]
+mod loads;
+#[cfg(test)]
 mod plans;
 #[cfg(test)]
 mod prints;
