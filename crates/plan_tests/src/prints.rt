@@ -55,8 +55,9 @@ fn push_node<'a>(
         .wanted
         .extend_from_slice(&write_tree(alloc, node.tree)?)?;
     course.wanted.push(b'\n')?;
+    let parent: &Tree = node.tree;
     let mut way = "down";
-    for tree in &node.tree.kids {
+    for tree in &parent.kids {
         let number = push_move(alloc, course, way, from)?;
         open.push(Open { tree, number })?;
         way = "right";
