@@ -1,0 +1,4 @@
+pub mod Indexes
+pub mod InOrder
+pub mod Numbers
+pub mod Searches

@@ -1,0 +1,53 @@
+// Different labels, by their numbers.
+ghost use Rattle.std.specs.Prelude.{◌≡◌, ◌++◌, ◌∷◌, [], ℕ, OnOk, OnErr};
+ghost use Rattle.join_memo.specs.Places.{IsKnown, IsNumber};
+
+use indexmap::IndexSet;
+use mix_tree::Label;
+use std::alloc::{AllocError, Global};
+use std::marker::Model;
+
+/// Different labels in the order in which they came, found by their hash.
+#[derive(Drop)]
+pub struct KnownLabels {
+    labels: IndexSet<Vec<u8>>,
+}
+
+impl Model for KnownLabels {
+    ghost use Rattle.std.specs.Prelude.{List, ℕ, map};
+
+    ghost Value = { List (List ℕ) };
+
+    ghost view = { λ known. map (λ label. label.items) known.labels.keys };
+}
+
+impl KnownLabels {
+    /// No labels.
+    pub(crate) fn new(alloc: Global) -> KnownLabels
+        ensures { result ≡ [] }
+    {
+        KnownLabels {
+            labels: IndexSet::new(alloc),
+        }
+    }
+
+    /// The number of a label.
+    pub(crate) fn number(&self, key: &Label) -> Option<usize>
+        ensures { IsNumber self.now key.now result }
+    {
+        self.labels.get_index_of(key.bytes())
+    }
+
+    /// A label that is not among them comes behind the others.
+    pub(crate) fn add(&mut self, alloc: Global, key: &Label) -> Result<(), AllocError>
+        requires { (i : ℕ) → IsKnown self.old key.now i → ⊥ }
+        ensures ok { OnOk result (self.new ≡ self.old ++ key.now ∷ []) }
+        ensures err { OnErr result (self.new ≡ self.old) }
+    {
+        let label = Vec::from_slice(alloc, key.bytes())?;
+        match self.labels.insert_full(label) {
+            Ok(_) => Ok(()),
+            Err(_) => Err(AllocError),
+        }
+    }
+}
