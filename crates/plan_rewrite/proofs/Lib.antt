@@ -1,0 +1,10 @@
+mod Cases
+mod Editing
+mod Kept
+mod Lists
+mod Placing
+mod PlanTree
+mod Pushing
+mod Raised
+mod Renumbering
+mod Walking

@@ -1,0 +1,461 @@
+-- The tree of a valid plan: it has what its operators have, and a valid plan can be made of it.
+use Rattle.std.proofs.Common.{◌≡◌, ◌⊎◌, inl, inr, ℕ, zero, suc, ◌+◌, ◌<◌, ◌≤◌, Bool, true, false, List, [], ◌∷◌, ◌++◌, refl, sym, ap, subst, ◌∙◌, arith, length, length-append}
+use Rattle.std.specs.Prelude.{◌||◌, ◌&&◌, ◌==◌, Some}
+use Rattle.std.specs.List.{AllByRecursion, list_any, flat_map, count_by}
+use Rattle.std.proofs.lemmas.Bool.Decides.{nat_tests}
+use Rattle.std.proofs.lemmas.List.Folds.{list_any-append}
+use Rattle.std.proofs.lemmas.List.{get_or_append_left, get_or_at}
+use Rattle.mix_base.specs.Ascents.{Among}
+use Rattle.mix_base.proofs.Ascents.{each_among, among_each, among_left, among_right, among_cases}
+use Rattle.mix_tree.specs.declared.comparing.Test.{Test}
+use Rattle.plan_core.specs.ByNumber.{op_at}
+use Rattle.plan_core.specs.Plans.{World, Operator, source, get_descendants, join, over, tuple_destroy, PlanValue, descended, joined_rows, op_rows, rows_of}
+use Rattle.plan_core.specs.Rows.{Row}
+use Rattle.plan_core.specs.Typed.{IsTyped}
+use Rattle.plan_core.specs.Unary.{Unary, select, order_by, project, group_by, concatenate, create_element, unary}
+use Rattle.plan_core.specs.Valid.{a_node, Kinds, no_kinds, with_kind, either_kind, unary_kinds, op_kinds, kinds, IsFit, IsTest, IsUnaryFit, inputs_of, unary_outs, outs_of, AreDistinct, unary_single, is_single, is_single_at, EndsSingle, HasSource, IsValid}
+use Rattle.plan_core.proofs.Chained.{count-append}
+use Rattle.plan_core.proofs.Fresh.{bound_once}
+use Rattle.plan_core.proofs.Inputs.{is_single-reads}
+use Rattle.plan_core.proofs.Numbers.{ReadsInputs, by_number-is, op_kinds-reads}
+use Rattle.plan_core.proofs.RowLaws.{rows-stable, rows-last, snoc}
+use Rattle.plan_make.specs.Trees.{Tree, begin, descend, both, above, tree_rows}
+use Rattle.plan_make.proofs.TreeParts.{tree_kinds}
+use Rattle.plan_rewrite.specs.Rewritten.{op_tree, tree_at}
+use Rattle.plan_make.proofs.TreeParts.{ReadsBelow, tree_outs, TreeFits, tree_single, IsWhole}
+
+-- NO TUPLEDESTROY
+
+-- an operator is no tupleDestroy
+abbrev pub IsBelow : Operator → Type 0
+IsBelow (source s out) = Unit {0}
+IsBelow (get_descendants input start path out) = Unit {0}
+IsBelow (join left right tests) = Unit {0}
+IsBelow (over input op) = Unit {0}
+IsBelow (tuple_destroy input element) = ⊥
+
+-- operators that end with a tupleDestroy
+pub record Ended (single : ℕ → Bool) (ops : List Operator) : Type 0 where
+  pub front : List Operator
+  pub input : ℕ
+  pub element : ℕ
+  pub is : ops ≡ front ++ tuple_destroy input element ∷ []
+  pub below : AllByRecursion IsBelow front
+  pub is_single : single input ≡ true
+
+-- one more before them
+ended_more : (single : ℕ → Bool) (op : Operator) (ops : List Operator) → IsBelow op → Ended single ops → Ended single (op ∷ ops)
+ended_more single op ops b e = record { front = op ∷ e.front; input = e.input; element = e.element; is = ap (λ (z : List Operator). op ∷ z) e.is; below = (b, e.below); is_single = e.is_single }
+
+pub ended_of : (single : ℕ → Bool) (ops : List Operator) → EndsSingle single ops → Ended single ops
+ended_of single [] h = absurd h
+ended_of single (tuple_destroy input element ∷ []) h = record { front = []; input = input; element = element; is = refl; below = tt; is_single = h }
+ended_of single (tuple_destroy input element ∷ op ∷ ops) h = absurd h
+ended_of single (source s out ∷ ops) h = ended_more single (source s out) ops tt (ended_of single ops h)
+ended_of single (get_descendants input start path out ∷ ops) h = ended_more single (get_descendants input start path out) ops tt (ended_of single ops h)
+ended_of single (join left right tests ∷ ops) h = ended_more single (join left right tests) ops tt (ended_of single ops h)
+ended_of single (over input op ∷ ops) h = ended_more single (over input op) ops tt (ended_of single ops h)
+
+-- what holds of all operators holds of each
+each_at : (P : Operator → Type 0) (ops : List Operator) (j : ℕ) → j < length ops → AllByRecursion P ops → P (op_at ops j)
+each_at P [] j lt h = absurd (omega (arith, lt))
+each_at P (op ∷ ops) zero lt h = h.0
+each_at P (op ∷ ops) (suc j) lt h = each_at P ops j (omega (arith, lt)) h.1
+
+-- WHAT READS INPUTS ALONE
+
+-- trees read those of the inputs
+op_tree-reads : ReadsInputs op_tree
+op_tree-reads (source s out) a b h = refl
+op_tree-reads (get_descendants input start path out) a b h = ap (λ (x : Tree). descend x start path out) h.0
+op_tree-reads (join left right tests) a b h = ap (λ (x : Tree). both x (a right) tests) h.0 ∙ ap (λ (x : Tree). both (b left) x tests) h.1.0
+op_tree-reads (over input op) a b h = ap (λ (x : Tree). above x op) h.0
+op_tree-reads (tuple_destroy input element) a b h = refl
+
+-- bindings read those of the inputs
+op_rows-reads : (world : World) → ReadsInputs (op_rows world)
+op_rows-reads world (source s out) a b h = refl
+op_rows-reads world (get_descendants input start path out) a b h = ap (descended world start path out) h.0
+op_rows-reads world (join left right tests) a b h = ap (λ (x : List Row). joined_rows world.docs tests x (a right)) h.0 ∙ ap (joined_rows world.docs tests (b left)) h.1.0
+op_rows-reads world (over input op) a b h = ap (unary world.docs op) h.0
+op_rows-reads world (tuple_destroy input element) a b h = refl
+
+-- ONE OPERATOR
+
+-- a tree agrees with what is said of an operator
+record Agrees (n : ℕ) (x : Tree) (ks : Kinds) (single : Bool) : Type 0 where
+  kinds_are : tree_kinds x ≡ ks
+  fits : TreeFits x
+  single_is : tree_single x ≡ single
+  reads : ReadsBelow n x
+
+-- the tree of an operator agrees where those of its inputs do
+op_agrees : (n : ℕ) (op : Operator) → IsBelow op → (of : ℕ → Tree) (ks : ℕ → Kinds) (bs : ℕ → Bool) → AllByRecursion (λ i. Agrees n (of i) (ks i) (bs i)) (inputs_of op) → IsFit op ks → HasSource n op
+    → Agrees n (op_tree op of) (op_kinds op ks) (is_single op bs)
+unfolding tree_kinds TreeFits tree_single ReadsBelow
+op_agrees n (source i out) b of ks bs h f s = record { kinds_are = refl; fits = tt; single_is = refl; reads = s }
+op_agrees n (get_descendants input start path out) b of ks bs h f s = record {
+  kinds_are = ap (with_kind out a_node) h.0.kinds_are;
+  fits = (h.0.fits, subst (λ (k : Kinds). k start ≡ Some a_node) (sym h.0.kinds_are) f.0, f.1);
+  single_is = refl;
+  reads = h.0.reads;
+}
+op_agrees n (join left right tests) b of ks bs h f s =
+    let same : (λ (v : ℕ). either_kind (tree_kinds (of left) v) (tree_kinds (of right) v)) ≡ (λ (v : ℕ). either_kind (ks left v) (ks right v)) =
+    ap {B = Kinds} (λ (k : Kinds). λ v. either_kind (k v) (tree_kinds (of right) v)) h.0.kinds_are ∙ ap {B = Kinds} (λ (k : Kinds). λ v. either_kind (ks left v) (k v)) h.1.0.kinds_are in
+    record {
+      kinds_are = same;
+      fits = (h.0.fits, h.1.0.fits, subst (λ (k : Kinds). AllByRecursion (IsTest k) tests) (sym same) f);
+      single_is = join_single tests;
+      reads = (h.0.reads, h.1.0.reads);
+    }
+  where
+    join_single : (ts : List Test) → tree_single (both (of left) (of right) ts) ≡ is_single (join left right ts) bs
+    join_single [] = ap (λ (x : Bool). x && tree_single (of right)) h.0.single_is ∙ ap (λ (x : Bool). bs left && x) h.1.0.single_is
+    join_single (t ∷ ts) = refl
+op_agrees n (over input op) b of ks bs h f s = record {
+  kinds_are = ap (unary_kinds op) h.0.kinds_are;
+  fits = (h.0.fits, subst (λ (k : Kinds). IsUnaryFit k op) (sym h.0.kinds_are) f);
+  single_is = ap (unary_single op) h.0.single_is;
+  reads = h.0.reads;
+}
+op_agrees n (tuple_destroy input element) b of ks bs h f s = absurd b
+
+-- and means what the operator means
+op_means : (world : World) (op : Operator) → IsBelow op → (of : ℕ → Tree) (rows : ℕ → List Row) → AllByRecursion (λ i. tree_rows world (of i) ≡ rows i) (inputs_of op) → tree_rows world (op_tree op of) ≡ op_rows world op rows
+op_means world (source s out) b of rows h = refl
+op_means world (get_descendants input start path out) b of rows h = ap (descended world start path out) h.0
+op_means world (join left right tests) b of rows h = ap (λ (x : List Row). joined_rows world.docs tests x (tree_rows world (of right))) h.0 ∙ ap (joined_rows world.docs tests (rows left)) h.1.0
+op_means world (over input op) b of rows h = ap (unary world.docs op) h.0
+op_means world (tuple_destroy input element) b of rows h = absurd b
+
+-- what is bound anew in a tree, is by its operator or below it
+op_out : (op : Operator) → IsBelow op → (of : ℕ → Tree) (v : ℕ) → Among v (tree_outs (op_tree op of)) → Among v (outs_of op) ⊎ ((i : ℕ) × Among i (inputs_of op) × Among v (tree_outs (of i)))
+unfolding tree_outs
+op_out (source s out) b of v a = inl a
+op_out (get_descendants input start path out) b of v a = elim (among_cases (tree_outs (of input)) (out ∷ []) v a) [ inl x ↦ inr (input, inl refl, x) | inr x ↦ inl x ]
+op_out (join left right tests) b of v a = elim (among_cases (tree_outs (of left)) (tree_outs (of right)) v a) [ inl x ↦ inr (left, inl refl, x) | inr x ↦ inr (right, inr (inl refl), x) ]
+op_out (over input op) b of v a = elim (among_cases (tree_outs (of input)) (unary_outs op) v a) [ inl x ↦ inr (input, inl refl, x) | inr x ↦ inl x ]
+op_out (tuple_destroy input element) b of v a = absurd b
+
+-- a number that is not among others
+none_any : (v : ℕ) (vs : List ℕ) → (Among v vs → ⊥) → list_any (λ w. w == v) vs ≡ false
+none_any v [] f = refl
+none_any v (w ∷ vs) f =
+    (elim (w == v) as (λ x. (w == v) ≡ x → (x || list_any (λ u. u == v) vs) ≡ false) [
+      | true ↦ λ e. absurd (f (inl (grind (arith, nat_tests, e))))
+      | false ↦ λ e. none_any v vs (λ a. f (inr a))
+    ]) refl
+
+-- a number that is in neither of two lists
+any_of_two : (v : ℕ) (xs ys : List ℕ) → list_any (λ w. w == v) xs ≡ false → list_any (λ w. w == v) ys ≡ false → list_any (λ w. w == v) (xs ++ ys) ≡ false
+any_of_two v xs ys h g = list_any-append (λ w. w == v) xs ys ∙ rw (h, g) refl
+
+-- distinct numbers, and others that are none of them
+distinct_append : (xs ys : List ℕ) → AreDistinct xs → AreDistinct ys → ((v : ℕ) → Among v xs → Among v ys → ⊥) → AreDistinct (xs ++ ys)
+distinct_append [] ys h g f = g
+distinct_append (x ∷ xs) ys h g f = (any_of_two x xs ys h.0 (none_any x ys (f x (inl refl))), distinct_append xs ys h.1 g (λ v a b. f v (inr a) b))
+
+-- an operator binds no variable twice
+unary_distinct : (op : Unary) → AreDistinct (unary_outs op)
+unary_distinct (select test) = tt
+unary_distinct (order_by v desc) = tt
+unary_distinct (project keys) = tt
+unary_distinct (group_by [] piece out) = (refl, tt)
+unary_distinct (group_by (k ∷ keys) piece out) = (refl, tt)
+unary_distinct (concatenate pieces out) = (refl, tt)
+unary_distinct (create_element label list out) = (refl, tt)
+
+-- nor does its tree, where the inputs and the operator bind nothing both
+op_distinct : (op : Operator) → IsBelow op → (of : ℕ → Tree) → AllByRecursion (λ i. AreDistinct (tree_outs (of i))) (inputs_of op)
+    → ((i v : ℕ) → Among i (inputs_of op) → Among v (outs_of op) → Among v (tree_outs (of i)) → ⊥)
+    → ((left right v : ℕ) → inputs_of op ≡ left ∷ right ∷ [] → Among v (tree_outs (of left)) → Among v (tree_outs (of right)) → ⊥)
+    → AreDistinct (tree_outs (op_tree op of))
+unfolding tree_outs
+op_distinct (source s out) b of h f g = (refl, tt)
+op_distinct (get_descendants input start path out) b of h f g = distinct_append (tree_outs (of input)) (out ∷ []) h.0 (refl, tt) (λ v x y. f input v (inl refl) y x)
+op_distinct (join left right tests) b of h f g = distinct_append (tree_outs (of left)) (tree_outs (of right)) h.0 h.1.0 (λ v x y. g left right v refl x y)
+op_distinct (over input op) b of h f g = distinct_append (tree_outs (of input)) (unary_outs op) h.0 (unary_distinct op) (λ v x y. f input v (inl refl) y x)
+op_distinct (tuple_destroy input element) b of h f g = absurd b
+
+-- NUMBERS THAT STAND ONCE
+
+-- what belongs to one operator is among what belongs to all
+among_flat : (f : Operator → List ℕ) (ops : List Operator) (n v : ℕ) → n < length ops → Among v (f (op_at ops n)) → Among v (flat_map f ops)
+among_flat f [] n v b a = absurd (omega (arith, b))
+among_flat f (op ∷ ops) zero v b a = among_left (f op) (flat_map f ops) v a
+among_flat f (op ∷ ops) (suc n) v b a = (let c : n < length ops = omega (arith, b) in among_right (f op) (flat_map f ops) v (among_flat f ops n v c a))
+
+-- how many times a number stands in lists
+count_among : (i : ℕ) (xs : List ℕ) → Among i xs → 1 ≤ count_by (λ m. m == i) xs
+count_among i [] a = absurd a
+count_among i (x ∷ xs) (inl e) =
+    let t : (x == i) ≡ true = grind (arith, nat_tests, e) in
+    let o : count_by (λ m. m == i) (x ∷ []) ≡ 1 = rw t refl in
+    subst (λ (n : ℕ). 1 ≤ n) (sym (count-append i (x ∷ []) xs)) (omega (arith, o))
+count_among i (x ∷ xs) (inr a) =
+    let t = count_among i xs a in
+    subst (λ (n : ℕ). 1 ≤ n) (sym (count-append i (x ∷ []) xs)) (omega (arith, t))
+
+-- an operator reads another at most as often as all do
+count_flat : (i : ℕ) (ops : List Operator) (n : ℕ) → n < length ops → count_by (λ m. m == i) (inputs_of (op_at ops n)) ≤ count_by (λ m. m == i) (flat_map inputs_of ops)
+count_flat i [] n b = absurd (omega (arith, b))
+count_flat i (op ∷ ops) zero b = (let e = count-append i (inputs_of op) (flat_map inputs_of ops) in omega (arith, e))
+count_flat i (op ∷ ops) (suc n) b =
+    let c : n < length ops = omega (arith, b) in
+    let e = count-append i (inputs_of op) (flat_map inputs_of ops) in
+    let h = count_flat i ops n c in omega (arith, e, h)
+
+-- an operator that is an input once has one reader
+pub reader_once : (ops : List Operator) (i : ℕ) → count_by (λ m. m == i) (flat_map inputs_of ops) ≤ 1 → (a b : ℕ) → a < length ops → b < length ops → Among i (inputs_of (op_at ops a)) → Among i (inputs_of (op_at ops b)) → a ≡ b
+reader_once [] i u a b p q x y = absurd (omega (arith, p))
+reader_once (op ∷ ops) i u zero zero p q x y = refl
+reader_once (op ∷ ops) i u zero (suc b) p q x y =
+    let c : b < length ops = omega (arith, q) in
+    let e = count-append i (inputs_of op) (flat_map inputs_of ops) in
+    let h = count_among i (inputs_of op) x in
+    let k = count_among i (inputs_of (op_at ops b)) y in
+    let l = count_flat i ops b c in absurd (omega (arith, e, h, k, l, u))
+reader_once (op ∷ ops) i u (suc a) zero p q x y =
+    let c : a < length ops = omega (arith, p) in
+    let e = count-append i (inputs_of op) (flat_map inputs_of ops) in
+    let h = count_among i (inputs_of op) y in
+    let k = count_among i (inputs_of (op_at ops a)) x in
+    let l = count_flat i ops a c in absurd (omega (arith, e, h, k, l, u))
+reader_once (op ∷ ops) i u (suc a) (suc b) p q x y =
+    let c : a < length ops = omega (arith, p) in
+    let d : b < length ops = omega (arith, q) in
+    let e = count-append i (inputs_of op) (flat_map inputs_of ops) in
+    let less : count_by (λ m. m == i) (flat_map inputs_of ops) ≤ 1 = omega (arith, e, u) in
+    ap suc (reader_once ops i less a b c d x y)
+
+module _ (p : PlanValue) (valid : IsValid p) (typed : IsTyped p.ops) where
+  abbrev pub ops : List Operator
+  ops = p.ops
+
+  -- where the operators end
+  abbrev pub ending : Ended (is_single_at ops) ops
+  ending = ended_of (is_single_at ops) ops valid.ends
+
+  -- so many readers up
+  abbrev Up : ℕ → ℕ → ℕ → Type 0
+  Up m zero n = m ≡ n
+  Up m (suc d) n = (q : ℕ) × (q < length ops) × Among m (inputs_of (op_at ops q)) × Up q d n
+
+  -- one reader further up
+  up_more : (m d i n : ℕ) → Up m d i → Among i (inputs_of (op_at ops n)) → n < length ops → Up m (suc d) n
+  up_more m zero i n u a b = (n, b, subst (λ (z : ℕ). Among z (inputs_of (op_at ops n))) (sym u) a, refl)
+  up_more m (suc d) i n u a b = (u.0, u.1, u.2, up_more u.0 d i n u.3 a b)
+
+  pub smaller : (m n : ℕ) → n < length ops → Among m (inputs_of (op_at ops n)) → m < n
+  smaller m n b a = each_among (λ i. i < n) (inputs_of (op_at ops n)) (typed.inputs n b) m a
+
+  -- readers have greater numbers
+  up_above : (m d n : ℕ) → Up m d n → m + d ≤ n
+  up_above m zero n u = omega (arith, u)
+  up_above m (suc d) n u = (let h = up_above u.0 d n u.3 in let k = smaller m u.0 u.1 u.2 in omega (arith, h, k))
+
+  pub once : (i n : ℕ) → n < length ops → Among i (inputs_of (op_at ops n)) → count_by (λ m. m == i) (flat_map inputs_of ops) ≤ 1
+  once i n b a =
+      let s = smaller i n b a in
+      let c : suc i < length ops = omega (arith, s, b) in
+      let e : count_by (λ m. m == i) (flat_map inputs_of ops) ≡ 1 = valid.used_once i c in omega (arith, e)
+
+  -- two ways up are one
+  one_way : (m d e a b : ℕ) → Up m d a → Up m e b → ((k : ℕ) × Up a k b) ⊎ ((k : ℕ) × Up b k a)
+  one_way m zero e a b u w = inl (e, subst (λ (z : ℕ). Up z e b) u w)
+  one_way m (suc d) zero a b u w = inr (suc d, subst (λ (z : ℕ). Up z (suc d) a) w u)
+  one_way m (suc d) (suc e) a b u w =
+      let same : u.0 ≡ w.0 = reader_once ops m (once m u.0 u.1 u.2) u.0 w.0 u.1 w.1 u.2 w.2 in
+      one_way u.0 d e a b u.3 (subst (λ (z : ℕ). Up z e b) (sym same) w.3)
+
+  -- all but the last are no tupleDestroy
+  pub below_at : (n : ℕ) → suc n < length ops → IsBelow (op_at ops n)
+  below_at n b =
+      let e : Ended (is_single_at ops) ops = ending in
+      let l = length-append e.front (tuple_destroy e.input e.element ∷ []) in
+      let c : suc n < length (e.front ++ tuple_destroy e.input e.element ∷ []) = subst (λ (z : List Operator). suc n < length z) e.is b in
+      let lt : n < length e.front = omega (arith, l, c) in
+      let at : op_at ops n ≡ op_at e.front n = ap (λ (z : List Operator). op_at z n) e.is ∙ get_or_append_left e.front (tuple_destroy e.input e.element ∷ []) (source 0 0) n lt in
+      subst IsBelow (sym at) (each_at IsBelow e.front n lt e.below)
+
+  -- an operator that is not the last
+  less : (n : ℕ) → suc n < length ops → n < length ops
+  less n b = omega (arith, b)
+
+  input_less : (n i : ℕ) → suc n < length ops → Among i (inputs_of (op_at ops n)) → suc i < length ops
+  input_less n i b a = (let s = smaller i n (less n b) a in omega (arith, s, b))
+
+  -- the tree of an operator, from those of its inputs
+  pub tree_at-is : (n : ℕ) → n < length ops → tree_at ops n ≡ op_tree (op_at ops n) (tree_at ops)
+  unfolding tree_at
+  tree_at-is n b = by_number-is op_tree (begin 0 0) ops n op_tree-reads (typed.inputs n b)
+
+  -- its kinds
+  kinds-is : (n : ℕ) → n < length ops → kinds ops n ≡ op_kinds (op_at ops n) (kinds ops)
+  unfolding kinds
+  kinds-is n b = by_number-is op_kinds no_kinds ops n op_kinds-reads (typed.inputs n b)
+
+  -- whether it is single
+  single-is : (n : ℕ) → n < length ops → is_single_at ops n ≡ is_single (op_at ops n) (is_single_at ops)
+  unfolding is_single_at
+  single-is n b = by_number-is is_single false ops n is_single-reads (typed.inputs n b)
+
+  -- an operator stands between others
+  split : (all : List Operator) (n : ℕ) → n < length all → (a : List Operator) × (b : List Operator) × (all ≡ a ++ op_at all n ∷ b) × (n ≡ length a)
+  split [] n l = absurd (omega (arith, l))
+  split (op ∷ all) zero l = ([], all, refl, refl)
+  split (op ∷ all) (suc n) l = (let r = split all n (omega (arith, l)) in (op ∷ r.0, r.1, ap (λ (z : List Operator). op ∷ z) r.2, ap suc r.3))
+
+  -- its bindings
+  rows-is : (world : World) (n : ℕ) → n < length ops → rows_of world ops n ≡ op_rows world (op_at ops n) (rows_of world ops)
+  rows-is world n b =
+      let s = split ops n b in
+      let op : Operator = op_at ops n in
+      let front : List Operator = s.0 ++ op ∷ [] in
+      let l = length-append s.0 (op ∷ []) in
+      let e : ops ≡ front ++ s.1 = s.2 ∙ sym (snoc s.0 op s.1) in
+      ap (λ (z : List Operator). rows_of world z n) e
+      ∙ rows-stable world front s.1 n (omega (arith, l, s.3))
+      ∙ rows-last world s.0 op n s.3
+      ∙ op_rows-reads world op (rows_of world s.0) (rows_of world ops)
+      (among_each (λ i. rows_of world s.0 i ≡ rows_of world ops i) (inputs_of op)
+      (λ i a.
+      let k = smaller i n b a in
+      let lt : i < length s.0 = omega (arith, k, s.3) in
+      sym (ap (λ (z : List Operator). rows_of world z i) s.2 ∙ rows-stable world s.0 (op ∷ s.1) i lt)))
+
+  -- ALL OPERATORS
+
+  -- each tree agrees with its operator
+  agrees : (k n : ℕ) → n < k → suc n < length ops → Agrees (length p.sources) (tree_at ops n) (kinds ops n) (is_single_at ops n)
+  agrees zero n h b = absurd (omega (arith, h))
+  agrees (suc k) n h b =
+      let l = less n b in
+      let r = op_agrees (length p.sources) (op_at ops n) (below_at n b) (tree_at ops) (kinds ops) (is_single_at ops)
+      (among_each (λ i. Agrees (length p.sources) (tree_at ops i) (kinds ops i) (is_single_at ops i)) (inputs_of (op_at ops n))
+      (λ i a. let s = smaller i n l a in agrees k i (omega (arith, s, h)) (input_less n i b a)))
+      (typed.fit n l) (each_at (HasSource (length p.sources)) ops n l valid.sources) in
+      subst (λ (x : Tree). Agrees (length p.sources) x (kinds ops n) (is_single_at ops n)) (sym (tree_at-is n l))
+      (subst (λ (ks : Kinds). Agrees (length p.sources) (op_tree (op_at ops n) (tree_at ops)) ks (is_single_at ops n)) (sym (kinds-is n l))
+      (subst (λ (x : Bool). Agrees (length p.sources) (op_tree (op_at ops n) (tree_at ops)) (op_kinds (op_at ops n) (kinds ops)) x) (sym (single-is n l)) r))
+
+  -- and has its bindings
+  means : (world : World) (k n : ℕ) → n < k → suc n < length ops → tree_rows world (tree_at ops n) ≡ rows_of world ops n
+  means world zero n h b = absurd (omega (arith, h))
+  means world (suc k) n h b =
+      let l = less n b in
+      ap (tree_rows world) (tree_at-is n l)
+      ∙ op_means world (op_at ops n) (below_at n b) (tree_at ops) (rows_of world ops)
+      (among_each (λ i. tree_rows world (tree_at ops i) ≡ rows_of world ops i) (inputs_of (op_at ops n)) (λ i a. let s = smaller i n l a in means world k i (omega (arith, s, h)) (input_less n i b a)))
+      ∙ sym (rows-is world n l)
+
+  -- where a variable of a tree is bound anew
+  abbrev Origin : ℕ → ℕ → Type 0
+  Origin n v = (m : ℕ) × (d : ℕ) × (m < length ops) × Among v (outs_of (op_at ops m)) × Up m d n
+
+  -- a variable of a tree is bound anew by an operator below
+  origin : (k n v : ℕ) → n < k → suc n < length ops → Among v (tree_outs (tree_at ops n)) → Origin n v
+  origin zero n v h b e = absurd (omega (arith, h))
+  origin (suc k) n v h b e =
+      let l = less n b in
+      elim (op_out (op_at ops n) (below_at n b) (tree_at ops) v (subst (λ (x : Tree). Among v (tree_outs x)) (tree_at-is n l) e)) [
+        | inl a ↦ (n, 0, l, a, refl)
+        | inr i ↦
+            (let s = smaller i.0 n l i.1 in
+            let o = origin k i.0 v (omega (arith, s, h)) (input_less n i.0 b i.1) i.2 in
+            (o.0, suc o.1, o.2, o.3, up_more o.0 o.1 i.0 n o.4 i.1 l))
+      ]
+
+  -- what an operator binds anew is not bound anew below it
+  out_fresh : (n i v : ℕ) → suc n < length ops → Among i (inputs_of (op_at ops n)) → Among v (outs_of (op_at ops n)) → Among v (tree_outs (tree_at ops i)) → ⊥
+  out_fresh n i v b a o e =
+      let l = less n b in
+      let s = smaller i n l a in
+      let r = origin (suc i) i v (omega arith) (input_less n i b a) e in
+      let same : r.0 ≡ n = bound_once ops valid.distinct r.0 n v r.2 l r.3 o in
+      let up = up_above r.0 r.1 i r.4 in omega (arith, same, up, s)
+
+  -- two inputs of one operator, one of which stands above the other
+  no_above : (n a b k : ℕ) → n < length ops → Among a (inputs_of (op_at ops n)) → Among b (inputs_of (op_at ops n)) → (a ≡ b → ⊥) → Up a k b → ⊥
+  no_above n a b zero l x y other u = other u
+  no_above n a b (suc k) l x y other u =
+      let same : u.0 ≡ n = reader_once ops a (once a n l x) u.0 n u.1 l u.2 x in
+      let up = up_above u.0 k b u.3 in
+      let s = smaller b n l y in omega (arith, same, up, s)
+
+  -- two inputs of one operator differ
+  pub inputs_differ : (n left right : ℕ) → n < length ops → inputs_of (op_at ops n) ≡ left ∷ right ∷ [] → left ≡ right → ⊥
+  inputs_differ n left right b is z =
+      let u = once left n b (subst (Among left) (sym is) (inl refl)) in
+      let c = count_flat left ops n b in
+      let e : (right == left) ≡ true = grind (arith, nat_tests, z) in
+      let f : (left == left) ≡ true = grind (arith, nat_tests) in
+      let two : 2 ≤ count_by (λ m. m == left) (left ∷ right ∷ []) = rw (f, e) (omega arith) in
+      let t : 2 ≤ count_by (λ m. m == left) (inputs_of (op_at ops n)) = subst (λ (xs : List ℕ). 2 ≤ count_by (λ m. m == left) xs) (sym is) two in
+      omega (arith, u, c, t)
+
+  -- no variable is bound anew on both sides of a join
+  sides_fresh : (n left right v : ℕ) → suc n < length ops → inputs_of (op_at ops n) ≡ left ∷ right ∷ [] → Among v (tree_outs (tree_at ops left)) → Among v (tree_outs (tree_at ops right)) → ⊥
+  sides_fresh n left right v more is g e =
+      let b = less n more in
+      let x = origin (suc left) left v (omega arith) (input_less n left more in_left) g in
+      let y = origin (suc right) right v (omega arith) (input_less n right more in_right) e in
+      let same : x.0 ≡ y.0 = bound_once ops valid.distinct x.0 y.0 v x.2 y.2 x.3 y.3 in
+      elim (one_way x.0 x.1 y.1 left right x.4 (subst (λ (z : ℕ). Up z y.1 right) (sym same) y.4)) [
+        | inl u ↦ no_above n left right u.0 b in_left in_right differ u.1
+        | inr u ↦ no_above n right left u.0 b in_right in_left (λ (z : right ≡ left). differ (sym z)) u.1
+      ]
+    where
+      in_left : Among left (inputs_of (op_at ops n))
+      in_left = subst (Among left) (sym is) (inl refl)
+
+      in_right : Among right (inputs_of (op_at ops n))
+      in_right = subst (Among right) (sym is) (inr (inl refl))
+
+      differ : left ≡ right → ⊥
+      differ = inputs_differ n left right (less n more) is
+
+  -- no tree binds a variable anew twice
+  distinct : (k n : ℕ) → n < k → suc n < length ops → AreDistinct (tree_outs (tree_at ops n))
+  distinct zero n h b = absurd (omega (arith, h))
+  distinct (suc k) n h b =
+      let l = less n b in
+      subst (λ (x : Tree). AreDistinct (tree_outs x)) (sym (tree_at-is n l))
+      (op_distinct (op_at ops n) (below_at n b) (tree_at ops)
+      (among_each (λ i. AreDistinct (tree_outs (tree_at ops i))) (inputs_of (op_at ops n)) (λ i a. let s = smaller i n l a in distinct k i (omega (arith, s, h)) (input_less n i b a)))
+      (λ i v a o e. out_fresh n i v b a o e)
+      (λ left right v is x y. sides_fresh n left right v b is x y))
+
+  -- THE WHOLE PLAN
+
+  pub last_at : op_at ops (length ending.front) ≡ tuple_destroy ending.input ending.element
+  last_at = ap (λ (z : List Operator). op_at z (length ending.front)) ending.is ∙ get_or_at ending.front (tuple_destroy ending.input ending.element) [] (source 0 0) (length ending.front) refl
+
+  pub all_but_one : length ops ≡ suc (length ending.front)
+  all_but_one = (let l = length-append ending.front (tuple_destroy ending.input ending.element ∷ []) in let e = ap length ending.is in omega (arith, l, e))
+
+  input_at : suc ending.input < length ops
+  input_at =
+      let l = all_but_one in
+      let b : length ending.front < length ops = omega (arith, l) in
+      let s = smaller ending.input (length ending.front) b (subst (λ (o : Operator). Among ending.input (inputs_of o)) (sym last_at) (inl refl)) in omega (arith, l, s)
+
+  -- the tree below the tupleDestroy makes a valid plan
+  pub plan_whole : IsWhole (length p.sources) (tree_at ops ending.input) ending.element
+  plan_whole =
+      let n : ℕ = ending.input in
+      let a : Agrees (length p.sources) (tree_at ops n) (kinds ops n) (is_single_at ops n) = agrees (suc n) n (omega arith) input_at in
+      let l = all_but_one in
+      let b : length ending.front < length ops = omega (arith, l) in
+      record {
+        reads = a.reads;
+        fits = a.fits;
+        distinct = distinct (suc n) n (omega arith) input_at;
+        single = a.single_is ∙ ending.is_single;
+        element = ap (λ (k : Kinds). k ending.element) a.kinds_are ∙ subst (λ (o : Operator). IsFit o (kinds ops)) last_at (typed.fit (length ending.front) b);
+      }
+
+  -- and means what the plan means
+  pub plan_means : (world : World) → tree_rows world (tree_at ops ending.input) ≡ rows_of world ops ending.input
+  plan_means world = means world (suc ending.input) ending.input (omega arith) input_at

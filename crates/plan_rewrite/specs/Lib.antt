@@ -1,0 +1,5 @@
+pub mod Rewritten
+pub mod Law
+pub mod Edits
+pub mod Marks
+pub mod Walk

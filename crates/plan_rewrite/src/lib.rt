@@ -1,0 +1,12 @@
+//! Plans whose selections are moved below joins, or into them.
+#![tactic(auto)]
+
+mod block;
+mod copy;
+mod edit;
+mod law;
+mod mark;
+mod raise;
+mod way;
+
+pub use law::{rewriting_keeps_documents, rewriting_keeps_validity};
