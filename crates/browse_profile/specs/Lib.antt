@@ -1,0 +1,6 @@
+pub mod Bounds
+pub mod Costs
+pub mod Fits
+pub mod Profiles
+pub mod Replacing
+pub mod Sound
