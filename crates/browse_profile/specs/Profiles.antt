@@ -45,9 +45,9 @@ one_binding = record { lead = Some 1; between = Some 0; trail = Some 0; none = S
 abbrev pub unbounded : Profile
 unbounded = record { lead = None; between = None; trail = None; none = None; all = None; sure = false; most = Many }
 
--- no events
-abbrev pub no_events : Profile
-no_events = record { lead = Some 0; between = Some 0; trail = Some 0; none = Some 0; all = Some 0; sure = false; most = Never }
+-- no events at all
+abbrev pub costless : Profile
+costless = record { lead = Some 0; between = Some 0; trail = Some 0; none = Some 0; all = Some 0; sure = false; most = Never }
 
 -- one list and then another
 abbrev pub in_turn : Profile → Profile → Profile

@@ -1,6 +1,6 @@
 // Profiles: what it can cost to go from stop to stop of a list.
 ghost use Rattle.std.specs.Prelude.{◌≡◌};
-ghost use Rattle.browse_profile.specs.Profiles.{may, many, added, greater, in_turn, one_of, repeated, replaced, passed, first_kept, one_skip, one_binding, unbounded, no_events, replaced_sure, replaced_once, replaced_by, with_all, once, greatest};
+ghost use Rattle.browse_profile.specs.Profiles.{may, many, added, greater, in_turn, one_of, repeated, replaced, passed, first_kept, one_skip, one_binding, unbounded, costless, replaced_sure, replaced_once, replaced_by, with_all, once, greatest};
 
 use crate::bound::{all_replaced, larger, less_one, only_if, sum};
 
