@@ -1,0 +1,12 @@
+pub mod Alone
+pub mod Constants
+pub mod EventFits
+pub mod FirstKeys
+pub mod LevelLaws
+pub mod Rows
+pub mod ShapeSteps
+pub mod Sorts
+pub mod Sound
+pub mod StageSteps
+pub mod Tolls
+pub mod Whole

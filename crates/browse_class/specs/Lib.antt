@@ -1,0 +1,5 @@
+pub mod Bound
+pub mod Cheap
+pub mod Classes
+pub mod Facts
+pub mod Levels
