@@ -43,6 +43,7 @@ unfolding IsAlone
 fits_alone i o (ends t) h = tt
 fits_alone i o (stop t c) h = none_behind i o c h.2
 
+-- where there is one binding at most, no two agree by any keys
 pub apart_once : (docs : Documents) (keys : List Key) (i : Profile) → many i.most ≡ false → (es : RowEvents) → FourFit i (costs_of es) → AreApart docs keys es
 apart_once docs keys i o es h = alone_apart docs keys es (fits_alone i o (costs_of es) h)
 

@@ -77,6 +77,7 @@ least : (n : Option ℕ) → AtMost (Some 1) n → Within 1 n
 least None h = tt
 least (Some n) h = h
 
+-- what bounds all operators is at least 1
 pub one_within : (ops : List Operator) (of : ℕ → Facts) (n : Option ℕ) → AtMost (all_bounds ops of) n → Within 1 n
 one_within [] of n h = least n h
 one_within (op ∷ ops) of n h = one_within ops of n (larger_right (op_bound op of) (all_bounds ops of) n h)

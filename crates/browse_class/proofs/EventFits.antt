@@ -74,6 +74,7 @@ pub none_behind : (i : Profile) → many i.most ≡ false → (c : Costs) → Be
 none_behind i o (ends t) h = tt
 none_behind i o (stop t c) h = (let e : true ≡ false = sym h.1 ∙ o in cc)
 
+-- a list of a profile that never has a stop has none
 pub none_never : (i : Profile) → may i.most ≡ false → (c : Costs) → FourFit i c → HasNone c
 none_never i o (ends t) h = tt
 none_never i o (stop t c) h = (let e : true ≡ false = sym h.1 ∙ o in cc)
@@ -148,6 +149,7 @@ total-only test (bind row ∷ es) =
       | false ↦ total-more 1 (costs_of (only test es)) ∙ ap (λ (n : ℕ). 1 + n) (total-only test es)
     ]
 
+-- first bindings by keys cost in all what the events cost
 pub total-distinct : (docs : Documents) (keys : List Key) (make : TolledRow → RowEvents → TolledRow) (seen : List (List KeyValue)) (es : RowEvents) → total (costs_of (distinct docs keys make seen es)) ≡ total (costs_of es)
 total-distinct docs keys make seen [] = refl
 total-distinct docs keys make seen (skip ∷ es) = total-more 1 (costs_of (distinct docs keys make seen es)) ∙ ap (λ (n : ℕ). 1 + n) (total-distinct docs keys make seen es) ∙ sym (total-more 1 (costs_of es))
@@ -165,12 +167,14 @@ passed_all Never i = refl
 passed_all Once i = refl
 passed_all Many i = refl
 
+-- bindings that a test leaves are as the profile of stops passed over says
 pub fits_only : (i : Profile) (test : TolledRow → Bool) (es : RowEvents) → Fits i (costs_of es) → Fits (passed i) (costs_of (only test es))
 fits_only i test es h = (
   four_only i test es h.0,
   subst (Within (total (costs_of (only test es)))) (sym (passed_all i.most i)) (subst (λ (n : ℕ). Within n i.all) (sym (total-only test es)) h.1),
 )
 
+-- first bindings by keys are as the profile whose first stop is kept says
 pub fits_distinct : (i : Profile) → many i.most ≡ true → (docs : Documents) (keys : List Key) (make : TolledRow → RowEvents → TolledRow) (es : RowEvents) → Fits i (costs_of es) → Fits (first_kept i) (costs_of (distinct docs keys make [] es))
 fits_distinct i some docs keys make es h =
     (four_distinct i some docs keys make es h.0, subst (λ (n : ℕ). Within n i.all) (sym (total-distinct docs keys make [] es)) h.1)

@@ -38,6 +38,7 @@ value_same (by_node m) (by_label l) h = cc
 value_same (by_label l) (by_node n) h = cc
 value_same (by_label l) (by_label m) h = ap by_label ((bytes_eq-Decides l m).0 h)
 
+-- lists of key values that compare as the same are the same
 pub values_same : (xs ys : List KeyValue) → same_values xs ys ≡ true → xs ≡ ys
 values_same [] [] h = refl
 values_same [] (y ∷ ys) h = cc

@@ -52,6 +52,7 @@ level_each docs keys P f same make other seen (bind row ∷ es) b =
       | false ↦ ap (stop 1) new
     ]
 
+-- a change of bindings that leaves their key values leaves what the first ones by keys cost
 pub level_each_row : (docs : Documents) (keys : List Key) (P : TolledRow → Type 0) (f : TolledRow → TolledRow) → ((row : TolledRow) → P row → key_values docs keys (f row) ≡ key_values docs keys row) → (make : TolledRow → RowEvents → TolledRow)
     → (es : RowEvents) → EachBinding P es → costs_of (distinct docs keys make [] (each_row f es)) ≡ costs_of (distinct docs keys make [] es)
 level_each_row docs keys P f same make es b = level_each docs keys P f same make make [] es b
@@ -83,6 +84,7 @@ and_right : (a b : Bool) → (a && b) ≡ true → b ≡ true
 and_right true b h = h
 and_right false b h = cc
 
+-- keys that cover others have each of their variables
 pub covered_var : (keys others : List Key) (v : ℕ) → covers keys others ≡ true → has_var others v ≡ true → has_var keys v ≡ true
 covered_var keys [] v c h = cc
 covered_var keys (k ∷ others) v c h =

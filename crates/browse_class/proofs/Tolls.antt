@@ -66,6 +66,7 @@ cheap_behind : (most : Option ℕ) (p : Profile) → IsWithin most p → (f : To
 cheap_behind most p w (the_end t) h b = within_most p.trail most t w.trail h
 cheap_behind most p w (item t label kids rest) h b = (within_most p.between most t w.between h.0, b.0, cheap_behind most p w rest h.2 b.1)
 
+-- a list whose own tolls and those below its trees are within a bound is cheap
 pub cheap_list : (most : Option ℕ) (p : Profile) → IsWithin most p → (f : Tolled) → FourFit p (spine f) → IsCheapBelow most f → IsCheap most f
 cheap_list most p w (the_end t) h b = within_most p.none most t w.none h.0
 cheap_list most p w (item t label kids rest) h b = (within_most p.lead most t w.lead h.0, b.0, cheap_behind most p w rest h.2 b.1)
