@@ -13,20 +13,20 @@ use Rattle.plan_core.specs.Typed.{IsTyped}
 use Rattle.plan_core.specs.TolledRows.{TolledRow}
 use Rattle.plan_core.specs.Events.{RowEvents, events, pairs, expand, passes_all}
 use Rattle.plan_core.proofs.Found.{found-expand_none, found-expand_some, cost-expand_le, cost-expand_some, found-pairs_none, found-pairs_yes, found-pairs_no, cost-pairs_le, cost-pairs_no}
-use Rattle.lazy_plan.specs.declared.position.Position.{Position, Start, Pair'}
-use Rattle.lazy_plan.specs.World.{World, docs_of, is_told, IsBench}
-use Rattle.lazy_plan.specs.Cursors.{left_ahead, binding, ahead, number, size, stands, weighs, IsIn, IsOf}
-use Rattle.lazy_plan.specs.Keeping.{Keeps, Stays}
+use Rattle.lazy_binding.specs.declared.position.Position.{Position, Start, Pair'}
+use Rattle.lazy_binding.specs.World.{World, docs_of, is_told, IsBench}
+use Rattle.lazy_binding.specs.Cursors.{left_ahead, binding, ahead, number, size, stands, weighs, IsIn, IsOf}
+use Rattle.lazy_binding.specs.Keeping.{Keeps, Stays}
 use Rattle.std.specs.List.{AllByRecursion}
 use Rattle.lxp_core.specs.View.{View}
 use Rattle.plan_core.specs.Valid.{kinds, Kinds, IsTest, shape_single}
-use Rattle.lazy_plan.specs.declared.parts.Growing.{Growing}
-use Rattle.lazy_plan.specs.declared.parts.Fixed.{Fixed}
-use Rattle.lazy_plan.specs.Parts.{operators, world_of}
-use Rattle.lazy_plan.proofs.Bound.{kinds_at, inputs_at, fit_at}
+use Rattle.lazy_binding.specs.declared.parts.Growing.{Growing}
+use Rattle.lazy_binding.specs.declared.parts.Fixed.{Fixed}
+use Rattle.lazy_binding.specs.Parts.{operators, world_of}
+use Rattle.lazy_binding.proofs.Bound.{kinds_at, inputs_at, fit_at}
 use Rattle.lazy_plan.specs.Steps.{single, Asks, Finds, Moves, Ran, CanStep, left_events, left_number}
-use Rattle.lazy_plan.proofs.Keep.{keeps_same, docs_kept}
-use Rattle.lazy_plan.proofs.Stay.{cursors_kept, size_kept}
+use Rattle.lazy_binding.proofs.Keep.{keeps_same, docs_kept}
+use Rattle.lazy_binding.proofs.Stay.{cursors_kept, size_kept}
 use Rattle.lazy_plan.proofs.Shapes.{events_at, size_at, single_at}
 use Rattle.lazy_plan.proofs.Goes.{Goes, goes_same, still_told, less_times, le_same, in_place, ran_over}
 

@@ -1,13 +1,7 @@
 pub mod Bench
-pub mod Cursors
-pub mod Keeping
-pub mod KeyLaws
-pub mod Keys
 pub mod Opening
 pub mod Orders
-pub mod Parts
-pub mod Reading
 pub mod Steps
-pub mod Unders
 pub mod Visits
-pub mod World
+pub use Rattle.lazy_binding.specs.Cursors
+pub use Rattle.lazy_binding.specs.World

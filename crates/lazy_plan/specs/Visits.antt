@@ -11,11 +11,11 @@ use Rattle.lazy_descend.specs.declared.cursor.DescCursor.{DescCursor}
 use Rattle.plan_core.specs.Plans.{Operator}
 use Rattle.plan_core.specs.TolledRows.{row_node}
 use Rattle.lxp_core.specs.declared.fault.WalkFault.{WalkFault}
-use Rattle.lazy_plan.specs.declared.parts.Growing.{Growing}
+use Rattle.lazy_binding.specs.declared.parts.Growing.{Growing}
 use Rattle.lazy_plan.specs.declared.visits.Visit.{Visit}
-use Rattle.lazy_plan.specs.World.{World, docs_of, place_in, bound_of, match_ahead, match_number}
-use Rattle.lazy_plan.specs.Cursors.{binding, places_ahead, found_number}
-use Rattle.lazy_plan.specs.Parts.{operators, world_of}
+use Rattle.lazy_binding.specs.World.{World, docs_of, place_in, bound_of, match_ahead, match_number}
+use Rattle.lazy_binding.specs.Cursors.{binding, places_ahead, found_number}
+use Rattle.lazy_binding.specs.Parts.{operators, world_of}
 use Rattle.lazy_plan.specs.Steps.{Asked, GivesMatch, HasCause}
 
 -- the node below which a visit goes

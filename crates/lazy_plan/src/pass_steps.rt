@@ -2,13 +2,13 @@
 ghost use Rattle.std.specs.Prelude.{◌≡◌, ℕ, Option};
 ghost use Rattle.plan_core.specs.declared.plan.Piece.{Piece};
 ghost use Rattle.plan_core.specs.Shapes.{filters, extends, first_by_keys, passes_on, Made};
-ghost use Rattle.lazy_plan.specs.Parts.{shape_walked};
+ghost use Rattle.lazy_binding.specs.Parts.{shape_walked};
 ghost use Rattle.lazy_plan.specs.Steps.{CanWalk, StepsOn};
 
-use crate::firsts::{KeyEvent, first_of_key, seen_up_to};
-use crate::parts::{Growing, Walk};
-use crate::position::{Position, inside, put};
+use crate::firsts::{KeyEvent, first_of_key};
 use crate::step::Step;
+use crate::steps::advance;
+use lazy_binding::{Growing, Position, Walk, inside, put, seen_up_to};
 use lxp_core::{Sources, WalkFault};
 use mix_tree::{Key, Test};
 use std::alloc::Global;
@@ -23,7 +23,18 @@ pub(crate) struct Filters<'a> {
     pub(crate) test: &'a Test,
 }
 
-impl Filters<'_> {
+impl<'a> Filters<'a> {
+    /// A select of this input and comparison.
+    pub(crate) fn new(walk: Walk<'a>, input: u32, test: &'a Test) -> Filters<'a>
+        ensures { result ≡ record { walk = walk.entry; input = input; test = test.entry } }
+    {
+        Filters {
+            walk,
+            input: input as usize,
+            test,
+        }
+    }
+
     /// The input's next binding, where the comparison holds of it.
     #[cycle(walk)]
     pub(crate) fn step<S: Sources>(
@@ -42,7 +53,7 @@ impl Filters<'_> {
             op: self.input,
         };
         let before = inside(alloc, at)?;
-        match input.advance(alloc, growing, s, &before)? {
+        match advance(alloc, input, growing, s, &before)? {
             None => Ok(Step::Done),
             Some(below) => {
                 let holds = input.passes(growing, &below, self.test);
@@ -64,7 +75,17 @@ pub(crate) struct Extends<'a> {
     pub(crate) input: usize,
 }
 
-impl Extends<'_> {
+impl<'a> Extends<'a> {
+    /// A concatenate or a createElement of this input.
+    pub(crate) fn new(walk: Walk<'a>, input: u32) -> Extends<'a>
+        ensures { result ≡ record { walk = walk.entry; input = input } }
+    {
+        Extends {
+            walk,
+            input: input as usize,
+        }
+    }
+
     /// The input's next binding, with one variable more.
     #[cycle(walk)]
     pub(crate) fn step<S: Sources>(
@@ -83,7 +104,7 @@ impl Extends<'_> {
             op: self.input,
         };
         let before = inside(alloc, at)?;
-        match input.advance(alloc, growing, s, &before)? {
+        match advance(alloc, input, growing, s, &before)? {
             None => Ok(Step::Done),
             Some(below) => {
                 let pass = put(alloc, Position::Pass(below))?;
@@ -101,7 +122,18 @@ pub(crate) struct Firsts<'a> {
     pub(crate) keys: &'a [Key],
 }
 
-impl Firsts<'_> {
+impl<'a> Firsts<'a> {
+    /// A project or a groupBy of this input, by these keys.
+    pub(crate) fn new(walk: Walk<'a>, input: u32, keys: &'a [Key]) -> Firsts<'a>
+        ensures { result ≡ record { walk = walk.entry; input = input; keys = keys.entry } }
+    {
+        Firsts {
+            walk,
+            input: input as usize,
+            keys,
+        }
+    }
+
     /// The input's next binding, a binding where its keys were not seen up to here.
     #[cycle(walk)]
     pub(crate) fn step<S: Sources>(
@@ -121,7 +153,7 @@ impl Firsts<'_> {
         };
         let before = inside(alloc, at)?;
         let count = seen_up_to(at);
-        match input.advance(alloc, growing, s, &before)? {
+        match advance(alloc, input, growing, s, &before)? {
             None => Ok(Step::Done),
             Some(below) => {
                 let key = input.key_of(alloc, growing, &below, self.keys)?;

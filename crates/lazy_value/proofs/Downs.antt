@@ -12,7 +12,7 @@ use Rattle.plan_core.specs.TolledRows.{TolledValue, TolledRow, tolled_value, val
 use Rattle.plan_core.specs.Events.{RowEvents, events, first_row, element_alone, tolled_destroyed, tolled_document}
 use Rattle.lazy_plan.specs.declared.bench.Bench.{Bench}
 use Rattle.lazy_plan.specs.Bench.{BenchState, state_of, ops_of, documents, events_of, size_of, binding_at, AsksNoneOnSingle, IsFirstOf, BenchRan}
-use Rattle.lazy_plan.specs.declared.position.Position.{Position}
+use Rattle.lazy_binding.specs.declared.position.Position.{Position}
 use Rattle.lazy_plan.proofs.Benches.{keeps_on}
 use Rattle.lazy_value.specs.Forms.{input_at, pieces_of}
 use Rattle.lazy_value.specs.Ids.{element_trees, value_of, IsRest, rest_trees, IsLast}

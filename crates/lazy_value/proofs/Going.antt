@@ -12,7 +12,7 @@ use Rattle.plan_core.specs.Events.{RowEvents, only, passing}
 use Rattle.plan_core.proofs.Found.{found-only_no, cost-only_no, found-passing_none, found-passing_yes, found-run_no, cost-passing_le}
 use Rattle.lazy_plan.specs.declared.bench.Bench.{Bench}
 use Rattle.lazy_plan.specs.Bench.{BenchState, state_of, told, forward, fills_of, ops_of, documents, IsCursor, binding_at, ahead_at, number_at, KeepsBench, AsksAtMost, IsFirstOf, BenchRan}
-use Rattle.lazy_plan.specs.declared.position.Position.{Position}
+use Rattle.lazy_binding.specs.declared.position.Position.{Position}
 use Rattle.lazy_plan.proofs.Benches.{keeps_on}
 use Rattle.lazy_value.specs.Forms.{input_at, keys_of}
 use Rattle.lazy_value.specs.Ids.{stops_at, group_ahead}

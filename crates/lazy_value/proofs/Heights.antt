@@ -16,7 +16,7 @@ use Rattle.plan_core.specs.ByNumber.{op_at}
 use Rattle.plan_core.specs.Typed.{IsTyped}
 use Rattle.plan_core.specs.Valid.{inputs_of}
 use Rattle.lazy_plan.specs.declared.bench.Bench.{Bench}
-use Rattle.lazy_plan.specs.World.{of_buffer, roots_weight}
+use Rattle.lazy_binding.specs.World.{of_buffer, roots_weight}
 use Rattle.lazy_plan.specs.Bench.{BenchState, state_of, IsBenchOf, IsSpotAt, IsSpotFor, below_at, KeepsBench}
 use Rattle.lazy_plan.proofs.Matches.{root_light}
 use Rattle.lazy_value.specs.Forms.{input_of, input_at, pieces_of}

@@ -16,7 +16,7 @@ use Rattle.plan_core.specs.Valid.{Kind, Kinds, a_node, an_element, a_list, kinds
 use Rattle.plan_core.proofs.Groups.{group_kinds, fit_group}
 use Rattle.plan_core.specs.TolledRows.{TolledRow, tolled_value}
 use Rattle.plan_core.specs.Events.{RowEvents}
-use Rattle.lazy_plan.specs.World.{World}
+use Rattle.lazy_binding.specs.World.{World}
 use Rattle.lazy_plan.specs.Bench.{IsMadeOf, HasUnder, AmongInputs}
 use Rattle.lazy_value.specs.Labels.{labels, op_labels}
 use Rattle.lazy_value.specs.Sizes.{size, op_size, extent, op_extent}

@@ -12,10 +12,10 @@ use Rattle.tree_buffer.specs.Buffer.{IsSpot, place_of}
 use Rattle.plan_core.specs.Typed.{IsTyped}
 use Rattle.plan_core.specs.Valid.{a_node, kinds}
 use Rattle.plan_core.specs.TolledRows.{TolledRow, row_node, source_node, key_value, key_values, same_value, same_values}
-use Rattle.lazy_plan.specs.World.{of_buffer, place_in, IsSpotIn}
+use Rattle.lazy_binding.specs.World.{of_buffer, place_in, IsSpotIn}
 use Rattle.lazy_plan.specs.Bench.{BenchState, ops_of, IsCursor, binding_at, IsSpotOf, node_at}
-use Rattle.lazy_plan.specs.declared.position.Position.{Position}
-use Rattle.lazy_plan.proofs.Unders.{node_source, same_some}
+use Rattle.lazy_binding.specs.declared.position.Position.{Position}
+use Rattle.lazy_binding.proofs.VariableSources.{node_source, same_some}
 
 module _ (st : BenchState) (typed : IsTyped (ops_of st)) (n : ℕ) (within : n < length (ops_of st)) (v : ℕ) (k : kinds (ops_of st) n v ≡ Some a_node) (c d : Position) (h : IsCursor st n c) (i : IsCursor st n d) where
   -- the nodes of a variable are of one source

@@ -1,6 +1,6 @@
 -- How far the document goes on below an identifier: numbers by which walks down end.
 use Rattle.std.specs.Prelude.{ℕ, suc, ◌+◌, ◌<◌, ◌≤◌, max, length, Option, MatchOption}
-use Rattle.lazy_plan.specs.World.{roots_weight}
+use Rattle.lazy_binding.specs.World.{roots_weight}
 use Rattle.lazy_plan.specs.Bench.{BenchState, ops_of, below_at, after_at}
 use Rattle.lazy_value.specs.declared.ids.Head.{Head}
 use Rattle.lazy_value.specs.declared.ids.Head.TheVariants.{Whole, Built, Leaf, Text}

@@ -15,7 +15,7 @@ use Rattle.plan_core.specs.TolledRows.{TolledValue, of_source, element, trees, p
 use Rattle.plan_core.specs.Events.{RowEvents, group_behind, tolled_document}
 use Rattle.plan_core.specs.Fronts.{op_stops}
 use Rattle.lazy_plan.specs.Bench.{BenchState, ops_of, documents, events_of, size_of, IsCursor, binding_at, ahead_at, number_at, IsSpotAt, node_at, trees_at_spot, after_at}
-use Rattle.lazy_plan.specs.declared.position.Position.{Position}
+use Rattle.lazy_binding.specs.declared.position.Position.{Position}
 use Rattle.lazy_value.specs.Forms.{Form, makes_list, makes_element, gathers_all, gathers_groups, form, input_at, pieces_of, keys_of, label_in, piece_at, piece_of}
 use Rattle.lazy_value.specs.Sizes.{pieces_count, size, extent}
 use Rattle.lazy_value.specs.declared.ids.Origin.{Origin}

@@ -10,9 +10,9 @@ use Rattle.plan_core.specs.Valid.{Kind, a_node, an_element, a_list}
 use Rattle.plan_core.specs.Tolled.{Tolled, item}
 use Rattle.plan_core.specs.TolledRows.{TolledRow, tolled_value, piece_items}
 use Rattle.plan_core.specs.Events.{RowEvents}
-use Rattle.lazy_plan.specs.World.{World}
+use Rattle.lazy_binding.specs.World.{World}
 use Rattle.lazy_plan.specs.Bench.{BenchState, ops_of, size_of, documents, binding_at, IsMadeOf, HasUnder, AmongInputs}
-use Rattle.lazy_plan.specs.declared.position.Position.{Position}
+use Rattle.lazy_binding.specs.declared.position.Position.{Position}
 use Rattle.lazy_value.specs.Forms.{pieces_of, input_at, piece_at}
 use Rattle.lazy_value.specs.Labels as of
 use Rattle.lazy_value.specs.Sizes.{pieces_count, size, extent}

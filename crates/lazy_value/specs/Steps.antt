@@ -5,7 +5,7 @@ use Rattle.lxp_core.specs.View.{View}
 use Rattle.plan_core.specs.Events.{RowEvents}
 use Rattle.plan_core.specs.Tolled.{Tolled, dearer, paid, is_item}
 use Rattle.lazy_plan.specs.declared.bench.Bench.{Bench}
-use Rattle.lazy_plan.specs.declared.position.Position.{Position}
+use Rattle.lazy_binding.specs.declared.position.Position.{Position}
 use Rattle.lazy_plan.specs.Bench.{BenchState, state_of, IsBenchOf, told, forward, fills_of, ops_of, IsCursor, binding_at, number_at, KeepsBench, AsksAtMost}
 use Rattle.lazy_value.specs.Forms.{input_at}
 use Rattle.lazy_value.specs.Ids.{group_ahead, here, IsSite, rest_trees, IsRest, weight, left, site_left}

@@ -1,6 +1,6 @@
 use Rattle.std.proofs.Common.{rules, ◌∙◌, sym}
 use Rattle.plan_core.specs.Shapes.{one_source}
-use Rattle.lazy_plan.specs.Parts.{operators, world_of}
+use Rattle.lazy_binding.specs.Parts.{operators, world_of}
 use Rattle.lazy_plan.proofs.Goes.{ran_nothing, shaped, in_shape, placed}
 use Rattle.lazy_plan.proofs.Singles.{top_at, top_over, source_within, top_known, top_place}
 use Rattle.lazy_plan.proofs.single_steps.OneSource.step.Goals as goal

@@ -4,9 +4,9 @@ use Rattle.path_auto.specs.Visit.{visit_below}
 use Rattle.mix_tree.specs.Forest.{tree, none}
 use Rattle.tree_buffer.specs.Document.{document_node}
 use Rattle.tree_buffer.specs.Buffer.{number_of, place_of}
-use Rattle.lazy_plan.specs.World.{docs_of, place_in, bound_of}
-use Rattle.lazy_plan.specs.Parts.{operators, world_of}
-use Rattle.lazy_plan.proofs.Labels.{read_is}
+use Rattle.lazy_binding.specs.World.{docs_of, place_in, bound_of}
+use Rattle.lazy_binding.specs.Parts.{operators, world_of}
+use Rattle.lazy_binding.proofs.Labels.{read_is}
 use Rattle.lazy_plan.proofs.Matches.{visit_same, call_lazy, call_answer, call_asked, call_cause, three_ok, spot_read, less_first}
 use Rattle.lazy_plan.proofs.visits.Visit.first.Goals as goal
 

@@ -1,9 +1,9 @@
 use Rattle.std.proofs.Common.{refl}
 use Rattle.path_auto.specs.Automaton.{machine_of}
 use Rattle.lazy_descend.specs.Cursors.{ahead}
-use Rattle.lazy_plan.specs.World.{match_ahead, match_number}
-use Rattle.lazy_plan.specs.Parts.{operators, world_of}
-use Rattle.lazy_plan.proofs.Labels.{read_is}
+use Rattle.lazy_binding.specs.World.{match_ahead, match_number}
+use Rattle.lazy_binding.specs.Parts.{operators, world_of}
+use Rattle.lazy_binding.proofs.Labels.{read_is}
 use Rattle.lazy_plan.proofs.Matches.{ahead_same, call_lazy, call_answer, call_asked, call_cause, three_ok, match_read, less_next}
 use Rattle.lazy_plan.proofs.visits.Visit.next.Goals as goal
 

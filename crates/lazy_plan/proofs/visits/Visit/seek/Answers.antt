@@ -2,10 +2,10 @@ use Rattle.std.proofs.Common.{ℕ, List, suc, ap, sym, subst, ◌∙◌}
 use Rattle.mix_base.specs.Events.{Event}
 use Rattle.mix_tree.specs.Nodes.{Node}
 use Rattle.path_auto.specs.Automaton.{machine_of, table_of}
-use Rattle.lazy_plan.specs.World.{spot_node, IsSpotIn, match_number, bound_of}
+use Rattle.lazy_binding.specs.World.{spot_node, IsSpotIn, match_number, bound_of}
 use Rattle.lazy_plan.specs.Steps.{Asked}
 use Rattle.lazy_plan.specs.Visits.{start_node}
-use Rattle.lazy_plan.specs.Parts.{operators, world_of}
+use Rattle.lazy_binding.specs.Parts.{operators, world_of}
 use Rattle.lazy_plan.proofs.VisitSteps.{first_places, first_gives, next_gives, next_asked}
 use Rattle.lazy_plan.proofs.visits.Visit.seek.Goals as goal
 

@@ -1,0 +1,14 @@
+pub mod Bound
+pub mod Buffers
+pub mod FirstLists
+pub mod FirstMembers
+pub mod Keep
+pub mod KeyParts
+pub mod Labels
+pub mod SameKeys
+pub mod SameNodes
+pub mod SeenLists
+pub mod SortedRows
+pub mod Spots
+pub mod Stay
+pub mod VariableSources

@@ -1,0 +1,84 @@
+-- Keys that were seen, among the keys of a set.
+use Rattle.std.proofs.Common.{◌≡◌, ◌<◌, ◌≤◌, ◌+◌, ℕ, zero, suc, Bool, true, false, ◌||◌, List, [], ◌∷◌, ◌++◌, Some, None, length, take, map, position, refl, ◌∙◌, sym, ap, arith}
+use Rattle.std.specs.Prelude.{nat_lt}
+use Rattle.std.proofs.lemmas.Bool.Decides.{nat_tests}
+use Rattle.std.specs.List.{list_any, position_or_len}
+use Rattle.std.specs.Cmp.Lexicographic.{lists_equiv}
+use Rattle.std.proofs.lemmas.List.{map-append}
+use Rattle.indexmap.specs.IndexSet.{insert_key}
+use Rattle.smallvec.specs.SmallVec.{SmallVec}
+use Rattle.lazy_binding.specs.declared.key.KeyPart.{KeyPart}
+use Rattle.lazy_binding.specs.Keys.{same_parts, was_seen}
+use Rattle.lazy_binding.specs.KeyLaws.{part_equivalence}
+use Rattle.lazy_binding.proofs.FirstLists.{take_map}
+
+-- a key of a set, by its parts
+abbrev same_key : SmallVec KeyPart → SmallVec KeyPart → Bool
+same_key a b = same_parts a.items b.items
+
+-- one less on both sides
+one_less : (m n : ℕ) → nat_lt m n ≡ nat_lt (1 + m) (suc n)
+one_less m n = grind (arith, nat_tests)
+
+module _ {X : Type 0} (p : X → Bool) where
+  -- among the first few there is one that passes where the first such place is among them
+  any_within : (xs : List X) (few : ℕ) → position_or_len p xs < length xs → list_any p (take few xs) ≡ nat_lt (position_or_len p xs) few
+  any_within [] few h = absurd (omega (arith, h))
+  any_within (x ∷ xs) zero h = grind (arith, nat_tests)
+  any_within (x ∷ xs) (suc few) h = by_case (p x) refl (any_within xs few)
+    where
+      by_case : (b : Bool) → p x ≡ b → (position_or_len p xs < length xs → list_any p (take few xs) ≡ nat_lt (position_or_len p xs) few)
+          → list_any p (take (suc few) (x ∷ xs)) ≡ nat_lt (position_or_len p (x ∷ xs)) (suc few)
+      by_case true e more = rw e (grind (arith, nat_tests))
+      by_case false e more = rw e (more (omega (arith, (rw e at h))) ∙ one_less (position_or_len p xs) few)
+
+  -- where there is no such place there is none
+  any_missing : (xs : List X) (few : ℕ) → length xs ≤ position_or_len p xs → list_any p (take few xs) ≡ false
+  any_missing [] zero h = refl
+  any_missing [] (suc few) h = refl
+  any_missing (x ∷ xs) zero h = refl
+  any_missing (x ∷ xs) (suc few) h = by_case (p x) refl (any_missing xs few)
+    where
+      by_case : (b : Bool) → p x ≡ b → (length xs ≤ position_or_len p xs → list_any p (take few xs) ≡ false) → list_any p (take (suc few) (x ∷ xs)) ≡ false
+      by_case true e more = absurd (omega (arith, (rw e at h)))
+      by_case false e more = rw e (more (omega (arith, (rw e at h))))
+
+  -- at its place
+  any_some : (xs : List X) (few i : ℕ) → position p xs ≡ Some i → list_any p (take few xs) ≡ nat_lt i few
+  any_some xs few i h = by_case (nat_lt (position_or_len p xs) (length xs)) refl
+    where
+      by_case : (b : Bool) → nat_lt (position_or_len p xs) (length xs) ≡ b → list_any p (take few xs) ≡ nat_lt i few
+      by_case true e = (let z : position_or_len p xs ≡ i = (let y = rw e at h in cc) in any_within xs few (grind (arith, nat_tests, e)) ∙ ap (λ (m : ℕ). nat_lt m few) z)
+      by_case false e = (let y = rw e at h in cc)
+
+  -- without a place
+  any_none : (xs : List X) (few : ℕ) → position p xs ≡ None → list_any p (take few xs) ≡ false
+  any_none xs few h = by_case (nat_lt (position_or_len p xs) (length xs)) refl
+    where
+      by_case : (b : Bool) → nat_lt (position_or_len p xs) (length xs) ≡ b → list_any p (take few xs) ≡ false
+      by_case true e = (let y = rw e at h in cc)
+      by_case false e = any_missing xs few (grind (arith, nat_tests, e))
+
+-- what was seen is what the set has
+seen_is : (key : List KeyPart) (ks : List (SmallVec KeyPart)) → was_seen key (map (λ k. k.items) ks) ≡ list_any (λ k. same_parts key k.items) ks
+seen_is key [] = refl
+seen_is key (k ∷ ks) = ap (λ (b : Bool). b || was_seen key (map (λ j. j.items) ks)) ((lists_equiv part_equivalence).symm k.items key) ∙ ap (λ (b : Bool). same_parts key k.items || b) (seen_is key ks)
+
+module _ (key : List KeyPart) (ks : List (SmallVec KeyPart)) (few : ℕ) where
+  few_is : was_seen key (take few (map (λ k. k.items) ks)) ≡ list_any (λ k. same_parts key k.items) (take few ks)
+  few_is = ap (was_seen key) (take_map (λ k. k.items) ks few) ∙ seen_is key (take few ks)
+
+  -- a key that the set has at this place was seen among the first few where the place is one of theirs
+  pub seen_at_place : (i : ℕ) → position (λ k. same_parts key k.items) ks ≡ Some i → nat_lt i few ≡ was_seen key (take few (map (λ k. k.items) ks))
+  seen_at_place i h = sym (few_is ∙ any_some (λ k. same_parts key k.items) ks few i h)
+
+  -- a key that it has not was not seen
+  pub seen_nowhere : position (λ k. same_parts key k.items) ks ≡ None → false ≡ was_seen key (take few (map (λ k. k.items) ks))
+  seen_nowhere h = sym (few_is ∙ any_none (λ k. same_parts key k.items) ks few h)
+
+-- a key that was not seen goes last
+pub new_last : (key : SmallVec KeyPart) (ks : List (SmallVec KeyPart)) → was_seen key.items (map (λ k. k.items) ks) ≡ false
+    → map (λ k. k.items) (insert_key same_key ks key) ≡ map (λ k. k.items) ks ++ key.items ∷ []
+new_last key ks h =
+    let e : list_any (same_key key) ks ≡ false = sym (seen_is key.items ks) ∙ h in
+    rw e (map-append (λ k. k.items) ks (key ∷ []))

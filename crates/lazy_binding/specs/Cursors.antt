@@ -1,0 +1,212 @@
+-- What a cursor of an operator stands for.
+use Rattle.std.specs.Prelude.{◌≡◌, ◌<◌, ◌≤◌, ◌+◌, ◌-◌, ◌*◌, ℕ, suc, Bool, true, false, IsTrue, Option, Some, None, List, [], ◌∷◌, ◌++◌, take, drop, length, map, MatchOption}
+use Rattle.std.proofs.Common.{get_or}
+use Rattle.mix_base.specs.Events.{Event, bind, finds, found}
+use Rattle.path_auto.specs.Visit.{visits}
+use Rattle.mix_tree.specs.Comparisons.{passes}
+use Rattle.mix_tree.specs.Nodes.{Documents, Node}
+use Rattle.mix_tree.specs.declared.var.Key.{Key}
+use Rattle.mix_tree.specs.declared.comparing.Test.{Test}
+use Rattle.path_expr.specs.Form.{Form}
+use Rattle.path_auto.specs.Automaton.{machine_of, table_of}
+use Rattle.plan_core.specs.Plans.{Operator}
+use Rattle.plan_core.specs.ByNumber.{by_number}
+use Rattle.plan_core.specs.Shapes.{Stage, Shape, one_source, visits_below, pairs_up, filters, extends, first_by_keys, one_group, in_order, no_events, shape_of, shape_at, passes_on}
+use Rattle.plan_core.specs.Fronts.{stops_over}
+use Rattle.plan_core.specs.Events.{extended, kept_row, whole_row}
+use Rattle.plan_core.specs.TolledRows.{of_source, TolledRow, row_node, KeyValue, key_values, is_seen}
+use Rattle.plan_core.specs.Events.{RowEvents, events, expand, each_row, only, with_node, nodes_found, descendants, pairs, distinct, keys_seen, same_group}
+use Rattle.lazy_descend.specs.declared.cursor.DescCursor.{DescCursor}
+use Rattle.lazy_binding.specs.declared.position.Position.{Position, Start, Top, Whole, Found', Pass', First', Seen', Pair', Sorted', Row_of-Position-Sorted-0-1 as Row, end_of-Position-Sorted-0-1 as no_more, more_of-Position-Sorted-0-1 as one_more}
+use Rattle.lazy_binding.specs.World.{World, docs_of, is_told, spot_node, IsSpotIn, IsMatchIn, match_place, match_ahead, match_number, bound_of, seen_at, seen_values, place_in}
+
+-- the binding and the events ahead, together
+pub record Standing : Type 0 where
+  pub row : TolledRow
+  pub ahead : RowEvents
+
+-- THE PARTS OF EACH SHAPE
+
+-- the binding of a visit from a variable; before the first match it is the input's
+abbrev pub found_row : World → ℕ → ℕ → TolledRow → ℕ → Option DescCursor → TolledRow
+found_row w start out row s None = row
+found_row w start out row s (Some d) = with_node out (row_node row start) row (match_place w s d)
+
+-- the places of a visit from a node that are still ahead
+abbrev pub places_ahead : World → Form → Node → ℕ → Option DescCursor → List (Event (List ℕ))
+places_ahead w path node s None = visits (docs_of w) path node
+places_ahead w path node s (Some d) = match_ahead w s (machine_of (table_of path)) d
+
+-- the events of the visit that are still ahead
+abbrev pub visit_ahead : World → ℕ → Form → ℕ → TolledRow → ℕ → Option DescCursor → RowEvents
+visit_ahead w start path out row s d = nodes_found out (row_node row start) row (places_ahead w path (row_node row start) s d)
+
+-- the events of the left bindings behind the present one
+abbrev pub left_ahead : World → List Operator → ℕ → List Test → RowEvents → RowEvents
+left_ahead w ops right tests later = expand (pairs (docs_of w) tests (events (docs_of w) ops right)) later
+
+-- the keys that operator n had seen when there were so many
+abbrev pub up_to : World → ℕ → ℕ → List (List KeyValue)
+up_to w n k = seen_values w (take k (seen_at w n))
+
+-- WHAT POSITIONS STAND AT
+
+-- a cursor of a visit stands at a match
+abbrev pub has_match : Option DescCursor → Bool
+has_match None = false
+has_match (Some d) = true
+
+-- a cursor stands at a binding of its input, or of both
+abbrev pub has_row : Position → Bool
+has_row Start = false
+has_row (Top s x) = true
+has_row Whole = true
+has_row (Found' q c s d) = has_match d
+has_row (Pass' q c) = true
+has_row (First' q c k) = true
+has_row (Seen' q c k) = false
+has_row (Pair' q l q' r) = has_row r
+has_row (Sorted' q m row k) = true
+
+-- how many positions a sorted list has
+abbrev pub count : {m : _} → Row m → ℕ
+count no_more = 0
+count (one_more q c rest) = suc (count rest)
+
+abbrev mutual
+  -- what a position of operator n in this shape stands for: its binding, and the events behind it
+  pub stands : World → List Operator → ℕ → Shape → Position → Standing
+  stands w ops n f Start = record { row = []; ahead = events (docs_of w) ops n }
+  stands w ops n (one_source s out) (Top t x) = record { row = (out, of_source (spot_node w t x)) ∷ []; ahead = [] }
+  stands w ops n (passes_on i (one_group piece out)) Whole = record { row = whole_row (docs_of w) piece out (events (docs_of w) ops i); ahead = [] }
+  stands w ops n (visits_below i start path out) (Found' q c s d) =
+      let input = stands w ops i (shape_at ops i) c in record {
+        row = found_row w start out input.row s d;
+        ahead = visit_ahead w start path out input.row s d ++ expand (descendants (docs_of w) start path out) input.ahead;
+      }
+  stands w ops n (passes_on i (filters test)) (Pass' q c) =
+      let input = stands w ops i (shape_at ops i) c in record { row = input.row; ahead = only (λ row. passes (docs_of w) test (row_node row)) input.ahead }
+  stands w ops n (passes_on i (extends out made)) (Pass' q c) =
+      let input = stands w ops i (shape_at ops i) c in record { row = extended (docs_of w) out made input.row; ahead = each_row (extended (docs_of w) out made) input.ahead }
+  stands w ops n (passes_on i (first_by_keys keys group)) (First' q c k) =
+      let input = stands w ops i (shape_at ops i) c in record {
+        row = kept_row (docs_of w) keys (stops_over ops i keys) group input.row input.ahead;
+        ahead = distinct (docs_of w) keys (kept_row (docs_of w) keys (stops_over ops i keys) group) (up_to w n k) input.ahead;
+      }
+  stands w ops n (passes_on i (first_by_keys keys group)) (Seen' q c k) = record {
+    row = [];
+    ahead = distinct (docs_of w) keys (kept_row (docs_of w) keys (stops_over ops i keys) group) (up_to w n k) (stands w ops i (shape_at ops i) c).ahead;
+  }
+  stands w ops n (pairs_up l r tests) (Pair' q x q' y) =
+      let left = stands w ops l (shape_at ops l) x in
+      let right = stands w ops r (shape_at ops r) y in
+      record { row = left.row ++ right.row; ahead = pairs (docs_of w) tests right.ahead left.row ++ left_ahead w ops r tests left.ahead }
+  stands w ops n (passes_on i (in_order v desc)) (Sorted' q m row k) =
+      let rows = rows_in w ops i row in record { row = get_or rows k []; ahead = map bind (drop (suc k) rows) }
+  stands w ops n f c = record { row = []; ahead = [] }
+
+  -- the bindings of the input at which a sorted list of its positions stands
+  pub rows_in : World → List Operator → ℕ → {m : _} → Row m → List TolledRow
+  rows_in w ops i no_more = []
+  rows_in w ops i (one_more q c rest) = (stands w ops i (shape_at ops i) c).row ∷ rows_in w ops i rest
+
+-- what a cursor of operator n stands for
+abbrev pub standing : World → List Operator → ℕ → Position → Standing
+standing w ops n c = stands w ops n (shape_at ops n) c
+
+-- the binding at which a cursor stands
+abbrev pub binding : World → List Operator → ℕ → Position → TolledRow
+binding w ops n c = (standing w ops n c).row
+
+-- the events behind it
+abbrev pub ahead : World → List Operator → ℕ → Position → RowEvents
+ahead w ops n c = (standing w ops n c).ahead
+
+-- how many bindings there may be behind a stage
+abbrev pub stage_size : Stage → ℕ → ℕ
+stage_size (one_group piece out) below = 1
+stage_size f below = below
+
+-- how many bindings a shape may have, by the weights of the sources alone
+abbrev pub shape_size : ℕ → Shape → (ℕ → ℕ) → ℕ
+shape_size bound (one_source s out) of = 1
+shape_size bound (visits_below i start path out) of = of i * suc (suc bound)
+shape_size bound (pairs_up l r tests) of = of l * suc (of r)
+shape_size bound (passes_on i stage) of = stage_size stage (of i)
+shape_size bound (no_events i v) of = 0
+
+-- the whole number of operator n, which no call changes
+unfoldable pub size : World → List Operator → ℕ → ℕ
+size w ops n = by_number (λ o. shape_size (bound_of w) (shape_of o)) 0 ops n
+
+-- the part of a number that is of the visit at hand
+abbrev pub found_number : World → ℕ → Option DescCursor → ℕ
+found_number w s None = suc (bound_of w)
+found_number w s (Some d) = match_number w s d
+
+-- a number of a position that no call raises, and that falls from event to event
+abbrev pub weighs : World → List Operator → ℕ → Shape → Position → ℕ
+weighs w ops n f Start = size w ops n
+weighs w ops n (visits_below i start path out) (Found' q c s d) = weighs w ops i (shape_at ops i) c * suc (suc (bound_of w)) + found_number w s d
+weighs w ops n (passes_on i (filters test)) (Pass' q c) = weighs w ops i (shape_at ops i) c
+weighs w ops n (passes_on i (extends out made)) (Pass' q c) = weighs w ops i (shape_at ops i) c
+weighs w ops n (passes_on i (first_by_keys keys group)) (First' q c k) = weighs w ops i (shape_at ops i) c
+weighs w ops n (passes_on i (first_by_keys keys group)) (Seen' q c k) = weighs w ops i (shape_at ops i) c
+weighs w ops n (pairs_up l r tests) (Pair' q x q' y) = weighs w ops l (shape_at ops l) x * suc (size w ops r) + weighs w ops r (shape_at ops r) y
+weighs w ops n (passes_on i (in_order v desc)) (Sorted' q m row k) = count row - suc k
+weighs w ops n f c = 0
+
+-- the number of a cursor
+abbrev pub number : World → List Operator → ℕ → Position → ℕ
+number w ops n c = weighs w ops n (shape_at ops n) c
+
+-- the source that a shape reads
+abbrev pub source_number : Shape → Option ℕ
+source_number (one_source s out) = Some s
+source_number f = None
+
+-- an operator reads the source
+pub record IsRead (ops : List Operator) (s : ℕ) : Type 0 where
+  pub number : ℕ
+  pub within : number < length ops
+  pub is : source_number (shape_at ops number) ≡ Some s
+
+-- each binding whose keys were not seen is ahead of these events, where it is the first one with its keys
+abbrev pub NoneBefore : Documents → List Key → RowEvents → List (List KeyValue) → RowEvents → Type 0
+NoneBefore docs keys es seen later = (row : TolledRow) → is_seen (key_values docs keys row) seen ≡ false → found (same_group docs keys row es) ≡ found (same_group docs keys row later)
+
+-- of the bindings with these keys this one is the first, with those events behind it
+abbrev pub IsFirstBy : Documents → List Key → RowEvents → TolledRow → RowEvents → Type 0
+IsFirstBy docs keys es row later = found (same_group docs keys row es) ≡ finds row (same_group docs keys row later)
+
+abbrev mutual
+  -- a position of operator n in this shape. Of first bindings by keys it is also known that the keys ahead of it are those that the input has behind the ones
+  -- seen up to it, that no event before it has other keys, and where it stands at a binding, that this is the first one with its keys
+  pub IsIn : World → List Operator → ℕ → Shape → Position → Type 0
+  IsIn w ops n f Start = Unit {0}
+  IsIn w ops n (one_source s out) (Top t x) = (t ≡ s) × IsSpotIn w t x × (place_in w t x ≡ [])
+  IsIn w ops n (passes_on i (one_group piece out)) Whole = Unit {0}
+  IsIn w ops n (visits_below i start path out) (Found' q c s d) = IsIn w ops i (shape_at ops i) c × IsTrue (has_row c)
+      × ((row_node (binding w ops i c) start).source ≡ s) × IsRead ops s × MatchOption d (Unit {0}) (IsMatchIn w s)
+  IsIn w ops n (passes_on i (filters test)) (Pass' q c) = IsIn w ops i (shape_at ops i) c × IsTrue (has_row c)
+  IsIn w ops n (passes_on i (extends out made)) (Pass' q c) = IsIn w ops i (shape_at ops i) c × IsTrue (has_row c)
+  IsIn w ops n (passes_on i (first_by_keys keys group)) (First' q c k) = IsIn w ops i (shape_at ops i) c × IsTrue (has_row c) × (k ≤ length (seen_at w n))
+      × (IsTrue (is_told w ops) → keys_seen (docs_of w) keys (up_to w n k) (ahead w ops i c) ≡ drop k (keys_seen (docs_of w) keys [] (events (docs_of w) ops i)))
+      × (IsTrue (is_told w ops) → NoneBefore (docs_of w) keys (events (docs_of w) ops i) (up_to w n k) (ahead w ops i c))
+      × (IsTrue (is_told w ops) → IsFirstBy (docs_of w) keys (events (docs_of w) ops i) (binding w ops i c) (ahead w ops i c))
+  IsIn w ops n (passes_on i (first_by_keys keys group)) (Seen' q c k) = IsIn w ops i (shape_at ops i) c × IsTrue (has_row c) × (k ≤ length (seen_at w n))
+      × (IsTrue (is_told w ops) → keys_seen (docs_of w) keys (up_to w n k) (ahead w ops i c) ≡ drop k (keys_seen (docs_of w) keys [] (events (docs_of w) ops i)))
+      × (IsTrue (is_told w ops) → NoneBefore (docs_of w) keys (events (docs_of w) ops i) (up_to w n k) (ahead w ops i c))
+  IsIn w ops n (pairs_up l r tests) (Pair' q x q' y) = IsIn w ops l (shape_at ops l) x × IsTrue (has_row x) × IsIn w ops r (shape_at ops r) y
+      × (number w ops r y ≤ size w ops r)
+  IsIn w ops n (passes_on i (in_order v desc)) (Sorted' q m row k) = AreIn w ops i row × (k < count row) × (count row ≤ size w ops n)
+  IsIn w ops n f c = ⊥
+
+  -- a sorted list of positions of operator i, each at a binding
+  pub AreIn : World → List Operator → ℕ → {m : _} → Row m → Type 0
+  AreIn w ops i no_more = Unit {0}
+  AreIn w ops i (one_more q c rest) = IsIn w ops i (shape_at ops i) c × IsTrue (has_row c) × AreIn w ops i rest
+
+-- a cursor of operator n
+abbrev pub IsOf : World → List Operator → ℕ → Position → Type 0
+IsOf w ops n c = IsIn w ops n (shape_at ops n) c

@@ -1,0 +1,9 @@
+pub mod Cursors
+pub mod Keeping
+pub mod KeyLaws
+pub mod Keys
+pub mod Parts
+pub mod Reading
+pub mod SortedLists
+pub mod Unders
+pub mod World

@@ -1,0 +1,93 @@
+-- What is read off a position: its spots, its parts, and how many keys were seen up to it.
+use Rattle.std.specs.Prelude.{◌≡◌, ℕ, zero, suc, Bool, IsTrue, cond, ◌==◌, Option, Some, None, List}
+use Rattle.mix_tree.specs.Keys.{has_var}
+use Rattle.tree_buffer.specs.declared.spot.Spot.{Spot}
+use Rattle.plan_core.specs.Plans.{Operator}
+use Rattle.plan_core.specs.Shapes.{Shape, one_source, visits_below, pairs_up, filters, extends, first_by_keys, in_order, shape_at, passes_on}
+use Rattle.mix_tree.specs.Nodes.{Documents}
+use Rattle.lxp_core.specs.View.{View}
+use Rattle.plan_core.specs.TolledRows.{TolledRow, row_node}
+use Rattle.lazy_binding.specs.declared.parts.Growing.{Growing}
+use Rattle.lazy_binding.specs.declared.parts.Walk.{Walk}
+use Rattle.lazy_binding.specs.World.{World, docs_of, is_told, spot_node, IsSpotIn, IsBench}
+use Rattle.lazy_binding.specs.Cursors.{binding, IsRead, IsOf}
+use Rattle.lazy_binding.specs.Parts.{operators, world_of}
+use Rattle.lazy_descend.specs.declared.cursor.DescCursor.{DescCursor}
+use Rattle.lazy_descend.specs.Cursors.{spot_of}
+use Rattle.lazy_binding.specs.declared.position.Position.{Position, Start, Top, Found', Pass', First', Seen', Pair', Sorted', Row_of-Position-Sorted-0-1 as Row, end_of-Position-Sorted-0-1 as no_more, more_of-Position-Sorted-0-1 as one_more}
+
+-- one spot, or else the other
+abbrev pub or_else : Option (ℕ × Spot) → Option (ℕ × Spot) → Option (ℕ × Spot)
+or_else None p = p
+or_else (Some p) q = Some p
+
+-- the spot of a match for a variable, or else another
+abbrev pub found_spot : Bool → ℕ → Option DescCursor → Option (ℕ × Spot) → Option (ℕ × Spot)
+found_spot is_out s None p = p
+found_spot is_out s (Some d) p = cond is_out (Some (s, spot_of d.frame.value)) p
+
+abbrev mutual
+  -- the spot of a variable in the binding of a position in this shape, with its source
+  pub spot_at : List Operator → Shape → Position → ℕ → Option (ℕ × Spot)
+  spot_at ops (one_source s out) (Top t x) v = cond (out == v) (Some (t, x)) None
+  spot_at ops (visits_below i start path out) (Found' q c s d) v = found_spot (out == v) s d (spot_at ops (shape_at ops i) c v)
+  spot_at ops (passes_on i (filters test)) (Pass' q c) v = spot_at ops (shape_at ops i) c v
+  spot_at ops (passes_on i (extends out made)) (Pass' q c) v = spot_at ops (shape_at ops i) c v
+  spot_at ops (passes_on i (first_by_keys keys group)) (First' q c k) v = cond (has_var keys v) (spot_at ops (shape_at ops i) c v) None
+  spot_at ops (pairs_up l r tests) (Pair' q x q' y) v = or_else (spot_at ops (shape_at ops l) x v) (spot_at ops (shape_at ops r) y v)
+  spot_at ops (passes_on i (in_order u desc)) (Sorted' q m row k) v = spot_nth ops i row k v
+  spot_at ops f c v = None
+
+  -- that of a position of a sorted list
+  pub spot_nth : List Operator → ℕ → {m : _} → Row m → ℕ → ℕ → Option (ℕ × Spot)
+  spot_nth ops i no_more k v = None
+  spot_nth ops i (one_more q c rest) zero v = spot_at ops (shape_at ops i) c v
+  spot_nth ops i (one_more q c rest) (suc k) v = spot_nth ops i rest k v
+
+-- the spot of a variable in a cursor's binding
+abbrev pub spot_in : List Operator → ℕ → Position → ℕ → Option (ℕ × Spot)
+spot_in ops n c v = spot_at ops (shape_at ops n) c v
+
+-- a position of a sorted list
+abbrev pub nth : {m : _} → Row m → ℕ → Position
+nth no_more k = Start
+nth (one_more q c rest) zero = c
+nth (one_more q c rest) (suc k) = nth rest k
+
+-- the position of the input in a position, or that of the left input
+abbrev pub below : Position → Position
+below (Found' q c s d) = c
+below (Pass' q c) = c
+below (First' q c k) = c
+below (Seen' q c k) = c
+below (Pair' q l q' r) = l
+below (Sorted' q m row k) = nth row k
+below c = Start
+
+-- how many keys were seen up to a position
+abbrev pub count_of : Position → ℕ
+count_of (First' q c k) = k
+count_of (Seen' q c k) = k
+count_of c = 0
+
+-- the spot of a variable's node
+pub record Found (w : World) (ops : List Operator) (n : ℕ) (c : Position) (v s : ℕ) (x : Spot) : Type 0 where
+  pub read : IsRead ops s
+  pub known : IsSpotIn w s x
+  pub node : row_node (binding w ops n c) v ≡ spot_node w s x
+
+-- in each world of which this is a position of an operator that is walked, so much holds of the world and the binding there
+abbrev pub InEachWorld : Walk → Position → (World → TolledRow → Type 0) → Type 0
+InEachWorld k c holds = (w : World) → IsOf w (operators k.fixed.now) k.op c → holds w (binding w (operators k.fixed.now) k.op c)
+
+-- some sources and their bench, of which this is a position of an operator that is walked
+abbrev pub HasStand : Growing → Walk → Position → Type 0
+HasStand g k c = (view : View) × IsBench (world_of view g) (operators k.fixed.now) × IsOf (world_of view g) (operators k.fixed.now) k.op c
+
+-- whatever the sources are, if this is such a position, so much holds in their world
+abbrev pub InEach : Growing → Walk → Position → (World → Type 0) → Type 0
+InEach g k c holds = (view : View) → IsBench (world_of view g) (operators k.fixed.now) → IsOf (world_of view g) (operators k.fixed.now) k.op c → holds (world_of view g)
+
+-- and where the sources that the plan reads are told, so much of their documents and the binding there
+abbrev pub Tells : Growing → Walk → Position → (World → Documents → TolledRow → Type 0) → Type 0
+Tells g k c holds = InEach g k c (λ w. IsTrue (is_told w (operators k.fixed.now)) → holds w (docs_of w) (binding w (operators k.fixed.now) k.op c))

@@ -1,0 +1,139 @@
+-- What a bench stands on: what its sources mean, a buffer for each of them, and for each operator the keys that were seen.
+use Rattle.std.specs.Prelude.{◌≡◌, ◌<◌, ◌≤◌, ◌+◌, nat_lt, cond, ℕ, zero, suc, Bool, true, IsTrue, Option, Some, None, List, [], map, take, length, slice_get, slice_index_or}
+use Rattle.std.specs.List.{list_all, AllByRecursion}
+use Rattle.mix_base.specs.Events.{Event}
+use Rattle.mix_tree.specs.Forest.{none}
+use Rattle.mix_tree.specs.Nodes.{Documents, Node}
+use Rattle.mix_tree.specs.declared.var.Key.{Key}
+use Rattle.path_auto.specs.Automaton.{Machine}
+use Rattle.lxp_core.specs.View.{View, document}
+use Rattle.tree_buffer.specs.declared.buffer.Buffer.{Buffer}
+use Rattle.tree_buffer.specs.declared.spot.Spot.{Spot}
+use Rattle.tree_buffer.specs.Buffer.{IsSpot, IsSourcesOf, number_of, place_of}
+use Rattle.plan_core.specs.Plans.{Operator}
+use Rattle.plan_core.specs.Shapes.{Shape, one_source, first_by_keys, shape_of, shape_at, passes_on}
+use Rattle.plan_core.specs.TolledRows.{KeyValue, by_node, by_label}
+use Rattle.plan_core.specs.Events.{events, keys_seen}
+use Rattle.plan_core.specs.Valid.{HasSource}
+use Rattle.lazy_descend.specs.declared.cursor.DescCursor.{DescCursor}
+use Rattle.lazy_descend.specs.Cursors.{IsCursor, place_at, ahead, number}
+use Rattle.lazy_binding.specs.declared.key.KeyPart.{KeyPart}
+use Rattle.lazy_binding.specs.declared.key.KeyPart.TheVariants.{Node as node_part, Label as label_part, Free as free_part}
+
+-- what a bench stands on
+pub record World : Type 0 where
+  pub view : View
+  pub buffers : List Buffer
+  pub seen : List (List (List KeyPart))
+
+-- these together
+abbrev pub world : View → List Buffer → List (List (List KeyPart)) → World
+world view buffers seen = record { view = view; buffers = buffers; seen = seen }
+
+-- the documents of the sources; a number that no source has stands for no trees
+abbrev pub docs_of : World → Documents
+docs_of w s = cond (nat_lt s w.view.count) (document w.view s) none
+
+-- a shape reads only sources with this property
+abbrev pub shape_reads : (ℕ → Bool) → Shape → Bool
+shape_reads test (one_source s out) = test s
+shape_reads test f = true
+
+-- an operator reads only sources with this property
+abbrev pub reads : (ℕ → Bool) → Operator → Bool
+reads test o = shape_reads test (shape_of o)
+
+-- each source that the operators read tells its document
+abbrev pub is_told : World → List Operator → Bool
+is_told w ops = list_all (reads w.view.told) ops
+
+-- each source that the operators read is forward
+abbrev pub is_forward : World → List Operator → Bool
+is_forward w ops = list_all (reads w.view.forward) ops
+
+-- of the buffer of a source
+abbrev pub of_buffer : {A : Type 0} → A → (Buffer → A) → Option Buffer → A
+of_buffer a f None = a
+of_buffer a f (Some b) = f b
+
+-- the buffer of a source
+abbrev pub buffer_at : World → ℕ → Option Buffer
+buffer_at w s = slice_get w.buffers s
+
+-- the place at which a spot of a source stands
+abbrev pub place_in : World → ℕ → Spot → List ℕ
+place_in w s x = of_buffer [] (λ b. place_of b x) (buffer_at w s)
+
+-- the node at which it stands
+abbrev pub spot_node : World → ℕ → Spot → Node
+spot_node w s x = record { source = s; place = place_in w s x }
+
+-- the spot is one of the source's buffer
+pub record IsSpotIn (w : World) (s : ℕ) (x : Spot) : Type 0 where
+  pub buffer : Buffer
+  pub there : buffer_at w s ≡ Some buffer
+  pub spot : IsSpot buffer x
+
+-- the cursor of a visit is one of the source's buffer
+pub record IsMatchIn (w : World) (s : ℕ) (d : DescCursor) : Type 0 where
+  pub buffer : Buffer
+  pub there : buffer_at w s ≡ Some buffer
+  pub cursor : IsCursor buffer d
+
+-- the place at which a cursor of a visit stands
+abbrev pub match_place : World → ℕ → DescCursor → List ℕ
+match_place w s d = of_buffer [] (λ b. place_at b d) (buffer_at w s)
+
+-- the events of the visit behind it
+abbrev pub match_ahead : World → ℕ → Machine → DescCursor → List (Event (List ℕ))
+match_ahead w s m d = of_buffer [] (λ b. ahead w.view b m d) (buffer_at w s)
+
+-- its number
+abbrev pub match_number : World → ℕ → DescCursor → ℕ
+match_number w s d = of_buffer 0 (λ b. number w.view b d) (buffer_at w s)
+
+-- the weights of the root holes of the sources below n
+abbrev pub roots_weight : View → ℕ → ℕ
+roots_weight v zero = 0
+roots_weight v (suc n) = v.weight n (v.root n) + roots_weight v n
+
+-- no visit in any source has a cursor of a greater number
+abbrev pub bound_of : World → ℕ
+bound_of w = roots_weight w.view (length w.buffers)
+
+-- the keys that an operator has seen
+abbrev pub seen_at : World → ℕ → List (List KeyPart)
+seen_at w n = slice_index_or w.seen n []
+
+-- what a part of a key compares; an unused place is no part of one
+abbrev pub part_value : World → KeyPart → KeyValue
+part_value w (node_part s x) = by_node (spot_node w s x)
+part_value w (label_part label) = by_label label
+part_value w free_part = by_label []
+
+-- what keys compare
+abbrev pub seen_values : World → List (List KeyPart) → List (List KeyValue)
+seen_values w keys = map (map (part_value w)) keys
+
+-- a part of a key: a label, or a node of its source's buffer
+abbrev pub IsPart : World → KeyPart → Type 0
+IsPart w (node_part s x) = IsSpotIn w s x
+IsPart w (label_part label) = Unit {0}
+IsPart w free_part = ⊥
+
+-- the input of a shape that drops bindings whose keys were seen, and these keys
+abbrev pub drops_by : Shape → Option (ℕ × List Key)
+drops_by (passes_on i (first_by_keys keys group)) = Some (i, keys)
+drops_by f = None
+
+-- the root hole of each source is known, the buffers are those of the sources of these operators, and where the sources are told, the keys that an operator has seen are the first
+-- ones of those that its input has
+pub record IsBench (w : World) (ops : List Operator) : Type 0 where
+  pub roots : (s : ℕ) → s < w.view.count → w.view.knows s (w.view.root s) ≡ true
+  pub few : length w.buffers ≤ w.view.count
+  pub sources : (s : ℕ) (b : Buffer) → buffer_at w s ≡ Some b → (number_of b ≡ s) × IsSourcesOf w.view b
+  pub enough : AllByRecursion (HasSource (length w.buffers)) ops
+  pub lists : length w.seen ≡ length ops
+  pub parts : (n : ℕ) → AllByRecursion (AllByRecursion (IsPart w)) (seen_at w n)
+  pub seen : (n i : ℕ) (keys : List Key) → drops_by (shape_at ops n) ≡ Some (i, keys) → IsTrue (is_told w ops)
+      → seen_values w (seen_at w n) ≡ take (length (seen_at w n)) (keys_seen (docs_of w) keys [] (events (docs_of w) ops i))

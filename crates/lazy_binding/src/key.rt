@@ -1,0 +1,133 @@
+// Keys that an operator has seen.
+ghost use Rattle.std.specs.Prelude.{◌≡◌, ◌++◌, ◌∷◌, [], OnOk, OnErr, IfErr, false, length, take};
+ghost use Rattle.lazy_binding.specs.Keys.{same_part, part_fed, was_seen};
+ghost use Rattle.lazy_binding.specs.KeyLaws.{part_partial_equivalence, part_equivalence, part_alike};
+ghost use Rattle.lxp_core.specs.declared.fault.WalkFault.TheVariants.{OutOfMemory};
+
+use indexmap::IndexSet;
+use lxp_core::WalkFault;
+use mix_tree::{Label, same_label};
+use smallvec::SmallVec;
+use std::alloc::Global;
+use std::default::Default;
+use std::hash::{Hash, Hasher};
+use std::marker::Model;
+use tree_buffer::Spot;
+
+/// What one key compares of a binding.
+#[derive(Drop)]
+pub enum KeyPart {
+    /// A node: the number of its source, and its spot there.
+    Node(u32, Spot),
+    /// A label.
+    Label(Label),
+    /// Nothing: what stands in the unused places of a short tuple.
+    Free,
+}
+
+/// What the keys of an operator compare of a binding, in their order. Two of them lie in place.
+pub type KeyTuple = SmallVec<KeyPart, 2>;
+
+impl Default for KeyPart {
+    fn default() -> KeyPart {
+        KeyPart::Free
+    }
+}
+
+impl PartialEq for KeyPart {
+    ghost eq = { same_part };
+
+    ghost laws = { part_partial_equivalence };
+
+    fn eq(&self, other: &KeyPart) -> bool {
+        match self {
+            KeyPart::Node(source, spot) => match other {
+                KeyPart::Node(other_source, other_spot) => *source == *other_source
+                    && *spot == *other_spot,
+                _ => false,
+            },
+            KeyPart::Label(label) => match other {
+                KeyPart::Label(other_label) => same_label(label, other_label),
+                _ => false,
+            },
+            KeyPart::Free => matches!(other, KeyPart::Free),
+        }
+    }
+}
+
+impl Eq for KeyPart {
+    ghost laws = { part_equivalence };
+}
+
+impl Hash for KeyPart {
+    ghost hash_input = { part_fed };
+
+    ghost respects_eq = { part_alike.fed };
+
+    fn hash<H: Hasher>(&self, state: &mut H) {
+        match self {
+            KeyPart::Node(source, spot) => {
+                source.hash(state);
+                spot.hash(state);
+            }
+            KeyPart::Label(label) => label.bytes().hash(state),
+            KeyPart::Free => {}
+        }
+    }
+}
+
+/// The keys that an operator has seen, in order, each once, found by their hash.
+#[derive(Drop)]
+pub struct SeenKeys {
+    keys: IndexSet<KeyTuple>,
+}
+
+impl Model for SeenKeys {
+    ghost use Rattle.std.specs.Prelude.{List, map};
+    ghost use Rattle.lazy_binding.specs.declared.key.KeyPart.{KeyPart};
+
+    ghost Value = { List (List KeyPart) };
+
+    ghost view = { λ seen. map (λ key. key.items) seen.keys.keys };
+}
+
+impl SeenKeys {
+    /// No keys.
+    pub fn new(alloc: Global) -> SeenKeys
+        ensures { result ≡ [] }
+    {
+        SeenKeys {
+            keys: IndexSet::new(alloc),
+        }
+    }
+
+    /// How many keys were seen.
+    pub fn len(&self) -> usize
+        ensures { result ≡ length self.now }
+    {
+        self.keys.len()
+    }
+
+    /// Whether a key is among the first few.
+    pub fn begins_with(&self, few: usize, key: &KeyTuple) -> bool
+        ensures { result ≡ was_seen key.now.items (take few self.now) }
+    {
+        match self.keys.get_index_of(key) {
+            Some(place) => place < few,
+            None => false,
+        }
+    }
+
+    /// A key that was not seen stands behind the others.
+    pub fn push(&mut self, key: KeyTuple) -> Result<(), WalkFault>
+        requires { was_seen key.items self.old ≡ false }
+        ensures ok { OnOk result (self.new ≡ self.old ++ key.items ∷ []) }
+        ensures err { OnErr result (self.new ≡ self.old) }
+        ensures memory { IfErr result (λ e. e ≡ OutOfMemory) }
+    {
+        match self.keys.insert_full(key) {
+            Ok(_) => Ok(()),
+            Err(_) => Err(WalkFault::OutOfMemory),
+        }
+    }
+}

@@ -1,0 +1,16 @@
+//! The bindings of a plan's operators, by the positions of cursors: what stands at a position, what is read off it, and what is under it.
+#![tactic(auto)]
+
+mod key;
+mod law;
+mod parts;
+mod position;
+mod reading;
+mod tuple;
+mod under;
+mod variable_spots;
+
+pub use key::{KeyPart, KeyTuple, SeenKeys};
+pub use law::cursors_stay;
+pub use parts::{Fixed, Growing, Walk};
+pub use position::{Position, inside, put, seen_up_to, share};

@@ -1,0 +1,42 @@
+// What a bench is made of: the plan with the automata of its paths, and what grows while it is walked; and an operator of such a plan.
+ghost use Rattle.std.specs.Prelude.{◌≡◌, ◌<◌, length};
+ghost use Rattle.plan_core.specs.ByNumber.{op_at};
+ghost use Rattle.plan_core.specs.PlanMade.{op_of};
+ghost use Rattle.lazy_binding.specs.Parts.{operators};
+
+use crate::key::SeenKeys;
+use path_auto::Auto;
+use plan_core::{Op, Plan};
+use tree_buffer::Buffer;
+
+/// A plan, and for each operator the automaton of its path, where it has one, and whether its groups end at the first other key.
+#[derive(Drop)]
+pub struct Fixed {
+    pub plan: Plan,
+    pub autos: Vec<Option<Auto>>,
+    pub stops: Vec<bool>,
+}
+
+/// What grows while a plan is walked: for each source the nodes that were handed out, and for each operator the keys that it has seen.
+#[derive(Drop)]
+pub struct Growing {
+    pub buffers: Vec<Buffer>,
+    pub seen: Vec<SeenKeys>,
+}
+
+/// An operator of a plan: the plan, and the operator's number.
+#[derive(Clone, Copy)]
+pub struct Walk<'a> {
+    pub fixed: &'a Fixed,
+    pub op: usize,
+}
+
+impl Fixed {
+    /// The operator of a number.
+    pub fn operator(&self, n: usize) -> &Op
+        requires { n < length (operators self.now) }
+        ensures { op_of result.now ≡ op_at (operators self.now) n }
+    {
+        &self.plan.ops[n]
+    }
+}

@@ -1,0 +1,123 @@
+// What is read off a position of an operator: its spots, their labels, and whether comparisons hold there.
+ghost use Rattle.std.specs.Prelude.{◌≡◌, ◌<◌, true, IsTrue, Some, length};
+ghost use Rattle.std.specs.List.{AllByRecursion};
+ghost use Rattle.mix_tree.specs.Comparisons.{compares_nodes, passes};
+ghost use Rattle.mix_tree.specs.Keys.{has_var, key_var};
+ghost use Rattle.mix_tree.specs.Nodes.{label_at};
+ghost use Rattle.plan_core.specs.TolledRows.{row_node};
+ghost use Rattle.plan_core.specs.Valid.{kinds, a_node, IsTest};
+ghost use Rattle.plan_core.specs.Events.{passes_all};
+ghost use Rattle.lazy_binding.specs.World.{World, docs_of};
+ghost use Rattle.lazy_binding.specs.Cursors.{IsOf, has_row};
+ghost use Rattle.lazy_binding.specs.Reading.{Found, HasStand, InEachWorld, Tells};
+ghost use Rattle.lazy_binding.specs.Parts.{operators, IsFixed};
+
+use crate::parts::{Growing, Walk};
+use crate::position::Position;
+use mix_tree::{Key, Label, Operand, Test, TestOp, Var};
+use std::rc::Rc;
+use tree_buffer::{Spot, spots_are_one};
+
+/// Whether a variable is that of one of these keys.
+pub(crate) fn names_var(keys: &[Key], v: Var) -> bool
+    ensures { result ≡ has_var keys.now v }
+{
+    keys.iter().any(|key| var_of(*key) == v)
+}
+
+/// The variable of a key.
+pub(crate) fn var_of(key: Key) -> Var
+    ensures { result ≡ key_var key }
+{
+    match key {
+        Key::Node(v) => v,
+        Key::LabelOf(v) => v,
+    }
+}
+
+impl Walk<'_> {
+    /// The node of a variable in a position's binding: its source and its spot.
+    pub fn node_of(&self, at: &Rc<Position>, v: Var) -> (u32, Spot)
+        requires fixed { IsFixed self.now.fixed.now }
+        requires op { self.now.op < length (operators self.now.fixed.now) }
+        requires cursor { (w : World) × IsOf w (operators self.now.fixed.now) self.now.op at.now.value }
+        requires row { IsTrue (has_row at.now.value) }
+        requires node { kinds (operators self.now.fixed.now) self.now.op v ≡ Some a_node }
+        ensures { InEachWorld self.now at.now.value (λ w row. Found w (operators self.now.fixed.now) self.now.op at.now.value v result.0 result.1) }
+    {
+        match self.fixed.spot_of(self.op, at, v) {
+            Some(found) => found,
+            None => unreachable!(),
+        }
+    }
+
+    /// The label of a variable's node in a position's binding.
+    pub fn label_of<'a>(&self, growing: &'a Growing, at: &Rc<Position>, v: Var) -> &'a Label
+        requires fixed { IsFixed self.now.fixed.now }
+        requires op { self.now.op < length (operators self.now.fixed.now) }
+        requires cursor { HasStand growing.now self.now at.now.value }
+        requires row { IsTrue (has_row at.now.value) }
+        requires node { kinds (operators self.now.fixed.now) self.now.op v ≡ Some a_node }
+        ensures { Tells growing.now self.now at.now.value (λ w docs row. result.now ≡ label_at docs (row_node row v)) }
+    {
+        let (source, spot) = self.node_of(at, v);
+        growing.buffers[source as usize].label(&spot)
+    }
+
+    /// Whether the two variables of a comparison of nodes have the same node in a position's binding: the same spot of one source.
+    fn has_same_node(&self, at: &Rc<Position>, test: &Test) -> bool
+        requires fixed { IsFixed self.now.fixed.now }
+        requires op { self.now.op < length (operators self.now.fixed.now) }
+        requires cursor { (w : World) × IsOf w (operators self.now.fixed.now) self.now.op at.now.value }
+        requires row { IsTrue (has_row at.now.value) }
+        requires test { IsTest (kinds (operators self.now.fixed.now) self.now.op) test.now }
+        requires nodes { compares_nodes test.now.op ≡ true }
+        ensures { InEachWorld self.now at.now.value (λ w row. result ≡ passes (docs_of w) test.now (row_node row)) }
+    {
+        let Operand::Var(right) = &test.right else {
+            return false;
+        };
+        spots_are_one();
+        let (source, spot) = self.node_of(at, test.left);
+        let (other_source, other_spot) = self.node_of(at, *right);
+        source == other_source && spot == other_spot
+    }
+
+    /// Whether a comparison holds in a position's binding: of nodes by their spots, else of their labels.
+    pub fn passes(&self, growing: &Growing, at: &Rc<Position>, test: &Test) -> bool
+        requires fixed { IsFixed self.now.fixed.now }
+        requires op { self.now.op < length (operators self.now.fixed.now) }
+        requires cursor { HasStand growing.now self.now at.now.value }
+        requires row { IsTrue (has_row at.now.value) }
+        requires test { IsTest (kinds (operators self.now.fixed.now) self.now.op) test.now }
+        ensures { Tells growing.now self.now at.now.value (λ w docs row. result ≡ passes docs test.now (row_node row)) }
+    {
+        match test.op {
+            TestOp::Same => self.has_same_node(at, test),
+            _ => {
+                let left = self.label_of(growing, at, test.left);
+                match &test.right {
+                    Operand::Var(v) => test.op.holds(left, self.label_of(growing, at, *v)),
+                    Operand::Text(label) => test.op.holds(left, label),
+                }
+            }
+        }
+    }
+
+    /// Whether all comparisons hold in a position's binding.
+    pub fn passes_each(&self, growing: &Growing, at: &Rc<Position>, tests: &[Test]) -> bool
+        requires fixed { IsFixed self.now.fixed.now }
+        requires op { self.now.op < length (operators self.now.fixed.now) }
+        requires cursor { HasStand growing.now self.now at.now.value }
+        requires row { IsTrue (has_row at.now.value) }
+        requires tests { AllByRecursion (IsTest (kinds (operators self.now.fixed.now) self.now.op)) tests.now }
+        ensures { Tells growing.now self.now at.now.value (λ w docs row. result ≡ passes_all docs tests.now row) }
+    {
+        for test in tests {
+            if !self.passes(growing, at, test) {
+                return false;
+            }
+        }
+        true
+    }
+}
