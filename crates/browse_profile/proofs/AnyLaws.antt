@@ -78,6 +78,7 @@ one_of_comm : (a b : Profile) → one_of a b ≡ one_of b a
 one_of_comm a b =
     same_fields (one_of a b) (one_of b a) (larger_comm a.lead b.lead) (larger_comm a.between b.between) (larger_comm a.trail b.trail) (larger_comm a.none b.none) (larger_comm a.all b.all) (and_comm a.sure b.sure) (greater_comm a.most b.most)
 
+-- of three lists it does not matter which two are taken together
 pub one_of_assoc : (a b c : Profile) → one_of (one_of a b) c ≡ one_of a (one_of b c)
 one_of_assoc a b c =
     same_fields (one_of (one_of a b) c) (one_of a (one_of b c)) (larger_assoc a.lead b.lead c.lead) (larger_assoc a.between b.between c.between) (larger_assoc a.trail b.trail c.trail) (larger_assoc a.none b.none c.none)

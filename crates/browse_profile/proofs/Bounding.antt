@@ -14,6 +14,7 @@ within_left None y n w = tt
 within_left (Some a) None n w = tt
 within_left (Some a) (Some b) n w = omega (arith, w)
 
+-- what is within the second is within the greater of two bounds
 pub within_right : (x y : Option ℕ) (n : ℕ) → Within n y → Within n (larger x y)
 within_right None y n w = tt
 within_right (Some a) None n w = tt
@@ -44,6 +45,7 @@ pub both_true : (a b : Bool) → a ≡ true → b ≡ true → (a && b) ≡ true
 both_true true b h k = k
 both_true false b h k = h
 
+-- what is false is not true
 pub not_false : (a : Bool) → a ≡ false → not a ≡ true
 not_false true h = cc
 not_false false h = refl

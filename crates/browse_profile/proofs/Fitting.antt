@@ -15,25 +15,31 @@ use Rattle.browse_profile.proofs.Repeating as repeating
 use Rattle.browse_profile.proofs.Replaced as replacing
 use Rattle.browse_profile.proofs.Totals.{total-followed, within_replaced, four_once}
 
+-- one list behind another fits their profiles in turn
 pub fits_in_turn : (a b : Profile) (c d : Costs) → Fits a c → Fits b d → Fits (in_turn a b) (followed c d)
 fits_in_turn a b c d h k =
     (following.fits_in_turn a b c d h.0 k.0, subst (λ (n : ℕ). Within n (sum a.all b.all)) (sym (total-followed c d)) (within_sum a.all b.all (total c) (total d) h.1 k.1))
 
+-- what fits the first profile fits either of two
 pub fits_first : (a b : Profile) (c : Costs) → Fits a c → Fits (one_of a b) c
 fits_first a b c h = (repeating.fits_first a b c h.0, within_left a.all b.all (total c) h.1)
 
+-- so does what fits the second
 pub fits_second : (a b : Profile) (c : Costs) → Fits b c → Fits (one_of a b) c
 fits_second a b c h = (repeating.fits_second a b c h.0, within_right a.all b.all (total c) h.1)
 
+-- every list fits where nothing is known
 pub fits_unbounded : (c : Costs) → Fits unbounded c
 fits_unbounded c = (repeating.fits_unbounded c, tt)
 
 repeated_all : (a : Profile) (n : ℕ) → Within n (repeated a).all
 repeated_all a n = elim a.sure as (λ w. Within n (cond w (repeated_sure a) unbounded).all) [ true ↦ tt | false ↦ tt ]
 
+-- no list at all is any number of lists
 pub fits_repeated_none : (a : Profile) → Fits (repeated a) (ends 0)
 fits_repeated_none a = (repeating.fits_repeated_none a, repeated_all a 0)
 
+-- so is one more in front of any number
 pub fits_repeated_more : (a : Profile) (c d : Costs) → Fits a c → Fits (repeated a) d → Fits (repeated a) (followed c d)
 fits_repeated_more a c d h k = (repeating.fits_repeated_more a c d h.0 k.0, repeated_all a (total (followed c d)))
 
@@ -42,6 +48,7 @@ pub replaced_weaker : (Q R : Costs → Type 0) → ((e : Costs) → Q e → R e)
 replaced_weaker Q R h (ends t) d r = r
 replaced_weaker Q R h (stop t c) d (u, e, r, same, f, next, is) = (u, e, r, same, h e f, replaced_weaker Q R h c r next, is)
 
+-- a list each stop of which is replaced by a list that fits, fits the profile with the other in place of its stops
 pub fits_replaced : (i p : Profile) (c d : Costs) → Fits i c → IsReplaced (Fits p) c d → Fits (replaced i p) d
 fits_replaced i p c d h r = (
   repeating.four_with_all (all_replaced i.all p.all) (replaced_by i.most i p) d (replacing.four_replaced i p c d h.0 (replaced_weaker (Fits p) (FourFit p) (λ e f. f.0) c d r)),
@@ -55,6 +62,7 @@ total-first : (c : Costs) → total (first_only c) ≡ total c
 total-first (ends t) = refl
 total-first (stop t c) = refl
 
+-- a list with its first stop alone fits the profile of that stop
 pub fits_once : {B : Type 0} (p : Profile) (es : List (Event B)) → Fits p (costs_of es) → Fits (once p) (first_only (costs_of es))
 fits_once p es h = (four_once p es h.0 h.1, subst (Within (total (first_only (costs_of es)))) (sym (once_all p)) (subst (λ (n : ℕ). Within n p.all) (sym (total-first (costs_of es))) h.1))
 

@@ -66,6 +66,7 @@ many_left Never b h = cc
 many_left Once b h = cc
 many_left Many b h = refl
 
+-- there can be several stops where the second list can have several
 pub many_right : (a b : Most) → many b ≡ true → many (added a b) ≡ true
 many_right Never b h = h
 many_right Once Never h = cc
@@ -73,6 +74,7 @@ many_right Once Once h = refl
 many_right Once Many h = refl
 many_right Many b h = refl
 
+-- so where both can have one
 pub many_both : (a b : Most) → may a ≡ true → may b ≡ true → many (added a b) ≡ true
 many_both Never b h k = cc
 many_both Once Never h k = cc
@@ -80,6 +82,7 @@ many_both Once Once h k = refl
 many_both Once Many h k = refl
 many_both Many b h k = refl
 
+-- there can be a stop where the first list can have one
 pub may_left : (a b : Most) → may a ≡ true → may (added a b) ≡ true
 may_left Never b h = cc
 may_left Once Never h = refl
@@ -87,6 +90,7 @@ may_left Once Once h = refl
 may_left Once Many h = refl
 may_left Many b h = refl
 
+-- so where the second can
 pub may_right : (a b : Most) → may b ≡ true → may (added a b) ≡ true
 may_right Never b h = h
 may_right Once Never h = cc
@@ -94,6 +98,7 @@ may_right Once Once h = refl
 may_right Once Many h = refl
 may_right Many b h = refl
 
+-- where there can be several there can be one
 pub may_many : (a : Most) → many a ≡ true → may a ≡ true
 may_many Never h = h
 may_many Once h = cc

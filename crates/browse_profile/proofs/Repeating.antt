@@ -64,6 +64,7 @@ pub behind_unbounded : (c : Costs) → Behind unbounded c
 behind_unbounded (ends t) = tt
 behind_unbounded (stop t c) = (tt, refl, behind_unbounded c)
 
+-- every list fits where nothing is known
 pub fits_unbounded : (c : Costs) → FourFit unbounded c
 fits_unbounded (ends t) = (tt, refl)
 fits_unbounded (stop t c) = (tt, refl, behind_unbounded c)

@@ -116,5 +116,6 @@ by_most Many i p e c d h r =
       | false ↦ λ s. fits_unbounded d
     ]) refl
 
+-- a list each stop of which is replaced fits, whatever number of stops there can be
 pub four_replaced : (i p : Profile) (c d : Costs) → FourFit i c → IsReplaced (FourFit p) c d → FourFit (replaced_by i.most i p) d
 four_replaced i p c d h r = by_most i.most i p refl c d h r

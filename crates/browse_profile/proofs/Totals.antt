@@ -12,10 +12,12 @@ use Rattle.browse_profile.specs.Replacing.{IsReplaced}
 use Rattle.browse_profile.proofs.Bounding.{within_less, within_less_one, within_capped}
 use Rattle.browse_profile.proofs.Following.{more-zero, more-more}
 
+-- a cost in front is a part of the whole
 pub total-more : (n : ℕ) (c : Costs) → total (more n c) ≡ n + total c
 total-more n (ends t) = refl
 total-more n (stop t c) = omega arith
 
+-- one list behind another costs what both do
 pub total-followed : (c d : Costs) → total (followed c d) ≡ total c + total d
 total-followed (ends t) d = total-more t d
 total-followed (stop t c) d = (let h = total-followed c d in omega (arith, h))
@@ -38,6 +40,7 @@ replaced_total b (stop t c) d one (u, e, r, same, f, next, is) =
     let s : t * b ≡ u * b + b = ap (λ (z : ℕ). z * b) same ∙ q in
     subst (λ (x : Costs). total x ≤ (t + total c) * b) (sym is) (omega (arith, h, k, m, l, s, f))
 
+-- where each stop is replaced, the whole is within the product of the bounds
 pub within_replaced : (x y : Option ℕ) (c d : Costs) → Within (total c) x → IsReplaced (λ e. Within (total e) y) c d → Within (total d) (all_replaced x y)
 within_replaced None y c d w r = tt
 within_replaced (Some a) None c d w r = tt
@@ -75,6 +78,7 @@ fits_once_at p n (bind b ∷ es) h w =
       | false ↦ λ e. (h.0, h.1, once_behind p e n (costs_of es) h.2)
     ]) refl
 
+-- a list with its first stop alone fits the profile of that stop, but for the cost of all
 pub four_once : {B : Type 0} (p : Profile) (es : List (Event B)) → FourFit p (costs_of es) → Within (total (costs_of es)) p.all → FourFit (once p) (first_only (costs_of es))
 four_once p es h w =
     subst (λ (c : Costs). FourFit (once p) (first_only c)) (more-zero (costs_of es))

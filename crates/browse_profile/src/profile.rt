@@ -110,6 +110,21 @@ impl Profile {
         }
     }
 
+    /// No events at all.
+    pub fn costless() -> Profile
+        ensures { result ≡ costless }
+    {
+        Profile {
+            lead: Some(0),
+            between: Some(0),
+            trail: Some(0),
+            none: Some(0),
+            all: Some(0),
+            sure: false,
+            most: Most::Never,
+        }
+    }
+
     /// One list and then another.
     pub fn in_turn(self, b: Profile) -> Profile
         ensures { result ≡ in_turn self b }

@@ -132,9 +132,11 @@ flat_cases f (x ∷ xs) g h =
     ]
 
 module _ (shape : Shape) where
+  -- no sort has no layout
   pub set_none : IsSet shape no_sorts []
   set_none = record { into = λ g a. absurd a; out = λ g i. (let n = has_none i.0 in let z : true ≡ false = sym i.1 ∙ n in cc) }
 
+  -- one sort has its own layout
   pub set_only : (s : Sort) → IsSet shape (only s) (sort_layout shape s ∷ [])
   set_only s = record {
     into = λ g a. elim a [ inl e ↦ (s, has_own s, sym e) | inr n ↦ absurd n ];
@@ -147,6 +149,7 @@ module _ (shape : Shape) where
   in_right : (a b : Sorts) (g : Layout) → In shape b g → In shape (both a b) g
   in_right a b g i = (i.0, has_both a b i.0 ∙ or_right (has_sort a i.0) (has_sort b i.0) i.1, i.2)
 
+  -- the sorts of either set have the layouts of both
   pub set_both : (a b : Sorts) (xs ys : List Layout) → IsSet shape a xs → IsSet shape b ys → IsSet shape (both a b) (xs ++ ys)
   set_both a b xs ys s t = record {
     into = λ g h. elim (among_cases xs ys g h) [ inl x ↦ in_left a b g (s.into g x) | inr y ↦ in_right a b g (t.into g y) ];
@@ -157,6 +160,7 @@ module _ (shape : Shape) where
         ];
   }
 
+  -- a set that is taken has its layouts, one that is not has none
   pub set_taken : (can : Bool) (k : Sorts) (gs : List Layout) → IsSet shape k gs → IsSet shape (if_taken can k) (cond can gs [])
   set_taken true k gs s = s
   set_taken false k gs s = set_none

@@ -23,6 +23,7 @@ rows_laid : (columns : List TableColumn) (rows : List (List (Option (List ℕ)))
 rows_laid columns [] h = tt
 rows_laid columns (r ∷ rs) h = (refl, row_laid columns r h.0, rows_laid columns rs h.1)
 
+-- a document of rows is laid out as its shape says
 pub shapes_laid : ShapesAreLaid
 shapes_laid Any rows h = tt
 shapes_laid (Rows name columns) rows h = (refl, rows_laid columns.items rows h, tt)
@@ -37,5 +38,6 @@ records_are : (columns : List TableColumn) (records : List (List (List ℕ))) �
 records_are columns [] h = tt
 records_are columns (r ∷ rs) h = (fields_are columns r h.0, records_are columns rs h.1)
 
+-- so is one of records that have a field for each column
 pub files_laid : FilesAreLaid
 files_laid shape records h = shapes_laid shape (map (λ fields. map (λ (field : List ℕ). Some field) fields) records) (records_are (columns_of shape) records h)

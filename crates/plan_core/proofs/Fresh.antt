@@ -111,7 +111,7 @@ with_bound out v k j ks e =
     ]) refl e
 
 -- a variable that is kept was bound
-kept_bound : (keys : List Key) (ks : Kinds) (v : ℕ) (j : Kind) → kept keys ks v ≡ Some j → ks v ≡ Some j
+pub kept_bound : (keys : List Key) (ks : Kinds) (v : ℕ) (j : Kind) → kept keys ks v ≡ Some j → ks v ≡ Some j
 kept_bound keys ks v j e = elim (has_var keys v) as (λ w. cond w (ks v) None ≡ Some j → ks v ≡ Some j) [ true ↦ λ g. g | false ↦ λ g. cc ] e
 
 -- what is bound behind a stage is bound by it, or was

@@ -12,9 +12,10 @@ use mix_tree::{Key, Var};
 use std::alloc::{AllocError, Global};
 use std::marker::Model;
 
-/// Variables in order, and whether no two bindings agree in all of them.
+/// The front of an operator: variables in order, of whose first ones bindings that agree stand side by side, and whether no two bindings agree
+/// in all of them.
 #[derive(Drop)]
-struct Front {
+pub struct Front {
     vars: Vec<Var>,
     whole: bool,
 }
@@ -37,8 +38,8 @@ fn no_front(alloc: Global, whole: bool) -> Front
     }
 }
 
-// The variables of the front of a number.
-fn vars_at(fronts: &[Front], n: u32) -> &[Var]
+/// The variables of the front of a number; none where there is no such front.
+pub fn vars_at(fronts: &[Front], n: u32) -> &[Var]
     ensures { result.now ≡ (front_at fronts.now n).vars }
 {
     match fronts.get(n as usize) {
@@ -47,8 +48,8 @@ fn vars_at(fronts: &[Front], n: u32) -> &[Var]
     }
 }
 
-// Whether it is whole.
-fn is_whole(fronts: &[Front], n: u32) -> bool
+/// Whether the front of a number is whole: no two bindings agree in all of its variables.
+pub fn is_whole(fronts: &[Front], n: u32) -> bool
     ensures { result ≡ (front_at fronts.now n).whole }
 {
     match fronts.get(n as usize) {
@@ -65,8 +66,8 @@ fn is_node_key(keys: &[Key], var: Var) -> bool
     keys.iter().any(|k| key == *k)
 }
 
-// The first of these variables, as far as each is a node key.
-fn shared(alloc: Global, keys: &[Key], vars: &[Var]) -> Result<Vec<Var>, AllocError>
+/// The first of these variables, as far as each is a node key. `Err`: memory.
+pub fn shared(alloc: Global, keys: &[Key], vars: &[Var]) -> Result<Vec<Var>, AllocError>
     ensures { IfOk result (λ found. found.items ≡ shared keys.now vars.now) }
 {
     let mut found = Vec::new(alloc);
@@ -97,8 +98,8 @@ fn covers_key(vars: &[Var], key: &Key) -> bool
     }
 }
 
-// Whether they agree by all of these keys.
-fn covers(vars: &[Var], keys: &[Key]) -> bool
+/// Whether bindings that agree in these variables agree by all of these keys.
+pub fn covers(vars: &[Var], keys: &[Key]) -> bool
     ensures { result ≡ covers (node_keys vars.now) keys.now }
 {
     keys.iter().all(|key| covers_key(vars, key))
@@ -160,8 +161,8 @@ fn front_of(alloc: Global, op: &Op, fronts: &[Front]) -> Result<Front, AllocErro
     }
 }
 
-// The fronts of operators.
-fn fronts_of(alloc: Global, ops: &[Op]) -> Result<Vec<Front>, AllocError>
+/// The fronts of the operators of a plan, each by its number. `Err`: memory.
+pub fn fronts_of(alloc: Global, ops: &[Op]) -> Result<Vec<Front>, AllocError>
     ensures { IfOk result (λ fronts. AreFronts (map op_of ops.now) fronts.items) }
 {
     let mut fronts = Vec::new(alloc);

@@ -1,0 +1,5 @@
+pub mod ClassIs
+pub mod Groups
+pub mod KnownSteps
+pub mod LevelLists
+pub mod Origins

@@ -1,0 +1,191 @@
+-- What is known of an operator from what is known of those before it.
+use Rattle.std.specs.Prelude.{ℕ, ◌≤◌, Bool, false, cond, not, ◌||◌, ◌==◌, List, [], ◌∷◌, ◌++◌, length, slice_index_or, Option, Some, None}
+use Rattle.mix_tree.specs.declared.var.Key.{Key}
+use Rattle.mix_tree.specs.declared.var.Key.TheVariants.{Node as node_key}
+use Rattle.mix_tree.specs.declared.comparing.Test.{Test}
+use Rattle.path_expr.specs.Form.{Form, positions_in}
+use Rattle.path_auto.specs.Automaton.{Machine, machine_of, table_of}
+use Rattle.plan_core.specs.declared.plan.Piece.{Piece}
+use Rattle.plan_core.specs.declared.plan.Piece.TheVariants.{Var as var_piece, LabelOf as label_piece, Text as text_piece}
+use Rattle.plan_core.specs.Fronts.{Front, shared, covers, are_contiguous}
+use Rattle.plan_core.specs.Plans.{Operator}
+use Rattle.plan_core.specs.Shapes.{Made, a_list_of, an_element_of, Stage, filters, extends, first_by_keys, one_group, in_order, Shape, one_source, visits_below, pairs_up, passes_on, no_events, shape_of}
+use Rattle.browse_profile.specs.declared.profile.Profile.{Profile}
+use Rattle.browse_profile.specs.Profiles.{one_skip, one_binding, costless, unbounded, in_turn, replaced, passed, first_kept, many}
+use Rattle.browse_visit.specs.declared.shape.Shape.{Shape as SourceShape}
+use Rattle.browse_visit.specs.declared.shape.Sorts.{Sorts}
+use Rattle.browse_visit.specs.Found.{sorts_found, sorts_profile}
+use Rattle.browse_visit.specs.Samples.{sample_labels}
+use Rattle.browse_visit.specs.Shapes.{shape_at, first_sort, no_sorts, only}
+use Rattle.browse_class.specs.Facts.{one_item, tested, group_profile}
+use Rattle.browse_class.specs.Levels.{own_level}
+use Rattle.plan_class.specs.declared.domain.Domain.{Domain}
+use Rattle.plan_class.specs.declared.visit.Visit.{Visit}
+use Rattle.plan_class.specs.LevelLists.{Levels, level_in, same_levels, with_first, beside, visit_levels, pair_levels}
+
+-- what is known of an operator: its profile, what it binds anew and what its values can be, keys by which no two bindings agree, its levels
+pub record Known : Type 0 where
+  pub profile : Profile
+  pub out : Option ℕ
+  pub domain : Domain
+  pub keys : List Key
+  pub levels : Levels
+
+-- the values of a variable that are nodes of a source
+abbrev pub node_domain : ℕ → Sorts → Domain
+node_domain source sorts = record { source = source; sorts = sorts; trees = one_item }
+
+-- those with such trees that are no nodes
+abbrev pub value_domain : Profile → Domain
+value_domain trees = record { source = 0; sorts = no_sorts; trees = trees }
+
+-- of an operator that binds no variable anew, with these levels behind level 0
+abbrev pub known_with : Profile → List Key → Levels → Known
+known_with p keys levels = record { profile = p; out = None; domain = value_domain one_item; keys = keys; levels = with_first p levels }
+
+-- the same of one that binds a variable anew
+abbrev pub binding : ℕ → Domain → Known → Known
+binding out domain k = record { profile = k.profile; out = Some out; domain = domain; keys = k.keys; levels = k.levels }
+
+-- nothing is known
+abbrev pub no_known : Known
+no_known = record { profile = costless; out = None; domain = value_domain one_item; keys = []; levels = same_levels unbounded }
+
+-- of the operator of a number
+abbrev pub known_at : List Known → ℕ → Known
+known_at known n = slice_index_or known n no_known
+
+-- a variable is the one that is bound anew
+abbrev pub binds : Option ℕ → ℕ → Bool
+binds None v = false
+binds (Some out) v = out == v
+
+-- what the values of a variable can be, by the first operator that binds it anew
+abbrev pub domain_of : List Known → ℕ → Domain
+domain_of [] v = value_domain one_item
+domain_of (k ∷ known) v = cond (binds k.out v) k.domain (domain_of known v)
+
+-- the visit by a path's automaton below nodes of a source of this shape, behind the skip for its start
+abbrev pub visit_in : Machine → List (List ℕ) → SourceShape → Domain → Visit
+visit_in m labels shape start = record {
+  profile = in_turn one_skip (sorts_profile m labels shape start.sorts);
+  found = node_domain start.source (sorts_found m labels shape start.sorts);
+}
+
+-- the visit along a path
+abbrev pub visit_along : List SourceShape → Form → Domain → Visit
+visit_along shapes path start = visit_in (machine_of (table_of path)) (sample_labels (table_of path).labels) (shape_at shapes start.source) start
+
+-- of the node of a source
+abbrev pub source_known : List SourceShape → ℕ → ℕ → Known
+source_known shapes s out = binding out (node_domain s (only (first_sort (shape_at shapes s)))) (known_with one_binding [] (same_levels unbounded))
+
+-- of a visit below each binding of an input with a front of m variables
+abbrev pub visits_known : ℕ → Visit → ℕ → Bool → Known → Known
+visits_known out visit m whole input =
+    binding out visit.found
+    (known_with (replaced input.profile visit.profile) (input.keys ++ node_key out ∷ []) (visit_levels m whole input.profile visit.profile))
+
+-- the levels of pairs that are compared, which are others where there are no comparisons
+abbrev pub tested_levels : List Test → Profile → Levels → Levels
+tested_levels [] p levels = levels
+tested_levels (t ∷ tests) p levels = same_levels (own_level p)
+
+-- of pairs, of which the left side has a front of m variables
+abbrev pub pairs_known : List Test → ℕ → Bool → Known → Known → Known
+pairs_known tests m whole left right =
+    let p = tested tests (beside left.profile right.profile) in
+    known_with p (left.keys ++ right.keys) (tested_levels tests p (pair_levels m whole left.profile right.levels))
+
+-- behind a comparison
+abbrev pub selected_known : Known → Known
+selected_known input = known_with (passed input.profile) input.keys (same_levels (own_level (passed input.profile)))
+
+-- behind an order
+abbrev pub ordered_known : Known → Known
+ordered_known input = known_with unbounded input.keys (same_levels unbounded)
+
+-- with a variable more, whose values have such trees
+abbrev pub extended_known : ℕ → Profile → Known → Known
+extended_known out trees input = binding out (value_domain trees) (known_with input.profile input.keys input.levels)
+
+-- the profile where bindings whose keys were seen are passed over
+abbrev pub distinct_known : List Key → List ℕ → Known → Profile
+distinct_known keys vars input =
+    cond (not (many input.profile.most) || covers keys input.keys) input.profile
+    (cond (are_contiguous keys vars) (level_in input.levels (length (shared keys vars))) (first_kept input.profile))
+
+-- the first bindings by keys
+abbrev pub kept_known : List Key → List ℕ → Known → Known
+kept_known keys vars input = known_with (distinct_known keys vars input) keys input.levels
+
+-- the groups by keys, each with its list
+abbrev pub grouped_known : List Key → List ℕ → ℕ → Known → Known
+grouped_known keys vars out input = binding out (value_domain (group_profile (are_contiguous keys vars) input.profile)) (kept_known keys vars input)
+
+-- one group of all, with its list
+abbrev pub group_known : ℕ → Known → Known
+group_known out input = binding out (value_domain input.profile) (known_with one_binding [] (same_levels unbounded))
+
+-- the trees of a piece
+abbrev pub piece_known : List Known → Piece → Profile
+piece_known known (label_piece v) = one_item
+piece_known known (text_piece label) = one_item
+piece_known known (var_piece v) = (domain_of known v).trees
+
+-- the trees of the pieces, one after another, behind others
+abbrev pub pieces_known : List Known → Profile → List Piece → Profile
+pieces_known known before [] = before
+pieces_known known before (p ∷ pieces) = pieces_known known (in_turn before (piece_known known p)) pieces
+
+-- the trees of what is made
+abbrev pub made_known : List Known → Made → Profile
+made_known known (a_list_of pieces) = pieces_known known costless pieces
+made_known known (an_element_of label list) = one_item
+
+-- behind a stage, over an input with a front of these variables
+abbrev pub stage_known : List Known → Stage → List ℕ → Known → Known
+stage_known known (filters test) vars input = selected_known input
+stage_known known (extends out made) vars input = extended_known out (made_known known made) input
+stage_known known (first_by_keys keys None) vars input = kept_known keys vars input
+stage_known known (first_by_keys keys (Some group)) vars input = grouped_known keys vars group.1 input
+stage_known known (one_group piece out) vars input = group_known out input
+stage_known known (in_order v desc) vars input = ordered_known input
+
+-- no events
+abbrev pub ended_known : Known
+ended_known = known_with costless [] (same_levels unbounded)
+
+-- behind a shape with one input, which has a front of these variables; of others, no events
+abbrev pub over_known : List Known → List ℕ → Known → Shape → Known
+over_known known vars input (one_source s out) = ended_known
+over_known known vars input (visits_below i start path out) = ended_known
+over_known known vars input (pairs_up left right tests) = ended_known
+over_known known vars input (passes_on i stage) = stage_known known stage vars input
+over_known known vars input (no_events i made) = ended_known
+
+-- of a shape
+abbrev pub shape_known : List SourceShape → (ℕ → Front) → List Known → Shape → Known
+shape_known shapes fronts known (one_source s out) = source_known shapes s out
+shape_known shapes fronts known (visits_below input start path out) =
+    visits_known out (visit_along shapes path (domain_of known start)) (length (fronts input).vars) (fronts input).whole (known_at known input)
+shape_known shapes fronts known (pairs_up left right tests) =
+    pairs_known tests (length (fronts left).vars) (fronts left).whole (known_at known left) (known_at known right)
+shape_known shapes fronts known (passes_on input stage) = stage_known known stage (fronts input).vars (known_at known input)
+shape_known shapes fronts known (no_events input made) = ended_known
+
+-- of an operator
+abbrev pub op_known : List SourceShape → (ℕ → Front) → List Known → Operator → Known
+op_known shapes fronts known op = shape_known shapes fronts known (shape_of op)
+
+-- a shape's path is short enough for an automaton
+abbrev pub IsShortShape : Shape → Type 0
+IsShortShape (one_source s out) = Unit {0}
+IsShortShape (visits_below input start path out) = positions_in path ≤ 120
+IsShortShape (pairs_up left right tests) = Unit {0}
+IsShortShape (passes_on input stage) = Unit {0}
+IsShortShape (no_events input made) = Unit {0}
+
+-- so is an operator's
+abbrev pub IsShort : Operator → Type 0
+IsShort op = IsShortShape (shape_of op)

@@ -1,0 +1,3 @@
+pub mod Agree
+pub mod Known
+pub mod LevelLists

@@ -1,0 +1,156 @@
+// What is known behind what the bindings of an input go through.
+ghost use Rattle.std.specs.Prelude.{◌≡◌, IfOk};
+ghost use Rattle.plan_core.specs.Fronts.{covers as covers_keys};
+ghost use Rattle.browse_class.specs.Facts.{group_profile};
+ghost use Rattle.plan_class.specs.Known.{distinct_known, kept_known, group_known, grouped_known, selected_known, ordered_known, extended_known, piece_known, pieces_known};
+ghost use Rattle.browse_profile.specs.Profiles.{costless};
+
+use crate::domain::{Domain, one_item};
+use crate::known::{Known, domain_of};
+use crate::levels::{Levels, own_level};
+use browse_profile::{Most, Profile, larger};
+use mix_tree::{Key, Var, key_stands};
+use plan_core::{Piece, fronts};
+use std::alloc::{AllocError, Global};
+
+/// Behind a comparison. `Err`: memory.
+pub fn selected_known(alloc: Global, input: &Known) -> Result<Known, AllocError>
+    ensures { IfOk result (λ k. k ≡ selected_known input.now) }
+{
+    let profile = input.profile.passed();
+    let keys = Vec::from_slice(alloc, &input.keys)?;
+    let levels = Levels::same(alloc, own_level(profile));
+    Known::new(alloc, profile, keys, &levels)
+}
+
+/// Behind an order. `Err`: memory.
+pub fn ordered_known(alloc: Global, input: &Known) -> Result<Known, AllocError>
+    ensures { IfOk result (λ k. k ≡ ordered_known input.now) }
+{
+    let keys = Vec::from_slice(alloc, &input.keys)?;
+    let levels = Levels::same(alloc, Profile::unbounded());
+    Known::new(alloc, Profile::unbounded(), keys, &levels)
+}
+
+/// With a variable more, whose values have such trees. `Err`: memory.
+pub fn extended_known(
+    alloc: Global,
+    out: Var,
+    trees: Profile,
+    input: &Known,
+) -> Result<Known, AllocError>
+    ensures { IfOk result (λ k. k ≡ extended_known out trees input.now) }
+{
+    let keys = Vec::from_slice(alloc, &input.keys)?;
+    let same = Known::new(alloc, input.profile, keys, &input.levels)?;
+    Ok(same.binding(out, Domain::of_values(trees)))
+}
+
+// Whether what agrees by the first keys agrees by the others.
+fn covers(keys: &[Key], others: &[Key]) -> bool
+    ensures { result ≡ covers_keys keys.now others.now }
+{
+    others.iter().all(|key| key_stands(keys, key))
+}
+
+// The profile where bindings whose keys were seen are passed over, over an input with a front of these variables.
+fn distinct_profile(
+    alloc: Global,
+    keys: &[Key],
+    vars: &[Var],
+    input: &Known,
+) -> Result<Profile, AllocError>
+    ensures { IfOk result (λ p. p ≡ distinct_known keys.now vars.now input.now) }
+{
+    let shared = fronts::shared(alloc, keys, vars)?;
+    if !input.profile.most.many() || covers(keys, &input.keys) {
+        Ok(input.profile)
+    } else if fronts::covers(&shared, keys) {
+        Ok(input.levels.at(shared.len()))
+    } else {
+        Ok(input.profile.first_kept())
+    }
+}
+
+/// The first bindings by keys, over an input with a front of these variables. `Err`: memory.
+pub fn kept_known(
+    alloc: Global,
+    keys: &[Key],
+    vars: &[Var],
+    input: &Known,
+) -> Result<Known, AllocError>
+    ensures { IfOk result (λ k. k ≡ kept_known keys.now vars.now input.now) }
+{
+    let profile = distinct_profile(alloc, keys, vars, input)?;
+    let own = Vec::from_slice(alloc, keys)?;
+    Known::new(alloc, profile, own, &input.levels)
+}
+
+// The list of a group by keys, which ends at the first other key where it stops.
+fn group_profile(stops: bool, input: Profile) -> Profile
+    ensures { result ≡ group_profile stops input }
+{
+    let many = input.most.many();
+    let (between, trail) = if !many {
+        (Some(0), input.trail)
+    } else if stops {
+        (input.between, larger(input.between, input.trail))
+    } else {
+        (None, None)
+    };
+    Profile {
+        lead: Some(0),
+        between,
+        trail,
+        none: Some(0),
+        all: None,
+        sure: true,
+        most: if many { Most::Many } else { Most::Once },
+    }
+}
+
+/// The groups by keys, each with its list, over an input with a front of these variables. `Err`: memory.
+pub fn grouped_known(
+    alloc: Global,
+    keys: &[Key],
+    vars: &[Var],
+    out: Var,
+    input: &Known,
+) -> Result<Known, AllocError>
+    ensures { IfOk result (λ k. k ≡ grouped_known keys.now vars.now out input.now) }
+{
+    let kept = kept_known(alloc, keys, vars, input)?;
+    let shared = fronts::shared(alloc, keys, vars)?;
+    let list = group_profile(fronts::covers(&shared, keys), input.profile);
+    Ok(kept.binding(out, Domain::of_values(list)))
+}
+
+/// One group of all, with its list. `Err`: memory.
+pub fn group_known(alloc: Global, out: Var, input: &Known) -> Result<Known, AllocError>
+    ensures { IfOk result (λ k. k ≡ group_known out input.now) }
+{
+    let levels = Levels::same(alloc, Profile::unbounded());
+    let one = Known::new(alloc, Profile::one_binding(), Vec::new(alloc), &levels)?;
+    Ok(one.binding(out, Domain::of_values(input.profile)))
+}
+
+// The trees of a piece.
+fn piece_profile(known: &[Known], piece: &Piece) -> Profile
+    ensures { result ≡ piece_known known.now piece.now }
+{
+    match piece {
+        Piece::Var(v) => domain_of(known, *v).trees,
+        Piece::LabelOf(_) | Piece::Text(_) => one_item(),
+    }
+}
+
+/// The trees of pieces, one after another.
+pub fn pieces_profile(known: &[Known], pieces: &[Piece]) -> Profile
+    ensures { result ≡ pieces_known known.now costless pieces.now }
+{
+    let mut found = Profile::costless();
+    'pieces: for piece in pieces {
+        found = found.in_turn(piece_profile(known, piece));
+    }
+    found
+}
