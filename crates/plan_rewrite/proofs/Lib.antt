@@ -1,3 +1,5 @@
+mod BlockParts
+mod BlockSteps
 mod Cases
 mod Editing
 mod Kept

@@ -6,7 +6,7 @@ use Rattle.std.proofs.lemmas.Bool.Decides.{nat_tests}
 use Rattle.std.proofs.lemmas.List.Folds.{list_any-append}
 use Rattle.std.proofs.lemmas.List.{get_or_append_left, get_or_at}
 use Rattle.mix_base.specs.Ascents.{Among}
-use Rattle.mix_base.proofs.Ascents.{each_among, among_each, among_left, among_right, among_cases}
+use Rattle.mix_base.proofs.Ascents.{each_among, among_each, among_cases}
 use Rattle.mix_tree.specs.declared.comparing.Test.{Test}
 use Rattle.plan_core.specs.ByNumber.{op_at}
 use Rattle.plan_core.specs.Plans.{World, Operator, source, get_descendants, join, over, tuple_destroy, PlanValue, descended, joined_rows, op_rows, rows_of}
@@ -179,12 +179,6 @@ op_distinct (over input op) b of h f g = distinct_append (tree_outs (of input)) 
 op_distinct (tuple_destroy input element) b of h f g = absurd b
 
 -- NUMBERS THAT STAND ONCE
-
--- what belongs to one operator is among what belongs to all
-among_flat : (f : Operator → List ℕ) (ops : List Operator) (n v : ℕ) → n < length ops → Among v (f (op_at ops n)) → Among v (flat_map f ops)
-among_flat f [] n v b a = absurd (omega (arith, b))
-among_flat f (op ∷ ops) zero v b a = among_left (f op) (flat_map f ops) v a
-among_flat f (op ∷ ops) (suc n) v b a = (let c : n < length ops = omega (arith, b) in among_right (f op) (flat_map f ops) v (among_flat f ops n v c a))
 
 -- how many times a number stands in lists
 count_among : (i : ℕ) (xs : List ℕ) → Among i xs → 1 ≤ count_by (λ m. m == i) xs

@@ -3,3 +3,4 @@ pub mod Law
 pub mod Edits
 pub mod Marks
 pub mod Walk
+pub mod Blocks

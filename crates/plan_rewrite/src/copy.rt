@@ -1,9 +1,11 @@
 // Copies of operators.
 ghost use Rattle.std.specs.Prelude.{◌≡◌, IfOk};
 ghost use Rattle.plan_core.specs.PlanMade.{op_of};
+ghost use Rattle.plan_core.specs.Plans.{get_descendants, join, over};
+ghost use Rattle.plan_core.specs.Unary.{group_by, concatenate, create_element};
 
-use mix_tree::{Label, Operand, Test};
-use path_expr::copy_path;
+use mix_tree::{Key, Label, Operand, Test, Var};
+use path_expr::{Path, copy_path};
 use plan_core::{Op, Piece};
 use std::alloc::{AllocError, Global};
 
@@ -72,75 +74,117 @@ pub fn copy_labels(alloc: Global, labels: &[Label]) -> Result<Vec<Label>, AllocE
     Ok(copies)
 }
 
+// Another such getDescendants.
+fn copy_visit(
+    alloc: Global,
+    input: u32,
+    start: Var,
+    path: &Path,
+    out: Var,
+) -> Result<Op, AllocError>
+    ensures { IfOk result (λ copy. op_of copy ≡ get_descendants input start path.now out) }
+{
+    Ok(Op::GetDescendants {
+        input,
+        start,
+        path: copy_path(alloc, path)?,
+        out,
+    })
+}
+
+// Another such join.
+fn copy_join(alloc: Global, left: u32, right: u32, tests: &[Test]) -> Result<Op, AllocError>
+    ensures { IfOk result (λ copy. op_of copy ≡ join left right tests.now) }
+{
+    Ok(Op::Join {
+        left,
+        right,
+        tests: copy_tests(alloc, tests)?,
+    })
+}
+
+// Another such groupBy.
+fn copy_group(
+    alloc: Global,
+    input: u32,
+    keys: &[Key],
+    piece: &Piece,
+    out: Var,
+) -> Result<Op, AllocError>
+    ensures { IfOk result (λ copy. op_of copy ≡ over input (group_by keys.now piece.now out)) }
+{
+    Ok(Op::GroupBy {
+        input,
+        keys: Vec::from_slice(alloc, keys)?,
+        piece: copy_piece(alloc, piece)?,
+        out,
+    })
+}
+
+// Another such concatenate.
+fn copy_lists(alloc: Global, input: u32, pieces: &[Piece], out: Var) -> Result<Op, AllocError>
+    ensures { IfOk result (λ copy. op_of copy ≡ over input (concatenate pieces.now out)) }
+{
+    Ok(Op::Concatenate {
+        input,
+        pieces: copy_pieces(alloc, pieces)?,
+        out,
+    })
+}
+
+// Another such createElement.
+fn copy_element(
+    alloc: Global,
+    input: u32,
+    label: &Label,
+    list: Var,
+    out: Var,
+) -> Result<Op, AllocError>
+    ensures { IfOk result (λ copy. op_of copy ≡ over input (create_element label.now list out)) }
+{
+    Ok(Op::CreateElement {
+        input,
+        label: label.copy(alloc)?,
+        list,
+        out,
+    })
+}
+
 // Another such operator.
 pub fn copy_op(alloc: Global, op: &Op) -> Result<Op, AllocError>
     ensures { IfOk result (λ copy. op_of copy ≡ op_of op.now) }
 {
-    let copy = match op {
-        Op::Source { source, out } => Op::Source {
-            source: *source,
-            out: *out,
-        },
+    match op {
+        &Op::Source { source, out } => Ok(Op::Source { source, out }),
         Op::GetDescendants {
             input,
             start,
             path,
             out,
-        } => Op::GetDescendants {
-            input: *input,
-            start: *start,
-            path: copy_path(alloc, path)?,
-            out: *out,
-        },
-        Op::Select { input, test } => Op::Select {
+        } => copy_visit(alloc, *input, *start, path, *out),
+        Op::Select { input, test } => Ok(Op::Select {
             input: *input,
             test: copy_test(alloc, test)?,
-        },
-        Op::Join { left, right, tests } => Op::Join {
-            left: *left,
-            right: *right,
-            tests: copy_tests(alloc, tests)?,
-        },
-        Op::Project { input, keys } => Op::Project {
+        }),
+        Op::Join { left, right, tests } => copy_join(alloc, *left, *right, tests.as_slice()),
+        Op::Project { input, keys } => Ok(Op::Project {
             input: *input,
             keys: Vec::from_slice(alloc, keys)?,
-        },
+        }),
         Op::GroupBy {
             input,
             keys,
             piece,
             out,
-        } => Op::GroupBy {
-            input: *input,
-            keys: Vec::from_slice(alloc, keys)?,
-            piece: copy_piece(alloc, piece)?,
-            out: *out,
-        },
-        Op::OrderBy { input, var, desc } => Op::OrderBy {
-            input: *input,
-            var: *var,
-            desc: *desc,
-        },
-        Op::Concatenate { input, pieces, out } => Op::Concatenate {
-            input: *input,
-            pieces: copy_pieces(alloc, pieces)?,
-            out: *out,
-        },
+        } => copy_group(alloc, *input, keys, piece, *out),
+        &Op::OrderBy { input, var, desc } => Ok(Op::OrderBy { input, var, desc }),
+        Op::Concatenate { input, pieces, out } => copy_lists(alloc, *input, pieces, *out),
         Op::CreateElement {
             input,
             label,
             list,
             out,
-        } => Op::CreateElement {
-            input: *input,
-            label: label.copy(alloc)?,
-            list: *list,
-            out: *out,
-        },
-        Op::TupleDestroy { input, element } => Op::TupleDestroy {
-            input: *input,
-            element: *element,
-        },
-    };
-    Ok(copy)
+        } => copy_element(alloc, *input, label, *list, *out),
+        &Op::TupleDestroy { input, element } => Ok(Op::TupleDestroy { input, element }),
+    }
 }

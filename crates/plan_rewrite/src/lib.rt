@@ -7,6 +7,9 @@ mod edit;
 mod law;
 mod mark;
 mod raise;
+mod rewriting;
+mod taking;
 mod way;
 
 pub use law::{rewriting_keeps_documents, rewriting_keeps_validity};
+pub use rewriting::rewrite;

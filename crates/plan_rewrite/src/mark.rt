@@ -1,6 +1,6 @@
 // Which operators bind the variables of a comparison.
 ghost use Rattle.std.specs.Prelude.{◌≡◌, [], ◌<◌, false, true, map, slice_index_or, IfOk};
-ghost use Rattle.mix_tree.specs.Keys.{has_var, key_var};
+ghost use Rattle.mix_tree.specs.Keys.{has_var};
 ghost use Rattle.plan_core.specs.PlanMade.{op_of};
 ghost use Rattle.plan_rewrite.specs.Marks.{op_binds, marks};
 
@@ -8,21 +8,11 @@ use mix_tree::{Key, Var};
 use plan_core::Op;
 use std::alloc::{AllocError, Global};
 
-// The variable of a key.
-fn var_of(key: Key) -> Var
-    ensures { result ≡ key_var key }
-{
-    match key {
-        Key::Node(v) => v,
-        Key::LabelOf(v) => v,
-    }
-}
-
 // Whether a variable is that of one of these keys.
 fn names_var(keys: &[Key], v: Var) -> bool
     ensures { result ≡ has_var keys.now v }
 {
-    keys.iter().any(|key| var_of(*key) == v)
+    keys.iter().any(|key| key.var() == v)
 }
 
 // The mark of an operator; false where it has none.

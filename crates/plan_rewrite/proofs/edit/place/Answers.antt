@@ -1,10 +1,11 @@
-use Rattle.std.proofs.Common.{rules, ◌∙◌, ap, map, suc, ◌<◌, ◌≡◌, arith, length, subst, take, drop, set, get_or, List, ◌++◌, ◌∷◌, [], refl}
+use Rattle.std.proofs.Common.{sym, rules, ◌∙◌, ap, map, suc, ◌<◌, ◌≡◌, arith, length, subst, take, drop, set, get_or, List, ◌++◌, ◌∷◌, [], refl}
 use Rattle.std.specs.Prelude.{Some, None}
+use Rattle.std.proofs.lemmas.List.{length-map, take_at}
 use Rattle.plan_core.specs.PlanMade.{op_of}
 use Rattle.plan_core.specs.declared.plan.Op.{Op}
 use Rattle.plan_core.specs.declared.plan.Op.TheVariants as variant
 use Rattle.plan_rewrite.specs.Edits.{Added, bumped_op}
-use Rattle.plan_rewrite.proofs.Placing.{placed_in, placed_over, take_exact, count-map}
+use Rattle.plan_rewrite.proofs.Placing.{placed_in, placed_over}
 use Rattle.plan_rewrite.proofs.edit.place.Goals as goal
 
 pub returns-in_default : goal.returns-in_default
@@ -23,15 +24,15 @@ returns c =
     let s : Op = variant.Select c.args.at c.in-Some.test in
     let changed : List Op = set c.args.ops.now.items c.args.at c.add_test.new.op in
     let moved : List Op = c.bump_ops.new.ops in
-    let a = count-map op_of moved in
+    let a = length-map moved op_of in
     let b = ap length c.in_ok-bump_ops.ensures in
-    let d = count-map (bumped_op c.args.at) (map op_of c.as_mut_slice.result.now) in
-    let e = count-map op_of c.as_mut_slice.result.now in
+    let d = length-map (map op_of c.as_mut_slice.result.now) (bumped_op c.args.at) in
+    let e = length-map c.as_mut_slice.result.now op_of in
     let v = ap length c.as_mut_slice.ensures.value in
     let many : c.in_ok-behind.behind.len ≡ length moved = omega (arith, a, b, d, e, v, c.in_ok-behind.behind.ok.0) in
     let front : c.split_off.new.self.items ≡ take (suc c.args.at) changed = search rules in
     let all : c.append.new.self.items ≡ (take (suc c.args.at) changed ++ s ∷ []) ++ moved =
-    c.in_ok-append.ensures.items ∙ ap (λ z. c.push.new.self.items ++ z) (take_exact c.in_ok-behind.behind.len moved _ many) ∙ ap (λ z. z ++ moved) (c.in_ok-push.ensures.items ∙ ap (λ z. z ++ s ∷ []) front) in
+    c.in_ok-append.ensures.items ∙ ap (λ z. c.push.new.self.items ++ z) (take_at moved _ c.in_ok-behind.behind.len (sym many)) ∙ ap (λ z. z ++ moved) (c.in_ok-push.ensures.items ∙ ap (λ z. z ++ s ∷ []) front) in
     let behind : map op_of c.bump_ops.new.ops ≡ map (bumped_op c.args.at) (map op_of (drop (suc c.args.at) changed)) = search rules in
     ap (map op_of) all
     ∙ placed_over c.args.test c.in-Some.test c.args.at c.args.at c.args.ops.now.items c.index_mut.result.now c.add_test.new.op s c.bump_ops.new.ops lt

@@ -1,11 +1,11 @@
 use Rattle.std.proofs.Common.{List, map, ℕ, length, sym, ap, subst, ◌∙◌, arith}
 use Rattle.std.specs.Prelude.{Some}
+use Rattle.std.proofs.lemmas.List.{length-map}
 use Rattle.plan_core.specs.Plans.{Operator}
 use Rattle.plan_core.specs.PlanMade.{op_of}
 use Rattle.plan_rewrite.specs.Edits.{landing}
 use Rattle.plan_make.specs.Trees.{under}
 use Rattle.plan_make.proofs.Numbering.{numbered-length}
-use Rattle.plan_rewrite.proofs.Placing.{count-map}
 use Rattle.plan_rewrite.proofs.Walking.{StandsAt, Steps, way_step, way_begins}
 use Rattle.plan_rewrite.proofs.way.landing.Goals as goal
 
@@ -30,7 +30,7 @@ loop-preserved c = λ t x h e l.
 pub returns : goal.returns
 returns c = λ t x h e l.
     let s = c.loop.invariant t x h e l in
-    let k = count-map op_of c.args.ops.now in
+    let k = length-map c.args.ops.now op_of in
     let n = ap length e in
     let m = numbered-length x 0 in
     let f = c.loop-test.false in

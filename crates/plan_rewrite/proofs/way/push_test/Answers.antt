@@ -1,5 +1,6 @@
 use Rattle.std.proofs.Common.{rules, ◌≡◌, List, map, OnOk, ℕ, ◌+◌, ◌≤◌, length, sym, ap, subst, ◌∙◌, arith}
 use Rattle.std.specs.Prelude.{vec_len}
+use Rattle.std.proofs.lemmas.List.{length-map}
 use Rattle.plan_core.specs.Plans.{Operator}
 use Rattle.plan_core.specs.PlanMade.{op_of}
 use Rattle.plan_rewrite.specs.Edits.{landing, edited}
@@ -8,12 +9,11 @@ use Rattle.plan_make.specs.Trees.{Tree, under, numbered}
 use Rattle.plan_rewrite.specs.Walk.{AreCovered}
 use Rattle.plan_rewrite.proofs.Editing.{edits, edited-pushed}
 use Rattle.plan_make.proofs.Numbering.{numbered-length}
-use Rattle.plan_rewrite.proofs.Placing.{count-map}
 use Rattle.plan_rewrite.proofs.way.push_test.Goals as goal
 
 pub returns-in_default : goal.returns-in_default
 returns-in_default c = λ x e.
-    let k = count-map op_of c.args.ops.now.items in
+    let k = length-map c.args.ops.now.items op_of in
     let n = ap length e in
     let m = numbered-length x 0 in
     absurd (c.in_default.ensures (omega (arith, k, n, m, c.len.ensures, c.args.ops.now.ok.0)))
@@ -22,7 +22,7 @@ pub place-requires : goal.place-requires
 place-requires c =
     let x : Tree = c.requires.0 in
     let e : map op_of c.args.ops.now.items ≡ numbered 0 x = c.requires.1 in
-    let k = count-map op_of c.args.ops.now.items in
+    let k = length-map c.args.ops.now.items op_of in
     let n = ap length e in
     let m = numbered-length x 0 in
     let before : c.in-Some.before + 1 ≡ vec_len c.args.ops.now = search rules in
@@ -35,7 +35,7 @@ place-requires c =
 
 pub returns : goal.returns
 returns c = λ x e.
-    let k = count-map op_of c.args.ops.now.items in
+    let k = length-map c.args.ops.now.items op_of in
     let n = ap length e in
     let m = numbered-length x 0 in
     let before : c.in-Some.before + 1 ≡ vec_len c.args.ops.now = search rules in

@@ -1,0 +1,47 @@
+// The plan whose selections are moved.
+ghost use Rattle.std.specs.Prelude.{◌≡◌, map, IfOk};
+ghost use Rattle.plan_core.specs.PlanMade.{op_of, plan_value};
+ghost use Rattle.plan_core.specs.Valid.{IsValid};
+ghost use Rattle.plan_rewrite.specs.Law.{SameDocument};
+ghost use Rattle.plan_rewrite.specs.Rewritten.{rewritten_ops, rewritten_plan};
+
+use crate::copy::copy_labels;
+use crate::law::{rewriting_keeps_documents, rewriting_keeps_validity};
+use crate::taking::next_block;
+use plan_core::{Op, Plan, valid_plans_are_typed};
+use std::alloc::{AllocError, Global};
+
+// The operators of a plan, each selection moved as far down as it goes.
+fn rewrite_ops(alloc: Global, p: &Plan) -> Result<Vec<Op>, AllocError>
+    requires { IsValid (plan_value p.now) }
+    ensures { IfOk result (λ ops. map op_of ops.items ≡ rewritten_ops (map op_of p.now.ops.items)) }
+{
+    valid_plans_are_typed();
+    let mut blocks = Vec::new(alloc);
+    for op in p.ops.as_slice() {
+        let block = next_block(alloc, &mut blocks, op)?;
+        blocks.push(block)?;
+    }
+    match blocks.pop() {
+        Some(ops) => Ok(ops),
+        None => Ok(Vec::new(alloc)),
+    }
+}
+
+/// The plan whose selections are moved below joins, to a side that binds all variables of the comparison, or into joins (docs/MEANING.md, "Plans
+/// with their selections moved"). It is valid, and over all source documents it has the same document. Only want of memory is
+/// an error.
+pub fn rewrite(alloc: Global, p: &Plan) -> Result<Plan, AllocError>
+    requires { IsValid (plan_value p.now) }
+    ensures made { IfOk result (λ q. plan_value q ≡ rewritten_plan (plan_value p.now)) }
+    ensures valid { IfOk result (λ q. IsValid (plan_value q)) }
+    ensures document { IfOk result (λ q. SameDocument (map op_of q.ops.items) (map op_of p.now.ops.items)) }
+{
+    rewriting_keeps_documents();
+    rewriting_keeps_validity();
+    Ok(Plan {
+        ops: rewrite_ops(alloc, p)?,
+        names: copy_labels(alloc, p.names.as_slice())?,
+        sources: copy_labels(alloc, p.sources.as_slice())?,
+    })
+}
