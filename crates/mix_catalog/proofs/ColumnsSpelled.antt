@@ -10,7 +10,7 @@ use Rattle.mix_tree.proofs.LabelSeen.{Saw, saw}
 use Rattle.mix_tree.proofs.LabelSound.{label_spelled}
 use Rattle.mix_tree.proofs.LabelAnswers.{run_writes_some}
 use Rattle.mix_words.specs.Words.{ends_word}
-use Rattle.mix_catalog.specs.Columns.{Seen, SpellsColumns, SpellsOthers, ended, with_last, columns_from, has_comma}
+use Rattle.mix_catalog.specs.Columns.{Seen, SpellsColumns, SpellsEach, SpellsOthers, ended, with_last, columns_from, has_comma}
 use Rattle.mix_catalog.proofs.ColumnsSeen.{column_seen, no_column_seen}
 use Rattle.mix_catalog.proofs.Seens.{Begins, spelling_begins, spelling_seen, word_end_stops}
 
@@ -59,9 +59,9 @@ pub record Found (x : List ℕ) (done : List (List ℕ)) (seen : Seen) : Type 0 
   pub parts : x ≡ spelling ++ seen.behind
 
 -- a comma and columns stand behind another column
-others_of : (ls : List (List ℕ)) (x : List ℕ) → SpellsColumns ls x → SpellsOthers ls (SpellsColumns ls) (44 ∷ x)
-others_of [] x h = absurd h
-others_of (l ∷ ls) x h = (x, h, refl)
+pub others_of : {C : Type 0} (S : List ℕ → C → Type 0) (cs : List C) (x : List ℕ) → SpellsEach S cs x → SpellsOthers cs (SpellsEach S cs) (44 ∷ x)
+others_of S [] x h = absurd h
+others_of S (c ∷ cs) x h = (x, h, refl)
 
 -- a column is the last one
 found_last : (x spelled y l : List ℕ) (done : List (List ℕ)) (j : ℕ) (seen : Seen) → SpellsLabel spelled l → x ≡ spelled ++ y → ended (with_last done l) j y ≡ seen → Found x done seen
@@ -79,7 +79,7 @@ found_more x spelled y l done seen s parts comma h = record {
   labels = l ∷ h.labels;
   spelling = spelled ++ (44 ∷ h.spelling);
   are = h.are ∙ append_assoc done (l ∷ []) h.labels;
-  spells = (spelled, 44 ∷ h.spelling, s, others_of h.labels h.spelling h.spells, refl);
+  spells = (spelled, 44 ∷ h.spelling, s, others_of SpellsLabel h.labels h.spelling h.spells, refl);
   parts = parts ∙ ap (λ r. spelled ++ r) (comma_first y comma ∙ ap (λ r. 44 ∷ r) h.parts) ∙ sym (append_assoc spelled (44 ∷ h.spelling) seen.behind);
 }
 

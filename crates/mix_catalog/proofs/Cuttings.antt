@@ -33,7 +33,7 @@ number_of-found digits n e = by_case (nat_le 1 (length digits) && nat_le (length
     by_case false h f = none_some n f
 
 -- are read as their number
-number_of-given : (digits : List ℕ) (n : ℕ) → IsNumber digits n → number_of digits ≡ Some n
+pub number_of-given : (digits : List ℕ) (n : ℕ) → IsNumber digits n → number_of digits ≡ Some n
 number_of-given digits n h =
     let some : nat_le 1 (length digits) ≡ true = (let k : 1 ≤ length digits = h.some in grind (arith, nat_tests)) in
     let short : nat_le (length digits) 9 ≡ true = (let k : length digits ≤ 9 = h.short in grind (arith, nat_tests)) in
@@ -87,7 +87,7 @@ cutting_given text chunk true h = ap cutting_of h.words ∙ rw (number_of-given 
 cutting_given text chunk false h = ap cutting_of h.words ∙ rw (number_of-given h.digits chunk h.numbered) refl
 
 -- what gives a chunk are the words of one
-chunk_of-found : (words : List (List ℕ)) (n : ℕ) → chunk_of words ≡ Some n → (digits : List ℕ) × (words ≡ cutting_words digits false) × IsNumber digits n
+pub chunk_of-found : (words : List (List ℕ)) (n : ℕ) → chunk_of words ≡ Some n → (digits : List ℕ) × (words ≡ cutting_words digits false) × IsNumber digits n
 chunk_of-found [] n e = none_some n e
 chunk_of-found (a ∷ []) n e = none_some n e
 chunk_of-found (a ∷ b ∷ []) n e = let parts = chunk_form-found a b n e in (b, ap (λ w. w ∷ b ∷ []) parts.0, parts.1)

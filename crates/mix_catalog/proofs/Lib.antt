@@ -5,7 +5,9 @@ pub mod Cuttings
 pub mod Digits
 pub mod Finds
 pub mod NameText
+pub mod NamedApart
 pub mod Numbered
 pub mod OneAnswer
 pub mod Seens
 pub mod Spelled
+pub mod Tables

@@ -18,27 +18,37 @@ use Rattle.mix_catalog.specs.declared.form.Form.TheVariants as form
 use Rattle.mix_catalog.specs.declared.form.Front.{Front}
 use Rattle.mix_catalog.specs.declared.source.SourceSpec.{SourceSpec}
 use Rattle.mix_catalog.specs.declared.source.SourceKind.{SourceKind}
-use Rattle.mix_catalog.specs.declared.source.SourceKind.TheVariants.{Bracket, Csv}
+use Rattle.mix_catalog.specs.declared.source.SourceKind.TheVariants.{Bracket, Csv, Table}
 use Rattle.mix_catalog.specs.Columns as columns
 use Rattle.mix_catalog.specs.Columns.{SpellsColumns, columns_at, columns_from, ended}
 use Rattle.mix_catalog.specs.Forms.{is_source_name, form_of, front_with, front_of, cutting_of, chunk_behind, is_columns_word}
 use Rattle.mix_words.specs.Places.{blank_behind, place_of_word}
-use Rattle.mix_catalog.specs.Seen.{bracket, csv, columns_seen, csv_at, form_behind, source_behind, source_seen, source_at, line_source}
-use Rattle.mix_catalog.specs.Grammar.{SpellsCutting, SpellsBetween, SpellsBehind, Spells, SpellsNone, form_in, form_word, file_of, front_words}
+use Rattle.mix_catalog.specs.Seen.{bracket, csv, table, columns_seen, csv_at, form_behind, source_behind, source_seen, source_at, line_source}
+use Rattle.mix_catalog.specs.Tables.{table_of}
+use Rattle.mix_catalog.specs.Grammar.{AreTableWords, SpellsCutting, SpellsBetween, SpellsBehind, Spells, SpellsNone, form_in, form_word, file_of, front_words}
 use Rattle.mix_catalog.proofs.NameText.{name_tested, name_passes}
 use Rattle.mix_words.proofs.WordPlaces.{place_found, place_apart}
 use Rattle.mix_catalog.proofs.Seens.{Begins, spelling_begins, spelling_seen, word_end_stops}
 use Rattle.mix_catalog.proofs.ColumnsSpelled.{columns_begin, spelled_seen, seen_spelled}
 use Rattle.mix_catalog.proofs.Cuttings.{same_bytes, mapped_some, cutting_found, cutting_given, chunk_found, chunk_given, columns_word}
+use Rattle.mix_catalog.proofs.Tables.{table_found, table_given}
 
 -- the word that names a form
 form_of-found : (word : List ℕ) (f : Form) → form_of word ≡ Some f → word ≡ form_word f
-form_of-found word f e = by_case (bytes_eq word (codes "bracket")) refl (bytes_eq word (codes "csv")) refl e
+form_of-found word f e = by_bracket (bytes_eq word (codes "bracket")) refl e
   where
-    by_case : (s : Bool) → bytes_eq word (codes "bracket") ≡ s → (t : Bool) → bytes_eq word (codes "csv") ≡ t → cond s (Some form.Bracket) (cond t (Some form.Csv) None) ≡ Some f → word ≡ form_word f
-    by_case true h t k g = same_bytes word (codes "bracket") h ∙ ap form_word (some_is form.Bracket f g)
-    by_case false h true k g = same_bytes word (codes "csv") k ∙ ap form_word (some_is form.Csv f g)
-    by_case false h false k g = none_some f g
+    by_table : (t : Bool) → bytes_eq word (codes "table") ≡ t → cond t (Some form.Table) None ≡ Some f → word ≡ form_word f
+    by_table true h g = same_bytes word (codes "table") h ∙ ap form_word (some_is form.Table f g)
+    by_table false h g = none_some f g
+
+    by_csv : (t : Bool) → bytes_eq word (codes "csv") ≡ t → cond t (Some form.Csv) (cond (bytes_eq word (codes "table")) (Some form.Table) None) ≡ Some f → word ≡ form_word f
+    by_csv true h g = same_bytes word (codes "csv") h ∙ ap form_word (some_is form.Csv f g)
+    by_csv false h g = by_table (bytes_eq word (codes "table")) refl g
+
+    by_bracket : (t : Bool) → bytes_eq word (codes "bracket") ≡ t
+        → cond t (Some form.Bracket) (cond (bytes_eq word (codes "csv")) (Some form.Csv) (cond (bytes_eq word (codes "table")) (Some form.Table) None)) ≡ Some f → word ≡ form_word f
+    by_bracket true h g = same_bytes word (codes "bracket") h ∙ ap form_word (some_is form.Bracket f g)
+    by_bracket false h g = by_csv (bytes_eq word (codes "csv")) refl g
 
 -- the words in front of FILE, where they say this
 record FrontIs (words : List (List ℕ)) (front : Front) : Type 0 where
@@ -66,6 +76,7 @@ front_of-found (a ∷ b ∷ c ∷ d ∷ words) front e = none_some front e
 front_of-given : (name : List ℕ) (f : Form) → IsName name → front_of (front_words name f) ≡ Some (front_with name f)
 front_of-given name form.Bracket named = let passes : is_source_name name ≡ true = name_passes name named in rw passes refl
 front_of-given name form.Csv named = let passes : is_source_name name ≡ true = name_passes name named in rw passes refl
+front_of-given name form.Table named = let passes : is_source_name name ≡ true = name_passes name named in rw passes refl
 
 -- what a source has behind its file, where it is found
 record BehindIs (f : Form) (name file behind : List ℕ) (s : SourceSpec) : Type 0 where
@@ -112,6 +123,10 @@ behind_found form.Csv name file behind s e = at_place (place_of_word 1 behind) r
     at_place : (o : Option ℕ) → place_of_word 1 behind ≡ o → option_and_then (csv_at name file behind) o ≡ Some s → BehindIs form.Csv name file behind s
     at_place None h f = none_some s f
     at_place (Some at) h f = csv_found name file behind at s h f
+behind_found form.Table name file behind s e =
+    let m = mapped_some (table name file) (table_of (words_of behind)) s e in
+    let spells : AreTableWords m.0.chunk m.0.table m.0.key m.0.columns (words_of behind) = table_found (words_of behind) m.0 m.1 in
+    subst (BehindIs form.Table name file behind) m.2 (record { name_is = refl; file_is = refl; form_is = refl; spells = spells })
 
 -- a source that is found where FILE begins is spelled
 found_is_spelled : (line front x : List ℕ) (at : ℕ) (o : Option Front) (seen : Seen) (s : SourceSpec) → IsUtf8 line → line ≡ front ++ x → IsTrue (blank_behind true front) → front_of (words_of front) ≡ o
@@ -182,6 +197,7 @@ behind_given : (name : List ℕ) (chunk : ℕ) (kind : SourceKind) (behind : Lis
     → form_behind (form_in kind) name (file_of kind) behind ≡ Some (record { name = name; chunk = chunk; kind = kind })
 behind_given name chunk (Bracket file deep) behind h = ap (option_map (bracket name file)) (cutting_given behind chunk deep h)
 behind_given name chunk (Csv file labels) behind h = csv_given name file labels chunk behind h
+behind_given name chunk (Table file of key columns) behind h = ap (option_map (table name file)) (table_given chunk of key columns (words_of behind) h)
 
 -- a source that is spelled in a line is found there
 pub spelled_found : (line : List ℕ) (s : SourceSpec) → Spells line s → line_source line ≡ Some s

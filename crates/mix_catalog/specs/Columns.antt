@@ -1,4 +1,4 @@
--- The columns of a CSV source: spellings of labels with commas between them and no blanks outside quotes.
+-- The columns of a source: spellings with commas between them and no blanks outside quotes. Those of a CSV source are labels.
 use Rattle.std.specs.Prelude.{◌≡◌, ℕ, ◌+◌, Bool, true, false, ◌&&◌, not, cond, ◌==◌, List, [], ◌∷◌, ◌++◌, Option, Some, None, option_map, drop}
 use Rattle.std.specs.List.{list_any}
 use Rattle.std.specs.Str.{bytes_eq}
@@ -6,15 +6,19 @@ use Rattle.mix_tree.specs.LabelGrammar.{SpellsLabel}
 use Rattle.mix_tree.specs.LabelMachine.{Spot, start, step, label_in}
 use Rattle.mix_catalog.specs.declared.columns.Columns.{Columns}
 
--- what stands behind a column: nothing behind the last one, else a comma and the text of the others
-abbrev pub SpellsOthers : List (List ℕ) → (List ℕ → Type 0) → List ℕ → Type 0
+-- what stands behind one column: nothing behind the last one, else a comma and the text of the others
+abbrev pub SpellsOthers : {C : Type 0} → List C → (List ℕ → Type 0) → List ℕ → Type 0
 SpellsOthers [] SpellsMore x = x ≡ []
-SpellsOthers (l ∷ ls) SpellsMore x = (more : List ℕ) × SpellsMore more × (x ≡ 44 ∷ more)
+SpellsOthers (c ∷ cs) SpellsMore x = (more : List ℕ) × SpellsMore more × (x ≡ 44 ∷ more)
 
--- the text spells one or more columns
+-- the text spells one or more columns, each of them as one is spelled
+abbrev pub SpellsEach : {C : Type 0} → (List ℕ → C → Type 0) → List C → List ℕ → Type 0
+SpellsEach SpellsOne [] x = ⊥
+SpellsEach SpellsOne (c ∷ cs) x = (spelled others : List ℕ) × SpellsOne spelled c × SpellsOthers cs (SpellsEach SpellsOne cs) others × (x ≡ spelled ++ others)
+
+-- the text spells one or more columns of a CSV source
 abbrev pub SpellsColumns : List (List ℕ) → List ℕ → Type 0
-SpellsColumns [] x = ⊥
-SpellsColumns (l ∷ ls) x = (spelled others : List ℕ) × SpellsLabel spelled l × SpellsOthers ls (SpellsColumns ls) others × (x ≡ spelled ++ others)
+SpellsColumns labels x = SpellsEach SpellsLabel labels x
 
 -- columns that are seen: their labels, and the place and the text behind them
 pub record Seen : Type 0 where

@@ -1,17 +1,19 @@
 -- Which line spells which source.
-use Rattle.std.specs.Prelude.{◌≡◌, ◌≤◌, ℕ, Bool, true, false, cond, IsTrue, List, [], ◌∷◌, ◌++◌, length, codes, IsUtf8}
+use Rattle.std.specs.Prelude.{◌≡◌, ◌≤◌, ℕ, Bool, true, false, cond, IsTrue, List, [], ◌∷◌, ◌++◌, length, map, codes, IsUtf8}
 use Rattle.std.specs.List.{list_all}
 use Rattle.std.specs.Str.Parse.{digits_value}
 use Rattle.mix_tree.specs.Names.{IsName}
 use Rattle.mix_tree.specs.LabelOrder.{is_digit}
 use Rattle.mix_tree.specs.LabelGrammar.{SpellsLabel}
-use Rattle.mix_words.specs.Words.{words_of, ends_word}
+use Rattle.mix_words.specs.Words.{words_of, ends_word, is_sql_name}
+use Rattle.mix_catalog.specs.declared.column.Column.{Column}
 use Rattle.mix_catalog.specs.declared.source.SourceSpec.{SourceSpec}
 use Rattle.mix_catalog.specs.declared.source.SourceKind.{SourceKind}
-use Rattle.mix_catalog.specs.declared.source.SourceKind.TheVariants.{Bracket, Csv}
+use Rattle.mix_catalog.specs.declared.source.SourceKind.TheVariants.{Bracket, Csv, Table}
 use Rattle.mix_catalog.specs.declared.form.Form.{Form}
 use Rattle.mix_catalog.specs.declared.form.Form.TheVariants as form
 use Rattle.mix_catalog.specs.Columns.{SpellsColumns}
+use Rattle.mix_catalog.specs.Tables.{SpellsTableColumns}
 use Rattle.mix_words.specs.Places.{blank_behind}
 
 -- 1 to 9 digits write the number; they may begin with zeros
@@ -43,30 +45,49 @@ pub record SpellsBetween (words : List (List ℕ)) (Spelled Behind : List ℕ �
   pub blank_after : IsTrue (ends_word behind)
   pub rest : Behind behind
 
+-- the words of a table: its name, key and a name, columns and these, chunk and a number
+abbrev pub table_words : List ℕ → List ℕ → List ℕ → List ℕ → List (List ℕ)
+table_words table key columns digits = table ∷ codes "key" ∷ key ∷ codes "columns" ∷ columns ∷ cutting_words digits false
+
+-- these are the words, and the names are SQL names
+pub record AreTableWords (chunk : ℕ) (table key : List ℕ) (columns : List Column) (words : List (List ℕ)) : Type 0 where
+  pub spelling : List ℕ
+  pub digits : List ℕ
+  pub are : words ≡ table_words table key spelling digits
+  pub table_named : IsTrue (is_sql_name table)
+  pub key_named : IsTrue (is_sql_name key)
+  pub spelled : SpellsTableColumns columns spelling
+  pub numbered : IsNumber digits chunk
+
 -- the form of a source
 abbrev pub form_in : SourceKind → Form
 form_in (Bracket file deep) = form.Bracket
 form_in (Csv file columns) = form.Csv
+form_in (Table file table key columns) = form.Table
 
 -- the word of a form
 abbrev pub form_word : Form → List ℕ
 form_word form.Bracket = codes "bracket"
 form_word form.Csv = codes "csv"
+form_word form.Table = codes "table"
 
 -- the file of a source
 abbrev pub file_of : SourceKind → List ℕ
 file_of (Bracket file deep) = file
 file_of (Csv file columns) = file
+file_of (Table file table key columns) = file
 
--- the columns of a source
+-- the names of the columns of a source
 abbrev pub columns_of : SourceKind → List (List ℕ)
 columns_of (Bracket file deep) = []
 columns_of (Csv file columns) = columns
+columns_of (Table file table key columns) = map (λ (c : Column). c.name) columns
 
--- what stands behind the file: how a bracket source is cut; the columns of a CSV source, and its chunk
+-- what stands behind the file: how a bracket source is cut; the columns of a CSV source, and its chunk; a table, and its chunk
 abbrev pub SpellsBehind : ℕ → SourceKind → List ℕ → Type 0
 SpellsBehind chunk (Bracket file deep) text = SpellsCutting chunk deep text
 SpellsBehind chunk (Csv file columns) text = SpellsBetween (codes "columns" ∷ []) (SpellsColumns columns) (SpellsCutting chunk false) text
+SpellsBehind chunk (Table file table key columns) text = AreTableWords chunk table key columns (words_of text)
 
 -- the words in front of the file
 abbrev pub front_words : List ℕ → Form → List (List ℕ)

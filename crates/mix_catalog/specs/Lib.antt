@@ -4,3 +4,4 @@ pub mod Grammar
 pub mod Kept
 pub mod Seen
 pub mod Sources
+pub mod Tables

@@ -7,10 +7,12 @@ use Rattle.mix_catalog.specs.declared.form.Form.{Form}
 use Rattle.mix_catalog.specs.declared.form.Form.TheVariants as form
 use Rattle.mix_catalog.specs.declared.form.Front.{Front}
 use Rattle.mix_catalog.specs.declared.source.SourceSpec.{SourceSpec}
-use Rattle.mix_catalog.specs.declared.source.SourceKind.TheVariants.{Bracket, Csv}
+use Rattle.mix_catalog.specs.declared.table.TableBehind.{TableBehind}
+use Rattle.mix_catalog.specs.declared.source.SourceKind.TheVariants.{Bracket, Csv, Table}
 use Rattle.mix_catalog.specs.Columns.{columns_at}
 use Rattle.mix_catalog.specs.Columns as columns
 use Rattle.mix_catalog.specs.Forms.{front_of, cutting_of, chunk_behind, is_columns_word}
+use Rattle.mix_catalog.specs.Tables.{table_of}
 use Rattle.mix_words.specs.Places.{place_of_word}
 
 -- a bracket source
@@ -20,6 +22,10 @@ bracket name file cutting = record { name = name; chunk = cutting.chunk; kind = 
 -- a CSV source
 abbrev pub csv : List ℕ → List ℕ → List (List ℕ) → ℕ → SourceSpec
 csv name file labels chunk = record { name = name; chunk = chunk; kind = Csv file labels }
+
+-- a table source
+abbrev pub table : List ℕ → List ℕ → TableBehind → SourceSpec
+table name file t = record { name = name; chunk = t.chunk; kind = Table file t.table t.key t.columns }
 
 -- the CSV source of what is seen of its columns
 abbrev pub columns_seen : List ℕ → List ℕ → Option columns.Seen → Option SourceSpec
@@ -34,6 +40,7 @@ csv_at name file behind at = cond (is_columns_word (words_of (take at behind))) 
 abbrev pub form_behind : Form → List ℕ → List ℕ → List ℕ → Option SourceSpec
 form_behind form.Bracket name file behind = option_map (bracket name file) (cutting_of (words_of behind))
 form_behind form.Csv name file behind = option_and_then (csv_at name file behind) (place_of_word 1 behind)
+form_behind form.Table name file behind = option_map (table name file) (table_of (words_of behind))
 
 -- the source of what stands in front of its file, of the file, and of what stands behind it
 abbrev pub source_behind : Front → List ℕ → List ℕ → Option SourceSpec

@@ -1,12 +1,13 @@
 // What stands behind the file of a line: how its source is cut, and its columns.
 ghost use Rattle.std.specs.Prelude.{◌≡◌, IfOk, IsUtf8};
 ghost use Rattle.mix_words.specs.Words.{ends_word, words_of};
-ghost use Rattle.mix_catalog.specs.declared.form.Form.TheVariants.{Bracket, Csv};
+ghost use Rattle.mix_catalog.specs.declared.form.Form.TheVariants.{Bracket, Csv, Table};
 ghost use Rattle.mix_catalog.specs.Forms.{chunk_behind, is_columns_word};
 ghost use Rattle.mix_catalog.specs.Seen.{form_behind, source_behind};
 
 use crate::columns::{Columns, read_columns};
 use crate::form::{Cutting, Form, Front, is_columns_word, read_chunk, read_cutting};
+use crate::table::{TableBehind, read_table_behind};
 use crate::{ColumnNames, SourceKind, SourceSpec};
 use mix_tree::Label;
 use mix_words::places::word_place;
@@ -86,6 +87,34 @@ fn read_csv(
     Ok(Some(SourceSpec { name, chunk, kind }))
 }
 
+// The table source of what stands behind its file.
+fn read_table(
+    alloc: Global,
+    name: Label,
+    file: Label,
+    behind: &[u8],
+) -> Result<Option<SourceSpec>, AllocError>
+    ensures { IfOk result (λ found. found ≡ form_behind Table name file behind.now) }
+{
+    let words = cut_words(alloc, behind)?;
+    let Some(found) = read_table_behind(alloc, &words)? else {
+        return Ok(None);
+    };
+    let TableBehind {
+        table,
+        key,
+        columns,
+        chunk,
+    } = found;
+    let kind = SourceKind::Table {
+        file,
+        table,
+        key,
+        columns,
+    };
+    Ok(Some(SourceSpec { name, chunk, kind }))
+}
+
 /// The source of what stands in front of a file, of the file, and of what stands behind it; `None` where that fits no form.
 pub fn read_behind(
     alloc: Global,
@@ -102,5 +131,6 @@ pub fn read_behind(
     match front.form {
         Form::Bracket => read_bracket(alloc, front.name, file, behind),
         Form::Csv => read_csv(alloc, front.name, file, behind),
+        Form::Table => read_table(alloc, front.name, file, behind),
     }
 }

@@ -12,6 +12,7 @@ use std::alloc::{AllocError, Global};
 pub enum Form {
     Bracket,
     Csv,
+    Table,
 }
 
 /// What stands in front of the file of a line.
@@ -55,6 +56,8 @@ fn read_form(word: &[u8]) -> Option<Form>
         Some(Form::Bracket)
     } else if word == b"csv".as_slice() {
         Some(Form::Csv)
+    } else if word == b"table".as_slice() {
+        Some(Form::Table)
     } else {
         None
     }

@@ -10,9 +10,10 @@ mod form;
 mod line;
 mod reading;
 mod source;
+mod table;
 
 pub use catalog::Catalog;
-pub use column::Column;
+pub use column::{Column, ColumnList, ColumnNames, TableColumns};
 pub use fault::CatalogFault;
 pub use reading::read_catalog;
-pub use source::{ColumnNames, SourceKind, SourceSpec};
+pub use source::{SourceKind, SourceSpec};

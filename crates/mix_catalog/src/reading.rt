@@ -5,7 +5,6 @@ ghost use Rattle.mix_catalog.specs.declared.fault.CatalogFault.{CatalogFault};
 ghost use Rattle.mix_tree.specs.Names.{IsName};
 ghost use Rattle.mix_catalog.specs.Sources.{IsTakenBy, RefusesSource, Adds, IsFault, Answers, SameAnswer};
 
-use crate::columns::are_apart;
 use crate::line::read_source;
 use crate::{Catalog, CatalogFault, SourceSpec};
 use mix_words::lines::{cut_lines, is_passed_over};
@@ -34,11 +33,10 @@ fn add_source(
     if source.chunk < 1 || source.chunk > CHUNK {
         return Err(CatalogFault::Chunk(number));
     }
-    let columns = source.kind.columns();
-    if columns.len() > COLUMNS {
+    if source.kind.column_count() > COLUMNS {
         return Err(CatalogFault::Columns(number));
     }
-    if !are_apart(columns) {
+    if !source.kind.has_columns_apart() {
         return Err(CatalogFault::ColumnTwice(number));
     }
     if catalog.find(&source.name).is_some() {

@@ -1,9 +1,12 @@
 // What a catalog says of a source.
-ghost use Rattle.std.specs.Prelude.{◌≡◌};
+ghost use Rattle.std.specs.Prelude.{◌≡◌, length};
+ghost use Rattle.mix_catalog.specs.Columns.{are_apart};
 ghost use Rattle.mix_catalog.specs.Grammar.{columns_of, file_of};
 
+use crate::column::are_named_apart;
+use crate::columns::are_apart;
+use crate::{ColumnNames, TableColumns};
 use mix_tree::Label;
-use std::marker::Model;
 
 /// A source: its name, the most children that a fill of it gives, and what it is.
 #[derive(Drop)]
@@ -17,9 +20,22 @@ pub struct SourceSpec {
 #[derive(Drop)]
 pub enum SourceKind {
     /// A file of bracket text. A deep one gives each child whole.
-    Bracket { file: Label, deep: bool },
+    Bracket {
+        file: Label,
+        deep: bool,
+    },
     /// A CSV file with these columns. A fill gives whole rows.
-    Csv { file: Label, columns: ColumnNames },
+    Csv {
+        file: Label,
+        columns: ColumnNames,
+    },
+    /// A table of an SQLite file, read by a key column. A fill gives whole rows of these columns.
+    Table {
+        file: Label,
+        table: Label,
+        key: Label,
+        columns: TableColumns,
+    },
 }
 
 impl SourceKind {
@@ -30,46 +46,29 @@ impl SourceKind {
         match self {
             SourceKind::Bracket { file, .. } => file,
             SourceKind::Csv { file, .. } => file,
+            SourceKind::Table { file, .. } => file,
         }
     }
 
-    /// The columns of the source's file; a bracket source has none.
-    pub fn columns(&self) -> &[Label]
-        ensures { result.now ≡ columns_of self.now }
+    /// How many columns the source has; a bracket source has none.
+    pub fn column_count(&self) -> usize
+        ensures { result ≡ length (columns_of self.now) }
     {
         match self {
-            SourceKind::Bracket { .. } => &[],
-            SourceKind::Csv { columns, .. } => columns.labels(),
+            SourceKind::Bracket { .. } => 0,
+            SourceKind::Csv { columns, .. } => columns.as_slice().len(),
+            SourceKind::Table { columns, .. } => columns.as_slice().len(),
         }
     }
-}
 
-/// The names of columns in their order, seen as their list.
-#[derive(Drop)]
-pub struct ColumnNames {
-    labels: Vec<Label>,
-}
-
-impl Model for ColumnNames {
-    ghost use Rattle.std.specs.Prelude.{List, ℕ};
-
-    ghost Value = { List (List ℕ) };
-
-    ghost view = { λ c. c.labels.items };
-}
-
-impl ColumnNames {
-    /// Columns of these names.
-    pub fn new(labels: Vec<Label>) -> ColumnNames
-        ensures { result ≡ labels.items }
+    /// Whether no two columns of the source have the same name, byte for byte.
+    pub fn has_columns_apart(&self) -> bool
+        ensures { result ≡ are_apart (columns_of self.now) }
     {
-        ColumnNames { labels }
-    }
-
-    /// The names, in their order.
-    pub fn labels(&self) -> &[Label]
-        ensures { result.now ≡ self.now }
-    {
-        &self.labels
+        match self {
+            SourceKind::Bracket { .. } => true,
+            SourceKind::Csv { columns, .. } => are_apart(columns.as_slice()),
+            SourceKind::Table { columns, .. } => are_named_apart(columns.as_slice()),
+        }
     }
 }

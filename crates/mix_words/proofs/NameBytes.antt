@@ -1,10 +1,10 @@
--- Script names are ASCII.
-use Rattle.std.proofs.Common.{◌≡◌, ◌<◌, ◌≤◌, ℕ, zero, suc, Bool, true, false, ◌&&◌, IsTrue, List, [], ◌∷◌, refl, arith, get_or, drop, take, length, ◌-◌, ap, sym}
+-- Script names and SQL names are ASCII.
+use Rattle.std.proofs.Common.{◌≡◌, ◌<◌, ◌≤◌, ℕ, zero, suc, Bool, true, false, ◌&&◌, ◌||◌, ◌==◌, IsTrue, List, [], ◌∷◌, refl, arith, get_or, drop, take, length, ◌-◌, ap, sym}
 use Rattle.std.proofs.lemmas.Bool.Decides.{nat_tests}
 use Rattle.std.proofs.lemmas.Str.{IsUtf8-from_ascii}
 use Rattle.std.specs.Str.{IsAscii, IsUtf8}
 use Rattle.std.specs.List.{list_all}
-use Rattle.mix_words.specs.Words.{is_name, is_letter, is_script_byte}
+use Rattle.mix_words.specs.Words.{is_name, is_sql_name, is_letter, is_script_byte}
 
 -- both tests hold where their conjunction does
 and_parts : (a b : Bool) → IsTrue (a && b) → IsTrue a × IsTrue b
@@ -36,6 +36,20 @@ IsAscii-name (x ∷ xs) h (suc i) = IsAscii-script_bytes xs (and_parts (is_lette
 pub IsUtf8-name : (xs : List ℕ) → IsTrue (is_name xs) → IsUtf8 xs
 IsUtf8-name xs h = IsUtf8-from_ascii xs (IsAscii-name xs h)
 
+-- an SQL name begins with a letter or _
+sql_first_ascii : (b : ℕ) → IsTrue (is_letter b || b == 95) → b < 128
+sql_first_ascii b h = grind (arith, nat_tests)
+
+-- so it is ASCII
+IsAscii-sql_name : (xs : List ℕ) → IsTrue (is_sql_name xs) → IsAscii xs
+IsAscii-sql_name [] h i = omega arith
+IsAscii-sql_name (x ∷ xs) h zero = sql_first_ascii x (and_parts (is_letter x || x == 95) (list_all is_script_byte xs) h).0
+IsAscii-sql_name (x ∷ xs) h (suc i) = IsAscii-script_bytes xs (and_parts (is_letter x || x == 95) (list_all is_script_byte xs) h).1 i
+
+-- and UTF-8
+pub IsUtf8-sql_name : (xs : List ℕ) → IsTrue (is_sql_name xs) → IsUtf8 xs
+IsUtf8-sql_name xs h = IsUtf8-from_ascii xs (IsAscii-sql_name xs h)
+
 -- a front as long as the list
 take_length : (n : ℕ) (xs : List ℕ) → n ≡ length xs → take n xs ≡ xs
 take_length zero [] e = refl
@@ -47,3 +61,8 @@ take_length (suc n) (x ∷ xs) e = ap (λ r. x ∷ r) (take_length n xs (omega a
 pub is_name-parts : (xs : List ℕ) → 1 ≤ length xs → is_name xs ≡ (is_letter (get_or xs 0 0) && list_all is_script_byte (take (length xs - 1) (drop 1 xs)))
 is_name-parts [] h = absurd (omega arith)
 is_name-parts (x ∷ xs) h = let e : length (x ∷ xs) - 1 ≡ length xs = omega arith in ap (λ r. is_letter x && list_all is_script_byte r) (sym (take_length _ xs e))
+
+-- so is an SQL name
+pub is_sql_name-parts : (xs : List ℕ) → 1 ≤ length xs → is_sql_name xs ≡ ((is_letter (get_or xs 0 0) || get_or xs 0 0 == 95) && list_all is_script_byte (take (length xs - 1) (drop 1 xs)))
+is_sql_name-parts [] h = absurd (omega arith)
+is_sql_name-parts (x ∷ xs) h = let e : length (x ∷ xs) - 1 ≡ length xs = omega arith in ap (λ r. (is_letter x || x == 95) && list_all is_script_byte r) (sym (take_length _ xs e))

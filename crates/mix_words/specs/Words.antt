@@ -38,3 +38,8 @@ is_script_byte b = is_letter b || (nat_le 48 b && nat_le b 57) || b == 95
 abbrev pub is_name : List ℕ → Bool
 is_name [] = false
 is_name (b ∷ bs) = is_letter b && list_all is_script_byte bs
+
+-- an SQL name: a letter or _, then letters, digits and _
+abbrev pub is_sql_name : List ℕ → Bool
+is_sql_name [] = false
+is_sql_name (b ∷ bs) = (is_letter b || b == 95) && list_all is_script_byte bs

@@ -1,7 +1,7 @@
 // The words of a line, and which words are names.
-ghost use Rattle.std.specs.Prelude.{◌≡◌, ◌++◌, IfOk, OnOk, map};
+ghost use Rattle.std.specs.Prelude.{◌≡◌, ◌++◌, ◌||◌, ◌==◌, IfOk, OnOk, map};
 ghost use Rattle.std.specs.List.{list_all};
-ghost use Rattle.mix_words.specs.Words.{words_of, unless_empty, is_blank, is_name, is_letter, is_script_byte};
+ghost use Rattle.mix_words.specs.Words.{words_of, unless_empty, is_blank, is_name, is_sql_name, is_letter, is_script_byte};
 
 use std::alloc::{AllocError, Global};
 
@@ -63,5 +63,21 @@ pub fn is_script_name(word: &[u8]) -> bool
     match word {
         [] => false,
         [first, others @ ..] => is_letter_byte(*first) && are_in_name(others),
+    }
+}
+
+fn begins_sql_name(byte: u8) -> bool
+    ensures { result ≡ (is_letter byte || byte == 95) }
+{
+    is_letter_byte(byte) || byte == b'_'
+}
+
+/// Whether a word is an SQL name: an ASCII letter or `_`, then ASCII letters, digits and `_`.
+pub fn is_sql_name(word: &[u8]) -> bool
+    ensures { result ≡ is_sql_name word.now }
+{
+    match word {
+        [] => false,
+        [first, others @ ..] => begins_sql_name(*first) && are_in_name(others),
     }
 }

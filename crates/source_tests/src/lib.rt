@@ -1,4 +1,4 @@
-//! Tests of files and sinks in memory, of sources in memory and mounted ones, of CSV documents, of buffers, of visits, and of walks.
+//! Tests of files and sinks in memory, of sources in memory and mounted ones, of CSV documents, of tables and their documents, of buffers, of visits, and of walks.
 #![tactic(auto)]
 
 #[cfg(test)]
@@ -11,6 +11,8 @@ mod files;
 mod memory;
 #[cfg(test)]
 mod mounts;
+#[cfg(test)]
+mod pages;
 #[cfg(test)]
 mod prints;
 #[cfg(test)]

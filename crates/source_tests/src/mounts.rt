@@ -6,6 +6,7 @@ use lxp_core::{HoleId, SourceFault, Sources};
 use mix_mount::{Mount, Mounted};
 use std::alloc::Global;
 use std::test::Fail;
+use table_keep::NoTables;
 
 // The document that a text spells, given so many children at a time, or whole below a node where it is deep.
 fn mounted(alloc: Global, text: &str, chunk: u32, deep: bool) -> Result<BracketDoc, Fail> {
@@ -76,7 +77,7 @@ fn each_source_gives_its_document(rt: HostRuntime) -> Result<(), Fail> {
         Mount::Absent,
         Mount::Bracket(mounted(alloc, "b", 1, false)?),
     ]?;
-    let mut sources = Mounted::new(docs);
+    let mut sources = Mounted::new(docs, NoTables::new());
     let mut out = Vec::new(alloc);
     let mut holes = Vec::new(alloc);
     for s in 0..3 {

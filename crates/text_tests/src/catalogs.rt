@@ -6,12 +6,12 @@ use std::process::Abort;
 use std::test::Fail;
 
 // How many sources a text has, or why it is no catalog.
-fn count(alloc: Global, text: &[u8]) -> Result<u32, CatalogFault> {
+pub fn count(alloc: Global, text: &[u8]) -> Result<u32, CatalogFault> {
     Ok(read_catalog(alloc, text)?.len())
 }
 
 // Reads each text and compares.
-fn check(rt: &impl Abort, alloc: Global, rows: &[(&[u8], Result<u32, CatalogFault>)]) {
+pub fn check(rt: &impl Abort, alloc: Global, rows: &[(&[u8], Result<u32, CatalogFault>)]) {
     for (text, want) in rows {
         assert_eq!(rt; count(alloc, text), *want);
     }
@@ -162,7 +162,7 @@ fn sources_are_found_by_their_names(rt: HostRuntime) -> Result<(), Fail> {
     let second = catalog.spec(1);
     assert_eq!(rt; second.kind.file().bytes(), b"f".as_slice());
     assert!(rt; matches!(second.kind, SourceKind::Bracket { deep: true, .. }));
-    assert_eq!(rt; second.kind.columns().len(), 0);
+    assert_eq!(rt; second.kind.column_count(), 0);
     Ok(())
 }
 
@@ -228,9 +228,9 @@ fn a_column_stands_once(rt: HostRuntime) {
     check(&rt, rt.alloc(), &rows);
 }
 
-// A line of so many columns behind one that is called `c1`.
-fn columns(alloc: Global, count: u32) -> Result<String, AllocError> {
-    let mut text = String::from_str(alloc, "source p csv f columns c1")?;
+// A line with so many columns behind a front.
+pub fn columns(alloc: Global, front: &str, count: u32) -> Result<String, AllocError> {
+    let mut text = String::from_str(alloc, front)?;
     for number in 0..count {
         text.push_str(format!(in alloc; ",c{number}")?.as_str())?;
     }
@@ -241,13 +241,14 @@ fn columns(alloc: Global, count: u32) -> Result<String, AllocError> {
 #[test]
 fn a_source_has_at_most_200_columns(rt: HostRuntime) -> Result<(), Fail> {
     let alloc = rt.alloc();
-    assert_eq!(rt; count(alloc, columns(alloc, 1)?.as_bytes()), Ok(1));
+    let front = "source p csv f columns c1";
+    assert_eq!(rt; count(alloc, columns(alloc, front, 1)?.as_bytes()), Ok(1));
     assert_eq!(rt;
-        count(alloc, columns(alloc, 199)?.as_bytes()),
+        count(alloc, columns(alloc, front, 199)?.as_bytes()),
         Err(CatalogFault::ColumnTwice(1))
     );
     assert_eq!(rt;
-        count(alloc, columns(alloc, 200)?.as_bytes()),
+        count(alloc, columns(alloc, front, 200)?.as_bytes()),
         Err(CatalogFault::Columns(1))
     );
     Ok(())
@@ -261,8 +262,12 @@ fn columns_are_kept_in_their_order(rt: HostRuntime) -> Result<(), Fail> {
     let spec = catalog.spec(0);
     assert_eq!(rt; spec.chunk, 10);
     assert_eq!(rt; spec.kind.file().bytes(), b"f".as_slice());
+    assert_eq!(rt; spec.kind.column_count(), 3);
+    let SourceKind::Csv { columns, .. } = &spec.kind else {
+        panic!(rt; "the source is no CSV file");
+    };
     let mut names = Vec::new(alloc);
-    for column in spec.kind.columns() {
+    for column in columns.as_slice() {
         names.extend_from_slice(column.bytes())?;
         names.push(b';')?;
     }

@@ -14,6 +14,8 @@ mod rules;
 #[cfg(test)]
 mod scripts;
 #[cfg(test)]
+mod tables;
+#[cfg(test)]
 mod views;
 #[cfg(test)]
 mod words;

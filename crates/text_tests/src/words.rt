@@ -1,6 +1,6 @@
 // That the calls succeed, with values worked out by hand.
 use mix_words::lines::{cut_lines, is_passed_over};
-use mix_words::words::{cut_words, is_script_name};
+use mix_words::words::{cut_words, is_script_name, is_sql_name};
 use std::test::Fail;
 
 #[test]
@@ -18,5 +18,7 @@ fn lines_and_words_are_cut(rt: HostRuntime) -> Result<(), Fail> {
     assert!(rt; is_passed_over(b"\t# x"));
     assert!(rt; !is_passed_over(b"\tx #"));
     assert!(rt; is_script_name(b"a_9"));
+    assert!(rt; is_sql_name(b"_9"));
+    assert!(rt; !is_sql_name(b"9_"));
     Ok(())
 }

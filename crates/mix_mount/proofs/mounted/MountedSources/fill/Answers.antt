@@ -1,0 +1,21 @@
+use Rattle.std.proofs.Common.{◌≡◌, ◌∙◌, ap}
+use Rattle.std.proofs.lemmas.List.{get_or_default}
+use Rattle.std.proofs.lemmas.Result.{IfOk-weaker}
+use Rattle.mix_tree.specs.Forest.{Forest}
+use Rattle.lxp_core.specs.declared.open_tree.HoleId.{HoleId}
+use Rattle.lxp_core.specs.declared.open_tree.OpenTree.{OpenTree}
+use Rattle.lxp_core.specs.Open.{closed}
+use Rattle.lxp_core.specs.Plain.{plain}
+use Rattle.mix_mount.specs.declared.mount.Mount.TheVariants.{Absent}
+use Rattle.mix_mount.specs.Mounts.{docs_of, tables_of, mount_at, is_told, forest, forest_kept}
+use Rattle.mix_mount.proofs.mounted.MountedSources.fill.Goals as goal
+
+pub returns-clause-closes : goal.returns-clause-closes
+returns-clause-closes g c =
+    let view = g.T.Tables.view in
+    let old = view (tables_of c.args.self.now) in
+    let m = mount_at (docs_of c.args.self.now) c.args.s in
+    let is : c.index.result.now ≡ m = c.index.ensures ∙ get_or_default (docs_of c.args.self.now) c.args.s c.index.result.now Absent c.requires in
+    IfOk-weaker c.give-answer.result _ _
+    (λ list h told. ap (λ (f : HoleId → Forest). closed f (plain list.items)) (forest_kept (view c.give-answer.new.tables) old c.give-answer.ensures.keeps m) ∙ h told)
+    (rw is at c.give-answer.ensures.closes)

@@ -1,0 +1,51 @@
+use Rattle.std.proofs.Common.{◌≡◌, ◌∙◌, List, Some, SFits, w64, rules, arith, cond, map, length, nat_eq, sym, ap, subst}
+use Rattle.std.proofs.lemmas.Iterator.Adapters.{YieldsList-from_vec}
+use Rattle.std.proofs.lemmas.Iterator.Consumers.{YieldsList-end}
+use Rattle.std.proofs.lemmas.List.{length-map}
+use Rattle.std.specs.List.{AllByRecursion}
+use Rattle.std.proofs.lemmas.Int.{to_z-of_z}
+use Rattle.mix_base.proofs.Firsts.{each_snoc, map-map}
+use Rattle.lxp_core.specs.Open.{hole, nil, node, open_followed, without_holes}
+use Rattle.lxp_core.specs.Plain.{plain, put_all}
+use Rattle.table_keep.specs.declared.row.TableRow.{TableRow}
+use Rattle.table_keep.specs.Rows.{Row, row_of, rows_of}
+use Rattle.table_wrap.specs.Document.{last_key, rest_given}
+use Rattle.table_wrap.specs.declared.parts.Part.TheVariants.{Rows}
+use Rattle.table_wrap.specs.Parts.{hole_of}
+use Rattle.table_wrap.specs.Rows.{row_forest, row_tree}
+use Rattle.table_wrap.proofs.Shown.{last_more, rows_more, rows_of_more}
+use Rattle.table_wrap.proofs.document.TableDoc.give_page.Goals as goal
+
+pub rows-preserved : goal.rows-preserved
+rows-preserved c =
+    let columns = c.args.self.now.columns.items in
+    let rows = rows_of c.rows.yielded in
+    let row = row_of c.in-Some.row in
+    let old = c.rows.list.items in
+    let more = rows_of_more c.rows.yielded c.in-Some.row in
+    let fits : SFits w64 c.in-Some.row.key = search rules in
+    record {
+      given = λ rest.
+          c.in_ok-push_node.ensures rest
+          ∙ ap (λ label. put_all old (node label (plain c.in_ok-cells.field-0.items) rest)) c.in_ok-label.ensures
+          ∙ ap (λ kids. put_all old (node (row_tree columns row).label kids rest)) c.in_ok-cells.ensures
+          ∙ c.rows.invariant.given (node (row_tree columns row).label (without_holes (row_tree columns row).kids) rest)
+          ∙ sym (rows_more columns rows row rest)
+          ∙ ap (λ (rs : List Row). open_followed (without_holes (row_forest columns rs)) rest) (sym more);
+      last = ap Some (to_z-of_z w64 c.in-Some.row.key fits) ∙ sym (last_more c.args.after rows row) ∙ ap (last_key c.args.after) (sym more);
+      keys = subst (AllByRecursion (λ (r : Row). SFits w64 r.key)) (sym more) (each_snoc (λ (r : Row). SFits w64 r.key) rows row c.rows.invariant.keys fits);
+    }
+
+pub returns-clause-given : goal.returns-clause-given
+returns-clause-given c =
+    let d = c.args.self.now in
+    let rows = c.args.rows.items in
+    let start = c.into_iter-row-iterator.ensures.into_iter_gives in
+    let gone : map (λ (r : TableRow). r) c.rows.yielded ≡ c.args.rows.items = (YieldsList-end (YieldsList-from_vec c.args.rows.items start.0 (omega (arith, start.1, c.args.rows.ok.0))) c.rows.yielded c.rows.row-iterator c.rows.yielded_by c.next.result c.next.new.self c.in-None.is c.next.ensures.steps).0 in
+    let whole : rows_of c.rows.yielded ≡ rows_of c.args.rows.items = sym (map-map row_of (λ (r : TableRow). r) c.rows.yielded) ∙ ap rows_of gone in
+    let full : nat_eq c.len.result c.args.self.now.chunk ≡ nat_eq (length (rows_of c.args.rows.items)) c.args.self.now.chunk = ap (λ n. nat_eq n c.args.self.now.chunk) (omega (arith, c.len.ensures, c.args.rows.ok.0, length-map c.args.rows.items row_of)) in
+    c.in_ok-push_rest.ensures
+    ∙ ap (λ wanted. put_all c.rows.list.items (cond wanted (hole (hole_of (Rows c.rows.last)) nil) nil)) full
+    ∙ ap (λ last. put_all c.rows.list.items (cond (nat_eq (length (rows_of rows)) d.chunk) (hole (hole_of (Rows last)) nil) nil)) (c.rows.invariant.last ∙ ap (last_key c.args.after) whole)
+    ∙ c.rows.invariant.given (rest_given d c.args.after (rows_of rows))
+    ∙ ap (λ (rs : List Row). open_followed (without_holes (row_forest d.columns.items rs)) (rest_given d c.args.after (rows_of rows))) whole

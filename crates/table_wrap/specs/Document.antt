@@ -1,0 +1,142 @@
+-- What a table's document and its holes mean.
+use Rattle.std.specs.Prelude.{◌≡◌, ℕ, ◌+◌, ◌-◌, ◌*◌, ◌^◌, ◌==◌, ◌≤◌, Bool, true, false, cond, ℤ, pos, negsuc, List, [], ◌∷◌, length, Option, Some, None, IfSome, is_some, unwrap_or, refl}
+use Rattle.std.specs.List.{filter}
+use Rattle.mix_tree.specs.Forest.{Forest, none, alone}
+use Rattle.lxp_core.specs.declared.open_tree.HoleId.{HoleId}
+use Rattle.lxp_core.specs.Open.{Open, nil, node, hole, closed, weight_of, AllHoles, IsProgress, begins_with_hole, open_followed, without_holes}
+use Rattle.mix_catalog.specs.declared.column.Column.{Column}
+use Rattle.table_keep.specs.Page.{IsPageOf, first_above, is_above}
+use Rattle.table_keep.specs.Rows.{Row}
+use Rattle.table_keep.specs.Views.{Declared, TablesView}
+use Rattle.mix_catalog.specs.declared.source.SourceKind.{SourceKind}
+use Rattle.mix_catalog.specs.declared.source.SourceKind.TheVariants.{Bracket, Csv, Table}
+use Rattle.table_wrap.specs.declared.document.TableDoc.{TableDoc}
+use Rattle.table_wrap.specs.declared.parts.Part.{Part}
+use Rattle.table_wrap.specs.declared.parts.Part.TheVariants.{Name, Rows}
+use Rattle.table_wrap.specs.Parts.{hole_of, part_of}
+use Rattle.table_wrap.specs.Rows.{row_forest, table_tree}
+
+-- how many rows a page has at most
+abbrev pub chunk_of : TableDoc → ℕ
+chunk_of d = d.chunk
+
+-- the name of the source
+abbrev pub name_of : TableDoc → List ℕ
+name_of d = d.name
+
+-- the columns of a document
+abbrev pub columns_of : TableDoc → List Column
+columns_of d = d.columns.items
+
+-- the declared table of which a document's rows are asked
+abbrev pub declared_of : TableDoc → Declared
+declared_of d = record { file = d.file; table = d.table; key = d.key; columns = d.columns.items }
+
+-- whether tables tell a document's rows
+abbrev pub told : TablesView → TableDoc → Bool
+told v d = is_some (v.told (declared_of d))
+
+-- these rows, and none where they are not told
+abbrev pub rows_of : TablesView → TableDoc → List Row
+rows_of v d = unwrap_or (v.told (declared_of d)) []
+
+-- the trees of a part
+abbrev pub part_forest : List Row → TableDoc → Option Part → Forest
+part_forest rows d None = none
+part_forest rows d (Some Name) = alone (table_tree (name_of d) (columns_of d) rows)
+part_forest rows d (Some (Rows after)) = row_forest (columns_of d) (filter (λ r. is_above after r.key) rows)
+
+-- how many keys of 64 bits there are above one, where the least stands above one more
+abbrev pub room : Option ℤ → ℕ
+room None = 2 ^ 64
+room (Some (pos n)) = 2 ^ 63 - 1 - n
+room (Some (negsuc n)) = 2 ^ 63 + n
+
+-- the most nodes that a row has
+abbrev pub row_weight : TableDoc → ℕ
+row_weight d = 1 + 2 * length (columns_of d)
+
+-- the weight of a part: of rows as many rows as there are keys, and the name one more than all rows
+abbrev pub part_weight : TableDoc → Option Part → ℕ
+part_weight d None = 0
+part_weight d (Some Name) = 1 + room None * row_weight d
+part_weight d (Some (Rows after)) = room after * row_weight d
+
+-- the key of the last row, or the one before the first
+abbrev pub last_key : Option ℤ → List Row → Option ℤ
+last_key after [] = after
+last_key after (r ∷ rows) = last_key (Some r.key) rows
+
+-- the hole behind the rows of a page, where these are as many as they may be
+abbrev pub rest_given : TableDoc → Option ℤ → List Row → Open
+rest_given d after rows = cond (length rows == chunk_of d) (hole (hole_of (Rows (last_key after rows))) nil) nil
+
+-- the rows of a page behind a key, each whole, and the hole behind them
+abbrev pub rows_given : TableDoc → Option ℤ → List Row → Open
+rows_given d after rows = open_followed (without_holes (row_forest (columns_of d) rows)) (rest_given d after rows)
+
+-- the rows are the first above a key, where they are told
+abbrev pub AreFirst : TablesView → TableDoc → Option ℤ → List Row → Type 0
+AreFirst v d after rows = IfSome (v.told (declared_of d)) (λ all. rows ≡ first_above after (chunk_of d) all)
+
+-- a list that a part may be answered with: the name with the hole of all rows below it; of rows a page of them, and a hole behind them
+-- exactly where it has as many as it may
+abbrev pub IsGiven : TablesView → TableDoc → Option Part → Open → Type 0
+IsGiven v d None o = ⊥
+IsGiven v d (Some Name) o = o ≡ node (name_of d) (hole (hole_of (Rows None)) nil) nil
+IsGiven v d (Some (Rows after)) o = (rows : List Row) × IsPageOf after (chunk_of d) (columns_of d) rows × AreFirst v d after rows × (o ≡ rows_given d after rows)
+
+-- whether a part's fill asks for a page
+abbrev pub asks : Option Part → Bool
+asks None = false
+asks (Some Name) = false
+asks (Some (Rows after)) = true
+
+-- whether a document knows a hole
+abbrev pub knows : TableDoc → HoleId → Bool
+knows d h = is_some (part_of h)
+
+-- the trees that a hole stands for
+abbrev pub forest : TablesView → TableDoc → HoleId → Forest
+forest v d h = part_forest (rows_of v d) d (part_of h)
+
+-- the weight of a hole
+abbrev pub weight : TableDoc → HoleId → ℕ
+weight d h = part_weight d (part_of h)
+
+-- the hole of the root
+abbrev pub root_hole : TableDoc → HoleId
+root_hole d = hole_of Name
+
+-- the whole document
+abbrev pub document : TablesView → TableDoc → Forest
+document v d = forest v d (root_hole d)
+
+-- the hole of the root is known
+pub root_known : (d : TableDoc) → knows d (root_hole d) ≡ true
+root_known d = refl
+
+-- the document is the table's: the name, and below it its rows
+pub document_is_table : (v : TablesView) (d : TableDoc) → document v d ≡ alone (table_tree (name_of d) (columns_of d) (rows_of v d))
+document_is_table v d = refl
+
+-- what the list promises with which a part is answered
+pub record IsAnswer (v : TablesView) (d : TableDoc) (p : Option Part) (o : Open) : Type 0 where
+  pub list : IsGiven v d p o
+  pub closes : told v d ≡ true → closed (forest v d) o ≡ part_forest (rows_of v d) d p
+  pub progress : IsProgress o
+  pub known : AllHoles (knows d) o
+  pub lighter : weight_of (weight d) o ≤ part_weight d p
+  pub forward : begins_with_hole o ≡ false
+
+-- a source is a table
+abbrev pub is_table_of : SourceKind → Bool
+is_table_of (Bracket file deep) = false
+is_table_of (Csv file columns) = false
+is_table_of (Table file table key columns) = true
+
+-- the table that a source declares, where it is one
+abbrev pub declared_in : SourceKind → Option Declared
+declared_in (Bracket file deep) = None
+declared_in (Csv file columns) = None
+declared_in (Table file table key columns) = Some (record { file = file; table = table; key = key; columns = columns })

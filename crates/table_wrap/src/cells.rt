@@ -1,0 +1,93 @@
+// The nodes of a row's cells.
+ghost use Rattle.std.specs.Prelude.{◌≡◌, ◌∷◌, IfOk, OnOk};
+ghost use Rattle.std.specs.Fmt.{signed_decimal};
+ghost use Rattle.hex.specs.Hex.{encode_lower};
+ghost use Rattle.lxp_core.specs.Open.{Open, node, without_holes};
+ghost use Rattle.lxp_core.specs.Plain.{plain, put_all};
+ghost use Rattle.table_keep.specs.Rows.{value_of};
+ghost use Rattle.table_wrap.specs.Rows.{label_of, leaf};
+
+use lxp_core::OpenTree;
+use mix_catalog::Column;
+use mix_tree::Label;
+use std::alloc::{AllocError, Global};
+use table_keep::Cell;
+
+// The label of a number.
+fn decimal_label(alloc: Global, number: i64) -> Result<Label, AllocError>
+    ensures { IfOk result (λ label. label ≡ signed_decimal number) }
+{
+    let digits = number.to_string(alloc)?;
+    Label::of_text(alloc, digits.as_str().as_bytes())
+}
+
+// The label of bytes.
+fn hex_label(alloc: Global, bytes: Vec<u8>) -> Result<Label, AllocError>
+    ensures { IfOk result (λ label. label ≡ encode_lower bytes.items) }
+{
+    let digits = hex::encode(alloc, bytes)?;
+    Label::of_text(alloc, digits.as_str().as_bytes())
+}
+
+// The label of a cell, where it has one.
+fn label_of(alloc: Global, cell: Cell) -> Result<Option<Label>, AllocError>
+    ensures { IfOk result (λ label. label ≡ label_of (value_of cell)) }
+{
+    match cell {
+        Cell::Null => Ok(None),
+        Cell::Int(number) => Ok(Some(decimal_label(alloc, number)?)),
+        Cell::Text(text) => Ok(Some(text)),
+        Cell::Bytes(bytes) => Ok(Some(hex_label(alloc, bytes)?)),
+    }
+}
+
+/// Puts a node behind a list, above a list of its own.
+pub fn push_node(
+    list: &mut Vec<OpenTree>,
+    label: Label,
+    kids: Vec<OpenTree>,
+) -> Result<(), AllocError>
+    ensures { OnOk result ((rest : Open) → put_all list.new.items rest
+        ≡ put_all list.old.items (node label (plain kids.items) rest)) }
+{
+    list.push(OpenTree::Node { label, kids })?;
+    Ok(())
+}
+
+// The label of a cell alone, where it has one.
+fn leaf(alloc: Global, cell: Cell) -> Result<Vec<OpenTree>, AllocError>
+    ensures { IfOk result (λ list. plain list.items ≡ without_holes (leaf (label_of (value_of cell)))) }
+{
+    let mut list = Vec::new(alloc);
+    if let Some(label) = label_of(alloc, cell)? {
+        push_node(&mut list, label, Vec::new(alloc))?;
+    }
+    Ok(list)
+}
+
+/// Puts a column of a row behind a list, with the label of its cell below it.
+pub fn push_cell(
+    alloc: Global,
+    list: &mut Vec<OpenTree>,
+    column: &Column,
+    cell: Cell,
+) -> Result<(), AllocError>
+    ensures { OnOk result ((rest : Open) → put_all list.new.items rest
+        ≡ put_all list.old.items (node column.now.name (without_holes (leaf (label_of (value_of cell)))) rest)) }
+{
+    let below = leaf(alloc, cell)?;
+    push_node(list, column.name.copy(alloc)?, below)
+}
+
+/// Columns, once more.
+pub fn copy_columns(alloc: Global, columns: &[Column]) -> Result<Vec<Column>, AllocError>
+    ensures { IfOk result (λ copies. copies.items ≡ columns.now) }
+{
+    let mut copies = Vec::new(alloc);
+    'columns: for column in columns {
+        let never_null = column.never_null;
+        let name = column.name.copy(alloc)?;
+        copies.push(Column { name, never_null })?;
+    }
+    Ok(copies)
+}

@@ -1,0 +1,193 @@
+// Documents of tables, given a page at a time.
+ghost use Rattle.std.specs.Prelude.{◌≡◌, ◌≤◌};
+ghost use Rattle.table_wrap.specs.Faults.{fault_of};
+
+use crate::cells::copy_columns;
+use crate::parts::Part;
+use lxp_core::{HoleId, OpenTree, SourceFault};
+use mix_catalog::{Column, SourceKind, SourceSpec};
+use mix_tree::Label;
+use std::alloc::{AllocError, Global};
+use table_keep::{PageAsk, PageFault, TableRow, Tables};
+
+/// The document of a table, which is given a page of rows at a time (docs/FORMATS.md, "Tables").
+///
+/// The root's hole stands for the source's name. Its list is the name, with one hole below it, and asks for no page. A hole for rows
+/// asks for one page of them; its list has these rows, each whole, and behind them one hole exactly where they are as many as a page
+/// may have. No list begins with a hole. Nothing of the rows is kept.
+#[derive(Drop)]
+pub struct TableDoc {
+    pub(crate) name: Label,
+    pub(crate) file: Label,
+    pub(crate) table: Label,
+    pub(crate) key: Label,
+    pub(crate) columns: Vec<Column>,
+    pub(crate) chunk: u32,
+    ghost some: { 1 ≤ chunk },
+}
+
+// What a page that is not given means for a source.
+fn source_fault(fault: PageFault) -> SourceFault
+    ensures { result ≡ fault_of fault }
+{
+    match fault {
+        PageFault::Failed => SourceFault::Failed,
+        PageFault::OutOfMemory => SourceFault::OutOfMemory,
+    }
+}
+
+impl TableDoc {
+    ghost use Rattle.std.specs.Prelude.{◌≡◌, ◌+◌, Some, None, true, false, IfOk, OnOk, IsErrOf};
+    ghost use Rattle.mix_base.specs.Counts.{HasRisen};
+    ghost use Rattle.lxp_core.specs.Open.{closed, weight_of, AllHoles, IsProgress, begins_with_hole};
+    ghost use Rattle.lxp_core.specs.Plain.{plain};
+    ghost use Rattle.table_keep.specs.Page.{IsPageOf, first_above};
+    ghost use Rattle.table_keep.specs.Rows.{rows_of as plain_rows};
+    ghost use Rattle.table_keep.specs.Views.{KeepsTables};
+    ghost use Rattle.table_wrap.specs.Document.{AreFirst, IsAnswer, IsGiven, asks, chunk_of, columns_of, declared_in, declared_of, forest, is_table_of, knows, name_of, root_hole, told, weight};
+    ghost use Rattle.table_wrap.specs.Parts.{part_of};
+    ghost use Rattle.table_wrap.specs.declared.parts.Part.TheVariants.{Rows};
+
+    /// The document of a table that a catalog declares, which is to be given `chunk` rows at a time. A chunk is 1 to 1,000.
+    pub fn open(alloc: Global, spec: &SourceSpec) -> Result<TableDoc, AllocError>
+        requires table { is_table_of spec.now.kind ≡ true }
+        requires some { 1 ≤ spec.now.chunk }
+        requires few { spec.now.chunk ≤ 1000 }
+        ensures name { IfOk result (λ d. name_of d ≡ spec.now.name) }
+        ensures chunk { IfOk result (λ d. chunk_of d ≡ spec.now.chunk) }
+        ensures declared { IfOk result (λ d. declared_in spec.now.kind ≡ Some (declared_of d)) }
+    {
+        let SourceKind::Table {
+            file,
+            table,
+            key,
+            columns,
+        } = &spec.kind
+        else {
+            return Err(AllocError);
+        };
+        Ok(TableDoc {
+            name: spec.name.copy(alloc)?,
+            file: file.copy(alloc)?,
+            table: table.copy(alloc)?,
+            key: key.copy(alloc)?,
+            columns: copy_columns(alloc, columns.as_slice())?,
+            chunk: spec.chunk,
+        })
+    }
+
+    /// The hole that stands for the root.
+    pub fn root_hole(&self) -> HoleId
+        ensures { result ≡ root_hole self.now }
+    {
+        Part::Name.hole()
+    }
+
+    // The page of rows above a key.
+    fn page<T: Tables>(
+        &self,
+        alloc: Global,
+        t: &mut T,
+        after: Option<i64>,
+    ) -> Result<Vec<TableRow>, SourceFault>
+        ensures keeps { KeepsTables (T.view t.new) (T.view t.old) }
+        ensures page { IfOk result (λ rows. IsPageOf after (chunk_of self.now) (columns_of self.now) (plain_rows rows.items)) }
+        ensures first { IfOk result (λ rows. AreFirst (T.view t.old) self.now after (plain_rows rows.items)) }
+        ensures at_most_one { (T.view t.new).pages ≤ (T.view t.old).pages + 1 }
+        ensures counted { OnOk result (HasRisen (T.view t.old).pages (T.view t.new).pages) }
+        ensures counted_failed { IsErrOf result SourceFault.Failed → HasRisen (T.view t.old).pages (T.view t.new).pages }
+        ensures failed { IsErrOf result SourceFault.Failed
+            → HasRisen ((T.view t.old).faults (declared_of self.now)) ((T.view t.new).faults (declared_of self.now)) }
+        ensures known { ¬ IsErrOf result SourceFault.UnknownHole }
+    {
+        let ask = PageAsk {
+            file: &self.file,
+            table: &self.table,
+            key: &self.key,
+            columns: &self.columns,
+            after,
+            limit: self.chunk,
+        };
+        match t.page(alloc, &ask) {
+            Ok(rows) => Ok(rows),
+            Err(fault) => Err(source_fault(fault)),
+        }
+    }
+
+    // The list of the rows above a key.
+    fn give_rows<T: Tables>(
+        &self,
+        alloc: Global,
+        t: &mut T,
+        after: Option<i64>,
+    ) -> Result<Vec<OpenTree>, SourceFault>
+        ensures keeps { KeepsTables (T.view t.new) (T.view t.old) }
+        ensures answer { IfOk result (λ list. IsAnswer (T.view t.old) self.now (Some (Rows after)) (plain list.items)) }
+        ensures at_most_one { (T.view t.new).pages ≤ (T.view t.old).pages + 1 }
+        ensures counted { OnOk result (HasRisen (T.view t.old).pages (T.view t.new).pages) }
+        ensures counted_failed { IsErrOf result SourceFault.Failed → HasRisen (T.view t.old).pages (T.view t.new).pages }
+        ensures failed { IsErrOf result SourceFault.Failed
+            → HasRisen ((T.view t.old).faults (declared_of self.now)) ((T.view t.new).faults (declared_of self.now)) }
+        ensures known { ¬ IsErrOf result SourceFault.UnknownHole }
+    {
+        let rows = self.page(alloc, t, after)?;
+        Ok(self.give_page(alloc, after, rows)?)
+    }
+
+    // The list of a part.
+    fn give<T: Tables>(
+        &self,
+        alloc: Global,
+        t: &mut T,
+        part: Part,
+    ) -> Result<Vec<OpenTree>, SourceFault>
+        ensures keeps { KeepsTables (T.view t.new) (T.view t.old) }
+        ensures answer { IfOk result (λ list. IsAnswer (T.view t.old) self.now (Some part) (plain list.items)) }
+        ensures untouched { asks (Some part) ≡ false → t.new ≡ t.old }
+        ensures at_most_one { (T.view t.new).pages ≤ (T.view t.old).pages + 1 }
+        ensures counted { asks (Some part) ≡ true → OnOk result (HasRisen (T.view t.old).pages (T.view t.new).pages) }
+        ensures counted_failed { IsErrOf result SourceFault.Failed → HasRisen (T.view t.old).pages (T.view t.new).pages }
+        ensures failed { IsErrOf result SourceFault.Failed
+            → HasRisen ((T.view t.old).faults (declared_of self.now)) ((T.view t.new).faults (declared_of self.now)) }
+        ensures known { ¬ IsErrOf result SourceFault.UnknownHole }
+    {
+        match part {
+            Part::Name => Ok(self.give_name(alloc)?),
+            Part::Rows(after) => self.give_rows(alloc, t, after),
+        }
+    }
+
+    /// The list of a hole. `Failed`: the page of rows could not be read, and the count of faults of the declared table rose; the same
+    /// hole may be asked for again. `UnknownHole`: the document doesn't know the hole.
+    pub fn fill<T: Tables>(
+        &self,
+        alloc: Global,
+        t: &mut T,
+        hole: HoleId,
+    ) -> Result<Vec<OpenTree>, SourceFault>
+        ensures keeps { KeepsTables (T.view t.new) (T.view t.old) }
+        ensures list { IfOk result (λ list. IsGiven (T.view t.old) self.now (part_of hole) (plain list.items)) }
+        // What the answer promises.
+        ensures closes { IfOk result (λ list. told (T.view t.old) self.now ≡ true
+            → closed (forest (T.view t.old) self.now) (plain list.items) ≡ forest (T.view t.old) self.now hole) }
+        ensures progress { IfOk result (λ list. IsProgress (plain list.items)) }
+        ensures known { IfOk result (λ list. AllHoles (knows self.now) (plain list.items)) }
+        ensures lighter { IfOk result (λ list. weight_of (weight self.now) (plain list.items) ≤ weight self.now hole) }
+        ensures forward { IfOk result (λ list. begins_with_hole (plain list.items) ≡ false) }
+        // The pages: a hole of rows asks for one, and no other hole touches the tables.
+        ensures untouched { asks (part_of hole) ≡ false → t.new ≡ t.old }
+        ensures at_most_one { (T.view t.new).pages ≤ (T.view t.old).pages + 1 }
+        ensures counted { asks (part_of hole) ≡ true → OnOk result (HasRisen (T.view t.old).pages (T.view t.new).pages) }
+        ensures counted_failed { IsErrOf result SourceFault.Failed → HasRisen (T.view t.old).pages (T.view t.new).pages }
+        // The causes.
+        ensures failed { IsErrOf result SourceFault.Failed
+            → HasRisen ((T.view t.old).faults (declared_of self.now)) ((T.view t.new).faults (declared_of self.now)) }
+        ensures unknown { IsErrOf result SourceFault.UnknownHole → knows self.now hole ≡ false }
+        ensures only_unknown { knows self.now hole ≡ false → IsErrOf result SourceFault.UnknownHole }
+    {
+        let Some(part) = Part::of_hole(hole) else {
+            return Err(SourceFault::UnknownHole);
+        };
+        self.give(alloc, t, part)
+    }
+}

@@ -1,0 +1,84 @@
+// The lists with which a table's document answers.
+ghost use Rattle.std.specs.Prelude.{◌≡◌, cond, IfOk, OnOk, None, map, FitsSigned};
+ghost use Rattle.std.specs.Int.{w64};
+ghost use Rattle.std.specs.List.{AllByRecursion};
+ghost use Rattle.mix_tree.specs.Forest.{forest_of};
+ghost use Rattle.lxp_core.specs.Open.{node, hole, nil, without_holes};
+ghost use Rattle.lxp_core.specs.Plain.{plain, put_all};
+ghost use Rattle.table_keep.specs.Rows.{rows_of, value_of};
+ghost use Rattle.table_wrap.specs.Document.{columns_of, name_of, rows_given};
+ghost use Rattle.table_wrap.specs.declared.parts.Part.TheVariants.{Rows};
+ghost use Rattle.table_wrap.specs.Parts.{hole_of};
+ghost use Rattle.table_wrap.specs.Rows.{cells};
+
+use crate::TableDoc;
+use crate::cells::{push_cell, push_node};
+use crate::parts::Part;
+use lxp_core::OpenTree;
+use mix_tree::Label;
+use std::alloc::{AllocError, Global};
+use table_keep::{Cell, TableRow};
+
+// Puts the hole of the rows above a key behind a list, where it is wanted.
+fn push_rest(list: &mut Vec<OpenTree>, wanted: bool, last: Option<i64>) -> Result<(), AllocError>
+    ensures { OnOk result (plain list.new.items
+        ≡ put_all list.old.items (cond wanted (hole (hole_of (Rows last)) nil) nil)) }
+{
+    if wanted {
+        list.push(OpenTree::Hole(Part::Rows(last).hole()))?;
+    }
+    Ok(())
+}
+
+impl TableDoc {
+    // The columns of a row, each with the label of its cell below it.
+    fn cells(&self, alloc: Global, found: Vec<Cell>) -> Result<Vec<OpenTree>, AllocError>
+        ensures { IfOk result (λ list. plain list.items
+            ≡ without_holes (forest_of (cells (columns_of self.now) (map value_of found.items)))) }
+    {
+        let mut list = Vec::new(alloc);
+        let mut rest = found.into_iter();
+        'columns: for column in &self.columns {
+            let Some(cell) = rest.next() else {
+                return Ok(list);
+            };
+            push_cell(alloc, &mut list, column, cell)?;
+        }
+        Ok(list)
+    }
+
+    /// The name, with the hole of all rows below it.
+    pub(crate) fn give_name(&self, alloc: Global) -> Result<Vec<OpenTree>, AllocError>
+        ensures { IfOk result (λ list. plain list.items ≡ node (name_of self.now) (hole (hole_of (Rows None)) nil) nil) }
+    {
+        let mut kids = Vec::new(alloc);
+        kids.push(OpenTree::Hole(Part::Rows(None).hole()))?;
+        let mut list = Vec::new(alloc);
+        push_node(&mut list, self.name.copy(alloc)?, kids)?;
+        Ok(list)
+    }
+
+    /// The rows of a page behind a key, each whole, and a hole behind them where there are as many as may be.
+    pub(crate) fn give_page(
+        &self,
+        alloc: Global,
+        after: Option<i64>,
+        rows: Vec<TableRow>,
+    ) -> Result<Vec<OpenTree>, AllocError>
+        ensures given { IfOk result (λ list. plain list.items ≡ rows_given self.now after (rows_of rows.items)) }
+        // Each key is one of 64 bits.
+        ensures keys { IfOk result (λ _. AllByRecursion (λ r. FitsSigned w64 r.key) (rows_of rows.items)) }
+    {
+        let full = rows.len() == self.chunk as usize;
+        let mut last = after;
+        let mut list = Vec::new(alloc);
+        'rows: for row in rows {
+            let TableRow { key, cells } = row;
+            last = Some(key);
+            let label = Label::of_text(alloc, b"row")?;
+            push_node(&mut list, label, self.cells(alloc, cells)?)?;
+        }
+        push_rest(&mut list, full, last)?;
+        Ok(list)
+    }
+}

@@ -1,0 +1,9 @@
+//! Documents of tables: the rows of a table as a source, asked for page by page.
+#![tactic(auto)]
+
+mod cells;
+mod document;
+mod giving;
+mod parts;
+
+pub use document::TableDoc;
