@@ -1,0 +1,46 @@
+-- How the documents of a catalog's sources are laid out.
+use Rattle.std.specs.Prelude.{ℕ, true, cond, List, map, Option, Some, None, slice_get}
+use Rattle.mix_catalog.specs.declared.column.Column.{Column}
+use Rattle.mix_catalog.specs.declared.source.SourceKind.{SourceKind}
+use Rattle.mix_catalog.specs.declared.source.SourceKind.TheVariants.{Bracket, Csv, Table}
+use Rattle.mix_catalog.specs.declared.source.SourceSpec.{SourceSpec}
+use Rattle.browse_visit.specs.declared.visit.TableColumn.{TableColumn}
+use Rattle.browse_visit.specs.Layouts.{Layout, no_trees, a_tree, any_rows, any_trees}
+use Rattle.browse_visit.specs.Shapes.{row_label, row_of}
+use Rattle.xmas_rule.specs.Rules.{RuleValue}
+use Rattle.view_class.specs.Named.{names_source}
+
+-- a column of a CSV file: each row has a value in it, be it the empty text
+abbrev pub field_column : List ℕ → TableColumn
+field_column name = record { label = name; has_value = true }
+
+-- a column of a table: each row has a value in it where it is never NULL
+abbrev pub declared_column : Column → TableColumn
+declared_column column = record { label = column.name; has_value = column.never_null }
+
+-- a root of this name, and below it any number of rows with these columns
+abbrev pub rows_layout : List ℕ → List TableColumn → Layout
+rows_layout name columns = a_tree name (any_rows row_label (row_of columns)) no_trees
+
+-- the documents of a source of this name and kind: of bracket text nothing is known
+abbrev pub kind_layout : List ℕ → SourceKind → Layout
+kind_layout name (Bracket file deep) = any_trees
+kind_layout name (Csv file columns) = rows_layout name (map field_column columns)
+kind_layout name (Table file table key columns) = rows_layout name (map declared_column columns)
+
+-- the documents of a source
+abbrev pub spec_layout : SourceSpec → Layout
+spec_layout spec = kind_layout spec.name spec.kind
+
+-- what stands behind the number of a source for a rule: of a source that it doesn't name nothing is known
+abbrev pub layout_for : RuleValue → ℕ → SourceSpec → Layout
+layout_for v s spec = cond (names_source v s) (spec_layout spec) any_trees
+
+-- so behind a number, where there is a source of it
+abbrev pub layout_there : RuleValue → ℕ → Option SourceSpec → Layout
+layout_there v s None = any_trees
+layout_there v s (Some spec) = layout_for v s spec
+
+-- so behind each number of a catalog
+abbrev pub layout_in : RuleValue → List SourceSpec → ℕ → Layout
+layout_in v sources s = layout_there v s (slice_get sources s)

@@ -1,0 +1,4 @@
+pub mod Laid
+pub mod Layouts
+pub mod Lines
+pub mod Named
