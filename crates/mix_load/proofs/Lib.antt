@@ -4,3 +4,4 @@ mod Lines
 mod Named
 mod Opened
 mod Visiting
+pub mod Shapes

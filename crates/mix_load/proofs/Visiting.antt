@@ -6,7 +6,9 @@ use Rattle.mix_base.specs.Counts.{HasRisenBy}
 use Rattle.mix_tree.specs.Forest.{LabelledTree}
 use Rattle.mix_tree.specs.Place.{tree_at}
 use Rattle.bracket_text.specs.Canonical.{canon}
-use Rattle.mix_mount.specs.Mounts.{mounted_view}
+use Rattle.mix_mount.specs.Mounts.{CameFrom, IsAlone, mounted_in, view_of}
+use Rattle.mix_mount.proofs.Laws.{alone_kept, alone_unfailed}
+use Rattle.table_keep.specs.Untold.{no_tables_view}
 use Rattle.lazy_value.specs.declared.ids.NodeId.{NodeId}
 use Rattle.mix_script.specs.Names.{NamesOf, held, no_names}
 use Rattle.mix_script.specs.Allowed.{mark_of, faults_of}
@@ -22,35 +24,40 @@ use Rattle.mix_load.specs.declared.visit.Visitor.{Visitor}
 use Rattle.mix_load.specs.Visit.{meaning_of, IsOn, HoldsRoot}
 
 -- an answer over sources that never fail is no fault
-no_fault : (a : Answer) → ((s : ℕ) → HasRisenBy (faults_of s (a ∷ [])) 0 0) → mark_of a ≡ None
-no_fault answer.Node h = refl
-no_fault answer.None h = refl
-no_fault (answer.Label l) h = refl
-no_fault (answer.Text x) h = refl
-no_fault answer.NoNode h = refl
-no_fault (answer.Fault s) h =
+no_fault : (a : Answer) (before after : ℕ → ℕ) → ((s : ℕ) → HasRisenBy (faults_of s (a ∷ [])) (before s) (after s)) → ((s : ℕ) → after s ≡ 0) → mark_of a ≡ None
+no_fault answer.Node before after h none = refl
+no_fault answer.None before after h none = refl
+no_fault (answer.Label l) before after h none = refl
+no_fault (answer.Text x) before after h none = refl
+no_fault answer.NoNode before after h none = refl
+no_fault (answer.Fault s) before after h none =
     let one : faults_of s (answer.Fault s ∷ []) ≡ 1 = ap (λ b. cond b 1 0 + 0) (eq-eqb s s refl) in
-    absurd (omega (arith, h s, one))
+    let rose = h s in
+    let still = none s in
+    absurd (omega (arith, rose, one, still))
 
 -- a visitor whose names hold nothing yet is on the tree that its session walks
 pub begun : (t : LabelledTree) (visitor : Visitor) → IsSession (meaning_of visitor) (held visitor.session.names) → held visitor.session.names ≡ no_names → (meaning_of visitor).course.IsDocument t
-    → IsOn t no_names visitor
-begun t visitor session none document = record {
+    → (people : LabelledTree) × IsAlone (mounted_in no_tables_view visitor.sources) people → IsOn t no_names visitor
+begun t visitor session none document alone = record {
   session = session;
   document = document;
   hold = subst (λ (values : NamesOf NodeId). HoldPlaces (meaning_of visitor) values no_names) (sym none) (λ client name. tt);
+  alone = alone;
 }
 
 -- a command of the client without a name was answered as on the tree
-pub taken : (old new : Visitor) (client : List ℕ) (act : Act) (a : Answer) → client ≡ []
-    → Stepped (meaning_of old) (meaning_of new) (mounted_view old.sources) (mounted_view new.sources) (held old.session.names) (held new.session.names) client act (Ok a)
+pub taken : (old new : Visitor) (client : List ℕ) (act : Act) (a : Answer) → client ≡ [] → CameFrom (mounted_in no_tables_view new.sources) (mounted_in no_tables_view old.sources)
+    → Stepped (meaning_of old) (meaning_of new) (view_of (mounted_in no_tables_view old.sources)) (view_of (mounted_in no_tables_view new.sources)) (held old.session.names) (held new.session.names) client act (Ok a)
     → (t : LabelledTree) (places : Names) → IsOn t places old → (a ≡ answer_of t places None [] act) × IsOn t (names_after t places [] act a) new
-taken old new client act a none step t places on =
+taken old new client act a none came step t places on =
+    let people : LabelledTree = on.alone.0 in
+    let kept = alone_kept (mounted_in no_tables_view old.sources) people on.alone.1 (mounted_in no_tables_view new.sources) came in
     let told = step.answer.told t on.document places on.hold in
-    let mark : mark_of a ≡ None = no_fault a step.answer.counted in
+    let mark : mark_of a ≡ None = no_fault a _ _ step.answer.counted (alone_unfailed (mounted_in no_tables_view new.sources) people kept) in
     subst (λ c. (a ≡ answer_of t places None c act) × IsOn t (names_after t places c act a) new) none (
       subst (λ (m : Option ℕ). a ≡ answer_of t places m client act) mark told.0,
-      record { session = step.session; document = step.stays.course.document t on.document; hold = told.1 },
+      record { session = step.session; document = step.stays.course.document t on.document; hold = told.1; alone = (people, kept) },
     )
 
 module _ (t : LabelledTree) (places : Names) (new : Visitor) where

@@ -1,3 +1,4 @@
+pub mod Classing
 pub mod Parts
 pub mod People
 pub mod View

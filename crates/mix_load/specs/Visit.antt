@@ -4,7 +4,7 @@ use Rattle.mix_tree.specs.Forest.{LabelledTree, none, alone}
 use Rattle.mix_tree.specs.Nodes.{Documents}
 use Rattle.mix_tree.specs.Weight.{tree_nodes}
 use Rattle.bracket_text.specs.Canonical.{canon}
-use Rattle.mix_mount.specs.Mounts.{mounted_view}
+use Rattle.mix_mount.specs.Mounts.{IsAlone, mounted_in, view_of}
 use Rattle.xmas_rule.specs.Meaning.{IsFinished}
 use Rattle.lazy_value.specs.declared.ids.NodeId.{NodeId}
 use Rattle.mix_script.specs.Names.{held}
@@ -12,6 +12,7 @@ use Rattle.mix_script.specs.Transcript.{Names}
 use Rattle.mix_session.specs.Held.{IsSession, HoldPlaces}
 use Rattle.mix_session.specs.Meaning.{Meaning}
 use Rattle.mix_session.specs.Walks.{plan_meaning}
+use Rattle.table_keep.specs.Untold.{no_tables_view}
 use Rattle.mix_load.specs.People.{people_tree}
 use Rattle.mix_load.specs.View.{names_rule}
 use Rattle.mix_load.specs.declared.visit.Visit.{Visit}
@@ -37,13 +38,14 @@ pub record IsVisit (count : ℕ) (visit : Visit) : Type 0 where
 
 -- what the visitor's session walks
 abbrev pub meaning_of : Visitor → Meaning NodeId (List ℕ)
-meaning_of visitor = plan_meaning (mounted_view visitor.sources) visitor.session.walker
+meaning_of visitor = plan_meaning (view_of (mounted_in no_tables_view visitor.sources)) visitor.session.walker
 
--- the visitor walks this tree, and the names hold these places
+-- the visitor walks this tree, the names hold these places, and a document in memory is the only source
 pub record IsOn (t : LabelledTree) (places : Names) (visitor : Visitor) : Type 0 where
   pub session : IsSession (meaning_of visitor) (held visitor.session.names)
   pub document : (meaning_of visitor).course.IsDocument t
   pub hold : HoldPlaces (meaning_of visitor) (held visitor.session.names) places
+  pub alone : (people : LabelledTree) × IsAlone (mounted_in no_tables_view visitor.sources) people
 
 -- the visitor walks this tree, and the name r holds its root
 pub record HoldsRoot (t : LabelledTree) (visitor : Visitor) : Type 0 where

@@ -1,6 +1,7 @@
 // The visit of many people: the view of their names, walked from the first to the last and printed, by the commands of a session.
 ghost use Rattle.std.specs.Prelude.{◌≡◌, List, [], ℕ, IfOk};
-ghost use Rattle.mix_mount.specs.Mounts.{IsAlone};
+ghost use Rattle.mix_mount.specs.Mounts.{IsAlone, mounted_in};
+ghost use Rattle.table_keep.specs.Untold.{no_tables_view};
 ghost use Rattle.mix_script.specs.declared.answer.Answer.TheVariants as answers;
 ghost use Rattle.mix_load.specs.People.{people_tree};
 ghost use Rattle.mix_load.specs.Visit.{IsVisit};
@@ -15,6 +16,7 @@ use mix_session::Session;
 use plan_core::visited_are_matches;
 use plan_make::make_plan;
 use std::alloc::{AllocError, Global};
+use table_keep::NoTables;
 
 /// What a visit of many people comes to.
 #[derive(Clone, Copy, Debug)]
@@ -30,17 +32,17 @@ pub struct Visit {
 /// Who walks the names of people: a session, its sources, and how many commands it has answered.
 #[derive(Drop)]
 pub struct Visitor {
-    sources: Mounted,
+    sources: Mounted<NoTables>,
     session: Session<Mediator>,
     commands: u64,
 }
 
 // The document of so many people as the only source.
-fn mount_people(alloc: Global, count: u32) -> Result<Mounted, AllocError>
-    ensures { IfOk result (λ sources. IsAlone sources (people_tree count)) }
+fn mount_people(alloc: Global, count: u32) -> Result<Mounted<NoTables>, AllocError>
+    ensures { IfOk result (λ sources. IsAlone (mounted_in no_tables_view sources) (people_tree count)) }
 {
     match people_document(alloc, count) {
-        Ok(doc) => Ok(Mounted::new(vec![in alloc; Mount::Csv(doc)]?)),
+        Ok(doc) => Ok(Mounted::new(vec![in alloc; Mount::Csv(doc)]?, NoTables::new())),
         Err(_) => Err(AllocError),
     }
 }

@@ -10,6 +10,7 @@ use Rattle.mix_script.specs.Transcript.{Names, answer_of, names_after}
 use Rattle.mix_script.specs.Allowed.{Nodes, MayAnswer, nodes_after, mark_of, faults_of}
 use Rattle.mix_script.specs.declared.step.Act.{Act}
 use Rattle.mix_script.specs.declared.step.Act.TheVariants.{Root, Move, Select, Fetch, Print}
+use Rattle.mix_script.specs.declared.step.Way.{Way}
 use Rattle.mix_script.specs.declared.answer.Answer.{Answer}
 use Rattle.mix_script.specs.declared.answer.Answer.TheVariants as answer
 use Rattle.mix_session.specs.Meaning.{Course, Meaning, Stays}
@@ -46,13 +47,17 @@ act_toll c xs client (Select name from label) = 0
 act_toll c xs client (Fetch from) = 0
 act_toll c xs client (Print from) = 0
 
--- the toll of a client's act on a tree that is the document, where names hold these places
+-- the toll of a client's act on a tree, where names hold these places; the toll of the root and those of ways from places are given
+abbrev pub act_toll_by : ℕ → (Way → List ℕ → ℕ) → LabelledTree → Names → List ℕ → Act → ℕ
+act_toll_by root toll t places client (Root name) = root
+act_toll_by root toll t places client (Move way name from) = toll_from (toll way) (places client from)
+act_toll_by root toll t places client (Select name from label) = toll_from (select_toll toll t label) (places client from)
+act_toll_by root toll t places client (Fetch from) = 0
+act_toll_by root toll t places client (Print from) = toll_from (print_toll toll t) (places client from)
+
+-- so on a tree that is the document
 abbrev pub tree_toll : {W : Type 0} → Course W → LabelledTree → Names → List ℕ → Act → ℕ
-tree_toll c t places client (Root name) = c.root_toll
-tree_toll c t places client (Move way name from) = toll_from (place_toll c way) (places client from)
-tree_toll c t places client (Select name from label) = toll_from (select_toll (place_toll c) t label) (places client from)
-tree_toll c t places client (Fetch from) = 0
-tree_toll c t places client (Print from) = toll_from (print_toll (place_toll c) t) (places client from)
+tree_toll c = act_toll_by c.root_toll (place_toll c)
 
 -- an act of at most one way asked at most its toll
 abbrev pub IsTolled : {V W : Type 0} → Meaning V W → ℕ → ℕ → NamesOf V → List ℕ → Act → Type 0

@@ -8,7 +8,7 @@ use Rattle.tree_buffer.specs.declared.spot.Spot.{Spot}
 use Rattle.tree_buffer.specs.Buffer.{IsSpot, IsSourcesOf, Goes, number_of, place_of, below, after}
 use Rattle.plan_core.specs.Plans.{Operator}
 use Rattle.lazy_plan.specs.Bench.{BenchState, KeepsBench, ops_of, told, forward, documents}
-use Rattle.lazy_plan.specs.Cursors.{IsRead}
+use Rattle.lazy_binding.specs.Cursors.{IsRead}
 use Rattle.lazy_value.specs.declared.ids.NodeId.{NodeId}
 use Rattle.lazy_value.specs.declared.mediator.Mediator.{Mediator}
 use Rattle.lazy_value.specs.Places.{IsNode, IsAt, plan_document, down_toll, right_toll}

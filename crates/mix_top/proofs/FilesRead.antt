@@ -41,7 +41,7 @@ view_reads old mid new view catalog sources accepted first second =
 
 -- the sources before a number were mounted, so their files are accepted
 pub mounted_accepted : (files : FilesView) (v : RuleValue) (sources : List SourceSpec) (n : ℕ) (docs : List Mount) → AreMountedTo files v sources n docs → AreAccepted files v sources n
-mounted_accepted files v sources n docs h = λ k before less at is. let f = (h.each k before less at).named is in (f.tree, f.document_is)
+mounted_accepted files v sources n docs h = λ k before less at is file. let f = ((h.each k before less at).named is).file file in (f.tree, f.document_is)
 
 -- the file of one source more was read, where the rule names it
 pub source_reads : (old mid new : FilesView) (v : RuleValue) (sources : List SourceSpec) (n : ℕ) (docs : List Mount) (spec : SourceSpec) → AreMountedTo old v sources n docs
@@ -53,8 +53,8 @@ source_reads old mid new v sources n docs spec h there before now =
 
 -- what is accepted later was accepted before
 accepted_before : (old mid : FilesView) (v : RuleValue) (sources : List SourceSpec) (n : ℕ) → KeepsFiles mid old → AreAccepted mid v sources n → AreAccepted old v sources n
-accepted_before old mid v sources n keeps h = λ k before less at is.
-    let f = h k before less at is in
+accepted_before old mid v sources n keeps h = λ k before less at is file.
+    let f = h k before less at is file in
     (f.0, document_before (StandsFor before.name before.kind) old mid (file_of before.kind) f.0 keeps f.1)
 
 module _ (old : FilesView) (view catalog script : List ℕ) where

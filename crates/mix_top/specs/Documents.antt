@@ -7,7 +7,7 @@ use Rattle.bracket_text.specs.Grammar.{SpellsShallow}
 use Rattle.csv_wrap.specs.Csv.{IsFile}
 use Rattle.csv_wrap.specs.Rows.{file_tree}
 use Rattle.mix_catalog.specs.declared.source.SourceKind.{SourceKind}
-use Rattle.mix_catalog.specs.declared.source.SourceKind.TheVariants.{Bracket, Csv}
+use Rattle.mix_catalog.specs.declared.source.SourceKind.TheVariants.{Bracket, Csv, Table}
 use Rattle.mix_catalog.specs.declared.source.SourceSpec.{SourceSpec}
 use Rattle.mix_catalog.specs.Grammar.{file_of}
 use Rattle.mix_top.specs.declared.refusal.FileFault.{FileFault}
@@ -21,20 +21,23 @@ SpellsTree text t = IsUtf8 text × SpellsShallow text t
 abbrev pub HoldsRows : List ℕ → List (List ℕ) → List ℕ → LabelledTree → Type 0
 HoldsRows name columns text t = (rows : List (List (List ℕ))) × IsFile text columns rows × (t ≡ file_tree name columns rows)
 
--- the tree that a text stands for as the file of a source of this name and kind
+-- the tree that a text stands for as the file of a source of this name and kind; the file of a table is not read whole
 abbrev pub StandsFor : List ℕ → SourceKind → List ℕ → LabelledTree → Type 0
 StandsFor name (Bracket file deep) = SpellsTree
 StandsFor name (Csv file columns) = HoldsRows name columns
+StandsFor name (Table file table key columns) = λ text t. ⊥
 
 -- why it stands for none
 abbrev pub StandsForNone : SourceKind → List ℕ → FileFault → Type 0
 StandsForNone (Bracket file deep) = IsNoTree
 StandsForNone (Csv file columns) = IsNoTable columns
+StandsForNone (Table file table key columns) = λ text fault. ⊥
 
 -- whether the children of a source's nodes are given whole: rows are
 abbrev pub is_deep : SourceKind → Bool
 is_deep (Bracket file deep) = deep
 is_deep (Csv file columns) = true
+is_deep (Table file table key columns) = true
 
 -- the text of a file stands for a tree, by what texts of its kind stand for
 pub record IsDocument (Stands : List ℕ → LabelledTree → Type 0) (files : FilesView) (path : List ℕ) (t : LabelledTree) : Type 0 where

@@ -1,14 +1,16 @@
 -- Which files a command may read: each behind those that are accepted before it.
-use Rattle.std.specs.Prelude.{◌≡◌, ◌⊎◌, ℕ, IsTrue, List, Some, slice_get}
+use Rattle.std.specs.Prelude.{◌≡◌, ◌⊎◌, ℕ, false, IsTrue, List, Some, slice_get}
 use Rattle.mix_tree.specs.Forest.{LabelledTree}
 use Rattle.mix_io.specs.Views.{FilesView}
 use Rattle.mix_script.specs.declared.step.Step.{Step}
 use Rattle.mix_catalog.specs.declared.source.SourceSpec.{SourceSpec}
 use Rattle.mix_catalog.specs.Grammar.{file_of}
+use Rattle.table_wrap.specs.Document.{is_table_of}
 use Rattle.xmas_rule.specs.Rules.{RuleValue}
 use Rattle.xmas_read.specs.Results.{names_of_sources}
-use Rattle.mix_top.specs.Commands.{Command, help, version, walk, read, plan, run, load, unknown}
-use Rattle.mix_top.specs.Course.{AreAccepted, IsCatalogFile, IsRuleFile, IsScript, names_source}
+use Rattle.mix_top.specs.Commands.{Command, help, version, walk, read, plan, run, count, load, unknown}
+use Rattle.mix_top.specs.Course.{AreAccepted, IsCatalogFile, IsRuleFile, IsScript}
+use Rattle.view_class.specs.Named.{names_source}
 use Rattle.mix_top.specs.Documents.{SpellsTree, IsDocument}
 
 -- of no path but those that may be read was more read than before
@@ -23,9 +25,13 @@ WalkMayRead files file script path = (path ≡ file) ⊎ ((path ≡ script) × (
 abbrev pub ViewMayRead : FilesView → List ℕ → List ℕ → List ℕ → Type 0
 ViewMayRead files view catalog path = (path ≡ catalog) ⊎ ((path ≡ view) × (sources : List SourceSpec) × IsCatalogFile files catalog sources)
 
--- the file of a source that a rule names
+-- the file of a source that is read whole: that of a table is not
+abbrev pub IsWholeFile : SourceSpec → List ℕ → Type 0
+IsWholeFile spec path = (is_table_of spec.kind ≡ false) × (path ≡ file_of spec.kind)
+
+-- such a file of a source that a rule names
 abbrev pub IsFileFor : RuleValue → ℕ → SourceSpec → List ℕ → Type 0
-IsFileFor v s spec path = IsTrue (names_source v s) × (path ≡ file_of spec.kind)
+IsFileFor v s spec path = IsTrue (names_source v s) × IsWholeFile spec path
 
 -- such a file may be read where those of all sources before it are accepted
 abbrev pub SourceMayRead : FilesView → RuleValue → List SourceSpec → List ℕ → Type 0
@@ -47,5 +53,6 @@ MayRead files (walk file script) path = WalkMayRead files file script path
 MayRead files (read view catalog) path = ViewMayRead files view catalog path
 MayRead files (plan view catalog) path = ViewMayRead files view catalog path
 MayRead files (run view catalog script) path = RunMayRead files view catalog script path
-MayRead files (load count) path = ⊥
+MayRead files (count view catalog script) path = RunMayRead files view catalog script path
+MayRead files (load people) path = ⊥
 MayRead files unknown path = ⊥

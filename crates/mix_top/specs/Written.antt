@@ -1,14 +1,15 @@
 -- What is written of a rule, by the form that is asked for, and the course of its reading.
 use Rattle.std.specs.Prelude.{ℕ, List}
 use Rattle.mix_io.specs.Views.{FilesView}
+use Rattle.mix_catalog.specs.declared.source.SourceSpec.{SourceSpec}
 use Rattle.xmas_rule.specs.Rules.{RuleValue}
 use Rattle.mix_top.specs.declared.reading.Reading.{Reading}
 use Rattle.mix_top.specs.declared.reading.RuleForm.{RuleForm}
 use Rattle.mix_top.specs.declared.reading.RuleForm.TheVariants.{Canonical, Plan}
 use Rattle.mix_top.specs.Course.{Reads, plan_lines, read_lines}
 
--- the canonical text and LF, or the plan
-abbrev pub rule_lines : RuleForm → List (List ℕ) → RuleValue → List ℕ
+-- the canonical text and LF, or the plan and the class
+abbrev pub rule_lines : RuleForm → List SourceSpec → RuleValue → List ℕ
 rule_lines Canonical = read_lines
 rule_lines Plan = plan_lines
 

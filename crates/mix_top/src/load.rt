@@ -22,6 +22,7 @@ use mix_mount::{Mount, Mounted};
 use mix_script::{Step, read_script};
 use mix_tree::Label;
 use std::alloc::Global;
+use table_keep::NoTables;
 use xmas_read::read_rule;
 use xmas_rule::Rule;
 
@@ -87,7 +88,11 @@ pub fn mount_table<F: Files>(
 }
 
 /// The tree that a file spells as the only source, given one child at a time. An error is as with `mount_tree`.
-pub fn mount_alone<F: Files>(alloc: Global, files: &mut F, path: &str) -> Result<Mounted, Stop>
+pub fn mount_alone<F: Files>(
+    alloc: Global,
+    files: &mut F,
+    path: &str,
+) -> Result<Mounted<NoTables>, Stop>
     ensures keeps { KeepsFiles (F.view files.new) (F.view files.old) }
     ensures others { ReadsOnly path.now (F.view files.new) (F.view files.old) }
     ensures steady { OnOk result ((p : List ℕ) → (F.view files.new).faults p ≡ (F.view files.old).faults p) }
@@ -95,7 +100,7 @@ pub fn mount_alone<F: Files>(alloc: Global, files: &mut F, path: &str) -> Result
     ensures err { IfErr result (IsLoadStop IsNoTree (F.view files.old) (F.view files.new) path.now) }
 {
     let mount = mount_tree(alloc, files, path, 1, false)?;
-    Ok(Mounted::new(vec![in alloc; mount]?))
+    Ok(Mounted::new(vec![in alloc; mount]?, NoTables::new()))
 }
 
 /// The steps of a file that is a script. An error is as with a tree.

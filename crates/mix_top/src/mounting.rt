@@ -1,15 +1,11 @@
 // The documents of the sources that a rule names, read and mounted one after another.
-ghost use Rattle.std.specs.Prelude.{◌≡◌, ◌<◌, List, ℕ, true, false, length, slice_get, Some, OnOk, IfOk, IfErr};
-ghost use Rattle.mix_catalog.specs.Grammar.{file_of};
+ghost use Rattle.std.specs.Prelude.{◌≡◌, ◌≤◌, List, ℕ, true, false, length, slice_get, Some, OnOk, IfOk, IfErr};
 ghost use Rattle.mix_catalog.specs.Sources.{IsCatalog, IsChunk};
-ghost use Rattle.mix_io.specs.Views.{FilesView, KeepsFiles, ReadsOnly};
+ghost use Rattle.mix_io.specs.Views.{FilesView, KeepsFiles};
 ghost use Rattle.mix_mount.specs.declared.mount.Mount.TheVariants.{Absent};
 ghost use Rattle.xmas_rule.specs.RuleMade.{rule_of};
-ghost use Rattle.mix_top.specs.Course.{is_of, names_source};
-ghost use Rattle.mix_top.specs.Documents.{StandsForNone};
-ghost use Rattle.mix_top.specs.Mounting.{AreMounted, IsMountStop, IsMountedSource, IsMountFor, IsSourceStop};
-ghost use Rattle.mix_top.specs.FilesRead.{ReadsAmong, IsFileFor, SourceMayRead};
-ghost use Rattle.mix_top.specs.Stops.{IsLoadStop};
+ghost use Rattle.mix_top.specs.Mounting.{AreMounted, IsMountStop, IsMountedSpec, IsMountFor, IsSourceStop, IsSpecStop};
+ghost use Rattle.mix_top.specs.FilesRead.{ReadsAmong, IsFileFor, IsWholeFile, SourceMayRead};
 
 use crate::load::{mount_table, mount_tree};
 use crate::refusal::Stop;
@@ -19,24 +15,9 @@ use mix_mount::Mount;
 use mix_tree::Label;
 use std::alloc::Global;
 use std::str;
-use xmas_rule::{Cond, Rule};
-
-// Whether a condition binds a variable below the document node of a source.
-fn is_of(cond: &Cond, s: u32) -> bool
-    ensures { result ≡ is_of s cond.now }
-{
-    match cond {
-        Cond::FromSource { source, .. } => *source == s,
-        Cond::FromVar { .. } | Cond::Compare(_) => false,
-    }
-}
-
-// Whether a rule names a source.
-fn names_source(rule: &Rule, s: u32) -> bool
-    ensures { result ≡ names_source (rule_of rule.now) s }
-{
-    rule.conds.iter().any(|cond| is_of(cond, s))
-}
+use table_wrap::TableDoc;
+use view_class::names_source;
+use xmas_rule::Rule;
 
 // The path that a label is.
 fn path_of(file: &Label) -> &str
@@ -48,22 +29,23 @@ fn path_of(file: &Label) -> &str
     }
 }
 
-// The document of a source's file, given as the catalog says. An error is as with `mount_tree`.
+// The document of a source, given as the catalog says. That of a table asks for no page yet. An error is as with `mount_tree`.
 fn mount_spec<F: Files>(alloc: Global, files: &mut F, spec: &SourceSpec) -> Result<Mount, Stop>
     requires { IsChunk spec.now.chunk }
     ensures keeps { KeepsFiles (F.view files.new) (F.view files.old) }
-    ensures others { ReadsOnly (file_of spec.now.kind) (F.view files.new) (F.view files.old) }
+    ensures reads { ReadsAmong (IsWholeFile spec.now) (F.view files.new) (F.view files.old) }
     ensures steady { OnOk result ((p : List ℕ) → (F.view files.new).faults p ≡ (F.view files.old).faults p) }
-    ensures ok { IfOk result (IsMountedSource (F.view files.old) spec.now) }
-    ensures err { IfErr result (IsLoadStop (StandsForNone spec.now.kind) (F.view files.old) (F.view files.new) (file_of spec.now.kind)) }
+    ensures ok { IfOk result (IsMountedSpec (F.view files.old) spec.now) }
+    ensures err { IfErr result (IsSpecStop (F.view files.old) (F.view files.new) spec.now) }
 {
     match &spec.kind {
         SourceKind::Bracket { file, deep } => {
             mount_tree(alloc, files, path_of(file), spec.chunk, *deep)
         }
         SourceKind::Csv { file, columns } => {
-            mount_table(alloc, files, path_of(file), spec, columns.labels())
+            mount_table(alloc, files, path_of(file), spec, columns.as_slice())
         }
+        SourceKind::Table { .. } => Ok(Mount::Table(TableDoc::open(alloc, spec)?)),
     }
 }
 
@@ -103,6 +85,7 @@ pub fn mount_sources<F: Files>(
         ReadsAmong (SourceMayRead old (rule_of rule.now) catalog.now) (F.view files.new) old }
     ensures steady { OnOk result ((p : List ℕ) → (F.view files.new).faults p ≡ (F.view files.old).faults p) }
     ensures ok { IfOk result (λ docs. AreMounted (F.view files.old) (rule_of rule.now) catalog.now docs.items) }
+    ensures few { IfOk result (λ docs. length docs.items ≤ 32) }
     ensures err { IfErr result (IsMountStop (F.view files.old) (F.view files.new) (rule_of rule.now) catalog.now) }
 {
     let mut docs = Vec::new(alloc);

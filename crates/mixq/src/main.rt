@@ -1,8 +1,9 @@
-//! The program `mixq`: the top call over the files of the system and standard output.
+//! The program `mixq`: the top call over the files of the system, tables of SQLite files, and standard output.
 #![tactic(auto)]
 
 use mix_io::{OsFiles, StdSink};
 use mix_top::mixq;
+use sqlite_tables::SqliteTables;
 use std::process::ExitCode;
 use std::{env, io};
 
@@ -26,5 +27,7 @@ fn main(rt: HostRuntime) -> ExitCode {
     let alloc = rt.alloc();
     let mut files = OsFiles::new(rt);
     let mut out = StdSink::new(rt);
-    ExitCode::from(mixq(alloc, &words, &mut files, &mut out))
+    let tables = SqliteTables::new(rt, alloc);
+    let (status, _) = mixq(alloc, &words, &mut files, tables, &mut out);
+    ExitCode::from(status)
 }

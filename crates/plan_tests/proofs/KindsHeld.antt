@@ -7,7 +7,7 @@ use Rattle.plan_core.specs.Typed.{IsTyped}
 use Rattle.plan_core.specs.Valid.{Kind, a_node, an_element, a_list, kinds, Kinds, op_kinds, either_kind}
 use Rattle.plan_tests.specs.declared.kind.Held.TheVariants.{Nothing}
 use Rattle.plan_tests.specs.Held.{held}
-use Rattle.lazy_plan.proofs.Bound.{kinds_at}
+use Rattle.lazy_binding.proofs.Bound.{kinds_at}
 
 -- the kind of a variable, from those of the inputs
 pub kind_of : (ops : List Operator) → IsTyped ops → (n : ℕ) → n < length ops → (o : Operator) (v : ℕ) → o ≡ op_at ops n → kinds ops n v ≡ op_kinds o (kinds ops) v

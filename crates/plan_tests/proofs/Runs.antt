@@ -5,7 +5,7 @@ use Rattle.lxp_memory.specs.declared.memory.MemSources.{MemSources}
 use Rattle.plan_core.specs.PlanMade.{plan_value}
 use Rattle.plan_core.specs.declared.plan.Plan.{Plan}
 use Rattle.lazy_plan.specs.declared.bench.Bench.{Bench}
-use Rattle.lazy_plan.specs.declared.position.Position.{Position}
+use Rattle.lazy_binding.specs.declared.position.Position.{Position}
 use Rattle.lazy_plan.specs.Bench.{BenchState, KeepsBench, KeepsOn, ops_of}
 use Rattle.plan_tests.specs.Runs.{state, Ran, AreCursors}
 

@@ -4,7 +4,7 @@ use Rattle.std.specs.List.{AllByRecursion}
 use Rattle.lxp_memory.specs.declared.memory.MemSources.{MemSources}
 use Rattle.lxp_memory.specs.Memory.{memory_view}
 use Rattle.lazy_plan.specs.declared.bench.Bench.{Bench}
-use Rattle.lazy_plan.specs.declared.position.Position.{Position}
+use Rattle.lazy_binding.specs.declared.position.Position.{Position}
 use Rattle.lazy_plan.specs.Bench.{BenchState, state_of, IsBenchOf, KeepsBench, IsCursor}
 
 -- the state of a bench over documents in memory

@@ -6,6 +6,8 @@ mod automata;
 #[cfg(test)]
 mod bindings;
 #[cfg(test)]
+mod classes;
+#[cfg(test)]
 mod faults;
 mod kind;
 #[cfg(test)]
@@ -16,6 +18,8 @@ mod open;
 mod plain;
 #[cfg(test)]
 mod prints;
+#[cfg(test)]
+mod rewritten;
 #[cfg(test)]
 mod run;
 #[cfg(test)]

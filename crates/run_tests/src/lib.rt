@@ -1,4 +1,4 @@
-//! Tests of whole runs of the top call, over files and a sink in memory.
+//! Tests of whole runs of the top call, over files, tables and a sink in memory.
 #![tactic(auto)]
 
 #[cfg(test)]
@@ -7,6 +7,8 @@ mod clients;
 mod lists;
 #[cfg(test)]
 mod loads;
+#[cfg(test)]
+mod paged;
 #[cfg(test)]
 mod plans;
 #[cfg(test)]

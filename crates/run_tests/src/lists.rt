@@ -44,6 +44,7 @@ const PLANS: [(&str, &str); 4] = [
 15 concatenate 14 $4 $9 -> $10
 16 createElement 15 a $10 -> $11
 17 tupleDestroy 16 $11
+class browsable
 ",
     ),
     (
@@ -71,6 +72,7 @@ const PLANS: [(&str, &str); 4] = [
 20 concatenate 19 $16 -> $17
 21 createElement 20 o $17 -> $18
 22 tupleDestroy 21 $18
+class browsable
 ",
     ),
     (
@@ -96,6 +98,7 @@ const PLANS: [(&str, &str); 4] = [
 18 concatenate 17 $14 -> $15
 19 createElement 18 o $15 -> $16
 20 tupleDestroy 19 $16
+class browsable
 ",
     ),
     // An element that is made once takes the lists of those around it in the order of the text.
@@ -115,6 +118,7 @@ const PLANS: [(&str, &str); 4] = [
 11 concatenate 10 $7 $5 -> $8
 12 createElement 11 a $8 -> $9
 13 tupleDestroy 12 $9
+class browsable
 ",
     ),
 ];

@@ -5,24 +5,35 @@ use std::test::Fail;
 const UNKNOWN: &str = "mixq: unknown words\n";
 
 // The words behind `load`, the writes that fail, the status, and what is written.
-const ROWS: [(&[&str], &[u64], u8, &str); 16] = [
-    (&["1"], &[], 0, "rows 1\ncommands 4\nnodes 3\nbytes 12\n"),
+const ROWS: [(&[&str], &[u64], u8, &str); 17] = [
+    (
+        &["1"],
+        &[],
+        0,
+        "rows 1\ncommands 4\nnodes 3\nbytes 12\nclass bounded 7\n",
+    ),
     (
         &["12"],
         &[],
         0,
-        "rows 12\ncommands 15\nnodes 25\nbytes 80\n",
+        "rows 12\ncommands 15\nnodes 25\nbytes 80\nclass bounded 7\n",
     ),
     (
         &["500"],
         &[],
         0,
-        "rows 500\ncommands 503\nnodes 1001\nbytes 3896\n",
+        "rows 500\ncommands 503\nnodes 1001\nbytes 3896\nclass bounded 7\n",
     ),
     (&["1"], &[1], 5, "row"),
     (&["1"], &[2], 5, "rows 1\ncomma"),
     (&["1"], &[3], 5, "rows 1\ncommands 4\nnode"),
     (&["1"], &[4], 5, "rows 1\ncommands 4\nnodes 3\nbyte"),
+    (
+        &["1"],
+        &[5],
+        5,
+        "rows 1\ncommands 4\nnodes 3\nbytes 12\nclass bo",
+    ),
     (&[], &[], 2, UNKNOWN),
     (&["0"], &[], 2, UNKNOWN),
     (&["10001"], &[], 2, UNKNOWN),

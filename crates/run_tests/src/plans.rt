@@ -28,6 +28,7 @@ const PLANS: [(&str, &str); 12] = [
 13 concatenate 12 $9 -> $10
 14 createElement 13 answer $10 -> $11
 15 tupleDestroy 14 $11
+class browsable
 ",
     ),
     // Two components whose conditions are mixed, and two comparisons.
@@ -49,6 +50,7 @@ const PLANS: [(&str, &str); 12] = [
 13 concatenate 12 $8 -> $9
 14 createElement 13 a $9 -> $10
 15 tupleDestroy 14 $10
+class browsable
 ",
     ),
     // A path with two derivations.
@@ -61,6 +63,7 @@ const PLANS: [(&str, &str); 12] = [
 4 concatenate 3 $2 -> $3
 5 createElement 4 r $3 -> $4
 6 tupleDestroy 5 $4
+class browsable
 ",
     ),
     // An element for each pair.
@@ -76,6 +79,7 @@ const PLANS: [(&str, &str); 12] = [
 7 concatenate 6 $5 -> $6
 8 createElement 7 names $6 -> $7
 9 tupleDestroy 8 $7
+class browsable
 ",
     ),
     // A list inside the elements of a list.
@@ -92,6 +96,7 @@ const PLANS: [(&str, &str); 12] = [
 8 concatenate 7 $6 -> $7
 9 createElement 8 names $7 -> $8
 10 tupleDestroy 9 $8
+class browsable
 ",
     ),
     // Rows alone.
@@ -104,6 +109,7 @@ const PLANS: [(&str, &str); 12] = [
 4 concatenate 3 $2 -> $3
 5 createElement 4 out $3 -> $4
 6 tupleDestroy 5 $4
+class browsable
 ",
     ),
     // A row and a value.
@@ -119,6 +125,7 @@ const PLANS: [(&str, &str); 12] = [
 7 concatenate 6 $5 -> $6
 8 createElement 7 out $6 -> $7
 9 tupleDestroy 8 $7
+class browsable
 ",
     ),
     // An order.
@@ -132,6 +139,7 @@ const PLANS: [(&str, &str); 12] = [
 5 concatenate 4 $2 -> $3
 6 createElement 5 o $3 -> $4
 7 tupleDestroy 6 $4
+class unbrowsable
 ",
     ),
     // An order turned round, behind a comparison with a text.
@@ -146,6 +154,7 @@ const PLANS: [(&str, &str); 12] = [
 6 concatenate 5 $2 -> $3
 7 createElement 6 o $3 -> $4
 8 tupleDestroy 7 $4
+class unbrowsable
 ",
     ),
     // Groups by a label, and groups inside them.
@@ -164,6 +173,7 @@ const PLANS: [(&str, &str); 12] = [
 10 concatenate 9 $8 -> $9
 11 createElement 10 o $9 -> $10
 12 tupleDestroy 11 $10
+class browsable
 ",
     ),
     // No source node in the template.
@@ -177,6 +187,7 @@ const PLANS: [(&str, &str); 12] = [
 5 concatenate 4 $4 -> $5
 6 createElement 5 a $5 -> $6
 7 tupleDestroy 6 $6
+class bounded 1
 ",
     ),
     // A list of labels beside texts, inside an element that is made once.
@@ -191,6 +202,7 @@ const PLANS: [(&str, &str); 12] = [
 6 concatenate 5 $4 \"y\" -> $5
 7 createElement 6 a $5 -> $6
 8 tupleDestroy 7 $6
+class browsable
 ",
     ),
 ];

@@ -22,8 +22,9 @@ returns-in-Ok-clause-ok g c =
         read = c.in_ok-bytes.ensures.ok;
         stands = (a.0, subst (λ (text : List ℕ). IsFile text c.args.columns.now a.0) c.deref.ensures.value a.1, refl);
       };
-      told = refl;
-      given = a.2;
+      in_memory = refl;
+      told = λ v. refl;
+      given = λ v. a.2;
       given_by = (c.in-Ok.ensures.chunk, refl);
     }
 

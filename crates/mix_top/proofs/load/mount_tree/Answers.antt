@@ -29,8 +29,9 @@ returns-in-Ok-clause-ok g c =
         read = c.in_ok-bytes.ensures.ok;
         stands = subst (λ (text : List ℕ). SpellsTree text a.0) c.deref.ensures.value (a.2, a.3);
       };
-      told = refl;
-      given = c.open.ensures.document a.0 a.1;
+      in_memory = refl;
+      told = λ v. refl;
+      given = λ v. c.open.ensures.document a.0 a.1;
       given_by = (c.open.ensures.chunk, c.open.ensures.deep);
     }
 

@@ -1,0 +1,117 @@
+-- Where a rule names no table, the lines are the transcript without marks.
+use Rattle.std.proofs.Common.{◌≡◌, ◌∙◌, ◌+◌, ◌||◌, not, ℕ, suc, Bool, true, false, cond, is_some, List, [], ◌∷◌, ◌++◌, Option, Some, None, refl, ap, subst, arith, slice_get}
+use Rattle.std.specs.Prelude.{option_and_then}
+use Rattle.mix_base.proofs.Choices.{and_both}
+use Rattle.mix_tree.specs.Forest.{LabelledTree, alone}
+use Rattle.mix_tree.specs.Place.{has_place, tree_at}
+use Rattle.mix_catalog.specs.declared.source.SourceSpec.{SourceSpec}
+use Rattle.table_keep.specs.Views.{Declared, TablesView}
+use Rattle.table_wrap.specs.Document.{declared_in}
+use Rattle.mix_script.specs.Names.{no_names}
+use Rattle.mix_script.specs.Answers.{line_of}
+use Rattle.mix_script.specs.Allowed.{mark_of, marks_of, has_fault}
+use Rattle.mix_script.specs.Transcript.{Names, answer_of, answered, goal_of, if_held, label_answer, lines_from, move_answer, text_answer}
+use Rattle.mix_script.specs.declared.step.Act.{Act}
+use Rattle.mix_script.specs.declared.step.Act.TheVariants.{Root, Move, Select, Fetch, Print}
+use Rattle.mix_script.specs.declared.step.Step.{Step}
+use Rattle.mix_script.specs.declared.answer.Answer.{Answer}
+use Rattle.mix_script.specs.declared.answer.Answer.TheVariants as answer
+use Rattle.mix_script.proofs.Answering.{unmarked}
+use Rattle.xmas_rule.specs.Rules.{RuleValue}
+use Rattle.xmas_read.specs.Results.{names_of_sources}
+use Rattle.mix_top.specs.Answered.{IsTableOf, RunsWithoutTablesAreUnmarked, is_table_told, all_told, told_from}
+use Rattle.view_class.specs.Named.{names_source}
+
+-- what holds a place, or not, is answered without a fault
+held_quiet : (o : Option (List ℕ)) (a : Answer) → mark_of a ≡ None → mark_of (if_held o a) ≡ None
+held_quiet None a e = refl
+held_quiet (Some place) a e = e
+
+move_quiet : (t : LabelledTree) (goal : Option (List ℕ)) → mark_of (move_answer t goal) ≡ None
+move_quiet t None = refl
+move_quiet t (Some place) = elim (has_place (alone t) place) as (λ b. mark_of (cond b answer.Node answer.None) ≡ None) [ true ↦ refl | false ↦ refl ]
+
+label_quiet : (o : Option LabelledTree) → mark_of (label_answer o) ≡ None
+label_quiet None = refl
+label_quiet (Some t) = refl
+
+text_quiet : (o : Option LabelledTree) → mark_of (text_answer o) ≡ None
+text_quiet None = refl
+text_quiet (Some t) = refl
+
+-- an answer of a tree without a mark is no fault
+quiet : (t : LabelledTree) (names : Names) (client : List ℕ) (act : Act) → mark_of (answer_of t names None client act) ≡ None
+quiet t names client (Root name) = refl
+quiet t names client (Move way name from) = held_quiet (names client from) _ (move_quiet t (goal_of t names client (Move way name from)))
+quiet t names client (Select name from label) = held_quiet (names client from) _ (move_quiet t (goal_of t names client (Select name from label)))
+quiet t names client (Fetch from) = label_quiet (option_and_then (tree_at t) (names client from))
+quiet t names client (Print from) = held_quiet (names client from) _ (text_quiet (option_and_then (tree_at t) (names client from)))
+
+-- the line of an answer that is no fault names no source
+same_line : (sources : List (List ℕ)) (client : List ℕ) (a : Answer) → mark_of a ≡ None → line_of sources client a ≡ line_of [] client a
+same_line sources client answer.Node e = refl
+same_line sources client answer.None e = refl
+same_line sources client (answer.Label l) e = refl
+same_line sources client (answer.Text x) e = refl
+same_line sources client answer.NoNode e = refl
+same_line sources client (answer.Fault s) e = cc
+
+-- neither the first answer nor a later one is a fault
+no_mark : (mark : Option ℕ) (more : Bool) → is_some mark || more ≡ false → (mark ≡ None) × (more ≡ false)
+no_mark None more e = (refl, e)
+no_mark (Some source) more e = absurd (let z : true ≡ false = e in cc)
+
+module _ (t : LabelledTree) (sources : List (List ℕ)) where
+  -- lines without marks name no source
+  unnamed : (names : Names) (steps : List Step) → lines_from t sources names [] steps ≡ lines_from t [] names [] steps
+  unnamed names [] = refl
+  unnamed names (step ∷ steps) =
+      let now = answered t names None step in
+      ap (λ l. l ++ lines_from t sources now.1 [] steps) (same_line sources step.client now.0 (quiet t names step.client step.act))
+      ∙ ap (λ r. line_of [] step.client now.0 ++ r) (unnamed now.1 steps)
+
+  -- nor do those under the marks of answers without a fault
+  unmarked_transcript : (names : Names) (answers : List Answer) (steps : List Step) → has_fault answers ≡ false → lines_from t sources names (marks_of answers) steps ≡ lines_from t [] names [] steps
+  unmarked_transcript names [] steps h = unnamed names steps
+  unmarked_transcript names (a ∷ answers) [] h = refl
+  unmarked_transcript names (a ∷ answers) (step ∷ steps) h =
+      let both = no_mark (mark_of a) (has_fault answers) h in
+      let now = answered t names None step in
+      ap (λ m. line_of sources step.client (answered t names m step).0 ++ lines_from t sources (answered t names m step).1 (marks_of answers) steps) both.0
+      ∙ ap (λ l. l ++ lines_from t sources now.1 (marks_of answers) steps) (same_line sources step.client now.0 (quiet t names step.client step.act))
+      ∙ ap (λ r. line_of [] step.client now.0 ++ r) (unmarked_transcript now.1 answers steps both.1)
+
+-- what isn't named, or is no table, has nothing untold
+told_head : (tables : TablesView) (b : Bool) (o : Option Declared) → (b ≡ true → o ≡ None) → not b || is_table_told tables o ≡ true
+told_head tables true o h = ap (λ (x : Option Declared). is_table_told tables x) (h refl)
+told_head tables false o h = refl
+
+-- where no source that the rule names is a table, there is nothing that isn't told
+nothing_untold : (tables : TablesView) (v : RuleValue) (n : ℕ) (sources : List SourceSpec)
+    → ((s : ℕ) (spec : SourceSpec) → slice_get sources s ≡ Some spec → names_source v (n + s) ≡ true → declared_in spec.kind ≡ None) → told_from tables v n sources ≡ true
+nothing_untold tables v n [] h = refl
+nothing_untold tables v n (x ∷ xs) h =
+    let place : n ≡ n + 0 = omega arith in
+    and_both (not (names_source v n) || is_table_told tables (declared_in x.kind)) (told_from tables v (n + 1) xs)
+    (told_head tables (names_source v n) (declared_in x.kind) (λ named. h 0 x refl (subst (λ (k : ℕ). names_source v k ≡ true) place named)))
+    (nothing_untold tables v (n + 1) xs
+    (λ s spec at named. h (suc s) spec at (let next : n + 1 + s ≡ n + suc s = omega arith in subst (λ (k : ℕ). names_source v k ≡ true) next named)))
+
+-- a source that the rule names declares no table, where the rule names none
+declares_none : (v : RuleValue) (sources : List SourceSpec) → ((s : ℕ) → IsTableOf v sources s → ⊥) → (s : ℕ) (spec : SourceSpec) → slice_get sources s ≡ Some spec → names_source v (0 + s) ≡ true
+    → declared_in spec.kind ≡ None
+declares_none v sources none s spec at named =
+    let place : 0 + s ≡ s = omega arith in
+    elim (declared_in spec.kind) as (λ o. declared_in spec.kind ≡ o → o ≡ None) [
+      | None ↦ λ e. refl
+      | Some d ↦ λ e. absurd (none s (d, record { spec = spec; there = at; named = subst (λ (k : ℕ). names_source v k ≡ true) place named; declares = e }))
+    ] refl
+
+-- a run of a rule that names no table
+pub without_tables : RunsWithoutTablesAreUnmarked
+without_tables before after q fills status lines none is =
+    let faultless = unmarked false (IsTableOf q.rule q.sources) no_names is.answers q.steps is.allowed (λ s may. absurd (none s may)) in
+    let told : all_told before q.rule q.sources ≡ true = nothing_untold before q.rule 0 q.sources (declares_none q.rule q.sources none) in (
+      is.status_is ∙ ap (λ b. cond b 1 0) faultless,
+      (is.told told).1 ∙ unmarked_transcript q.tree (names_of_sources q.sources) no_names is.answers q.steps faultless,
+    )

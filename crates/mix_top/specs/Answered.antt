@@ -1,0 +1,70 @@
+-- What a run comes to whose files are all accepted: the answers to its steps, and its lines.
+use Rattle.std.specs.Prelude.{◌≡◌, ◌≤◌, ℕ, ◌+◌, Bool, true, false, ◌&&◌, ◌||◌, not, cond, IsTrue, List, [], ◌∷◌, Option, Some, None, is_some, length, slice_get}
+use Rattle.mix_base.specs.Counts.{HasRisenBy}
+use Rattle.mix_catalog.specs.declared.source.SourceSpec.{SourceSpec}
+use Rattle.table_keep.specs.Views.{Declared, TablesView}
+use Rattle.table_wrap.specs.Document.{declared_in}
+use Rattle.mix_script.specs.Names.{no_names}
+use Rattle.mix_script.specs.Allowed.{AreAnswers, answer_lines, begun, faults_of, has_fault, marks_of}
+use Rattle.mix_script.specs.Transcript.{transcript, AreMarks, names_after}
+use Rattle.mix_script.specs.declared.answer.Answer.{Answer}
+use Rattle.mix_session.specs.Stepped.{act_toll_by}
+use Rattle.mix_session.specs.Walks.{place_toll}
+use Rattle.plan_make.specs.Operators.{operators_of}
+use Rattle.xmas_rule.specs.Rules.{RuleValue}
+use Rattle.xmas_read.specs.Results.{names_of_sources}
+use Rattle.mix_top.specs.Question.{Question}
+use Rattle.view_class.specs.Named.{names_source}
+
+-- a rule names the source of this number, which is this declared table
+pub record IsTable (v : RuleValue) (sources : List SourceSpec) (s : ℕ) (d : Declared) : Type 0 where
+  pub spec : SourceSpec
+  pub there : slice_get sources s ≡ Some spec
+  pub named : IsTrue (names_source v s)
+  pub declares : declared_in spec.kind ≡ Some d
+
+-- a rule names the source of this number, which is a table
+abbrev pub IsTableOf : RuleValue → List SourceSpec → ℕ → Type 0
+IsTableOf v sources s = (d : Declared) × IsTable v sources s d
+
+-- whether the rows of a declared table are told; where there is no table, nothing else is to be told
+abbrev pub is_table_told : TablesView → Option Declared → Bool
+is_table_told tables None = true
+is_table_told tables (Some d) = is_some (tables.told d)
+
+-- whether each of these sources, of which the first has this number, is told, where it is a table that the rule names
+abbrev pub told_from : TablesView → RuleValue → ℕ → List SourceSpec → Bool
+told_from tables v n [] = true
+told_from tables v n (spec ∷ sources) = (not (names_source v n) || is_table_told tables (declared_in spec.kind)) && told_from tables v (n + 1) sources
+
+-- whether each table that the rule names is told
+abbrev pub all_told : TablesView → RuleValue → List SourceSpec → Bool
+all_told tables v sources = told_from tables v 0 sources
+
+-- the tolls of the steps that were answered so, and of the next one, where there is one, on the document of the rule's plan
+abbrev pub steps_toll : Question → List Answer → ℕ
+steps_toll q answers = begun (act_toll_by 0 (place_toll q.docs (operators_of q.rule)) q.tree) (names_after q.tree) no_names answers q.steps
+
+-- what a run comes to over tables that meant the first before and mean the second after, and what it asked
+pub record IsAnswered (before after : TablesView) (q : Question) (fills status : ℕ) (lines : List ℕ) : Type 0 where
+  -- the answers to the first steps; a fault is one of a table that the rule names
+  pub answers : List Answer
+  pub allowed : AreAnswers false (IsTableOf q.rule q.sources) no_names answers q.steps
+  -- a table failed as often as it is marked
+  pub counted : (s : ℕ) (d : Declared) → IsTable q.rule q.sources s d → HasRisenBy (faults_of s answers) (before.faults d) (after.faults d)
+  pub status_is : status ≡ cond (has_fault answers) 1 0
+  -- each page was asked for a fill
+  pub pages : after.pages ≤ before.pages + fills
+  -- over told tables no more fills were asked than the tolls of the steps come to
+  pub cost : all_told before q.rule q.sources ≡ true → fills ≤ steps_toll q answers
+  -- over told tables the lines are the transcript of all steps, under the marks that the answers show
+  pub told : all_told before q.rule q.sources ≡ true → let marks = marks_of answers in
+      AreMarks false q.tree no_names marks q.steps × (lines ≡ transcript q.tree (names_of_sources q.sources) marks q.steps)
+  -- else they are those of answers to all steps
+  pub untold : all_told before q.rule q.sources ≡ false → (length answers ≡ length q.steps) × (lines ≡ answer_lines (names_of_sources q.sources) answers q.steps)
+
+-- where a rule names no table, the lines of a run are the transcript without marks, and the status is 0
+abbrev pub RunsWithoutTablesAreUnmarked : Type 0
+RunsWithoutTablesAreUnmarked =
+    (before after : TablesView) (q : Question) (fills status : ℕ) (lines : List ℕ)
+    → ((s : ℕ) → IsTableOf q.rule q.sources s → ⊥) → IsAnswered before after q fills status lines → (status ≡ 0) × (lines ≡ transcript q.tree [] [] q.steps)

@@ -1,0 +1,23 @@
+-- What writing the counts of a run comes to.
+use Rattle.std.specs.Prelude.{◌≡◌, ◌⊎◌, ℕ, List, Result, Ok, Err}
+use Rattle.mix_io.specs.Views.{SinkView}
+use Rattle.mix_lines.specs.declared.fault.LinesFault.{LinesFault}
+use Rattle.mix_top.specs.declared.counting.Counts.{Counts}
+use Rattle.mix_top.specs.declared.refusal.Outcome.{Outcome}
+use Rattle.mix_top.specs.declared.refusal.Stop.{Stop}
+use Rattle.mix_top.specs.Counts.{count_lines}
+use Rattle.mix_top.specs.Stops.{IsCut, Wrote, stop_for}
+
+-- the lines that tell counts
+abbrev pub lines_of_counts : Counts → List ℕ
+lines_of_counts counts = count_lines counts.commands counts.spent.fills counts.spent.pages counts.class
+
+-- the run came to its end so, and these lines were written
+abbrev pub IsCounted : Result Outcome LinesFault → SinkView → SinkView → List ℕ → Outcome → Type 0
+IsCounted end before after lines outcome = (end ≡ Ok outcome) × Wrote before after lines
+
+-- the run was cut short, and nothing more was written; or it came to its end, and these lines were cut short
+abbrev pub IsCountStop : Result Outcome LinesFault → SinkView → SinkView → List ℕ → Stop → Type 0
+IsCountStop end before after lines stop =
+    ((fault : LinesFault) × (end ≡ Err fault) × (stop ≡ stop_for fault) × (after ≡ before))
+    ⊎ ((outcome : Outcome) × (end ≡ Ok outcome) × IsCut before after lines stop)

@@ -1,0 +1,22 @@
+-- What `count` writes behind the answers, and the class of a view.
+use Rattle.std.specs.Prelude.{ℕ, List, ◌++◌, codes}
+use Rattle.std.specs.Fmt.{decimal}
+use Rattle.browse_class.specs.declared.class.Class.{Class}
+use Rattle.browse_class.specs.Classes.{class_in}
+use Rattle.mix_catalog.specs.declared.source.SourceSpec.{SourceSpec}
+use Rattle.plan_make.specs.Operators.{operators_of}
+use Rattle.view_class.specs.Layouts.{layout_in}
+use Rattle.view_class.specs.Lines.{class_line}
+use Rattle.xmas_rule.specs.Rules.{RuleValue}
+
+-- the class of a rule's plan over the sources of a catalog
+abbrev pub view_class : RuleValue → List SourceSpec → Class
+view_class v sources = class_in (layout_in v sources) (operators_of v)
+
+-- the lines of so many commands, fills and pages
+abbrev pub number_lines : (commands fills pages : ℕ) → List ℕ
+number_lines commands fills pages = codes "commands " ++ decimal commands ++ codes "\nfills " ++ decimal fills ++ codes "\npages " ++ decimal pages ++ codes "\n"
+
+-- these, and that of a class
+abbrev pub count_lines : (commands fills pages : ℕ) → Class → List ℕ
+count_lines commands fills pages class = number_lines commands fills pages ++ class_line class

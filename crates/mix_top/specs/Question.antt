@@ -1,0 +1,15 @@
+-- What is asked of a run whose files were all accepted, and over what.
+use Rattle.std.specs.Prelude.{List}
+use Rattle.mix_tree.specs.Forest.{LabelledTree}
+use Rattle.mix_tree.specs.Nodes.{Documents}
+use Rattle.mix_catalog.specs.declared.source.SourceSpec.{SourceSpec}
+use Rattle.mix_script.specs.declared.step.Step.{Step}
+use Rattle.xmas_rule.specs.Rules.{RuleValue}
+
+-- the sources of its catalog, its rule, its steps, the documents of the sources, and a tree, which is to be the rule's finished document over them
+pub record Question : Type 0 where
+  pub sources : List SourceSpec
+  pub rule : RuleValue
+  pub steps : List Step
+  pub docs : Documents
+  pub tree : LabelledTree

@@ -1,0 +1,141 @@
+// The command `count`: what `run` answers, and what that cost.
+ghost use Rattle.std.specs.Prelude.{◌≡◌, ◌≤◌, List, ℕ, length, IfOk, IfErr, string_bytes};
+ghost use Rattle.mix_io.specs.Views.{FilesView, SinkView, KeepsFiles};
+ghost use Rattle.table_keep.specs.Views.{KeepsTables, TablesView};
+ghost use Rattle.xmas_rule.specs.RuleMade.{rule_of};
+ghost use Rattle.xmas_rule.specs.Rules.{IsAccepted};
+ghost use Rattle.xmas_read.specs.Results.{names_of_sources};
+ghost use Rattle.mix_top.specs.Counting.{IsCounted, IsCountStop, lines_of_counts};
+ghost use Rattle.mix_top.specs.Counts.{number_lines, view_class};
+ghost use Rattle.mix_top.specs.Course.{lines_of_count};
+ghost use Rattle.mix_top.specs.FilesRead.{ReadsAmong, RunMayRead};
+ghost use Rattle.mix_top.specs.Mounting.{AreMounted};
+ghost use Rattle.mix_top.specs.Outside.{outside};
+ghost use Rattle.mix_top.specs.Running.{LinesOver, RunCourse};
+ghost use Rattle.mix_top.specs.Stops.{IsDoneWith, IsStop, outcome_status};
+
+use crate::reading::source_names;
+use crate::refusal::{Outcome, Stop};
+use crate::running::{Asked, Ready, RunFiles, Spent, answer, make_ready};
+use crate::writing::write_lines;
+use browse_class::Class;
+use mix_io::{Files, Sink};
+use mix_lines::LinesFault;
+use plan_make::make_plan;
+use std::alloc::{AllocError, Global};
+use table_keep::Tables;
+use view_class::{class_line, class_over};
+
+/// What `count` writes behind the answers: how many commands there were, what they asked, and the class of the view.
+#[derive(Clone, Copy)]
+pub struct Counts {
+    pub commands: u64,
+    pub spent: Spent,
+    pub class: Class,
+}
+
+// The class of what is asked.
+fn class_asked(alloc: Global, asked: &Asked) -> Result<Class, AllocError>
+    requires { IsAccepted (length (names_of_sources asked.now.catalog)) (rule_of asked.now.rule) }
+    ensures { IfOk result (λ class. class ≡ view_class (rule_of asked.now.rule) asked.now.catalog) }
+{
+    let names = source_names(alloc, &asked.catalog)?;
+    let plan = make_plan(alloc, &asked.rule, &names)?;
+    class_over(alloc, &asked.catalog, &asked.rule, &plan)
+}
+
+// The lines that tell how many commands, fills and pages there were.
+fn numbers_text(alloc: Global, commands: u64, spent: Spent) -> Result<String, AllocError>
+    ensures { IfOk result (λ text. string_bytes text ≡ number_lines commands spent.fills spent.pages) }
+{
+    let Spent { fills, pages } = spent;
+    format!(in alloc; "commands {commands}\nfills {fills}\npages {pages}\n")
+}
+
+// The lines that tell counts.
+fn counts_text(alloc: Global, counts: &Counts) -> Result<String, AllocError>
+    ensures { IfOk result (λ text. string_bytes text ≡ lines_of_counts counts.now) }
+{
+    let class = class_line(alloc, counts.class)?;
+    let mut text = numbers_text(alloc, counts.commands, counts.spent)?;
+    text.push_str(class.as_str())?;
+    Ok(text)
+}
+
+// Writes the lines of counts behind those of a run, where these came to their end.
+fn write_counts<K: Sink>(
+    alloc: Global,
+    end: Result<Outcome, LinesFault>,
+    counts: &Counts,
+    out: &mut K,
+) -> Result<Outcome, Stop>
+    ensures ok { IfOk result (IsCounted end (K.view out.old) (K.view out.new) (lines_of_counts counts.now)) }
+    ensures err { IfErr result (IsCountStop end (K.view out.old) (K.view out.new) (lines_of_counts counts.now)) }
+    ensures count { (K.view out.old).faults ≤ (K.view out.new).faults }
+{
+    let outcome = end?;
+    let text = counts_text(alloc, counts)?;
+    write_lines(alloc, text.as_bytes(), out)?;
+    Ok(outcome)
+}
+
+// Answers the steps of a run whose files were all accepted, and writes what that cost. The tables are handed back.
+fn count_ready<T: Tables, K: Sink>(
+    alloc: Global,
+    ready: Ready,
+    tables: T,
+    out: &mut K,
+) -> (Result<Outcome, Stop>, T)
+    requires accepted { IsAccepted (length (names_of_sources ready.asked.catalog)) (rule_of ready.asked.rule) }
+    requires mounted { (files : FilesView) × AreMounted files (rule_of ready.asked.rule) ready.asked.catalog ready.docs.items }
+    requires few { length ready.docs.items ≤ 32 }
+    ensures keeps { KeepsTables (T.view result.1) (T.view tables) }
+    ensures done { let Course = LinesOver lines_of_count (T.view tables) (T.view result.1) ready.docs.items ready.asked in
+        IfOk result.0 (λ outcome. IsDoneWith Course (outcome_status outcome) (K.view out.old) (K.view out.new)) }
+    ensures stop { let Course = LinesOver lines_of_count (T.view tables) (T.view result.1) ready.docs.items ready.asked in
+        IfErr result.0 (IsStop Course (K.view out.old) (K.view out.new)) }
+    ensures count { (K.view out.old).faults ≤ (K.view out.new).faults }
+{
+    let Ready { asked, docs } = ready;
+    let class = match class_asked(alloc, &asked) {
+        Ok(class) => class,
+        Err(_) => return (Err(Stop::OutOfMemory), tables),
+    };
+    let answered = answer(alloc, &asked, docs, tables, out);
+    let counts = Counts {
+        commands: asked.steps.as_slice().len() as u64,
+        spent: answered.spent,
+        class,
+    };
+    (
+        write_counts(alloc, answered.end, &counts, out),
+        answered.tables,
+    )
+}
+
+/// Answers the steps of a script as `run` does, and writes four more lines: how many commands there were, how many fills they asked of the
+/// sources, by how much the count of pages rose, and the class of the view. The files are read as by `run`; the tables are handed back
+/// (docs/FORMATS.md, "Commands").
+pub fn count<F: Files, T: Tables, K: Sink>(
+    alloc: Global,
+    named: &RunFiles<'_>,
+    files: &mut F,
+    tables: T,
+    out: &mut K,
+) -> (Result<Outcome, Stop>, T)
+    ensures keeps { KeepsFiles (F.view files.new) (F.view files.old) }
+    ensures keeps_tables { KeepsTables (T.view result.1) (T.view tables) }
+    ensures reads { let old = F.view files.old in
+        ReadsAmong (RunMayRead old named.now.view.now named.now.catalog.now named.now.script.now) (F.view files.new) old }
+    ensures done { let before = outside (F.view files.old) (T.view tables) in let after = outside (F.view files.new) (T.view result.1) in
+        let Course = RunCourse lines_of_count before after named.now in
+        IfOk result.0 (λ outcome. IsDoneWith Course (outcome_status outcome) (K.view out.old) (K.view out.new)) }
+    ensures stop { let before = outside (F.view files.old) (T.view tables) in let after = outside (F.view files.new) (T.view result.1) in
+        IfErr result.0 (IsStop (RunCourse lines_of_count before after named.now) (K.view out.old) (K.view out.new)) }
+    ensures count { (K.view out.old).faults ≤ (K.view out.new).faults }
+{
+    match make_ready(alloc, named, files) {
+        Ok(ready) => count_ready(alloc, ready, tables, out),
+        Err(stop) => (Err(stop), tables),
+    }
+}
