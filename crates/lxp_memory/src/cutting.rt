@@ -4,7 +4,7 @@ ghost use Rattle.lxp_core.specs.Open.{Open, node, without_holes};
 ghost use Rattle.lxp_core.specs.Plain.{plain, put_all};
 ghost use Rattle.lxp_memory.specs.Nodes.{label_of, run};
 ghost use Rattle.lxp_memory.specs.Span.{has_span};
-ghost use Rattle.lxp_memory.specs.Cut.{hole_if, kids_of, children, cut};
+ghost use Rattle.lxp_memory.specs.Cut.{hole_if, kids_of, cut};
 
 use crate::choice::Choice;
 use crate::document::Document;
@@ -73,26 +73,6 @@ impl Document {
         Ok(list)
     }
 
-    // Puts so many nodes that stand side by side behind a list.
-    fn push_children(
-        &self,
-        alloc: Global,
-        list: &mut Vec<OpenTree>,
-        choice: Choice,
-        first: usize,
-        count: usize,
-    ) -> Result<(), AllocError>
-        requires { first + count ≤ length self.now.nodes.items }
-        ensures { OnOk result ((rest : Open) → put_all list.new.items rest
-            ≡ put_all list.old.items (children self.now.nodes.items choice first count rest)) }
-    {
-        for i in first..first + count {
-            let kids = self.kids(alloc, choice, i)?;
-            self.push_node(alloc, list, i, kids)?;
-        }
-        Ok(())
-    }
-
     /// The list of some children of a node, cut by a choice.
     pub(crate) fn cut(
         &self,
@@ -110,13 +90,11 @@ impl Document {
         let from = span.from + choice.skipped.min(span.to - span.from - 1);
         let to = from + choice.most.min(span.to - from);
         push_hole_if(&mut list, choice.leads, Span { to: from, ..span })?;
-        self.push_children(
-            alloc,
-            &mut list,
-            choice,
-            self.first(span.node) + from,
-            to - from,
-        )?;
+        let first = self.first(span.node);
+        for i in first + from..first + to {
+            let kids = self.kids(alloc, choice, i)?;
+            self.push_node(alloc, &mut list, i, kids)?;
+        }
         push_hole_if(
             &mut list,
             choice.wants_hole(span.to - to),

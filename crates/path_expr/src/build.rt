@@ -3,7 +3,7 @@ ghost use Rattle.std.specs.Prelude.{◌≡◌, [], ◌∷◌, ◌++◌, IfOk, Is
 ghost use Rattle.mix_tree.specs.LabelGrammar.{escaped_byte};
 ghost use Rattle.path_expr.specs.Form.{joined, repeated, seq, alt};
 ghost use Rattle.path_expr.specs.Values.{named, word_form, mark_head};
-ghost use Rattle.path_expr.specs.Building.{level, path_in, begin, in_quotes, after_atom, after_repeat, step, whole};
+ghost use Rattle.path_expr.specs.Building.{level, path_in, begin, close, in_quotes, after_atom, after_repeat, step, whole};
 ghost use Rattle.path_expr.specs.BuilderState.{Builds, AreUtf8, AreUtf8Now, level_in, outer_in, state_in};
 
 use crate::path::{Node, Path};
@@ -121,11 +121,30 @@ fn close_level(level: Level, last: Path) -> Result<Path, AllocError>
     join_alt(sequences, last)
 }
 
+// A closing parenthesis behind a path's last member; none where no parenthesis is open.
+fn build_close(
+    here: Level,
+    mut outer: Vec<Level>,
+    last: Path,
+) -> Result<Option<Builder>, AllocError>
+    ensures { Builds result (close (outer_in outer) (path_in (level_in here) last)) }
+{
+    let Some(around) = outer.pop() else {
+        return Ok(None);
+    };
+    let group = close_level(here, last)?;
+    Ok(Some(Builder {
+        here: around,
+        outer,
+        spot: Spot::BehindAtom(group),
+    }))
+}
+
 // One more byte behind a member with its mark.
 fn build_behind_repeat(
     alloc: Global,
     here: Level,
-    mut outer: Vec<Level>,
+    outer: Vec<Level>,
     last: Path,
     byte: u8,
 ) -> Result<Option<Builder>, AllocError>
@@ -159,17 +178,7 @@ fn build_behind_repeat(
                 spot: Spot::Start,
             }))
         }
-        b')' => {
-            let Some(around) = outer.pop() else {
-                return Ok(None);
-            };
-            let group = close_level(here, last)?;
-            Ok(Some(Builder {
-                here: around,
-                outer,
-                spot: Spot::BehindAtom(group),
-            }))
-        }
+        b')' => build_close(here, outer, last),
         _ => Ok(None),
     }
 }

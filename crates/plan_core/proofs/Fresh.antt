@@ -24,7 +24,7 @@ any_among v (w ∷ vs) (inl e) = (let t : (w == v) ≡ true = grind (arith, nat_
 any_among v (w ∷ vs) (inr a) = (let t = any_among v vs a in elim (w == v) as (λ x. (x || list_any (λ w. w == v) vs) ≡ true) [ true ↦ refl | false ↦ t ])
 
 -- it stands in one part of them alone
-distinct_apart : (xs ys : List ℕ) (v : ℕ) → AreDistinct (xs ++ ys) → Among v xs → Among v ys → ⊥
+pub distinct_apart : (xs ys : List ℕ) (v : ℕ) → AreDistinct (xs ++ ys) → Among v xs → Among v ys → ⊥
 distinct_apart [] ys v d a b = a
 distinct_apart (x ∷ xs) ys v d (inl e) b =
     let t : list_any (λ w. w == x) ys ≡ true = subst (λ (z : ℕ). list_any (λ w. w == z) ys ≡ true) e (any_among v ys b) in
@@ -38,7 +38,7 @@ distinct_apart (x ∷ xs) ys v d (inl e) b =
 distinct_apart (x ∷ xs) ys v d (inr a) b = distinct_apart xs ys v d.1 a b
 
 -- a part of them has none twice
-distinct_behind : (xs ys : List ℕ) → AreDistinct (xs ++ ys) → AreDistinct ys
+pub distinct_behind : (xs ys : List ℕ) → AreDistinct (xs ++ ys) → AreDistinct ys
 distinct_behind [] ys d = d
 distinct_behind (x ∷ xs) ys d = distinct_behind xs ys d.1
 
@@ -80,7 +80,7 @@ count_flat i (op ∷ ops) (suc n) b =
     let h = count_flat i ops n c in omega (arith, e, h)
 
 -- an operator that is an input once has one reader
-reader_once : (ops : List Operator) (i : ℕ) → count_by (λ m. m == i) (flat_map inputs_of ops) ≤ 1 → (a b : ℕ) → a < length ops → b < length ops → Among i (inputs_of (op_at ops a)) → Among i (inputs_of (op_at ops b)) → a ≡ b
+pub reader_once : (ops : List Operator) (i : ℕ) → count_by (λ m. m == i) (flat_map inputs_of ops) ≤ 1 → (a b : ℕ) → a < length ops → b < length ops → Among i (inputs_of (op_at ops a)) → Among i (inputs_of (op_at ops b)) → a ≡ b
 reader_once [] i u a b p q x y = absurd (omega (arith, p))
 reader_once (op ∷ ops) i u zero zero p q x y = refl
 reader_once (op ∷ ops) i u zero (suc b) p q x y =
