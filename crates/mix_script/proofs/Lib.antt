@@ -5,4 +5,5 @@ pub mod Held
 pub mod Holding
 pub mod LineForms
 pub mod Reading
+pub mod Selecting
 pub mod WorkedRow

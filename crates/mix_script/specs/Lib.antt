@@ -6,6 +6,7 @@ pub mod Forms
 pub mod Holding
 pub mod Lines
 pub mod Names
+pub mod Selects
 pub mod Steps
 pub mod Trails
 pub mod Transcript
