@@ -1,4 +1,5 @@
 pub mod Benches
+pub mod FirstPositions
 pub mod FirstSteps
 pub mod Goes
 pub mod GrowingKeys

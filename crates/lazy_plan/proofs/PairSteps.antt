@@ -2,9 +2,11 @@
 use Rattle.std.proofs.Common.{◌≡◌, ◌<◌, ◌≤◌, ◌+◌, ◌*◌, ℕ, suc, Bool, true, false, List, [], ◌∷◌, ◌++◌, length, refl, ◌∙◌, sym, ap, subst, arith}
 use Rattle.std.specs.Prelude.{IsTrue}
 use Rattle.std.proofs.lemmas.Nat.{mul-le}
-use Rattle.mix_base.specs.Events.{nothing, finds, found, cost}
+use Rattle.mix_base.specs.Events.{finds, found, cost}
 use Rattle.mix_base.proofs.Choices.{and_parts}
 use Rattle.mix_base.proofs.EventLaws.{found-append_none, found-append_some, found-append_both, cost-append_none, cost-append_le, cost-append_both}
+use Rattle.lazy_descend.proofs.Searches.{still_told}
+use Rattle.lazy_descend.specs.Searches.{FindsNone}
 use Rattle.mix_tree.specs.Nodes.{Documents}
 use Rattle.mix_tree.specs.declared.comparing.Test.{Test}
 use Rattle.plan_core.specs.Plans.{Operator}
@@ -24,11 +26,11 @@ use Rattle.lazy_binding.specs.declared.parts.Growing.{Growing}
 use Rattle.lazy_binding.specs.declared.parts.Fixed.{Fixed}
 use Rattle.lazy_binding.specs.Parts.{operators, world_of}
 use Rattle.lazy_binding.proofs.Bound.{kinds_at, inputs_at, fit_at}
-use Rattle.lazy_plan.specs.Steps.{single, Asks, Finds, Moves, Ran, CanStep, left_events, left_number}
+use Rattle.lazy_plan.specs.Steps.{single, Asks, Finds, Moves, Ran, CanStep, left_events, left_number, telling}
 use Rattle.lazy_binding.proofs.Keep.{keeps_same, docs_kept}
 use Rattle.lazy_binding.proofs.Stay.{cursors_kept, size_kept}
 use Rattle.lazy_plan.proofs.Shapes.{events_at, size_at, single_at}
-use Rattle.lazy_plan.proofs.Goes.{Goes, goes_same, still_told, less_times, le_same, in_place, ran_over}
+use Rattle.lazy_plan.proofs.Goes.{Goes, goes_same, tells_on, less_times, le_same, in_place, ran_over}
 
 module _ (ops : List Operator) (n l r : ℕ) (tests : List Test) where
   -- a position that is at no pair is the one before all events
@@ -63,7 +65,7 @@ module _ (ops : List Operator) (n l r : ℕ) (tests : List Test) where
       left_costs x = cost-expand_le (pairs (docs_of a) tests (events (docs_of a) ops r)) (ahead a ops l x)
 
       -- nothing on the left
-      pub left_done : (x : Position) → (IsTrue (is_told a ops) → found (ahead a ops l x) ≡ nothing) → IsTrue (is_told a ops) → found (left_events a ops l r tests x) ≡ nothing
+      pub left_done : (x : Position) → (FindsNone (telling a ops) (ahead a ops l x)) → FindsNone (telling a ops) (left_events a ops l r tests x)
       left_done x f t = found-expand_none (pairs (docs_of a) tests (events (docs_of a) ops r)) (ahead a ops l x) (f t)
 
       -- a binding on the left, before the first on the right
@@ -111,18 +113,21 @@ module _ (ops : List Operator) (n l r : ℕ) (tests : List Test) where
             subst (λ (z : ℕ). number b ops l x * suc z ≤ left_number a ops l r x) (sym (size_kept a b k.kept ops bench r)) m
 
         -- nothing is left on the right
-        pub right_over : (IsTrue (is_told a ops) → found (ahead a ops r y) ≡ nothing)
+        pub right_over : (FindsNone (telling a ops) (ahead a ops r y))
             → Goes a b ops n (stands a ops n (pairs_up l r tests) (Pair' q x q' y)).ahead (left_events b ops l r tests x) (weighs a ops n (pairs_up l r tests) (Pair' q x q' y)) (left_number b ops l r x)
         right_over f = record {
           kept = k.kept;
-          falls = omega (arith, left_falls);
-          found = λ t. found-append_none beside behind (found-pairs_none (docs_of a) tests (ahead a ops r y) (binding a ops l x) (f t)) ∙ ap found later;
-          lazy = λ t w.
-              let asked = k.lazy t w in
-              let whole = cost-append_none beside behind (found-pairs_none (docs_of a) tests (ahead a ops r y) (binding a ops l x) (f t)) in
-              let c = cost-pairs_le (docs_of a) tests (ahead a ops r y) (binding a ops l x) in
-              let same = ap cost later in
-              omega (arith, asked, whole, c, same);
+          comes = record {
+            tells = tells_on k.kept ops;
+            falls = omega (arith, left_falls);
+            found = λ t. found-append_none beside behind (found-pairs_none (docs_of a) tests (ahead a ops r y) (binding a ops l x) (f t)) ∙ ap found later;
+            lazy = λ t w.
+                let asked = k.lazy t w in
+                let whole = cost-append_none beside behind (found-pairs_none (docs_of a) tests (ahead a ops r y) (binding a ops l x) (f t)) in
+                let c = cost-pairs_le (docs_of a) tests (ahead a ops r y) (binding a ops l x) in
+                let same = ap cost later in
+                omega (arith, asked, whole, c, same);
+          };
           none = λ s. k.none (pairs_single s).1;
         }
           where
@@ -159,7 +164,7 @@ module _ (ops : List Operator) (n l r : ℕ) (tests : List Test) where
             falls = pair_falls p p';
             found = λ t.
                 found-append_some beside behind _ _
-                (found-pairs_yes (docs_of a) tests (ahead a ops r y) (binding a ops l x) (binding b ops r d) (ahead b ops r d) (f.found t) (lets_old true (h (still_told k.kept ops t))))
+                (found-pairs_yes (docs_of a) tests (ahead a ops r y) (binding a ops l x) (binding b ops r d) (ahead b ops r d) (f.found t) (lets_old true (h (still_told (tells_on k.kept ops) t))))
                 ∙ ap (λ (z : TolledRow). finds (z ++ binding b ops r d) (pairs (docs_of a) tests (ahead b ops r d) (binding a ops l x) ++ behind)) (sym stays.binding_is)
                 ∙ ap (finds (binding b ops l x ++ binding b ops r d)) (pair_ahead p p');
           }
@@ -182,7 +187,7 @@ module _ (ops : List Operator) (n l r : ℕ) (tests : List Test) where
                   → (found beside ≡ found (pairs (docs_of a) tests (ahead b ops r d) (binding a ops l x)))
                   × (cost beside ≡ cost (ahead a ops r y) + cost (pairs (docs_of a) tests (ahead b ops r d) (binding a ops l x)))
               passed t =
-                  let e = lets_old false (h (still_told k.kept ops t)) in (
+                  let e = lets_old false (h (still_told (tells_on k.kept ops) t)) in (
                     found-pairs_no (docs_of a) tests (ahead a ops r y) (binding a ops l x) (binding b ops r d) (ahead b ops r d) (f.found t) e,
                     cost-pairs_no (docs_of a) tests (ahead a ops r y) (binding a ops l x) (binding b ops r d) (ahead b ops r d) (f.found t) e,
                   )
@@ -248,7 +253,7 @@ module _ {S : Type 0} {view : S → View} {came_from : S → S → Type 0} {s t 
       (λ z. (pairs_single (operators p) n l r tests can.fixed.typed can.op is z).1)
 
   -- without a binding the left side goes on
-  pub pair_over : (IsTrue (is_told a (operators p)) → found (ahead a (operators p) r y) ≡ nothing)
+  pub pair_over : (FindsNone (telling a (operators p)) (ahead a (operators p) r y))
       → Goes a b (operators p) n (stands a (operators p) n F (Pair' q x q' y)).ahead (left_events b (operators p) l r tests x) (weighs a (operators p) n F (Pair' q x q' y)) (left_number b (operators p) l r x)
   pair_over done = right_over (operators p) n l r tests can.fixed.typed can.op is a b can.bench q q' x y there ran.asks done
 

@@ -2,6 +2,7 @@
 use Rattle.std.proofs.Common.{◌≡◌, ℕ, List, [], ◌∷◌, Option, Some, None, ◌∙◌, sym, ap, subst, arith}
 use Rattle.std.specs.Prelude.{slice_index_or}
 use Rattle.mix_base.specs.Events.{Find, finds, found}
+use Rattle.lazy_descend.proofs.Searches.{still_told, still_forward}
 use Rattle.lxp_core.specs.View.{View}
 use Rattle.plan_core.specs.declared.plan.Piece.{Piece}
 use Rattle.plan_core.specs.declared.plan.Piece.TheVariants.{Var as var_piece, Text as text_piece}
@@ -22,7 +23,7 @@ use Rattle.lazy_value.specs.declared.ids.Origin.{Origin}
 use Rattle.lazy_value.specs.declared.ids.Origin.TheVariants.{Element}
 use Rattle.lazy_value.specs.declared.ids.Rest.{Rest, End}
 use Rattle.lazy_value.specs.declared.ids.Site.{Site}
-use Rattle.lazy_value.proofs.Turns.{still_told, still_forward, Paid, paid_start, paid_on, paid_at, paid_over}
+use Rattle.lazy_value.proofs.Turns.{tells_on, Paid, paid_start, paid_on, paid_at, paid_over}
 
 -- the trees of an element are those of its list
 pub element_is : (st : BenchState) (op list input : ℕ) (at : Position) (origin : Origin) (r : Rest) → pieces_of (op_at (ops_of st) op) ≡ var_piece list ∷ [] → input ≡ input_at (ops_of st) op
@@ -71,7 +72,7 @@ root_walked {view = view} after s t u b d e input v op c at x h ran none first z
   kept = keeps_on.twice (state_of (view s) b) (state_of (view t) d) (state_of (view u) e) ran.kept w.kept;
   asks = λ y f. (
       let q = ap toll (root_trees (state_of (view s) b) (state_of (view t) d) input v op c at h _ (first.found y) (subst (IsOriginOf (state_of (view t) d) input c v) z o)) in
-      let i = w.asks (still_told ran.kept y) (still_forward ran.kept f) in
+      let i = w.asks (still_told (tells_on ran.kept) y) (still_forward (tells_on ran.kept) f) in
       let n = none h.single in
       omega (arith, q, i, n));
 }

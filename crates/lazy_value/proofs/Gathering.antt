@@ -1,7 +1,7 @@
 -- Lists that are gathered from the events of an operator's input.
 use Rattle.std.proofs.Common.{◌≡◌, ◌<◌, ◌≤◌, ◌+◌, ℕ, suc, List, Option, Some, ◌∙◌, sym, ap, subst, arith}
-use Rattle.std.specs.Prelude.{IsTrue}
-use Rattle.mix_base.specs.Events.{nothing, finds, found, cost}
+use Rattle.lazy_descend.specs.Searches.{FindsNone}
+use Rattle.mix_base.specs.Events.{finds, found, cost}
 use Rattle.mix_tree.specs.Nodes.{Documents}
 use Rattle.lxp_core.specs.View.{View}
 use Rattle.plan_core.specs.Plans.{Operator}
@@ -9,7 +9,7 @@ use Rattle.plan_core.specs.Tolled.{Tolled, toll, dearer}
 use Rattle.plan_core.specs.TolledRows.{TolledRow, piece_items, collected}
 use Rattle.plan_core.specs.Events.{RowEvents}
 use Rattle.lazy_plan.specs.declared.bench.Bench.{Bench}
-use Rattle.lazy_plan.specs.Bench.{BenchState, state_of, told, ops_of, documents, number_at, KeepsBench, AsksAtMost, IsFirstOf}
+use Rattle.lazy_plan.specs.Bench.{BenchState, state_of, told_by, ops_of, documents, number_at, KeepsBench, AsksAtMost, IsFirstOf}
 use Rattle.lazy_binding.specs.declared.position.Position.{Position}
 use Rattle.lazy_value.specs.Forms.{input_at, piece_of, gathers_all}
 use Rattle.lazy_value.specs.Ids.{ahead_from, number_from, members_trees, group_ahead, group_trees, member_trees, Stands, GathersAll, IsRest, rest_trees, weight, left}
@@ -37,7 +37,7 @@ module _ (a c : BenchState) (k : KeepsBench a c) (op : ℕ) (up : Rest) (h : IsR
       ∙ ap (λ (ops : List Operator). piece_items (documents c) (piece_of ops op) row (collected (documents c) (piece_of ops op) later (rest_trees c up))) (sym (ops_kept a c k)))
 
   -- a list that is at its end
-  gathers_over : (es : RowEvents) → AsksAtMost a c (cost es) → (IsTrue (told a) → found es ≡ nothing) → (x : Rest) → x ≡ up
+  gathers_over : (es : RowEvents) → AsksAtMost a c (cost es) → FindsNone (told_by a) es → (x : Rest) → x ≡ up
       → GoesOn a c (collected (documents a) (piece_of (ops_of a) op) es (rest_trees a up)) (suc (weight a up)) x
   gathers_over es asks e x z =
       subst (λ (r : Rest). GoesOn a c (collected (documents a) (piece_of (ops_of a) op) es (rest_trees a up)) (suc (weight a up)) r) (sym z)
@@ -63,11 +63,11 @@ module _ {S : Type 0} {view : S → View} {came_from : S → S → Type 0} (s t 
     rest_after = IsRest-kept (state_of (view s) b) (state_of (view t) d) walked.kept up h
 
     -- without a further one the list is at its end
-    pub members_over : (IsTrue (told (state_of (view s) b)) → found (ahead_from (state_of (view s) b) input at) ≡ nothing) → (x : Rest) → x ≡ up
+    pub members_over : FindsNone (told_by (state_of (view s) b)) (ahead_from (state_of (view s) b) input at) → (x : Rest) → x ≡ up
         → GoesOn (state_of (view s) b) (state_of (view t) d) (members_trees (state_of (view s) b) op at (rest_trees (state_of (view s) b) up)) (suc (weight (state_of (view s) b) up)) x
     members_over e x z =
         gathers_over (state_of (view s) b) (state_of (view t) d) walked.kept op up h (ahead_from (state_of (view s) b) (input_at (ops_of (state_of (view s) b)) op) at) asked
-        (subst (λ (n : ℕ). IsTrue (told (state_of (view s) b)) → found (ahead_from (state_of (view s) b) n at) ≡ nothing) i e) x z
+        (subst (λ (n : ℕ). FindsNone (told_by (state_of (view s) b)) (ahead_from (state_of (view s) b) n at)) i e) x z
 
     pub members_left : (x : Rest) → x ≡ up → left (state_of (view t) d) x ≤ number_from (state_of (view s) b) (input_at (ops_of (state_of (view s) b)) op) at + left (state_of (view s) b) up
     members_left x z = left_over (state_of (view s) b) (state_of (view t) d) walked.kept op up h _ x z
@@ -109,7 +109,7 @@ module _ {S : Type 0} {view : S → View} {came_from : S → S → Type 0} (s t 
     group_rest = IsRest-kept (state_of (view s) b) (state_of (view t) d) walked.kept up h
 
     -- without a further one the list is at its end
-    pub group_over : (IsTrue (told (state_of (view s) b)) → found (group_ahead (state_of (view s) b) op first at) ≡ nothing) → (x : Rest) → x ≡ up
+    pub group_over : FindsNone (told_by (state_of (view s) b)) (group_ahead (state_of (view s) b) op first at) → (x : Rest) → x ≡ up
         → GoesOn (state_of (view s) b) (state_of (view t) d) (group_trees (state_of (view s) b) op first at (rest_trees (state_of (view s) b) up)) (suc (weight (state_of (view s) b) up)) x
     group_over e x z = gathers_over (state_of (view s) b) (state_of (view t) d) walked.kept op up h (group_ahead (state_of (view s) b) op first at) walked.asks e x z
 

@@ -1,7 +1,9 @@
 -- How far the search for the next member of a group has come.
-use Rattle.std.proofs.Common.{◌≡◌, ◌<◌, ◌≤◌, ◌+◌, ℕ, Bool, true, false, List, refl, ◌∙◌, sym, ap, subst, arith}
+use Rattle.std.proofs.Common.{◌≡◌, ◌<◌, ℕ, Bool, true, false, List, refl, ◌∙◌, sym, ap, subst, arith}
 use Rattle.std.specs.Prelude.{IsTrue}
-use Rattle.mix_base.specs.Events.{nothing, finds, found, cost}
+use Rattle.mix_base.specs.Events.{finds, found, cost}
+use Rattle.lazy_descend.specs.Searches.{FindsNone, FindsAt, Moves, Comes}
+use Rattle.lazy_descend.proofs.Searches.{still_told, comes_start, comes_none, comes_asks, comes_at, comes_then}
 use Rattle.mix_tree.specs.Nodes.{Documents}
 use Rattle.mix_tree.specs.declared.var.Key.{Key}
 use Rattle.lxp_core.specs.View.{View}
@@ -11,25 +13,24 @@ use Rattle.plan_core.specs.TolledRows.{TolledRow}
 use Rattle.plan_core.specs.Events.{RowEvents, only, passing}
 use Rattle.plan_core.proofs.Found.{found-only_no, cost-only_no, found-passing_none, found-passing_yes, found-run_no, cost-passing_le}
 use Rattle.lazy_plan.specs.declared.bench.Bench.{Bench}
-use Rattle.lazy_plan.specs.Bench.{BenchState, state_of, told, forward, fills_of, ops_of, documents, IsCursor, binding_at, ahead_at, number_at, KeepsBench, AsksAtMost, IsFirstOf, BenchRan}
+use Rattle.lazy_plan.specs.Bench.{BenchState, state_of, told_by, told, ops_of, documents, IsCursor, binding_at, ahead_at, number_at, KeepsBench, AsksAtMost, IsFirstOf, BenchRan}
 use Rattle.lazy_binding.specs.declared.position.Position.{Position}
 use Rattle.lazy_plan.proofs.Benches.{keeps_on}
 use Rattle.lazy_value.specs.Forms.{input_at, keys_of}
 use Rattle.lazy_value.specs.Ids.{stops_at, group_ahead}
-use Rattle.lazy_value.specs.Steps.{Walked, IsMember}
+use Rattle.lazy_value.specs.Steps.{Walked, members_of, IsMember}
 use Rattle.lazy_value.proofs.Keep.{ops_kept, input_kept, binding_kept}
 use Rattle.lazy_value.proofs.Sames.{same_by}
-use Rattle.lazy_value.proofs.Turns.{still_told, still_forward}
+use Rattle.lazy_value.proofs.Turns.{tells_on}
 
--- of these events of a group the later ones are left, behind what was passed
-pub record Goes (a b : BenchState) (whole now : RowEvents) : Type 0 where
+-- of these events of a group the later ones are left, and a call keeps what every call keeps
+pub record Goes (a b : BenchState) (whole now : RowEvents) (top num : ℕ) : Type 0 where
   pub kept : KeepsBench a b
-  pub found : IsTrue (told a) → found whole ≡ found now
-  pub asks : IsTrue (told a) → IsTrue (forward a) → fills_of b + cost now ≤ fills_of a + cost whole
+  pub comes : Comes (told_by a) (told_by b) whole now top num
 
 -- at the beginning
-pub goes_start : (a : BenchState) (whole : RowEvents) → Goes a a whole whole
-goes_start a whole = record { kept = keeps_on.same a; found = λ y. refl; asks = λ y w. omega arith }
+pub goes_start : (a : BenchState) (whole : RowEvents) (top : ℕ) → Goes a a whole whole top top
+goes_start a whole top = record { kept = keeps_on.same a; comes = comes_start refl refl }
 
 -- the test that a group's members pass
 abbrev passes : BenchState → ℕ → Position → TolledRow → Bool
@@ -49,20 +50,20 @@ module _ (b c : BenchState) (k : KeepsBench b c) (op : ℕ) (first : Position) (
       ap {B = RowEvents} (λ (test : TolledRow → Bool). passing (stops_at (ops_of b) op) test es) (λ i row. sym (passes_kept row) i)
       ∙ ap (λ (ops : List Operator). passing (stops_at ops op) (passes c op first) es) (sym (ops_kept b c k))
 
-module _ (a b c : BenchState) (whole : RowEvents) (op : ℕ) (first at : Position) (g : Goes a b whole (group_ahead b op first at)) (k : KeepsBench b c)
-    (e : AsksAtMost b c (cost (ahead_at b (input_at (ops_of b) op) at))) where
+module _ (a b c : BenchState) (whole : RowEvents) (op : ℕ) (first at : Position) {top : ℕ} (g : Goes a b whole (group_ahead b op first at) top (number_at b (input_at (ops_of b) op) at))
+    (k : KeepsBench b c) (e : AsksAtMost b c (cost (ahead_at b (input_at (ops_of b) op) at))) where
   pub goes_kept : KeepsBench a c
   goes_kept = keeps_on.twice a b c g.kept k
 
   -- what is asked is within what is allowed
   pub goes_asks : AsksAtMost a c (cost whole)
-  goes_asks y w =
-      let i = e (still_told g.kept y) (still_forward g.kept w) in let j = g.asks y w in
-      let l = cost-passing_le (stops_at (ops_of b) op) (passes b op first) (ahead_at b (input_at (ops_of b) op) at) in omega (arith, i, j, l)
+  goes_asks = comes_asks g.comes (told_by c) (λ y w.
+      let i = e y w in
+      let l = cost-passing_le (stops_at (ops_of b) op) (passes b op first) (ahead_at b (input_at (ops_of b) op) at) in omega (arith, i, l))
 
   -- no further binding is no further member
-  pub goes_done : (IsTrue (told b) → found (ahead_at b (input_at (ops_of b) op) at) ≡ nothing) → IsTrue (told a) → found whole ≡ nothing
-  goes_done h y = g.found y ∙ found-passing_none (stops_at (ops_of b) op) (passes b op first) (ahead_at b (input_at (ops_of b) op) at) (h (still_told g.kept y))
+  pub goes_done : FindsNone (told_by b) (ahead_at b (input_at (ops_of b) op) at) → FindsNone (told_by a) whole
+  goes_done h = comes_none g.comes (λ y. found-passing_none (stops_at (ops_of b) op) (passes b op first) (ahead_at b (input_at (ops_of b) op) at) (h y))
 
   module _ (h : IsCursor b (input_at (ops_of b) op) first) (d : Position) (f : IsFirstOf b c (input_at (ops_of b) op) (ahead_at b (input_at (ops_of b) op) at) (number_at b (input_at (ops_of b) op) at) d) where
     input_same : input_at (ops_of c) op ≡ input_at (ops_of b) op
@@ -75,45 +76,58 @@ module _ (a b c : BenchState) (whole : RowEvents) (op : ℕ) (first at : Positio
     falls_same = subst (λ (n : ℕ). number_at c n d < number_at b (input_at (ops_of b) op) at) (sym input_same) f.falls
 
     -- what is found
-    finds_it : IsTrue (told a) → found (ahead_at b (input_at (ops_of b) op) at) ≡ finds (binding_at c (input_at (ops_of c) op) d) (ahead_at c (input_at (ops_of c) op) d)
-    finds_it y = f.found (still_told g.kept y) ∙ ap (λ (n : ℕ). finds (binding_at c n d) (ahead_at c n d)) (sym input_same)
+    finds_it : FindsAt (told_by b) (ahead_at b (input_at (ops_of b) op) at) (binding_at c (input_at (ops_of c) op) d) (ahead_at c (input_at (ops_of c) op) d)
+    finds_it y = f.found y ∙ ap (λ (n : ℕ). finds (binding_at c n d) (ahead_at c n d)) (sym input_same)
+
+    -- whether it passes the test is the same before the call
+    test_before : (w : Bool) → (IsTrue (told c) → passes c op first (binding_at c (input_at (ops_of c) op) d) ≡ w) → IsTrue (told b)
+        → passes b op first (binding_at c (input_at (ops_of c) op) d) ≡ w
+    test_before w t y = sym (passes_kept b c k op first h (binding_at c (input_at (ops_of c) op) d)) ∙ t (still_told (tells_on k) y)
 
     -- a binding of the group is the next member
-    pub goes_yes : (top : ℕ) → number_at b (input_at (ops_of b) op) at ≤ top → (IsTrue (told c) → passes c op first (binding_at c (input_at (ops_of c) op) d) ≡ true) → IsMember a c op first whole top d
-    goes_yes top low t = record {
+    member_at : (IsTrue (told c) → passes c op first (binding_at c (input_at (ops_of c) op) d) ≡ true)
+        → IsMember b c op first (group_ahead b op first at) (number_at b (input_at (ops_of b) op) at) d
+    member_at t = record {
       cursor = cursor_same;
-      falls = (let z = falls_same in omega (arith, z, low));
-      found = λ y. g.found y
-          ∙ found-passing_yes (stops_at (ops_of b) op) (passes b op first) (ahead_at b (input_at (ops_of b) op) at) _ _ (finds_it y)
-          (sym (passes_kept b c k op first h (binding_at c (input_at (ops_of c) op) d)) ∙ t (still_told goes_kept y))
+      row = tt;
+      falls = falls_same;
+      found = λ y.
+          found-passing_yes (stops_at (ops_of b) op) (passes b op first) (ahead_at b (input_at (ops_of b) op) at) _ _ (finds_it y) (test_before true t y)
           ∙ ap (finds (binding_at c (input_at (ops_of c) op) d)) (behind_kept b c k op first h (ahead_at c (input_at (ops_of c) op) d));
     }
 
-    -- it fails the test before the call as well
-    fails_it : (IsTrue (told c) → passes c op first (binding_at c (input_at (ops_of c) op) d) ≡ false) → IsTrue (told a) → passes b op first (binding_at c (input_at (ops_of c) op) d) ≡ false
-    fails_it t y = sym (passes_kept b c k op first h (binding_at c (input_at (ops_of c) op) d)) ∙ t (still_told goes_kept y)
+    -- and the first of all that are searched
+    pub goes_yes : (IsTrue (told c) → passes c op first (binding_at c (input_at (ops_of c) op) d) ≡ true) → IsMember a c op first whole top d
+    goes_yes t = comes_at g.comes {now = members_of c op first} (member_at t)
 
     -- another one is passed, where the group doesn't stop at it
-    pub goes_no : stops_at (ops_of b) op ≡ false → (IsTrue (told c) → passes c op first (binding_at c (input_at (ops_of c) op) d) ≡ false) → Goes a c whole (group_ahead c op first d)
-    goes_no n t =
+    member_on : stops_at (ops_of b) op ≡ false → (IsTrue (told c) → passes c op first (binding_at c (input_at (ops_of c) op) d) ≡ false)
+        → Moves (told_by b) (told_by c) (members_of c op first) (group_ahead b op first at) (number_at b (input_at (ops_of b) op) at) d
+    member_on n t =
         let es : RowEvents = ahead_at b (input_at (ops_of b) op) at in
         let is : passing (stops_at (ops_of b) op) (passes b op first) es ≡ only (passes b op first) es = ap (λ (w : Bool). passing w (passes b op first) es) n in
         let later : RowEvents = ahead_at c (input_at (ops_of c) op) d in
         let then : only (passes b op first) later ≡ group_ahead c op first d = ap (λ (w : Bool). passing w (passes b op first) later) (sym n) ∙ behind_kept b c k op first h later in
         record {
-          kept = goes_kept;
-          found = λ y. g.found y ∙ ap found is ∙ found-only_no (passes b op first) es _ _ (finds_it y) (fails_it t y) ∙ ap found then;
-          asks = λ y w. (let i = e (still_told g.kept y) (still_forward g.kept w) in let j = g.asks y w in
-              let l = cost-only_no (passes b op first) es _ _ (finds_it y) (fails_it t y) in
+          cursor = cursor_same;
+          falls = falls_same;
+          found = λ y. ap found is ∙ found-only_no (passes b op first) es _ _ (finds_it y) (test_before false t y) ∙ ap found then;
+          lazy = λ y w. (let i = e y w in
+              let l = cost-only_no (passes b op first) es _ _ (finds_it y) (test_before false t y) in
               let m = ap cost then in
-              let o = ap cost is in omega (arith, i, j, l, m, o));
+              let o = ap cost is in omega (arith, i, l, m, o));
         }
 
+    -- from which the search goes on
+    pub goes_no : stops_at (ops_of b) op ≡ false → (IsTrue (told c) → passes c op first (binding_at c (input_at (ops_of c) op) d) ≡ false)
+        → Goes a c whole (group_ahead c op first d) top (number_at c (input_at (ops_of c) op) d)
+    goes_no n t = record { kept = goes_kept; comes = comes_then g.comes {now = members_of c op first} (tells_on k) (member_on n t) }
+
     -- where it stops there, there is no further member
-    pub goes_end : stops_at (ops_of b) op ≡ true → (IsTrue (told c) → passes c op first (binding_at c (input_at (ops_of c) op) d) ≡ false) → IsTrue (told a) → found whole ≡ nothing
-    goes_end n t y =
+    pub goes_end : stops_at (ops_of b) op ≡ true → (IsTrue (told c) → passes c op first (binding_at c (input_at (ops_of c) op) d) ≡ false) → FindsNone (told_by a) whole
+    goes_end n t =
         let es : RowEvents = ahead_at b (input_at (ops_of b) op) at in
-        g.found y ∙ ap (λ (w : Bool). found (passing w (passes b op first) es)) n ∙ found-run_no (passes b op first) es _ _ (finds_it y) (fails_it t y)
+        comes_none g.comes (λ y. ap (λ (w : Bool). found (passing w (passes b op first) es)) n ∙ found-run_no (passes b op first) es _ _ (finds_it y) (test_before false t y))
 
 -- what the code compared is the test
 pub test_is : (c : BenchState) (op input : ℕ) (first d : Position) (keys : List Key) (b t : Bool) → input ≡ input_at (ops_of c) op → keys ≡ keys_of (op_at (ops_of c) op)
@@ -122,8 +136,8 @@ test_is c op input first d keys b t i k e f =
     ap (same_by (documents c) (binding_at c (input_at (ops_of c) op) first) (binding_at c (input_at (ops_of c) op) d)) (sym k)
     ∙ ap (λ (n : ℕ). same_by (documents c) (binding_at c n first) (binding_at c n d) keys) (sym i) ∙ sym e ∙ f
 
-module _ {S : Type 0} {view : S → View} {came_from : S → S → Type 0} (after : (x y z : S) → came_from y x → came_from z y → came_from z x) (s t u : S) (p q r : Bench) (whole : RowEvents) (op input : ℕ) (first at : Position)
-    (came : came_from t s) (g : Goes (state_of (view s) p) (state_of (view t) q) whole (group_ahead (state_of (view t) q) op first at)) (i : input ≡ input_at (ops_of (state_of (view t) q)) op)
+module _ {S : Type 0} {view : S → View} {came_from : S → S → Type 0} (after : (x y z : S) → came_from y x → came_from z y → came_from z x) (s t u : S) (p q r : Bench) (whole : RowEvents) (op input : ℕ) (first at : Position) {top : ℕ}
+    (came : came_from t s) (g : Goes (state_of (view s) p) (state_of (view t) q) whole (group_ahead (state_of (view t) q) op first at) top (number_at (state_of (view t) q) (input_at (ops_of (state_of (view t) q)) op) at)) (i : input ≡ input_at (ops_of (state_of (view t) q)) op)
     (ran : BenchRan view came_from t q u r) (e : AsksAtMost (state_of (view t) q) (state_of (view u) r) (cost (ahead_at (state_of (view t) q) input at))) where
   asked : AsksAtMost (state_of (view t) q) (state_of (view u) r) (cost (ahead_at (state_of (view t) q) (input_at (ops_of (state_of (view t) q)) op) at))
   asked = subst (λ (n : ℕ). AsksAtMost (state_of (view t) q) (state_of (view u) r) (cost (ahead_at (state_of (view t) q) n at))) i e
@@ -142,10 +156,10 @@ module _ {S : Type 0} {view : S → View} {came_from : S → S → Type 0} (afte
   }
 
   -- no further binding is no further member
-  pub none_left : (IsTrue (told (state_of (view t) q)) → found (ahead_at (state_of (view t) q) input at) ≡ nothing) → IsTrue (told (state_of (view s) p)) → found whole ≡ nothing
+  pub none_left : FindsNone (told_by (state_of (view t) q)) (ahead_at (state_of (view t) q) input at) → FindsNone (told_by (state_of (view s) p)) whole
   none_left h =
       goes_done (state_of (view s) p) (state_of (view t) q) (state_of (view u) r) whole op first at g ran.kept asked
-      (subst (λ (n : ℕ). IsTrue (told (state_of (view t) q)) → found (ahead_at (state_of (view t) q) n at) ≡ nothing) i h)
+      (subst (λ (n : ℕ). FindsNone (told_by (state_of (view t) q)) (ahead_at (state_of (view t) q) n at)) i h)
 
   module _ (h : IsCursor (state_of (view t) q) (input_at (ops_of (state_of (view t) q)) op) first) (d : Position)
       (f : IsFirstOf (state_of (view t) q) (state_of (view u) r) input (ahead_at (state_of (view t) q) input at) (number_at (state_of (view t) q) input at) d) where
@@ -161,8 +175,7 @@ module _ {S : Type 0} {view : S → View} {came_from : S → S → Type 0} (afte
     found_falls = falls_same (state_of (view s) p) (state_of (view t) q) (state_of (view u) r) whole op first at g ran.kept asked h d first_found
 
     -- a binding of the group is the next member
-    pub member_found : (top : ℕ) → number_at (state_of (view t) q) (input_at (ops_of (state_of (view t) q)) op) at ≤ top
-        → (IsTrue (told (state_of (view u) r)) → passes (state_of (view u) r) op first (binding_at (state_of (view u) r) (input_at (ops_of (state_of (view u) r)) op) d) ≡ true)
+    pub member_found : (IsTrue (told (state_of (view u) r)) → passes (state_of (view u) r) op first (binding_at (state_of (view u) r) (input_at (ops_of (state_of (view u) r)) op) d) ≡ true)
         → IsMember (state_of (view s) p) (state_of (view u) r) op first whole top d
     member_found = goes_yes (state_of (view s) p) (state_of (view t) q) (state_of (view u) r) whole op first at g ran.kept asked h d first_found
 
@@ -172,11 +185,11 @@ module _ {S : Type 0} {view : S → View} {came_from : S → S → Type 0} (afte
 
     -- another one is passed, where the group doesn't stop at it
     pub goes_on : stops_at (ops_of (state_of (view u) r)) op ≡ false → (IsTrue (told (state_of (view u) r)) → passes (state_of (view u) r) op first (binding_at (state_of (view u) r) (input_at (ops_of (state_of (view u) r)) op) d) ≡ false)
-        → Goes (state_of (view s) p) (state_of (view u) r) whole (group_ahead (state_of (view u) r) op first d)
+        → Goes (state_of (view s) p) (state_of (view u) r) whole (group_ahead (state_of (view u) r) op first d) top (number_at (state_of (view u) r) (input_at (ops_of (state_of (view u) r)) op) d)
     goes_on n = goes_no (state_of (view s) p) (state_of (view t) q) (state_of (view u) r) whole op first at g ran.kept asked h d first_found (stops_before false n)
 
     -- where it stops there, there is no further member
     pub goes_over : stops_at (ops_of (state_of (view u) r)) op ≡ true
         → (IsTrue (told (state_of (view u) r)) → passes (state_of (view u) r) op first (binding_at (state_of (view u) r) (input_at (ops_of (state_of (view u) r)) op) d) ≡ false)
-        → IsTrue (told (state_of (view s) p)) → found whole ≡ nothing
+        → FindsNone (told_by (state_of (view s) p)) whole
     goes_over n = goes_end (state_of (view s) p) (state_of (view t) q) (state_of (view u) r) whole op first at g ran.kept asked h d first_found (stops_before true n)

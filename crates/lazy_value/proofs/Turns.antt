@@ -1,10 +1,12 @@
 -- Several turns, one after another, and what they cost.
 use Rattle.std.proofs.Common.{◌≡◌, ◌<◌, ◌≤◌, ◌+◌, ℕ, suc, false, ◌∙◌, sym, ap, arith}
 use Rattle.std.specs.Prelude.{IsTrue}
+use Rattle.lazy_descend.specs.Searches.{TellsOn}
+use Rattle.lazy_descend.proofs.Searches.{still_told, still_forward}
 use Rattle.lxp_core.specs.View.{View}
 use Rattle.plan_core.specs.Tolled.{Tolled, toll, is_item, paid, dearer}
 use Rattle.lazy_plan.specs.declared.bench.Bench.{Bench}
-use Rattle.lazy_plan.specs.Bench.{BenchState, state_of, IsBenchOf, told, forward, fills_of, KeepsBench, AsksAtMost, BenchRan}
+use Rattle.lazy_plan.specs.Bench.{BenchState, state_of, IsBenchOf, told_by, told, forward, fills_of, KeepsBench, AsksAtMost, BenchRan}
 use Rattle.lazy_plan.proofs.Benches.{keeps_on}
 use Rattle.lazy_value.specs.Ids.{IsRest, rest_trees, weight}
 use Rattle.lazy_value.specs.Steps.{Walked, StandsFor, GoesOn}
@@ -13,13 +15,9 @@ use Rattle.lazy_value.specs.declared.ids.Rest.{Rest}
 use Rattle.lazy_value.proofs.Laws.{dearer_zero, dearer_twice, toll_dearer, is_item_dearer, paid_dearer}
 use Rattle.lazy_value.proofs.Keep.{IsRest-kept, rest_trees-kept, weight-kept}
 
--- told sources are told after calls
-pub still_told : {a b : BenchState} → KeepsBench a b → IsTrue (told a) → IsTrue (told b)
-still_told k y = k.told ∙ y
-
--- forward ones are forward
-pub still_forward : {a b : BenchState} → KeepsBench a b → IsTrue (forward a) → IsTrue (forward b)
-still_forward k y = k.forward ∙ y
+-- sources tell on over calls
+pub tells_on : {a b : BenchState} → KeepsBench a b → TellsOn (told_by a) (told_by b)
+tells_on k = record { told = k.told; forward = k.forward }
 
 -- of these trees the later ones are left, behind a toll that was paid
 pub record Paid (a b : BenchState) (f g : Tolled) : Type 0 where
@@ -35,32 +33,32 @@ module _ {a b c : BenchState} {f g : Tolled} (p : Paid a b f g) where
   pub paid_asks : KeepsBench b c → AsksAtMost b c (toll g) → AsksAtMost a c (toll f)
   paid_asks k h y w =
       let q = p.trees y in
-      let e = ap toll q.1 in let d = toll_dearer q.0 g in let i = q.2 w in let j = h (still_told p.kept y) (still_forward p.kept w) in
+      let e = ap toll q.1 in let d = toll_dearer q.0 g in let i = q.2 w in let j = h (still_told (tells_on p.kept) y) (still_forward (tells_on p.kept) w) in
       omega (arith, e, d, i, j)
 
   -- the first of the later trees is the first
   pub paid_at : (n : Site) → StandsFor b c g n → StandsFor a c f n
   paid_at n h = record {
     node = h.node;
-    here = λ y. (let q = p.trees y in h.here (still_told p.kept y) ∙ sym (ap paid q.1 ∙ paid_dearer q.0 g));
-    tree = λ y. (let q = p.trees y in ap is_item q.1 ∙ is_item_dearer q.0 g ∙ h.tree (still_told p.kept y));
+    here = λ y. (let q = p.trees y in h.here (still_told (tells_on p.kept) y) ∙ sym (ap paid q.1 ∙ paid_dearer q.0 g));
+    tree = λ y. (let q = p.trees y in ap is_item q.1 ∙ is_item_dearer q.0 g ∙ h.tree (still_told (tells_on p.kept) y));
   }
 
   -- a rest of them is one of all
   pub paid_on : KeepsBench b c → (w : ℕ) (r : Rest) → GoesOn b c g w r → Paid a c f (rest_trees c r)
   paid_on k w r h = record {
     kept = keeps_on.twice a b c p.kept k;
-    trees = λ y. (let q = p.trees y in let z = h.trees (still_told p.kept y) in (
+    trees = λ y. (let q = p.trees y in let z = h.trees (still_told (tells_on p.kept) y) in (
       q.0 + z.0,
       q.1 ∙ ap (dearer q.0) z.1 ∙ dearer_twice q.0 z.0 (rest_trees c r),
-      λ v. (let i = q.2 v in let j = z.2 (still_forward p.kept v) in omega (arith, i, j)),
+      λ v. (let i = q.2 v in let j = z.2 (still_forward (tells_on p.kept) v) in omega (arith, i, j)),
     ));
   }
 
 module _ {a b : BenchState} {f g : Tolled} (p : Paid a b f g) where
   -- where no later tree is, there is none
   pub paid_over : (IsTrue (told b) → is_item g ≡ false) → IsTrue (told a) → is_item f ≡ false
-  paid_over h y = let q = p.trees y in ap is_item q.1 ∙ is_item_dearer q.0 g ∙ h (still_told p.kept y)
+  paid_over h y = let q = p.trees y in ap is_item q.1 ∙ is_item_dearer q.0 g ∙ h (still_told (tells_on p.kept) y)
 
 -- what no call leaves
 pub walked_same : {S : Type 0} {view : S → View} {came_from : S → S → Type 0} → ((s : S) → came_from s s) → (s : S) (b : Bench) → IsBenchOf (view s) b → (most : ℕ) → Walked view came_from s b s b most
@@ -97,6 +95,6 @@ on_end a b k m asks f r h e = record {
 pub at_behind : (a b : BenchState) → KeepsBench a b → (m : ℕ) (f g : Tolled) → (IsTrue (told a) → f ≡ dearer m g) → (n : Site) → StandsFor b b g n → StandsFor a b f n
 at_behind a b k m f g e n h = record {
   node = h.node;
-  here = λ y. h.here (still_told k y) ∙ sym (ap paid (e y) ∙ paid_dearer m g);
-  tree = λ y. ap is_item (e y) ∙ is_item_dearer m g ∙ h.tree (still_told k y);
+  here = λ y. h.here (still_told (tells_on k) y) ∙ sym (ap paid (e y) ∙ paid_dearer m g);
+  tree = λ y. ap is_item (e y) ∙ is_item_dearer m g ∙ h.tree (still_told (tells_on k) y);
 }

@@ -1,6 +1,7 @@
 -- What contracts say of the states of a bench, each state named once.
-use Rattle.std.specs.Prelude.{◌≡◌, ℕ, suc, Bool, ◌+◌, ◌<◌, ◌≤◌, length, IsTrue, Option, Some, MatchOption, List}
-use Rattle.mix_base.specs.Events.{nothing, found, cost}
+use Rattle.std.specs.Prelude.{ℕ, suc, Bool, ◌+◌, ◌<◌, ◌≤◌, length, Option, Some, MatchOption, List}
+use Rattle.mix_base.specs.Events.{cost}
+use Rattle.lazy_descend.specs.Searches as Searches
 use Rattle.mix_tree.specs.Forest.{first_kids, behind}
 use Rattle.mix_tree.specs.declared.var.Key.{Key}
 use Rattle.lxp_core.specs.View.{View}
@@ -10,11 +11,11 @@ use Rattle.plan_core.specs.Tolled.{Tolled, toll, charged}
 use Rattle.plan_core.specs.TolledRows.{key_value, key_values, same_value, same_values, row_node, value_trees}
 use Rattle.lazy_plan.specs.declared.bench.Bench.{Bench}
 use Rattle.lazy_binding.specs.declared.position.Position.{Position}
-use Rattle.lazy_plan.specs.Bench.{BenchState, state_of, IsBenchOf, ops_of, told, documents, binding_at, number_at, trees_at_spot, GivesFirst}
+use Rattle.lazy_plan.specs.Bench.{BenchState, state_of, IsBenchOf, ops_of, told_by, documents, binding_at, number_at, trees_at_spot, GivesFirst}
 use Rattle.lazy_value.specs.Forms.{makes_list, gathers_all, gathers_groups, input_at, pieces_of}
 use Rattle.lazy_value.specs.Ids.{Stands, IsOrigin, value_of, IsRest, rest_trees, weight, left, site_left, pieces_size, pieces_extent, pieces_trees, member_trees, members_trees, group_ahead, group_trees, ahead_from, number_from}
 use Rattle.lazy_value.specs.Origins.{origin_size, origin_extent}
-use Rattle.lazy_value.specs.Steps.{Walked, StandsFor, Turns, Falls, IsMember}
+use Rattle.lazy_value.specs.Steps.{Walked, StandsFor, Turns, Falls, members_of}
 use Rattle.lazy_value.specs.declared.ids.GroupFrom.{GroupFrom}
 use Rattle.lazy_value.specs.declared.ids.MembersFrom.{MembersFrom}
 use Rattle.lazy_value.specs.declared.ids.Origin.{Origin}
@@ -127,8 +128,7 @@ group_events st g = group_ahead st g.op g.first.now g.at.now
 -- the next member, or there is none
 abbrev pub GivesMember : BenchState → BenchState → GroupFrom → Option Position → Type 0
 GivesMember old new g r =
-    MatchOption r (IsTrue (told old) → found (group_events old g) ≡ nothing)
-    (IsMember old new g.op g.first.now (group_events old g) (number_at old (input_at (ops_of old) g.op) g.at.now))
+    Searches.GivesFirst (told_by old) (members_of new g.op g.first.now) (group_events old g) (number_at old (input_at (ops_of old) g.op) g.at.now) r
 
 -- the first binding of an operator, or the one behind a cursor, or there is none
 abbrev pub GivesFrom : BenchState → BenchState → ℕ → Option Position → Option Position → Type 0

@@ -29,7 +29,8 @@ fn label_in<'a>(bench: &'a Bench, op: u32, c: &Cursor, v: Var) -> &'a Label
     requires op { op < length (plan_value (plan_of bench.now)).ops }
     requires bench { InSome bench.now (λ st. IsCursor st op c.now) }
     requires node { kinds (plan_value (plan_of bench.now)).ops op v ≡ Some a_node }
-    ensures { InEach bench.now (λ st. IsCursor st op c.now → IsTrue (told st) → result.now ≡ label_at (documents st) (row_node (binding_at st op c.now) v)) }
+    ensures { InEach bench.now (λ st. let node = row_node (binding_at st op c.now) v in
+        IsCursor st op c.now → IsTrue (told st) → result.now ≡ label_at (documents st) node) }
 {
     bench.label(bench.source_of(op, v), &bench.spot(op, c, v))
 }
@@ -39,7 +40,8 @@ fn same_by_key(bench: &Bench, op: u32, first: &Cursor, c: &Cursor, key: Key) -> 
     requires op { op < length (plan_value (plan_of bench.now)).ops }
     requires bench { InSome bench.now (λ st. IsCursor st op first.now × IsCursor st op c.now) }
     requires node { kinds (plan_value (plan_of bench.now)).ops op (key_var key) ≡ Some a_node }
-    ensures { InEach bench.now (λ st. IsCursor st op first.now → IsCursor st op c.now → IsTrue (told st) → result ≡ same_key_at st op first.now c.now key) }
+    ensures { InEach bench.now (λ st. IsCursor st op first.now → IsCursor st op c.now → IsTrue (told st)
+        → result ≡ same_key_at st op first.now c.now key) }
 {
     match key {
         Key::Node(v) => Buffer::same_spot(&bench.spot(op, first, v), &bench.spot(op, c, v)),
@@ -52,7 +54,8 @@ fn same_by_keys(bench: &Bench, op: u32, first: &Cursor, c: &Cursor, keys: &[Key]
     requires op { op < length (plan_value (plan_of bench.now)).ops }
     requires bench { InSome bench.now (λ st. IsCursor st op first.now × IsCursor st op c.now) }
     requires nodes { AreNodes keys.now (kinds (plan_value (plan_of bench.now)).ops op) }
-    ensures { InEach bench.now (λ st. IsCursor st op first.now → IsCursor st op c.now → IsTrue (told st) → result ≡ same_keys_at st op first.now c.now keys.now) }
+    ensures { InEach bench.now (λ st. IsCursor st op first.now → IsCursor st op c.now → IsTrue (told st)
+        → result ≡ same_keys_at st op first.now c.now keys.now) }
 {
     for key in keys {
         if !same_by_key(bench, op, first, c, *key) {
@@ -131,7 +134,8 @@ pub(crate) fn members<S: Sources>(
 ) -> Result<Turn, WalkFault>
     requires bench { IsBenchOf (S.view s.old) bench.old }
     requires gathers { GathersAll (state_of (S.view s.old) bench.old) list.now.op }
-    requires at { let st = state_of (S.view s.old) bench.old in MatchOption list.now.at.now (Unit {0}) (λ c. IsCursor st (input_at (ops_of st) list.now.op) c) }
+    requires at { let st = state_of (S.view s.old) bench.old in
+        MatchOption list.now.at.now (Unit {0}) (λ c. IsCursor st (input_at (ops_of st) list.now.op) c) }
     requires up { IsRest (state_of (S.view s.old) bench.old) up.now.value }
     ensures walked { WalkedTo S.view S.came_from s.old bench.old s.new bench.new (λ st. trees_of_members st list.now up.now.value) }
     ensures cause { HasCause (ops_of (state_of (S.view s.old) bench.old)) (S.view s.old) (S.view s.new) result }

@@ -1,4 +1,4 @@
-use Rattle.std.proofs.Common.{ℕ, List, true, false, ◌∙◌, sym, ap, subst, arith}
+use Rattle.std.proofs.Common.{ℕ, List, true, false, ◌∙◌, sym, ap, subst}
 use Rattle.plan_core.specs.declared.plan.Plan.{Plan}
 use Rattle.plan_core.specs.PlanMade.{plan_value}
 use Rattle.plan_core.specs.ByNumber.{op_at}
@@ -9,7 +9,7 @@ use Rattle.lazy_value.specs.Forms.{input_at, keys_of, gathers_groups}
 use Rattle.lazy_value.specs.Ids.{group_ahead}
 use Rattle.lazy_value.proofs.Keep.{input_kept, Stands-kept}
 use Rattle.lazy_value.proofs.Groups.{group_nodes}
-use Rattle.lazy_value.proofs.Going.{test_is, input_after, goes_walked, none_left, found_cursor, found_falls, member_found, goes_on, goes_over}
+use Rattle.lazy_value.proofs.Going.{test_is, input_after, goes_walked, none_left, found_cursor, member_found, goes_on, goes_over}
 use Rattle.lazy_value.proofs.members.next_of_group.Goals as goal
 
 pub returns-in_err-next-clause-walked : goal.returns-in_err-next-clause-walked
@@ -47,7 +47,7 @@ returns-in-None-clause-answer g c = none_left g.met.S.Sources.after c.args.s.now
 pub returns-then-same_by_keys-clause-answer : goal.returns-then-same_by_keys-clause-answer
 returns-then-same_by_keys-clause-answer g c =
     member_found g.met.S.Sources.after c.args.s.now c.members.s c.next.new.s c.args.bench.now c.members.bench c.next.new.self (group_ahead (state_of (g.S.Sources.view c.args.s.now) c.args.bench.now) c.args.group.now.op c.args.group.now.first.now c.args.group.now.at.now) c.args.group.now.op c.input_of-input.result c.args.group.now.first.now c.members.at
-    c.members.invariant.came c.members.invariant.goes (c.input_of-input.ensures ∙ ap (λ (p : Plan). input_at (plan_value p).ops c.args.group.now.op) c.plan.ensures ∙ sym (input_kept (state_of (g.S.Sources.view c.args.s.now) c.args.bench.now) (state_of (g.S.Sources.view c.members.s) c.members.bench) c.members.invariant.goes.kept c.args.group.now.op)) c.next.ensures.ran c.next.ensures.lazy c.members.invariant.first.cursor c.in-Some.c (rw c.in-Some.is at c.in_ok-next.ensures.answer) _ c.members.invariant.low
+    c.members.invariant.came c.members.invariant.goes (c.input_of-input.ensures ∙ ap (λ (p : Plan). input_at (plan_value p).ops c.args.group.now.op) c.plan.ensures ∙ sym (input_kept (state_of (g.S.Sources.view c.args.s.now) c.args.bench.now) (state_of (g.S.Sources.view c.members.s) c.members.bench) c.members.invariant.goes.kept c.args.group.now.op)) c.next.ensures.ran c.next.ensures.lazy c.members.invariant.first.cursor c.in-Some.c (rw c.in-Some.is at c.in_ok-next.ensures.answer)
     (λ y. test_is (state_of (g.S.Sources.view c.next.new.s) c.next.new.self) c.args.group.now.op c.input_of-input.result c.args.group.now.first.now c.in-Some.c c.group_keys.result.now c.same_by_keys.result true
     (input_after g.met.S.Sources.after c.args.s.now c.members.s c.next.new.s c.args.bench.now c.members.bench c.next.new.self (group_ahead (state_of (g.S.Sources.view c.args.s.now) c.args.bench.now) c.args.group.now.op c.args.group.now.first.now c.args.group.now.at.now) c.args.group.now.op c.input_of-input.result c.args.group.now.first.now c.members.at
     c.members.invariant.came c.members.invariant.goes (c.input_of-input.ensures ∙ ap (λ (p : Plan). input_at (plan_value p).ops c.args.group.now.op) c.plan.ensures ∙ sym (input_kept (state_of (g.S.Sources.view c.args.s.now) c.args.bench.now) (state_of (g.S.Sources.view c.members.s) c.members.bench) c.members.invariant.goes.kept c.args.group.now.op)) c.next.ensures.ran c.next.ensures.lazy)
@@ -76,8 +76,6 @@ members-preserved g c = record {
       (c.group_keys.ensures ∙ ap (λ (p : Plan). keys_of (op_at (plan_value p).ops c.args.group.now.op)) c.plan-in-Some.ensures)
       (c.same_by_keys.ensures (g.S.Sources.view c.next.new.s) c.next.ensures.ran.bench (subst (λ (n : ℕ). IsCursor (state_of (g.S.Sources.view c.next.new.s) c.next.new.self) n c.args.group.now.first.now) (sym (input_after g.met.S.Sources.after c.args.s.now c.members.s c.next.new.s c.args.bench.now c.members.bench c.next.new.self (group_ahead (state_of (g.S.Sources.view c.args.s.now) c.args.bench.now) c.args.group.now.op c.args.group.now.first.now c.args.group.now.at.now) c.args.group.now.op c.input_of-input.result c.args.group.now.first.now c.members.at
       c.members.invariant.came c.members.invariant.goes (c.input_of-input.ensures ∙ ap (λ (p : Plan). input_at (plan_value p).ops c.args.group.now.op) c.plan.ensures ∙ sym (input_kept (state_of (g.S.Sources.view c.args.s.now) c.args.bench.now) (state_of (g.S.Sources.view c.members.s) c.members.bench) c.members.invariant.goes.kept c.args.group.now.op)) c.next.ensures.ran c.next.ensures.lazy)) (Stands-kept (state_of (g.S.Sources.view c.members.s) c.members.bench) (state_of (g.S.Sources.view c.next.new.s) c.next.new.self) c.next.ensures.ran.kept c.args.group.now.op gathers_groups c.args.group.now.first.now c.members.invariant.first).cursor) (let f = rw c.in-Some.is at c.in_ok-next.ensures.answer in f.cursor) y) c.if-same_by_keys.false);
-  low = (let f = found_falls g.met.S.Sources.after c.args.s.now c.members.s c.next.new.s c.args.bench.now c.members.bench c.next.new.self (group_ahead (state_of (g.S.Sources.view c.args.s.now) c.args.bench.now) c.args.group.now.op c.args.group.now.first.now c.args.group.now.at.now) c.args.group.now.op c.input_of-input.result c.args.group.now.first.now c.members.at
-      c.members.invariant.came c.members.invariant.goes (c.input_of-input.ensures ∙ ap (λ (p : Plan). input_at (plan_value p).ops c.args.group.now.op) c.plan.ensures ∙ sym (input_kept (state_of (g.S.Sources.view c.args.s.now) c.args.bench.now) (state_of (g.S.Sources.view c.members.s) c.members.bench) c.members.invariant.goes.kept c.args.group.now.op)) c.next.ensures.ran c.next.ensures.lazy c.members.invariant.first.cursor c.in-Some.c (rw c.in-Some.is at c.in_ok-next.ensures.answer) in let l = c.members.invariant.low in omega (arith, f, l));
 }
 
 pub same_by_keys-requires-clause-nodes : goal.same_by_keys-requires-clause-nodes

@@ -1,4 +1,3 @@
-use Rattle.std.proofs.Common.{◌≤◌}
 use Rattle.lazy_plan.specs.Bench.{state_of, IsBenchOf, ops_of, number_at}
 use Rattle.lazy_value.specs.Forms.{input_at, gathers_groups}
 use Rattle.lazy_value.specs.Ids.{Stands, group_ahead}
@@ -12,9 +11,9 @@ invariant-members g l = record {
   first : Stands (state_of (g.S.Sources.view l.s) l.bench) l.group.op gathers_groups l.group.first.now;
   at : Stands (state_of (g.S.Sources.view l.s) l.bench) l.group.op gathers_groups l.at;
   goes : Goes (state_of (g.S.Sources.view l.fn.s) l.fn.bench) (state_of (g.S.Sources.view l.s) l.bench)
-      (group_ahead (state_of (g.S.Sources.view l.fn.s) l.fn.bench) l.group.op l.fn.group.first.now l.fn.group.at.now) (group_ahead (state_of (g.S.Sources.view l.s) l.bench) l.group.op l.group.first.now l.at);
-  low : number_at (state_of (g.S.Sources.view l.s) l.bench) (input_at (ops_of (state_of (g.S.Sources.view l.s) l.bench)) l.group.op) l.at
-      ≤ number_at (state_of (g.S.Sources.view l.fn.s) l.fn.bench) (input_at (ops_of (state_of (g.S.Sources.view l.fn.s) l.fn.bench)) l.group.op) l.fn.group.at.now;
+      (group_ahead (state_of (g.S.Sources.view l.fn.s) l.fn.bench) l.group.op l.fn.group.first.now l.fn.group.at.now) (group_ahead (state_of (g.S.Sources.view l.s) l.bench) l.group.op l.group.first.now l.at)
+      (number_at (state_of (g.S.Sources.view l.fn.s) l.fn.bench) (input_at (ops_of (state_of (g.S.Sources.view l.fn.s) l.fn.bench)) l.group.op) l.fn.group.at.now)
+      (number_at (state_of (g.S.Sources.view l.s) l.bench) (input_at (ops_of (state_of (g.S.Sources.view l.s) l.bench)) l.group.op) l.at);
 }
 
 abbrev pub decreases-members : goal.decreases-members

@@ -1,0 +1,108 @@
+-- The positions of an operator that drops bindings by keys that it has seen: each stands over one of the input.
+use Rattle.std.proofs.Common.{◌≡◌, ◌<◌, ◌≤◌, ℕ, true, List, [], Option, Some, None, length, drop, refl, ◌∙◌, sym, ap, arith}
+use Rattle.std.specs.Prelude.{IsTrue}
+use Rattle.mix_base.specs.Events.{nothing, found, cost}
+use Rattle.lazy_descend.specs.Searches.{FindsNone}
+use Rattle.mix_tree.specs.declared.var.Key.{Key}
+use Rattle.plan_core.specs.declared.plan.Piece.{Piece}
+use Rattle.plan_core.specs.Plans.{Operator}
+use Rattle.plan_core.specs.Valid.{shape_single}
+use Rattle.plan_core.specs.Shapes.{Shape, first_by_keys, shape_at, passes_on}
+use Rattle.plan_core.specs.Fronts.{stops_over}
+use Rattle.plan_core.specs.Events.{kept_row}
+use Rattle.plan_core.specs.Typed.{IsTyped}
+use Rattle.plan_core.specs.Events.{events, distinct, keys_seen}
+use Rattle.plan_core.proofs.Distinct.{found-distinct_none, cost-distinct_le}
+use Rattle.lazy_binding.specs.declared.position.Position.{Position, Start, First', Seen'}
+use Rattle.lazy_binding.specs.World.{World, docs_of, is_told, seen_at}
+use Rattle.lazy_binding.specs.Cursors.{NoneBefore, up_to, ahead, number, stands, weighs, IsIn, IsOf}
+use Rattle.lazy_binding.specs.Reading.{below, count_of}
+use Rattle.lxp_core.specs.View.{View}
+use Rattle.lazy_binding.specs.declared.parts.Growing.{Growing}
+use Rattle.lazy_binding.specs.declared.parts.Fixed.{Fixed}
+use Rattle.lazy_binding.specs.Parts.{operators, world_of}
+use Rattle.lazy_plan.specs.Steps.{single, CanStep, telling}
+use Rattle.lazy_plan.proofs.Goes.{in_shape, IsOver}
+use Rattle.lazy_plan.proofs.Shapes.{events_at, size_at, single_at}
+
+module _ (ops : List Operator) (n i : ℕ) (keys : List Key) (group : Option (Piece × ℕ)) where
+  -- the shape of the operator
+  abbrev F : Shape
+  F = passes_on i (first_by_keys keys group)
+
+  -- the input's position in a position
+  pub firsts_below : (w : World) (c : Position) → IsIn w ops n F c → IsOf w ops i (below c)
+  firsts_below w Start h = tt
+  firsts_below w (First' q c k) h = h.0
+  firsts_below w (Seen' q c k) h = h.0
+  firsts_below w c h = absurd h
+
+  -- no more keys were seen up to it than were seen
+  pub firsts_count : (w : World) (c : Position) → IsIn w ops n F c → count_of c ≤ length (seen_at w n)
+  firsts_count w Start h = omega arith
+  firsts_count w (First' q c k) h = h.2
+  firsts_count w (Seen' q c k) h = h.2
+  firsts_count w c h = absurd h
+
+  module _ (typed : IsTyped ops) (within : n < length ops) (is : shape_at ops n ≡ F) where
+    -- the events behind it are those of the input whose keys were not seen up to it
+    pub firsts_ahead_is : (w : World) (c : Position) → IsIn w ops n F c → (stands w ops n F c).ahead ≡ distinct (docs_of w) keys (kept_row (docs_of w) keys (stops_over ops i keys) group) (up_to w n (count_of c)) (ahead w ops i (below c))
+    firsts_ahead_is w Start h = events_at ops typed n within F is (docs_of w)
+    firsts_ahead_is w (First' q c k) h = refl
+    firsts_ahead_is w (Seen' q c k) h = refl
+    firsts_ahead_is w c h = absurd h
+
+    -- the keys that it sees there are those behind the ones that were seen
+    pub firsts_keys : (w : World) (c : Position) → IsIn w ops n F c → IsTrue (is_told w ops)
+        → keys_seen (docs_of w) keys (up_to w n (count_of c)) (ahead w ops i (below c)) ≡ drop (count_of c) (keys_seen (docs_of w) keys [] (events (docs_of w) ops i))
+    firsts_keys w Start h t = refl
+    firsts_keys w (First' q c k) h t = h.3 t
+    firsts_keys w (Seen' q c k) h t = h.3 t
+    firsts_keys w c h t = absurd h
+
+    -- no event before it has other keys than those that were seen up to it
+    pub firsts_before : (w : World) (c : Position) → IsIn w ops n F c → IsTrue (is_told w ops) → NoneBefore (docs_of w) keys (events (docs_of w) ops i) (up_to w n (count_of c)) (ahead w ops i (below c))
+    firsts_before w Start h t = λ row e. refl
+    firsts_before w (First' q c k) h t = h.4 t
+    firsts_before w (Seen' q c k) h t = h.4 t
+    firsts_before w c h t = absurd h
+
+    -- its number is the input's
+    pub firsts_number_is : (w : World) (c : Position) → IsIn w ops n F c → weighs w ops n F c ≡ number w ops i (below c)
+    firsts_number_is w Start h = size_at ops typed n within F is w
+    firsts_number_is w (First' q c k) h = refl
+    firsts_number_is w (Seen' q c k) h = refl
+    firsts_number_is w c h = absurd h
+
+    -- a single one is over a single one
+    pub firsts_single : IsTrue (single ops n) → IsTrue (single ops i)
+    firsts_single s = alone group (sym (single_at ops typed n within F is) ∙ s)
+      where
+        alone : (g : Option (Piece × ℕ)) → shape_single (passes_on i (first_by_keys keys g)) (single ops) ≡ true → IsTrue (single ops i)
+        alone None e = e
+        alone (Some g) e = cc
+
+    module _ (a : World) (c : Position) (h : IsIn a ops n F c) where
+      -- what a call below may cost, it may cost here
+      pub firsts_costs : cost (ahead a ops i (below c)) ≤ cost (stands a ops n F c).ahead
+      firsts_costs =
+          let p = cost-distinct_le (docs_of a) keys (kept_row (docs_of a) keys (stops_over ops i keys) group) (up_to a n (count_of c)) (ahead a ops i (below c)) in
+          let q = ap cost (firsts_ahead_is a c h) in
+          omega (arith, p, q)
+
+      -- nothing below
+      pub firsts_done : (FindsNone (telling a ops) (ahead a ops i (below c))) → IsTrue (is_told a ops) → found (stands a ops n F c).ahead ≡ nothing
+      firsts_done f t =
+          ap found (firsts_ahead_is a c h)
+          ∙ found-distinct_none (docs_of a) keys (kept_row (docs_of a) keys (stops_over ops i keys) group) (up_to a n (count_of c)) (ahead a ops i (below c)) (f t)
+
+-- a position of first bindings stands over one of its input
+pub firsts_over : {v : View} {g : Growing} {p : Fixed} {n : ℕ} {c : Position} → CanStep v g p n c → (i : ℕ) (keys : List Key) (group : Option (Piece × ℕ))
+    → shape_at (operators p) n ≡ passes_on i (first_by_keys keys group) → IsOver (operators p) n i (passes_on i (first_by_keys keys group)) (world_of v g) c
+firsts_over {v} {g} {p} {n} {c} can i keys group is =
+    let h = in_shape can (passes_on i (first_by_keys keys group)) is in record {
+      input = firsts_below (operators p) n i keys group (world_of v g) c h;
+      costs = firsts_costs (operators p) n i keys group can.fixed.typed can.op is (world_of v g) c h;
+      alone = firsts_single (operators p) n i keys group can.fixed.typed can.op is;
+      over = firsts_done (operators p) n i keys group can.fixed.typed can.op is (world_of v g) c h;
+    }
