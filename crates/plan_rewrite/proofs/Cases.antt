@@ -16,6 +16,7 @@ use Rattle.plan_core.specs.Unary.{Unary, select, order_by, project, group_by, co
 use Rattle.plan_core.specs.Valid.{Kind, a_node, an_element, a_list, Kinds, no_kinds, with_kind, kept, either_kind, unary_kinds, unary_outs, unary_single, AreDistinct, IsTest, IsOperand, IsUnaryFit}
 use Rattle.plan_make.specs.Trees.{Tree, begin, descend, both, above}
 use Rattle.plan_make.proofs.TreeParts.{tree_kinds}
+use Rattle.plan_core.proofs.Fresh.{distinct_apart, distinct_behind}
 use Rattle.plan_rewrite.specs.Rewritten.{is_bound, binds_operand, binds_test, pushed, put_over, rewritten}
 use Rattle.plan_make.proofs.TreeParts.{ReadsBelow, tree_outs, TreeFits, tree_single, IsWhole}
 
@@ -142,28 +143,6 @@ rewritten_single (both l r (t ∷ tests)) h = h
 rewritten_single (above x op) h = over_single op x (rewritten x) (rewritten_single x) h
 
 -- SIDES OF A JOIN
-
-pub any_among : (v : ℕ) (vs : List ℕ) → Among v vs → list_any (λ w. w == v) vs ≡ true
-any_among v [] a = absurd a
-any_among v (w ∷ vs) (inl e) = (let t : (w == v) ≡ true = grind (arith, nat_tests, e) in rw t refl)
-any_among v (w ∷ vs) (inr a) = (let t = any_among v vs a in elim (w == v) as (λ x. (x || list_any (λ w. w == v) vs) ≡ true) [ true ↦ refl | false ↦ t ])
-
-pub distinct_apart : (xs ys : List ℕ) (v : ℕ) → AreDistinct (xs ++ ys) → Among v xs → Among v ys → ⊥
-distinct_apart [] ys v d a b = a
-distinct_apart (x ∷ xs) ys v d (inl e) b =
-    let t : list_any (λ w. w == x) ys ≡ true = subst (λ (z : ℕ). list_any (λ w. w == z) ys ≡ true) e (any_among v ys b) in
-    let n : list_any (λ w. w == x) (xs ++ ys) ≡ false = d.0 in
-    let s : (list_any (λ w. w == x) xs || list_any (λ w. w == x) ys) ≡ false = sym (list_any-append (λ w. w == x) xs ys) ∙ n in
-    or_true (list_any (λ w. w == x) xs) (list_any (λ w. w == x) ys) t s
-  where
-    or_true : (p q : Bool) → q ≡ true → (p || q) ≡ false → ⊥
-    or_true true q h k = cc
-    or_true false q h k = (let z : true ≡ false = sym h ∙ k in cc)
-distinct_apart (x ∷ xs) ys v d (inr a) b = distinct_apart xs ys v d.1 a b
-
-pub distinct_behind : (xs ys : List ℕ) → AreDistinct (xs ++ ys) → AreDistinct ys
-distinct_behind [] ys d = d
-distinct_behind (x ∷ xs) ys d = distinct_behind xs ys d.1
 
 pub distinct_front : (xs ys : List ℕ) → AreDistinct (xs ++ ys) → AreDistinct xs
 distinct_front [] ys d = tt

@@ -7,18 +7,15 @@ use Rattle.plan_core.specs.Typed.{IsTyped}
 use Rattle.plan_core.specs.Valid.{is_single_at, IsValid}
 use Rattle.plan_core.proofs.RowLaws.{rows-stable}
 use Rattle.plan_make.specs.Trees.{Tree, under, numbered, tree_rows}
+use Rattle.plan_make.proofs.Whole.{last-snoc}
 use Rattle.plan_rewrite.specs.Rewritten.{rewritten, tree_at, ended_by, rewritten_ops, rewritten_plan}
 use Rattle.plan_rewrite.specs.Law.{SameDocument}
 use Rattle.plan_make.proofs.Numbering.{numbered-length, numbered-means}
 use Rattle.plan_make.proofs.TreeParts.{IsWhole, tree_valid, ended}
 use Rattle.plan_rewrite.proofs.Cases.{rewritten_whole}
 use Rattle.plan_rewrite.proofs.Pushing.{rewritten-rows}
-use Rattle.plan_rewrite.proofs.PlanTree.{Ended, ending, plan_whole, plan_means}
-
--- the last member of a list
-last-snoc : {X : Type 0} (o : Option X) (xs : List X) (x : X) → last_or o (xs ++ x ∷ []) ≡ Some x
-last-snoc o [] x = refl
-last-snoc o (y ∷ xs) x = last-snoc (Some y) xs x
+use Rattle.plan_rewrite.proofs.Endings.{Ended}
+use Rattle.plan_rewrite.proofs.PlanTree.{ending, plan_whole, plan_means}
 
 -- the document of a tree
 pub ended-document : (world : World) (t : Tree) (v : ℕ) → document world (ended t v) ≡ element_of v (tree_rows world t)

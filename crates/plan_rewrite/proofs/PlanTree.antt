@@ -15,57 +15,20 @@ use Rattle.plan_core.specs.Typed.{IsTyped}
 use Rattle.plan_core.specs.Unary.{Unary, select, order_by, project, group_by, concatenate, create_element, unary}
 use Rattle.plan_core.specs.Valid.{a_node, Kinds, no_kinds, with_kind, either_kind, unary_kinds, op_kinds, kinds, IsFit, IsTest, IsUnaryFit, inputs_of, unary_outs, outs_of, AreDistinct, unary_single, is_single, is_single_at, EndsSingle, HasSource, IsValid}
 use Rattle.plan_core.proofs.Chained.{count-append}
-use Rattle.plan_core.proofs.Fresh.{bound_once}
+use Rattle.plan_core.proofs.Fresh.{bound_once, reader_once}
 use Rattle.plan_core.proofs.Inputs.{is_single-reads}
 use Rattle.plan_core.proofs.Numbers.{ReadsInputs, by_number-is, op_kinds-reads}
 use Rattle.plan_core.proofs.RowLaws.{rows-stable, rows-last, snoc}
 use Rattle.plan_make.specs.Trees.{Tree, begin, descend, both, above, tree_rows}
 use Rattle.plan_make.proofs.TreeParts.{tree_kinds}
 use Rattle.plan_rewrite.specs.Rewritten.{op_tree, tree_at}
+use Rattle.plan_rewrite.proofs.Endings.{IsBelow, Ended, ended_of, each_at}
 use Rattle.plan_make.proofs.TreeParts.{ReadsBelow, tree_outs, TreeFits, tree_single, IsWhole}
-
--- NO TUPLEDESTROY
-
--- an operator is no tupleDestroy
-abbrev pub IsBelow : Operator → Type 0
-IsBelow (source s out) = Unit {0}
-IsBelow (get_descendants input start path out) = Unit {0}
-IsBelow (join left right tests) = Unit {0}
-IsBelow (over input op) = Unit {0}
-IsBelow (tuple_destroy input element) = ⊥
-
--- operators that end with a tupleDestroy
-pub record Ended (single : ℕ → Bool) (ops : List Operator) : Type 0 where
-  pub front : List Operator
-  pub input : ℕ
-  pub element : ℕ
-  pub is : ops ≡ front ++ tuple_destroy input element ∷ []
-  pub below : AllByRecursion IsBelow front
-  pub is_single : single input ≡ true
-
--- one more before them
-ended_more : (single : ℕ → Bool) (op : Operator) (ops : List Operator) → IsBelow op → Ended single ops → Ended single (op ∷ ops)
-ended_more single op ops b e = record { front = op ∷ e.front; input = e.input; element = e.element; is = ap (λ (z : List Operator). op ∷ z) e.is; below = (b, e.below); is_single = e.is_single }
-
-pub ended_of : (single : ℕ → Bool) (ops : List Operator) → EndsSingle single ops → Ended single ops
-ended_of single [] h = absurd h
-ended_of single (tuple_destroy input element ∷ []) h = record { front = []; input = input; element = element; is = refl; below = tt; is_single = h }
-ended_of single (tuple_destroy input element ∷ op ∷ ops) h = absurd h
-ended_of single (source s out ∷ ops) h = ended_more single (source s out) ops tt (ended_of single ops h)
-ended_of single (get_descendants input start path out ∷ ops) h = ended_more single (get_descendants input start path out) ops tt (ended_of single ops h)
-ended_of single (join left right tests ∷ ops) h = ended_more single (join left right tests) ops tt (ended_of single ops h)
-ended_of single (over input op ∷ ops) h = ended_more single (over input op) ops tt (ended_of single ops h)
-
--- what holds of all operators holds of each
-each_at : (P : Operator → Type 0) (ops : List Operator) (j : ℕ) → j < length ops → AllByRecursion P ops → P (op_at ops j)
-each_at P [] j lt h = absurd (omega (arith, lt))
-each_at P (op ∷ ops) zero lt h = h.0
-each_at P (op ∷ ops) (suc j) lt h = each_at P ops j (omega (arith, lt)) h.1
 
 -- WHAT READS INPUTS ALONE
 
 -- trees read those of the inputs
-op_tree-reads : ReadsInputs op_tree
+pub op_tree-reads : ReadsInputs op_tree
 op_tree-reads (source s out) a b h = refl
 op_tree-reads (get_descendants input start path out) a b h = ap (λ (x : Tree). descend x start path out) h.0
 op_tree-reads (join left right tests) a b h = ap (λ (x : Tree). both x (a right) tests) h.0 ∙ ap (λ (x : Tree). both (b left) x tests) h.1.0
@@ -180,17 +143,6 @@ op_distinct (tuple_destroy input element) b of h f g = absurd b
 
 -- NUMBERS THAT STAND ONCE
 
--- how many times a number stands in lists
-count_among : (i : ℕ) (xs : List ℕ) → Among i xs → 1 ≤ count_by (λ m. m == i) xs
-count_among i [] a = absurd a
-count_among i (x ∷ xs) (inl e) =
-    let t : (x == i) ≡ true = grind (arith, nat_tests, e) in
-    let o : count_by (λ m. m == i) (x ∷ []) ≡ 1 = rw t refl in
-    subst (λ (n : ℕ). 1 ≤ n) (sym (count-append i (x ∷ []) xs)) (omega (arith, o))
-count_among i (x ∷ xs) (inr a) =
-    let t = count_among i xs a in
-    subst (λ (n : ℕ). 1 ≤ n) (sym (count-append i (x ∷ []) xs)) (omega (arith, t))
-
 -- an operator reads another at most as often as all do
 count_flat : (i : ℕ) (ops : List Operator) (n : ℕ) → n < length ops → count_by (λ m. m == i) (inputs_of (op_at ops n)) ≤ count_by (λ m. m == i) (flat_map inputs_of ops)
 count_flat i [] n b = absurd (omega (arith, b))
@@ -199,29 +151,6 @@ count_flat i (op ∷ ops) (suc n) b =
     let c : n < length ops = omega (arith, b) in
     let e = count-append i (inputs_of op) (flat_map inputs_of ops) in
     let h = count_flat i ops n c in omega (arith, e, h)
-
--- an operator that is an input once has one reader
-pub reader_once : (ops : List Operator) (i : ℕ) → count_by (λ m. m == i) (flat_map inputs_of ops) ≤ 1 → (a b : ℕ) → a < length ops → b < length ops → Among i (inputs_of (op_at ops a)) → Among i (inputs_of (op_at ops b)) → a ≡ b
-reader_once [] i u a b p q x y = absurd (omega (arith, p))
-reader_once (op ∷ ops) i u zero zero p q x y = refl
-reader_once (op ∷ ops) i u zero (suc b) p q x y =
-    let c : b < length ops = omega (arith, q) in
-    let e = count-append i (inputs_of op) (flat_map inputs_of ops) in
-    let h = count_among i (inputs_of op) x in
-    let k = count_among i (inputs_of (op_at ops b)) y in
-    let l = count_flat i ops b c in absurd (omega (arith, e, h, k, l, u))
-reader_once (op ∷ ops) i u (suc a) zero p q x y =
-    let c : a < length ops = omega (arith, p) in
-    let e = count-append i (inputs_of op) (flat_map inputs_of ops) in
-    let h = count_among i (inputs_of op) y in
-    let k = count_among i (inputs_of (op_at ops a)) x in
-    let l = count_flat i ops a c in absurd (omega (arith, e, h, k, l, u))
-reader_once (op ∷ ops) i u (suc a) (suc b) p q x y =
-    let c : a < length ops = omega (arith, p) in
-    let d : b < length ops = omega (arith, q) in
-    let e = count-append i (inputs_of op) (flat_map inputs_of ops) in
-    let less : count_by (λ m. m == i) (flat_map inputs_of ops) ≤ 1 = omega (arith, e, u) in
-    ap suc (reader_once ops i less a b c d x y)
 
 module _ (p : PlanValue) (valid : IsValid p) (typed : IsTyped p.ops) where
   abbrev pub ops : List Operator

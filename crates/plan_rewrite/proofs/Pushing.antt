@@ -26,7 +26,8 @@ use Rattle.plan_make.proofs.TreeParts.{tree_kinds}
 use Rattle.plan_rewrite.specs.Rewritten.{is_bound, binds_operand, binds_test, pushed, rewritten}
 use Rattle.xmas_rule.proofs.Members.{flat_map_same}
 use Rattle.plan_rewrite.proofs.Lists.{each_flat, filter-flat_map, flat_map-filter, filter_const, filter_both, list_all-more}
-use Rattle.plan_rewrite.proofs.Cases.{pushed_cases, put_cases, rewritten-outs, distinct_front, distinct_behind, sides_apart, first_true, second_true, rewritten_fits}
+use Rattle.plan_core.proofs.Fresh.{distinct_behind}
+use Rattle.plan_rewrite.proofs.Cases.{pushed_cases, put_cases, rewritten-outs, distinct_front, sides_apart, first_true, second_true, rewritten_fits}
 use Rattle.plan_make.proofs.TreeParts.{tree_outs, TreeFits}
 
 -- WHAT A ROW HAS

@@ -51,7 +51,7 @@ covers-inside t z a b =
     operand (text_operand label) = refl
 
 -- the last operator
-op-last : (a front b : List Operator) (op : Operator) (n : ℕ) → n ≡ length a + length front → op_at (a ++ ((front ++ op ∷ []) ++ b)) n ≡ op
+pub op-last : (a front b : List Operator) (op : Operator) (n : ℕ) → n ≡ length a + length front → op_at (a ++ ((front ++ op ∷ []) ++ b)) n ≡ op
 op-last a front b op n h =
     let k = length-append a front in
     ap (λ (z : List Operator). op_at z n) (ap (λ (z : List Operator). a ++ z) (snoc front op b) ∙ sym (append_assoc a front (op ∷ b)))

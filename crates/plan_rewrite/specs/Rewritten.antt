@@ -8,8 +8,10 @@ use Rattle.plan_core.specs.ByNumber.{by_number}
 use Rattle.plan_core.specs.Plans.{Operator, source, get_descendants, join, over, tuple_destroy, PlanValue}
 use Rattle.plan_core.specs.Unary.{Unary, select, order_by, project, group_by, concatenate, create_element}
 use Rattle.plan_core.specs.Valid.{Kind, Kinds}
+use Rattle.plan_make.specs.Operators.{operators_of, plan_of}
 use Rattle.plan_make.specs.Trees.{Tree, begin, descend, both, above}
 use Rattle.plan_make.proofs.TreeParts.{tree_kinds, ended}
+use Rattle.xmas_rule.specs.Rules.{RuleValue}
 
 -- there is a kind
 abbrev pub is_bound : Option Kind → Bool
@@ -76,3 +78,11 @@ rewritten_ops ops = ended_by (tree_at ops) (last_or None ops)
 -- a plan, rewritten
 abbrev pub rewritten_plan : PlanValue → PlanValue
 rewritten_plan p = record { ops = rewritten_ops p.ops; names = p.names; sources = p.sources }
+
+-- the operators of a rule's plan, rewritten
+abbrev pub operators_for : RuleValue → List Operator
+operators_for r = rewritten_ops (operators_of r)
+
+-- the plan of a rule over sources with these names, rewritten
+abbrev pub plan_for : List (List ℕ) → RuleValue → PlanValue
+plan_for sources r = rewritten_plan (plan_of sources r)

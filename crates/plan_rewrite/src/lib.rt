@@ -12,4 +12,4 @@ mod taking;
 mod way;
 
 pub use law::{rewriting_keeps_documents, rewriting_keeps_validity};
-pub use rewriting::rewrite;
+pub use rewriting::{plan_view, rewrite};

@@ -1,15 +1,21 @@
 // The plan whose selections are moved.
-ghost use Rattle.std.specs.Prelude.{◌≡◌, map, IfOk};
+ghost use Rattle.std.specs.Prelude.{◌≡◌, map, IfOk, length};
 ghost use Rattle.plan_core.specs.PlanMade.{op_of, plan_value};
 ghost use Rattle.plan_core.specs.Valid.{IsValid};
+ghost use Rattle.plan_make.specs.Law.{MeansRule};
 ghost use Rattle.plan_rewrite.specs.Law.{SameDocument};
-ghost use Rattle.plan_rewrite.specs.Rewritten.{rewritten_ops, rewritten_plan};
+ghost use Rattle.plan_rewrite.specs.Rewritten.{plan_for, rewritten_ops, rewritten_plan};
+ghost use Rattle.xmas_rule.specs.RuleMade.{rule_of};
+ghost use Rattle.xmas_rule.specs.Rules.{IsAccepted};
 
 use crate::copy::copy_labels;
 use crate::law::{rewriting_keeps_documents, rewriting_keeps_validity};
 use crate::taking::next_block;
+use mix_tree::Label;
 use plan_core::{Op, Plan, valid_plans_are_typed};
+use plan_make::make_plan;
 use std::alloc::{AllocError, Global};
+use xmas_rule::Rule;
 
 // The operators of a plan, each selection moved as far down as it goes.
 fn rewrite_ops(alloc: Global, p: &Plan) -> Result<Vec<Op>, AllocError>
@@ -44,4 +50,18 @@ pub fn rewrite(alloc: Global, p: &Plan) -> Result<Plan, AllocError>
         names: copy_labels(alloc, p.names.as_slice())?,
         sources: copy_labels(alloc, p.sources.as_slice())?,
     })
+}
+
+/// The plan of a rule that is accepted over sources with these names, its selections moved. A plan of more than 2^32 operators or variables
+/// is answered as want of memory.
+pub fn plan_view(alloc: Global, rule: &Rule, sources: &[Label]) -> Result<Plan, AllocError>
+    requires { IsAccepted (length sources.now) (rule_of rule.now) }
+    ensures made { IfOk result (λ plan. plan_value plan ≡ plan_for sources.now (rule_of rule.now)) }
+    ensures valid { IfOk result (λ plan. IsValid (plan_value plan)) }
+
+    // Over all source documents, its document is the rule's finished document.
+    ensures document { IfOk result (λ plan. MeansRule (plan_value plan).ops (rule_of rule.now)) }
+{
+    let plan = make_plan(alloc, rule, sources)?;
+    rewrite(alloc, &plan)
 }
