@@ -11,7 +11,10 @@ use Rattle.plan_core.specs.Plans.{Operator}
 use Rattle.plan_core.specs.Plans as plan
 use Rattle.plan_core.specs.Events.{visited, VisitedAreMatches}
 use Rattle.plan_make.specs.Law.{MeansRule}
-use Rattle.plan_make.specs.Operators.{operators_of}
+use Rattle.plan_make.specs.Operators.{body_next, body_tree, operators_of, rule_tree}
+use Rattle.plan_make.specs.Translation.{template_var}
+use Rattle.plan_rewrite.specs.Rewritten.{operators_for}
+use Rattle.plan_rewrite.proofs.OwnTree.{rewritten-tree}
 use Rattle.lazy_plan.specs.Bench.{ops_of, documents}
 use Rattle.lazy_binding.specs.World.{reads}
 use Rattle.lazy_value.specs.declared.mediator.Mediator.{Mediator}
@@ -20,6 +23,10 @@ use Rattle.mix_session.specs.Walks.{IsDocument}
 use Rattle.mix_load.specs.People.{people_tree}
 use Rattle.mix_load.specs.View.{names_rule}
 use Rattle.mix_load.specs.Visit.{people_documents, AreNames}
+
+-- the view has no comparison, so its plan stays as it is when selections are moved
+plan_stays : operators_for names_rule ≡ operators_of names_rule
+plan_stays = rewritten-tree (rule_tree names_rule) (template_var (body_tree names_rule) (body_next names_rule) names_rule.items)
 
 module _ (x : Mounting) (m : Mediator) (count : ℕ) (only : IsAlone x (people_tree count)) where
   -- the sources' documents are those of the people
@@ -33,13 +40,14 @@ module _ (x : Mounting) (m : Mediator) (count : ℕ) (only : IsAlone x (people_t
           ap (λ (d : List Mount). cond (nat_lt (suc s) (length d)) (document x.tables (mount_at d (suc s))) none) only.only ∙ rw past refl
 
   -- the plan reads what is mounted alone
-  reads_only : list_all (reads (view_of x).told) (operators_of names_rule) ≡ true
+  reads_only : list_all (reads (view_of x).told) (operators_for names_rule) ≡ true
   reads_only =
-      ap (λ (d : List Mount). list_all (reads (λ s. is_told x.tables (mount_at d s))) (operators_of names_rule)) only.only
+      ap (λ (ops : List Operator). list_all (reads (view_of x).told) ops) plan_stays
+      ∙ ap (λ (d : List Mount). list_all (reads (λ s. is_told x.tables (mount_at d s))) (operators_of names_rule)) only.only
       ∙ rw only.told refl
 
   -- the finished document is there, and is what the mediator walks
-  pub names_document : (ops : List Operator) → ops_of (state_of (view_of x) m) ≡ ops → ops ≡ operators_of names_rule → MeansRule ops names_rule → VisitedAreMatches
+  pub names_document : (ops : List Operator) → ops_of (state_of (view_of x) m) ≡ ops → ops ≡ operators_for names_rule → MeansRule ops names_rule → VisitedAreMatches
       → ((d : Documents) → (t : LabelledTree) × (plan.document (visited d) ops ≡ Some t)) → (t : LabelledTree) × AreNames count t × IsDocument (state_of (view_of x) m) t
   names_document ops same made means visits has =
       let st = state_of (view_of x) m in

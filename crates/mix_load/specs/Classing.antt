@@ -3,7 +3,7 @@ use Rattle.std.specs.Prelude.{ℕ, zero, suc, map, codes}
 use Rattle.browse_class.specs.declared.class.Class.{Class}
 use Rattle.browse_class.specs.Classes.{class_in}
 use Rattle.browse_visit.specs.Layouts.{Layout, any_trees}
-use Rattle.plan_make.specs.Operators.{operators_of}
+use Rattle.plan_rewrite.specs.Rewritten.{operators_for}
 use Rattle.view_class.specs.Layouts.{field_column, rows_layout}
 use Rattle.mix_load.specs.People.{people_columns}
 use Rattle.mix_load.specs.View.{names_rule}
@@ -19,4 +19,4 @@ people_layout (suc s) = any_trees
 
 -- the class of the view of their names
 abbrev pub names_class : Class
-names_class = class_in people_layout (operators_of names_rule)
+names_class = class_in people_layout (operators_for names_rule)

@@ -1,5 +1,5 @@
 -- A visit of many people: the view of their names, walked by a session.
-use Rattle.std.specs.Prelude.{◌≡◌, ℕ, zero, suc, ◌+◌, List, [], Some, length, codes}
+use Rattle.std.specs.Prelude.{◌≡◌, ℕ, zero, suc, ◌+◌, List, [], None, Some, length, codes}
 use Rattle.mix_tree.specs.Forest.{LabelledTree, none, alone}
 use Rattle.mix_tree.specs.Nodes.{Documents}
 use Rattle.mix_tree.specs.Weight.{tree_nodes}
@@ -8,7 +8,9 @@ use Rattle.mix_mount.specs.Mounts.{IsAlone, mounted_in, view_of}
 use Rattle.xmas_rule.specs.Meaning.{IsFinished}
 use Rattle.lazy_value.specs.declared.ids.NodeId.{NodeId}
 use Rattle.mix_script.specs.Names.{held}
-use Rattle.mix_script.specs.Transcript.{Names}
+use Rattle.mix_script.specs.Transcript.{Names, answer_of, names_after}
+use Rattle.mix_script.specs.declared.answer.Answer.{Answer}
+use Rattle.mix_script.specs.declared.step.Act.{Act}
 use Rattle.mix_session.specs.Held.{IsSession, HoldPlaces}
 use Rattle.mix_session.specs.Meaning.{Meaning}
 use Rattle.mix_session.specs.Walks.{plan_meaning}
@@ -46,6 +48,11 @@ pub record IsOn (t : LabelledTree) (places : Names) (visitor : Visitor) : Type 0
   pub document : (meaning_of visitor).course.IsDocument t
   pub hold : HoldPlaces (meaning_of visitor) (held visitor.session.names) places
   pub alone : (people : LabelledTree) × IsAlone (mounted_in no_tables_view visitor.sources) people
+
+-- what a visitor who took a command answers, and what the names hold then, is as in the transcript of that tree
+abbrev pub Answers : Visitor → Visitor → Act → Answer → Type 0
+Answers old new act a =
+    (t : LabelledTree) (places : Names) → IsOn t places old → (a ≡ answer_of t places None [] act) × IsOn t (names_after t places [] act a) new
 
 -- the visitor walks this tree, and the name r holds its root
 pub record HoldsRoot (t : LabelledTree) (visitor : Visitor) : Type 0 where

@@ -7,7 +7,7 @@ use crate::view::{label, names_rule};
 use browse_class::Class;
 use browse_visit::{Shape, TableColumn};
 use plan_class::class_of;
-use plan_make::make_plan;
+use plan_rewrite::plan_view;
 use std::alloc::{AllocError, Global};
 
 // A column in which each row has a value.
@@ -47,6 +47,6 @@ pub fn names_class(alloc: Global) -> Result<Class, AllocError>
     ensures { IfOk result (λ class. class ≡ names_class) }
 {
     let rule = names_rule(alloc)?;
-    let plan = make_plan(alloc, &rule, &[label(alloc, "people")?])?;
+    let plan = plan_view(alloc, &rule, &[label(alloc, "people")?])?;
     class_of(alloc, &plan, &people_shapes(alloc)?)
 }

@@ -14,7 +14,7 @@ use mix_mount::{Mount, Mounted};
 use mix_script::{Act, Answer, Step, Text, Way};
 use mix_session::Session;
 use plan_core::visited_are_matches;
-use plan_make::make_plan;
+use plan_rewrite::plan_view;
 use std::alloc::{AllocError, Global};
 use table_keep::NoTables;
 
@@ -58,12 +58,12 @@ fn text_of(alloc: Global, answer: Answer) -> Text
 }
 
 impl Visitor {
-    ghost use Rattle.std.specs.Prelude.{◌+◌, ◌<◌, ◌^◌, None, OnOk};
+    ghost use Rattle.std.specs.Prelude.{◌+◌, ◌<◌, ◌^◌, OnOk};
     ghost use Rattle.mix_tree.specs.Forest.{LabelledTree};
     ghost use Rattle.bracket_text.specs.Canonical.{canon};
     ghost use Rattle.mix_script.specs.Names.{no_names};
-    ghost use Rattle.mix_script.specs.Transcript.{Names, answer_of, names_after};
-    ghost use Rattle.mix_load.specs.Visit.{AreNames, IsOn, HoldsRoot};
+    ghost use Rattle.mix_script.specs.Transcript.{Names};
+    ghost use Rattle.mix_load.specs.Visit.{Answers, AreNames, IsOn, HoldsRoot};
 
     // A visitor to the names of so many people, who has taken no command yet.
     fn open(alloc: Global, count: u32) -> Result<Visitor, AllocError>
@@ -74,7 +74,7 @@ impl Visitor {
         valid_plans_have_documents();
         let sources = mount_people(alloc, count)?;
         let rule = names_rule(alloc)?;
-        let plan = make_plan(alloc, &rule, &[label(alloc, "people")?])?;
+        let plan = plan_view(alloc, &rule, &[label(alloc, "people")?])?;
         let mediator = Mediator::open(alloc, plan, &sources)?;
         Ok(Visitor {
             sources,
@@ -87,8 +87,7 @@ impl Visitor {
     fn take(&mut self, alloc: Global, act: Act) -> Result<Answer, AllocError>
         requires on { (t : LabelledTree) × (places : Names) × IsOn t places self.old }
         requires room { self.old.commands + 1 < 2 ^ 64 }
-        ensures answer { IfOk result (λ a. (t : LabelledTree) (places : Names) → IsOn t places self.old
-            → (a ≡ answer_of t places None [] act) × IsOn t (names_after t places [] act a) self.new) }
+        ensures answer { IfOk result (Answers self.old self.new act) }
         ensures commands { OnOk result (self.new.commands ≡ self.old.commands + 1) }
     {
         let step = Step {

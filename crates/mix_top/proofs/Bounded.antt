@@ -10,7 +10,9 @@ use Rattle.mix_script.specs.declared.step.Way.{Way}
 use Rattle.mix_script.specs.declared.step.Way.TheVariants.{Down, Right}
 use Rattle.mix_session.specs.Walks.{place_toll}
 use Rattle.plan_make.specs.Law.{HasValidPlan}
-use Rattle.plan_make.specs.Operators.{operators_of, plan_of}
+use Rattle.plan_make.specs.Operators.{plan_of}
+use Rattle.plan_rewrite.specs.Law.{KeepsValidity}
+use Rattle.plan_rewrite.specs.Rewritten.{operators_for, plan_for}
 use Rattle.table_keep.specs.Rows.{Row}
 use Rattle.table_keep.specs.Views.{Declared}
 use Rattle.table_wrap.specs.Document.{declared_in, is_table_of}
@@ -65,12 +67,14 @@ module _ (files : FilesAreLaid) (tables : TablesAreLaid) (before : Outside) (v :
       ] refl
 
 -- where the class is bounded, each step costs at most the constant
-pub bounded_views : HasValidPlan → BoundedTolls → FilesAreLaid → TablesAreLaid → BoundedViews
-bounded_views valid tolls files tables before q most accepted are told declared class way place =
-    let within = tolls (layout_in q.rule q.sources) (plan_of (names_of_sources q.sources) q.rule) most (valid (names_of_sources q.sources) q.rule accepted) class q.docs
+pub bounded_views : HasValidPlan → KeepsValidity → BoundedTolls → FilesAreLaid → TablesAreLaid → BoundedViews
+bounded_views valid keeps tolls files tables before q most accepted are told declared class way place =
+    let names = names_of_sources q.sources in
+    let is_valid = keeps (plan_of names q.rule) (valid names q.rule accepted) in
+    let within = tolls (layout_in q.rule q.sources) (plan_for names q.rule) most is_valid class q.docs
     (λ s. there_laid files tables before q.rule q.sources declared s (q.docs s) told (are s)) in
     by_way way (within place).0 (within place).1
   where
-    by_way : (w : Way) → place_toll q.docs (operators_of q.rule) Down place ≤ most → place_toll q.docs (operators_of q.rule) Right place ≤ most → place_toll q.docs (operators_of q.rule) w place ≤ most
+    by_way : (w : Way) → place_toll q.docs (operators_for q.rule) Down place ≤ most → place_toll q.docs (operators_for q.rule) Right place ≤ most → place_toll q.docs (operators_for q.rule) w place ≤ most
     by_way Down down right = down
     by_way Right down right = right

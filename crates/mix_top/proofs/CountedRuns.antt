@@ -11,14 +11,15 @@ use Rattle.mix_top.specs.declared.counting.Counts.{Counts}
 use Rattle.mix_top.specs.declared.refusal.Outcome.{Outcome}
 use Rattle.mix_top.specs.declared.refusal.Stop.{Stop}
 use Rattle.mix_top.specs.declared.refusal.Stop.TheVariants.{Refused, SinkFailed, OutOfMemory}
-use Rattle.mix_top.specs.declared.running.Asked.{Asked}
+use Rattle.mix_top.specs.declared.asked.Asked.{Asked}
 use Rattle.mix_top.specs.Counting.{IsCounted, IsCountStop, lines_of_counts}
 use Rattle.mix_top.specs.Counts.{view_class}
 use Rattle.mix_top.specs.Course.{lines_of_count}
 use Rattle.mix_top.specs.Ends.{TookFront}
-use Rattle.mix_top.specs.Running.{IsLinesEnd, LinesOver, by_fills}
-use Rattle.mix_top.specs.Stops.{IsCut, IsDoneWith, IsStop, outcome_status, stop_for}
-use Rattle.mix_top.proofs.Lines.{cut_last, first_front}
+use Rattle.mix_top.specs.Running.{IsLinesEnd, LinesOver, by_fills, question}
+use Rattle.mix_top.specs.Stops.{IsCut, IsDoneAs, IsStop, outcome_status, stop_for}
+use Rattle.mix_top.proofs.Further.{TookOn, answered_on}
+use Rattle.mix_top.proofs.Lines.{cut_last, cut_on, first_front, nothing_more}
 
 -- these are the counts of a run
 pub record AreCounts (tables tables' : TablesView) (asked : Asked) (counts : Counts) : Type 0 where
@@ -27,60 +28,60 @@ pub record AreCounts (tables tables' : TablesView) (asked : Asked) (counts : Cou
   pub class : counts.class ≡ view_class (rule_of asked.rule) asked.catalog
 
 module _ (tables tables' : TablesView) (docs : List Mount) (asked : Asked) (counts : Counts) (are : AreCounts tables tables' asked counts) where
-  abbrev Answers : ℕ → List ℕ → Type 0
+  abbrev Answers : SinkView → SinkView → ℕ → List ℕ → Type 0
   Answers = LinesOver (by_fills counts.spent.fills) tables tables' docs asked
 
-  abbrev Counted : ℕ → List ℕ → Type 0
+  abbrev Counted : SinkView → SinkView → ℕ → List ℕ → Type 0
   Counted = LinesOver lines_of_count tables tables' docs asked
 
   abbrev more : List ℕ
   more = lines_of_counts counts
 
-  -- the answers of a run, and its counts behind them
-  with_counts : (status : ℕ) (answers : List ℕ) → Answers status answers → Counted status (answers ++ more)
-  with_counts status answers h =
-      let Is : Counts → Type 0 = λ c. answers ++ more ≡ answers ++ lines_of_counts c in
-      (h.0, h.1, (counts.spent.fills, answers, h.2, ap (λ x. answers ++ x) same))
-    where
-      same : more ≡ lines_of_counts (record { commands = length asked.steps.items; spent = record { fills = counts.spent.fills; pages = tables'.pages - tables.pages }; class = view_class (rule_of asked.rule) asked.catalog })
-      same =
-          ap (λ n. lines_of_counts (record { commands = n; spent = counts.spent; class = counts.class })) are.commands
-          ∙ ap (λ n. lines_of_counts (record { commands = length asked.steps.items; spent = record { fills = counts.spent.fills; pages = n }; class = counts.class })) are.pages
-          ∙ ap (λ k. lines_of_counts (record { commands = length asked.steps.items; spent = record { fills = counts.spent.fills; pages = tables'.pages - tables.pages }; class = k })) are.class
-
-  module _ (before mid after : SinkView) where
-    -- a front of the answers is one of all lines
-    front_counted : TookFront Answers before mid → TookFront Counted before mid
-    front_counted h = (h.0, h.1 ++ more, with_counts h.0 h.1 h.2, first_front before.written mid.written h.1 more h.3)
-
-    -- a run that was cut short in its answers
-    cut_short : (fault : LinesFault) → IsStop Answers before mid (stop_for fault) → IsStop Counted before mid (stop_for fault)
-    cut_short lines.SinkFailed h = (h.0, front_counted h.1)
-    cut_short lines.OutOfMemory (inl h) = inl h
-    cut_short lines.OutOfMemory (inr h) = inr (front_counted h)
+  module _ (before mid after : SinkView) (on : TookOn mid after) where
+    -- the answers of a run, and its counts behind them
+    with_counts : (status : ℕ) (answers : List ℕ) → Answers before mid status answers → Counted before after status (answers ++ more)
+    with_counts status answers h = (h.0, h.1, (counts.spent.fills, answers, answered_on before mid after on tables tables' (question tables docs asked h.0) counts.spent.fills status answers h.2, ap (λ x. answers ++ x) same))
+      where
+        same : more ≡ lines_of_counts (record { commands = length asked.steps.items; spent = record { fills = counts.spent.fills; pages = tables'.pages - tables.pages }; class = view_class (rule_of asked.rule) asked.catalog })
+        same =
+            ap (λ n. lines_of_counts (record { commands = n; spent = counts.spent; class = counts.class })) are.commands
+            ∙ ap (λ n. lines_of_counts (record { commands = length asked.steps.items; spent = record { fills = counts.spent.fills; pages = n }; class = counts.class })) are.pages
+            ∙ ap (λ k. lines_of_counts (record { commands = length asked.steps.items; spent = record { fills = counts.spent.fills; pages = tables'.pages - tables.pages }; class = k })) are.class
 
     -- lines that were cut short stop a command that has them
-    cut_counted : (status : ℕ) (all : List ℕ) (stop : Stop) → Counted status all → IsCut before after all stop → IsStop Counted before after stop
+    cut_counted : (status : ℕ) (all : List ℕ) (stop : Stop) → Counted before after status all → IsCut before after all stop → IsStop (Counted before after) before after stop
     cut_counted status all (Refused r) course h = absurd h
     cut_counted status all SinkFailed course h = (h.0, (status, all, course, h.1))
     cut_counted status all OutOfMemory course h = inr (status, all, course, h)
 
+  module _ (before mid after : SinkView) where
+    -- a front of the answers is one of all lines
+    front_counted : TookFront (Answers before mid) before mid → TookFront (Counted before mid) before mid
+    front_counted h = (h.0, h.1 ++ more, with_counts before mid mid (nothing_more mid.written) h.0 h.1 h.2, first_front before.written mid.written h.1 more h.3)
+
+    -- a run that was cut short in its answers
+    cut_short : (fault : LinesFault) → IsStop (Answers before mid) before mid (stop_for fault) → IsStop (Counted before mid) before mid (stop_for fault)
+    cut_short lines.SinkFailed h = (h.0, front_counted h.1)
+    cut_short lines.OutOfMemory (inl h) = inl h
+    cut_short lines.OutOfMemory (inr h) = inr (front_counted h)
+
     module _ (count : before.faults ≤ mid.faults) where
       -- answers and counts were written
       pub counted_done : (end : Result Outcome LinesFault) (r : Result Outcome Stop) → IsLinesEnd Answers before mid end → IfOk r (IsCounted end mid after more)
-          → IfOk r (λ outcome. IsDoneWith Counted (outcome_status outcome) before after)
+          → IfOk r (IsDoneAs (Counted before after) before after)
       counted_done end (Ok outcome) h w =
           let done = subst (λ (e : Result Outcome LinesFault). IsLinesEnd Answers before mid e) w.0 h in
-          (done.0 ++ more, with_counts (outcome_status outcome) done.0 done.1, one_more before.written mid.written after.written done.0 more done.2 w.1)
+          (done.0 ++ more, with_counts before mid after (more, w.1) (outcome_status outcome) done.0 done.1, one_more before.written mid.written after.written done.0 more done.2 w.1)
       counted_done end (Err stop) h w = tt
 
       -- or they were cut short
       pub counted_stopped : (end : Result Outcome LinesFault) (r : Result Outcome Stop) → IsLinesEnd Answers before mid end → IfErr r (IsCountStop end mid after more)
-          → IfErr r (IsStop Counted before after)
+          → IfErr r (IsStop (Counted before after) before after)
       counted_stopped end (Ok outcome) h w = tt
       counted_stopped end (Err stop) h (inl w) =
           let cut = cut_short w.0 (subst (λ (e : Result Outcome LinesFault). IsLinesEnd Answers before mid e) w.1 h) in
-          subst (λ (x : SinkView). IsStop Counted before x stop) (sym w.3) (subst (λ (s : Stop). IsStop Counted before mid s) (sym w.2) cut)
+          subst (λ (x : SinkView). IsStop (Counted before x) before x stop) (sym w.3) (subst (λ (s : Stop). IsStop (Counted before mid) before mid s) (sym w.2) cut)
       counted_stopped end (Err stop) h (inr w) =
           let done = subst (λ (e : Result Outcome LinesFault). IsLinesEnd Answers before mid e) w.1 h in
-          cut_counted (outcome_status w.0) (done.0 ++ more) stop (with_counts (outcome_status w.0) done.0 done.1) (cut_last before mid after done.0 more stop done.2 count w.2)
+          let on = cut_on mid after more stop w.2 in
+          cut_counted before mid after on (outcome_status w.0) (done.0 ++ more) stop (with_counts before mid after on (outcome_status w.0) done.0 done.1) (cut_last before mid after done.0 more stop done.2 count w.2)

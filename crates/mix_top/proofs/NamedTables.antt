@@ -12,7 +12,7 @@ use Rattle.table_wrap.specs.Document.{declared_in, is_table_of}
 use Rattle.xmas_rule.specs.Rules.{RuleValue, IsAccepted}
 use Rattle.plan_core.specs.Plans.{Operator}
 use Rattle.plan_core.specs.Shapes.{Shape, one_source, shape_of, shape_at}
-use Rattle.plan_make.specs.Operators.{operators_of}
+use Rattle.plan_rewrite.specs.Rewritten.{operators_for}
 use Rattle.lazy_binding.specs.Cursors.{IsRead, source_number}
 use Rattle.lazy_binding.specs.World.{reads, shape_reads}
 use Rattle.mix_top.specs.Answered.{is_table_told, told_from}
@@ -39,11 +39,11 @@ test_less : (s n : ℕ) → nat_lt s n ≡ true → s < n
 test_less s n h = grind (arith, nat_tests)
 
 -- a source that the plan of an accepted rule reads is one that the rule names
-pub read_named : (n : ℕ) (v : RuleValue) → IsAccepted n v → (s : ℕ) → IsRead (operators_of v) s → (names_source v s ≡ true) × (s < n)
+pub read_named : (n : ℕ) (v : RuleValue) → IsAccepted n v → (s : ℕ) → IsRead (operators_for v) s → (names_source v s ≡ true) × (s < n)
 read_named n v a s r =
     let test : ℕ → Bool = λ k. names_source v k && nat_lt k n in
-    let all : list_all (reads test) (operators_of v) ≡ true = plan_reads test n v a (λ k less named. and_both (names_source v k) (nat_lt k n) named (less_test k n less)) in
-    let parts = and_parts (names_source v s) (nat_lt s n) (all_read test (operators_of v) r.number r.within s r.is all) in
+    let all : list_all (reads test) (operators_for v) ≡ true = plan_reads test n v a (λ k less named. and_both (names_source v k) (nat_lt k n) named (less_test k n less)) in
+    let parts = and_parts (names_source v s) (nat_lt s n) (all_read test (operators_for v) r.number r.within s r.is all) in
     (parts.0, test_less s n parts.1)
 
 -- a source that is no table declares none

@@ -109,7 +109,7 @@ declares_none v sources none s spec at named =
 
 -- a run of a rule that names no table
 pub without_tables : RunsWithoutTablesAreUnmarked
-without_tables before after q fills status lines none is =
+without_tables before after q fills sink sink' status lines none is =
     let faultless = unmarked false (IsTableOf q.rule q.sources) no_names is.answers q.steps is.allowed (λ s may. absurd (none s may)) in
     let told : all_told before q.rule q.sources ≡ true = nothing_untold before q.rule 0 q.sources (declares_none q.rule q.sources none) in (
       is.status_is ∙ ap (λ b. cond b 1 0) faultless,

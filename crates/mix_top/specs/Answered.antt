@@ -1,7 +1,9 @@
 -- What a run comes to whose files are all accepted: the answers to its steps, and its lines.
-use Rattle.std.specs.Prelude.{◌≡◌, ◌≤◌, ℕ, ◌+◌, Bool, true, false, ◌&&◌, ◌||◌, not, cond, IsTrue, List, [], ◌∷◌, Option, Some, None, is_some, length, slice_get}
+use Rattle.std.specs.Prelude.{◌≡◌, ◌≤◌, ◌++◌, ℕ, ◌+◌, Bool, true, false, ◌&&◌, ◌||◌, not, cond, IsTrue, List, [], ◌∷◌, Option, Some, None, is_some, length, slice_get}
 use Rattle.mix_base.specs.Counts.{HasRisenBy}
 use Rattle.mix_catalog.specs.declared.source.SourceSpec.{SourceSpec}
+use Rattle.mix_io.specs.Views.{SinkView}
+use Rattle.mix_io.specs.Contents.{Appends}
 use Rattle.table_keep.specs.Views.{Declared, TablesView}
 use Rattle.table_wrap.specs.Document.{declared_in}
 use Rattle.mix_script.specs.Names.{no_names}
@@ -10,7 +12,7 @@ use Rattle.mix_script.specs.Transcript.{transcript, AreMarks, names_after}
 use Rattle.mix_script.specs.declared.answer.Answer.{Answer}
 use Rattle.mix_session.specs.Stepped.{act_toll_by}
 use Rattle.mix_session.specs.Walks.{place_toll}
-use Rattle.plan_make.specs.Operators.{operators_of}
+use Rattle.plan_rewrite.specs.Rewritten.{operators_for}
 use Rattle.xmas_rule.specs.Rules.{RuleValue}
 use Rattle.xmas_read.specs.Results.{names_of_sources}
 use Rattle.mix_top.specs.Question.{Question}
@@ -43,10 +45,19 @@ all_told tables v sources = told_from tables v 0 sources
 
 -- the tolls of the steps that were answered so, and of the next one, where there is one, on the document of the rule's plan
 abbrev pub steps_toll : Question → List Answer → ℕ
-steps_toll q answers = begun (act_toll_by 0 (place_toll q.docs (operators_of q.rule)) q.tree) (names_after q.tree) no_names answers q.steps
+steps_toll q answers = begun (act_toll_by 0 (place_toll q.docs (operators_for q.rule)) q.tree) (names_after q.tree) no_names answers q.steps
 
--- what a run comes to over tables that meant the first before and mean the second after, and what it asked
-pub record IsAnswered (before after : TablesView) (q : Question) (fills status : ℕ) (lines : List ℕ) : Type 0 where
+-- no more fills were asked than the tolls of the steps come to that were begun: those whose lines were written whole, and the next one
+pub record IsFrugal (before after : Option (List ℕ)) (q : Question) (fills : ℕ) (answers : List Answer) : Type 0 where
+  pub whole : List Answer
+  pub later : List Answer
+  pub parts : answers ≡ whole ++ later
+  pub rest : List ℕ
+  pub written : Appends before after (answer_lines (names_of_sources q.sources) whole q.steps ++ rest)
+  pub cost : fills ≤ steps_toll q whole
+
+-- what a run comes to over tables that meant the first before and mean the second after, what it asked, and what a sink has taken of its lines
+pub record IsAnswered (before after : TablesView) (q : Question) (fills : ℕ) (sink sink' : SinkView) (status : ℕ) (lines : List ℕ) : Type 0 where
   -- the answers to the first steps; a fault is one of a table that the rule names
   pub answers : List Answer
   pub allowed : AreAnswers false (IsTableOf q.rule q.sources) no_names answers q.steps
@@ -55,8 +66,8 @@ pub record IsAnswered (before after : TablesView) (q : Question) (fills status :
   pub status_is : status ≡ cond (has_fault answers) 1 0
   -- each page was asked for a fill
   pub pages : after.pages ≤ before.pages + fills
-  -- over told tables no more fills were asked than the tolls of the steps come to
-  pub cost : all_told before q.rule q.sources ≡ true → fills ≤ steps_toll q answers
+  -- over told tables no more fills were asked than the tolls of the steps come to that were begun
+  pub cost : all_told before q.rule q.sources ≡ true → IsFrugal sink.written sink'.written q fills answers
   -- over told tables the lines are the transcript of all steps, under the marks that the answers show
   pub told : all_told before q.rule q.sources ≡ true → let marks = marks_of answers in
       AreMarks false q.tree no_names marks q.steps × (lines ≡ transcript q.tree (names_of_sources q.sources) marks q.steps)
@@ -66,5 +77,5 @@ pub record IsAnswered (before after : TablesView) (q : Question) (fills status :
 -- where a rule names no table, the lines of a run are the transcript without marks, and the status is 0
 abbrev pub RunsWithoutTablesAreUnmarked : Type 0
 RunsWithoutTablesAreUnmarked =
-    (before after : TablesView) (q : Question) (fills status : ℕ) (lines : List ℕ)
-    → ((s : ℕ) → IsTableOf q.rule q.sources s → ⊥) → IsAnswered before after q fills status lines → (status ≡ 0) × (lines ≡ transcript q.tree [] [] q.steps)
+    (before after : TablesView) (q : Question) (fills : ℕ) (sink sink' : SinkView) (status : ℕ) (lines : List ℕ)
+    → ((s : ℕ) → IsTableOf q.rule q.sources s → ⊥) → IsAnswered before after q fills sink sink' status lines → (status ≡ 0) × (lines ≡ transcript q.tree [] [] q.steps)

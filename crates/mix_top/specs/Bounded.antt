@@ -4,7 +4,7 @@ use Rattle.browse_class.specs.declared.class.Class.TheVariants.{Bounded}
 use Rattle.mix_catalog.specs.declared.source.SourceSpec.{SourceSpec}
 use Rattle.mix_script.specs.declared.step.Way.{Way}
 use Rattle.mix_session.specs.Walks.{place_toll}
-use Rattle.plan_make.specs.Operators.{operators_of}
+use Rattle.plan_rewrite.specs.Rewritten.{operators_for}
 use Rattle.table_keep.specs.Views.{Declared, TablesView}
 use Rattle.view_class.specs.Laid.{AreRows}
 use Rattle.xmas_read.specs.Results.{names_of_sources}
@@ -24,4 +24,4 @@ AreDeclared tables v sources = (s : ℕ) (d : Declared) → IsTable v sources s 
 abbrev pub BoundedViews : Type 0
 BoundedViews = (before : Outside) (q : Question) (most : ℕ) → IsAccepted (length (names_of_sources q.sources)) q.rule → AreDocuments before q.rule q.sources q.docs
     → all_told before.tables q.rule q.sources ≡ true → AreDeclared before.tables q.rule q.sources → view_class q.rule q.sources ≡ Bounded most
-    → (way : Way) (place : List ℕ) → place_toll q.docs (operators_of q.rule) way place ≤ most
+    → (way : Way) (place : List ℕ) → place_toll q.docs (operators_for q.rule) way place ≤ most

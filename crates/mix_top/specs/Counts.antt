@@ -4,14 +4,14 @@ use Rattle.std.specs.Fmt.{decimal}
 use Rattle.browse_class.specs.declared.class.Class.{Class}
 use Rattle.browse_class.specs.Classes.{class_in}
 use Rattle.mix_catalog.specs.declared.source.SourceSpec.{SourceSpec}
-use Rattle.plan_make.specs.Operators.{operators_of}
+use Rattle.plan_rewrite.specs.Rewritten.{operators_for}
 use Rattle.view_class.specs.Layouts.{layout_in}
 use Rattle.view_class.specs.Lines.{class_line}
 use Rattle.xmas_rule.specs.Rules.{RuleValue}
 
 -- the class of a rule's plan over the sources of a catalog
 abbrev pub view_class : RuleValue → List SourceSpec → Class
-view_class v sources = class_in (layout_in v sources) (operators_of v)
+view_class v sources = class_in (layout_in v sources) (operators_for v)
 
 -- the lines of so many commands, fills and pages
 abbrev pub number_lines : (commands fills pages : ℕ) → List ℕ

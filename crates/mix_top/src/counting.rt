@@ -1,6 +1,6 @@
-// The command `count`: what `run` answers, and what that cost.
+// What the answers to the steps of a run cost.
 ghost use Rattle.std.specs.Prelude.{◌≡◌, ◌≤◌, List, ℕ, length, IfOk, IfErr, string_bytes};
-ghost use Rattle.mix_io.specs.Views.{FilesView, SinkView, KeepsFiles};
+ghost use Rattle.mix_io.specs.Views.{FilesView, SinkView};
 ghost use Rattle.table_keep.specs.Views.{KeepsTables, TablesView};
 ghost use Rattle.xmas_rule.specs.RuleMade.{rule_of};
 ghost use Rattle.xmas_rule.specs.Rules.{IsAccepted};
@@ -8,20 +8,18 @@ ghost use Rattle.xmas_read.specs.Results.{names_of_sources};
 ghost use Rattle.mix_top.specs.Counting.{IsCounted, IsCountStop, lines_of_counts};
 ghost use Rattle.mix_top.specs.Counts.{number_lines, view_class};
 ghost use Rattle.mix_top.specs.Course.{lines_of_count};
-ghost use Rattle.mix_top.specs.FilesRead.{ReadsAmong, RunMayRead};
 ghost use Rattle.mix_top.specs.Mounting.{AreMounted};
-ghost use Rattle.mix_top.specs.Outside.{outside};
-ghost use Rattle.mix_top.specs.Running.{LinesOver, RunCourse};
-ghost use Rattle.mix_top.specs.Stops.{IsDoneWith, IsStop, outcome_status};
+ghost use Rattle.mix_top.specs.Running.{LinesOver};
+ghost use Rattle.mix_top.specs.Stops.{IsDoneAlong, IsStopAlong};
 
+use crate::asked::{Asked, Ready, Spent, answer};
 use crate::reading::source_names;
 use crate::refusal::{Outcome, Stop};
-use crate::running::{Asked, Ready, RunFiles, Spent, answer, make_ready};
 use crate::writing::write_lines;
 use browse_class::Class;
-use mix_io::{Files, Sink};
+use mix_io::Sink;
 use mix_lines::LinesFault;
-use plan_make::make_plan;
+use plan_rewrite::plan_view;
 use std::alloc::{AllocError, Global};
 use table_keep::Tables;
 use view_class::{class_line, class_over};
@@ -40,7 +38,7 @@ fn class_asked(alloc: Global, asked: &Asked) -> Result<Class, AllocError>
     ensures { IfOk result (λ class. class ≡ view_class (rule_of asked.now.rule) asked.now.catalog) }
 {
     let names = source_names(alloc, &asked.catalog)?;
-    let plan = make_plan(alloc, &asked.rule, &names)?;
+    let plan = plan_view(alloc, &asked.rule, &names)?;
     class_over(alloc, &asked.catalog, &asked.rule, &plan)
 }
 
@@ -79,8 +77,8 @@ fn write_counts<K: Sink>(
     Ok(outcome)
 }
 
-// Answers the steps of a run whose files were all accepted, and writes what that cost. The tables are handed back.
-fn count_ready<T: Tables, K: Sink>(
+/// Answers the steps of a run whose files were all accepted, and writes what that cost. The tables are handed back.
+pub fn count_ready<T: Tables, K: Sink>(
     alloc: Global,
     ready: Ready,
     tables: T,
@@ -90,10 +88,10 @@ fn count_ready<T: Tables, K: Sink>(
     requires mounted { (files : FilesView) × AreMounted files (rule_of ready.asked.rule) ready.asked.catalog ready.docs.items }
     requires few { length ready.docs.items ≤ 32 }
     ensures keeps { KeepsTables (T.view result.1) (T.view tables) }
-    ensures done { let Course = LinesOver lines_of_count (T.view tables) (T.view result.1) ready.docs.items ready.asked in
-        IfOk result.0 (λ outcome. IsDoneWith Course (outcome_status outcome) (K.view out.old) (K.view out.new)) }
-    ensures stop { let Course = LinesOver lines_of_count (T.view tables) (T.view result.1) ready.docs.items ready.asked in
-        IfErr result.0 (IsStop Course (K.view out.old) (K.view out.new)) }
+    ensures done { IfOk result.0 (IsDoneAlong (LinesOver lines_of_count (T.view tables) (T.view result.1) ready.docs.items ready.asked)
+        (K.view out.old) (K.view out.new)) }
+    ensures stop { IfErr result.0 (IsStopAlong (LinesOver lines_of_count (T.view tables) (T.view result.1) ready.docs.items ready.asked)
+        (K.view out.old) (K.view out.new)) }
     ensures count { (K.view out.old).faults ≤ (K.view out.new).faults }
 {
     let Ready { asked, docs } = ready;
@@ -111,31 +109,4 @@ fn count_ready<T: Tables, K: Sink>(
         write_counts(alloc, answered.end, &counts, out),
         answered.tables,
     )
-}
-
-/// Answers the steps of a script as `run` does, and writes four more lines: how many commands there were, how many fills they asked of the
-/// sources, by how much the count of pages rose, and the class of the view. The files are read as by `run`; the tables are handed back
-/// (docs/FORMATS.md, "Commands").
-pub fn count<F: Files, T: Tables, K: Sink>(
-    alloc: Global,
-    named: &RunFiles<'_>,
-    files: &mut F,
-    tables: T,
-    out: &mut K,
-) -> (Result<Outcome, Stop>, T)
-    ensures keeps { KeepsFiles (F.view files.new) (F.view files.old) }
-    ensures keeps_tables { KeepsTables (T.view result.1) (T.view tables) }
-    ensures reads { let old = F.view files.old in
-        ReadsAmong (RunMayRead old named.now.view.now named.now.catalog.now named.now.script.now) (F.view files.new) old }
-    ensures done { let before = outside (F.view files.old) (T.view tables) in let after = outside (F.view files.new) (T.view result.1) in
-        let Course = RunCourse lines_of_count before after named.now in
-        IfOk result.0 (λ outcome. IsDoneWith Course (outcome_status outcome) (K.view out.old) (K.view out.new)) }
-    ensures stop { let before = outside (F.view files.old) (T.view tables) in let after = outside (F.view files.new) (T.view result.1) in
-        IfErr result.0 (IsStop (RunCourse lines_of_count before after named.now) (K.view out.old) (K.view out.new)) }
-    ensures count { (K.view out.old).faults ≤ (K.view out.new).faults }
-{
-    match make_ready(alloc, named, files) {
-        Ok(ready) => count_ready(alloc, ready, tables, out),
-        Err(stop) => (Err(stop), tables),
-    }
 }

@@ -4,6 +4,7 @@ ghost use Rattle.mix_top.specs.Bounded.{BoundedViews};
 
 use browse_class::tolls_are_bounded;
 use plan_make::plan_is_valid;
+use plan_rewrite::rewriting_keeps_validity;
 use view_class::sources_are_laid;
 
 /// Where a rule names no table, the lines of a run are the transcript without marks, and the status is 0.
@@ -17,6 +18,7 @@ pub fn bounded_views_have_that_bound()
     ensures { BoundedViews }
 {
     plan_is_valid();
+    rewriting_keeps_validity();
     tolls_are_bounded();
     sources_are_laid();
 }

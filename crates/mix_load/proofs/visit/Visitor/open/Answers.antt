@@ -10,7 +10,7 @@ use Rattle.lazy_value.specs.Mediators.{state_of}
 use Rattle.mix_session.specs.Walks.{IsDocument}
 use Rattle.xmas_rule.specs.Rules.{RuleValue}
 use Rattle.plan_make.specs.Law.{MeansRule}
-use Rattle.plan_make.specs.Operators.{operators_of}
+use Rattle.plan_rewrite.specs.Rewritten.{operators_for}
 use Rattle.mix_load.proofs.Named.{names_document}
 use Rattle.mix_load.proofs.Visiting.{begun}
 use Rattle.mix_load.proofs.visit.Visitor.open.Goals as goal
@@ -24,7 +24,7 @@ returns-clause-on c =
     let ops = (plan_value plan).ops in
     let found = names_document sources mediator c.args.count c.in_ok-sources.ensures ops
     (ap (λ (p : Plan). (plan_value p).ops) c.in_ok-mediator.ensures.plan)
-    (ap (λ (p : PlanValue). p.ops) c.in_ok-plan.ensures.made ∙ ap (λ (r : RuleValue). operators_of r) rule)
+    (ap (λ (p : PlanValue). p.ops) c.in_ok-plan.ensures.made ∙ ap (λ (r : RuleValue). operators_for r) rule)
     (subst (λ (r : RuleValue). MeansRule ops r) rule c.in_ok-plan.ensures.document) c.visited_are_matches.ensures
     (λ d. c.valid_plans_have_documents.ensures (plan_value plan) c.in_ok-plan.ensures.valid d) in
     let document = subst (λ (m : Mediator). IsDocument (state_of (view_of sources) m) found.0) (sym c.open-2.ensures.walker) found.2 in

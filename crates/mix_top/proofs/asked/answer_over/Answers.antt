@@ -15,7 +15,7 @@ use Rattle.mix_top.specs.Running.{IsLinesEnd, LinesOver, by_fills}
 use Rattle.mix_top.proofs.Mounts.{reads_told}
 use Rattle.mix_top.proofs.Answering.{renamed, run_document, lines_end}
 use Rattle.mix_top.proofs.Sourced.{plan_reads}
-use Rattle.mix_top.proofs.running.answer_over.Goals as goal
+use Rattle.mix_top.proofs.asked.answer_over.Goals as goal
 
 pub returns-clause-end : goal.returns-clause-end
 returns-clause-end g c few =
@@ -38,4 +38,4 @@ returns-clause-end g c few =
     let ahead = subst (λ (o : List Operator). list_all (reads (view_of old).forward) o ≡ true) (sym (is ∙ made)) (plan_reads (λ s. true) (length (names_of_sources sources)) v c.requires.accepted (λ s less named. refl)) in
     subst (λ (r : Result Outcome LinesFault). IsLinesEnd (LinesOver (by_fills new.fills) old.tables new.tables old.docs c.args.asked.now) before after r) (sym c.end_of.ensures)
     (lines_end files old new c.run_lines.ensures.came c.args.asked.now c.requires.mounted.1 c.requires.accepted st (is ∙ made) refl ahead found.0
-    (λ all. found.2 (reads_told files v sources old.docs c.requires.mounted.1 old.tables c.requires.accepted all)) c.requires.unasked few found.1 before after c.run_lines.result ends)
+    (λ all. found.2 (reads_told files v sources old.docs c.requires.mounted.1 old.tables c.requires.accepted all)) c.requires.unasked few before after found.1 c.run_lines.result ends)

@@ -1,0 +1,59 @@
+-- The courses of the commands that differ in the form of what is written alone.
+use Rattle.std.proofs.Common.{◌≡◌, ℕ, true, List, Result, OnOk, IfOk, IfErr, refl, sym, subst}
+use Rattle.mix_io.specs.Views.{FilesView, SinkView}
+use Rattle.mix_top.specs.Commands.{Command, asks_tables}
+use Rattle.mix_top.specs.Course.{IsCourse, Reads, Runs}
+use Rattle.mix_top.specs.FilesRead.{MayRead, RunMayRead, ViewMayRead}
+use Rattle.mix_top.specs.Outside.{Outside}
+use Rattle.mix_top.specs.Running.{run_lines}
+use Rattle.mix_top.specs.Stops.{IsDone, IsDoneAs, IsStop, unmarked_end}
+use Rattle.mix_top.specs.Words.{rule_command, run_command}
+use Rattle.mix_top.specs.Written.{rule_lines}
+use Rattle.mix_top.specs.declared.reading.RuleForm.{RuleForm}
+use Rattle.mix_top.specs.declared.reading.RuleForm.TheVariants.{Canonical, Plan}
+use Rattle.mix_top.specs.declared.refusal.Outcome.{Outcome}
+use Rattle.mix_top.specs.declared.refusal.Stop.{Stop}
+use Rattle.mix_top.specs.declared.running.RunForm.{RunForm}
+use Rattle.mix_top.specs.declared.running.RunForm.TheVariants.{Answers, Counts}
+use Rattle.mix_top.proofs.RunCourse.{unmarked_done, unmarked_stopped}
+
+-- what is so of the course of a view's reading is so of its command's
+pub rule_course : (P : (ℕ → List ℕ → Type 0) → Type 0) (before after : Outside) (s0 s1 : SinkView) (form : RuleForm) (view catalog : List ℕ)
+    → P (Reads (rule_lines form) before.files after.files view catalog) → P (IsCourse before after (rule_command form view catalog) s0 s1)
+rule_course P before after s0 s1 Canonical view catalog h = h
+rule_course P before after s0 s1 Plan view catalog h = h
+
+-- so it is with the course of a run
+pub run_course : (P : (ℕ → List ℕ → Type 0) → Type 0) (before after : Outside) (s0 s1 : SinkView) (form : RunForm) (view catalog script : List ℕ)
+    → P (Runs (run_lines form) before after view catalog script s0 s1) → P (IsCourse before after (run_command form view catalog script) s0 s1)
+run_course P before after s0 s1 Answers view catalog script h = h
+run_course P before after s0 s1 Counts view catalog script h = h
+
+-- and with what a view's reading may read
+pub rule_may_read : (P : (List ℕ → Type 0) → Type 0) (files : FilesView) (form : RuleForm) (view catalog : List ℕ) → P (ViewMayRead files view catalog) → P (MayRead files (rule_command form view catalog))
+rule_may_read P files Canonical view catalog h = h
+rule_may_read P files Plan view catalog h = h
+
+-- and what a run may read
+pub run_may_read : (P : (List ℕ → Type 0) → Type 0) (files : FilesView) (form : RunForm) (view catalog script : List ℕ) → P (RunMayRead files view catalog script)
+    → P (MayRead files (run_command form view catalog script))
+run_may_read P files Answers view catalog script h = h
+run_may_read P files Counts view catalog script h = h
+
+-- a run asks tables in each form
+pub run_asks : (form : RunForm) (view catalog script : List ℕ) → asks_tables (run_command form view catalog script) ≡ true
+run_asks Answers view catalog script = refl
+run_asks Counts view catalog script = refl
+
+module _ (before after : Outside) (s0 s1 : SinkView) (command words : Command) (is : command ≡ words) (r : Result (Unit {0}) Stop) (end : Result Outcome Stop) (e : end ≡ unmarked_end r) where
+  -- a command without fault lines, which the words are, was done
+  pub words_done : OnOk r (IsDone (IsCourse before after command s0 s1) s0 s1) → IfOk end (IsDoneAs (IsCourse before after words s0 s1) s0 s1)
+  words_done h =
+      subst (λ (c : Command). IfOk end (IsDoneAs (IsCourse before after c s0 s1) s0 s1)) is
+      (subst (λ (x : Result Outcome Stop). IfOk x (IsDoneAs (IsCourse before after command s0 s1) s0 s1)) (sym e) (unmarked_done (IsCourse before after command s0 s1) s0 s1 r h))
+
+  -- or it was stopped
+  pub words_stopped : IfErr r (IsStop (IsCourse before after command s0 s1) s0 s1) → IfErr end (IsStop (IsCourse before after words s0 s1) s0 s1)
+  words_stopped h =
+      subst (λ (c : Command). IfErr end (IsStop (IsCourse before after c s0 s1) s0 s1)) is
+      (subst (λ (x : Result Outcome Stop). IfErr x (IsStop (IsCourse before after command s0 s1) s0 s1)) (sym e) (unmarked_stopped (IsCourse before after command s0 s1) s0 s1 r h))

@@ -1,0 +1,102 @@
+-- What holds of a run whose sink has taken some of its lines holds after it took more.
+use Rattle.std.proofs.Common.{◌≡◌, ◌≤◌, ◌⊎◌, inl, inr, ◌∙◌, ℕ, List, ◌++◌, Option, append_assoc, string_bytes, sym, subst}
+use Rattle.mix_base.proofs.Risen.{risen_before}
+use Rattle.mix_io.specs.Views.{SinkView}
+use Rattle.mix_io.specs.Contents.{Appends, AppendsFront}
+use Rattle.mix_io.proofs.Written.{one_more}
+use Rattle.mix_script.specs.Allowed.{answer_lines}
+use Rattle.mix_script.specs.declared.answer.Answer.{Answer}
+use Rattle.table_keep.specs.Views.{TablesView}
+use Rattle.xmas_read.specs.Results.{names_of_sources}
+use Rattle.mix_top.specs.Answered.{IsAnswered, IsFrugal}
+use Rattle.mix_top.specs.Commands.{Command, help, version, walk, read, plan, run, count, load, unknown}
+use Rattle.mix_top.specs.Course.{IsCourse}
+use Rattle.mix_top.specs.Ends.{Ends, IsWhole, IsCutBySink, IsCutByMemory, TookFront, TookAtMost}
+use Rattle.mix_top.specs.Outside.{Outside}
+use Rattle.mix_top.specs.Question.{Question}
+use Rattle.mix_top.specs.Stops.{IsStop}
+use Rattle.mix_top.specs.declared.refusal.Refusal.{Refusal}
+use Rattle.mix_top.specs.declared.refusal.Stop.TheVariants.{Refused}
+use Rattle.mix_top.proofs.Lines.{front_on, nothing_more}
+
+-- a sink took these lines more
+abbrev pub TookOn : SinkView → SinkView → Type 0
+TookOn before after = (more : List ℕ) × Appends before.written after.written more
+
+module _ (before mid after : SinkView) (on : TookOn mid after) where
+  -- steps that asked no more than their tolls asked no more still
+  frugal_on : (q : Question) (fills : ℕ) (answers : List Answer) → IsFrugal before.written mid.written q fills answers → IsFrugal before.written after.written q fills answers
+  frugal_on q fills answers h =
+      let lines = answer_lines (names_of_sources q.sources) h.whole q.steps in
+      record {
+        whole = h.whole;
+        later = h.later;
+        parts = h.parts;
+        rest = h.rest ++ on.0;
+        written = subst (λ (x : List ℕ). Appends before.written after.written x) (append_assoc lines h.rest on.0) (one_more before.written mid.written after.written (lines ++ h.rest) on.0 h.written on.1);
+        cost = h.cost;
+      }
+
+  -- the answers are those of a run still
+  pub answered_on : (tables tables' : TablesView) (q : Question) (fills status : ℕ) (lines : List ℕ) → IsAnswered tables tables' q fills before mid status lines
+      → IsAnswered tables tables' q fills before after status lines
+  answered_on tables tables' q fills status lines h = record {
+    answers = h.answers;
+    allowed = h.allowed;
+    counted = h.counted;
+    status_is = h.status_is;
+    pages = h.pages;
+    cost = λ e. frugal_on q fills h.answers (h.cost e);
+    told = h.told;
+    untold = h.untold;
+  }
+
+  -- the lines are those of the command's course still
+  course_on : (o o' : Outside) (command : Command) (status : ℕ) (lines : List ℕ) → IsCourse o o' command before mid status lines → IsCourse o o' command before after status lines
+  course_on o o' help status lines h = h
+  course_on o o' version status lines h = h
+  course_on o o' (walk file script) status lines h = h
+  course_on o o' (read view catalog) status lines h = h
+  course_on o o' (plan view catalog) status lines h = h
+  course_on o o' (run view catalog script) status lines (inl refused) = inl refused
+  course_on o o' (run view catalog script) status lines (inr h) = inr (h.0, h.1, (h.2.0, answered_on o.tables o'.tables h.0 h.2.0 status lines h.2.1))
+  course_on o o' (count view catalog script) status lines (inl refused) = inl refused
+  course_on o o' (count view catalog script) status lines (inr h) = inr (h.0, h.1, (h.2.0, h.2.1, answered_on o.tables o'.tables h.0 h.2.0 status h.2.1 h.2.2, h.2.3))
+  course_on o o' (load people) status lines h = h
+  course_on o o' unknown status lines h = h
+
+-- a run that ends took lines, or none
+ends_on : (Course : ℕ → List ℕ → Type 0) (before after : SinkView) (status : ℕ) → Ends Course before after status → TookOn before after
+ends_on Course before after status (inl w) = (w.lines, w.written)
+ends_on Course before after status (inr (inl w)) = front_on w.front.1 before.written after.written w.front.3
+ends_on Course before after status (inr (inr w)) =
+    elim w.front [
+      | inl same ↦ subst (λ (x : Option (List ℕ)). (more : List ℕ) × Appends before.written x more) (sym same) (nothing_more before.written)
+      | inr front ↦ front_on front.1 before.written after.written front.3
+    ]
+
+-- the refusal of a command is its course, and its line is written, or cut short
+pub refused_ends : (o o' : Outside) (command : Command) (before mid after : SinkView) (r : Refusal) (status : ℕ) → before.faults ≤ mid.faults
+    → IsStop (IsCourse o o' command before mid) before mid (Refused r) → Ends (λ s lines. (s ≡ r.status) × (lines ≡ string_bytes r.line)) mid after status
+    → Ends (IsCourse o o' command before after) before after status
+refused_ends o o' command before mid after r status steady stop ends = ended ends
+  where
+    Line : ℕ → List ℕ → Type 0
+    Line s lines = (s ≡ r.status) × (lines ≡ string_bytes r.line)
+
+    on : TookOn mid after
+    on = ends_on Line mid after status ends
+
+    -- the line is the command's
+    lines_are : (s : ℕ) (lines : List ℕ) → Line s lines → IsCourse o o' command before after s lines
+    lines_are s lines l =
+        subst (λ (n : ℕ). IsCourse o o' command before after n lines) (sym l.0)
+        (subst (λ (x : List ℕ). IsCourse o o' command before after r.status x) (sym l.1) (course_on before mid after on o o' command r.status (string_bytes r.line) stop.0))
+
+    front : TookFront Line mid after → TookFront (IsCourse o o' command before after) before after
+    front f = (f.0, f.1, lines_are f.0 f.1 f.2, subst (λ (x : Option (List ℕ)). AppendsFront x after.written f.1) stop.1 f.3)
+
+    ended : Ends Line mid after status → Ends (IsCourse o o' command before after) before after status
+    ended (inl w) = inl (record { lines = w.lines; course = lines_are status w.lines w.course; written = subst (λ (x : Option (List ℕ)). Appends x after.written w.lines) stop.1 w.written })
+    ended (inr (inl w)) = inr (inl (record { five = w.five; cause = risen_before before.faults mid.faults after.faults steady w.cause; front = front w.front }))
+    ended (inr (inr w)) = inr (inr (record { six = w.six; front = elim w.front [ inl same ↦ inl (same ∙ stop.1) | inr f ↦ inr (front f) ] }))

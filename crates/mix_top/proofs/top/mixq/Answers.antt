@@ -1,0 +1,25 @@
+use Rattle.std.proofs.Common.{◌≡◌, Result, Err, IfErr, subst}
+use Rattle.std.specs.Prelude.{map, string_bytes}
+use Rattle.mix_top.specs.Commands.{command_of}
+use Rattle.mix_top.specs.Course.{IsCourse}
+use Rattle.mix_top.specs.Outside.{outside}
+use Rattle.mix_top.specs.Stops.{IsStop}
+use Rattle.mix_top.specs.declared.refusal.Outcome.{Outcome}
+use Rattle.mix_top.specs.declared.refusal.Stop.{Stop}
+use Rattle.mix_top.specs.declared.refusal.Stop.TheVariants.{Refused}
+use Rattle.mix_top.proofs.Further.{refused_ends}
+use Rattle.mix_top.proofs.top.mixq.Goals as goal
+
+pub returns-in-Err-Refused-clause-ends : goal.returns-in-Err-Refused-clause-ends
+returns-in-Err-Refused-clause-ends g c =
+    let s0 = g.K.Sink.view c.args.out.now in
+    let s1 = g.K.Sink.view c.run-end.new.out in
+    let before = outside (g.F.Files.view c.args.files.now) (g.T.Tables.view c.args.tables) in
+    let after = outside (g.F.Files.view c.run-end.new.files) (g.T.Tables.view c.run-end.result.1) in
+    let command = command_of (map string_bytes c.args.words.now) in
+    let end_is = c.in-Err-Refused.is in
+    let stop_is = c.in-Err-Refused.field-0-is in
+    let refusal_is = c.in-Err-Refused.refusal-is in
+    let is : c.run-end.result.0 ≡ Err (Refused c.in-Err-Refused.refusal) = cc in
+    refused_ends before after command s0 s1 (g.K.Sink.view c.refuse.new.out) c.in-Err-Refused.refusal c.refuse.result c.run-end.ensures.count
+    (subst (λ (r : Result Outcome Stop). IfErr r (IsStop (IsCourse before after command s0 s1) s0 s1)) is c.run-end.ensures.stop) c.refuse.ensures.ends

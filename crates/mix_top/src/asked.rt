@@ -1,0 +1,128 @@
+// What is asked of a run, and the answers to its steps.
+ghost use Rattle.std.specs.Prelude.{◌≡◌, ◌≤◌, ◌-◌, length};
+ghost use Rattle.mix_io.specs.Views.{FilesView, SinkView};
+ghost use Rattle.xmas_rule.specs.RuleMade.{rule_of};
+ghost use Rattle.xmas_rule.specs.Rules.{IsAccepted};
+ghost use Rattle.xmas_read.specs.Results.{names_of_sources};
+ghost use Rattle.mix_top.specs.Mounting.{AreMounted};
+ghost use Rattle.mix_mount.specs.Mounts.{CameFrom, docs_of, fills_of, mounted_in};
+ghost use Rattle.table_keep.specs.Views.{KeepsTables, TablesView};
+ghost use Rattle.mix_top.specs.Running.{IsLinesEnd, IsMountedEnd, LinesOver, by_fills};
+ghost use Rattle.mix_top.specs.Stops.{end_of, outcome_of};
+
+use crate::reading::source_names;
+use crate::refusal::Outcome;
+use lazy_value::{Mediator, valid_plans_have_documents};
+use mix_catalog::Catalog;
+use mix_io::Sink;
+use mix_lines::{LinesFault, run_lines};
+use mix_mount::{Mount, Mounted};
+use mix_script::Step;
+use plan_core::visited_are_matches;
+use plan_rewrite::plan_view;
+use std::alloc::Global;
+use table_keep::Tables;
+use xmas_rule::Rule;
+
+/// What is asked of a run: all that its catalog, its view and its script say.
+#[derive(Drop)]
+pub struct Asked {
+    pub catalog: Catalog,
+    pub rule: Rule,
+    pub steps: Vec<Step>,
+}
+
+/// What a run needs: what is asked, and the documents of the sources that the view names.
+#[derive(Drop)]
+pub struct Ready {
+    pub asked: Asked,
+    pub docs: Vec<Mount>,
+}
+
+/// What the steps of a run asked of its sources: how many fills, and by how much the count of pages of tables rose.
+#[derive(Clone, Copy, Debug, PartialEq, Eq)]
+pub struct Spent {
+    pub fills: u64,
+    pub pages: u64,
+}
+
+/// How the lines of a run ended, what its steps asked, and the tables.
+#[derive(Drop)]
+pub struct Answered<T> {
+    pub end: Result<Outcome, LinesFault>,
+    pub spent: Spent,
+    pub tables: T,
+}
+
+// What a run comes to whose lines came to their end.
+fn outcome_of(marked: bool) -> Outcome
+    ensures { result ≡ outcome_of marked }
+{
+    if marked {
+        Outcome::Faults
+    } else {
+        Outcome::Answers
+    }
+}
+
+// What the end of a run's lines comes to.
+fn end_of(end: Result<bool, LinesFault>) -> Result<Outcome, LinesFault>
+    ensures { result ≡ end_of end }
+{
+    match end {
+        Ok(marked) => Ok(outcome_of(marked)),
+        Err(fault) => Err(fault),
+    }
+}
+
+// Answers the steps of a run on the finished document of its rule over mounted sources, of which no fill was asked yet, each line by one
+// write.
+fn answer_over<T: Tables, K: Sink>(
+    alloc: Global,
+    asked: &Asked,
+    sources: &mut Mounted<T>,
+    out: &mut K,
+) -> Result<Outcome, LinesFault>
+    requires accepted { IsAccepted (length (names_of_sources asked.now.catalog)) (rule_of asked.now.rule) }
+    requires mounted { (files : FilesView) × AreMounted files (rule_of asked.now.rule) asked.now.catalog (docs_of sources.old) }
+    requires unasked { fills_of sources.old ≡ 0 }
+    ensures came { CameFrom (mounted_in T.view sources.new) (mounted_in T.view sources.old) }
+    ensures end { IsMountedEnd (mounted_in T.view sources.old) (mounted_in T.view sources.new) asked.now
+        (K.view out.old) (K.view out.new) result }
+    ensures count { (K.view out.old).faults ≤ (K.view out.new).faults }
+{
+    visited_are_matches();
+    valid_plans_have_documents();
+    let names = source_names(alloc, &asked.catalog)?;
+    let plan = plan_view(alloc, &asked.rule, &names)?;
+    let mediator = Mediator::open(alloc, plan, sources)?;
+    end_of(run_lines(alloc, sources, mediator, &asked.steps, &names, out))
+}
+
+/// Answers the steps of a run on the finished document of its rule, over mounted documents and tables, which are handed back, each line by one
+/// write.
+pub fn answer<T: Tables, K: Sink>(
+    alloc: Global,
+    asked: &Asked,
+    docs: Vec<Mount>,
+    tables: T,
+    out: &mut K,
+) -> Answered<T>
+    requires accepted { IsAccepted (length (names_of_sources asked.now.catalog)) (rule_of asked.now.rule) }
+    requires mounted { (files : FilesView) × AreMounted files (rule_of asked.now.rule) asked.now.catalog docs.items }
+    requires few { length docs.items ≤ 32 }
+    ensures keeps { KeepsTables (T.view result.tables) (T.view tables) }
+    ensures end { IsLinesEnd (LinesOver (by_fills result.spent.fills) (T.view tables) (T.view result.tables) docs.items asked.now)
+        (K.view out.old) (K.view out.new) result.end }
+    ensures pages { result.spent.pages ≡ (T.view result.tables).pages - (T.view tables).pages }
+    ensures count { (K.view out.old).faults ≤ (K.view out.new).faults }
+{
+    let before = tables.pages();
+    let mut sources = Mounted::new(docs, tables);
+    let end = answer_over(alloc, asked, &mut sources, out);
+    let fills = sources.fills();
+    let tables = sources.into_tables();
+    let pages = tables.pages() - before;
+    let spent = Spent { fills, pages };
+    Answered { end, spent, tables }
+}
