@@ -13,7 +13,7 @@ use mix_io::MemSink;
 use mix_lines::{LinesFault, run_lines};
 use mix_script::{Step, read_script};
 use mix_tree::Tree;
-use plan_make::make_plan;
+use plan_rewrite::plan_view;
 use std::alloc::Global;
 use std::test::Fail;
 
@@ -34,12 +34,12 @@ pub struct Outcome {
     pub fills: u64,
 }
 
-// The mediator of a rule's plan over these sources.
+// The mediator of a rule's rewritten plan over these sources.
 fn opened(alloc: Global, s: &MemSources, read: &RuleRead) -> Result<Mediator, Fail>
     requires { IsAccepted (length read.now.names.items) (rule_of read.now.rule) }
     ensures { IfOk result (IsMediatorOf (memory_view s.now)) }
 {
-    let plan = make_plan(alloc, &read.rule, &read.names)?;
+    let plan = plan_view(alloc, &read.rule, &read.names)?;
     if plan.sources.len() != s.count() as usize {
         return Err("not a document for each source".into());
     }

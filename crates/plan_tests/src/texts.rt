@@ -44,12 +44,11 @@ fn check(rt: &impl Abort, alloc: Global, plan: &Plan, lines: &[&str]) -> Result<
     Ok(())
 }
 
-#[test]
-fn plans_that_no_view_has_are_written(rt: HostRuntime) -> Result<(), Fail> {
-    let alloc = rt.alloc();
+// A plan that no view has, with each form of a comparison, an order and a piece.
+fn odd_plan(alloc: Global) -> Result<Plan, Fail> {
     let key = Key::LabelOf(Var::new(0));
     let text = equal(0, Operand::Text(label(alloc, "a\"b")?));
-    let plan = Plan {
+    Ok(Plan {
         ops: vec![in alloc;
             Op::Source {
                 source: 0,
@@ -90,7 +89,13 @@ fn plans_that_no_view_has_are_written(rt: HostRuntime) -> Result<(), Fail> {
         ]?,
         names: vec![in alloc; label(alloc, "A")?]?,
         sources: vec![in alloc; label(alloc, "s")?]?,
-    };
+    })
+}
+
+#[test]
+fn plans_that_no_view_has_are_written(rt: HostRuntime) -> Result<(), Fail> {
+    let alloc = rt.alloc();
+    let plan = odd_plan(alloc)?;
     let lines = [
         "0 source s -> $1",
         "1 getDescendants 0 $1 (a|\"b c\")* -> $A",

@@ -1,4 +1,4 @@
-// Runs of `plan`, with plans worked out by hand from the translation. VIEW is the file `doc`, and CATALOG the file `s`.
+// Runs of `plan`, with plans worked out by hand from the translation and the moving of selections. VIEW is the file `doc`, and CATALOG the file `s`.
 use crate::run::run;
 use std::test::Fail;
 
@@ -8,7 +8,7 @@ const CATALOG: &str =
     "source homes bracket h chunk 1\nsource schools bracket f chunk 1\nsource people bracket p chunk 1\nsource s bracket s chunk 1\n";
 
 // Views, each with its plan.
-const PLANS: [(&str, &str); 12] = [
+const PLANS: [(&str, &str); 13] = [
     // The homes with their schools.
     (
         "CONSTRUCT <answer> <med_home> $H $S {$S} </med_home> {$H} </answer> {} WHERE homes homes.home $H AND $H zip._ $V1 AND schools schools.school $S AND $S zip._ $V2 AND $V1 = $V2",
@@ -18,8 +18,29 @@ const PLANS: [(&str, &str); 12] = [
 3 source schools -> $5
 4 getDescendants 3 $5 schools.school -> $S
 5 getDescendants 4 $S zip._ -> $V2
-6 join 2 5
-7 select 6 $V1 = $V2
+6 join 2 5 $V1 = $V2
+7 project 6 {$H,$S}
+8 groupBy 7 {$H} $S -> $6
+9 concatenate 8 $H $6 -> $7
+10 createElement 9 med_home $7 -> $8
+11 groupBy 10 {} $8 -> $9
+12 concatenate 11 $9 -> $10
+13 createElement 12 answer $10 -> $11
+14 tupleDestroy 13 $11
+class browsable
+",
+    ),
+    // Those of one postal code: its comparison stands below the join.
+    (
+        "CONSTRUCT <answer> <med_home> $H $S {$S} </med_home> {$H} </answer> {} WHERE homes homes.home $H AND $H zip._ $V1 AND schools schools.school $S AND $S zip._ $V2 AND $V1 = $V2 AND $V1 = \"91220\"",
+        "0 source homes -> $4
+1 getDescendants 0 $4 homes.home -> $H
+2 getDescendants 1 $H zip._ -> $V1
+3 select 2 $V1 = \"91220\"
+4 source schools -> $5
+5 getDescendants 4 $5 schools.school -> $S
+6 getDescendants 5 $S zip._ -> $V2
+7 join 3 6 $V1 = $V2
 8 project 7 {$H,$S}
 9 groupBy 8 {$H} $S -> $6
 10 concatenate 9 $H $6 -> $7
@@ -40,16 +61,15 @@ class browsable
 3 source schools -> $5
 4 getDescendants 3 $5 schools.school -> $S
 5 getDescendants 4 $S zip._ -> $W
-6 join 2 5
-7 select 6 $Z <= $W
-8 select 7 $W != \"91220\"
-9 project 8 {$H,$S}
-10 concatenate 9 $H $S -> $6
-11 createElement 10 p $6 -> $7
-12 groupBy 11 {} $7 -> $8
-13 concatenate 12 $8 -> $9
-14 createElement 13 a $9 -> $10
-15 tupleDestroy 14 $10
+6 select 5 $W != \"91220\"
+7 join 2 6 $Z <= $W
+8 project 7 {$H,$S}
+9 concatenate 8 $H $S -> $6
+10 createElement 9 p $6 -> $7
+11 groupBy 10 {} $7 -> $8
+12 concatenate 11 $8 -> $9
+13 createElement 12 a $9 -> $10
+14 tupleDestroy 13 $10
 class browsable
 ",
     ),

@@ -6,54 +6,56 @@ const WALK: [&str; 3] = ["walk", "doc", "s"];
 
 const STEPS: &str = "r = root\nx = down r\ny = right x\nfetch y\nz = right y\nfetch x\nfetch z\n";
 
+// Documents and scripts, with what is written.
+const WALKED: [(&str, &str, &str); 10] = [
+    (
+        "a[b[d,e],c]",
+        STEPS,
+        "node\nnode\nnode\nlabel c\nnone\nlabel b\nno node\n",
+    ),
+    (
+        "\"\"",
+        "r = root\nfetch r\nx = down r\nprint r",
+        "node\nlabel \"\"\nnone\ntext \"\"\n",
+    ),
+    (
+        "\"La Jolla\"",
+        "r = root\nfetch r\n",
+        "node\nlabel \"La Jolla\"\n",
+    ),
+    (
+        "a",
+        "# a comment\n\n  r = root\r\nx = right r\nfetch x",
+        "node\nnone\nno node\n",
+    ),
+    (
+        "l[a[b],c]",
+        "x = root\nx = down x\ny = down x\nx = right x\nfetch x\nfetch y",
+        "node\nnode\nnode\nnode\nlabel c\nlabel b\n",
+    ),
+    (
+        "l[a,b,a,c]",
+        "r = root\nx = down r\ny = select x a\nz = right y\nfetch z\nw = select y a",
+        "node\nnode\nnode\nnode\nlabel c\nnone\n",
+    ),
+    (
+        "a[b[d,e],c]",
+        "ann: x = root\nbob: x = root\nann: x = down x\nbob: fetch x\nann: fetch x\nbob: y = down z",
+        "ann: node\nbob: node\nann: node\nbob: label a\nann: label b\nbob: no node\n",
+    ),
+    (
+        "a[ b [d, \"e f\"] ,c[]]",
+        "r = root\nprint r\nb = down r\nprint b\nc = select b c\nprint c\nprint d",
+        "node\ntext a[b[d,\"e f\"],c]\nnode\ntext b[d,\"e f\"]\nnode\ntext c\nno node\n",
+    ),
+    ("a", "r = root\nfly", "s: no form fits line 2\n"),
+    ("a", "", ""),
+];
+
 #[test]
 fn steps_are_answered_on_the_document(rt: HostRuntime) -> Result<(), Fail> {
     let alloc = rt.alloc();
-    let rows = [
-        (
-            "a[b[d,e],c]",
-            STEPS,
-            "node\nnode\nnode\nlabel c\nnone\nlabel b\nno node\n",
-        ),
-        (
-            "\"\"",
-            "r = root\nfetch r\nx = down r\nprint r",
-            "node\nlabel \"\"\nnone\ntext \"\"\n",
-        ),
-        (
-            "\"La Jolla\"",
-            "r = root\nfetch r\n",
-            "node\nlabel \"La Jolla\"\n",
-        ),
-        (
-            "a",
-            "# a comment\n\n  r = root\r\nx = right r\nfetch x",
-            "node\nnone\nno node\n",
-        ),
-        (
-            "l[a[b],c]",
-            "x = root\nx = down x\ny = down x\nx = right x\nfetch x\nfetch y",
-            "node\nnode\nnode\nnode\nlabel c\nlabel b\n",
-        ),
-        (
-            "l[a,b,a,c]",
-            "r = root\nx = down r\ny = select x a\nz = right y\nfetch z\nw = select y a",
-            "node\nnode\nnode\nnode\nlabel c\nnone\n",
-        ),
-        (
-            "a[b[d,e],c]",
-            "ann: x = root\nbob: x = root\nann: x = down x\nbob: fetch x\nann: fetch x\nbob: y = down z",
-            "ann: node\nbob: node\nann: node\nbob: label a\nann: label b\nbob: no node\n",
-        ),
-        (
-            "a[ b [d, \"e f\"] ,c[]]",
-            "r = root\nprint r\nb = down r\nprint b\nc = select b c\nprint c\nprint d",
-            "node\ntext a[b[d,\"e f\"],c]\nnode\ntext b[d,\"e f\"]\nnode\ntext c\nno node\n",
-        ),
-        ("a", "r = root\nfly", "s: no form fits line 2\n"),
-        ("a", "", ""),
-    ];
-    for (document, script, lines) in rows {
+    for (document, script, lines) in WALKED {
         let document = document.as_bytes().to_vec(alloc)?;
         let ended = run(alloc, &WALK, document, script, (&[], &[]))?;
         assert_eq!(rt; ended.written.as_slice(), lines.as_bytes());

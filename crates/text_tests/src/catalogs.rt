@@ -47,6 +47,13 @@ fn lines_are_of_the_bracket_forms(rt: HostRuntime) {
             b"source a bracket f\xff chunk 1".as_slice(),
             Err(CatalogFault::Line(1)),
         ),
+    ];
+    check(&rt, rt.alloc(), &rows);
+}
+
+#[test]
+fn no_other_line_is_of_them(rt: HostRuntime) {
+    let rows = [
         (
             b"source a.b bracket f chunk 1".as_slice(),
             Err(CatalogFault::Line(1)),
@@ -69,7 +76,7 @@ fn lines_are_of_the_bracket_forms(rt: HostRuntime) {
 }
 
 #[test]
-fn the_first_fault_is_named(rt: HostRuntime) {
+fn chunks_are_from_1_to_1000(rt: HostRuntime) {
     let rows = [
         (
             b"source a bracket f chunk 0".as_slice(),
@@ -93,6 +100,13 @@ fn the_first_fault_is_named(rt: HostRuntime) {
             b"source a bracket f chunk -1".as_slice(),
             Err(CatalogFault::Line(1)),
         ),
+    ];
+    check(&rt, rt.alloc(), &rows);
+}
+
+#[test]
+fn the_first_fault_is_named(rt: HostRuntime) {
+    let rows = [
         (
             b"source a bracket f chunk 1\nsource b bracket f chunk 1\n\nsource a bracket g chunk 2".as_slice(),
             Err(CatalogFault::NameTwice(4)),
