@@ -66,11 +66,6 @@ module _ {B : Type 0} {old mid : Telling} {whole later : List (Event B)} {top nu
   comes_steps new now (at_row d) f = comes_at f
   comes_steps new now (at_event d) m = comes_on m
 
-  -- what a search over the events ahead gives, one over all gives
-  pub comes_gives : {C : Type 0} (now : Cursors C B) (r : Option C) → GivesFirst mid now later number r → GivesFirst old now whole top r
-  comes_gives now None h = comes_none h
-  comes_gives now (Some d) f = comes_at f
-
 -- what is so of each cursor that a search finds, is so of what it gives
 pub gives_each : {C B : Type 0} {old : Telling} {now : Cursors C B} {es : List (Event B)} {top : ℕ} (P : C → Type 0) → ((d : C) → Finds old now es top d → P d) → (r : Option C) → GivesFirst old now es top r
     → IfSome r P

@@ -1,5 +1,5 @@
 -- Reading a label's spelling byte by byte.
-use Rattle.std.specs.Prelude.{ℕ, ◌+◌, cond, ◌==◌, List, [], ◌∷◌, ◌++◌, Option, Some, None, option_and_then}
+use Rattle.std.specs.Prelude.{ℕ, ◌+◌, cond, ◌==◌, List, [], ◌∷◌, ◌++◌, Option, Some, None}
 use Rattle.mix_base.specs.Runs.{run_by}
 use Rattle.mix_tree.specs.Spelling.{is_bare}
 use Rattle.mix_tree.specs.LabelGrammar.{is_escape, escaped_byte}

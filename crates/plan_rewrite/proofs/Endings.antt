@@ -1,7 +1,6 @@
 -- Operators of which the last alone is a tupleDestroy.
-use Rattle.std.proofs.Common.{◌≡◌, ℕ, zero, suc, ◌<◌, Bool, true, List, [], ◌∷◌, ◌++◌, refl, ap, arith, length}
+use Rattle.std.proofs.Common.{◌≡◌, ℕ, Bool, true, List, [], ◌∷◌, ◌++◌, refl, ap}
 use Rattle.std.specs.List.{AllByRecursion}
-use Rattle.plan_core.specs.ByNumber.{op_at}
 use Rattle.plan_core.specs.Plans.{Operator, source, get_descendants, join, over, tuple_destroy}
 use Rattle.plan_core.specs.Valid.{EndsSingle}
 
@@ -35,9 +34,3 @@ ended_of single (source s out ∷ ops) h = ended_more single (source s out) ops 
 ended_of single (get_descendants input start path out ∷ ops) h = ended_more single (get_descendants input start path out) ops tt (ended_of single ops h)
 ended_of single (join left right tests ∷ ops) h = ended_more single (join left right tests) ops tt (ended_of single ops h)
 ended_of single (over input op ∷ ops) h = ended_more single (over input op) ops tt (ended_of single ops h)
-
--- what holds of all operators holds of each
-pub each_at : (P : Operator → Type 0) (ops : List Operator) (j : ℕ) → j < length ops → AllByRecursion P ops → P (op_at ops j)
-each_at P [] j lt h = absurd (omega (arith, lt))
-each_at P (op ∷ ops) zero lt h = h.0
-each_at P (op ∷ ops) (suc j) lt h = each_at P ops j (omega (arith, lt)) h.1

@@ -19,10 +19,11 @@ use Rattle.plan_core.proofs.Fresh.{bound_once, reader_once}
 use Rattle.plan_core.proofs.Inputs.{is_single-reads}
 use Rattle.plan_core.proofs.Numbers.{ReadsInputs, by_number-is, op_kinds-reads}
 use Rattle.plan_core.proofs.RowLaws.{rows-stable, rows-last, snoc}
+use Rattle.plan_core.proofs.Typed.{each_at}
 use Rattle.plan_make.specs.Trees.{Tree, begin, descend, both, above, tree_rows}
 use Rattle.plan_make.proofs.TreeParts.{tree_kinds}
 use Rattle.plan_rewrite.specs.Rewritten.{op_tree, tree_at}
-use Rattle.plan_rewrite.proofs.Endings.{IsBelow, Ended, ended_of, each_at}
+use Rattle.plan_rewrite.proofs.Endings.{IsBelow, Ended, ended_of}
 use Rattle.plan_make.proofs.TreeParts.{ReadsBelow, tree_outs, TreeFits, tree_single, IsWhole}
 
 -- WHAT READS INPUTS ALONE
