@@ -1,63 +1,58 @@
 -- The number of a label among known.
-use Rattle.std.proofs.Common.{◌≡◌, ◌<◌, ◌≤◌, ◌||◌, ℕ, zero, suc, Bool, true, false, List, [], ◌∷◌, ◌++◌, length, refl, sym, subst, arith, Vec, Global, map, position}
+use Rattle.std.proofs.Common.{◌≡◌, ◌<◌, ◌≤◌, ◌||◌, ℕ, zero, suc, Bool, true, false, List, [], ◌∷◌, ◌++◌, length, refl, sym, subst, arith, position}
 use Rattle.std.specs.Prelude.{nat_lt}
 use Rattle.std.specs.List.{list_any, position_or_len}
 use Rattle.std.specs.Str.{bytes_eq}
 use Rattle.std.proofs.lemmas.Slice.Eq.{bytes_eq-Decides}
 use Rattle.std.proofs.lemmas.Bool.Decides.{nat_tests}
-use Rattle.std.proofs.lemmas.List.{map-append}
 use Rattle.indexmap.specs.IndexSet.{insert_key}
 use Rattle.join_memo.specs.Places.{IsKnown, IsNumber}
 
--- the labels of keys of a set
-abbrev pub labels_in : List (Vec ℕ Global) → List (List ℕ)
-labels_in ks = map (λ k. k.items) ks
-
-known_behind : (x : Vec ℕ Global) (ks : List (Vec ℕ Global)) (key : List ℕ) (i : ℕ) → IsKnown (labels_in ks) key i → IsKnown (labels_in (x ∷ ks)) key (suc i)
+known_behind : (x : List ℕ) (ks : List (List ℕ)) (key : List ℕ) (i : ℕ) → IsKnown ks key i → IsKnown (x ∷ ks) key (suc i)
 known_behind x ks key i h = record { within = omega (arith, h.within); is = h.is }
 
 -- the first place at which it passes is its number
-pub number_here : (key : List ℕ) (ks : List (Vec ℕ Global)) → position_or_len (λ k. bytes_eq key k.items) ks < length ks → IsKnown (labels_in ks) key (position_or_len (λ k. bytes_eq key k.items) ks)
+pub number_here : (key : List ℕ) (ks : List (List ℕ)) → position_or_len (bytes_eq key) ks < length ks → IsKnown ks key (position_or_len (bytes_eq key) ks)
 number_here key [] h = absurd (omega (arith, h))
-number_here key (x ∷ ks) h = by_case (number_here key ks) (bytes_eq key x.items) refl h
+number_here key (x ∷ ks) h = by_case (number_here key ks) (bytes_eq key x) refl h
   where
-    by_case : (position_or_len (λ k. bytes_eq key k.items) ks < length ks → IsKnown (labels_in ks) key (position_or_len (λ k. bytes_eq key k.items) ks))
-        → (b : Bool) → bytes_eq key x.items ≡ b → position_or_len (λ k. bytes_eq key k.items) (x ∷ ks) < length (x ∷ ks)
-        → IsKnown (labels_in (x ∷ ks)) key (position_or_len (λ k. bytes_eq key k.items) (x ∷ ks))
-    by_case more true e h = rw e (record { within = omega arith; is = (let d : key ≡ x.items = grind (arith, bytes_eq-Decides key x.items, e) in sym d) })
-    by_case more false e h = rw e (subst (λ n. IsKnown (labels_in (x ∷ ks)) key n) (omega arith) (known_behind x ks key (position_or_len (λ k. bytes_eq key k.items) ks) (more (omega (arith, (rw e at h))))))
+    by_case : (position_or_len (bytes_eq key) ks < length ks → IsKnown ks key (position_or_len (bytes_eq key) ks))
+        → (b : Bool) → bytes_eq key x ≡ b → position_or_len (bytes_eq key) (x ∷ ks) < length (x ∷ ks)
+        → IsKnown (x ∷ ks) key (position_or_len (bytes_eq key) (x ∷ ks))
+    by_case more true e h = rw e (record { within = omega arith; is = (let d : key ≡ x = grind (arith, bytes_eq-Decides key x, e) in sym d) })
+    by_case more false e h = rw e (subst (λ n. IsKnown (x ∷ ks) key n) (omega arith) (known_behind x ks key (position_or_len (bytes_eq key) ks) (more (omega (arith, (rw e at h))))))
 
 -- where it passes nowhere, it is none of them
-pub number_nowhere : (key : List ℕ) (ks : List (Vec ℕ Global)) → length ks ≤ position_or_len (λ k. bytes_eq key k.items) ks → (i : ℕ) → IsKnown (labels_in ks) key i → ⊥
+pub number_nowhere : (key : List ℕ) (ks : List (List ℕ)) → length ks ≤ position_or_len (bytes_eq key) ks → (i : ℕ) → IsKnown ks key i → ⊥
 number_nowhere key [] h i n = omega (arith, n.within)
-number_nowhere key (x ∷ ks) h i n = by_case (number_nowhere key ks) (bytes_eq key x.items) refl h i n
+number_nowhere key (x ∷ ks) h i n = by_case (number_nowhere key ks) (bytes_eq key x) refl h i n
   where
-    by_case : (length ks ≤ position_or_len (λ k. bytes_eq key k.items) ks → (i : ℕ) → IsKnown (labels_in ks) key i → ⊥)
-        → (b : Bool) → bytes_eq key x.items ≡ b → length (x ∷ ks) ≤ position_or_len (λ k. bytes_eq key k.items) (x ∷ ks) → (i : ℕ) → IsKnown (labels_in (x ∷ ks)) key i → ⊥
+    by_case : (length ks ≤ position_or_len (bytes_eq key) ks → (i : ℕ) → IsKnown ks key i → ⊥)
+        → (b : Bool) → bytes_eq key x ≡ b → length (x ∷ ks) ≤ position_or_len (bytes_eq key) (x ∷ ks) → (i : ℕ) → IsKnown (x ∷ ks) key i → ⊥
     by_case more true e h i n = omega (arith, (rw e at h))
-    by_case more false e h zero n = (let d : key ≡ x.items = sym n.is in grind (arith, bytes_eq-Decides key x.items, e, d))
+    by_case more false e h zero n = (let d : key ≡ x = sym n.is in grind (arith, bytes_eq-Decides key x, e, d))
     by_case more false e h (suc i) n = more (omega (arith, (rw e at h))) i (record { within = omega (arith, n.within); is = n.is })
 
 -- what a set says of a label
-pub number_is : (key : List ℕ) (ks : List (Vec ℕ Global)) → IsNumber (labels_in ks) key (position (λ k. bytes_eq key k.items) ks)
-number_is key ks = by_case (nat_lt (position_or_len (λ k. bytes_eq key k.items) ks) (length ks)) refl
+pub number_is : (key : List ℕ) (ks : List (List ℕ)) → IsNumber ks key (position (bytes_eq key) ks)
+number_is key ks = by_case (nat_lt (position_or_len (bytes_eq key) ks) (length ks)) refl
   where
-    by_case : (b : Bool) → nat_lt (position_or_len (λ k. bytes_eq key k.items) ks) (length ks) ≡ b → IsNumber (labels_in ks) key (position (λ k. bytes_eq key k.items) ks)
+    by_case : (b : Bool) → nat_lt (position_or_len (bytes_eq key) ks) (length ks) ≡ b → IsNumber ks key (position (bytes_eq key) ks)
     by_case true e = rw e (number_here key ks (grind (arith, nat_tests, e)))
     by_case false e = rw e (number_nowhere key ks (grind (arith, nat_tests, e)))
 
 -- a label that is none of them is no key
-pub not_key : (key : Vec ℕ Global) (ks : List (Vec ℕ Global)) → ((i : ℕ) → IsKnown (labels_in ks) key.items i → ⊥) → list_any (λ k. bytes_eq key.items k.items) ks ≡ false
+pub not_key : (key : List ℕ) (ks : List (List ℕ)) → ((i : ℕ) → IsKnown ks key i → ⊥) → list_any (bytes_eq key) ks ≡ false
 not_key key [] h = refl
-not_key key (x ∷ ks) h = by_case (not_key key ks (λ i n. h (suc i) (known_behind x ks key.items i n))) (bytes_eq key.items x.items) refl
+not_key key (x ∷ ks) h = by_case (not_key key ks (λ i n. h (suc i) (known_behind x ks key i n))) (bytes_eq key x) refl
   where
-    by_case : list_any (λ k. bytes_eq key.items k.items) ks ≡ false → (b : Bool) → bytes_eq key.items x.items ≡ b → b || list_any (λ k. bytes_eq key.items k.items) ks ≡ false
-    by_case more true e = absurd (h 0 (record { within = omega arith; is = (let d : key.items ≡ x.items = grind (arith, bytes_eq-Decides key.items x.items, e) in sym d) }))
+    by_case : list_any (bytes_eq key) ks ≡ false → (b : Bool) → bytes_eq key x ≡ b → b || list_any (bytes_eq key) ks ≡ false
+    by_case more true e = absurd (h 0 (record { within = omega arith; is = (let d : key ≡ x = grind (arith, bytes_eq-Decides key x, e) in sym d) }))
     by_case more false e = more
 
 -- it comes last
-pub known_last : (key : Vec ℕ Global) (ks : List (Vec ℕ Global)) → ((i : ℕ) → IsKnown (labels_in ks) key.items i → ⊥)
-    → labels_in (insert_key (λ a b. bytes_eq a.items b.items) ks key) ≡ labels_in ks ++ key.items ∷ []
+pub known_last : (key : List ℕ) (ks : List (List ℕ)) → ((i : ℕ) → IsKnown ks key i → ⊥)
+    → insert_key bytes_eq ks key ≡ ks ++ key ∷ []
 known_last key ks h =
-    let e : list_any (λ k. bytes_eq key.items k.items) ks ≡ false = not_key key ks h in
-    rw e (map-append (λ k. k.items) ks (key ∷ []))
+    let e : list_any (bytes_eq key) ks ≡ false = not_key key ks h in
+    rw e refl

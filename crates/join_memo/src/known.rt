@@ -10,15 +10,15 @@ use std::marker::Model;
 /// Different labels in the order in which they came, found by their hash.
 #[derive(Drop)]
 pub struct KnownLabels {
-    labels: IndexSet<Vec<u8>>,
+    labels: IndexSet<Label>,
 }
 
 impl Model for KnownLabels {
-    ghost use Rattle.std.specs.Prelude.{List, ℕ, map};
+    ghost use Rattle.std.specs.Prelude.{List, ℕ};
 
     ghost Value = { List (List ℕ) };
 
-    ghost view = { λ known. map (λ label. label.items) known.labels.keys };
+    ghost view = { λ known. known.labels.keys };
 }
 
 impl KnownLabels {
@@ -35,7 +35,7 @@ impl KnownLabels {
     pub(crate) fn number(&self, key: &Label) -> Option<usize>
         ensures { IsNumber self.now key.now result }
     {
-        self.labels.get_index_of(key.bytes())
+        self.labels.get_index_of(key)
     }
 
     /// A label that is not among them comes behind the others.
@@ -44,8 +44,7 @@ impl KnownLabels {
         ensures ok { OnOk result (self.new ≡ self.old ++ key.now ∷ []) }
         ensures err { OnErr result (self.new ≡ self.old) }
     {
-        let label = Vec::from_slice(alloc, key.bytes())?;
-        match self.labels.insert_full(label) {
+        match self.labels.insert_full(key.copy(alloc)?) {
             Ok(_) => Ok(()),
             Err(_) => Err(AllocError),
         }

@@ -10,7 +10,8 @@ use Rattle.tree_buffer.specs.declared.spot.Spot.{Spot}
 use Rattle.tree_buffer.specs.Buffer.{Goes, place_of}
 use Rattle.lxp_core.proofs.Views.{keeps_same as keeps_view_same, keeps_twice}
 use Rattle.plan_core.specs.Plans.{Operator}
-use Rattle.lazy_binding.specs.World.{World, docs_of, reads, is_told, is_forward, of_buffer, place_in, spot_node, IsSpotIn, roots_weight, bound_of, IsBench}
+use Rattle.lazy_binding.specs.Bench.{IsBench}
+use Rattle.lazy_binding.specs.World.{World, docs_of, reads, is_told, is_forward, of_buffer, place_in, spot_node, IsSpotIn, roots_weight, bound_of}
 use Rattle.lazy_binding.specs.Keeping.{Keeps}
 
 -- a list of tests that agree has one answer
@@ -109,6 +110,9 @@ keeps_same w ops h = record {
   lists = refl;
   longer = λ n. omega arith;
   seen = λ n k l. refl;
+  memos = refl;
+  more = λ n. omega arith;
+  members = λ n k l. refl;
 }
 
 -- one call after another
@@ -123,4 +127,7 @@ keeps_then {a} {b} {c} k l = record {
   lists = l.lists ∙ k.lists;
   longer = λ n. omega (arith, k.longer n, l.longer n);
   seen = λ n j h. l.seen n j (omega (arith, h, k.longer n)) ∙ k.seen n j h;
+  memos = l.memos ∙ k.memos;
+  more = λ n. omega (arith, k.more n, l.more n);
+  members = λ n j h. l.members n j (omega (arith, h, k.more n)) ∙ k.members n j h;
 }

@@ -18,7 +18,8 @@ use Rattle.plan_core.specs.Plans.{Operator}
 use Rattle.plan_core.specs.Shapes.{Shape, one_source, shape_of, shape_at}
 use Rattle.plan_core.specs.TolledRows.{source_node}
 use Rattle.lazy_binding.specs.declared.position.Position.{Position}
-use Rattle.lazy_binding.specs.World.{World, docs_of, shape_reads, reads, is_told, is_forward, of_buffer, buffer_at, spot_node, IsSpotIn, IsBench}
+use Rattle.lazy_binding.specs.Bench.{IsBench}
+use Rattle.lazy_binding.specs.World.{World, docs_of, shape_reads, reads, is_told, is_forward, of_buffer, buffer_at, spot_node, IsSpotIn}
 use Rattle.lazy_binding.specs.Cursors.{IsRead, source_number}
 use Rattle.lazy_binding.specs.Reading.{spot_in, Found}
 use Rattle.lazy_binding.proofs.Spots.{IsSpotOf}

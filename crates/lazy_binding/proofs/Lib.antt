@@ -5,6 +5,7 @@ pub mod FirstMembers
 pub mod Keep
 pub mod KeyParts
 pub mod Labels
+pub mod Members
 pub mod SameKeys
 pub mod SameNodes
 pub mod SeenLists

@@ -80,7 +80,7 @@ module _ (ops : List Operator) (typed : IsTyped ops) (w : World) where
         (sym (ap (λ (g : Kinds). g v) (kinds_at ops typed n h (passes_on i (first_by_keys keys group)) e)) ∙ k) (binding w ops i c) (ahead w ops i c) in
         (ap (λ (b : Bool). cond b (spot_in ops i c v) None) z.0, z.1)
     lacks n h (passes_on i (first_by_keys keys group)) e (Seen' q c m) of row v k = cc
-    lacks n h (pairs_up l r tests) e (Pair' q x q' y) of row v k =
+    lacks n h (pairs_up l r tests) e (Pair' q x q' y m) of row v k =
         let g = inputs_at ops typed n h (pairs_up l r tests) e in
         let both = either_none (kinds ops l v) (kinds ops r v) (sym (ap (λ (g : Kinds). g v) (kinds_at ops typed n h (pairs_up l r tests) e)) ∙ k) in
         let a = lacks l (omega (arith, h, g.0)) (shape_at ops l) refl x of.0 of.1 v both.0 in
@@ -156,7 +156,7 @@ module _ (ops : List Operator) (typed : IsTyped ops) (w : World) where
         let y = spot_is i (omega (arith, h, l.0)) (shape_at ops i) refl c of.0 of.1 v z.1 in
         record { source = y.source; spot = y.spot; is = ap (λ (b : Bool). cond b (spot_in ops i c v) None) z.0 ∙ y.is; read = y.read; known = y.known; value = z.2 ∙ y.value }
     spot_is n h (passes_on i (first_by_keys keys group)) e (Seen' q c m) of row v k = cc
-    spot_is n h (pairs_up l r tests) e (Pair' q x q' y) of row v k =
+    spot_is n h (pairs_up l r tests) e (Pair' q x q' y m) of row v k =
         let g = inputs_at ops typed n h (pairs_up l r tests) e in
         elim (either_some (kinds ops l v) (kinds ops r v) (sym (ap (λ (g : Kinds). g v) (kinds_at ops typed n h (pairs_up l r tests) e)) ∙ k)) [
           | inl left ↦ (let s = spot_is l (omega (arith, h, g.0)) (shape_at ops l) refl x of.0 of.1 v left in record {

@@ -1,5 +1,5 @@
 -- An earlier cursor stands for the same after every call.
-use Rattle.std.proofs.Common.{◌≡◌, ◌≤◌, ◌+◌, ◌*◌, ℕ, zero, suc, List, [], ◌∷◌, ◌++◌, Option, Some, None, length, take, drop, map, get_or, refl, ◌∙◌, sym, ap, subst, arith}
+use Rattle.std.proofs.Common.{◌≡◌, ◌≤◌, ◌+◌, ◌-◌, ◌*◌, ℕ, zero, suc, List, [], ◌∷◌, ◌++◌, Option, Some, None, length, take, drop, map, get_or, refl, ◌∙◌, sym, ap, subst, arith}
 use Rattle.std.specs.Prelude.{IsTrue, MatchOption}
 use Rattle.std.specs.List.{AllByRecursion}
 use Rattle.std.proofs.lemmas.Nat.{mul-le}
@@ -22,7 +22,8 @@ use Rattle.plan_core.specs.Events.{RowEvents, events, expand, each_row, only, de
 use Rattle.lazy_binding.specs.declared.key.KeyPart.{KeyPart}
 use Rattle.lazy_binding.specs.declared.key.KeyPart.TheVariants.{Node as node_part, Label as label_part, Free as free_part}
 use Rattle.lazy_binding.specs.declared.position.Position.{Position, Start, Top, Whole, Found', Pass', First', Seen', Pair', Sorted', Row_of-Position-Sorted-0-1 as Row, end_of-Position-Sorted-0-1 as no_more, more_of-Position-Sorted-0-1 as one_more}
-use Rattle.lazy_binding.specs.World.{World, docs_of, of_buffer, buffer_at, IsMatchIn, match_place, match_ahead, match_number, bound_of, seen_at, part_value, seen_values, IsPart, IsBench}
+use Rattle.lazy_binding.specs.Bench.{IsBench}
+use Rattle.lazy_binding.specs.World.{World, docs_of, of_buffer, buffer_at, IsMatchIn, match_place, match_ahead, match_number, bound_of, seen_at, part_value, seen_values, last_of, IsPart}
 use Rattle.lazy_binding.specs.Cursors.{Standing, standing, stands, binding, ahead, size, number, weighs, IsIn, AreIn, rows_in, found_row, visit_ahead, left_ahead, up_to, found_number}
 use Rattle.lazy_binding.specs.Keeping.{Keeps, StaysIn, KeepsCursors}
 use Rattle.lazy_binding.proofs.Keep.{told-kept, docs_kept, bound_kept, spot_kept, place_kept, node_kept}
@@ -150,7 +151,7 @@ module _ (a b : World) (k : Keeps a b) (ops : List Operator) (bench : IsBench a 
         (standing_kept i (shape_at ops i) c h.0)
         ∙ ap (λ (z : Documents). record { row = []; ahead = distinct z keys (kept_row z keys (stops_over ops i keys) group) (up_to b n m) old.ahead }) (docs_kept k ops bench)
         ∙ ap (λ (z : List (List KeyValue)). record { row = []; ahead = distinct (docs_of a) keys (kept_row (docs_of a) keys (stops_over ops i keys) group) z old.ahead }) (seen_kept n m h.2)
-    standing_kept n (pairs_up l r tests) (Pair' q x q' y) h =
+    standing_kept n (pairs_up l r tests) (Pair' q x q' y m) h =
         let left : Standing = standing a ops l x in
         let right : Standing = standing a ops r y in
         ap (λ (z : Standing). pair_standing b z (standing b ops r y)) (standing_kept l (shape_at ops l) x h.0)
@@ -184,11 +185,10 @@ module _ (a b : World) (k : Keeps a b) (ops : List Operator) (bench : IsBench a 
   number_kept n (passes_on i (extends out made)) (Pass' q c) h = number_kept i (shape_at ops i) c h.0
   number_kept n (passes_on i (first_by_keys keys group)) (First' q c m) h = number_kept i (shape_at ops i) c h.0
   number_kept n (passes_on i (first_by_keys keys group)) (Seen' q c m) h = number_kept i (shape_at ops i) c h.0
-  number_kept n (pairs_up l r tests) (Pair' q x q' y) h =
+  number_kept n (pairs_up l r tests) (Pair' q x q' y m) h =
       let e = size_kept r in
       let i = mul-le (number b ops l x) (suc (size a ops r)) (number a ops l x) (suc (size a ops r)) (number_kept l (shape_at ops l) x h.0) (omega arith) in
-      let j = number_kept r (shape_at ops r) y h.2 in
-      subst (λ (z : ℕ). number b ops l x * suc z + number b ops r y ≤ number a ops l x * suc (size a ops r) + number a ops r y) (sym e) (omega (arith, i, j))
+      subst (λ (z : ℕ). number b ops l x * suc z + (z - m) ≤ number a ops l x * suc (size a ops r) + (size a ops r - m)) (sym e) (omega (arith, i))
   number_kept n (passes_on i (in_order v desc)) (Sorted' q z row m) h = omega arith
   number_kept n f c h = absurd h
 
@@ -233,10 +233,8 @@ module _ (a b : World) (k : Keeps a b) (ops : List Operator) (bench : IsBench a 
           ∙ ap (λ (z : Documents). drop m (keys_seen z keys [] (events z ops i))) (sym (docs_kept k ops bench)),
       λ t. none_before_kept ops i keys (docs_kept k ops bench) (seen_kept n m h.2) (ap (λ (z : Standing). z.ahead) (standing_kept i (shape_at ops i) c h.0)) (h.4 (subst IsTrue (told-kept k ops) t)),
     )
-    cursor_kept n (pairs_up l r tests) (Pair' q x q' y) h =
-        let e = size_kept r in
-        let j = number_kept r (shape_at ops r) y h.2 in
-        (cursor_kept l (shape_at ops l) x h.0, h.1, cursor_kept r (shape_at ops r) y h.2, omega (arith, e, j, h.3))
+    cursor_kept n (pairs_up l r tests) (Pair' q x q' y m) h =
+        (cursor_kept l (shape_at ops l) x h.0, h.1, cursor_kept r (shape_at ops r) y h.2, omega (arith, h.3, k.more n), ap (last_of Start) (k.members n m h.3) ∙ h.4)
     cursor_kept n (passes_on i (in_order v desc)) (Sorted' q z row m) h = (let e = size_kept n in (all_kept i row h.0, h.1, omega (arith, e, h.2)))
     cursor_kept n f c h = absurd h
 

@@ -99,7 +99,7 @@ module _ (ops : List Operator) (typed : IsTyped ops) (w : World) where
         let l = inputs_at ops typed n h (passes_on i (in_order u desc)) e in
         source_nth i (omega (arith, h, l.0)) list m of.0 of.1 v ∙ sym (source_at ops typed n h (passes_on i (in_order u desc)) e v)
     source_is n h (passes_on i (first_by_keys keys group)) e (Seen' q c k) of row v = cc
-    source_is n h (pairs_up l r tests) e (Pair' q x q' y) of row v =
+    source_is n h (pairs_up l r tests) e (Pair' q x q' y m) of row v =
         let z = inputs_at ops typed n h (pairs_up l r tests) e in
         source_either (spot_in ops l x v) (spot_in ops r y v)
         ∙ ap (λ (p : Option ℕ). or_other p (source_in (spot_in ops r y v))) (source_is l (omega (arith, h, z.0)) (shape_at ops l) refl x of.0 of.1 v)

@@ -18,7 +18,7 @@ use Rattle.plan_core.specs.TolledRows.{of_source, TolledRow, row_node, KeyValue,
 use Rattle.plan_core.specs.Events.{RowEvents, events, expand, each_row, only, with_node, nodes_found, descendants, pairs, distinct, keys_seen, same_group}
 use Rattle.lazy_descend.specs.declared.cursor.DescCursor.{DescCursor}
 use Rattle.lazy_binding.specs.declared.position.Position.{Position, Start, Top, Whole, Found', Pass', First', Seen', Pair', Sorted', Row_of-Position-Sorted-0-1 as Row, end_of-Position-Sorted-0-1 as no_more, more_of-Position-Sorted-0-1 as one_more}
-use Rattle.lazy_binding.specs.World.{World, docs_of, is_told, spot_node, IsSpotIn, IsMatchIn, match_place, match_ahead, match_number, bound_of, seen_at, seen_values, place_in}
+use Rattle.lazy_binding.specs.World.{World, docs_of, is_told, spot_node, IsSpotIn, IsMatchIn, match_place, match_ahead, match_number, bound_of, seen_at, seen_values, memo_at, passed, place_in}
 
 -- the binding and the events ahead, together
 pub record Standing : Type 0 where
@@ -65,7 +65,7 @@ has_row (Found' q c s d) = has_match d
 has_row (Pass' q c) = true
 has_row (First' q c k) = true
 has_row (Seen' q c k) = false
-has_row (Pair' q l q' r) = has_row r
+has_row (Pair' q l q' r k) = has_row r
 has_row (Sorted' q m row k) = true
 
 -- how many positions a sorted list has
@@ -97,7 +97,7 @@ abbrev mutual
     row = [];
     ahead = distinct (docs_of w) keys (kept_row (docs_of w) keys (stops_over ops i keys) group) (up_to w n k) (stands w ops i (shape_at ops i) c).ahead;
   }
-  stands w ops n (pairs_up l r tests) (Pair' q x q' y) =
+  stands w ops n (pairs_up l r tests) (Pair' q x q' y k) =
       let left = stands w ops l (shape_at ops l) x in
       let right = stands w ops r (shape_at ops r) y in
       record { row = left.row ++ right.row; ahead = pairs (docs_of w) tests right.ahead left.row ++ left_ahead w ops r tests left.ahead }
@@ -152,7 +152,7 @@ weighs w ops n (passes_on i (filters test)) (Pass' q c) = weighs w ops i (shape_
 weighs w ops n (passes_on i (extends out made)) (Pass' q c) = weighs w ops i (shape_at ops i) c
 weighs w ops n (passes_on i (first_by_keys keys group)) (First' q c k) = weighs w ops i (shape_at ops i) c
 weighs w ops n (passes_on i (first_by_keys keys group)) (Seen' q c k) = weighs w ops i (shape_at ops i) c
-weighs w ops n (pairs_up l r tests) (Pair' q x q' y) = weighs w ops l (shape_at ops l) x * suc (size w ops r) + weighs w ops r (shape_at ops r) y
+weighs w ops n (pairs_up l r tests) (Pair' q x q' y k) = weighs w ops l (shape_at ops l) x * suc (size w ops r) + (size w ops r - k)
 weighs w ops n (passes_on i (in_order v desc)) (Sorted' q m row k) = count row - suc k
 weighs w ops n f c = 0
 
@@ -180,7 +180,7 @@ abbrev pub IsFirstBy : Documents → List Key → RowEvents → TolledRow → Ro
 IsFirstBy docs keys es row later = found (same_group docs keys row es) ≡ finds row (same_group docs keys row later)
 
 abbrev mutual
-  -- a position of operator n in this shape. Of first bindings by keys it is also known that the keys ahead of it are those that the input has behind the ones
+  -- a position of operator n in this shape. A pair stands at the last of the members that were passed. Of first bindings by keys it is also known that the keys ahead of it are those that the input has behind the ones
   -- seen up to it, that no event before it has other keys, and where it stands at a binding, that this is the first one with its keys
   pub IsIn : World → List Operator → ℕ → Shape → Position → Type 0
   IsIn w ops n f Start = Unit {0}
@@ -197,8 +197,8 @@ abbrev mutual
   IsIn w ops n (passes_on i (first_by_keys keys group)) (Seen' q c k) = IsIn w ops i (shape_at ops i) c × IsTrue (has_row c) × (k ≤ length (seen_at w n))
       × (IsTrue (is_told w ops) → keys_seen (docs_of w) keys (up_to w n k) (ahead w ops i c) ≡ drop k (keys_seen (docs_of w) keys [] (events (docs_of w) ops i)))
       × (IsTrue (is_told w ops) → NoneBefore (docs_of w) keys (events (docs_of w) ops i) (up_to w n k) (ahead w ops i c))
-  IsIn w ops n (pairs_up l r tests) (Pair' q x q' y) = IsIn w ops l (shape_at ops l) x × IsTrue (has_row x) × IsIn w ops r (shape_at ops r) y
-      × (number w ops r y ≤ size w ops r)
+  IsIn w ops n (pairs_up l r tests) (Pair' q x q' y k) = IsIn w ops l (shape_at ops l) x × IsTrue (has_row x) × IsIn w ops r (shape_at ops r) y
+      × (k ≤ length (memo_at w n).pairs) × (passed (memo_at w n).pairs k ≡ y)
   IsIn w ops n (passes_on i (in_order v desc)) (Sorted' q m row k) = AreIn w ops i row × (k < count row) × (count row ≤ size w ops n)
   IsIn w ops n f c = ⊥
 

@@ -5,8 +5,9 @@ use Rattle.tree_buffer.specs.declared.buffer.Buffer.{Buffer}
 use Rattle.tree_buffer.specs.Buffer.{Goes}
 use Rattle.plan_core.specs.Plans.{Operator}
 use Rattle.lazy_binding.specs.declared.position.Position.{Position}
-use Rattle.lazy_binding.specs.World.{World, buffer_at, seen_at, IsBench}
+use Rattle.lazy_binding.specs.World.{World, buffer_at, seen_at, memo_at}
 use Rattle.plan_core.specs.Shapes.{Shape, shape_at}
+use Rattle.lazy_binding.specs.Bench.{IsBench}
 use Rattle.lazy_binding.specs.Cursors.{stands, weighs, IsIn, IsOf}
 
 -- the buffer of a source goes on
@@ -15,7 +16,7 @@ pub record GoesOn (old new : World) (s : ℕ) (b : Buffer) : Type 0 where
   pub there : buffer_at new s ≡ Some later
   pub goes : Goes old.view b new.view later
 
--- the sources keep what every call of theirs keeps, each buffer goes on, and the lists of keys that were seen only grow
+-- the sources keep what every call of theirs keeps, each buffer goes on, and the lists of keys that were seen and the memos only grow
 pub record Keeps (old new : World) : Type 0 where
   pub view : KeepsView new.view old.view
   pub buffers : length new.buffers ≡ length old.buffers
@@ -23,6 +24,9 @@ pub record Keeps (old new : World) : Type 0 where
   pub lists : length new.seen ≡ length old.seen
   pub longer : (n : ℕ) → length (seen_at old n) ≤ length (seen_at new n)
   pub seen : (n k : ℕ) → k ≤ length (seen_at old n) → take k (seen_at new n) ≡ take k (seen_at old n)
+  pub memos : length new.memos ≡ length old.memos
+  pub more : (n : ℕ) → length (memo_at old n).pairs ≤ length (memo_at new n).pairs
+  pub members : (n k : ℕ) → k ≤ length (memo_at old n).pairs → take k (memo_at new n).pairs ≡ take k (memo_at old n).pairs
 
 -- an earlier position of operator n, in this shape, stands for the same binding, with the same events behind it, and its number did not rise
 pub record StaysIn (old new : World) (ops : List Operator) (n : ℕ) (f : Shape) (c : Position) : Type 0 where

@@ -1,7 +1,10 @@
+pub mod Bench
 pub mod Cursors
 pub mod Keeping
 pub mod KeyLaws
 pub mod Keys
+pub mod Links
+pub mod Members
 pub mod Parts
 pub mod Reading
 pub mod SortedLists

@@ -9,7 +9,8 @@ use Rattle.lxp_core.specs.View.{View}
 use Rattle.plan_core.specs.TolledRows.{TolledRow, row_node}
 use Rattle.lazy_binding.specs.declared.parts.Growing.{Growing}
 use Rattle.lazy_binding.specs.declared.parts.Walk.{Walk}
-use Rattle.lazy_binding.specs.World.{World, docs_of, is_told, spot_node, IsSpotIn, IsBench}
+use Rattle.lazy_binding.specs.World.{World, docs_of, is_told, spot_node, IsSpotIn}
+use Rattle.lazy_binding.specs.Bench.{IsBench}
 use Rattle.lazy_binding.specs.Cursors.{binding, IsRead, IsOf}
 use Rattle.lazy_binding.specs.Parts.{operators, world_of}
 use Rattle.lazy_descend.specs.declared.cursor.DescCursor.{DescCursor}
@@ -34,7 +35,7 @@ abbrev mutual
   spot_at ops (passes_on i (filters test)) (Pass' q c) v = spot_at ops (shape_at ops i) c v
   spot_at ops (passes_on i (extends out made)) (Pass' q c) v = spot_at ops (shape_at ops i) c v
   spot_at ops (passes_on i (first_by_keys keys group)) (First' q c k) v = cond (has_var keys v) (spot_at ops (shape_at ops i) c v) None
-  spot_at ops (pairs_up l r tests) (Pair' q x q' y) v = or_else (spot_at ops (shape_at ops l) x v) (spot_at ops (shape_at ops r) y v)
+  spot_at ops (pairs_up l r tests) (Pair' q x q' y k) v = or_else (spot_at ops (shape_at ops l) x v) (spot_at ops (shape_at ops r) y v)
   spot_at ops (passes_on i (in_order u desc)) (Sorted' q m row k) v = spot_nth ops i row k v
   spot_at ops f c v = None
 
@@ -60,7 +61,7 @@ below (Found' q c s d) = c
 below (Pass' q c) = c
 below (First' q c k) = c
 below (Seen' q c k) = c
-below (Pair' q l q' r) = l
+below (Pair' q l q' r k) = l
 below (Sorted' q m row k) = nth row k
 below c = Start
 

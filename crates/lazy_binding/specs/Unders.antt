@@ -9,7 +9,7 @@ use Rattle.lazy_binding.specs.Reading.{below}
 
 -- the position of input i in a position in this shape; that of a pair's left input first
 abbrev pub part_in : Shape → Position → ℕ → Position
-part_in (pairs_up l r tests) (Pair' q x q' y) i = cond (l == i) x y
+part_in (pairs_up l r tests) (Pair' q x q' y k) i = cond (l == i) x y
 part_in f c i = below c
 
 -- the position of input i in a position of operator n

@@ -1,34 +1,36 @@
--- What a bench stands on: what its sources mean, a buffer for each of them, and for each operator the keys that were seen.
-use Rattle.std.specs.Prelude.{◌≡◌, ◌<◌, ◌≤◌, ◌+◌, nat_lt, cond, ℕ, zero, suc, Bool, true, IsTrue, Option, Some, None, List, [], map, take, length, slice_get, slice_index_or}
-use Rattle.std.specs.List.{list_all, AllByRecursion}
+-- What a bench stands on: what its sources mean, a buffer for each of them, and for each operator the keys that were seen, and the memo of its right side.
+use Rattle.std.specs.Prelude.{◌≡◌, ◌+◌, nat_lt, cond, ℕ, zero, suc, Bool, true, false, Option, Some, None, List, [], ◌∷◌, map, take, length, slice_get, slice_index_or}
+use Rattle.std.specs.List.{list_all}
+use Rattle.std.specs.declared.alloc.Global.{Global}
+use Rattle.std.specs.declared.rc.Rc.{Rc}
+use Rattle.join_memo.specs.Kept.{Kept}
 use Rattle.mix_base.specs.Events.{Event}
 use Rattle.mix_tree.specs.Forest.{none}
 use Rattle.mix_tree.specs.Nodes.{Documents, Node}
-use Rattle.mix_tree.specs.declared.var.Key.{Key}
 use Rattle.path_auto.specs.Automaton.{Machine}
 use Rattle.lxp_core.specs.View.{View, document}
 use Rattle.tree_buffer.specs.declared.buffer.Buffer.{Buffer}
 use Rattle.tree_buffer.specs.declared.spot.Spot.{Spot}
-use Rattle.tree_buffer.specs.Buffer.{IsSpot, IsSourcesOf, number_of, place_of}
+use Rattle.tree_buffer.specs.Buffer.{IsSpot, place_of}
 use Rattle.plan_core.specs.Plans.{Operator}
-use Rattle.plan_core.specs.Shapes.{Shape, one_source, first_by_keys, shape_of, shape_at, passes_on}
+use Rattle.plan_core.specs.Shapes.{Shape, one_source, shape_of}
 use Rattle.plan_core.specs.TolledRows.{KeyValue, by_node, by_label}
-use Rattle.plan_core.specs.Events.{events, keys_seen}
-use Rattle.plan_core.specs.Valid.{HasSource}
 use Rattle.lazy_descend.specs.declared.cursor.DescCursor.{DescCursor}
 use Rattle.lazy_descend.specs.Cursors.{IsCursor, place_at, ahead, number}
 use Rattle.lazy_binding.specs.declared.key.KeyPart.{KeyPart}
 use Rattle.lazy_binding.specs.declared.key.KeyPart.TheVariants.{Node as node_part, Label as label_part, Free as free_part}
+use Rattle.lazy_binding.specs.declared.position.Position.{Position, Start}
 
 -- what a bench stands on
 pub record World : Type 0 where
   pub view : View
   pub buffers : List Buffer
   pub seen : List (List (List KeyPart))
+  pub memos : List (Kept (Rc Position Global))
 
 -- these together
-abbrev pub world : View → List Buffer → List (List (List KeyPart)) → World
-world view buffers seen = record { view = view; buffers = buffers; seen = seen }
+abbrev pub world : View → List Buffer → List (List (List KeyPart)) → List (Kept (Rc Position Global)) → World
+world view buffers seen memos = record { view = view; buffers = buffers; seen = seen; memos = memos }
 
 -- the documents of the sources; a number that no source has stands for no trees
 abbrev pub docs_of : World → Documents
@@ -105,6 +107,27 @@ bound_of w = roots_weight w.view (length w.buffers)
 abbrev pub seen_at : World → ℕ → List (List KeyPart)
 seen_at w n = slice_index_or w.seen n []
 
+-- a label and a position of a join's right side
+abbrev pub Member : Type 0
+Member = List ℕ × Rc Position Global
+
+-- a memo without members
+abbrev pub no_pairs : Kept (Rc Position Global)
+no_pairs = record { pairs = []; ended = false }
+
+-- the memo of a join's right side
+abbrev pub memo_at : World → ℕ → Kept (Rc Position Global)
+memo_at w n = slice_index_or w.memos n no_pairs
+
+-- the last of these positions, or the one before them
+abbrev pub last_of : Position → List Member → Position
+last_of at [] = at
+last_of at (m ∷ ms) = last_of m.1.value ms
+
+-- where one stands once so many members were passed
+abbrev pub passed : List Member → ℕ → Position
+passed ms k = last_of Start (take k ms)
+
 -- what a part of a key compares; an unused place is no part of one
 abbrev pub part_value : World → KeyPart → KeyValue
 part_value w (node_part s x) = by_node (spot_node w s x)
@@ -120,20 +143,3 @@ abbrev pub IsPart : World → KeyPart → Type 0
 IsPart w (node_part s x) = IsSpotIn w s x
 IsPart w (label_part label) = Unit {0}
 IsPart w free_part = ⊥
-
--- the input of a shape that drops bindings whose keys were seen, and these keys
-abbrev pub drops_by : Shape → Option (ℕ × List Key)
-drops_by (passes_on i (first_by_keys keys group)) = Some (i, keys)
-drops_by f = None
-
--- the root hole of each source is known, the buffers are those of the sources of these operators, and where the sources are told, the keys that an operator has seen are the first
--- ones of those that its input has
-pub record IsBench (w : World) (ops : List Operator) : Type 0 where
-  pub roots : (s : ℕ) → s < w.view.count → w.view.knows s (w.view.root s) ≡ true
-  pub few : length w.buffers ≤ w.view.count
-  pub sources : (s : ℕ) (b : Buffer) → buffer_at w s ≡ Some b → (number_of b ≡ s) × IsSourcesOf w.view b
-  pub enough : AllByRecursion (HasSource (length w.buffers)) ops
-  pub lists : length w.seen ≡ length ops
-  pub parts : (n : ℕ) → AllByRecursion (AllByRecursion (IsPart w)) (seen_at w n)
-  pub seen : (n i : ℕ) (keys : List Key) → drops_by (shape_at ops n) ≡ Some (i, keys) → IsTrue (is_told w ops)
-      → seen_values w (seen_at w n) ≡ take (length (seen_at w n)) (keys_seen (docs_of w) keys [] (events (docs_of w) ops i))

@@ -70,7 +70,7 @@ impl Hash for KeyPart {
                 source.hash(state);
                 spot.hash(state);
             }
-            KeyPart::Label(label) => label.bytes().hash(state),
+            KeyPart::Label(label) => label.hash(state),
             KeyPart::Free => {}
         }
     }

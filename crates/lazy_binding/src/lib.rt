@@ -3,6 +3,7 @@
 
 mod key;
 mod law;
+mod link;
 mod parts;
 mod position;
 mod reading;
@@ -12,5 +13,6 @@ mod variable_spots;
 
 pub use key::{KeyPart, KeyTuple, SeenKeys};
 pub use law::cursors_stay;
+pub use link::Link;
 pub use parts::{Fixed, Growing, Walk};
 pub use position::{Position, inside, put, seen_up_to, share};

@@ -5,23 +5,31 @@ ghost use Rattle.plan_core.specs.PlanMade.{op_of};
 ghost use Rattle.lazy_binding.specs.Parts.{operators};
 
 use crate::key::SeenKeys;
+use crate::link::Link;
+use crate::position::Position;
+use join_memo::Memo;
 use path_auto::Auto;
 use plan_core::{Op, Plan};
+use std::rc::Rc;
 use tree_buffer::Buffer;
 
-/// A plan, and for each operator the automaton of its path, where it has one, and whether its groups end at the first other key.
+/// A plan, and for each operator the automaton of its path, where it has one, whether its groups end at the first other key, and by which
+/// variables the members of its right side are looked up, where it is a join with such ones.
 #[derive(Drop)]
 pub struct Fixed {
     pub plan: Plan,
     pub autos: Vec<Option<Auto>>,
     pub stops: Vec<bool>,
+    pub links: Vec<Option<Link>>,
 }
 
-/// What grows while a plan is walked: for each source the nodes that were handed out, and for each operator the keys that it has seen.
+/// What grows while a plan is walked: for each source the nodes that were handed out, and for each operator the keys that it has seen, and
+/// the bindings of its right side as far as they were asked for, where it is a join.
 #[derive(Drop)]
 pub struct Growing {
     pub buffers: Vec<Buffer>,
     pub seen: Vec<SeenKeys>,
+    pub memos: Vec<Memo<Rc<Position>>>,
 }
 
 /// An operator of a plan: the plan, and the operator's number.

@@ -27,8 +27,8 @@ pub enum Position {
     First(Rc<Position>, usize),
     /// At a binding of the input whose keys an earlier one has, where so many keys were seen up to it.
     Seen(Rc<Position>, usize),
-    /// At the event at which the right side stands, beside a binding of the left side.
-    Pair(Rc<Position>, Rc<Position>),
+    /// At the event at which the right side stands, beside a binding of the left side, where so many members of the right side were passed.
+    Pair(Rc<Position>, Rc<Position>, usize),
     /// At this index of the sorted list of the input's bindings.
     Sorted(Rc<Vec<Rc<Position>>>, usize),
 }
@@ -66,7 +66,7 @@ fn part(here: &Position) -> Option<&Rc<Position>>
         Position::Pass(below) => Some(below),
         Position::First(below, _) => Some(below),
         Position::Seen(below, _) => Some(below),
-        Position::Pair(l, _) => Some(l),
+        Position::Pair(l, _, _) => Some(l),
         Position::Sorted(list, at) => list.get(*at),
         _ => None,
     }

@@ -25,7 +25,7 @@ impl Walk<'_> {
         let here: &Position = at;
         match self.fixed.operator(self.op) {
             Op::Join { left, .. } => match here {
-                Position::Pair(l, r) => { if *left == input { l.clone() } else { r.clone() } }
+                Position::Pair(l, r, _) => { if *left == input { l.clone() } else { r.clone() } }
                 _ => input_part(alloc, at),
             },
             _ => input_part(alloc, at),

@@ -36,7 +36,7 @@ impl Fixed {
                 _ => None,
             },
             Op::Join { left, right, .. } => match here {
-                Position::Pair(l, r) => match self.spot_of(*left as usize, l, v) {
+                Position::Pair(l, r, _) => match self.spot_of(*left as usize, l, v) {
                     Some(spot) => Some(spot),
                     None => self.spot_of(*right as usize, r, v),
                 },

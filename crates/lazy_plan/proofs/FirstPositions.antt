@@ -22,6 +22,7 @@ use Rattle.lazy_binding.specs.declared.parts.Growing.{Growing}
 use Rattle.lazy_binding.specs.declared.parts.Fixed.{Fixed}
 use Rattle.lazy_binding.specs.Parts.{operators, world_of}
 use Rattle.lazy_plan.specs.Steps.{single, CanStep, telling}
+use Rattle.lazy_binding.proofs.Bound.{inputs_at}
 use Rattle.lazy_plan.proofs.Goes.{in_shape, IsOver}
 use Rattle.lazy_plan.proofs.Shapes.{events_at, size_at, single_at}
 
@@ -103,6 +104,7 @@ firsts_over {v} {g} {p} {n} {c} can i keys group is =
     let h = in_shape can (passes_on i (first_by_keys keys group)) is in record {
       input = firsts_below (operators p) n i keys group (world_of v g) c h;
       costs = firsts_costs (operators p) n i keys group can.fixed.typed can.op is (world_of v g) c h;
+      less = (inputs_at (operators p) can.fixed.typed n can.op (passes_on i (first_by_keys keys group)) is).0;
       alone = firsts_single (operators p) n i keys group can.fixed.typed can.op is;
       over = firsts_done (operators p) n i keys group can.fixed.typed can.op is (world_of v g) c h;
     }

@@ -2,7 +2,8 @@ use Rattle.std.proofs.Common.{◌≡◌, ◌++◌, IsTrue, drop, map}
 use Rattle.std.specs.List.{AllByRecursion}
 use Rattle.plan_core.specs.TolledRows.{key_values}
 use Rattle.lxp_core.specs.View.{View}
-use Rattle.lazy_binding.specs.World.{IsBench, is_told, docs_of, part_value, IsPart}
+use Rattle.lazy_binding.specs.Bench.{IsBench}
+use Rattle.lazy_binding.specs.World.{is_told, docs_of, part_value, IsPart}
 use Rattle.lazy_binding.specs.Cursors.{binding, IsOf}
 use Rattle.lazy_binding.specs.Parts.{operators, world_of}
 use Rattle.lazy_binding.proofs.parts.Walk.key_of.Given as goal

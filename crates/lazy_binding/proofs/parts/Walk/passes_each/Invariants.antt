@@ -1,7 +1,8 @@
 use Rattle.std.proofs.Common.{◌≡◌, IsTrue, drop}
 use Rattle.plan_core.specs.Events.{passes_all}
 use Rattle.lxp_core.specs.View.{View}
-use Rattle.lazy_binding.specs.World.{IsBench, is_told, docs_of}
+use Rattle.lazy_binding.specs.Bench.{IsBench}
+use Rattle.lazy_binding.specs.World.{is_told, docs_of}
 use Rattle.lazy_binding.specs.Cursors.{binding, IsOf}
 use Rattle.lazy_binding.specs.Parts.{operators, world_of}
 use Rattle.lazy_binding.proofs.parts.Walk.passes_each.Given as goal

@@ -1,0 +1,64 @@
+-- Members of a join's memo stay, and come one by one.
+use Rattle.std.proofs.Common.{◌≡◌, ℕ, suc, List, [], ◌∷◌, Option, ◌∙◌, sym, ap, subst, arith}
+use Rattle.std.specs.declared.alloc.Global.{Global}
+use Rattle.std.specs.declared.rc.Rc.{Rc}
+use Rattle.join_memo.specs.Kept.{Kept}
+use Rattle.mix_base.specs.Events.{finds, found}
+use Rattle.mix_tree.specs.Nodes.{Documents}
+use Rattle.plan_core.specs.Plans.{Operator}
+use Rattle.plan_core.specs.TolledRows.{TolledRow}
+use Rattle.lazy_binding.specs.declared.link.Link.{Link}
+use Rattle.lazy_binding.specs.declared.position.Position.{Position, Start}
+use Rattle.lazy_binding.specs.Bench.{IsBench, HasMembers}
+use Rattle.lazy_binding.specs.World.{World, docs_of, Member, memo_at, last_of}
+use Rattle.lazy_binding.specs.Cursors.{binding, ahead, IsOf}
+use Rattle.lazy_binding.specs.Keeping.{Keeps, Stays}
+use Rattle.lazy_binding.specs.Links.{link_at}
+use Rattle.lazy_binding.specs.Members.{member_label, IsMember, AreNext, AreMembers}
+use Rattle.lazy_binding.proofs.Keep.{docs_kept, told-kept}
+use Rattle.lazy_binding.proofs.Stay.{cursors_kept, size_kept}
+
+module _ (w : World) (ops : List Operator) (i : ℕ) (by : Option Link) where
+  -- the last of them is a position of the operator
+  pub last_is : (at : Position) (n : ℕ) (ms : List Member) → IsOf w ops i at → AreNext w ops i by at n ms → IsOf w ops i (last_of at ms)
+  last_is at n [] of h = of
+  last_is at n (m ∷ ms) of h = last_is m.1.value (suc n) ms h.0.cursor h.1
+
+module _ {a b : World} (k : Keeps a b) (ops : List Operator) (bench : IsBench a ops) where
+  module _ (i : ℕ) (by : Option Link) where
+    -- a member is one after every call
+    member_kept : (at : Position) (n : ℕ) (label : List ℕ) (m : Position) → IsOf a ops i at → IsMember a ops i by at n label m → IsMember b ops i by at n label m
+    member_kept at n label m of h =
+        let before : Stays a b ops i at = cursors_kept a b k ops bench i at of in
+        let here : Stays a b ops i m = cursors_kept a b k ops bench i m h.cursor in
+        record {
+          cursor = here.cursor;
+          row = h.row;
+          few = (let e = size_kept a b k ops bench i in omega (arith, e, h.few, here.number_is));
+          found = λ t.
+              ap found before.ahead_is ∙ h.found (sym (told-kept k ops) ∙ t) ∙ ap (λ (z : TolledRow). finds z (ahead a ops i m)) (sym here.binding_is)
+              ∙ ap (finds (binding b ops i m)) (sym here.ahead_is);
+          label_is = λ t.
+              h.label_is (sym (told-kept k ops) ∙ t) ∙ ap (λ (z : Documents). member_label z by (binding a ops i m)) (sym (docs_kept k ops bench))
+              ∙ ap (member_label (docs_of b) by) (sym here.binding_is);
+        }
+
+    -- so are all
+    next_kept : (at : Position) (n : ℕ) (ms : List Member) → IsOf a ops i at → AreNext a ops i by at n ms → AreNext b ops i by at n ms
+    next_kept at n [] of h = tt
+    next_kept at n (m ∷ ms) of h = (member_kept at n m.0 m.1.value of h.0, next_kept m.1.value (suc n) ms h.0.cursor h.1)
+
+  -- a memo stays one
+  pub members_kept : (i : ℕ) (by : Option Link) (m : Kept (Rc Position Global)) → AreMembers a ops i by m → AreMembers b ops i by m
+  members_kept i by m h = record {
+    next = next_kept i by Start 0 m.pairs tt h.next;
+    all = λ e t.
+        let last : Stays a b ops i (last_of Start m.pairs) = cursors_kept a b k ops bench i (last_of Start m.pairs) (last_is a ops i by Start 0 m.pairs tt h.next) in
+        ap found last.ahead_is ∙ h.all e (sym (told-kept k ops) ∙ t);
+  }
+
+  -- so do all memos, where they are the same
+  pub same_members : b.memos ≡ a.memos → HasMembers b ops
+  same_members same n l r tests e =
+      subst (AreMembers b ops r (link_at ops n)) (sym (ap (λ (z : List (Kept (Rc Position Global))). memo_at (record { view = a.view; buffers = a.buffers; seen = a.seen; memos = z }) n) same))
+      (members_kept r (link_at ops n) (memo_at a n) (bench.members n l r tests e))

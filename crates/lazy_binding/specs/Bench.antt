@@ -1,0 +1,37 @@
+-- What is so of all that a bench stands on.
+use Rattle.std.specs.Prelude.{◌≡◌, ◌<◌, ◌≤◌, ℕ, true, IsTrue, Option, Some, None, List, [], take, length}
+use Rattle.std.specs.List.{AllByRecursion}
+use Rattle.mix_tree.specs.declared.comparing.Test.{Test}
+use Rattle.mix_tree.specs.declared.var.Key.{Key}
+use Rattle.tree_buffer.specs.declared.buffer.Buffer.{Buffer}
+use Rattle.tree_buffer.specs.Buffer.{IsSourcesOf, number_of}
+use Rattle.plan_core.specs.Plans.{Operator}
+use Rattle.plan_core.specs.Shapes.{Shape, pairs_up, first_by_keys, shape_at, passes_on}
+use Rattle.plan_core.specs.Events.{events, keys_seen}
+use Rattle.plan_core.specs.Valid.{HasSource}
+use Rattle.lazy_binding.specs.Links.{link_at}
+use Rattle.lazy_binding.specs.Members.{AreMembers}
+use Rattle.lazy_binding.specs.World.{World, docs_of, is_told, buffer_at, seen_at, seen_values, memo_at, IsPart}
+
+-- the input of a shape that drops bindings whose keys were seen, and these keys
+abbrev pub drops_by : Shape → Option (ℕ × List Key)
+drops_by (passes_on i (first_by_keys keys group)) = Some (i, keys)
+drops_by f = None
+
+-- the members of each join's memo are the first bindings of its right side
+abbrev pub HasMembers : World → List Operator → Type 0
+HasMembers w ops = (n l r : ℕ) (tests : List Test) → shape_at ops n ≡ pairs_up l r tests → AreMembers w ops r (link_at ops n) (memo_at w n)
+
+-- the root hole of each source is known, the buffers are those of the sources of these operators, where the sources are told, the keys that an operator has seen are the first
+-- ones of those that its input has, and the members of a join's memo are the first bindings of its right side
+pub record IsBench (w : World) (ops : List Operator) : Type 0 where
+  pub roots : (s : ℕ) → s < w.view.count → w.view.knows s (w.view.root s) ≡ true
+  pub few : length w.buffers ≤ w.view.count
+  pub sources : (s : ℕ) (b : Buffer) → buffer_at w s ≡ Some b → (number_of b ≡ s) × IsSourcesOf w.view b
+  pub enough : AllByRecursion (HasSource (length w.buffers)) ops
+  pub lists : length w.seen ≡ length ops
+  pub memos : length w.memos ≡ length ops
+  pub parts : (n : ℕ) → AllByRecursion (AllByRecursion (IsPart w)) (seen_at w n)
+  pub seen : (n i : ℕ) (keys : List Key) → drops_by (shape_at ops n) ≡ Some (i, keys) → IsTrue (is_told w ops)
+      → seen_values w (seen_at w n) ≡ take (length (seen_at w n)) (keys_seen (docs_of w) keys [] (events (docs_of w) ops i))
+  pub members : HasMembers w ops

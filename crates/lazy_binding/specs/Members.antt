@@ -1,0 +1,36 @@
+-- The members of a join's memo: the bindings of its right side, one after another.
+use Rattle.std.specs.Prelude.{◌≡◌, ◌≤◌, ◌+◌, ℕ, suc, IsTrue, Option, Some, None, List, [], ◌∷◌}
+use Rattle.std.specs.declared.alloc.Global.{Global}
+use Rattle.std.specs.declared.rc.Rc.{Rc}
+use Rattle.join_memo.specs.Kept.{Kept}
+use Rattle.mix_base.specs.Events.{nothing, finds, found}
+use Rattle.mix_tree.specs.Nodes.{Documents, label_at}
+use Rattle.plan_core.specs.Plans.{Operator}
+use Rattle.plan_core.specs.TolledRows.{TolledRow, row_node}
+use Rattle.lazy_binding.specs.declared.link.Link.{Link}
+use Rattle.lazy_binding.specs.declared.position.Position.{Position, Start}
+use Rattle.lazy_binding.specs.World.{World, docs_of, is_told, Member, last_of}
+use Rattle.lazy_binding.specs.Cursors.{binding, ahead, number, size, IsOf, has_row}
+
+-- the label by which a binding of the right side is found; where nothing is looked up, no bytes
+abbrev pub member_label : Documents → Option Link → TolledRow → List ℕ
+member_label docs None row = []
+member_label docs (Some link) row = label_at docs (row_node row link.right)
+
+-- a position of operator i stands at the next binding behind another, behind which k members come first; its label is that of its binding
+pub record IsMember (w : World) (ops : List Operator) (i : ℕ) (by : Option Link) (at : Position) (k : ℕ) (label : List ℕ) (m : Position) : Type 0 where
+  pub cursor : IsOf w ops i m
+  pub row : IsTrue (has_row m)
+  pub few : suc k + number w ops i m ≤ size w ops i
+  pub found : IsTrue (is_told w ops) → found (ahead w ops i at) ≡ finds (binding w ops i m) (ahead w ops i m)
+  pub label_is : IsTrue (is_told w ops) → label ≡ member_label (docs_of w) by (binding w ops i m)
+
+-- so does each of these, one behind another
+abbrev pub AreNext : World → List Operator → ℕ → Option Link → Position → ℕ → List Member → Type 0
+AreNext w ops i by at k [] = Unit {0}
+AreNext w ops i by at k (m ∷ ms) = IsMember w ops i by at k m.0 m.1.value × AreNext w ops i by m.1.value (suc k) ms
+
+-- a memo of operator i: its first bindings, and all of them where it has ended
+pub record AreMembers (w : World) (ops : List Operator) (i : ℕ) (by : Option Link) (m : Kept (Rc Position Global)) : Type 0 where
+  pub next : AreNext w ops i by Start 0 m.pairs
+  pub all : IsTrue m.ended → IsTrue (is_told w ops) → found (ahead w ops i (last_of Start m.pairs)) ≡ nothing

@@ -1,0 +1,196 @@
+// The members of a join's right side: the next one beside a binding of the left, its pair, and one more of them.
+ghost use Rattle.std.specs.Prelude.{◌≡◌, ◌<◌, ◌++◌, ◌∷◌, [], true, false, IsTrue, Some, IfOk, IfErr, OnOk, OnErr, length, slice_index_or};
+ghost use Rattle.plan_core.specs.Shapes.{pairs_up};
+ghost use Rattle.lxp_core.specs.declared.fault.WalkFault.TheVariants.{OutOfMemory};
+ghost use Rattle.lazy_binding.specs.declared.position.Position.{Start};
+ghost use Rattle.lazy_binding.specs.Bench.{IsBench};
+ghost use Rattle.lazy_binding.specs.Cursors.{has_row};
+ghost use Rattle.lazy_binding.specs.Links.{link_at};
+ghost use Rattle.lazy_binding.specs.Members.{member_label};
+ghost use Rattle.lazy_binding.specs.Parts.{operators, shape_walked, world_of, IsFixed};
+ghost use Rattle.lazy_binding.specs.Reading.{HasStand, InEach, Tells};
+ghost use Rattle.lazy_binding.specs.World.{no_pairs, last_of};
+ghost use Rattle.lazy_plan.specs.Beside.{left_of, right_of, memo_in, sought_label, IsPlaceFrom, IsNextPlace, IsMemberStep, Grew, OthersStay};
+
+use crate::pair_steps::Pairs;
+use crate::step::Step;
+use crate::steps::advance;
+use join_memo::Memo;
+use lazy_binding::{Growing, Position, Walk, put, share};
+use lxp_core::{Sources, WalkFault};
+use mix_tree::Label;
+use std::alloc::{AllocError, Global};
+use std::rc::Rc;
+
+/// The last member, or the position before all events.
+fn last_member(alloc: Global, memo: &Memo<Rc<Position>>) -> Result<Rc<Position>, WalkFault>
+    ensures ok { IfOk result (λ r. r.value ≡ last_of Start memo.now.pairs) }
+    ensures err { IfErr result (λ e. e ≡ OutOfMemory) }
+{
+    match memo.get(memo.len().saturating_sub(1)) {
+        Some(member) => share(member),
+        None => put(alloc, Position::Start),
+    }
+}
+
+/// One more member behind those of an operator's memo.
+fn push_member(
+    alloc: Global,
+    memos: &mut Vec<Memo<Rc<Position>>>,
+    op: usize,
+    label: Label,
+    member: Rc<Position>,
+) -> Result<(), WalkFault>
+    requires op { op < length memos.old.items }
+    requires open { (slice_index_or memos.old.items op no_pairs).ended ≡ false }
+    ensures others { OthersStay memos.old.items memos.new.items op }
+    ensures ok { let old = slice_index_or memos.old.items op no_pairs in
+        OnOk result (slice_index_or memos.new.items op no_pairs ≡ record { pairs = old.pairs ++ (label, member) ∷ []; ended = false }) }
+    ensures err { OnErr result (slice_index_or memos.new.items op no_pairs ≡ slice_index_or memos.old.items op no_pairs) }
+    ensures memory { IfErr result (λ e. e ≡ OutOfMemory) }
+{
+    let memo = &mut memos[op];
+    match memo.push(alloc, label, member) {
+        Ok(()) => Ok(()),
+        Err(_) => Err(WalkFault::OutOfMemory),
+    }
+}
+
+/// No more members will come to an operator's memo.
+fn end_members(memos: &mut Vec<Memo<Rc<Position>>>, op: usize)
+    requires { op < length memos.old.items }
+    ensures others { OthersStay memos.old.items memos.new.items op }
+    ensures ended { let old = slice_index_or memos.old.items op no_pairs in
+        slice_index_or memos.new.items op no_pairs ≡ record { pairs = old.pairs; ended = true } }
+{
+    let memo = &mut memos[op];
+    memo.end();
+}
+
+impl Pairs<'_> {
+    /// The place of the next member beside a binding of the left side, at or behind one: the next of the label that is looked up, or whichever
+    /// is next; `None` where none is known yet. No fill is asked.
+    pub(crate) fn next_known(
+        &self,
+        growing: &Growing,
+        l: &Rc<Position>,
+        from: usize,
+    ) -> Option<usize>
+        requires fixed { IsFixed self.now.walk.fixed.now }
+        requires op { self.now.walk.op < length (operators self.now.walk.fixed.now) }
+        requires is { shape_walked self.now.walk ≡ pairs_up self.now.left self.now.right self.now.tests.now }
+        requires cursor { HasStand growing.now (left_of self.now) l.now.value }
+        requires row { IsTrue (has_row l.now.value) }
+        ensures place { IsPlaceFrom (memo_in growing.now self.now.walk.op).pairs from result }
+        ensures next { let by = link_at (operators self.now.walk.fixed.now) self.now.walk.op in
+            let ms = (memo_in growing.now self.now.walk.op).pairs in
+            Tells growing.now (left_of self.now) l.now.value (λ w docs row. IsNextPlace ms (sought_label docs by row) from result) }
+    {
+        let left = Walk {
+            fixed: self.walk.fixed,
+            op: self.left,
+        };
+        let memo = &growing.memos[self.walk.op];
+        match &self.walk.fixed.links[self.walk.op] {
+            Some(link) => memo.find(left.label_of(growing, l, link.left), from),
+            None => { if from < memo.len() { Some(from) } else { None } }
+        }
+    }
+
+    /// The pair of a binding of the left side and the member at a place: a binding where all comparisons hold.
+    pub(crate) fn at_member(
+        &self,
+        alloc: Global,
+        growing: &Growing,
+        l: &Rc<Position>,
+        place: usize,
+    ) -> Result<Step, WalkFault>
+        requires fixed { IsFixed self.now.walk.fixed.now }
+        requires op { self.now.walk.op < length (operators self.now.walk.fixed.now) }
+        requires is { shape_walked self.now.walk ≡ pairs_up self.now.left self.now.right self.now.tests.now }
+        requires place { place < length (memo_in growing.now self.now.walk.op).pairs }
+        requires cursor { HasStand growing.now (left_of self.now) l.now.value }
+        requires row { IsTrue (has_row l.now.value) }
+        ensures err { IfErr result (λ e. e ≡ OutOfMemory) }
+        ensures answer { let k = self.now in
+            let ms = (memo_in growing.now k.walk.op).pairs in
+            let ops = operators k.walk.fixed.now in
+            IfOk result (λ r. InEach growing.now (left_of k) l.now.value (λ w. IsMemberStep w ops k.left k.right k.tests.now ms l.now.value place r)) }
+    {
+        let memo = &growing.memos[self.walk.op];
+        let there = place < memo.len();
+        prove!(there);
+        match memo.get(place) {
+            None => Ok(Step::Done),
+            Some(member) => {
+                let l = share(l)?;
+                let r = share(member)?;
+                let pair = put(alloc, Position::Pair(l, r, place + 1))?;
+                if self.walk.passes_each(growing, &pair, self.tests) {
+                    Ok(Step::At(pair))
+                } else {
+                    Ok(Step::On(pair))
+                }
+            }
+        }
+    }
+
+    /// The label by which a binding of the right side is found; no bytes where nothing is looked up.
+    fn label_for(
+        &self,
+        alloc: Global,
+        growing: &Growing,
+        r: &Rc<Position>,
+    ) -> Result<Label, AllocError>
+        requires fixed { IsFixed self.now.walk.fixed.now }
+        requires op { self.now.walk.op < length (operators self.now.walk.fixed.now) }
+        requires is { shape_walked self.now.walk ≡ pairs_up self.now.left self.now.right self.now.tests.now }
+        requires cursor { HasStand growing.now (right_of self.now) r.now.value }
+        requires row { IsTrue (has_row r.now.value) }
+        ensures { let by = link_at (operators self.now.walk.fixed.now) self.now.walk.op in
+            IfOk result (λ label. Tells growing.now (right_of self.now) r.now.value (λ w docs row. label ≡ member_label docs by row)) }
+    {
+        let right = Walk {
+            fixed: self.walk.fixed,
+            op: self.right,
+        };
+        match &self.walk.fixed.links[self.walk.op] {
+            Some(link) => right.label_of(growing, r, link.right).copy(alloc),
+            None => Label::of_text(alloc, &[]),
+        }
+    }
+
+    /// One more member, the next binding of the right side; `false` where there is none, and then the memo has ended. Whatever is answered, the
+    /// members are the first bindings of the right side, and those that were there keep their places.
+    #[cycle(walk)]
+    pub(crate) fn grow<S: Sources>(
+        &self,
+        alloc: Global,
+        growing: &mut Growing,
+        s: &mut S,
+    ) -> Result<bool, WalkFault>
+        requires fixed { IsFixed self.now.walk.fixed.now }
+        requires op { self.now.walk.op < length (operators self.now.walk.fixed.now) }
+        requires is { shape_walked self.now.walk ≡ pairs_up self.now.left self.now.right self.now.tests.now }
+        requires bench { IsBench (world_of (S.view s.old) growing.old) (operators self.now.walk.fixed.now) }
+        requires open { (memo_in growing.old self.now.walk.op).ended ≡ false }
+        ensures { Grew S.view S.came_from self.now s.old growing.old s.new growing.new result }
+    {
+        let right = Walk {
+            fixed: self.walk.fixed,
+            op: self.right,
+        };
+        let last = last_member(alloc, &growing.memos[self.walk.op])?;
+        match advance(alloc, right, growing, s, &last)? {
+            None => {
+                end_members(&mut growing.memos, self.walk.op);
+                Ok(false)
+            }
+            Some(found) => {
+                let label = self.label_for(alloc, growing, &found)?;
+                push_member(alloc, &mut growing.memos, self.walk.op, label, found)?;
+                Ok(true)
+            }
+        }
+    }
+}
