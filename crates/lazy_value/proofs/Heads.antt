@@ -1,17 +1,18 @@
 -- The trees of pieces that are no lists.
-use Rattle.std.proofs.Common.{◌≡◌, ◌<◌, ℕ, ◌∙◌, sym, ap, subst, arith}
+use Rattle.std.proofs.Common.{◌≡◌, ◌<◌, ℕ, ◌∙◌, sym, ap, arith}
 use Rattle.std.specs.Prelude.{Result, Ok, Err, IfOk}
 use Rattle.mix_tree.specs.Nodes.{Node, label_at}
 use Rattle.tree_buffer.specs.declared.spot.Spot.{Spot}
 use Rattle.plan_core.specs.declared.plan.Piece.{Piece}
 use Rattle.plan_core.specs.declared.plan.Piece.TheVariants.{Var as var_piece, LabelOf as label_piece}
 use Rattle.plan_core.specs.Tolled.{Tolled, ends, item}
-use Rattle.plan_core.specs.TolledRows.{TolledValue, row_node, source_node, value_trees, piece_items}
-use Rattle.lazy_plan.specs.Bench.{BenchState, ops_of, documents, binding_at, IsSpotAt, IsSpotOf, node_at}
+use Rattle.plan_core.specs.TolledRows.{TolledValue, source_node, value_trees, piece_items}
+use Rattle.lazy_plan.specs.Bench.{BenchState, ops_of, documents, binding_at}
 use Rattle.lazy_binding.specs.declared.position.Position.{Position}
 use Rattle.lazy_value.specs.Forms.{input_at, piece_at}
-use Rattle.lazy_value.specs.Origins.{IsOriginOf, IsHeadOf}
-use Rattle.lazy_value.specs.declared.ids.Head.TheVariants.{Whole, Built, Leaf}
+use Rattle.lazy_value.specs.Origins.{IsOriginOf, IsTreeOf, IsHeadOf}
+use Rattle.lazy_value.specs.declared.ids.Head.{Head}
+use Rattle.lazy_value.specs.declared.ids.Head.TheVariants.{Whole, Built, Leaf, Text}
 use Rattle.lazy_value.specs.declared.ids.Origin.TheVariants.{Node as node_origin, Element as element_origin}
 
 -- what is said of an answer, where something that follows from it is asked
@@ -27,16 +28,15 @@ module _ (st : BenchState) (op index input : ℕ) (c : Position) (p : Piece) (v 
       ∙ ap (λ (k : Piece). piece_items (documents st) k (binding_at st input c) rest) (sym e ∙ z)
 
   -- a leaf with the label of a node
-  pub leaf_head : (s : ℕ) (x : Spot) → p ≡ label_piece v → s ≡ (row_node (binding_at st input c) v).source → IsSpotOf st input c v (row_node (binding_at st input c) v).source x → IsHeadOf st op index c (Leaf s x)
-  leaf_head s x z k h = record {
-    head = subst (λ (r : ℕ). IsSpotAt st r x) (sym k) h.spot;
+  pub leaf_head : (s : ℕ) (x : Spot) → p ≡ label_piece v → IsOriginOf st input c v (node_origin s x) → IsHeadOf st op index c (Leaf s x)
+  leaf_head s x z o = record {
+    head = o.origin;
     rank = omega arith;
-    trees = λ rest. items_are (label_piece v) z rest
-        ∙ ap (λ (n : Node). item 0 (label_at (documents st) n) (ends 0) rest) (ap source_node h.value ∙ ap (λ (r : ℕ). node_at st r x) (sym k));
+    trees = λ rest. items_are (label_piece v) z rest ∙ ap (λ (n : Node). item 0 (label_at (documents st) n) (ends 0) rest) (ap source_node o.value);
   }
 
   -- a node with all below it
-  pub node_head : (s : ℕ) (x : Spot) → p ≡ var_piece v → IsOriginOf st input c v (node_origin s x) → IsHeadOf st op index c (Whole s x)
+  node_head : (s : ℕ) (x : Spot) → p ≡ var_piece v → IsOriginOf st input c v (node_origin s x) → IsHeadOf st op index c (Whole s x)
   node_head s x z o = record {
     head = o.origin;
     rank = omega arith;
@@ -44,9 +44,16 @@ module _ (st : BenchState) (op index input : ℕ) (c : Position) (p : Piece) (v 
   }
 
   -- an element that an operator makes
-  pub element_head : (maker : ℕ) (at : Position) → p ≡ var_piece v → IsOriginOf st input c v (element_origin maker at) → input < op → IsHeadOf st op index c (Built maker at)
+  element_head : (maker : ℕ) (at : Position) → p ≡ var_piece v → IsOriginOf st input c v (element_origin maker at) → input < op → IsHeadOf st op index c (Built maker at)
   element_head maker at z o l = record {
     head = o.origin;
     rank = (let r = o.rank in omega (arith, r, l));
     trees = λ rest. items_are (var_piece v) z rest ∙ ap (λ (t : TolledValue). value_trees (documents st) t rest) o.value;
   }
+
+  -- the one tree of a variable
+  pub tree_head : (x : Head) → p ≡ var_piece v → IsTreeOf st input c v x → input < op → IsHeadOf st op index c x
+  tree_head (Whole s x) z o l = node_head s x z o
+  tree_head (Built maker at) z o l = element_head maker at z o l
+  tree_head (Leaf s x) z o l = absurd o
+  tree_head (Text maker i) z o l = absurd o

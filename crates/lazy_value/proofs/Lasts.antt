@@ -1,13 +1,11 @@
 -- The last operator of a valid plan.
-use Rattle.std.proofs.Common.{◌≡◌, ◌<◌, ◌-◌, ℕ, suc, Bool, true, List, [], ◌∷◌, Option, Some, None, length, refl, ◌∙◌, sym, ap, subst, arith}
+use Rattle.std.proofs.Common.{◌≡◌, ◌<◌, ◌-◌, ℕ, suc, Bool, true, List, [], ◌∷◌, Option, Some, None, length, get_or, refl, ◌∙◌, sym, ap, subst, arith}
 use Rattle.std.specs.List.{last_or}
-use Rattle.plan_core.specs.declared.plan.Op.{Op}
-use Rattle.plan_core.specs.declared.plan.Op.TheVariants as op
-use Rattle.plan_core.specs.PlanMade.{op_of}
 use Rattle.plan_core.specs.Plans.{Operator, source, get_descendants, join, over, tuple_destroy, PlanValue}
 use Rattle.plan_core.specs.ByNumber.{op_at}
 use Rattle.plan_core.specs.Typed.{IsTyped}
 use Rattle.plan_core.specs.Valid.{kinds, an_element, IsFit, EndsSingle, is_single_at, IsValid}
+use Rattle.lazy_value.specs.Forms.{input_of, shown_by}
 use Rattle.lazy_value.specs.Ids.{IsLast}
 use Rattle.lazy_value.proofs.Numbering.{inputs_below}
 
@@ -64,19 +62,10 @@ module _ (p : PlanValue) (valid : IsValid p) where
       fit : IsFit (op_at p.ops valid_ends.number) (kinds p.ops) → op_at p.ops valid_ends.number ≡ tuple_destroy valid_ends.input valid_ends.element → kinds p.ops valid_ends.input valid_ends.element ≡ Some an_element
       fit f e = subst (λ (o : Operator). IsFit o (kinds p.ops)) e f
 
--- the last operator is one that makes a document
-pub destroys : (o : Op) (i v : ℕ) → op_of o ≡ tuple_destroy i v → ((x y : ℕ) → o ≡ op.TupleDestroy x y → ⊥) → ⊥
-destroys (op.Source s out) i v e f = cc
-destroys (op.GetDescendants input start path out) i v e f = cc
-destroys (op.Select input test) i v e f = cc
-destroys (op.Join left right tests) i v e f = cc
-destroys (op.Project input keys) i v e f = cc
-destroys (op.GroupBy input keys piece out) i v e f = cc
-destroys (op.OrderBy input var desc) i v e f = cc
-destroys (op.Concatenate input pieces out) i v e f = cc
-destroys (op.CreateElement input label list out) i v e f = cc
-destroys (op.TupleDestroy input element) i v e f = f input element refl
-
--- and it is that one
-pub last_of : (ops : List Operator) (i v j w : ℕ) → tuple_destroy i v ≡ tuple_destroy j w → IsLast ops i v → IsLast ops j w
-last_of ops i v j w e h = let x : i ≡ j = cc in let y : v ≡ w = cc in subst (λ (k : ℕ). IsLast ops k w) x (subst (IsLast ops i) y h)
+-- the input and the variable that stand in it are those
+pub last_shown : (ops : List Operator) (o : Operator) (i v j w : ℕ) (shown : List ℕ) → o ≡ tuple_destroy i v → j ≡ input_of o → shown ≡ shown_by o → w ≡ get_or shown 0 w → IsLast ops i v → IsLast ops j w
+last_shown ops o i v j w shown e f g h k =
+    let x : i ≡ j = sym (f ∙ ap input_of e) in
+    let z : shown ≡ v ∷ [] = g ∙ ap shown_by e in
+    let y : v ≡ w = sym (h ∙ ap (λ (xs : List ℕ). get_or xs 0 w) z) in
+    subst (λ (n : ℕ). IsLast ops n w) x (subst (IsLast ops i) y k)

@@ -12,7 +12,8 @@ use Rattle.plan_core.specs.Plans.{Operator, source, get_descendants, join, over}
 use Rattle.plan_core.specs.Unary.{select, order_by, project, group_by, concatenate, create_element}
 use Rattle.plan_core.specs.ByNumber.{op_at}
 use Rattle.plan_core.specs.Typed.{IsTyped}
-use Rattle.plan_core.specs.Valid.{Kind, Kinds, a_node, an_element, a_list, kinds, kept, op_kinds, either_kind, IsFit, AreNodes}
+use Rattle.plan_core.specs.Valid.{Kind, Kinds, a_node, an_element, a_list, kinds, kept, op_kinds, either_kind, IsFit, AreNodes, inputs_of, IsValid}
+use Rattle.plan_core.proofs.Fresh.{sides_fresh}
 use Rattle.plan_core.proofs.Groups.{group_kinds, fit_group}
 use Rattle.plan_core.specs.TolledRows.{TolledRow, tolled_value}
 use Rattle.plan_core.specs.Events.{RowEvents}
@@ -137,14 +138,10 @@ module _ (p : Plan) (typed : IsTyped (plan_value p).ops) (n : ℕ) (within : n <
       (cond_false (out == v) (Some (Some label)) (labels (plan_value p).ops i v) t)
       (λ w row below es h. ap (λ (r : TolledRow). tolled_value r v) h ∙ cond_false (out == v) _ (tolled_value below v) t)
 
-  -- the kind on the left side
+  -- the kind of what is bound
   some_kind : (j : Option Kind) → true ≡ is_some j → (k : Kind) × (j ≡ Some k)
   some_kind None e = cc
   some_kind (Some k) e = (k, refl)
-
-  none_kind : (j : Option Kind) → false ≡ is_some j → j ≡ None
-  none_kind None e = refl
-  none_kind (Some k) e = cc
 
   pub passed_left : (l r : ℕ) (tests : List Test) → join l r tests ≡ op_at (plan_value p).ops n → true ≡ is_some (kinds (plan_value p).ops l v) → IsPassedOn p n v l
   passed_left l r tests e t =
@@ -155,10 +152,21 @@ module _ (p : Plan) (typed : IsTyped (plan_value p).ops) (n : ℕ) (within : n <
       (rw k.1 refl) (omega arith) (λ bound. omega arith) (rw x.1 refl)
       (λ w row row' es h. h.0 refl v k.0 k.1)
 
-  pub passed_right : (l r : ℕ) (tests : List Test) → join l r tests ≡ op_at (plan_value p).ops n → false ≡ is_some (kinds (plan_value p).ops l v) → (k : Kind) × (kinds (plan_value p).ops n v ≡ Some k) → IsPassedOn p n v r
-  passed_right l r tests e t k =
+  -- what isn't bound on the right is bound on the left
+  left_kind : (j i : Option Kind) → false ≡ is_some i → (k : Kind) → either_kind j i ≡ Some k → true ≡ is_some j
+  left_kind None None e k h = cc
+  left_kind None (Some i) e k h = cc
+  left_kind (Some j) i e k h = refl
+
+  pub passed_but_right : (l r : ℕ) (tests : List Test) → join l r tests ≡ op_at (plan_value p).ops n → false ≡ is_some (kinds (plan_value p).ops r v) → (k : Kind) × (kinds (plan_value p).ops n v ≡ Some k) → IsPassedOn p n v l
+  passed_but_right l r tests e t k =
+      passed_left l r tests e (left_kind (kinds (plan_value p).ops l v) (kinds (plan_value p).ops r v) t k.0 (sym (kind_of (plan_value p).ops typed n within (join l r tests) e v) ∙ k.1))
+
+  pub passed_right : IsValid (plan_value p) → (l r : ℕ) (tests : List Test) → join l r tests ≡ op_at (plan_value p).ops n → true ≡ is_some (kinds (plan_value p).ops r v) → (k : Kind) × (kinds (plan_value p).ops n v ≡ Some k) → IsPassedOn p n v r
+  passed_right valid l r tests e bound k =
       let below = inputs_below (plan_value p).ops typed n within (join l r tests) e in
-      let none = none_kind (kinds (plan_value p).ops l v) t in
+      let some = some_kind (kinds (plan_value p).ops r v) bound in
+      let none = sides_fresh (plan_value p) valid typed n l r v some.0 within (ap inputs_of (sym e)) some.1 in
       let x = fits_none (kinds (plan_value p).ops l v) (labels (plan_value p).ops l v) (labels_fit (plan_value p).ops typed l v (let z = below.0 in omega (arith, z, within))) none in
       let right : kinds (plan_value p).ops r v ≡ Some k.0 = ap (λ (j : Option Kind). either_kind j (kinds (plan_value p).ops r v)) (sym none) ∙ sym (kind_of (plan_value p).ops typed n within (join l r tests) e v) ∙ k.1 in
       passed (join l r tests) e r below.1.0 (inr refl) tt

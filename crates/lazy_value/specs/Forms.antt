@@ -2,7 +2,7 @@
 use Rattle.std.specs.Prelude.{◌≡◌, ℕ, List, [], ◌∷◌, slice_index_or}
 use Rattle.mix_tree.specs.declared.var.Key.{Key}
 use Rattle.plan_core.specs.declared.plan.Piece.{Piece}
-use Rattle.plan_core.specs.declared.plan.Piece.TheVariants.{Var as var_piece, Text as text_piece}
+use Rattle.plan_core.specs.declared.plan.Piece.TheVariants.{Var as var_piece, LabelOf as label_piece, Text as text_piece}
 use Rattle.plan_core.specs.Plans.{Operator, source, get_descendants, join, over, tuple_destroy}
 use Rattle.plan_core.specs.Unary.{group_by, concatenate, create_element}
 use Rattle.plan_core.specs.ByNumber.{op_at}
@@ -47,6 +47,23 @@ keys_of op = []
 abbrev pub label_in : Operator → List ℕ
 label_in (over input (create_element label list out)) = label
 label_in op = []
+
+-- the label that is written in an operator, alone: that of its elements
+abbrev pub labels_written : Operator → List (List ℕ)
+labels_written (over input (create_element label list out)) = label ∷ []
+labels_written op = []
+
+-- the variable that an operator shows, alone: the list of its elements, or the element that is the document
+abbrev pub shown_by : Operator → List ℕ
+shown_by (over input (create_element label list out)) = list ∷ []
+shown_by (tuple_destroy input element) = element ∷ []
+shown_by op = []
+
+-- the label that is written in a piece, alone: that of a text
+abbrev pub texts_written : Piece → List (List ℕ)
+texts_written (var_piece v) = []
+texts_written (label_piece v) = []
+texts_written (text_piece label) = label ∷ []
 
 -- a piece of a number
 abbrev pub piece_at : List Operator → ℕ → ℕ → Piece

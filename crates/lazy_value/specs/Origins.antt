@@ -11,14 +11,15 @@ use Rattle.plan_core.specs.Tolled.{Tolled, item}
 use Rattle.plan_core.specs.TolledRows.{TolledRow, tolled_value, piece_items}
 use Rattle.plan_core.specs.Events.{RowEvents}
 use Rattle.lazy_binding.specs.World.{World}
-use Rattle.lazy_plan.specs.Bench.{BenchState, ops_of, size_of, documents, binding_at, IsMadeOf, HasUnder, AmongInputs}
+use Rattle.lazy_plan.specs.Bench.{BenchState, ops_of, size_of, documents, IsCursor, binding_at, IsMadeOf, HasUnder, AmongInputs}
 use Rattle.lazy_binding.specs.declared.position.Position.{Position}
-use Rattle.lazy_value.specs.Forms.{pieces_of, input_at, piece_at}
+use Rattle.lazy_value.specs.Forms.{makes_element, form, pieces_of, input_at, piece_at}
 use Rattle.lazy_value.specs.Labels as of
 use Rattle.lazy_value.specs.Sizes.{pieces_count, size, extent}
 use Rattle.lazy_value.specs.Ids.{IsOrigin, value_of, IsHead, head_label, head_trees}
 use Rattle.lazy_value.specs.Heights.{origin_rank, head_rank}
 use Rattle.lazy_value.specs.declared.ids.Head.{Head}
+use Rattle.lazy_value.specs.declared.ids.Head.TheVariants.{Whole, Built, Leaf, Text}
 use Rattle.lazy_value.specs.declared.ids.Origin.{Origin}
 use Rattle.lazy_value.specs.declared.ids.Origin.TheVariants.{Node, Element, Joined, All, Group as Same}
 
@@ -67,6 +68,15 @@ pub record IsPassedOn (p : Plan) (n v i : ℕ) : Type 0 where
   pub value : (w : World) (row below : TolledRow) (es : RowEvents) → IsMadeOf (record { world = w; plan = p }) row i below es (op_at (plan_value p).ops n)
       → tolled_value row v ≡ tolled_value below v
 
+-- the value of a variable in a cursor's binding is that in the binding of cursor d of operator m
+pub record IsHeldAt (st : BenchState) (n : ℕ) (c : Position) (v m : ℕ) (d : Position) : Type 0 where
+  pub within : m ≤ n
+  pub cursor : IsCursor st m d
+  pub value : tolled_value (binding_at st n c) v ≡ tolled_value (binding_at st m d) v
+  pub kind : kinds (ops_of st) n v ≡ kinds (ops_of st) m v
+  pub size : size (ops_of st) m v ≤ size (ops_of st) n v
+  pub extent : extent (size_of st) (ops_of st) m v ≤ extent (size_of st) (ops_of st) n v
+
 -- an operator makes the value of a variable
 abbrev pub makes : Operator → ℕ → Bool
 makes (over input (group_by keys piece out)) v = out == v
@@ -81,6 +91,18 @@ IsMadeHere p n v = (kinds (plan_value p).ops n v ≡ Some a_node) ⊎ IsTrue (ma
 -- the operator does not make the value of the variable, or it is made there
 abbrev pub GivesMade : BenchState → ℕ → Position → ℕ → Option Origin → Type 0
 GivesMade st n c v r = MatchOption r (makes (op_at (ops_of st) n) v ≡ false) (IsOriginOf st n c v)
+
+-- the operator makes no element of the variable, or it makes it over the binding of cursor d of its input
+abbrev pub GivesElement : BenchState → ℕ → Position → ℕ → Option Position → Type 0
+GivesElement st n c v r =
+    MatchOption r (form (op_at (ops_of st) n) ≡ makes_element → makes (op_at (ops_of st) n) v ≡ false) (λ d. IsOriginOf st n c v (Element n d))
+
+-- the value of a variable in a cursor's binding is this one tree
+abbrev pub IsTreeOf : BenchState → ℕ → Position → ℕ → Head → Type 0
+IsTreeOf st n c v (Whole s p) = IsOriginOf st n c v (Node s p)
+IsTreeOf st n c v (Built op at) = IsOriginOf st n c v (Element op at)
+IsTreeOf st n c v (Leaf s p) = ⊥
+IsTreeOf st n c v (Text op index) = ⊥
 
 -- a node with the trees below it is the one tree of a piece
 pub record IsHeadOf (st : BenchState) (op index : ℕ) (c : Position) (h : Head) : Type 0 where

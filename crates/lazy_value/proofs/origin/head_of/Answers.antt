@@ -3,15 +3,10 @@ use Rattle.plan_core.specs.declared.plan.Plan.{Plan}
 use Rattle.plan_core.specs.PlanMade.{plan_value}
 use Rattle.lazy_plan.specs.Bench.{state_of}
 use Rattle.lazy_value.specs.Forms.{piece_at}
-use Rattle.lazy_value.proofs.Heads.{leaf_head, node_head}
+use Rattle.lazy_value.proofs.Heads.{leaf_head}
 use Rattle.lazy_value.proofs.origin.head_of.Goals as goal
 
 pub returns-in-LabelOf : goal.returns-in-LabelOf
 returns-in-LabelOf c = λ view h i. leaf_head (state_of view c.args.bench.now) c.args.from.now.op c.args.from.now.next c.args.input c.args.from.now.at.now c.piece.result.now c.in-LabelOf.v
-    (c.piece.ensures ∙ ap (λ (p : Plan). piece_at (plan_value p).ops c.args.from.now.op c.args.from.now.next) c.plan.ensures) c.requires.input c.source_of.result c.spot.result c.in-LabelOf.is
-    (c.source_of.ensures view c.args.from.now.at.now i) (c.spot.ensures view i)
-
-pub returns-in-Node : goal.returns-in-Node
-returns-in-Node c = λ view h i. node_head (state_of view c.args.bench.now) c.args.from.now.op c.args.from.now.next c.args.input c.args.from.now.at.now c.piece.result.now c.in-Var.v
-    (c.piece.ensures ∙ ap (λ (p : Plan). piece_at (plan_value p).ops c.args.from.now.op c.args.from.now.next) c.plan.ensures) c.requires.input c.in-Node.source c.in-Node.spot c.in-Var.is
-    (rw c.in-Node.is at (c.in_ok-source-in-Var.ensures view h i))
+    (c.piece.ensures ∙ ap (λ (p : Plan). piece_at (plan_value p).ops c.args.from.now.op c.args.from.now.next) c.plan.ensures) c.requires.input c.node_of-source.result.0 c.node_of-source.result.1 c.in-LabelOf.is
+    (c.node_of-source.ensures view h i)

@@ -6,7 +6,7 @@ use Rattle.plan_core.specs.Plans.{Operator}
 use Rattle.plan_core.specs.ByNumber.{op_at}
 use Rattle.lazy_plan.specs.Bench.{state_of}
 use Rattle.lazy_value.specs.Origins.{makes}
-use Rattle.lazy_value.proofs.Making.{not_other, is_other, no_items, some_items, all_made, group_made, list_made, element_made}
+use Rattle.lazy_value.proofs.Making.{not_other, is_other, no_items, some_items, all_made, group_made, list_made}
 use Rattle.lazy_value.proofs.origin.made.Goals as goal
 
 pub returns-then-is_empty : goal.returns-then-is_empty
@@ -24,16 +24,8 @@ returns-in_ok-at-in-Concatenate c = λ view h i. list_made (state_of view c.args
     c.in-Concatenate.input c.in-Concatenate.pieces.items c.in-Concatenate.out c.in_ok-at-in-Concatenate.at (ap op_of (sym c.in-Concatenate.is) ∙ c.operator.ensures ∙ ap (λ (p : Plan). op_at (plan_value p).ops c.args.op) c.plan.ensures) (not_other (c.in-Concatenate.out == c.args.v) _ c.ne-in-Concatenate.ensures c.if-ne-2.false)
     (c.in_ok-at-in-Concatenate.ensures view h i)
 
-pub returns-in_ok-at-in-CreateElement : goal.returns-in_ok-at-in-CreateElement
-returns-in_ok-at-in-CreateElement c = λ view h i. element_made (state_of view c.args.bench.now) h.fixed.typed c.args.op c.requires.op c.args.c.now c.args.v
-    c.in-CreateElement.input c.in-CreateElement.label c.in-CreateElement.list c.in-CreateElement.out c.in_ok-at-in-CreateElement.at (ap op_of (sym c.in-CreateElement.is) ∙ c.operator.ensures ∙ ap (λ (p : Plan). op_at (plan_value p).ops c.args.op) c.plan.ensures) (not_other (c.in-CreateElement.out == c.args.v) _ c.ne-in-CreateElement.ensures c.if-ne-3.false)
-    (c.in_ok-at-in-CreateElement.ensures view h i)
-
 pub returns-then-ne : goal.returns-then-ne
 returns-then-ne c = λ view h i. ap (λ (o : Operator). makes o c.args.v) (sym (ap op_of (sym c.in-GroupBy.is) ∙ c.operator.ensures ∙ ap (λ (p : Plan). op_at (plan_value p).ops c.args.op) c.plan.ensures)) ∙ is_other (c.in-GroupBy.out == c.args.v) _ c.ne.ensures c.if-ne.true
 
 pub returns-then-ne-2 : goal.returns-then-ne-2
 returns-then-ne-2 c = λ view h i. ap (λ (o : Operator). makes o c.args.v) (sym (ap op_of (sym c.in-Concatenate.is) ∙ c.operator.ensures ∙ ap (λ (p : Plan). op_at (plan_value p).ops c.args.op) c.plan.ensures)) ∙ is_other (c.in-Concatenate.out == c.args.v) _ c.ne-in-Concatenate.ensures c.if-ne-2.true
-
-pub returns-then-ne-3 : goal.returns-then-ne-3
-returns-then-ne-3 c = λ view h i. ap (λ (o : Operator). makes o c.args.v) (sym (ap op_of (sym c.in-CreateElement.is) ∙ c.operator.ensures ∙ ap (λ (p : Plan). op_at (plan_value p).ops c.args.op) c.plan.ensures)) ∙ is_other (c.in-CreateElement.out == c.args.v) _ c.ne-in-CreateElement.ensures c.if-ne-3.true

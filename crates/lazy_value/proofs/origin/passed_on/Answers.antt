@@ -1,7 +1,7 @@
 use Rattle.std.proofs.Common.{◌∙◌, sym, ap}
 use Rattle.plan_core.specs.PlanMade.{op_of, plan_value}
 use Rattle.lazy_value.proofs.Numbering.{kind_of}
-use Rattle.lazy_value.proofs.Passing.{passed_visit, passed_select, passed_order, passed_list, passed_element, passed_left, passed_right, made_source, made_visit, made_project, made_group, none_bound}
+use Rattle.lazy_value.proofs.Passing.{passed_visit, passed_select, passed_order, passed_list, passed_element, passed_but_right, passed_right, made_source, made_visit, made_project, made_group, none_bound}
 use Rattle.lazy_value.proofs.origin.passed_on.Goals as goal
 
 pub returns-in-TupleDestroy : goal.returns-in-TupleDestroy
@@ -20,10 +20,10 @@ pub returns-in-Select : goal.returns-in-Select
 returns-in-Select c = passed_select c.args.plan.now c.requires.typed c.args.op c.requires.op c.args.v c.in-Select.input c.in-Select.test (ap op_of (sym c.in-Select.is) ∙ c.operator.ensures)
 
 pub returns-then-binds : goal.returns-then-binds
-returns-then-binds c = passed_left c.args.plan.now c.requires.typed c.args.op c.requires.op c.args.v c.in-Join.left c.in-Join.right c.in-Join.tests.items (ap op_of (sym c.in-Join.is) ∙ c.operator.ensures) (sym c.if-binds.true ∙ c.binds.ensures)
+returns-then-binds c = passed_right c.args.plan.now c.requires.typed c.args.op c.requires.op c.args.v c.requires.valid c.in-Join.left c.in-Join.right c.in-Join.tests.items (ap op_of (sym c.in-Join.is) ∙ c.operator.ensures) (sym c.if-binds.true ∙ c.binds.ensures) c.requires.kind
 
 pub returns-else-binds : goal.returns-else-binds
-returns-else-binds c = passed_right c.args.plan.now c.requires.typed c.args.op c.requires.op c.args.v c.in-Join.left c.in-Join.right c.in-Join.tests.items (ap op_of (sym c.in-Join.is) ∙ c.operator.ensures) (sym c.if-binds.false ∙ c.binds.ensures) c.requires.kind
+returns-else-binds c = passed_but_right c.args.plan.now c.requires.typed c.args.op c.requires.op c.args.v c.in-Join.left c.in-Join.right c.in-Join.tests.items (ap op_of (sym c.in-Join.is) ∙ c.operator.ensures) (sym c.if-binds.false ∙ c.binds.ensures) c.requires.kind
 
 pub returns-in-Project : goal.returns-in-Project
 returns-in-Project c = made_project c.args.plan.now c.requires.typed c.args.op c.requires.op c.args.v c.in-Project.input c.in-Project.keys.items (ap op_of (sym c.in-Project.is) ∙ c.operator.ensures) c.requires.kind

@@ -1,0 +1,7 @@
+use Rattle.lazy_plan.specs.Bench.{state_of}
+use Rattle.lazy_value.proofs.Making.{node_made}
+use Rattle.lazy_value.proofs.origin.node_of.Goals as goal
+
+pub returns : goal.returns
+returns c = λ view h i. node_made (state_of view c.args.bench.now) h.fixed.typed c.args.op c.requires.op c.args.c.now c.args.v c.source_of.result c.spot.result
+    c.requires.node (c.source_of.ensures view c.args.c.now i) (c.spot.ensures view i)
