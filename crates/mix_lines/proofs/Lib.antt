@@ -1,5 +1,6 @@
 mod Ending
 mod Running
+pub mod SoFar
 mod Stepping
 pub mod Telling
 pub mod Unmarked

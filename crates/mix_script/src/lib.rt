@@ -12,5 +12,5 @@ mod step;
 pub use answer::{Answer, Text, write_answer};
 pub use law::{clients_are_apart, selects_are_spelled};
 pub use names::Names;
-pub use script::{ScriptFault, read_script};
-pub use step::{Act, Step, Way};
+pub use script::{ScriptFault, read_line, read_script};
+pub use step::{Act, LineRead, Step, Way};

@@ -113,8 +113,8 @@ fn read_utf8(alloc: Global, line: &[u8]) -> Result<Option<Step>, AllocError>
     read_step(alloc, b"", line)
 }
 
-/// The step of a line; `None` where it is not UTF-8 or fits no form (docs/FORMATS.md, "Scripts").
-pub fn read_line(alloc: Global, line: &[u8]) -> Result<Option<Step>, AllocError>
+/// The step of a line that is not passed over; `None` where it is not UTF-8 or fits no form (docs/FORMATS.md, "Scripts").
+pub fn line_step(alloc: Global, line: &[u8]) -> Result<Option<Step>, AllocError>
     ensures { IfOk result (λ step. step ≡ utf8_step line.now) }
 {
     if str::from_utf8(line).is_err() {

@@ -2,10 +2,10 @@
 ghost use Rattle.std.specs.Prelude.{◌≡◌, ◌++◌, ℕ, List, Ok, Err, Some, None, IfOk, OnOk, IsErrOf};
 ghost use Rattle.mix_script.specs.declared.script.ScriptFault.TheVariants.{OutOfMemory};
 ghost use Rattle.mix_script.specs.declared.step.Step.{Step};
-ghost use Rattle.mix_script.specs.Steps.{line_steps, steps_of};
+ghost use Rattle.mix_script.specs.Steps.{line_steps, steps_of, steps_read};
 
-use crate::Step;
-use crate::line::read_line;
+use crate::line::line_step;
+use crate::{LineRead, Step};
 use mix_words::lines::{cut_lines, is_passed_over};
 use std::alloc::{AllocError, AllocFailed, Global};
 use thiserror::Error;
@@ -36,6 +36,19 @@ impl<T: Drop> From<AllocFailed<T>> for ScriptFault {
     }
 }
 
+/// What a line of a script comes to. The line is given without its LF, and without the CR right before that.
+pub fn read_line(alloc: Global, line: &[u8]) -> Result<LineRead, AllocError>
+    ensures { IfOk result (λ read. line_steps line.now ≡ steps_read read) }
+{
+    if is_passed_over(line) {
+        return Ok(LineRead::Passed);
+    }
+    match line_step(alloc, line)? {
+        Some(step) => Ok(LineRead::Step(step)),
+        None => Ok(LineRead::NoForm),
+    }
+}
+
 // Adds the step of a line, unless the line is passed over.
 fn push_line(
     alloc: Global,
@@ -46,14 +59,14 @@ fn push_line(
     ensures ok { OnOk result ((new : List Step) × (line_steps line.now ≡ Some new) × (steps.new.items ≡ steps.old.items ++ new)) }
     ensures line { (n : ℕ) → IsErrOf result (ScriptFault.Line n) → (line_steps line.now ≡ None) × (n ≡ number) }
 {
-    if is_passed_over(line) {
-        return Ok(());
+    match read_line(alloc, line)? {
+        LineRead::Passed => Ok(()),
+        LineRead::Step(step) => {
+            steps.push(step)?;
+            Ok(())
+        }
+        LineRead::NoForm => Err(ScriptFault::Line(number)),
     }
-    let Some(step) = read_line(alloc, line)? else {
-        return Err(ScriptFault::Line(number));
-    };
-    steps.push(step)?;
-    Ok(())
 }
 
 /// The steps of a script, in order. A line that is passed over has none; a line of no form refuses the script.

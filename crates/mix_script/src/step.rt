@@ -40,3 +40,13 @@ pub enum Act {
         from: Label,
     },
 }
+
+/// What a line of a script comes to.
+#[derive(Drop)]
+pub enum LineRead {
+    /// It is passed over.
+    Passed,
+    Step(Step),
+    /// It is of no form.
+    NoForm,
+}

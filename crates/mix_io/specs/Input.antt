@@ -1,0 +1,32 @@
+-- What inputs mean to a caller, and what is taken of them.
+use Rattle.std.specs.Prelude.{◌≡◌, ◌⊎◌, ℕ, ◌+◌, ◌^◌, ◌<◌, ◌≤◌, List, [], ◌++◌, length, take, Option, Some, None, IfSome}
+
+-- what an input means
+pub record InputView : Type 0 where
+  -- the bytes that are left, where they are told
+  pub left : Option (List ℕ)
+  -- how many bytes were taken
+  pub taken : ℕ
+  -- how often a take has failed
+  pub faults : ℕ
+
+-- these bytes were the first of those that were left, and the others are left now
+abbrev pub Gone : Option (List ℕ) → Option (List ℕ) → List ℕ → Type 0
+Gone None after bytes = after ≡ None
+Gone (Some left) after bytes = (rest : List ℕ) × (left ≡ bytes ++ rest) × (after ≡ Some rest)
+
+-- these bytes were taken, and all of them are counted
+pub record Took (old new : InputView) (bytes : List ℕ) : Type 0 where
+  pub gone : Gone old.left new.left bytes
+  pub counted : new.taken ≡ old.taken + length bytes
+
+-- nothing is left, where that is told
+abbrev pub IsAtEnd : InputView → Type 0
+IsAtEnd input = IfSome input.left (λ left. left ≡ [])
+
+-- one call gave so many bytes into the front of room, few enough that they can be counted; there are none only into no room, or at the end
+pub record Gives (old new : InputView) (count : ℕ) (room : List ℕ) : Type 0 where
+  pub within : count ≤ length room
+  pub took : Took old new (take count room)
+  pub few : new.taken < 2 ^ 64
+  pub end : count ≡ 0 → (length room ≡ 0) ⊎ IsAtEnd new

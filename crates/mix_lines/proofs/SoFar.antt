@@ -1,0 +1,179 @@
+-- The answers to the first steps on a course, as they become more.
+use Rattle.std.proofs.Common.{◌≡◌, ◌+◌, ◌<◌, ◌≤◌, ℕ, Bool, true, false, List, [], ◌∷◌, ◌++◌, Option, Some, None, Result, sym, subst, arith, append_assoc}
+use Rattle.std.specs.declared.alloc.AllocError.{AllocError}
+use Rattle.mix_base.proofs.Lists.{append_nil}
+use Rattle.mix_tree.specs.Forest.{LabelledTree}
+use Rattle.lxp_core.specs.View.{View}
+use Rattle.mix_script.specs.Names.{NamesOf, no_names}
+use Rattle.mix_script.specs.Trails.{Trail, TakeOneWay, names_on}
+use Rattle.mix_script.specs.Answers.{IsNamed}
+use Rattle.mix_script.specs.Transcript.{Names, answered, names_after}
+use Rattle.mix_script.specs.Allowed.{MayFind, MayFindRoot, MayPrint, WhereHeld, MayAnswer, AreAnswers, nodes_after, mark_of}
+use Rattle.mix_script.specs.Finished.{AreOf}
+use Rattle.mix_script.specs.Holding.{HoldBoth}
+use Rattle.mix_script.specs.declared.step.Act.{Act}
+use Rattle.mix_script.specs.declared.step.Act.TheVariants.{Root, Move, Select, Fetch, Print}
+use Rattle.mix_script.specs.declared.step.Step.{Step}
+use Rattle.mix_script.specs.declared.answer.Answer.{Answer}
+use Rattle.mix_script.specs.declared.answer.Answer.TheVariants as answer
+use Rattle.mix_script.proofs.Answering.{faults_push, may_named}
+use Rattle.mix_script.proofs.Holding.{hold_none}
+use Rattle.mix_session.specs.Meaning.{Course, Meaning}
+use Rattle.mix_session.specs.Held.{HoldNodes, HoldPlaces, HoldTold}
+use Rattle.mix_session.specs.Stepped.{IsStep, Stepped, act_toll, tree_toll}
+use Rattle.mix_session.proofs.TollLess.{act_toll_less, tree_toll_less}
+use Rattle.mix_session.proofs.Walking.{goes_on_twice, goes_on_same}
+use Rattle.mix_lines.specs.Lines.{IsRun, IsLazy}
+use Rattle.mix_lines.specs.Written.{IsOnTree, IsSoFar}
+use Rattle.mix_lines.proofs.Stepping.{spent_start, spent_step, spent_begun, spent_whole}
+
+module _ (May May' : ℕ → Type 0) (more : (s : ℕ) → May s → May' s) where
+  -- an answer to a search may be given where more sources may fail
+  find_more : (a : Answer) → MayFind May a → MayFind May' a
+  find_more answer.Node h = tt
+  find_more answer.None h = tt
+  find_more (answer.Label l) h = h
+  find_more (answer.Text x) h = h
+  find_more answer.NoNode h = h
+  find_more (answer.Fault s) h = more s h
+
+  -- so may one to a search for the root
+  root_more : (roots : Bool) (a : Answer) → MayFindRoot roots May a → MayFindRoot roots May' a
+  root_more true a h = find_more a h
+  root_more false a h = h
+
+  -- and one to a search from what a name holds
+  held_more : (o : Option (Unit {0})) (a : Answer) → WhereHeld o (MayFind May) a → WhereHeld o (MayFind May') a
+  held_more None a h = h
+  held_more (Some node) a h = find_more a h
+
+  -- and one to a print
+  print_more : (a : Answer) → MayPrint May a → MayPrint May' a
+  print_more answer.Node h = h
+  print_more answer.None h = h
+  print_more (answer.Label l) h = h
+  print_more (answer.Text x) h = h
+  print_more answer.NoNode h = h
+  print_more (answer.Fault s) h = more s h
+
+  -- of what a name holds
+  text_more : (o : Option (Unit {0})) (a : Answer) → WhereHeld o (MayPrint May) a → WhereHeld o (MayPrint May') a
+  text_more None a h = h
+  text_more (Some node) a h = print_more a h
+
+  -- and each answer
+  answer_more : (roots : Bool) (nodes : NamesOf (Unit {0})) (client : List ℕ) (act : Act) (a : Answer) → MayAnswer roots May nodes client act a → MayAnswer roots May' nodes client act a
+  answer_more roots nodes client (Root name) a h = root_more roots a h
+  answer_more roots nodes client (Move way name from) a h = held_more (nodes client from) a h
+  answer_more roots nodes client (Select name from label) a h = held_more (nodes client from) a h
+  answer_more roots nodes client (Fetch from) a h = h
+  answer_more roots nodes client (Print from) a h = text_more (nodes client from) a h
+
+-- answers, and one more before those to come
+behind : (answers : List Answer) (a : Answer) (more : List Answer) → (answers ++ a ∷ []) ++ more ≡ answers ++ a ∷ more
+behind answers a more = append_assoc answers (a ∷ []) more
+
+-- no step was answered yet
+pub so_far_start : {V W : Type 0} (m : Meaning V W) (v : View) (values : NamesOf V) (steps : List Step) → values ≡ no_names → IsSoFar m.course m v v values steps steps []
+so_far_start {V} {W} m v values steps none = record {
+  course = goes_on_same m.course;
+  nodes = no_names;
+  hold = subst (λ (s : NamesOf V). HoldNodes m s no_names) (sym none) (hold_none {W = Unit {0}} (λ n node. m.IsNode n));
+  allowed = λ more h. h;
+  told = λ t one. record { places = no_names; hold = subst (λ (s : NamesOf V). HoldBoth m.IsAt s no_names) (sym none) (hold_none m.IsAt); then = λ more h. h };
+  counted = λ s. omega arith;
+  ways = λ ways. ways;
+  spent = λ ways tolls. spent_start m.IsTold (act_toll m.course) (names_on m.course.trail) v.fills values steps none;
+  spent_on = λ tolls t one. spent_start m.IsAt (tree_toll m.course t) (names_after t) v.fills values steps none;
+}
+
+-- the answers so far are those of a run
+pub so_far_run : {V W : Type 0} (c : Course W) (m : Meaning V W) (old now last : View) (values : NamesOf V) (steps later : List Step) (answers : List Answer) → IsSoFar c m old now values steps later answers
+    → ((s : ℕ) → now.faults s ≤ last.faults s) → IsRun c old.faults last.faults steps answers
+so_far_run c m old now last values steps later answers so rises = record {
+  allowed = subst (λ xs. AreAnswers c.roots c.MayFail no_names xs steps) (append_nil answers) (so.allowed [] (nothing later));
+  told = λ t one. subst (λ xs. AreOf t no_names xs steps) (append_nil answers) ((so.told t one).then [] (nothing later));
+  counted = λ s. let h = so.counted s in let k = rises s in omega (arith, h, k);
+}
+  where
+    nothing : List Step → Unit {0}
+    nothing xs = tt
+
+-- what the answers so far cost
+pub so_far_lazy : {V W : Type 0} (c : Course W) (m : Meaning V W) (old now : View) (values : NamesOf V) (steps later : List Step) (answers : List Answer) → IsSoFar c m old now values steps later answers
+    → IsLazy c old.fills now.fills steps answers
+so_far_lazy c m old now values steps later answers so = record {
+  ways = λ ways tolls. spent_whole m.IsTold (act_toll c) (names_on c.trail) old.fills now.fills values steps later answers (so.spent ways tolls);
+  tree = λ tolls t one. spent_whole m.IsAt (tree_toll c t) (names_after t) old.fills now.fills values steps later answers (so.spent_on tolls t one);
+}
+
+-- the source of an answer has a name
+pub so_far_named : {V W : Type 0} (c : Course W) (m m' : Meaning V W) (old v v' : View) (values values' : NamesOf V) (count : ℕ) (steps : List Step) (step : Step) (later : List Step) (answers : List Answer)
+    → IsSoFar c m old v values steps (step ∷ later) answers → (a : Answer) → IsStep m m' v.faults v'.faults values values' step.client step.act a → ((s : ℕ) → c.MayFail s → s < count) → IsNamed count a
+so_far_named c m m' old v v' values values' count steps step later answers so a is named =
+    may_named m.course.roots m.course.MayFail count so.nodes step.client step.act a (λ s may. named s (so.course.may s may)) (is.allowed so.nodes so.hold).0
+
+module _ {V W : Type 0} (c : Course W) (m m' : Meaning V W) (old v v' : View) (values values' : NamesOf V) (steps : List Step) (step : Step) (later : List Step) (answers : List Answer)
+    (so : IsSoFar c m old v values steps (step ∷ later) answers) (rises : (s : ℕ) → v.faults s ≤ v'.faults s) (r : Result Answer AllocError) (done : Stepped m m' v v' values values' step.client step.act r) where
+  -- the fills that were asked for the step, where it takes at most one way
+  asked : TakeOneWay steps → c.HasTolls → (xs : NamesOf W) → HoldTold m values xs → v'.fills ≤ v.fills + act_toll c xs step.client step.act
+  asked ways tolls xs hold =
+      let h = done.toll (so.ways ways).0 (so.course.tolls tolls) xs hold in omega (arith, h, act_toll_less c m.course so.course xs step.client step.act)
+
+  -- and where a tree is the document
+  asked_on : c.HasTolls → (t : LabelledTree) → c.IsDocument t → (places : Names) → HoldPlaces m values places → v'.fills ≤ v.fills + tree_toll c t places step.client step.act
+  asked_on tolls t one places hold =
+      let h = done.cost (so.course.tolls tolls) t (so.course.document t one) places hold in omega (arith, h, tree_toll_less c m.course so.course t places step.client step.act)
+
+  -- what the answers so far and this step cost
+  pub lazy_begun : IsLazy c old.fills v'.fills steps answers
+  lazy_begun = record {
+    ways = λ ways tolls.
+        let spent = so.spent ways tolls in
+        spent_begun m.IsTold (act_toll c) (names_on c.trail) old.fills v.fills v'.fills values steps step later answers spent (asked ways tolls spent.names spent.hold);
+    tree = λ tolls t one.
+        let spent = so.spent_on tolls t one in
+        spent_begun m.IsAt (tree_toll c t) (names_after t) old.fills v.fills v'.fills values steps step later answers spent (asked_on tolls t one spent.names spent.hold);
+  }
+
+  -- the answers so far are those of a run
+  pub earlier : IsRun c old.faults v'.faults steps answers
+  earlier = so_far_run c m old v v' values steps (step ∷ later) answers so rises
+
+  module _ (a : Answer) (is : IsStep m m' v.faults v'.faults values values' step.client step.act a) where
+    -- the answers with this one are the tree's
+    on_tree : (t : LabelledTree) → c.IsDocument t → IsOnTree m'.IsAt t values' steps later (answers ++ a ∷ [])
+    on_tree t one =
+        let on = so.told t one in
+        let both = is.told t (so.course.document t one) on.places on.hold in
+        record {
+          places = (answered t on.places (mark_of a) step).1;
+          hold = subst (λ x. HoldBoth m'.IsAt values' (names_after t on.places step.client step.act x)) both.0 both.1;
+          then = λ more h. subst (λ xs. AreOf t no_names xs steps) (sym (behind answers a more)) (on.then (a ∷ more) (both.0, h));
+        }
+
+    -- this one may be given
+    may : MayAnswer c.roots c.MayFail so.nodes step.client step.act a
+    may = subst (λ b. MayAnswer b c.MayFail so.nodes step.client step.act a) so.course.roots
+        (answer_more m.course.MayFail c.MayFail so.course.may m.course.roots so.nodes step.client step.act a (is.allowed so.nodes so.hold).0)
+
+    -- one step more was answered
+    pub next : IsSoFar c m' old v' values' steps later (answers ++ a ∷ [])
+    next = record {
+      course = goes_on_twice so.course done.stays.course;
+      nodes = nodes_after so.nodes step.client step.act a;
+      hold = (is.allowed so.nodes so.hold).1;
+      allowed = λ more h. subst (λ xs. AreAnswers c.roots c.MayFail no_names xs steps) (sym (behind answers a more)) (so.allowed (a ∷ more) (may, h));
+      told = on_tree;
+      counted = λ s. let h = so.counted s in let k = is.counted s in omega (arith, h, k, faults_push s answers a);
+      ways = λ ways. (so.ways ways).1;
+      spent = λ ways tolls.
+          let spent = so.spent ways tolls in
+          let Holds : Trail W → Type 0 = λ trail. HoldTold m' values' (names_on trail spent.names step.client step.act a) in
+          spent_step m.IsTold m'.IsTold (act_toll c) (names_on c.trail) old.fills v.fills v'.fills values values' steps step later answers a spent
+          (asked ways tolls spent.names spent.hold) (subst Holds so.course.trail (is.trail (so.ways ways).0 (so.course.tolls tolls) spent.names spent.hold));
+      spent_on = λ tolls t one.
+          let spent = so.spent_on tolls t one in
+          spent_step m.IsAt m'.IsAt (tree_toll c t) (names_after t) old.fills v.fills v'.fills values values' steps step later answers a spent
+          (asked_on tolls t one spent.names spent.hold) (is.told t (so.course.document t one) spent.names spent.hold).1;
+    }

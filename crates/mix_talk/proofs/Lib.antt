@@ -1,0 +1,4 @@
+mod Cutting
+mod Long
+mod Parts
+mod Taken

@@ -1,0 +1,52 @@
+-- What reading the next line of an input comes to.
+use Rattle.std.specs.Prelude.{◌≡◌, ◌⊎◌, ◌+◌, ◌-◌, ◌^◌, ◌<◌, ◌==◌, ℕ, Bool, true, false, IsTrue, List, [], ◌∷◌, ◌++◌, Option, None, is_some, length, take}
+use Rattle.mix_io.specs.Input.{InputView, IsAtEnd, Took}
+use Rattle.mix_words.specs.Lines.{lines_of}
+use Rattle.mix_script.specs.declared.step.LineRead.{LineRead}
+use Rattle.mix_talk.specs.Heard.{heard, next_asks}
+use Rattle.mix_talk.specs.declared.reader.LineReader.{LineReader}
+
+-- no byte of a text is LF
+abbrev pub HasNoLf : List ℕ → Type 0
+HasNoLf [] = Unit {0}
+HasNoLf (b ∷ bs) = (b == 10 ≡ false) × HasNoLf bs
+
+-- a part of a text ends with the first LF; or there is no LF in it, and nothing behind it
+abbrev pub IsPart : List ℕ → List ℕ → Bool → Type 0
+IsPart part rest true = (body : List ℕ) × HasNoLf body × (part ≡ body ++ 10 ∷ [])
+IsPart part rest false = HasNoLf part × (rest ≡ [])
+
+-- such a part of a page was moved behind the bytes of a line, of which no more are kept than a line may have with its end
+pub record Moved (page page' line line' : List ℕ) (whole : Bool) : Type 0 where
+  pub part : List ℕ
+  pub cut : page ≡ part ++ page'
+  pub is : IsPart part page' whole
+  pub kept : line' ≡ take 1048578 (line ++ part)
+
+-- no bytes, or those of one line
+abbrev pub IsLine : List ℕ → Type 0
+IsLine text = (text ≡ []) ⊎ (length (lines_of text) ≡ 1)
+
+-- some bytes were taken, or none; none by a reader that has met the end
+abbrev pub TookSome : InputView → InputView → LineReader → Type 0
+TookSome old new r = (bytes : List ℕ) × Took old new bytes × (r.ended ≡ true → bytes ≡ [])
+
+-- where a reader has met the end of its input, nothing is left
+abbrev pub IsReaderOf : InputView → LineReader → Type 0
+IsReaderOf input r = r.ended ≡ true → (r.page ≡ []) × IsAtEnd input
+
+-- how much a reader can still come to read: what it has, and what can still be counted
+abbrev pub to_read : InputView → LineReader → ℕ
+to_read input r = 2 ^ 64 - input.taken + length r.page
+
+-- the next line was read of an input, or it has ended: what the bytes that a reader had and those that it took ask for, with any behind them,
+-- is what the line asks for and what those ask for that it has now; behind the end there are no others, and
+-- nothing is taken there
+pub record Reads (old new : InputView) (r r' : LineReader) (read : Option LineRead) : Type 0 where
+  pub bytes : List ℕ
+  pub took : Took old new bytes
+  pub reader : IsReaderOf new r'
+  pub ask : (more : List ℕ) → (r'.ended ≡ true → more ≡ []) → heard (r.page ++ bytes ++ more) ≡ next_asks read ++ heard (r'.page ++ more)
+  pub still : r.ended ≡ true → (bytes ≡ []) × (r'.ended ≡ true)
+  pub last : read ≡ None → r'.ended ≡ true
+  pub less : IsTrue (is_some read) → to_read new r' < to_read old r
