@@ -29,7 +29,8 @@ use Rattle.xmas_text.proofs.Texts.{IsLex}
 use Rattle.xmas_text.specs.Tokens.{IsToken}
 use Rattle.xmas_text.proofs.Lexes.{mark_read, path_run}
 use Rattle.xmas_text.proofs.Tokens.{is_apart, is_fixed, no_equal, follows, IsAt, at_start, gap_run, last_step, last_whole}
-use Rattle.xmas_text.proofs.Takes.{unfixed, varying_quiet, naming_quiet, push_unfixed, repeat_quiet, apart_not_name, apart_marks}
+use Rattle.xmas_text.proofs.Readings.{unfixed, varying_quiet, naming_quiet, repeat_quiet, apart_not_name, apart_marks}
+use Rattle.xmas_text.proofs.Takes.{push_unfixed}
 use Rattle.xmas_text.proofs.Complete.{Reads, stays, then, token}
 use Rattle.xmas_text.proofs.Runs.{Stands, run_stands, start_stands, read_writes}
 use Rattle.xmas_text.proofs.Complete as complete

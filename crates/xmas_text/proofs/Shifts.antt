@@ -13,6 +13,7 @@ use Rattle.xmas_text.specs.declared.token.Mark.TheVariants as mark
 use Rattle.path_expr.specs.Grammar as paths
 use Rattle.xmas_text.proofs.Texts.{outer_text, base, head_text, label_text, place_text, before_text, start_text, spot_text, IsTop, Level, IsPlace, IsBefore, IsStart, IsSpot}
 use Rattle.xmas_text.specs.Tokens.{IsToken}
+use Rattle.xmas_text.proofs.Regrouped.{behind_base, open_text, close_text, var_text, where_behind, label_behind, key_behind, brace_behind, more_behind, comma_label, place_behind, two_behind, four_behind, six_behind, order_behind, by_behind, sorted_behind}
 
 -- the spot behind a token is well formed, and its text is that of the spot, the gap and the token
 pub record Shifts (s : Spot) (g : List ℕ) (t : Token) : Type 0 where
@@ -147,62 +148,6 @@ cond_of_text (by_var u) g p h v = refl
 cond_of_is : (s : Start) (g : List ℕ) (p : paths.Spelled) (h v : List ℕ) → IsStart s → IsGap g → paths.Is p paths.a_path → IsGap h → IsVar v → IsCond (cond_of s g p h v)
 cond_of_is (by_name n) g p h v a b c d e = (a, b, c, d, e)
 cond_of_is (by_var u) g p h v a b c d e = (a, b, c, d, e)
-
--- a spot below one that is whole
-behind_base : (lead c o x g t : List ℕ) → lead ++ (c ++ (o ++ (x ++ (g ++ t)))) ≡ (lead ++ (c ++ (o ++ x))) ++ (g ++ t)
-behind_base lead c o x g t = simp append_assoc
-
--- a text with an opening tag behind it, part by part
-open_text : (lead c o x g t : List ℕ) → lead ++ (c ++ ((o ++ (x ++ (g ++ t))) ++ [])) ≡ (lead ++ (c ++ (o ++ x))) ++ (g ++ t)
-open_text lead c o x g t = simp (append_assoc, append_nil)
-
--- a text with a closing tag behind it, part by part
-close_text : (lead c o b e p n q x g t : List ℕ) → lead ++ (c ++ (o ++ (b ++ (e ++ (p ++ (n ++ (q ++ (x ++ (g ++ t))))))))) ≡ (lead ++ (c ++ ((o ++ (b ++ (e ++ (p ++ (n ++ q))))) ++ x))) ++ (g ++ t)
-close_text lead c o b e p n q x g t = simp append_assoc
-
--- a text with a variable behind it, part by part
-var_text : (lead c o x g t : List ℕ) → lead ++ (c ++ (o ++ (x ++ (g ++ (t ++ []))))) ≡ (lead ++ (c ++ (o ++ x))) ++ (g ++ t)
-var_text lead c o x g t = simp (append_assoc, append_nil)
-
--- a text with WHERE behind it, part by part
-where_behind : (lead c x g w : List ℕ) → (lead ++ (c ++ (x ++ (g ++ w)))) ++ [] ≡ (lead ++ (c ++ x)) ++ (g ++ w)
-where_behind lead c x g w = simp (append_assoc, append_nil)
-
--- a text with `label` and a variable behind it, part by part
-label_behind : (lead c o x h l g t : List ℕ) → lead ++ (c ++ (o ++ (x ++ (h ++ ((l ++ (g ++ t)) ++ []))))) ≡ ((lead ++ (c ++ (o ++ x))) ++ (h ++ l)) ++ (g ++ t)
-label_behind lead c o x h l g t = simp (append_assoc, append_nil)
-
--- a text inside a group label, part by part
-key_behind : (base h p k g t : List ℕ) → base ++ (h ++ (p ++ (k ++ (g ++ t)))) ≡ (base ++ (h ++ (p ++ k))) ++ (g ++ t)
-key_behind base h p k g t = simp append_assoc
-
--- a text behind a group label, part by part
-brace_behind : (lead c o x h p k g t : List ℕ) → lead ++ (c ++ (o ++ (x ++ (h ++ (p ++ (k ++ (g ++ t))))))) ≡ ((lead ++ (c ++ (o ++ x))) ++ (h ++ (p ++ k))) ++ (g ++ t)
-brace_behind lead c o x h p k g t = simp append_assoc
-
--- a text with a key behind a comma, part by part
-more_behind : (base h p k e m g t : List ℕ) → base ++ (h ++ (p ++ (k ++ (e ++ (m ++ (g ++ t)))))) ≡ (base ++ (h ++ (p ++ (k ++ (e ++ m))))) ++ (g ++ t)
-more_behind base h p k e m g t = simp append_assoc
-
--- a text with `label` behind a comma, part by part
-comma_label : (base h p k e m g t : List ℕ) → base ++ (h ++ (p ++ (k ++ ((e ++ m) ++ (g ++ t))))) ≡ (base ++ (h ++ (p ++ (k ++ (e ++ m))))) ++ (g ++ t)
-comma_label base h p k e m g t = simp append_assoc
-
--- a text with a variable behind `label` in a group label, part by part
-place_behind : (base h p k e m l g t : List ℕ) → base ++ (h ++ (p ++ (k ++ (e ++ (m ++ (l ++ (g ++ t))))))) ≡ (base ++ (h ++ (p ++ (k ++ (e ++ (m ++ l)))))) ++ (g ++ t)
-place_behind base h p k e m l g t = simp append_assoc
-
--- two parts before a token
-two_behind : (a b g t : List ℕ) → a ++ (b ++ (g ++ t)) ≡ (a ++ b) ++ (g ++ t)
-two_behind a b g t = simp append_assoc
-
--- four parts before a token
-four_behind : (a b h s g t : List ℕ) → a ++ (b ++ (h ++ (s ++ (g ++ t)))) ≡ (a ++ (b ++ (h ++ s))) ++ (g ++ t)
-four_behind a b h s g t = simp append_assoc
-
--- six parts before a token
-six_behind : (a b h s e p g t : List ℕ) → a ++ (b ++ (h ++ (s ++ (e ++ (p ++ (g ++ t)))))) ≡ (a ++ (b ++ (h ++ (s ++ (e ++ p))))) ++ (g ++ t)
-six_behind a b h s e p g t = simp append_assoc
 
 -- the token may come
 abbrev Taken : Spot → List ℕ → Token → Type 0
@@ -365,18 +310,6 @@ done_shifts : (r : Head) (cs : Conds) (g : List ℕ) (t : Token) → IsSpot (con
 done_shifts r cs g (fixed mark.And) s b i h = record { is = (s.0, (s.1, gap_of g b h)); text = two_behind (head_text r) (conds_text cs) g (codes "AND") }
 done_shifts r cs g (fixed mark.Order) s b i h = record { is = (s.0, s.1, gap_of g b h); text = two_behind (head_text r) (conds_text cs) g (codes "ORDER") }
 done_shifts r cs g t s b i h = cc
-
--- a text with BY behind it, part by part
-order_behind : (a b c d g t : List ℕ) → a ++ (b ++ (c ++ (d ++ (g ++ t)))) ≡ (a ++ (b ++ (c ++ d))) ++ (g ++ t)
-order_behind a b c d g t = simp append_assoc
-
--- a text with the variable that orders behind it, part by part
-by_behind : (a b c d e f g t : List ℕ) → a ++ (b ++ (c ++ (d ++ (e ++ (f ++ (g ++ t)))))) ≡ (a ++ (b ++ (c ++ (d ++ (e ++ f))))) ++ (g ++ t)
-by_behind a b c d e f g t = simp append_assoc
-
--- a text with DESC behind it, part by part
-sorted_behind : (a b o g t : List ℕ) → a ++ (b ++ (o ++ (g ++ t))) ≡ (a ++ (b ++ o)) ++ (g ++ t)
-sorted_behind a b o g t = simp append_assoc
 
 -- behind ORDER
 ordering_shifts : (r : Head) (cs : Conds) (e g : List ℕ) (t : Token) → IsSpot (ordering r cs e) → IsBlanks g → IsToken t → Taken (ordering r cs e) g t → Shifts (ordering r cs e) g t

@@ -1,0 +1,226 @@
+-- Tokens of each kind are read, byte by byte.
+use Rattle.std.proofs.Common.{◌≡◌, ◌∙◌, ◌==◌, ℕ, Bool, true, false, ◌&&◌, ◌||◌, IsTrue, List, [], ◌∷◌, ◌++◌, Option, Some, None, option_and_then, refl, sym, ap, arith}
+use Rattle.std.proofs.lemmas.Bool.Decides.{nat_tests}
+use Rattle.std.specs.List.{list_all}
+use Rattle.mix_base.proofs.Choices.{and_parts, some_is, none_some}
+use Rattle.mix_tree.specs.LabelGrammar.{Piece, ArePieces, inside_quotes}
+use Rattle.mix_tree.specs.Names.{is_name_byte, IsName}
+use Rattle.xmas_text.specs.Lexer.{marking, angle, naming, dollar, varying, quoting, pathing, ready, map_path, as_path, lex_step, begin}
+use Rattle.xmas_text.specs.Lexical.{is_blank, is_word_byte, IsVar}
+use Rattle.xmas_text.specs.Spots.{Spot, has_blank, takes, shift}
+use Rattle.xmas_text.specs.Tokens.{fixed, open_tag, close_tag, word, var, quoted, path, mark_first, mark_rest}
+use Rattle.xmas_text.specs.declared.token.Mark.{Mark}
+use Rattle.xmas_text.specs.declared.token.Mark.TheVariants as mark
+use Rattle.path_expr.specs.Grammar as paths
+use Rattle.path_expr.specs.Machine as pathing_
+use Rattle.path_expr.proofs.Complete as path_complete
+use Rattle.xmas_text.proofs.Lexes.{open_read, close_read, name_read, var_read, quote_read, mark_read, path_run}
+use Rattle.xmas_text.proofs.Tokens.{is_apart, is_fixed, no_equal, follows, Reading}
+
+-- a blank is no empty gap
+pub no_gap : (h : List ℕ) (c : Bool) → IsTrue (has_blank h) → h ≡ [] → IsTrue c
+no_gap [] c k e = cc
+no_gap (b ∷ h) c k e = cc
+
+-- no token that is always the same begins with a blank
+mark_solid : (m : Mark) → is_blank (mark_first m) ≡ false
+mark_solid mark.Construct = refl
+mark_solid mark.Where = refl
+mark_solid mark.And = refl
+mark_solid mark.LabelWord = refl
+mark_solid mark.OpenBrace = refl
+mark_solid mark.CloseBrace = refl
+mark_solid mark.Comma = refl
+mark_solid mark.Order = refl
+mark_solid mark.By = refl
+mark_solid mark.Desc = refl
+
+-- a token that is always the same
+pub mark_reading : (s : Spot) (h : List ℕ) (m : Mark) → begin (takes s h) (mark_first m) ≡ Some (marking m (mark_first m ∷ []) (mark_rest m)) → (h ≡ [] → IsTrue (follows s (mark_first m))) → Reading s h (fixed m)
+mark_reading s h m b f = record {
+  first = mark_first m;
+  rest = mark_rest m;
+  text = refl;
+  solid = mark_solid m;
+  may = f;
+  lex = marking m (mark_first m ∷ []) (mark_rest m);
+  begins = b;
+  last = marking m (mark_first m ∷ mark_rest m) [];
+  reads = mark_read s h m (mark_first m ∷ []) (mark_rest m);
+  ends = refl;
+  quiet = λ c g. refl;
+}
+
+-- an opening tag
+pub open_reading : (s : Spot) (h l : List ℕ) (q : Bool) → IsName l → begin (takes s h) 60 ≡ Some (angle true q) → (h ≡ [] → IsTrue (follows s 60)) → Reading s h (open_tag l)
+open_reading s h l q n b f = record {
+  first = 60;
+  rest = l ++ 62 ∷ [];
+  text = refl;
+  solid = refl;
+  may = f;
+  lex = angle true q;
+  begins = b;
+  last = ready (open_tag l);
+  reads = open_read q s h l n;
+  ends = refl;
+  quiet = λ c g. refl;
+}
+
+-- a closing tag
+pub close_reading : (s : Spot) (h l : List ℕ) (p : Bool) → IsName l → begin (takes s h) 60 ≡ Some (angle p true) → (h ≡ [] → IsTrue (follows s 60)) → Reading s h (close_tag l)
+close_reading s h l p n b f = record {
+  first = 60;
+  rest = 47 ∷ (l ++ 62 ∷ []);
+  text = refl;
+  solid = refl;
+  may = f;
+  lex = angle p true;
+  begins = b;
+  last = ready (close_tag l);
+  reads = close_read p s h l n;
+  ends = refl;
+  quiet = λ c g. refl;
+}
+
+-- a quoted label
+pub quoted_reading : (s : Spot) (h : List ℕ) (ps : List Piece) → ArePieces ps → begin (takes s h) 34 ≡ Some (quoting []) → (h ≡ [] → IsTrue (follows s 34)) → Reading s h (quoted ps)
+quoted_reading s h ps q b f = record {
+  first = 34;
+  rest = inside_quotes ps ++ 34 ∷ [];
+  text = refl;
+  solid = refl;
+  may = f;
+  lex = quoting [];
+  begins = b;
+  last = ready (quoted ps);
+  reads = quote_read s h ps q;
+  ends = refl;
+  quiet = λ c g. refl;
+}
+
+-- an apart byte goes on with no variable
+apart_not_word : (b : ℕ) → IsTrue (is_apart b) → is_word_byte b ≡ false
+apart_not_word b h = grind (arith, nat_tests)
+
+-- nor with a name
+pub apart_not_name : (b : ℕ) → IsTrue (is_apart b) → is_name_byte b ≡ false
+apart_not_name b h = grind (arith, nat_tests)
+
+-- so it ends a variable
+pub varying_quiet : (v : List ℕ) (b : ℕ) → IsTrue (is_apart b) → lex_step (varying v) b ≡ None
+varying_quiet v b h = rw (apart_not_word b h) refl
+
+-- and a name
+pub naming_quiet : (l : List ℕ) (b : ℕ) → IsTrue (is_apart b) → lex_step (naming l) b ≡ None
+naming_quiet l b h = rw (apart_not_name b h) refl
+
+-- what follows a spot that is not fixed is apart
+pub unfixed : (q c e : Bool) → q ≡ false → IsTrue (q || (c && e)) → IsTrue c
+unfixed true c e n h = cc
+unfixed false true e n h = refl
+unfixed false false e n h = cc
+
+-- a variable
+pub var_reading : (s : Spot) (h v : List ℕ) → IsVar v → is_fixed (shift s h (var v)) ≡ false → begin (takes s h) 36 ≡ Some dollar → (h ≡ [] → IsTrue (follows s 36)) → Reading s h (var v)
+var_reading s h v i n b f = record {
+  first = 36;
+  rest = v;
+  text = refl;
+  solid = refl;
+  may = f;
+  lex = dollar;
+  begins = b;
+  last = varying v;
+  reads = var_read s h v i;
+  ends = refl;
+  quiet = λ c g. varying_quiet v c (unfixed (is_fixed (shift s h (var v))) (is_apart c) (no_equal (shift s h (var v)) c) n g);
+}
+
+-- no name begins with a blank
+name_solid : (b : ℕ) → IsTrue (is_name_byte b) → is_blank b ≡ false
+name_solid b h = grind (arith, nat_tests)
+
+-- a name
+pub word_reading : (s : Spot) (h l : List ℕ) → IsName l → is_fixed (shift s h (word l)) ≡ false → ((b : ℕ) → IsTrue (is_name_byte b) → begin (takes s h) b ≡ Some (naming (b ∷ []))) → IsTrue (has_blank h) → Reading s h (word l)
+word_reading s h [] i n b f = absurd (omega arith)
+word_reading s h (c ∷ l) i n b f =
+    let parts = and_parts (is_name_byte c) (list_all is_name_byte l) i.0 in record {
+      first = c;
+      rest = l;
+      text = refl;
+      solid = name_solid c parts.0;
+      may = no_gap h (follows s c) f;
+      lex = naming (c ∷ []);
+      begins = b c parts.0;
+      last = naming (c ∷ l);
+      reads = name_read s h c l parts.1;
+      ends = refl;
+      quiet = λ d g. naming_quiet (c ∷ l) d (unfixed (is_fixed (shift s h (word (c ∷ l)))) (is_apart d) (no_equal (shift s h (word (c ∷ l))) d) n g);
+    }
+
+-- an apart byte is no mark of a path
+pub apart_marks : (b : ℕ) → IsTrue (is_apart b) → paths.is_mark b ≡ false
+apart_marks b h = grind (arith, nat_tests)
+
+-- nor a dot
+apart_dot : (b : ℕ) → IsTrue (is_apart b) → (b == 46) ≡ false
+apart_dot b h = grind (arith, nat_tests)
+
+-- nor a bar
+apart_bar : (b : ℕ) → IsTrue (is_apart b) → (b == 124) ≡ false
+apart_bar b h = grind (arith, nat_tests)
+
+-- nor a parenthesis
+apart_close : (b : ℕ) → IsTrue (is_apart b) → (b == 41) ≡ false
+apart_close b h = grind (arith, nat_tests)
+
+-- so it ends a path
+pub repeat_quiet : (g : pathing_.Frame) (q : paths.Spelled) (b : ℕ) → IsTrue (is_apart b) → pathing_.after_repeat g [] q b ≡ None
+repeat_quiet g q b h = rw (apart_dot b h, apart_bar b h, apart_close b h) refl
+
+-- no path begins with a blank
+blank_begins : (b : ℕ) → IsTrue (is_blank b) → pathing_.step pathing_.first b ≡ None
+blank_begins b h =
+    let n : is_name_byte b ≡ false = grind (arith, nat_tests) in
+    let q : (b == 34) ≡ false = grind (arith, nat_tests) in
+    let p : (b == 40) ≡ false = grind (arith, nat_tests) in
+    rw (n, q, p) refl
+
+-- the first byte of a path is no blank
+path_solid : (b : ℕ) (q : Bool) (u : pathing_.State) → is_blank b ≡ q → pathing_.step pathing_.first b ≡ Some u → is_blank b ≡ false
+path_solid b true u e h = none_some u (sym (blank_begins b e) ∙ h)
+path_solid b false u e h = e
+
+-- a path, by its first byte
+path_reading_at : (s : Spot) (h : List ℕ) (p : paths.Spelled) (b : ℕ) (y : List ℕ) (o : Option pathing_.State) (g : pathing_.Frame) (m : pathing_.Mode) (q : paths.Spelled) → pathing_.step pathing_.first b ≡ o
+    → paths.text_of p ≡ b ∷ y → option_and_then (λ u. pathing_.run u y) o ≡ Some (pathing_.at g [] m) → pathing_.repeat_in m ≡ Some q → pathing_.path_in g q ≡ p
+    → is_fixed (shift s h (path p)) ≡ false → ((u : pathing_.State) → pathing_.step pathing_.first b ≡ Some u → begin (takes s h) b ≡ Some (pathing u)) → IsTrue (has_blank h) → Reading s h (path p)
+path_reading_at s h p b y None g m q o t r i j n k f = none_some _ r
+path_reading_at s h p b y (Some u) g m q o t r i j n k f = record {
+  first = b;
+  rest = y;
+  text = t;
+  solid = path_solid b (is_blank b) u refl o;
+  may = no_gap h (follows s b) f;
+  lex = pathing u;
+  begins = k u o;
+  last = pathing (pathing_.at g [] m);
+  reads = path_run s h y u (pathing_.at g [] m) r;
+  ends = ap as_path (path_complete.whole_at g m q i ∙ ap Some j);
+  quiet = λ c e.
+      let a : IsTrue (is_apart c) = unfixed (is_fixed (shift s h (path p))) (is_apart c) (no_equal (shift s h (path p)) c) n e in
+      ap map_path (path_complete.ends_by c g [] m q (apart_not_name c a) (apart_marks c a) i ∙ repeat_quiet g q c a);
+}
+
+-- a path, by its text
+path_reading_of : (s : Spot) (h : List ℕ) (p : paths.Spelled) (x : List ℕ) (g : pathing_.Frame) (m : pathing_.Mode) (q : paths.Spelled) → paths.text_of p ≡ x → pathing_.run pathing_.first x ≡ Some (pathing_.at g [] m)
+    → pathing_.repeat_in m ≡ Some q → pathing_.path_in g q ≡ p → is_fixed (shift s h (path p)) ≡ false → ((b : ℕ) (u : pathing_.State) → pathing_.step pathing_.first b ≡ Some u → begin (takes s h) b ≡ Some (pathing u)) → IsTrue (has_blank h) → Reading s h (path p)
+path_reading_of s h p [] g m q t r i j n k f = none_some q (ap (λ z. pathing_.repeat_in z.mode) (some_is _ _ r) ∙ i)
+path_reading_of s h p (b ∷ y) g m q t r i j n k f = path_reading_at s h p b y (pathing_.step pathing_.first b) g m q refl t r i j n (k b) f
+
+-- a path
+pub path_reading : (s : Spot) (h : List ℕ) (p : paths.Spelled) → paths.Is p paths.a_path → is_fixed (shift s h (path p)) ≡ false → ((b : ℕ) (u : pathing_.State) → pathing_.step pathing_.first b ≡ Some u → begin (takes s h) b ≡ Some (pathing u)) → IsTrue (has_blank h) → Reading s h (path p)
+path_reading s h p is n k f =
+    let r = path_complete.reads p paths.a_path is [] in
+    path_reading_of s h p (paths.text_of p) r.0 r.1 r.2 refl r.3 r.4 r.5 n k f
