@@ -31,19 +31,25 @@ pub fn each_child(alloc: Global, docs: &[&str], failing: &[u64]) -> Result<MemSo
     sources(alloc, trees(alloc, docs)?, &EACH_CHILD, failing)
 }
 
+// A variable in the bindings of an operator.
+#[derive(Clone, Copy)]
+struct Column {
+    op: u32,
+    var: u32,
+}
+
 // The labels below the nodes of a variable in all bindings of an operator.
 fn rows(
     alloc: Global,
     catalog: &str,
     docs: &[&str],
     view: &str,
-    op: u32,
-    v: u32,
+    column: Column,
 ) -> Result<Vec<u8>, Fail> {
     let mut s = each_child(alloc, docs, &[])?;
     let mut bench = opened(alloc, catalog, view, &s)?;
-    let cursors = bindings(alloc, &mut bench, &mut s, op)?;
-    leaves(alloc, &mut bench, &mut s, op, Var::new(v), &cursors)
+    let bound = bindings(alloc, &mut bench, &mut s, column.op)?;
+    leaves(alloc, &mut bench, &mut s, Var::new(column.var), &bound)
 }
 
 #[test]
@@ -62,8 +68,8 @@ fn homes_meet_their_schools(rt: HostRuntime) -> Result<(), Fail> {
         (9, 0, "Jolla Cajon "),
         (11, 0, "Jolla Cajon "),
     ];
-    for (op, v, labels) in wanted {
-        let found = rows(alloc, HOMES, &DOCS, MED_HOMES, op, v)?;
+    for (op, var, labels) in wanted {
+        let found = rows(alloc, HOMES, &DOCS, MED_HOMES, Column { op, var })?;
         assert_eq!(rt; found.as_slice(), labels.as_bytes());
     }
     Ok(())
@@ -132,8 +138,8 @@ const BOUND: [(&str, &str, u32, u32, &str); 16] = [
 #[test]
 fn each_operator_binds_what_it_says(rt: HostRuntime) -> Result<(), Fail> {
     let alloc = rt.alloc();
-    for (doc, view, op, v, labels) in BOUND {
-        let found = rows(alloc, ONE, &[doc], view, op, v)?;
+    for (doc, view, op, var, labels) in BOUND {
+        let found = rows(alloc, ONE, &[doc], view, Column { op, var })?;
         assert_eq!(rt; found.as_slice(), labels.as_bytes());
     }
     Ok(())
@@ -145,7 +151,7 @@ fn a_list_over_nothing_is_one_binding(rt: HostRuntime) -> Result<(), Fail> {
     let mut s = each_child(alloc, &["l[a,b]"], &[])?;
     let mut bench = opened(alloc, ONE, NONE, &s)?;
     let lists = bindings(alloc, &mut bench, &mut s, 4)?;
-    assert_eq!(rt; lists.len(), 1);
+    assert_eq!(rt; lists.cursors.len(), 1);
     // nothing is asked for it
     assert_eq!(rt; s.fills(), 0);
     Ok(())
@@ -156,12 +162,12 @@ fn an_earlier_cursor_goes_on_as_before(rt: HostRuntime) -> Result<(), Fail> {
     let alloc = rt.alloc();
     let mut s = each_child(alloc, &DOCS, &[])?;
     let mut bench = opened(alloc, HOMES, MED_HOMES, &s)?;
-    let cursors = bindings(alloc, &mut bench, &mut s, 7)?;
-    assert_eq!(rt; cursors.len(), 3);
+    let pairs = bindings(alloc, &mut bench, &mut s, 7)?;
+    assert_eq!(rt; pairs.cursors.len(), 3);
     let asked = s.fills();
-    let second = behind(alloc, &mut bench, &mut s, 7, &cursors, 0)?;
+    let second = behind(alloc, &mut bench, &mut s, &pairs, 0)?;
     assert_eq!(rt; s.fills(), asked);
-    let schools = leaves(alloc, &mut bench, &mut s, 7, Var::new(2), &second)?;
+    let schools = leaves(alloc, &mut bench, &mut s, Var::new(2), &second)?;
     assert_eq!(rt; schools.as_slice(), b"Bar ".as_slice());
     Ok(())
 }
@@ -171,11 +177,11 @@ fn a_sorted_binding_is_followed_by_the_next(rt: HostRuntime) -> Result<(), Fail>
     let alloc = rt.alloc();
     let mut s = each_child(alloc, &["l[x,10,9[a],010,9[b]]"], &[])?;
     let mut bench = opened(alloc, ONE, SORTED, &s)?;
-    let cursors = bindings(alloc, &mut bench, &mut s, 2)?;
+    let sorted = bindings(alloc, &mut bench, &mut s, 2)?;
     let asked = s.fills();
-    let third = behind(alloc, &mut bench, &mut s, 2, &cursors, 1)?;
+    let third = behind(alloc, &mut bench, &mut s, &sorted, 1)?;
     assert_eq!(rt; s.fills(), asked);
-    let label = leaves(alloc, &mut bench, &mut s, 2, Var::new(0), &third)?;
+    let label = leaves(alloc, &mut bench, &mut s, Var::new(0), &third)?;
     assert_eq!(rt; label.as_slice(), b"010 ".as_slice());
     Ok(())
 }
@@ -186,9 +192,9 @@ fn a_group_is_made_of_its_first_binding(rt: HostRuntime) -> Result<(), Fail> {
     let mut s = each_child(alloc, &DOCS, &[])?;
     let mut bench = opened(alloc, HOMES, MED_HOMES, &s)?;
     let groups = bindings(alloc, &mut bench, &mut s, 9)?;
-    let (input, first) = beneath(alloc, &bench, &s, 9, &groups, 1)?;
-    assert_eq!(rt; input, 8);
-    let schools = leaves(alloc, &mut bench, &mut s, input, Var::new(2), &first)?;
+    let first = beneath(alloc, &bench, &s, &groups, 1)?;
+    assert_eq!(rt; first.op, 8);
+    let schools = leaves(alloc, &mut bench, &mut s, Var::new(2), &first)?;
     assert_eq!(rt; schools.as_slice(), b"Hart ".as_slice());
     Ok(())
 }

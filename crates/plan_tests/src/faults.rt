@@ -11,8 +11,8 @@ use std::test::Fail;
 fn schools(alloc: Global, failing: &[u64]) -> Result<(Vec<u8>, u64), Fail> {
     let mut s = each_child(alloc, &DOCS, failing)?;
     let mut bench = opened(alloc, HOMES, MED_HOMES, &s)?;
-    let cursors = bindings(alloc, &mut bench, &mut s, 8)?;
-    let labels = leaves(alloc, &mut bench, &mut s, 8, Var::new(2), &cursors)?;
+    let bound = bindings(alloc, &mut bench, &mut s, 8)?;
+    let labels = leaves(alloc, &mut bench, &mut s, Var::new(2), &bound)?;
     Ok((labels, s.fills()))
 }
 

@@ -40,55 +40,27 @@ pub fn held_by(plan: &Plan, n: usize, v: Var) -> Held
     ensures { result ≡ held (kinds (plan_value plan.now).ops n v) }
 {
     match operator(plan, n) {
-        Op::Source { out, .. } => { if *out == v { Held::Node } else { Held::Nothing } }
-        Op::GetDescendants { input, out, .. } => {
-            if *out == v {
-                Held::Node
-            } else {
-                held_by(plan, *input as usize, v)
-            }
-        }
+        Op::Source { out, .. } if *out == v => Held::Node,
+        Op::Source { .. } => Held::Nothing,
+        Op::GetDescendants { out, .. } if *out == v => Held::Node,
+        Op::GetDescendants { input, .. } => held_by(plan, *input as usize, v),
         Op::Select { input, .. } => held_by(plan, *input as usize, v),
         Op::Join { left, right, .. } => match held_by(plan, *left as usize, v) {
             Held::Nothing => held_by(plan, *right as usize, v),
             bound => bound,
         },
-        Op::Project { input, keys } => {
-            if names_var(keys, v) {
-                held_by(plan, *input as usize, v)
-            } else {
-                Held::Nothing
-            }
+        Op::Project { input, keys } if names_var(keys, v) => held_by(plan, *input as usize, v),
+        Op::Project { .. } => Held::Nothing,
+        Op::GroupBy { out, .. } if *out == v => Held::Other,
+        Op::GroupBy { input, keys, .. } if names_var(keys, v) => {
+            held_by(plan, *input as usize, v)
         }
-        Op::GroupBy {
-            input,
-            keys,
-            out,
-            ..
-        } => {
-            if *out == v {
-                Held::Other
-            } else if names_var(keys, v) {
-                held_by(plan, *input as usize, v)
-            } else {
-                Held::Nothing
-            }
-        }
+        Op::GroupBy { .. } => Held::Nothing,
         Op::OrderBy { input, .. } => held_by(plan, *input as usize, v),
-        Op::Concatenate { input, out, .. } => {
-            if *out == v {
-                Held::Other
-            } else {
-                held_by(plan, *input as usize, v)
-            }
-        }
-        Op::CreateElement { input, out, .. } => {
-            if *out == v {
-                Held::Other
-            } else {
-                held_by(plan, *input as usize, v)
-            }
-        }
+        Op::Concatenate { out, .. } if *out == v => Held::Other,
+        Op::Concatenate { input, .. } => held_by(plan, *input as usize, v),
+        Op::CreateElement { out, .. } if *out == v => Held::Other,
+        Op::CreateElement { input, .. } => held_by(plan, *input as usize, v),
         Op::TupleDestroy { .. } => Held::Nothing,
     }
 }

@@ -44,49 +44,55 @@ fn check(rt: &impl Abort, alloc: Global, plan: &Plan, lines: &[&str]) -> Result<
     Ok(())
 }
 
+// A join with two comparisons, one with a label that is quoted.
+fn odd_join(alloc: Global) -> Result<Op, Fail> {
+    let text = equal(0, Operand::Text(label(alloc, "a\"b")?));
+    Ok(Op::Join {
+        left: 1,
+        right: 0,
+        tests: vec![in alloc; text, equal(0, Operand::Var(Var::new(1)))]?,
+    })
+}
+
+// The order by the first variable.
+fn sorted(input: u32, desc: bool) -> Op {
+    Op::OrderBy {
+        input,
+        var: Var::new(0),
+        desc,
+    }
+}
+
 // A plan that no view has, with each form of a comparison, an order and a piece.
 fn odd_plan(alloc: Global) -> Result<Plan, Fail> {
-    let key = Key::LabelOf(Var::new(0));
-    let text = equal(0, Operand::Text(label(alloc, "a\"b")?));
+    let mut ops = vec![in alloc;
+        Op::Source {
+            source: 0,
+            out: Var::new(1)
+        },
+        descend(alloc, 0, 1, "(a|\"b c\")*", 0)?,
+        odd_join(alloc)?,
+        sorted(2, true),
+        sorted(3, false),
+        Op::GroupBy {
+            input: 4,
+            keys: vec![in alloc; Key::LabelOf(Var::new(0))]?,
+            piece: Piece::LabelOf(Var::new(0)),
+            out: Var::new(2)
+        },
+    ]?;
+    ops.push(Op::Concatenate {
+        input: 5,
+        pieces: vec![in alloc; Piece::Text(label(alloc, "t")?)]?,
+        out: Var::new(3),
+    })?;
+    ops.push(Op::Concatenate {
+        input: 6,
+        pieces: Vec::new(alloc),
+        out: Var::new(4),
+    })?;
     Ok(Plan {
-        ops: vec![in alloc;
-            Op::Source {
-                source: 0,
-                out: Var::new(1)
-            },
-            descend(alloc, 0, 1, "(a|\"b c\")*", 0)?,
-            Op::Join {
-                left: 1,
-                right: 0,
-                tests: vec![in alloc; text, equal(0, Operand::Var(Var::new(1)))]?
-            },
-            Op::OrderBy {
-                input: 2,
-                var: Var::new(0),
-                desc: true
-            },
-            Op::OrderBy {
-                input: 3,
-                var: Var::new(0),
-                desc: false
-            },
-            Op::GroupBy {
-                input: 4,
-                keys: vec![in alloc; key]?,
-                piece: Piece::LabelOf(Var::new(0)),
-                out: Var::new(2)
-            },
-            Op::Concatenate {
-                input: 5,
-                pieces: vec![in alloc; Piece::Text(label(alloc, "t")?)]?,
-                out: Var::new(3)
-            },
-            Op::Concatenate {
-                input: 6,
-                pieces: Vec::new(alloc),
-                out: Var::new(4)
-            },
-        ]?,
+        ops,
         names: vec![in alloc; label(alloc, "A")?]?,
         sources: vec![in alloc; label(alloc, "s")?]?,
     })

@@ -15,6 +15,13 @@ use std::alloc::Global;
 use std::test::Fail;
 use tree_buffer::Spot;
 
+/// Bindings of an operator.
+#[derive(Drop)]
+pub struct Bound {
+    pub op: u32,
+    pub cursors: Vec<Cursor>,
+}
+
 // The first binding of an operator.
 fn first(
     alloc: Global,
@@ -81,10 +88,10 @@ pub fn bindings(
     bench: &mut Bench,
     s: &mut MemSources,
     op: u32,
-) -> Result<Vec<Cursor>, Fail>
+) -> Result<Bound, Fail>
     requires { IsBenchOf (memory_view s.old) bench.old }
     ensures ran { OnOk result (Ran s.old bench.old s.new bench.new) }
-    ensures cursors { IfOk result (λ cs. AreCursors (state s.new bench.new) op cs.items) }
+    ensures cursors { IfOk result (λ b. AreCursors (state s.new bench.new) b.op b.cursors.items) }
 {
     benches_keep_on();
     if op as usize >= bench.plan().ops.len() {
@@ -94,7 +101,7 @@ pub fn bindings(
     let mut at = first(alloc, bench, s, op)?;
     'events: for _ in 0..99 {
         let Some(cursor) = at else {
-            return Ok(found);
+            return Ok(Bound { op, cursors: found });
         };
         at = next(alloc, bench, s, op, &cursor)?;
         found.push(cursor)?;
@@ -125,31 +132,30 @@ fn leaf(
     Err("too deep".into())
 }
 
-/// The labels of the first leaves below the nodes of a variable at these bindings, each with a blank behind it.
+/// The labels of the first leaves below the nodes of a variable in some bindings, each with a blank behind it.
 pub fn leaves(
     alloc: Global,
     bench: &mut Bench,
     s: &mut MemSources,
-    op: u32,
     v: Var,
-    cursors: &[Cursor],
+    of: &Bound,
 ) -> Result<Vec<u8>, Fail>
     requires bench { IsBenchOf (memory_view s.old) bench.old }
-    requires cursors { AreCursors (state s.old bench.old) op cursors.now }
+    requires cursors { AreCursors (state s.old bench.old) of.now.op of.now.cursors.items }
     ensures { OnOk result (Ran s.old bench.old s.new bench.new) }
 {
     benches_keep_on();
     valid_plans_are_typed();
-    if op as usize >= bench.plan().ops.len() {
+    if of.op as usize >= bench.plan().ops.len() {
         return Err("no such operator".into());
     }
-    if held_by(bench.plan(), op as usize, v) != Held::Node {
+    if held_by(bench.plan(), of.op as usize, v) != Held::Node {
         return Err("no node".into());
     }
     let mut text = Vec::new(alloc);
-    for cursor in cursors {
-        let spot = bench.spot(op, cursor, v);
-        let source = bench.source_of(op, v);
+    for cursor in &of.cursors {
+        let spot = bench.spot(of.op, cursor, v);
+        let source = bench.source_of(of.op, v);
         let label = leaf(alloc, bench, s, source, spot)?;
         text.extend_from_slice(label.bytes())?;
         text.push(b' ')?;
@@ -162,48 +168,50 @@ pub fn behind(
     alloc: Global,
     bench: &mut Bench,
     s: &mut MemSources,
-    op: u32,
-    cursors: &[Cursor],
+    of: &Bound,
     i: usize,
-) -> Result<Vec<Cursor>, Fail>
+) -> Result<Bound, Fail>
     requires bench { IsBenchOf (memory_view s.old) bench.old }
-    requires cursors { AreCursors (state s.old bench.old) op cursors.now }
+    requires cursors { AreCursors (state s.old bench.old) of.now.op of.now.cursors.items }
     ensures ran { OnOk result (Ran s.old bench.old s.new bench.new) }
-    ensures cursors { IfOk result (λ cs. AreCursors (state s.new bench.new) op cs.items) }
+    ensures cursors { IfOk result (λ b. AreCursors (state s.new bench.new) b.op b.cursors.items) }
 {
-    if op as usize >= bench.plan().ops.len() || i >= cursors.len() {
+    let op = of.op;
+    if op as usize >= bench.plan().ops.len() || i >= of.cursors.len() {
         return Err("no such binding".into());
     }
-    let mut found = Vec::new(alloc);
-    if let Some(cursor) = next(alloc, bench, s, op, &cursors[i])? {
-        found.push(cursor)?;
+    let mut cursors = Vec::new(alloc);
+    if let Some(cursor) = next(alloc, bench, s, op, &of.cursors[i])? {
+        cursors.push(cursor)?;
     }
-    Ok(found)
+    Ok(Bound { op, cursors })
 }
 
-/// The input of a groupBy by keys, and its binding of which one of these is made.
+/// The binding of the input of a groupBy by keys of which one of these is made.
 pub fn beneath(
     alloc: Global,
     bench: &Bench,
     s: &MemSources,
-    op: u32,
-    cursors: &[Cursor],
+    of: &Bound,
     i: usize,
-) -> Result<(u32, Vec<Cursor>), Fail>
+) -> Result<Bound, Fail>
     requires bench { IsBenchOf (memory_view s.now) bench.now }
-    requires cursors { AreCursors (state s.now bench.now) op cursors.now }
-    ensures { IfOk result (λ r. AreCursors (state s.now bench.now) r.0 r.1.items) }
+    requires cursors { AreCursors (state s.now bench.now) of.now.op of.now.cursors.items }
+    ensures { IfOk result (λ b. AreCursors (state s.now bench.now) b.op b.cursors.items) }
 {
-    if op as usize >= bench.plan().ops.len() || i >= cursors.len() {
+    if of.op as usize >= bench.plan().ops.len() || i >= of.cursors.len() {
         return Err("no such binding".into());
     }
-    match &bench.plan().ops[op as usize] {
+    match &bench.plan().ops[of.op as usize] {
         Op::GroupBy { input, keys, .. } => {
             if keys.is_empty() {
                 return Err("no keys".into());
             }
-            let below = bench.under(alloc, op, &cursors[i], *input)?;
-            Ok((*input, vec![in alloc; below]?))
+            let below = bench.under(alloc, of.op, &of.cursors[i], *input)?;
+            Ok(Bound {
+                op: *input,
+                cursors: vec![in alloc; below]?,
+            })
         }
         _ => Err("no groupBy".into()),
     }

@@ -4,6 +4,10 @@
 #[cfg(test)]
 mod clients;
 #[cfg(test)]
+mod fails;
+#[cfg(test)]
+mod filled;
+#[cfg(test)]
 mod lists;
 #[cfg(test)]
 mod loads;
@@ -23,3 +27,5 @@ mod tables;
 mod views;
 #[cfg(test)]
 mod walks;
+#[cfg(test)]
+mod watched;

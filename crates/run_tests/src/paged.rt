@@ -14,21 +14,23 @@ const PEOPLE: &str = "source people table people.db people key id columns name!,
 
 const STRICT: &str = "source people table people.db people key id columns name!,zip! chunk 2\n";
 
-const NAMES: &str = "source people table people.db people key id columns name! chunk 2\n";
+/// A catalog of the table `people` with names alone.
+pub const NAMES: &str = "source people table people.db people key id columns name! chunk 2\n";
 
 const BOTH: &str =
     "source people table people.db people key id columns name chunk 2\nsource h bracket h chunk 1\n";
 
-const ROWS: &str = "CONSTRUCT <out> $R </out> WHERE people people.row $R";
+/// The rows of the table.
+pub const ROWS: &str = "CONSTRUCT <out> $R </out> WHERE people people.row $R";
 
 const ZIPS: &str =
     "CONSTRUCT <out> <z> $R $V </z> {$R,$V} </out> WHERE people people.row $R AND $R zip._ $V";
 
 const HOMES: &str = "CONSTRUCT <out> $H </out> WHERE h homes.home $H";
 
-// What stands in a column.
+/// What stands in a column.
 #[derive(Clone, Copy)]
-enum Field {
+pub enum Field {
     Null,
     Number(i64),
     Text(&'static str),
@@ -55,7 +57,8 @@ const ANN_BO_CY: &[(i64, Field, Field)] = &[
     (3, Field::Text("Cy"), Field::Text("")),
 ];
 
-const A_TO_E: &[(i64, Field, Field)] = &[
+/// Rows of the names A to E.
+pub const A_TO_E: &[(i64, Field, Field)] = &[
     (1, Field::Text("A"), Field::Null),
     (2, Field::Text("B"), Field::Null),
     (3, Field::Text("C"), Field::Null),
@@ -263,20 +266,24 @@ fn rows_of(alloc: Global, rows: &[(i64, Field, Field)]) -> Result<Vec<TableRow>,
     Ok(list)
 }
 
-// The table `people` of the file `people.db` with these rows, whose calls of these numbers fail.
-fn tables_of(alloc: Global, row: &Row) -> Result<MemTables, Fail> {
+/// The table `people` of the file `people.db` with these rows, whose pages of these numbers, counted from 1, fail.
+pub fn tables_of(
+    alloc: Global,
+    rows: &[(i64, Field, Field)],
+    pages: &[u64],
+) -> Result<MemTables, Fail> {
     let table = MemTable {
         file: label(alloc, "people.db")?,
         table: label(alloc, "people")?,
         key: label(alloc, "id")?,
         columns: vec![in alloc; label(alloc, "name")?, label(alloc, "zip")?]?,
-        rows: rows_of(alloc, row.rows)?,
+        rows: rows_of(alloc, rows)?,
     };
     if !table.is_sound() {
         return Err("no table".into());
     }
     let tables = vec![in alloc; table]?;
-    Ok(MemTables::new(alloc, tables, row.pages.to_vec(alloc)?)?)
+    Ok(MemTables::new(alloc, tables, pages.to_vec(alloc)?)?)
 }
 
 // Whether a command over a row leaves its status and its lines, and asked as many pages.
@@ -287,7 +294,7 @@ fn is_answered(alloc: Global, command: &[&str], row: &Row) -> Result<bool, Fail>
         ("s", row.script),
         ("h", "homes[home[zip[91220]]]"),
     ];
-    let tables = tables_of(alloc, row)?;
+    let tables = tables_of(alloc, row.rows, row.pages)?;
     let (ended, tables) = run_tables(alloc, command, &texts, tables, row.writes)?;
     let same = ended.written.as_slice() == row.lines.as_bytes();
     Ok(same && ended.status == row.status && tables.pages() == row.asked)

@@ -8,7 +8,7 @@ const CATALOG: &str =
     "source homes bracket h chunk 1\nsource schools bracket f chunk 1\nsource people bracket p chunk 1\nsource s bracket s chunk 1\n";
 
 // Views, each with its plan.
-const PLANS: [(&str, &str); 13] = [
+const PLANS: [(&str, &str); 16] = [
     // The homes with their schools.
     (
         "CONSTRUCT <answer> <med_home> $H $S {$S} </med_home> {$H} </answer> {} WHERE homes homes.home $H AND $H zip._ $V1 AND schools schools.school $S AND $S zip._ $V2 AND $V1 = $V2",
@@ -49,6 +49,68 @@ class browsable
 13 concatenate 12 $9 -> $10
 14 createElement 13 answer $10 -> $11
 15 tupleDestroy 14 $11
+class browsable
+",
+    ),
+    // The last comparison to the right, the two before it into the join, in their order.
+    (
+        "CONSTRUCT <answer> <med_home> $H $S {$S} </med_home> {$H} </answer> {} WHERE homes homes.home $H AND $H zip._ $V1 AND schools schools.school $S AND $S zip._ $V2 AND $V1 = $V2 AND $V1 <= $V2 AND $V2 != \"91220\"",
+        "0 source homes -> $4
+1 getDescendants 0 $4 homes.home -> $H
+2 getDescendants 1 $H zip._ -> $V1
+3 source schools -> $5
+4 getDescendants 3 $5 schools.school -> $S
+5 getDescendants 4 $S zip._ -> $V2
+6 select 5 $V2 != \"91220\"
+7 join 2 6 $V1 = $V2 AND $V1 <= $V2
+8 project 7 {$H,$S}
+9 groupBy 8 {$H} $S -> $6
+10 concatenate 9 $H $6 -> $7
+11 createElement 10 med_home $7 -> $8
+12 groupBy 11 {} $8 -> $9
+13 concatenate 12 $9 -> $10
+14 createElement 13 answer $10 -> $11
+15 tupleDestroy 14 $11
+class browsable
+",
+    ),
+    // One into the join that a join has to the left, and one into that join.
+    (
+        "CONSTRUCT <answer> <med_home> $H $S {$S} </med_home> {$H} </answer> {} WHERE homes homes.home $H AND $H zip._ $V1 AND schools schools.school $S AND $S zip._ $V2 AND $V1 = $V2 AND homes homes.home $G AND $G zip._ $V3 AND $V3 = $V1",
+        "0 source homes -> $6
+1 getDescendants 0 $6 homes.home -> $H
+2 getDescendants 1 $H zip._ -> $V1
+3 source schools -> $7
+4 getDescendants 3 $7 schools.school -> $S
+5 getDescendants 4 $S zip._ -> $V2
+6 join 2 5 $V1 = $V2
+7 source homes -> $8
+8 getDescendants 7 $8 homes.home -> $G
+9 getDescendants 8 $G zip._ -> $V3
+10 join 6 9 $V3 = $V1
+11 project 10 {$H,$S}
+12 groupBy 11 {$H} $S -> $9
+13 concatenate 12 $H $9 -> $10
+14 createElement 13 med_home $10 -> $11
+15 groupBy 14 {} $11 -> $12
+16 concatenate 15 $12 -> $13
+17 createElement 16 answer $13 -> $14
+18 tupleDestroy 17 $14
+class browsable
+",
+    ),
+    // Where there is no join it stays.
+    (
+        "CONSTRUCT <o> $H </o> WHERE homes homes.home $H AND $H zip._ $Z AND $Z = \"91223\"",
+        "0 source homes -> $2
+1 getDescendants 0 $2 homes.home -> $H
+2 getDescendants 1 $H zip._ -> $Z
+3 select 2 $Z = \"91223\"
+4 project 3 {$H}
+5 groupBy 4 {} $H -> $3
+6 concatenate 5 $3 -> $4
+7 createElement 6 o $4 -> $5
+8 tupleDestroy 7 $5
 class browsable
 ",
     ),

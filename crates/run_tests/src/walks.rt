@@ -4,7 +4,9 @@ use std::test::Fail;
 
 const WALK: [&str; 3] = ["walk", "doc", "s"];
 
-const STEPS: &str = "r = root\nx = down r\ny = right x\nfetch y\nz = right y\nfetch x\nfetch z\n";
+/// Goes to the second child and past it, and looks at both.
+pub const STEPS: &str =
+    "r = root\nx = down r\ny = right x\nfetch y\nz = right y\nfetch x\nfetch z\n";
 
 // Documents and scripts, with what is written.
 const WALKED: [(&str, &str, &str); 10] = [

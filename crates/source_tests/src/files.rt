@@ -4,6 +4,9 @@ use mix_io::{
     read_whole,
 };
 use std::alloc::{AllocError, Global};
+use std::io;
+use std::io::Write;
+use std::os::fd::AsRawFd;
 use std::test::Fail;
 
 fn file(alloc: Global, path: &str, text: &str) -> Result<MemFile, AllocError> {
@@ -93,5 +96,26 @@ fn reads_and_writes_the_system(rt: HostRuntime) -> Result<(), Fail> {
     }
     assert!(rt; read_whole(alloc, &mut files, "/dev/zero") == Err(ReadWhole::TooLong));
     assert!(rt; StdSink::new(rt).write(alloc, b"written\n") == Ok(()));
+    Ok(())
+}
+
+#[test]
+fn a_pipe_is_read_from_its_front_on(rt: HostRuntime) -> Result<(), Fail> {
+    let alloc = rt.alloc();
+    let (reader, mut writer) = io::pipe(&rt)?;
+    writer.write_all(b"abcdef")?;
+    drop(writer);
+    let path = format!(in alloc; "/dev/fd/{}", reader.as_raw_fd())?;
+    let mut files = OsFiles::new(rt);
+    for (from, want) in [
+        (1, None),
+        (0, Some(b"abcd".as_slice())),
+        (4, Some(b"ef".as_slice())),
+        (6, Some(b"".as_slice())),
+        (4, None),
+    ] {
+        let read = read_four(alloc, &mut files, &path, from);
+        assert!(rt; read.as_deref() == want, "from {from}");
+    }
     Ok(())
 }
