@@ -1,0 +1,51 @@
+"""Answers a script on a document that a program in python made by itself, knowing nothing of mixq: what mixq has to answer too. A document is a
+label and a list of documents."""
+import re
+
+
+def leaf(label):
+    return (label, [])
+
+
+def spelling(label):
+    """The canonical spelling of a label of printable characters."""
+    bare = re.fullmatch(r"[A-Za-z0-9_.:/@+-]+", label)
+    return label if bare else '"' + label.replace("\\", "\\\\").replace('"', '\\"') + '"'
+
+
+def text(document):
+    """The canonical bracket text."""
+    label, below = document
+    return spelling(label) + ("[" + ",".join(map(text, below)) + "]" if below else "")
+
+
+def node(document, place):
+    """The part at a place; None where there is none."""
+    for step in place:
+        if step >= len(document[1]):
+            return None
+        document = document[1][step]
+    return document
+
+
+def answer(document, script):
+    """Prints the answer to each line of a script of one client whose names all hold nodes."""
+    at = {}
+    for line in script:
+        words = line.split()
+        if not words or words[0].startswith("#"):
+            continue
+        if words[0] == "fetch":
+            print("label", spelling(node(document, at[words[1]])[0]))
+            continue
+        if words[0] == "print":
+            print("text", text(node(document, at[words[1]])))
+            continue
+        place = () if words[2] == "root" else at[words[3]]
+        if words[2] == "down":
+            place = place + (0,)
+        elif words[2] == "right":
+            place = place[:-1] + (place[-1] + 1,) if place else None
+        found = place is not None and node(document, place) is not None
+        at[words[0]] = place if found else None
+        print("node" if found else "none")
