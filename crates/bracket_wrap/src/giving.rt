@@ -43,7 +43,8 @@ impl BracketDoc {
         Ok(list)
     }
 
-    // Puts a hole for some last children of a node behind a list, where there are any.
+    // Puts a hole for some last children of a node behind a list, where there are any. The list has room for nothing more, since it lies in
+    // the buffer as long as nobody asks for what is below.
     fn push_rest(&self, list: &mut Vec<OpenTree>, rest: Rest) -> Result<(), AllocError>
         requires { is_there self.now.nodes rest ≡ true }
         ensures { OnOk result (plain list.new.items ≡ put_all list.old.items (rest_given self.now.nodes rest)) }
@@ -51,6 +52,7 @@ impl BracketDoc {
         let from = self.nodes.before(rest.node);
         match self.nodes.first(from, rest.to) {
             Some(_) => {
+                list.reserve_exact(1)?;
                 list.push(OpenTree::Hole(rest.hole()))?;
                 Ok(())
             }

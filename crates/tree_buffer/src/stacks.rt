@@ -96,6 +96,15 @@ fn parts_of(tree: OpenTree) -> (Label, Vec<OpenTree>)
     }
 }
 
+// A stack that is empty takes no memory.
+fn free_when_empty(stack: &mut Vec<OpenTree>)
+    ensures { stack.new.items ≡ stack.old.items }
+{
+    if stack.is_empty() {
+        stack.shrink_to_fit();
+    }
+}
+
 // Takes the tree at the top: its label, and the stack of its children.
 pub(crate) fn pop_tree(stack: &mut Vec<OpenTree>) -> (Label, Vec<OpenTree>)
     requires some { 0 < length stack.old.items }
@@ -103,7 +112,10 @@ pub(crate) fn pop_tree(stack: &mut Vec<OpenTree>) -> (Label, Vec<OpenTree>)
     ensures { stacked stack.old.items nil ≡ node result.0 (stacked result.1.items nil) (stacked stack.new.items nil) }
 {
     match stack.pop() {
-        Some(tree) => parts_of(tree),
+        Some(tree) => {
+            free_when_empty(stack);
+            parts_of(tree)
+        }
         None => unreachable!(),
     }
 }

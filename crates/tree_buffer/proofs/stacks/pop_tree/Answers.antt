@@ -1,5 +1,5 @@
 use Rattle.std.proofs.Common.{ap, sym, ◌∙◌}
-use Rattle.lxp_core.specs.Open.{nil, begins_with_hole}
+use Rattle.lxp_core.specs.Open.{nil, node, begins_with_hole}
 use Rattle.lxp_core.specs.Plain.{stacked}
 use Rattle.tree_buffer.proofs.StackTops.{stacked-top}
 use Rattle.tree_buffer.proofs.stacks.pop_tree.Goals as goal
@@ -13,3 +13,4 @@ parts_of-requires c = (
 pub returns : goal.returns
 returns c =
     ap (λ xs. stacked xs nil) c.in-Some.ensures.items ∙ stacked-top c.pop.new.self.items c.in-Some.tree ∙ c.parts_of.ensures (stacked c.pop.new.self.items nil)
+    ∙ ap (λ xs. node c.parts_of.result.0 (stacked c.parts_of.result.1.items nil) (stacked xs nil)) (sym c.free_when_empty.ensures)
