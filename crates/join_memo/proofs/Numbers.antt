@@ -1,11 +1,12 @@
 -- The number of a label among known.
-use Rattle.std.proofs.Common.{◌≡◌, ◌<◌, ◌≤◌, ◌||◌, ℕ, zero, suc, Bool, true, false, List, [], ◌∷◌, ◌++◌, length, refl, sym, subst, arith, position}
-use Rattle.std.specs.Prelude.{nat_lt}
+use Rattle.std.proofs.Common.{◌≡◌, ◌<◌, ◌≤◌, ◌||◌, ℕ, zero, suc, Bool, true, false, List, [], ◌∷◌, ◌++◌, length, refl, ◌∙◌, sym, subst, arith, position}
+use Rattle.std.specs.Prelude.{nat_lt, slice_get, Some}
 use Rattle.std.specs.List.{list_any, position_or_len}
 use Rattle.std.specs.Str.{bytes_eq}
 use Rattle.std.proofs.lemmas.Slice.Eq.{bytes_eq-Decides}
 use Rattle.std.proofs.lemmas.Bool.Decides.{nat_tests}
 use Rattle.indexmap.specs.IndexSet.{insert_key}
+use Rattle.mix_base.proofs.Choices.{some_is}
 use Rattle.join_memo.specs.Places.{IsKnown, IsNumber}
 
 known_behind : (x : List ℕ) (ks : List (List ℕ)) (key : List ℕ) (i : ℕ) → IsKnown ks key i → IsKnown (x ∷ ks) key (suc i)
@@ -56,3 +57,9 @@ pub known_last : (key : List ℕ) (ks : List (List ℕ)) → ((i : ℕ) → IsKn
 known_last key ks h =
     let e : list_any (bytes_eq key) ks ≡ false = not_key key ks h in
     rw e refl
+
+-- a label that stands at a number has it
+pub known_at : (ks : List (List ℕ)) (key x : List ℕ) (i : ℕ) → slice_get ks i ≡ Some x → bytes_eq x key ≡ true → IsKnown ks key i
+known_at [] key x i e same = cc
+known_at (k ∷ ks) key x zero e same = record { within = omega arith; is = some_is k x e ∙ (let d : x ≡ key = grind (arith, bytes_eq-Decides x key, same) in d) }
+known_at (k ∷ ks) key x (suc i) e same = known_behind k ks key i (known_at ks key x i e same)

@@ -1,9 +1,9 @@
 // Different labels, by their numbers.
-ghost use Rattle.std.specs.Prelude.{◌≡◌, ◌++◌, ◌∷◌, [], ℕ, OnOk, OnErr};
+ghost use Rattle.std.specs.Prelude.{◌≡◌, ◌++◌, ◌∷◌, [], ℕ, IsTrue, OnOk, OnErr};
 ghost use Rattle.join_memo.specs.Places.{IsKnown, IsNumber};
 
 use indexmap::IndexSet;
-use mix_tree::Label;
+use mix_tree::{Label, same_label};
 use std::alloc::{AllocError, Global};
 use std::marker::Model;
 
@@ -36,6 +36,16 @@ impl KnownLabels {
         ensures { IsNumber self.now key.now result }
     {
         self.labels.get_index_of(key)
+    }
+
+    /// Whether a label has this number.
+    pub(crate) fn has(&self, number: usize, key: &Label) -> bool
+        ensures { IsTrue result → IsKnown self.now key.now number }
+    {
+        match self.labels.get_index(number) {
+            Some(label) => same_label(label, key),
+            None => false,
+        }
     }
 
     /// A label that is not among them comes behind the others.

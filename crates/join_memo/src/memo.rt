@@ -1,6 +1,6 @@
 // A list of pairs that grows at its end, and an index of it by label.
 ghost use Rattle.std.specs.Prelude.{◌≡◌, ◌++◌, ◌∷◌, [], ℕ, List, true, false, OnOk, OnErr, IfErr, length, map, slice_get, option_copied, option_map};
-ghost use Rattle.join_memo.specs.Places.{IsIndex, IsAscending, IsLeastOf};
+ghost use Rattle.join_memo.specs.Places.{IsIndex, IsNumber, IsAscending, IsLeastOf};
 ghost use Rattle.join_memo.specs.Kept.{labels_of, IsFound};
 
 use crate::known::KnownLabels;
@@ -15,6 +15,8 @@ pub struct Memo<T> {
     pairs: Vec<(Label, T)>,
     known: KnownLabels,
     groups: Vec<Vec<usize>>,
+    // The number of each pair's label, by which a look-up behind the pair begins. Nothing is promised of it.
+    numbers: Vec<usize>,
     ended: bool,
 }
 
@@ -37,14 +39,14 @@ pub struct PushRefused<T> {
     pub item: T,
 }
 
-/// The place of a new pair stands in the group of its label.
+/// The place of a new pair stands in the group of its label, whose number is answered.
 fn add_place(
     alloc: Global,
     known: &mut KnownLabels,
     groups: &mut Vec<Vec<usize>>,
     key: &Label,
     place: usize,
-) -> Result<(), AllocError>
+) -> Result<usize, AllocError>
     requires { (labels : List (List ℕ)) × IsIndex known.old (map (λ g. g.items) groups.old.items) labels × (length labels ≡ place) }
     ensures ok { OnOk result ((labels : List (List ℕ)) → IsIndex known.old (map (λ g. g.items) groups.old.items) labels → length labels ≡ place
         → IsIndex known.new (map (λ g. g.items) groups.new.items) (labels ++ key.now ∷ [])) }
@@ -55,15 +57,16 @@ fn add_place(
         Some(number) => {
             let group = &mut groups[number];
             group.push(place)?;
-            Ok(())
+            Ok(number)
         }
         None => {
             let mut group = Vec::new(alloc);
             group.push(place)?;
             groups.reserve(1)?;
             known.add(alloc, key)?;
+            let number = groups.len();
             groups.push(group)?;
-            Ok(())
+            Ok(number)
         }
     }
 }
@@ -85,6 +88,17 @@ fn first_from(places: &[usize], from: usize) -> Option<usize>
     }
 }
 
+/// The number of a label. It is not hashed where it is the label of the pair before a place.
+fn number_near(known: &KnownLabels, numbers: &[usize], key: &Label, from: usize) -> Option<usize>
+    ensures { IsNumber known.now key.now result }
+{
+    let before = from.saturating_sub(1);
+    match numbers.get(before) {
+        Some(number) if known.has(*number, key) => Some(*number),
+        _ => known.number(key),
+    }
+}
+
 impl<T: Drop> Memo<T> {
     /// No pairs so far, and more may come. It takes no memory.
     pub fn new(alloc: Global) -> Memo<T>
@@ -95,6 +109,7 @@ impl<T: Drop> Memo<T> {
             pairs: Vec::new(alloc),
             known: KnownLabels::new(alloc),
             groups: Vec::new(alloc),
+            numbers: Vec::new(alloc),
             ended: false,
         }
     }
@@ -109,10 +124,14 @@ impl<T: Drop> Memo<T> {
         if self.pairs.reserve(1).is_err() {
             return Err(PushRefused { key, item });
         }
-        let place = self.pairs.len();
-        if add_place(alloc, &mut self.known, &mut self.groups, &key, place).is_err() {
+        if self.numbers.reserve(1).is_err() {
             return Err(PushRefused { key, item });
         }
+        let place = self.pairs.len();
+        let Ok(number) = add_place(alloc, &mut self.known, &mut self.groups, &key, place) else {
+            return Err(PushRefused { key, item });
+        };
+        let _ = self.numbers.push(number);
         match self.pairs.push((key, item)) {
             Ok(()) => Ok(()),
             Err(refused) => {
@@ -157,7 +176,7 @@ impl<T: Drop> Memo<T> {
     pub fn find(&self, key: &Label, from: usize) -> Option<usize>
         ensures { IsFound (labels_of self.now.pairs) key.now from result }
     {
-        match self.known.number(key) {
+        match number_near(&self.known, &self.numbers, key, from) {
             None => None,
             Some(number) => first_from(&self.groups[number], from),
         }

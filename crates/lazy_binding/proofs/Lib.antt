@@ -1,3 +1,4 @@
+pub mod Binding
 pub mod Bound
 pub mod Buffers
 pub mod FirstLists

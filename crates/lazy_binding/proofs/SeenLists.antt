@@ -1,11 +1,15 @@
 -- Keys that were seen, among the keys of a set.
-use Rattle.std.proofs.Common.{◌≡◌, ◌<◌, ◌≤◌, ◌+◌, ℕ, zero, suc, Bool, true, false, ◌||◌, List, [], ◌∷◌, ◌++◌, Some, None, length, take, map, position, refl, ◌∙◌, sym, ap, arith}
-use Rattle.std.specs.Prelude.{nat_lt}
+use Rattle.std.proofs.Common.{◌≡◌, ◌<◌, ◌≤◌, ◌+◌, ℕ, zero, suc, Bool, true, false, ◌||◌, List, [], ◌∷◌, ◌++◌, Some, None, length, get_or, take, map, position, refl, ◌∙◌, sym, ap, arith}
+use Rattle.std.specs.Prelude.{nat_lt, not, slice_get, if◌then◌else◌}
 use Rattle.std.proofs.lemmas.Bool.Decides.{nat_tests}
-use Rattle.std.specs.List.{list_any, position_or_len}
+use Rattle.std.specs.List.{list_any, position_or_len, AllByRecursion, IsDistinct}
+use Rattle.std.specs.Cmp.{IsEquivalence}
 use Rattle.std.specs.Cmp.Lexicographic.{lists_equiv}
+use Rattle.std.proofs.Math.Seq.{take-length}
 use Rattle.std.proofs.lemmas.List.{map-append}
+use Rattle.std.proofs.lemmas.Option.{slice_get-get_or}
 use Rattle.indexmap.specs.IndexSet.{insert_key}
+use Rattle.mix_base.proofs.Choices.{some_is}
 use Rattle.smallvec.specs.SmallVec.{SmallVec}
 use Rattle.lazy_binding.specs.declared.key.KeyPart.{KeyPart}
 use Rattle.lazy_binding.specs.Keys.{same_parts, was_seen}
@@ -76,9 +80,61 @@ module _ (key : List KeyPart) (ks : List (SmallVec KeyPart)) (few : ℕ) where
   pub seen_nowhere : position (λ k. same_parts key k.items) ks ≡ None → false ≡ was_seen key (take few (map (λ k. k.items) ks))
   seen_nowhere h = sym (few_is ∙ any_none (λ k. same_parts key k.items) ks few h)
 
--- a key that was not seen goes last
-pub new_last : (key : SmallVec KeyPart) (ks : List (SmallVec KeyPart)) → was_seen key.items (map (λ k. k.items) ks) ≡ false
-    → map (λ k. k.items) (insert_key same_key ks key) ≡ map (λ k. k.items) ks ++ key.items ∷ []
-new_last key ks h =
-    let e : list_any (same_key key) ks ≡ false = sym (seen_is key.items ks) ∙ h in
-    rw e (map-append (λ k. k.items) ks (key ∷ []))
+-- a key that was not seen goes last, and any other changes nothing
+pub put_last : (key : SmallVec KeyPart) (ks : List (SmallVec KeyPart))
+    → map (λ k. k.items) (insert_key same_key ks key) ≡ (if not (was_seen key.items (map (λ k. k.items) ks)) then map (λ k. k.items) ks ++ key.items ∷ [] else map (λ k. k.items) ks)
+put_last key ks = by_case (list_any (same_key key) ks) refl
+  where
+    by_case : (b : Bool) → list_any (same_key key) ks ≡ b
+        → map (λ k. k.items) (insert_key same_key ks key) ≡ (if not (was_seen key.items (map (λ k. k.items) ks)) then map (λ k. k.items) ks ++ key.items ∷ [] else map (λ k. k.items) ks)
+    by_case true e = rw (seen_is key.items ks ∙ e, e) refl
+    by_case false e = rw (seen_is key.items ks ∙ e, e) (map-append (λ k. k.items) ks (key ∷ []))
+
+-- whether it is one, by the keys of the set
+pub is_new : (key : SmallVec KeyPart) (ks : List (SmallVec KeyPart)) → not (list_any (same_key key) ks) ≡ not (was_seen key.items (map (λ k. k.items) ks))
+is_new key ks = ap not (sym (seen_is key.items ks))
+
+-- among all keys
+pub seen_in_all : (key : List KeyPart) (xs : List (List KeyPart)) (n : ℕ) → n ≡ length xs → was_seen key (take n xs) ≡ true → was_seen key xs ≡ true
+seen_in_all key xs n e h = sym (ap (was_seen key) (ap (λ (m : ℕ). take m xs) e ∙ take-length xs)) ∙ h
+
+-- what stands at a place of a list
+pub there_in : (xs ks : List (SmallVec KeyPart)) (i : ℕ) (k : SmallVec KeyPart) → xs ≡ ks → i < length xs → k ≡ get_or xs i k → slice_get ks i ≡ Some k
+there_in xs ks i k e l is = ap (λ (z : List (SmallVec KeyPart)). slice_get z i) (sym e) ∙ slice_get-get_or xs i k l ∙ ap Some (sym is)
+
+or_true : (b : Bool) → (b || true) ≡ true
+or_true true = refl
+or_true false = refl
+
+-- a key at a place
+module _ (key : List KeyPart) (k : SmallVec KeyPart) (same : same_parts k.items key ≡ true) where
+  equal : IsEquivalence same_parts
+  equal = lists_equiv part_equivalence
+
+  -- it is none that differs from all behind it
+  apart_from : (xs : List (SmallVec KeyPart)) (x : SmallVec KeyPart) (i : ℕ) → AllByRecursion (λ y. same_key x y ≡ false) xs → slice_get xs i ≡ Some k → same_parts key x.items ≡ false
+  apart_from [] x i d e = cc
+  apart_from (y ∷ xs) x zero d e =
+      sym (equal.congr k.items key x.items same) ∙ equal.symm k.items x.items ∙ ap (λ (z : SmallVec KeyPart). same_parts x.items z.items) (sym (some_is y k e)) ∙ d.0
+  apart_from (y ∷ xs) x (suc i) d e = apart_from xs x i d.1 e
+
+  none_before : (ks : List (SmallVec KeyPart)) (i : ℕ) → IsDistinct same_key ks → slice_get ks i ≡ Some k → list_any (λ j. same_parts key j.items) (take i ks) ≡ false
+  unfolding IsDistinct
+  none_before [] i d e = cc
+  none_before (x ∷ xs) zero d e = refl
+  none_before (x ∷ xs) (suc i) d e = ap (λ (b : Bool). b || list_any (λ j. same_parts key j.items) (take i xs)) (apart_from xs x i d.0 e) ∙ none_before xs i d.1 e
+
+  one_there : (ks : List (SmallVec KeyPart)) (i : ℕ) → slice_get ks i ≡ Some k → list_any (λ j. same_parts key j.items) (take (suc i) ks) ≡ true
+  one_there [] i e = cc
+  one_there (x ∷ xs) zero e =
+      ap (λ (z : SmallVec KeyPart). same_parts key z.items || false) (some_is x k e) ∙ ap (λ (b : Bool). b || false) (equal.symm key k.items ∙ same)
+  one_there (x ∷ xs) (suc i) e = ap (λ (b : Bool). same_parts key x.items || b) (one_there xs i e) ∙ or_true (same_parts key x.items)
+
+  module _ (ks : List (SmallVec KeyPart)) (i : ℕ) (there : slice_get ks i ≡ Some k) where
+    -- is none of those before it
+    pub unseen_before : IsDistinct same_key ks → was_seen key (take i (map (λ j. j.items) ks)) ≡ false
+    unseen_before d = few_is key ks i ∙ none_before ks i d there
+
+    -- and one of those up to it
+    pub seen_up_to : was_seen key (take (suc i) (map (λ j. j.items) ks)) ≡ true
+    seen_up_to = few_is key ks (suc i) ∙ one_there ks i there

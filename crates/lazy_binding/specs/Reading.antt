@@ -1,4 +1,5 @@
 -- What is read off a position: its spots, its parts, and how many keys were seen up to it.
+use Rattle.std.specs.Borrow.{Bor}
 use Rattle.std.specs.Prelude.{◌≡◌, ℕ, zero, suc, Bool, IsTrue, cond, ◌==◌, Option, Some, None, List}
 use Rattle.mix_tree.specs.Keys.{has_var}
 use Rattle.tree_buffer.specs.declared.spot.Spot.{Spot}
@@ -48,6 +49,17 @@ abbrev mutual
 -- the spot of a variable in a cursor's binding
 abbrev pub spot_in : List Operator → ℕ → Position → ℕ → Option (ℕ × Spot)
 spot_in ops n c v = spot_at ops (shape_at ops n) c v
+
+-- the spot at which a part of a position stands, with its source
+abbrev pub held : Position → Option (ℕ × Spot)
+held (Top t x) = Some (t, x)
+held (Found' q c s (Some d)) = Some (s, spot_of d.frame.value)
+held c = None
+
+-- of a part, where there is one
+abbrev pub held_in : Option (Bor Position) → Option (ℕ × Spot)
+held_in None = None
+held_in (Some p) = held p.now
 
 -- a position of a sorted list
 abbrev pub nth : {m : _} → Row m → ℕ → Position

@@ -1,5 +1,5 @@
 // Keys that an operator has seen.
-ghost use Rattle.std.specs.Prelude.{◌≡◌, ◌++◌, ◌∷◌, [], OnOk, OnErr, IfErr, false, length, take};
+ghost use Rattle.std.specs.Prelude.{◌≡◌, ◌++◌, ◌∷◌, [], OnErr, IfOk, IfErr, IsTrue, if◌then◌else◌, true, false, not, suc, length, take};
 ghost use Rattle.lazy_binding.specs.Keys.{same_part, part_fed, was_seen};
 ghost use Rattle.lazy_binding.specs.KeyLaws.{part_partial_equivalence, part_equivalence, part_alike};
 ghost use Rattle.lxp_core.specs.declared.fault.WalkFault.TheVariants.{OutOfMemory};
@@ -108,25 +108,46 @@ impl SeenKeys {
         self.keys.len()
     }
 
-    /// Whether a key is among the first few.
+    /// Whether a key stands at a place. So it is none of those before.
+    fn stands_at(&self, place: usize, key: &KeyTuple) -> bool
+        ensures before { IsTrue result → was_seen key.now.items (take place self.now) ≡ false }
+        ensures there { IsTrue result → was_seen key.now.items (take (suc place) self.now) ≡ true }
+    {
+        match self.keys.as_slice().get(place) {
+            Some(there) => *there == *key,
+            None => false,
+        }
+    }
+
+    /// Whether a key is among the first few. No key is hashed where it is the last of them, or the one behind.
     pub fn begins_with(&self, few: usize, key: &KeyTuple) -> bool
         ensures { result ≡ was_seen key.now.items (take few self.now) }
     {
+        if self.stands_at(few, key) {
+            return false;
+        }
+        if few > 0 && self.stands_at(few - 1, key) {
+            return true;
+        }
         match self.keys.get_index_of(key) {
             Some(place) => place < few,
             None => false,
         }
     }
 
-    /// A key that was not seen stands behind the others.
-    pub fn push(&mut self, key: KeyTuple) -> Result<(), WalkFault>
-        requires { was_seen key.items self.old ≡ false }
-        ensures ok { OnOk result (self.new ≡ self.old ++ key.items ∷ []) }
+    /// A key that was not seen stands behind the others; whether it is one. No key is hashed where it is the last of them.
+    pub fn push(&mut self, key: KeyTuple) -> Result<bool, WalkFault>
+        ensures new { IfOk result (λ new. new ≡ not (was_seen key.items self.old)) }
+        ensures ok { IfOk result (λ new. self.new ≡ (if new then self.old ++ key.items ∷ [] else self.old)) }
         ensures err { OnErr result (self.new ≡ self.old) }
         ensures memory { IfErr result (λ e. e ≡ OutOfMemory) }
     {
+        let len = self.keys.len();
+        if len > 0 && self.stands_at(len - 1, &key) {
+            return Ok(false);
+        }
         match self.keys.insert_full(key) {
-            Ok(_) => Ok(()),
+            Ok((_, new)) => Ok(new),
             Err(_) => Err(WalkFault::OutOfMemory),
         }
     }

@@ -2,7 +2,6 @@
 ghost use Rattle.std.specs.Prelude.{◌≡◌, ◌<◌, true, IsTrue, Some, length};
 ghost use Rattle.std.specs.List.{AllByRecursion};
 ghost use Rattle.mix_tree.specs.Comparisons.{compares_nodes, passes};
-ghost use Rattle.mix_tree.specs.Keys.{has_var, key_var};
 ghost use Rattle.mix_tree.specs.Nodes.{label_at};
 ghost use Rattle.plan_core.specs.TolledRows.{row_node};
 ghost use Rattle.plan_core.specs.Valid.{kinds, a_node, IsTest};
@@ -14,26 +13,9 @@ ghost use Rattle.lazy_binding.specs.Parts.{operators, IsFixed};
 
 use crate::parts::{Growing, Walk};
 use crate::position::Position;
-use mix_tree::{Key, Label, Operand, Test, TestOp, Var};
+use mix_tree::{Label, Operand, Test, TestOp, Var};
 use std::rc::Rc;
 use tree_buffer::{Spot, spots_are_one};
-
-/// Whether a variable is that of one of these keys.
-pub(crate) fn names_var(keys: &[Key], v: Var) -> bool
-    ensures { result ≡ has_var keys.now v }
-{
-    keys.iter().any(|key| var_of(*key) == v)
-}
-
-/// The variable of a key.
-pub(crate) fn var_of(key: Key) -> Var
-    ensures { result ≡ key_var key }
-{
-    match key {
-        Key::Node(v) => v,
-        Key::LabelOf(v) => v,
-    }
-}
 
 impl Walk<'_> {
     /// The node of a variable in a position's binding: its source and its spot.

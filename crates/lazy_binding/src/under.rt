@@ -5,7 +5,7 @@ ghost use Rattle.lazy_binding.specs.Unders.{part_at, source_var};
 
 use crate::parts::{Fixed, Walk};
 use crate::position::{Position, input_part};
-use crate::reading::names_var;
+use crate::variables::names_var;
 use mix_tree::Var;
 use plan_core::Op;
 use std::alloc::{AllocError, Global};

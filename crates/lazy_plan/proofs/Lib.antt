@@ -1,5 +1,4 @@
 pub mod Benches
-pub mod Binding
 pub mod FirstPositions
 pub mod FirstSteps
 pub mod Goes

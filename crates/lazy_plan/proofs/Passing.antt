@@ -1,6 +1,6 @@
 -- Members of a join's right side that are known: those that no comparison lets through are passed.
 use Rattle.std.proofs.Common.{◌≡◌, ◌<◌, ◌≤◌, ◌+◌, ◌-◌, ℕ, zero, suc, true, false, List, [], ◌∷◌, ◌++◌, Option, None, Some, length, get_or, refl, ◌∙◌, sym, ap, subst, arith, length-append}
-use Rattle.std.specs.Prelude.{IsTrue, Result, IfOk}
+use Rattle.std.specs.Prelude.{IsTrue, Result, IfOk, is_some}
 use Rattle.std.specs.declared.alloc.Global.{Global}
 use Rattle.std.specs.declared.rc.Rc.{Rc}
 use Rattle.std.proofs.lemmas.Result.{IfOk-weaker}
@@ -14,7 +14,7 @@ use Rattle.mix_tree.specs.declared.comparing.Test.{Test}
 use Rattle.plan_core.specs.Plans.{Operator}
 use Rattle.plan_core.specs.Shapes.{Shape, pairs_up, shape_at}
 use Rattle.plan_core.specs.Typed.{IsTyped}
-use Rattle.plan_core.specs.TolledRows.{TolledValue, source_node}
+use Rattle.plan_core.specs.TolledRows.{TolledValue, row_node, source_node}
 use Rattle.plan_core.specs.Events.{RowEvents, pairs, passes_all}
 use Rattle.plan_core.specs.Valid.{kinds, a_node}
 use Rattle.plan_core.proofs.Found.{found-pairs_no, cost-pairs_no}
@@ -31,13 +31,13 @@ use Rattle.lazy_binding.specs.Parts.{operators, world_of}
 use Rattle.lazy_binding.proofs.Bound.{inputs_at, fit_at}
 use Rattle.lazy_binding.proofs.Keep.{keeps_same}
 use Rattle.lazy_binding.proofs.Spots.{lacks}
-use Rattle.lazy_plan.specs.Beside.{sought_label, NoneBetween, IsPairAt, lets, IsMemberStep, beside_events, beside_number, last_at, IsGrown}
+use Rattle.lazy_plan.specs.Beside.{sought_label, HasSought, NoneBetween, IsPairAt, lets, IsMemberStep, beside_events, beside_number, last_at, IsGrown}
 use Rattle.lazy_plan.specs.declared.step.Step.{Step}
 use Rattle.lazy_plan.specs.Steps.{Asks, Steps, CanStep, left_events, left_number}
 use Rattle.lazy_plan.proofs.Goes.{Goes, goes_result, asks_nothing, tells_on, in_place}
 use Rattle.lazy_plan.proofs.Growing.{take_all, take_more, member_at, members_few}
 use Rattle.lazy_plan.proofs.Holding.{holds}
-use Rattle.lazy_plan.proofs.Linked.{link_fits, tests_fail}
+use Rattle.lazy_plan.proofs.Linked.{link_fits, tests_fail, test_holds}
 use Rattle.lazy_plan.proofs.PairSteps.{right_over, member_steps}
 
 module _ (ops : List Operator) (n l r : ℕ) (tests : List Test) (typed : IsTyped ops) (within : n < length ops) (is : shape_at ops n ≡ pairs_up l r tests) (w : World) (bench : IsBench w ops) (x : Position) (here : IsOf w ops l x) (row : IsTrue (has_row x)) where
@@ -47,25 +47,44 @@ module _ (ops : List Operator) (n l r : ℕ) (tests : List Test) (typed : IsType
   members : AreMembers w ops r (link_at ops n) (memo_at w n)
   members = bench.members n l r tests is
 
+  smaller : (l < length ops) × (r < length ops)
+  smaller = (let z = inputs_at ops typed n within (pairs_up l r tests) is in (omega (arith, z.0, within), omega (arith, z.1.0, within)))
+
+  linked : link_at ops n ≡ first_link (kinds ops l) tests
+  linked = ap (shape_link ops) is
+
+  -- the labels of a pair by which its member is looked up are those of its two sides
+  pair_labels : (d : Position) (link : Link) → link_at ops n ≡ Some link
+      → (label_at (docs_of w) (row_node (binding w ops l x ++ binding w ops r d) link.left) ≡ label_at (docs_of w) (row_node (binding w ops l x) link.left))
+      × (label_at (docs_of w) (row_node (binding w ops l x ++ binding w ops r d) link.right) ≡ label_at (docs_of w) (row_node (binding w ops r d) link.right))
+  pair_labels d link e =
+      let fits = link_fits (kinds ops l) (kinds ops r) link tests (fit_at ops typed n within (pairs_up l r tests) is) (sym linked ∙ e) in (
+        ap (λ (v : TolledValue). label_at (docs_of w) (source_node v)) (holds ops typed w l smaller.0 (shape_at ops l) refl x here row link.left a_node fits.left_is (binding w ops r d)),
+        ap (λ (v : TolledValue). label_at (docs_of w) (source_node v)) ((lacks ops typed w l smaller.0 (shape_at ops l) refl x here row link.right fits.apart).1 (binding w ops r d)),
+      )
+
   -- a member of another label is let through nowhere
-  other_fails : (d : Position) → IsOf w ops r d → IsTrue (has_row d)
+  other_fails : (d : Position)
       → (member_label (docs_of w) (link_at ops n) (binding w ops r d) ≡ sought_label (docs_of w) (link_at ops n) (binding w ops l x) → ⊥) → lets w ops l r tests x d ≡ false
-  other_fails d of at other = by_case (link_at ops n) refl other
+  other_fails d other = by_case (link_at ops n) refl other
     where
-      smaller : (l < length ops) × (r < length ops)
-      smaller = (let z = inputs_at ops typed n within (pairs_up l r tests) is in (omega (arith, z.0, within), omega (arith, z.1.0, within)))
-
-      linked : link_at ops n ≡ first_link (kinds ops l) tests
-      linked = ap (shape_link ops) is
-
       by_case : (by : Option Link) → link_at ops n ≡ by → (member_label (docs_of w) by (binding w ops r d) ≡ sought_label (docs_of w) by (binding w ops l x) → ⊥) → lets w ops l r tests x d ≡ false
       by_case None e f = absurd (f refl)
       by_case (Some link) e f =
-          let first = sym linked ∙ e in
-          let fits = link_fits (kinds ops l) (kinds ops r) link tests (fit_at ops typed n within (pairs_up l r tests) is) first in
-          let low = ap (λ (v : TolledValue). label_at (docs_of w) (source_node v)) (holds ops typed w l smaller.0 (shape_at ops l) refl x here row link.left a_node fits.left_is (binding w ops r d)) in
-          let high = ap (λ (v : TolledValue). label_at (docs_of w) (source_node v)) ((lacks ops typed w l smaller.0 (shape_at ops l) refl x here row link.right fits.apart).1 (binding w ops r d)) in
-          tests_fail (kinds ops l) link (docs_of w) (binding w ops l x ++ binding w ops r d) (λ g. f (sym high ∙ g ∙ low)) tests first
+          let z = pair_labels d link e in
+          tests_fail (kinds ops l) link (docs_of w) (binding w ops l x ++ binding w ops r d) (λ g. f (sym z.1 ∙ g ∙ z.0)) tests (sym linked ∙ e)
+
+  -- one that was found by its label is let through, where nothing else is compared
+  pub found_lets : (p : ℕ) → p < length ms → (length tests ≡ 1) × (is_some (link_at ops n) ≡ true) → IsTrue (is_told w ops)
+      → HasSought ms (sought_label (docs_of w) (link_at ops n) (binding w ops l x)) (link_at ops n) p → lets w ops l r tests x (passed ms (suc p)) ≡ true
+  found_lets p less alone t has = by_case (link_at ops n) refl alone.1 (sym ((member_at members p less).label_is t) ∙ has alone.1)
+    where
+      by_case : (by : Option Link) → link_at ops n ≡ by → is_some by ≡ true
+          → member_label (docs_of w) by (binding w ops r (passed ms (suc p))) ≡ sought_label (docs_of w) by (binding w ops l x) → lets w ops l r tests x (passed ms (suc p)) ≡ true
+      by_case None e some f = cc
+      by_case (Some link) e some f =
+          let z = pair_labels (passed ms (suc p)) link e in
+          test_holds (kinds ops l) link (docs_of w) (binding w ops l x ++ binding w ops r (passed ms (suc p))) (z.1 ∙ f ∙ sym z.0) tests alone.0 (sym linked ∙ e)
 
   -- it is passed
   pass_one : IsTrue (is_told w ops) → (k : ℕ) → k < length ms → (get_or (labels_of ms) k [] ≡ sought_label (docs_of w) (link_at ops n) (binding w ops l x) → ⊥)
@@ -73,7 +92,7 @@ module _ (ops : List Operator) (n l r : ℕ) (tests : List Test) (typed : IsType
       × (cost (beside_events w ops l r tests x (passed ms (suc k))) ≤ cost (beside_events w ops l r tests x (passed ms k)))
   pass_one t k less other =
       let m = member_at members k less in
-      let fails = other_fails (passed ms (suc k)) m.cursor m.row (λ f. other (m.label_is t ∙ f)) in
+      let fails = other_fails (passed ms (suc k)) (λ f. other (m.label_is t ∙ f)) in
       let f = found-pairs_no (docs_of w) tests (ahead w ops r (passed ms k)) (binding w ops l x) (binding w ops r (passed ms (suc k))) (ahead w ops r (passed ms (suc k))) (m.found t) fails in
       let c = cost-pairs_no (docs_of w) tests (ahead w ops r (passed ms k)) (binding w ops l x) (binding w ops r (passed ms (suc k))) (ahead w ops r (passed ms (suc k))) (m.found t) fails in
       let front : RowEvents = pairs (docs_of w) tests (ahead w ops r (passed ms k)) (binding w ops l x) in
@@ -118,10 +137,14 @@ module _ (ops : List Operator) (n l r : ℕ) (tests : List Test) (typed : IsType
       subst (λ (c : Position). IsOf w ops n c × IsTrue (has_row c)) (sym at.2) (subst (λ (f : Shape). IsIn w ops n f (Pair' at.0 x at.1 (passed ms (suc p)) (suc p))) (sym is) h.0, h.1)
 
   -- whether the comparisons hold there
-  pub pair_lets : (p : ℕ) (z : Position) → IsPairAt ms x p z → passes_all (docs_of w) tests (binding w ops n z) ≡ lets w ops l r tests x (passed ms (suc p))
+  pair_lets : (p : ℕ) (z : Position) → IsPairAt ms x p z → passes_all (docs_of w) tests (binding w ops n z) ≡ lets w ops l r tests x (passed ms (suc p))
   pair_lets p z at =
       ap (λ (c : Position). passes_all (docs_of w) tests (binding w ops n c)) at.2
       ∙ ap (λ (f : Shape). passes_all (docs_of w) tests (stands w ops n f (Pair' at.0 x at.1 (passed ms (suc p)) (suc p))).row) is
+
+  -- both
+  pub pair_stands : (p : ℕ) → p < length ms → (z : Position) → IsPairAt ms x p z → IsOf w ops n z × (passes_all (docs_of w) tests (binding w ops n z) ≡ lets w ops l r tests x (passed ms (suc p)))
+  pair_stands p less z at = ((pair_is p less z at).0, pair_lets p z at)
 
   -- the event at the pair with the next member, as a step comes to it
   pub known_steps : (k p : ℕ) → (k ≤ p) × (p < length ms) → (IsTrue (is_told w ops) → NoneBetween ms (sought_label (docs_of w) (link_at ops n) (binding w ops l x)) k p)

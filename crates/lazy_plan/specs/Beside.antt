@@ -1,5 +1,5 @@
 -- Steps of a join over the members of its right side.
-use Rattle.std.specs.Prelude.{◌≡◌, ◌<◌, ◌≤◌, ◌+◌, ◌-◌, ◌++◌, ◌∷◌, [], ℕ, suc, Bool, true, false, IsTrue, List, Option, Some, None, MatchOption, Result, IfOk, length, slice_index_or}
+use Rattle.std.specs.Prelude.{◌≡◌, ◌<◌, ◌≤◌, ◌+◌, ◌-◌, ◌++◌, ◌∷◌, [], ℕ, suc, Bool, true, false, IsTrue, List, Option, Some, None, MatchOption, Result, IfOk, is_some, length, slice_index_or}
 use Rattle.std.specs.declared.alloc.Global.{Global}
 use Rattle.std.specs.declared.rc.Rc.{Rc}
 use Rattle.join_memo.specs.Kept.{Kept, labels_of}
@@ -17,8 +17,9 @@ use Rattle.lazy_binding.specs.declared.parts.Growing.{Growing}
 use Rattle.lazy_binding.specs.declared.parts.Walk.{Walk}
 use Rattle.lazy_binding.specs.declared.position.Position.{Position, Start, Pair'}
 use Rattle.lazy_binding.specs.World.{World, docs_of, is_told, Member, no_pairs, memo_at, last_of, passed}
-use Rattle.lazy_binding.specs.Cursors.{binding, ahead, number, size}
-use Rattle.lazy_binding.specs.Parts.{operators, world_of}
+use Rattle.lazy_binding.specs.Cursors.{binding, ahead, number, size, has_row}
+use Rattle.lazy_binding.specs.Parts.{operators, shape_walked, world_of, IsFixed}
+use Rattle.lazy_binding.specs.Reading.{HasStand, InEach}
 use Rattle.lazy_plan.specs.declared.pair_steps.Pairs.{Pairs}
 use Rattle.lazy_plan.specs.declared.step.Step.{Step}
 use Rattle.lazy_plan.specs.declared.step.Step.TheVariants.{Done, At, On}
@@ -52,6 +53,10 @@ IsPlaceFrom ms k r = MatchOption r (Unit {0}) (λ p. (k ≤ p) × (p < length ms
 abbrev pub IsNextPlace : List Member → List ℕ → ℕ → Option ℕ → Type 0
 IsNextPlace ms key k r = MatchOption r (NoneBetween ms key k (length ms)) (NoneBetween ms key k)
 
+-- where members are looked up, the one at this place has the label that is looked up
+abbrev pub HasSought : List Member → List ℕ → Option Link → ℕ → Type 0
+HasSought ms key by p = is_some by ≡ true → slice_index_or (labels_of ms) p [] ≡ key
+
 -- the pair of a left position and the member at a place
 abbrev pub IsPairAt : List Member → Position → ℕ → Position → Type 0
 IsPairAt ms x p d = (q q' : _) × (d ≡ Pair' q x q' (passed ms (suc p)) (suc p))
@@ -65,6 +70,21 @@ abbrev pub IsMemberStep : World → List Operator → ℕ → ℕ → List Test 
 IsMemberStep w ops l r tests ms x p Done = ⊥
 IsMemberStep w ops l r tests ms x p (At d) = IsPairAt ms x p d.value × (IsTrue (is_told w ops) → lets w ops l r tests x (passed ms (suc p)) ≡ true)
 IsMemberStep w ops l r tests ms x p (On d) = IsPairAt ms x p d.value × (IsTrue (is_told w ops) → lets w ops l r tests x (passed ms (suc p)) ≡ false)
+
+-- what a step from a position of the left side to the pair with the member at a place takes
+pub record CanPair (g : Growing) (k : Pairs) (x : Position) (p : ℕ) : Type 0 where
+  pub fixed : IsFixed k.walk.fixed.now
+  pub op : k.walk.op < length (operators k.walk.fixed.now)
+  pub is : shape_walked k.walk ≡ pairs_up k.left k.right k.tests.now
+  pub place : p < length (memo_in g k.walk.op).pairs
+  pub cursor : HasStand g (left_of k) x
+  pub row : IsTrue (has_row x)
+
+-- what it comes to
+abbrev pub PairSteps : Growing → Pairs → Position → ℕ → Result Step WalkFault → Type 0
+PairSteps g k x p result =
+    let ops = operators k.walk.fixed.now in
+    IfOk result (λ s. InEach g (left_of k) x (λ w. IsMemberStep w ops k.left k.right k.tests.now (memo_in g k.walk.op).pairs x p s))
 
 -- the events of a join from a position of its right side on, beside one of its left
 abbrev pub beside_events : World → List Operator → ℕ → ℕ → List Test → Position → Position → RowEvents

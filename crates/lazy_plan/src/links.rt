@@ -1,67 +1,15 @@
 // By which variables the bindings of each join's right side are looked up.
-ghost use Rattle.std.specs.Prelude.{◌≡◌, ◌<◌, IfOk, is_some, length, map};
+ghost use Rattle.std.specs.Prelude.{◌≡◌, ◌<◌, IfOk, length, map};
 ghost use Rattle.std.specs.List.{AllByRecursion};
-ghost use Rattle.mix_tree.specs.Keys.{has_var, key_var};
-ghost use Rattle.plan_core.specs.ByNumber.{op_at};
 ghost use Rattle.plan_core.specs.PlanMade.{op_of};
 ghost use Rattle.plan_core.specs.Typed.{IsTyped};
 ghost use Rattle.plan_core.specs.Valid.{kinds, inputs_of};
 ghost use Rattle.lazy_binding.specs.Links.{test_link, first_link, op_link};
 
-use lazy_binding::Link;
-use mix_tree::{Key, Operand, Test, TestOp, Var};
+use lazy_binding::{Link, binds};
+use mix_tree::{Operand, Test, TestOp};
 use plan_core::Op;
 use std::alloc::{AllocError, Global};
-
-/// The variable of a key.
-fn var_of(key: Key) -> Var
-    ensures { result ≡ key_var key }
-{
-    match key {
-        Key::Node(v) => v,
-        Key::LabelOf(v) => v,
-    }
-}
-
-/// Whether one of these keys is of a variable.
-fn names(keys: &[Key], v: Var) -> bool
-    ensures { result ≡ has_var keys.now v }
-{
-    keys.iter().any(|key| var_of(*key) == v)
-}
-
-/// The operator of a number.
-fn operator(ops: &[Op], n: u32) -> &Op
-    requires { n < length (map op_of ops.now) }
-    ensures { op_of result.now ≡ op_at (map op_of ops.now) n }
-{
-    &ops[n as usize]
-}
-
-/// Whether an operator binds a variable.
-fn binds(ops: &[Op], n: u32, v: Var) -> bool
-    requires typed { IsTyped (map op_of ops.now) }
-    requires op { n < length (map op_of ops.now) }
-    ensures { result ≡ is_some (kinds (map op_of ops.now) n v) }
-{
-    match operator(ops, n) {
-        Op::Source { out, .. } => *out == v,
-        Op::GetDescendants { input, out, .. } => *out == v || binds(ops, *input, v),
-        Op::Select { input, .. } => binds(ops, *input, v),
-        Op::Join { left, right, .. } => binds(ops, *left, v) || binds(ops, *right, v),
-        Op::Project { input, keys } => names(keys, v) && binds(ops, *input, v),
-        Op::GroupBy {
-            input,
-            keys,
-            out,
-            ..
-        } => *out == v || (names(keys, v) && binds(ops, *input, v)),
-        Op::OrderBy { input, .. } => binds(ops, *input, v),
-        Op::Concatenate { input, out, .. } => *out == v || binds(ops, *input, v),
-        Op::CreateElement { input, out, .. } => *out == v || binds(ops, *input, v),
-        Op::TupleDestroy { .. } => false,
-    }
-}
 
 /// The variables of a comparison of equal labels, where the left side binds one of them alone.
 fn link_of(ops: &[Op], left: u32, test: &Test) -> Option<Link>

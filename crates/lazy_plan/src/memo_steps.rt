@@ -1,6 +1,7 @@
 // The members of a join's right side: the next one beside a binding of the left, its pair, and one more of them.
-ghost use Rattle.std.specs.Prelude.{◌≡◌, ◌<◌, ◌++◌, ◌∷◌, [], true, false, IsTrue, Some, IfOk, IfErr, OnOk, OnErr, length, slice_index_or};
+ghost use Rattle.std.specs.Prelude.{◌≡◌, ◌<◌, ◌++◌, ◌∷◌, [], true, false, IsTrue, Some, IfOk, IfErr, IfSome, OnOk, OnErr, is_some, length, slice_index_or};
 ghost use Rattle.plan_core.specs.Shapes.{pairs_up};
+ghost use Rattle.lxp_core.specs.View.{View};
 ghost use Rattle.lxp_core.specs.declared.fault.WalkFault.TheVariants.{OutOfMemory};
 ghost use Rattle.lazy_binding.specs.declared.position.Position.{Start};
 ghost use Rattle.lazy_binding.specs.Bench.{IsBench};
@@ -8,9 +9,9 @@ ghost use Rattle.lazy_binding.specs.Cursors.{has_row};
 ghost use Rattle.lazy_binding.specs.Links.{link_at};
 ghost use Rattle.lazy_binding.specs.Members.{member_label};
 ghost use Rattle.lazy_binding.specs.Parts.{operators, shape_walked, world_of, IsFixed};
-ghost use Rattle.lazy_binding.specs.Reading.{HasStand, InEach, Tells};
+ghost use Rattle.lazy_binding.specs.Reading.{HasStand, Tells};
 ghost use Rattle.lazy_binding.specs.World.{no_pairs, last_of};
-ghost use Rattle.lazy_plan.specs.Beside.{left_of, right_of, memo_in, sought_label, IsPlaceFrom, IsNextPlace, IsMemberStep, Grew, OthersStay};
+ghost use Rattle.lazy_plan.specs.Beside.{left_of, right_of, memo_in, sought_label, IsPlaceFrom, IsNextPlace, IsPairAt, HasSought, CanPair, PairSteps, Grew, OthersStay};
 
 use crate::pair_steps::Pairs;
 use crate::step::Step;
@@ -85,19 +86,52 @@ impl Pairs<'_> {
         ensures next { let by = link_at (operators self.now.walk.fixed.now) self.now.walk.op in
             let ms = (memo_in growing.now self.now.walk.op).pairs in
             Tells growing.now (left_of self.now) l.now.value (λ w docs row. IsNextPlace ms (sought_label docs by row) from result) }
+        ensures label { let by = link_at (operators self.now.walk.fixed.now) self.now.walk.op in
+            let ms = (memo_in growing.now self.now.walk.op).pairs in
+            Tells growing.now (left_of self.now) l.now.value (λ w docs row. IfSome result (HasSought ms (sought_label docs by row) by)) }
     {
         let left = Walk {
             fixed: self.walk.fixed,
             op: self.left,
         };
         let memo = &growing.memos[self.walk.op];
+        if memo.len() <= from {
+            return None;
+        }
         match &self.walk.fixed.links[self.walk.op] {
             Some(link) => memo.find(left.label_of(growing, l, link.left), from),
-            None => { if from < memo.len() { Some(from) } else { None } }
+            None => Some(from),
         }
     }
 
-    /// The pair of a binding of the left side and the member at a place: a binding where all comparisons hold.
+    /// The pair of a binding of the left side and the member at a place.
+    fn pair_at(
+        &self,
+        alloc: Global,
+        growing: &Growing,
+        l: &Rc<Position>,
+        place: usize,
+    ) -> Result<Rc<Position>, WalkFault>
+        requires bench { (view : View) × IsBench (world_of view growing.now) (operators self.now.walk.fixed.now) }
+        requires op { self.now.walk.op < length (operators self.now.walk.fixed.now) }
+        requires place { place < length (memo_in growing.now self.now.walk.op).pairs }
+        ensures err { IfErr result (λ e. e ≡ OutOfMemory) }
+        ensures pair { IfOk result (λ r. IsPairAt (memo_in growing.now self.now.walk.op).pairs l.now.value place r.value) }
+    {
+        let memo = &growing.memos[self.walk.op];
+        let there = place < memo.len();
+        prove!(there);
+        match memo.get(place) {
+            Some(member) => {
+                let l = share(l)?;
+                let r = share(member)?;
+                put(alloc, Position::Pair(l, r, place + 1))
+            }
+            None => put(alloc, Position::Start),
+        }
+    }
+
+    /// The event at the pair of a binding of the left side and the member at a place: a binding where all comparisons hold.
     pub(crate) fn at_member(
         &self,
         alloc: Global,
@@ -105,33 +139,48 @@ impl Pairs<'_> {
         l: &Rc<Position>,
         place: usize,
     ) -> Result<Step, WalkFault>
+        requires can { CanPair growing.now self.now l.now.value place }
+        ensures err { IfErr result (λ e. e ≡ OutOfMemory) }
+        ensures answer { PairSteps growing.now self.now l.now.value place result }
+    {
+        let pair = self.pair_at(alloc, growing, l, place)?;
+        if self.walk.passes_each(growing, &pair, self.tests) {
+            Ok(Step::At(pair))
+        } else {
+            Ok(Step::On(pair))
+        }
+    }
+
+    /// Whether the only comparison is that of the labels by which members are looked up.
+    fn label_decides(&self) -> bool
         requires fixed { IsFixed self.now.walk.fixed.now }
         requires op { self.now.walk.op < length (operators self.now.walk.fixed.now) }
-        requires is { shape_walked self.now.walk ≡ pairs_up self.now.left self.now.right self.now.tests.now }
-        requires place { place < length (memo_in growing.now self.now.walk.op).pairs }
-        requires cursor { HasStand growing.now (left_of self.now) l.now.value }
-        requires row { IsTrue (has_row l.now.value) }
-        ensures err { IfErr result (λ e. e ≡ OutOfMemory) }
-        ensures answer { let k = self.now in
-            let ms = (memo_in growing.now k.walk.op).pairs in
-            let ops = operators k.walk.fixed.now in
-            IfOk result (λ r. InEach growing.now (left_of k) l.now.value (λ w. IsMemberStep w ops k.left k.right k.tests.now ms l.now.value place r)) }
+        ensures { let by = link_at (operators self.now.walk.fixed.now) self.now.walk.op in
+            IsTrue result → (length self.now.tests.now ≡ 1) × (is_some by ≡ true) }
     {
-        let memo = &growing.memos[self.walk.op];
-        let there = place < memo.len();
-        prove!(there);
-        match memo.get(place) {
-            None => Ok(Step::Done),
-            Some(member) => {
-                let l = share(l)?;
-                let r = share(member)?;
-                let pair = put(alloc, Position::Pair(l, r, place + 1))?;
-                if self.walk.passes_each(growing, &pair, self.tests) {
-                    Ok(Step::At(pair))
-                } else {
-                    Ok(Step::On(pair))
-                }
-            }
+        self.tests.len() == 1 && self.walk.fixed.links[self.walk.op].is_some()
+    }
+
+    /// The same where the member was looked up by its label: nothing is compared where that decides.
+    pub(crate) fn at_found(
+        &self,
+        alloc: Global,
+        growing: &Growing,
+        l: &Rc<Position>,
+        place: usize,
+    ) -> Result<Step, WalkFault>
+        requires can { CanPair growing.now self.now l.now.value place }
+        requires label { let by = link_at (operators self.now.walk.fixed.now) self.now.walk.op in
+            let ms = (memo_in growing.now self.now.walk.op).pairs in
+            Tells growing.now (left_of self.now) l.now.value (λ w docs row. HasSought ms (sought_label docs by row) by place) }
+        ensures err { IfErr result (λ e. e ≡ OutOfMemory) }
+        ensures answer { PairSteps growing.now self.now l.now.value place result }
+    {
+        if self.label_decides() {
+            let pair = self.pair_at(alloc, growing, l, place)?;
+            Ok(Step::At(pair))
+        } else {
+            self.at_member(alloc, growing, l, place)
         }
     }
 

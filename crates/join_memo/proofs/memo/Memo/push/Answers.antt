@@ -5,7 +5,7 @@ use Rattle.join_memo.specs.Places.{IsIndex}
 use Rattle.join_memo.specs.Kept.{labels_of}
 use Rattle.join_memo.proofs.Indexes.{on_ok}
 use Rattle.join_memo.proofs.memo.Memo.push.Goals as goal
-use Rattle.join_memo.proofs.memo.Memo.push.Goals.{in-Ok, in-Err}
+use Rattle.join_memo.proofs.memo.Memo.push.Goals.{in-Ok-push, in-Err}
 
 pub invariant_of-self-2 : goal.invariant_of-self-2
 invariant_of-self-2 g c =
@@ -13,15 +13,15 @@ invariant_of-self-2 g c =
     let e : c.len-place.result ≡ vec_len c.reserve.new.self = c.len-place.ensures in
     let ok : (labels : List (List ℕ)) → IsIndex c.self.inside.known (map (λ (v : Vec ℕ Global). v.items) c.self.inside.groups.items) labels → length labels ≡ c.len-place.result
     → IsIndex c.add_place.new.known (map (λ (v : Vec ℕ Global). v.items) c.add_place.new.groups.items) (labels ++ c.args.key ∷ []) =
-    on_ok _ c.add_place.result (sym c.is_err-2.ensures.value ∙ c.if-is_err-2.false) c.add_place.ensures.ok in
+    c.in-Ok.ensures.ok in
     let n : length (labels_of c.self.inside.pairs.items) ≡ c.len-place.result =
     (let o : vec_len c.reserve.new.self ≡ length c.reserve.new.self.items = c.reserve.new.self.ok.0 in
     length-map c.self.inside.pairs.items (λ p. p.0) ∙ ap length (sym f) ∙ sym o ∙ sym e) in
     let x = ok (labels_of c.self.inside.pairs.items) c.self.invariant n in
     elim c.match-push.branch [
-      | in-Ok w ↦
-          let k : c.push.new.self.items ≡ c.reserve.new.self.items ++ (c.args.key, c.args.item) ∷ [] = w.in-Ok.ensures.items in
-          let l : labels_of c.push.new.self.items ≡ labels_of c.self.inside.pairs.items ++ c.args.key ∷ [] =
+      | in-Ok-push w ↦
+          let k : c.push-2.new.self.items ≡ c.reserve.new.self.items ++ (c.args.key, c.args.item) ∷ [] = w.in-Ok-push.ensures.items in
+          let l : labels_of c.push-2.new.self.items ≡ labels_of c.self.inside.pairs.items ++ c.args.key ∷ [] =
           ap labels_of (k ∙ ap (λ ps. ps ++ (c.args.key, c.args.item) ∷ []) f) ∙ map-append (λ p. p.0) c.self.inside.pairs.items ((c.args.key, c.args.item) ∷ []) in
           subst (λ ls. IsIndex c.add_place.new.known (map (λ (v : Vec ℕ Global). v.items) c.add_place.new.groups.items) ls) (sym l) x
       | in-Err w ↦

@@ -4,8 +4,8 @@ use Rattle.mix_tree.specs.Keys.{has_var}
 use Rattle.plan_core.specs.PlanMade.{op_of}
 use Rattle.plan_core.specs.Valid.{Kinds, kinds, a_node, an_element, a_list, kept}
 use Rattle.plan_core.proofs.Groups.{group_kinds}
-use Rattle.lazy_plan.proofs.Binding.{bound_at, bound_out, bound_other, bound_only, bound_key, bound_no_key, bound_left, bound_right}
-use Rattle.lazy_plan.proofs.links.+binds.Goals as goal
+use Rattle.lazy_binding.proofs.Binding.{bound_at, bound_out, bound_other, bound_only, bound_key, bound_no_key, bound_left, bound_right}
+use Rattle.lazy_binding.proofs.variables.+binds.Goals as goal
 
 pub returns-in-Source : goal.returns-in-Source
 returns-in-Source t c =
@@ -37,15 +37,15 @@ returns-else-binds t c =
     bound_at (map op_of c.args.ops.now) c.requires.typed c.args.n c.requires.op _ (ap op_of (sym c.in-Join.is) ∙ c.operator.ensures) c.args.v _
     (bound_right _ _ (kinds (map op_of c.args.ops.now) c.in-Join.left c.args.v) (kinds (map op_of c.args.ops.now) c.in-Join.right c.args.v) c.binds-in-Join.ensures c.if-binds.false c.binds-else-binds.ensures)
 
-pub returns-then-names : goal.returns-then-names
-returns-then-names t c =
+pub returns-then-names_var : goal.returns-then-names_var
+returns-then-names_var t c =
     bound_at (map op_of c.args.ops.now) c.requires.typed c.args.n c.requires.op _ (ap op_of (sym c.in-Project.is) ∙ c.operator.ensures) c.args.v _
-    (bound_key (has_var c.in-Project.keys.items c.args.v) _ _ (kinds (map op_of c.args.ops.now) c.in-Project.input c.args.v) (c.names.ensures ∙ ap (λ keys. has_var keys c.args.v) c.deref.ensures.value) c.if-names.true c.binds-then-names.ensures)
+    (bound_key (has_var c.in-Project.keys.items c.args.v) _ _ (kinds (map op_of c.args.ops.now) c.in-Project.input c.args.v) (c.names_var.ensures ∙ ap (λ keys. has_var keys c.args.v) c.deref.ensures.value) c.if-names_var.true c.binds-then-names_var.ensures)
 
-pub returns-else-names : goal.returns-else-names
-returns-else-names t c =
+pub returns-else-names_var : goal.returns-else-names_var
+returns-else-names_var t c =
     bound_at (map op_of c.args.ops.now) c.requires.typed c.args.n c.requires.op _ (ap op_of (sym c.in-Project.is) ∙ c.operator.ensures) c.args.v _
-    (bound_no_key (has_var c.in-Project.keys.items c.args.v) _ (kinds (map op_of c.args.ops.now) c.in-Project.input c.args.v) (c.names.ensures ∙ ap (λ keys. has_var keys c.args.v) c.deref.ensures.value) c.if-names.false)
+    (bound_no_key (has_var c.in-Project.keys.items c.args.v) _ (kinds (map op_of c.args.ops.now) c.in-Project.input c.args.v) (c.names_var.ensures ∙ ap (λ keys. has_var keys c.args.v) c.deref.ensures.value) c.if-names_var.false)
 
 pub returns-then-eq-2 : goal.returns-then-eq-2
 returns-then-eq-2 t c =
@@ -53,16 +53,16 @@ returns-then-eq-2 t c =
     (bound_out (c.in-GroupBy.out == c.args.v) _ a_list (kept c.in-GroupBy.keys.items (kinds (map op_of c.args.ops.now) c.in-GroupBy.input) c.args.v) c.eq-in-GroupBy.ensures c.if-eq-2.true
     ∙ sym (ap (λ (g : Kinds). is_some (g c.args.v)) (group_kinds c.in-GroupBy.keys.items c.in-GroupBy.piece c.in-GroupBy.out (kinds (map op_of c.args.ops.now) c.in-GroupBy.input))))
 
-pub returns-then-names-2 : goal.returns-then-names-2
-returns-then-names-2 t c =
+pub returns-then-names_var-2 : goal.returns-then-names_var-2
+returns-then-names_var-2 t c =
     bound_at (map op_of c.args.ops.now) c.requires.typed c.args.n c.requires.op _ (ap op_of (sym c.in-GroupBy.is) ∙ c.operator.ensures) c.args.v _
-    (bound_other (c.in-GroupBy.out == c.args.v) _ _ a_list (kept c.in-GroupBy.keys.items (kinds (map op_of c.args.ops.now) c.in-GroupBy.input) c.args.v) c.eq-in-GroupBy.ensures c.if-eq-2.false (bound_key (has_var c.in-GroupBy.keys.items c.args.v) _ _ (kinds (map op_of c.args.ops.now) c.in-GroupBy.input c.args.v) (c.names-else-eq-2.ensures ∙ ap (λ keys. has_var keys c.args.v) c.deref-else-eq-2.ensures.value) c.if-names-2.true c.binds-then-names-2.ensures)
+    (bound_other (c.in-GroupBy.out == c.args.v) _ _ a_list (kept c.in-GroupBy.keys.items (kinds (map op_of c.args.ops.now) c.in-GroupBy.input) c.args.v) c.eq-in-GroupBy.ensures c.if-eq-2.false (bound_key (has_var c.in-GroupBy.keys.items c.args.v) _ _ (kinds (map op_of c.args.ops.now) c.in-GroupBy.input c.args.v) (c.names_var-else-eq-2.ensures ∙ ap (λ keys. has_var keys c.args.v) c.deref-else-eq-2.ensures.value) c.if-names_var-2.true c.binds-then-names_var-2.ensures)
     ∙ sym (ap (λ (g : Kinds). is_some (g c.args.v)) (group_kinds c.in-GroupBy.keys.items c.in-GroupBy.piece c.in-GroupBy.out (kinds (map op_of c.args.ops.now) c.in-GroupBy.input))))
 
-pub returns-else-names-2 : goal.returns-else-names-2
-returns-else-names-2 t c =
+pub returns-else-names_var-2 : goal.returns-else-names_var-2
+returns-else-names_var-2 t c =
     bound_at (map op_of c.args.ops.now) c.requires.typed c.args.n c.requires.op _ (ap op_of (sym c.in-GroupBy.is) ∙ c.operator.ensures) c.args.v _
-    (bound_other (c.in-GroupBy.out == c.args.v) _ _ a_list (kept c.in-GroupBy.keys.items (kinds (map op_of c.args.ops.now) c.in-GroupBy.input) c.args.v) c.eq-in-GroupBy.ensures c.if-eq-2.false (bound_no_key (has_var c.in-GroupBy.keys.items c.args.v) _ (kinds (map op_of c.args.ops.now) c.in-GroupBy.input c.args.v) (c.names-else-eq-2.ensures ∙ ap (λ keys. has_var keys c.args.v) c.deref-else-eq-2.ensures.value) c.if-names-2.false)
+    (bound_other (c.in-GroupBy.out == c.args.v) _ _ a_list (kept c.in-GroupBy.keys.items (kinds (map op_of c.args.ops.now) c.in-GroupBy.input) c.args.v) c.eq-in-GroupBy.ensures c.if-eq-2.false (bound_no_key (has_var c.in-GroupBy.keys.items c.args.v) _ (kinds (map op_of c.args.ops.now) c.in-GroupBy.input c.args.v) (c.names_var-else-eq-2.ensures ∙ ap (λ keys. has_var keys c.args.v) c.deref-else-eq-2.ensures.value) c.if-names_var-2.false)
     ∙ sym (ap (λ (g : Kinds). is_some (g c.args.v)) (group_kinds c.in-GroupBy.keys.items c.in-GroupBy.piece c.in-GroupBy.out (kinds (map op_of c.args.ops.now) c.in-GroupBy.input))))
 
 pub returns-in-OrderBy : goal.returns-in-OrderBy
