@@ -1,5 +1,5 @@
 -- Values and what is behind them.
-use Rattle.std.proofs.Common.{◌≡◌, ◌+◌, ℕ, suc, None, ◌∙◌, sym, ap, subst, arith}
+use Rattle.std.proofs.Common.{refl, ◌≡◌, ◌+◌, ℕ, suc, None, ◌∙◌, sym, ap, subst, arith}
 use Rattle.plan_core.specs.ByNumber.{op_at}
 use Rattle.plan_core.specs.Tolled.{Tolled, ends, tolled_followed}
 use Rattle.plan_core.specs.TolledRows.{value_trees, all_items, collected}
@@ -9,6 +9,9 @@ use Rattle.lazy_value.specs.Forms.{input_at, pieces_of, piece_of, makes_list, ga
 use Rattle.lazy_value.specs.Ids.{group_ahead, group_trees, member_trees, Stands, GathersAll, IsOrigin, value_of, IsRest, rest_trees, weight}
 use Rattle.lazy_value.specs.Origins.{origin_size}
 use Rattle.lazy_value.specs.Steps.{StandsFor, GoesOn}
+use Rattle.lazy_value.specs.Ways.{IsWay, IsWays}
+use Rattle.lazy_value.specs.declared.ways.Way.{Way, Top}
+use Rattle.lazy_value.specs.declared.ways.Ways.{Ways}
 use Rattle.lazy_value.specs.declared.ids.Origin.{Origin}
 use Rattle.lazy_value.specs.declared.ids.Origin.TheVariants.{Joined, All, Group as Same}
 use Rattle.lazy_value.specs.declared.ids.Rest.{Rest, Pieces', Members'}
@@ -21,10 +24,10 @@ module _ (st : BenchState) (behind : Rest) (h : IsRest st behind) where
   nothing_before : tolled_followed (ends 0) (rest_trees st behind) ≡ rest_trees st behind
   nothing_before = dearer_zero (rest_trees st behind)
 
-  enter_joined : (op : ℕ) (at : Position) (q : _) → Stands st op makes_list at
-      → GoesOn st st (value_trees (documents st) (value_of st (Joined op at)) (rest_trees st behind)) (suc (origin_size st (Joined op at) + weight st behind)) (Pieces' op at 0 q behind)
-  enter_joined op at q s =
-      on_same st _ _ (Pieces' op at 0 q behind) (s, omega arith, h) (omega arith)
+  enter_joined : (op : ℕ) (at : Position) (ways : Ways) (q : _) → Stands st op makes_list at → IsWays st (input_at (ops_of st) op) at ways
+      → GoesOn st st (value_trees (documents st) (value_of st (Joined op at)) (rest_trees st behind)) (suc (origin_size st (Joined op at) + weight st behind)) (Pieces' op at 0 ways q behind)
+  enter_joined op at ways q s along =
+      on_same st _ _ (Pieces' op at 0 ways q behind) (s, omega arith, along, h) (omega arith)
       (all_followed (documents st) (pieces_of (op_at (ops_of st) op)) (binding_at st (input_at (ops_of st) op) at) (ends 0) (rest_trees st behind)
       ∙ ap (all_items (documents st) (pieces_of (op_at (ops_of st) op)) (binding_at st (input_at (ops_of st) op) at)) nothing_before)
 
@@ -44,13 +47,16 @@ module _ (st : BenchState) (behind : Rest) (h : IsRest st behind) where
 
 module _ (st : BenchState) (origin : Origin) (behind x : Rest) (o : IsOrigin st origin) (h : IsRest st behind) where
   -- a concatenation, and what is behind it
-  pub joined_goes : (op : ℕ) (at there : Position) (q : _) (up : Rest) → origin ≡ Joined op at → x ≡ Pieces' op there 0 q up → up ≡ behind → there ≡ at
+  pub joined_goes : (op input : ℕ) (at : Position) (ways : Ways) (q : _) → origin ≡ Joined op at → x ≡ Pieces' op at 0 ways q behind → input ≡ input_at (ops_of st) op
+      → ways.last.value ≡ Top input at → ways.lowest.value ≡ Top input at
       → GoesOn st st (value_trees (documents st) (value_of st origin) (rest_trees st behind)) (suc (origin_size st origin + weight st behind)) x
-  joined_goes op at there q up e f g i =
-      let z : x ≡ Pieces' op at 0 q behind = f ∙ ap (λ (r : Rest). Pieces' op there 0 q r) g ∙ ap (λ (c : Position). Pieces' op c 0 q behind) i in
-      subst (λ (r : Rest). GoesOn st st (value_trees (documents st) (value_of st origin) (rest_trees st behind)) (suc (origin_size st origin + weight st behind)) r) (sym z)
-      (subst (λ (w : Origin). GoesOn st st (value_trees (documents st) (value_of st w) (rest_trees st behind)) (suc (origin_size st w + weight st behind)) (Pieces' op at 0 q behind)) (sym e)
-      (enter_joined st behind h op at q (subst (λ (w : Origin). IsOrigin st w) e o)))
+  joined_goes op input at ways q e f i last lowest =
+      subst (λ (r : Rest). GoesOn st st (value_trees (documents st) (value_of st origin) (rest_trees st behind)) (suc (origin_size st origin + weight st behind)) r) (sym f)
+      (subst (λ (w : Origin). GoesOn st st (value_trees (documents st) (value_of st w) (rest_trees st behind)) (suc (origin_size st w + weight st behind)) (Pieces' op at 0 ways q behind)) (sym e)
+      (enter_joined st behind h op at ways q (subst (λ (w : Origin). IsOrigin st w) e o) (start ways.last.value last, start ways.lowest.value lowest)))
+    where
+      start : (w : Way) → w ≡ Top input at → IsWay st (input_at (ops_of st) op) at w
+      start w g = subst (λ (x : Way). IsWay st (input_at (ops_of st) op) at x) (sym g) (i, refl)
 
   -- a list of all bindings, and what is behind it
   pub all_goes : (op : ℕ) (q : _) (up : Rest) → origin ≡ All op → x ≡ Members' op None q up → up ≡ behind

@@ -30,7 +30,8 @@ use Rattle.lazy_plan.proofs.Shapes.{single_at}
 use Rattle.lazy_value.specs.Ids.{IsLast}
 use Rattle.lazy_value.specs.Labels.{Labels, op_labels, labels, stands_in}
 use Rattle.lazy_value.specs.Forms.{form, makes_element, label_in}
-use Rattle.lazy_value.specs.Origins.{makes, IsMadeHere, IsHeldAt}
+use Rattle.lazy_value.specs.Origins.{makes, IsMadeHere}
+use Rattle.lazy_value.specs.Ways.{IsHeldAt}
 use Rattle.lazy_value.proofs.Numbering.{FitsKind, labels_fit, kind_of, labels_of}
 use Rattle.lazy_value.proofs.Making.{cond_true}
 use Rattle.lazy_value.proofs.RowLabels.{Holds, Fits, each_first, rows_fit}

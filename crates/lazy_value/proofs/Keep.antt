@@ -16,6 +16,8 @@ use Rattle.lazy_value.specs.Forms.{Form, makes_list, makes_element, gathers_grou
 use Rattle.lazy_value.specs.Sizes.{pieces_count, size, extent}
 use Rattle.lazy_value.specs.Ids.{element_trees, pieces_trees, ahead_from, members_trees, stops_at, group_ahead, group_trees, Stands, GathersAll, IsHead, head_label, head_trees, text_of, is_text, IsRest, rest_trees, here, IsSite, weight, number_from, left, site_left}
 use Rattle.lazy_value.specs.Steps.{KeepsSites}
+use Rattle.lazy_value.specs.Ways.{IsWays}
+use Rattle.lazy_value.proofs.Along.{IsWays-kept}
 use Rattle.lazy_value.specs.declared.ids.Head.{Head}
 use Rattle.lazy_value.specs.declared.ids.Head.TheVariants.{Whole, Built, Leaf, Text}
 use Rattle.lazy_value.specs.declared.ids.Rest.{Rest, End, Pieces', Members', Group'}
@@ -107,14 +109,18 @@ module _ (a b : BenchState) (k : KeepsBench a b) where
 
   pub IsRest-kept : (r : Rest) → IsRest a r → IsRest b r
   IsRest-kept End h = tt
-  IsRest-kept (Pieces' op at next q up) h =
-      (Stands-kept op makes_list at h.0, subst (λ (ops : List Operator). next ≤ length (pieces_of (op_at ops op))) (sym ops_kept) h.1, IsRest-kept up h.2)
+  IsRest-kept (Pieces' op at next ways q up) h = (
+    Stands-kept op makes_list at h.0,
+    subst (λ (ops : List Operator). next ≤ length (pieces_of (op_at ops op))) (sym ops_kept) h.1,
+    subst (λ (n : ℕ). IsWays b n at ways) (sym (input_kept op)) (IsWays-kept a b k (input_at (ops_of a) op) at h.0.cursor ways h.2),
+    IsRest-kept up h.3,
+  )
   IsRest-kept (Members' op at q up) h = (GathersAll-kept op h.0, at-kept op at h.1, IsRest-kept up h.2)
   IsRest-kept (Group' op first at q up) h = (Stands-kept op gathers_groups first h.0, Stands-kept op gathers_groups at h.1, IsRest-kept up h.2)
 
   pub rest_trees-kept : (r : Rest) → IsRest a r → rest_trees b r ≡ rest_trees a r
   rest_trees-kept End h = refl
-  rest_trees-kept (Pieces' op at next q up) h = ap (pieces_trees b op at next) (rest_trees-kept up h.2) ∙ pieces-kept op at next (rest_trees a up) h.0
+  rest_trees-kept (Pieces' op at next ways q up) h = ap (pieces_trees b op at next) (rest_trees-kept up h.3) ∙ pieces-kept op at next (rest_trees a up) h.0
   rest_trees-kept (Members' op at q up) h =
       ap (members_trees b op at) (rest_trees-kept up h.2) ∙ collected-kept op (ahead_from b (input_at (ops_of b) op) at) (ahead_from a (input_at (ops_of a) op) at) (rest_trees a up) (ahead_from-kept op at h.1)
   rest_trees-kept (Group' op first at q up) h =
@@ -122,9 +128,9 @@ module _ (a b : BenchState) (k : KeepsBench a b) where
 
   pub weight-kept : (r : Rest) → IsRest a r → weight b r ≡ weight a r
   weight-kept End h = refl
-  weight-kept (Pieces' op at next q up) h =
+  weight-kept (Pieces' op at next ways q up) h =
       ap (λ (ops : List Operator). suc (pieces_count (λ v. suc (size ops (input_at ops op) v)) (drop next (pieces_of (op_at ops op))) + weight b up)) ops_kept
-      ∙ ap (λ (n : ℕ). suc (pieces_count (λ v. suc (size (ops_of a) (input_at (ops_of a) op) v)) (drop next (pieces_of (op_at (ops_of a) op))) + n)) (weight-kept up h.2)
+      ∙ ap (λ (n : ℕ). suc (pieces_count (λ v. suc (size (ops_of a) (input_at (ops_of a) op) v)) (drop next (pieces_of (op_at (ops_of a) op))) + n)) (weight-kept up h.3)
   weight-kept (Members' op at q up) h = ap suc (weight-kept up h.2)
   weight-kept (Group' op first at q up) h = ap suc (weight-kept up h.2)
 
@@ -181,11 +187,11 @@ module _ (a b : BenchState) (k : KeepsBench a b) where
 
   pub left-kept : (r : Rest) → IsRest a r → left b r ≤ left a r
   left-kept End h = omega arith
-  left-kept (Pieces' op at next q up) h =
+  left-kept (Pieces' op at next ways q up) h =
       let e : pieces_count (extent (size_of b) (ops_of b) (input_at (ops_of b) op)) (drop next (pieces_of (op_at (ops_of b) op))) ≡ pieces_count (extent (size_of a) (ops_of a) (input_at (ops_of a) op)) (drop next (pieces_of (op_at (ops_of a) op))) =
       ap (λ (f : ℕ → ℕ). pieces_count (extent f (ops_of b) (input_at (ops_of b) op)) (drop next (pieces_of (op_at (ops_of b) op)))) sizes_kept
       ∙ ap (λ (ops : List Operator). pieces_count (extent (size_of a) ops (input_at ops op)) (drop next (pieces_of (op_at ops op)))) ops_kept in
-      let i = left-kept up h.2 in omega (arith, e, i)
+      let i = left-kept up h.3 in omega (arith, e, i)
   left-kept (Members' op at q up) h = let i = left-kept up h.2 in let j = number_from-kept op at h.1 in omega (arith, i, j)
   left-kept (Group' op first at q up) h = let i = left-kept up h.2 in let j = number_kept op at h.1.cursor in omega (arith, i, j)
 

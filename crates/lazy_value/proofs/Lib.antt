@@ -18,3 +18,4 @@ pub mod Reaching
 pub mod RowLabels
 pub mod Sames
 pub mod Turns
+pub mod Along

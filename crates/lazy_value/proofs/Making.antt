@@ -27,7 +27,8 @@ use Rattle.lazy_plan.proofs.Benches.{all_groups}
 use Rattle.lazy_value.specs.Forms.{Form, form, input_of, pieces_of, keys_of, label_in, input_at, makes_list, makes_element, gathers_groups}
 use Rattle.lazy_value.specs.Sizes.{pieces_count, size, extent, op_extent}
 use Rattle.lazy_value.specs.Ids.{Stands}
-use Rattle.lazy_value.specs.Origins.{IsOriginOf, IsHeldAt, IsPassedOn, IsMadeHere, makes}
+use Rattle.lazy_value.specs.Origins.{IsOriginOf, IsMadeHere, makes}
+use Rattle.lazy_value.specs.Ways.{IsHeldAt}
 use Rattle.lazy_value.specs.declared.ids.Origin.{Origin}
 use Rattle.lazy_value.specs.declared.ids.Origin.TheVariants.{Node, Element, Joined, All, Group as Same}
 use Rattle.lazy_value.proofs.Numbering as numbering
@@ -212,21 +213,6 @@ module _ (st : BenchState) (typed : IsTyped (ops_of st)) (n : ℕ) (within : n <
         extent = omega (arith, x);
         rank = omega arith;
       }
-
--- a value is that in the cursor's own binding
-pub held_here : (st : BenchState) (n v : ℕ) (c d : Position) → d ≡ c → IsCursor st n c → IsHeldAt st n c v n d
-held_here st n v c d e h = subst (λ (x : Position). IsHeldAt st n c v n x) (sym e) (record { within = omega arith; cursor = h; value = refl; kind = refl; size = omega arith; extent = omega arith })
-
--- a value that is passed on is where that of the input is
-pub held_below : (st : BenchState) (n i v m : ℕ) (c d e : Position) → IsPassedOn st.plan n v i → IsUnder st n c i d → IsHeldAt st i d v m e → IsHeldAt st n c v m e
-held_below st n i v m c d e p u h = record {
-  within = (let x = p.within in let y = h.within in omega (arith, x, y));
-  cursor = h.cursor;
-  value = p.value st.world (binding_at st n c) (binding_at st i d) (ahead_at st i d) u.made ∙ h.value;
-  kind = p.kind ∙ h.kind;
-  size = (let x = p.size in let y = h.size in omega (arith, x, y));
-  extent = (let x = p.extent (size_of st) in let y = h.extent in omega (arith, x, y));
-}
 
 -- it is made where that is made
 pub origin_held : (st : BenchState) (n v m : ℕ) (c d : Position) (r : Origin) → IsHeldAt st n c v m d → IsOriginOf st m d v r → IsOriginOf st n c v r

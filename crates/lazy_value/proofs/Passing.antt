@@ -1,6 +1,7 @@
 -- Where the value of a variable comes from, by the form of the operator.
 use Rattle.std.proofs.Common.{◌≡◌, ◌<◌, ◌≤◌, inl, inr, ℕ, Bool, true, false, cond, List, Option, Some, None, length, refl, ◌∙◌, sym, ap, subst, arith}
 use Rattle.std.specs.Prelude.{◌==◌, is_some}
+use Rattle.std.proofs.lemmas.Bool.Decides.{nat_tests}
 use Rattle.path_expr.specs.Form.{Form}
 use Rattle.mix_tree.specs.Keys.{has_var}
 use Rattle.mix_tree.specs.declared.var.Key.{Key}
@@ -12,8 +13,9 @@ use Rattle.plan_core.specs.Plans.{Operator, source, get_descendants, join, over}
 use Rattle.plan_core.specs.Unary.{select, order_by, project, group_by, concatenate, create_element}
 use Rattle.plan_core.specs.ByNumber.{op_at}
 use Rattle.plan_core.specs.Typed.{IsTyped}
-use Rattle.plan_core.specs.Valid.{Kind, Kinds, a_node, an_element, a_list, kinds, kept, op_kinds, either_kind, IsFit, AreNodes, inputs_of, IsValid}
-use Rattle.plan_core.proofs.Fresh.{sides_fresh}
+use Rattle.plan_core.specs.Valid.{Kind, Kinds, a_node, an_element, a_list, kinds, kept, op_kinds, either_kind, IsFit, AreNodes, inputs_of, outs_of, IsValid}
+use Rattle.mix_base.specs.Ascents.{Among}
+use Rattle.plan_core.proofs.Fresh.{out_fresh, sides_fresh}
 use Rattle.plan_core.proofs.Groups.{group_kinds, fit_group}
 use Rattle.plan_core.specs.TolledRows.{TolledRow, tolled_value}
 use Rattle.plan_core.specs.Events.{RowEvents}
@@ -21,50 +23,15 @@ use Rattle.lazy_binding.specs.World.{World}
 use Rattle.lazy_plan.specs.Bench.{IsMadeOf, HasUnder, AmongInputs}
 use Rattle.lazy_value.specs.Labels.{labels, op_labels}
 use Rattle.lazy_value.specs.Sizes.{size, op_size, extent, op_extent}
-use Rattle.lazy_value.specs.Origins.{IsPassedOn, IsMadeHere, makes}
+use Rattle.lazy_value.specs.Origins.{IsPassedOn, PassesAll, IsMadeHere, makes}
 use Rattle.lazy_value.proofs.Numbering.{inputs_below, kind_of, size_of, extent_of, labels_of, labels_fit, fits_some, fits_none}
 
 -- WHAT AN OPERATOR BINDS
 
--- a variable that is bound anew
-pub bound_out : (b r : Bool) (k : Kind) (z : Option Kind) → r ≡ b → r ≡ true → r ≡ is_some (cond b (Some k) z)
-bound_out true r k z e h = h
-bound_out false r k z e h = cc
-
--- another one
-pub bound_other : (b t r : Bool) (k : Kind) (z : Option Kind) → t ≡ b → t ≡ false → r ≡ is_some z → r ≡ is_some (cond b (Some k) z)
-bound_other true t r k z e h i = cc
-bound_other false t r k z e h i = i
-
--- the only one
-pub bound_only : (b r : Bool) (k : Kind) → r ≡ b → r ≡ is_some (cond b (Some k) None)
-bound_only true r k e = e
-bound_only false r k e = e
-
--- one of the keys
-pub bound_key : (b t r : Bool) (z : Option Kind) → t ≡ b → t ≡ true → r ≡ is_some z → r ≡ is_some (cond b z None)
-bound_key true t r z e h i = i
-bound_key false t r z e h i = cc
-
--- one that is none of them
-pub bound_no_key : (b t : Bool) (z : Option Kind) → t ≡ b → t ≡ false → t ≡ is_some (cond b z None)
-bound_no_key true t z e h = cc
-bound_no_key false t z e h = h
-
--- of one side
-pub bound_left : (r : Bool) (j k : Option Kind) → r ≡ is_some j → r ≡ true → r ≡ is_some (either_kind j k)
-bound_left r None k e h = cc
-bound_left r (Some j) k e h = e
-
--- or of the other
-pub bound_right : (l r : Bool) (j k : Option Kind) → l ≡ is_some j → l ≡ false → r ≡ is_some k → r ≡ is_some (either_kind j k)
-bound_right l r None k e h i = i
-bound_right l r (Some j) k e h i = cc
-
-module _ (ops : List Operator) (typed : IsTyped ops) (n : ℕ) (within : n < length ops) (o : Operator) (e : o ≡ op_at ops n) where
-  -- whether an operator binds a variable
-  pub bound_at : (v : ℕ) (b : Bool) → b ≡ is_some (op_kinds o (kinds ops) v) → b ≡ is_some (kinds ops n v)
-  bound_at v b h = h ∙ sym (ap is_some (kind_of ops typed n within o e v))
+-- of the right side, whatever the left one binds
+pub bound_either : (r : Bool) (j k : Option Kind) → r ≡ is_some k → r ≡ true → r ≡ is_some (either_kind j k)
+bound_either r None k e h = e
+bound_either r (Some j) k e h = h
 
 -- no variable is bound here
 pub none_bound : (j : Option Kind) (k : Kind) → j ≡ None → j ≡ Some k → ⊥
@@ -162,16 +129,15 @@ module _ (p : Plan) (typed : IsTyped (plan_value p).ops) (n : ℕ) (within : n <
   passed_but_right l r tests e t k =
       passed_left l r tests e (left_kind (kinds (plan_value p).ops l v) (kinds (plan_value p).ops r v) t k.0 (sym (kind_of (plan_value p).ops typed n within (join l r tests) e v) ∙ k.1))
 
-  pub passed_right : IsValid (plan_value p) → (l r : ℕ) (tests : List Test) → join l r tests ≡ op_at (plan_value p).ops n → true ≡ is_some (kinds (plan_value p).ops r v) → (k : Kind) × (kinds (plan_value p).ops n v ≡ Some k) → IsPassedOn p n v r
-  passed_right valid l r tests e bound k =
+  pub passed_right : IsValid (plan_value p) → (l r : ℕ) (tests : List Test) → join l r tests ≡ op_at (plan_value p).ops n → true ≡ is_some (kinds (plan_value p).ops r v) → IsPassedOn p n v r
+  passed_right valid l r tests e bound =
       let below = inputs_below (plan_value p).ops typed n within (join l r tests) e in
       let some = some_kind (kinds (plan_value p).ops r v) bound in
       let none = sides_fresh (plan_value p) valid typed n l r v some.0 within (ap inputs_of (sym e)) some.1 in
       let x = fits_none (kinds (plan_value p).ops l v) (labels (plan_value p).ops l v) (labels_fit (plan_value p).ops typed l v (let z = below.0 in omega (arith, z, within))) none in
-      let right : kinds (plan_value p).ops r v ≡ Some k.0 = ap (λ (j : Option Kind). either_kind j (kinds (plan_value p).ops r v)) (sym none) ∙ sym (kind_of (plan_value p).ops typed n within (join l r tests) e v) ∙ k.1 in
       passed (join l r tests) e r below.1.0 (inr refl) tt
       (rw none refl) (omega arith) (λ bound. omega arith) (rw x refl)
-      (λ w row row' es h. h.1 (λ same. (let z : kinds (plan_value p).ops l v ≡ Some k.0 = ap (λ (m : ℕ). kinds (plan_value p).ops m v) (sym same) ∙ right in cc)) v none)
+      (λ w row row' es h. h.1 (λ same. (let z : kinds (plan_value p).ops l v ≡ Some some.0 = ap (λ (m : ℕ). kinds (plan_value p).ops m v) (sym same) ∙ some.1 in cc)) v none)
 
   -- MADE HERE
 
@@ -212,3 +178,33 @@ module _ (p : Plan) (typed : IsTyped (plan_value p).ops) (n : ℕ) (within : n <
 
   pub made_element : (i : ℕ) (label : List ℕ) (list out : ℕ) → over i (create_element label list out) ≡ op_at (plan_value p).ops n → (out == v) ≡ true → IsMadeHere p n v
   made_element i label list out e t = makes_it (over i (create_element label list out)) e t
+
+-- ALL THAT AN INPUT BINDS
+
+module _ (p : Plan) (valid : IsValid (plan_value p)) (typed : IsTyped (plan_value p).ops) (n : ℕ) (within : n < length (plan_value p).ops) where
+  -- an input does not bind what the operator binds anew
+  other_out : (o : Operator) → o ≡ op_at (plan_value p).ops n → (i out : ℕ) → Among i (inputs_of o) → Among out (outs_of o) → (v : ℕ) (k : Kind) → kinds (plan_value p).ops i v ≡ Some k → (out == v) ≡ false
+  other_out o e i out a b v k h =
+      elim (out == v) as (λ t. (out == v) ≡ t → t ≡ false) [
+        | true ↦ λ g.
+            absurd
+            (let same : out ≡ v = grind (arith, nat_tests, g) in
+            let none = out_fresh (plan_value p) valid typed n i out within (subst (λ (q : Operator). Among i (inputs_of q)) e a) (subst (λ (q : Operator). Among out (outs_of q)) e b) in
+            none_bound (kinds (plan_value p).ops i v) k (subst (λ (w : ℕ). kinds (plan_value p).ops i w ≡ None) same none) h)
+        | false ↦ λ g. refl
+      ] refl
+
+  pub all_visit : (i start : ℕ) (path : Form) (out : ℕ) → get_descendants i start path out ≡ op_at (plan_value p).ops n → PassesAll p n i
+  all_visit i start path out e v k h = passed_visit p typed n within v i start path out e (other_out (get_descendants i start path out) e i out (inl refl) (inl refl) v k h)
+
+  pub all_list : (i : ℕ) (pieces : List Piece) (out : ℕ) → over i (concatenate pieces out) ≡ op_at (plan_value p).ops n → PassesAll p n i
+  all_list i pieces out e v k h = passed_list p typed n within v i pieces out e (other_out (over i (concatenate pieces out)) e i out (inl refl) (inl refl) v k h)
+
+  pub all_element : (i : ℕ) (label : List ℕ) (list out : ℕ) → over i (create_element label list out) ≡ op_at (plan_value p).ops n → PassesAll p n i
+  all_element i label list out e v k h = passed_element p typed n within v i label list out e (other_out (over i (create_element label list out)) e i out (inl refl) (inl refl) v k h)
+
+  pub all_left : (l r : ℕ) (tests : List Test) → join l r tests ≡ op_at (plan_value p).ops n → PassesAll p n l
+  all_left l r tests e v k h = passed_left p typed n within v l r tests e (ap is_some (sym h))
+
+  pub all_right : (l r : ℕ) (tests : List Test) → join l r tests ≡ op_at (plan_value p).ops n → PassesAll p n r
+  all_right l r tests e v k h = passed_right p typed n within v valid l r tests e (ap is_some (sym h))

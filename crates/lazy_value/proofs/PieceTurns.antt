@@ -14,6 +14,10 @@ use Rattle.lazy_value.specs.Sizes.{piece_count, pieces_count, size, extent}
 use Rattle.lazy_value.specs.Ids.{pieces_trees, Stands, IsOrigin, value_of, head_label, head_trees, IsRest, rest_trees, weight, left, pieces_size, pieces_extent}
 use Rattle.lazy_value.specs.Origins.{origin_size, origin_extent, IsOriginOf, IsHeadOf}
 use Rattle.lazy_value.specs.Steps.{StandsFor, GoesOn, Turns, Falls}
+use Rattle.lazy_value.specs.Ways.{IsWays}
+use Rattle.lazy_value.specs.Calls.{TurnsPieces}
+use Rattle.lazy_value.specs.declared.ids.PiecesFrom.{PiecesFrom}
+use Rattle.lazy_value.specs.declared.ways.Ways.{Ways}
 use Rattle.lazy_value.proofs.Laws.{dearer_zero}
 use Rattle.std.proofs.lemmas.List.{drop_all}
 use Rattle.lazy_value.specs.declared.ids.Head.{Head}
@@ -38,7 +42,8 @@ falls_more b v w (On r) l h = omega (arith, l, h)
 one_on : {X : Type 0} (xs : List X) (i : ℕ) (d : X) → i < length xs → drop i xs ≡ slice_index_or xs i d ∷ drop (i + 1) xs
 one_on xs i d h = rw add-one (drop-cons xs i d h)
 
-module _ (st : BenchState) (op next : ℕ) (at : Position) (up : Rest) (there : next < length (pieces_of (op_at (ops_of st) op))) (s : Stands st op makes_list at) (h : IsRest st up) (q : Rc (Unit {0}) Global) where
+module _ (st : BenchState) (op next : ℕ) (at : Position) (up : Rest) (there : next < length (pieces_of (op_at (ops_of st) op))) (s : Stands st op makes_list at) (h : IsRest st up) (q : Rc (Unit {0}) Global)
+    (ways : Ways) (along : IsWays st (input_at (ops_of st) op) at ways) where
   -- the pieces from here on
   pieces_on : drop next (pieces_of (op_at (ops_of st) op)) ≡ piece_at (ops_of st) op next ∷ drop (next + 1) (pieces_of (op_at (ops_of st) op))
   pieces_on = one_on (pieces_of (op_at (ops_of st) op)) next (text_piece []) there
@@ -52,34 +57,34 @@ module _ (st : BenchState) (op next : ℕ) (at : Position) (up : Rest) (there : 
   count_on of = ap (pieces_count of) pieces_on
 
   -- what is behind this one is a rest
-  rest_on : IsRest st (Pieces' op at (next + 1) q up)
-  rest_on = (s, omega (arith, there), h)
+  pub rest_on : IsRest st (Pieces' op at (next + 1) ways q up)
+  rest_on = (s, omega (arith, there), along, h)
 
   module _ (v : ℕ) (origin : Origin) (input : ℕ) (i : input ≡ input_at (ops_of st) op) (p : piece_at (ops_of st) op next ≡ var_piece v) (o : IsOriginOf st input at v origin) where
-    values_on : value_trees (documents st) (value_of st origin) (rest_trees st (Pieces' op at (next + 1) q up)) ≡ pieces_trees st op at next (rest_trees st up)
+    values_on : value_trees (documents st) (value_of st origin) (rest_trees st (Pieces' op at (next + 1) ways q up)) ≡ pieces_trees st op at next (rest_trees st up)
     values_on = sym (trees_on
         ∙ ap (λ (x : Piece). piece_items (documents st) x (binding_at st (input_at (ops_of st) op) at) (pieces_trees st op at (next + 1) (rest_trees st up))) p
         ∙ ap (λ (x : TolledValue). value_trees (documents st) x (pieces_trees st op at (next + 1) (rest_trees st up))) (ap (λ (n : ℕ). tolled_value (binding_at st n at) v) (sym i) ∙ o.value))
 
     -- a turn into the value of a piece is one over the pieces
-    var_turns : (t : Turn) → Turns st st (value_trees (documents st) (value_of st origin) (rest_trees st (Pieces' op at (next + 1) q up))) (suc (origin_size st origin + weight st (Pieces' op at (next + 1) q up))) t
+    var_turns : (t : Turn) → Turns st st (value_trees (documents st) (value_of st origin) (rest_trees st (Pieces' op at (next + 1) ways q up))) (suc (origin_size st origin + weight st (Pieces' op at (next + 1) ways q up))) t
         → Turns st st (pieces_trees st op at next (rest_trees st up)) (suc (pieces_size st op next + weight st up)) t
     var_turns t w =
         let c = count_on (λ v. suc (size (ops_of st) (input_at (ops_of st) op) v)) in
         let d = ap (piece_count (λ v. suc (size (ops_of st) (input_at (ops_of st) op) v))) p in
         let e : origin_size st origin ≤ size (ops_of st) (input_at (ops_of st) op) v = subst (λ (n : ℕ). origin_size st origin ≤ size (ops_of st) n v) i o.size in
         turns_more st st (pieces_trees st op at next (rest_trees st up)) _ _ t (omega (arith, c, d, e))
-        (subst (λ (f : Tolled). Turns st st f (suc (origin_size st origin + weight st (Pieces' op at (next + 1) q up))) t) values_on w)
+        (subst (λ (f : Tolled). Turns st st f (suc (origin_size st origin + weight st (Pieces' op at (next + 1) ways q up))) t) values_on w)
 
     -- the same, where the rest is put together apart
-    pub var_turned : (x : Rest) → x ≡ Pieces' op at (next + 1) q up → (t : Turn)
+    pub var_turned : (x : Rest) → x ≡ Pieces' op at (next + 1) ways q up → (t : Turn)
         → (IsOrigin st origin → IsRest st x → Turns st st (value_trees (documents st) (value_of st origin) (rest_trees st x)) (suc (origin_size st origin + weight st x)) t)
         → Turns st st (pieces_trees st op at next (rest_trees st up)) (suc (pieces_size st op next + weight st up)) t
     var_turned x e t f =
         var_turns t (subst (λ (r : Rest). Turns st st (value_trees (documents st) (value_of st origin) (rest_trees st r)) (suc (origin_size st origin + weight st r)) t) e
         (f o.origin (subst (λ (r : Rest). IsRest st r) (sym e) rest_on)))
 
-    var_falls : (t : Turn) → Falls st (origin_extent st origin + left st (Pieces' op at (next + 1) q up)) t
+    var_falls : (t : Turn) → Falls st (origin_extent st origin + left st (Pieces' op at (next + 1) ways q up)) t
         → Falls st (pieces_extent st op next + left st up) t
     var_falls t w =
         let c = count_on (extent (size_of st) (ops_of st) (input_at (ops_of st) op)) in
@@ -88,14 +93,14 @@ module _ (st : BenchState) (op next : ℕ) (at : Position) (up : Rest) (there : 
         falls_more st _ _ t (omega (arith, c, d, e)) w
 
     -- the same, where the rest is put together apart
-    pub var_fallen : (x : Rest) → x ≡ Pieces' op at (next + 1) q up → (t : Turn) → (IsOrigin st origin → IsRest st x → Falls st (origin_extent st origin + left st x) t)
+    pub var_fallen : (x : Rest) → x ≡ Pieces' op at (next + 1) ways q up → (t : Turn) → (IsOrigin st origin → IsRest st x → Falls st (origin_extent st origin + left st x) t)
         → Falls st (pieces_extent st op next + left st up) t
     var_fallen x e t f =
         var_falls t (subst (λ (r : Rest). Falls st (origin_extent st origin + left st r) t) e (f o.origin (subst (λ (r : Rest). IsRest st r) (sym e) rest_on)))
 
   module _ (x : Head) (k : IsHeadOf st op next at x) where
     -- the tree of a piece that is no list is the first of the pieces
-    pub head_stands : (r : Rc Rest Global) → r.value ≡ Pieces' op at (next + 1) q up → StandsFor st st (pieces_trees st op at next (rest_trees st up)) (Item x r)
+    pub head_stands : (r : Rc Rest Global) → r.value ≡ Pieces' op at (next + 1) ways q up → StandsFor st st (pieces_trees st op at next (rest_trees st up)) (Item x r)
     head_stands r e =
         let z = trees_on ∙ k.trees (pieces_trees st op at (next + 1) (rest_trees st up)) in
         record {
@@ -104,7 +109,7 @@ module _ (st : BenchState) (op next : ℕ) (at : Position) (up : Rest) (there : 
           tree = λ y. ap is_item z;
         }
 
-    pub head_falls : ((v : ℕ) → piece_at (ops_of st) op next ≡ var_piece v → ⊥) → (r : Rest) → r ≡ Pieces' op at (next + 1) q up
+    pub head_falls : ((v : ℕ) → piece_at (ops_of st) op next ≡ var_piece v → ⊥) → (r : Rest) → r ≡ Pieces' op at (next + 1) ways q up
         → left st r < pieces_extent st op next + left st up
     head_falls other r e =
         let c = count_on (extent (size_of st) (ops_of st) (input_at (ops_of st) op)) in
@@ -117,21 +122,16 @@ module _ (st : BenchState) (op next : ℕ) (at : Position) (up : Rest) (there : 
         one (label_piece v) f = refl
         one (text_piece l) f = refl
 
--- what is behind a piece, as it was put together
-pub behind_is : (x : Rest) (op next : ℕ) (at here : Position) (q : _) (u up : Rest) → x ≡ Pieces' op here next q u → u ≡ up → here ≡ at → x ≡ Pieces' op at next q up
-behind_is x op next at here q u up e f g = e ∙ ap (λ (r : Rest). Pieces' op here next q r) f ∙ ap (λ (c : Position). Pieces' op c next q up) g
-
 -- a piece that is not behind the last one
 pub there_is : (n m r k : ℕ) → n ≤ m → r ≡ k → k ≡ m → (n ≡ r → ⊥) → n < m
 there_is n m r k l e p d = omega (arith, l, e, p, d)
 
 -- a turn over a rest is one over the pieces that it begins with
-pub rest_turns : (st : BenchState) (x : Rest) (op next : ℕ) (at : Position) (q : _) (up : Rest) (t : Turn) → x ≡ Pieces' op at next q up → IsRest st x
-    → (Stands st op makes_list at → IsRest st up → Turns st st (pieces_trees st op at next (rest_trees st up)) (suc (pieces_size st op next + weight st up)) t)
-    → Turns st st (rest_trees st x) (weight st x) t
-rest_turns st x op next at q up t e h f =
+pub rest_turns : (st : BenchState) (x : Rest) (from : PiecesFrom) (ways : Ways) (q : _) (up : Rest) (t : Turn) → x ≡ Pieces' from.op from.at.now from.next ways q up → IsRest st x
+    → TurnsPieces st from ways up t → Turns st st (rest_trees st x) (weight st x) t
+rest_turns st x from ways q up t e h f =
     let k = subst (λ (r : Rest). IsRest st r) e h in
-    subst (λ (r : Rest). Turns st st (rest_trees st r) (weight st r) t) (sym e) (f k.0 k.2)
+    subst (λ (r : Rest). Turns st st (rest_trees st r) (weight st r) t) (sym e) (f (record { stands = k.0; next = k.1; along = k.2; behind = k.3 }))
 
 -- behind the last piece comes what is behind them all
 pub over_pieces : (st : BenchState) (op next : ℕ) (at : Position) (up r : Rest) → next ≡ length (pieces_of (op_at (ops_of st) op)) → r ≡ up → IsRest st up

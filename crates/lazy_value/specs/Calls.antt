@@ -1,5 +1,5 @@
 -- What contracts say of the states of a bench, each state named once.
-use Rattle.std.specs.Prelude.{ℕ, suc, Bool, ◌+◌, ◌<◌, ◌≤◌, length, Option, Some, MatchOption, List}
+use Rattle.std.specs.Prelude.{◌≡◌, ℕ, suc, Bool, ◌+◌, ◌<◌, ◌≤◌, length, Option, Some, MatchOption, List}
 use Rattle.mix_base.specs.Events.{cost}
 use Rattle.lazy_descend.specs.Searches as Searches
 use Rattle.mix_tree.specs.Forest.{first_kids, behind}
@@ -20,9 +20,13 @@ use Rattle.lazy_value.specs.declared.ids.GroupFrom.{GroupFrom}
 use Rattle.lazy_value.specs.declared.ids.MembersFrom.{MembersFrom}
 use Rattle.lazy_value.specs.declared.ids.Origin.{Origin}
 use Rattle.lazy_value.specs.declared.ids.PiecesFrom.{PiecesFrom}
-use Rattle.lazy_value.specs.declared.ids.Rest.{Rest}
+use Rattle.lazy_value.specs.declared.ids.Rest.{Rest, Pieces'}
 use Rattle.lazy_value.specs.declared.ids.Site.{Site}
 use Rattle.lazy_value.specs.declared.ids.Turn.{Turn}
+use Rattle.lazy_value.specs.declared.ways.Ways.{Ways}
+use Rattle.lazy_value.specs.Ways.{IsWays}
+use Rattle.std.specs.declared.rc.Rc.{Rc}
+use Rattle.std.specs.declared.alloc.Global.{Global}
 use Rattle.tree_buffer.specs.declared.spot.Spot.{Spot}
 
 -- STATES
@@ -70,19 +74,26 @@ Enters st o r t =
 abbrev pub EnteringFalls : BenchState → Origin → Rest → Turn → Type 0
 EnteringFalls st o r t = IsOrigin st o → IsRest st r → Falls st (origin_extent st o + left st r) t
 
--- a concatenation from one of its pieces on, with this behind it
-abbrev pub InPieces : BenchState → PiecesFrom → Rest → Type 0
-InPieces st p up = Stands st p.op makes_list p.at.now × (p.next ≤ length (pieces_of (op_at (ops_of st) p.op))) × IsRest st up
+-- a concatenation from one of its pieces on, ways from its cursor, and this behind it
+pub record InPieces (st : BenchState) (p : PiecesFrom) (ways : Ways) (up : Rest) : Type 0 where
+  pub stands : Stands st p.op makes_list p.at.now
+  pub next : p.next ≤ length (pieces_of (op_at (ops_of st) p.op))
+  pub along : IsWays st (input_at (ops_of st) p.op) p.at.now ways
+  pub behind : IsRest st up
 
 -- what a turn over these pieces comes to
-abbrev pub TurnsPieces : BenchState → PiecesFrom → Rest → Turn → Type 0
-TurnsPieces st p up t = Stands st p.op makes_list p.at.now → IsRest st up → Turns st st (pieces_trees st p.op p.at.now p.next (rest_trees st up))
+abbrev pub TurnsPieces : BenchState → PiecesFrom → Ways → Rest → Turn → Type 0
+TurnsPieces st p ways up t = InPieces st p ways up → Turns st st (pieces_trees st p.op p.at.now p.next (rest_trees st up))
     (suc (pieces_size st p.op p.next + weight st up)) t
 
 -- and how many trees are left then
-abbrev pub PiecesFall : BenchState → PiecesFrom → Rest → Turn → Type 0
-PiecesFall st p up t = Stands st p.op makes_list p.at.now → IsRest st up
-    → Falls st (pieces_extent st p.op p.next + left st up) t
+abbrev pub PiecesFall : BenchState → PiecesFrom → Ways → Rest → Turn → Type 0
+PiecesFall st p ways up t = InPieces st p ways up → Falls st (pieces_extent st p.op p.next + left st up) t
+
+-- a rest is these pieces, with these ways and this behind them
+pub record IsPiecesOf (p : PiecesFrom) (ways : Ways) (up r : Rest) : Type 0 where
+  pub count : Rc (Unit {0}) Global
+  pub is : r ≡ Pieces' p.op p.at.now p.next ways count up
 
 -- what a turn over a rest comes to
 abbrev pub TurnsRest : BenchState → BenchState → Rest → Turn → Type 0

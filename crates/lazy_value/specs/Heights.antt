@@ -32,7 +32,7 @@ head_rank (Text op index) = 0
 -- those that make the elements behind a node
 abbrev pub rest_rank : Rest → ℕ
 rest_rank End = 0
-rest_rank (Pieces' op at next q up) = max op (rest_rank up)
+rest_rank (Pieces' op at next ways q up) = max op (rest_rank up)
 rest_rank (Members' op at q up) = max op (rest_rank up)
 rest_rank (Group' op first at q up) = max op (rest_rank up)
 

@@ -18,6 +18,7 @@ use Rattle.lazy_plan.specs.Bench.{BenchState, ops_of, documents, events_of, size
 use Rattle.lazy_binding.specs.declared.position.Position.{Position}
 use Rattle.lazy_value.specs.Forms.{Form, makes_list, makes_element, gathers_all, gathers_groups, form, input_at, pieces_of, keys_of, label_in, piece_at, piece_of}
 use Rattle.lazy_value.specs.Sizes.{pieces_count, size, extent}
+use Rattle.lazy_value.specs.Ways.{IsWays}
 use Rattle.lazy_value.specs.declared.ids.Origin.{Origin}
 use Rattle.lazy_value.specs.declared.ids.Origin.TheVariants.{Node, Element, Joined, All, Group as Same}
 use Rattle.lazy_value.specs.declared.ids.Head.{Head}
@@ -136,14 +137,15 @@ IsHead st (Text op index) = IsText st op index
 -- the trees of what is behind a node
 abbrev pub rest_trees : BenchState → Rest → Tolled
 rest_trees st End = ends 0
-rest_trees st (Pieces' op at next q up) = pieces_trees st op at next (rest_trees st up)
+rest_trees st (Pieces' op at next ways q up) = pieces_trees st op at next (rest_trees st up)
 rest_trees st (Members' op at q up) = members_trees st op at (rest_trees st up)
 rest_trees st (Group' op first at q up) = group_trees st op first at (rest_trees st up)
 
 -- it is one of the bench's
 abbrev pub IsRest : BenchState → Rest → Type 0
 IsRest st End = Unit {0}
-IsRest st (Pieces' op at next q up) = Stands st op makes_list at × (next ≤ length (pieces_of (op_at (ops_of st) op))) × IsRest st up
+IsRest st (Pieces' op at next ways q up) =
+    Stands st op makes_list at × (next ≤ length (pieces_of (op_at (ops_of st) op))) × IsWays st (input_at (ops_of st) op) at ways × IsRest st up
 IsRest st (Members' op at q up) = GathersAll st op × MatchOption at (Unit {0}) (λ c. IsCursor st (input_at (ops_of st) op) c) × IsRest st up
 IsRest st (Group' op first at q up) = Stands st op gathers_groups first × Stands st op gathers_groups at × IsRest st up
 
@@ -170,7 +172,7 @@ pieces_extent st op next = pieces_count (extent (size_of st) (ops_of st) (input_
 -- how many lists and pieces are still to be entered
 abbrev pub weight : BenchState → Rest → ℕ
 weight st End = 0
-weight st (Pieces' op at next q up) = suc (pieces_size st op next + weight st up)
+weight st (Pieces' op at next ways q up) = suc (pieces_size st op next + weight st up)
 weight st (Members' op at q up) = suc (weight st up)
 weight st (Group' op first at q up) = suc (weight st up)
 
@@ -182,7 +184,7 @@ number_from st n (Some c) = number_at st n c
 -- how many trees are behind a node at most
 abbrev pub left : BenchState → Rest → ℕ
 left st End = 0
-left st (Pieces' op at next q up) = pieces_extent st op next + left st up
+left st (Pieces' op at next ways q up) = pieces_extent st op next + left st up
 left st (Members' op at q up) = number_from st (input_at (ops_of st) op) at + left st up
 left st (Group' op first at q up) = number_at st (input_at (ops_of st) op) at + left st up
 

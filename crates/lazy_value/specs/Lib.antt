@@ -8,3 +8,4 @@ pub mod Origins
 pub mod Places
 pub mod Sizes
 pub mod Steps
+pub mod Ways

@@ -18,6 +18,9 @@ use Rattle.lazy_value.specs.Labels as of
 use Rattle.lazy_value.specs.Sizes.{pieces_count, size, extent}
 use Rattle.lazy_value.specs.Ids.{IsOrigin, value_of, IsHead, head_label, head_trees}
 use Rattle.lazy_value.specs.Heights.{origin_rank, head_rank}
+use Rattle.lazy_value.specs.Ways.{IsWays}
+use Rattle.lazy_value.specs.declared.ways.Ways.{Ways}
+use Rattle.lazy_value.specs.declared.ways.Found.{Found}
 use Rattle.lazy_value.specs.declared.ids.Head.{Head}
 use Rattle.lazy_value.specs.declared.ids.Head.TheVariants.{Whole, Built, Leaf, Text}
 use Rattle.lazy_value.specs.declared.ids.Origin.{Origin}
@@ -68,14 +71,9 @@ pub record IsPassedOn (p : Plan) (n v i : ℕ) : Type 0 where
   pub value : (w : World) (row below : TolledRow) (es : RowEvents) → IsMadeOf (record { world = w; plan = p }) row i below es (op_at (plan_value p).ops n)
       → tolled_value row v ≡ tolled_value below v
 
--- the value of a variable in a cursor's binding is that in the binding of cursor d of operator m
-pub record IsHeldAt (st : BenchState) (n : ℕ) (c : Position) (v m : ℕ) (d : Position) : Type 0 where
-  pub within : m ≤ n
-  pub cursor : IsCursor st m d
-  pub value : tolled_value (binding_at st n c) v ≡ tolled_value (binding_at st m d) v
-  pub kind : kinds (ops_of st) n v ≡ kinds (ops_of st) m v
-  pub size : size (ops_of st) m v ≤ size (ops_of st) n v
-  pub extent : extent (size_of st) (ops_of st) m v ≤ extent (size_of st) (ops_of st) n v
+-- all that input i binds is in its binding
+abbrev pub PassesAll : Plan → ℕ → ℕ → Type 0
+PassesAll p n i = (v : ℕ) (k : Kind) → kinds (plan_value p).ops i v ≡ Some k → IsPassedOn p n v i
 
 -- an operator makes the value of a variable
 abbrev pub makes : Operator → ℕ → Bool
@@ -110,3 +108,7 @@ pub record IsHeadOf (st : BenchState) (op index : ℕ) (c : Position) (h : Head)
   pub rank : head_rank h ≤ op
   pub trees : (rest : Tolled)
       → piece_items (documents st) (piece_at (ops_of st) op index) (binding_at st (input_at (ops_of st) op) c) rest ≡ item 0 (head_label st h) (head_trees st h) rest
+
+-- from whatever cursor the ways are, the value of the variable in its binding is made there, and the ways then are from it too
+abbrev pub FindsAlong : BenchState → ℕ → Ways → Found → Type 0
+FindsAlong st v ways f = (n : ℕ) (c : Position) → IsCursor st n c → IsWays st n c ways → IsOriginOf st n c v f.origin × IsWays st n c f.ways

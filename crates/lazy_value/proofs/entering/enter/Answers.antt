@@ -1,12 +1,17 @@
+use Rattle.std.proofs.Common.{◌∙◌, ap}
+use Rattle.plan_core.specs.declared.plan.Plan.{Plan}
+use Rattle.plan_core.specs.PlanMade.{plan_value}
 use Rattle.lazy_plan.specs.Bench.{state_of}
+use Rattle.lazy_value.specs.Forms.{input_at}
 use Rattle.lazy_value.proofs.Enters.{joined_goes, all_goes, group_stands}
 use Rattle.lazy_value.proofs.entering.enter.Goals as goal
 
-pub returns-in_ok-put-in-Joined-clause-answer : goal.returns-in_ok-put-in-Joined-clause-answer
-returns-in_ok-put-in-Joined-clause-answer c = λ view h o r.
-    joined_goes (state_of view c.args.bench.now) c.args.origin.now c.args.behind.now.value c.in_ok-put-in-Joined.field-0.value o r
-    c.in-Joined.op c.in-Joined.at c.in_ok-at-in-Joined.at _ c.in_ok-up.up.value
-    c.in-Joined.is c.in_ok-put-in-Joined.ensures c.in_ok-up.ensures c.in_ok-at-in-Joined.ensures
+pub returns-in_ok-rest_of_pieces-in-Joined-clause-answer : goal.returns-in_ok-rest_of_pieces-in-Joined-clause-answer
+returns-in_ok-rest_of_pieces-in-Joined-clause-answer c = λ view h o r.
+    let b = c.in_ok-rest_of_pieces-in-Joined.ensures in
+    joined_goes (state_of view c.args.bench.now) c.args.origin.now c.args.behind.now.value c.in_ok-rest_of_pieces-in-Joined.field-0.value o r
+    c.in-Joined.op c.input_of.result c.in-Joined.at c.in_ok-ways-in-Joined.ways b.count c.in-Joined.is b.is
+    (c.input_of.ensures ∙ ap (λ (p : Plan). input_at (plan_value p).ops c.in-Joined.op) c.plan.ensures) c.in_ok-ways-in-Joined.ensures.last c.in_ok-ways-in-Joined.ensures.lowest
 
 pub returns-in_ok-put-in-All-clause-answer : goal.returns-in_ok-put-in-All-clause-answer
 returns-in_ok-put-in-All-clause-answer c = λ view h o r.

@@ -1,51 +1,86 @@
-use Rattle.std.proofs.Common.{◌+◌, ℕ, length, ◌∙◌, sym, ap, subst, arith}
+use Rattle.std.proofs.Common.{ℕ, length, refl, ◌∙◌, sym, ap, subst, arith}
 use Rattle.plan_core.specs.declared.plan.Plan.{Plan}
 use Rattle.plan_core.specs.PlanMade.{plan_value}
 use Rattle.plan_core.specs.ByNumber.{op_at}
 use Rattle.lazy_plan.specs.Bench.{state_of, ops_of, IsCursor}
 use Rattle.lazy_value.specs.Forms.{input_at, pieces_of, piece_at}
+use Rattle.lazy_value.specs.Ids.{IsRest}
+use Rattle.lazy_value.specs.declared.ids.Rest.{Rest}
 use Rattle.lazy_value.proofs.Heads.{if_ok}
 use Rattle.lazy_value.specs.Heights.{rest_rank, KeepsRank}
 use Rattle.lazy_value.proofs.Heights.{origin_ranked, put_ranked, member_ranked}
-use Rattle.lazy_value.proofs.PieceTurns.{behind_is, there_is, var_turned, var_fallen, head_stands, head_falls, over_pieces}
+use Rattle.lazy_value.proofs.PieceTurns.{there_is, var_turned, var_fallen, head_stands, head_falls, rest_on, over_pieces}
 use Rattle.lazy_value.proofs.turning.pieces.Goals as goal
 
-pub returns-in_ok-origin-in-Var-clause-answer : goal.returns-in_ok-origin-in-Var-clause-answer
-returns-in_ok-origin-in-Var-clause-answer c =
+pub returns-in_ok-behind-in-Var-clause-answer : goal.returns-in_ok-behind-in-Var-clause-answer
+returns-in_ok-behind-in-Var-clause-answer c =
+    let b = c.in_ok-behind-in-Var.ensures in
     if_ok c.enter.result _ _
-    (λ t k view h s r.
-    var_turned (state_of view c.args.bench.now) c.args.from.now.op c.args.from.now.next c.args.from.now.at.now c.args.up.now.value (there_is _ _ _ _ c.requires.bench.2.1 c.count_pieces.ensures (ap (λ (p : Plan). length (pieces_of (op_at (plan_value p).ops c.args.from.now.op))) c.plan.ensures) c.if-from-count_pieces.false) s r _ c.in-Var.v c.in_ok-origin-in-Var.origin c.input_of-input.result (c.input_of-input.ensures ∙ ap (λ (p : Plan). input_at (plan_value p).ops c.args.from.now.op) c.plan-2.ensures) (sym (c.piece.ensures ∙ ap (λ (p : Plan). piece_at (plan_value p).ops c.args.from.now.op c.args.from.now.next) c.plan-3.ensures) ∙ c.in-Var.is)
-    (c.in_ok-origin-in-Var.ensures view h (subst (λ (n : ℕ). IsCursor (state_of view c.args.bench.now) n c.args.from.now.at.now) (sym (c.input_of-input.ensures ∙ ap (λ (p : Plan). input_at (plan_value p).ops c.args.from.now.op) c.plan-2.ensures)) s.cursor)) c.in_ok-behind.behind.value (behind_is c.in_ok-behind.behind.value c.args.from.now.op (c.args.from.now.next + 1) c.args.from.now.at.now c.in_ok-here.here _ c.in_ok-up.up.value c.args.up.now.value c.in_ok-behind.ensures c.in_ok-up.ensures c.in_ok-here.ensures) t (k view h))
+    (λ t k view h i.
+    let st = state_of view c.args.bench.now in
+    let f = c.in_ok-found-in-Var.ensures view h (input_at (ops_of st) c.args.from.now.op) c.args.from.now.at.now i.stands.cursor i.along in
+    var_turned st c.args.from.now.op c.args.from.now.next c.args.from.now.at.now c.args.up.now.value (there_is _ _ _ _ i.next c.count_pieces.ensures (ap (λ (p : Plan). length (pieces_of (op_at (plan_value p).ops c.args.from.now.op))) c.plan.ensures) c.if-from-count_pieces.false) i.stands i.behind b.count
+    c.in_ok-found-in-Var.found.ways f.1 c.in-Var.v c.in_ok-found-in-Var.found.origin (input_at (ops_of st) c.args.from.now.op) refl (sym (c.piece.ensures ∙ ap (λ (p : Plan). piece_at (plan_value p).ops c.args.from.now.op c.args.from.now.next) c.plan-2.ensures) ∙ c.in-Var.is)
+    f.0 c.in_ok-behind-in-Var.behind.value b.is t (k view h))
     c.enter.ensures.answer
 
-pub returns-in_ok-origin-in-Var-clause-left : goal.returns-in_ok-origin-in-Var-clause-left
-returns-in_ok-origin-in-Var-clause-left c =
+pub returns-in_ok-behind-in-Var-clause-left : goal.returns-in_ok-behind-in-Var-clause-left
+returns-in_ok-behind-in-Var-clause-left c =
+    let b = c.in_ok-behind-in-Var.ensures in
     if_ok c.enter.result _ _
-    (λ t k view h s r.
-    var_fallen (state_of view c.args.bench.now) c.args.from.now.op c.args.from.now.next c.args.from.now.at.now c.args.up.now.value (there_is _ _ _ _ c.requires.bench.2.1 c.count_pieces.ensures (ap (λ (p : Plan). length (pieces_of (op_at (plan_value p).ops c.args.from.now.op))) c.plan.ensures) c.if-from-count_pieces.false) s r _ c.in-Var.v c.in_ok-origin-in-Var.origin c.input_of-input.result (c.input_of-input.ensures ∙ ap (λ (p : Plan). input_at (plan_value p).ops c.args.from.now.op) c.plan-2.ensures) (sym (c.piece.ensures ∙ ap (λ (p : Plan). piece_at (plan_value p).ops c.args.from.now.op c.args.from.now.next) c.plan-3.ensures) ∙ c.in-Var.is)
-    (c.in_ok-origin-in-Var.ensures view h (subst (λ (n : ℕ). IsCursor (state_of view c.args.bench.now) n c.args.from.now.at.now) (sym (c.input_of-input.ensures ∙ ap (λ (p : Plan). input_at (plan_value p).ops c.args.from.now.op) c.plan-2.ensures)) s.cursor)) c.in_ok-behind.behind.value (behind_is c.in_ok-behind.behind.value c.args.from.now.op (c.args.from.now.next + 1) c.args.from.now.at.now c.in_ok-here.here _ c.in_ok-up.up.value c.args.up.now.value c.in_ok-behind.ensures c.in_ok-up.ensures c.in_ok-here.ensures) t (k view h))
+    (λ t k view h i.
+    let st = state_of view c.args.bench.now in
+    let f = c.in_ok-found-in-Var.ensures view h (input_at (ops_of st) c.args.from.now.op) c.args.from.now.at.now i.stands.cursor i.along in
+    var_fallen st c.args.from.now.op c.args.from.now.next c.args.from.now.at.now c.args.up.now.value (there_is _ _ _ _ i.next c.count_pieces.ensures (ap (λ (p : Plan). length (pieces_of (op_at (plan_value p).ops c.args.from.now.op))) c.plan.ensures) c.if-from-count_pieces.false) i.stands i.behind b.count
+    c.in_ok-found-in-Var.found.ways f.1 c.in-Var.v c.in_ok-found-in-Var.found.origin (input_at (ops_of st) c.args.from.now.op) refl (sym (c.piece.ensures ∙ ap (λ (p : Plan). piece_at (plan_value p).ops c.args.from.now.op c.args.from.now.next) c.plan-2.ensures) ∙ c.in-Var.is)
+    f.0 c.in_ok-behind-in-Var.behind.value b.is t (k view h))
     c.enter.ensures.left
 
-pub returns-in_ok-origin-in-Var-clause-rank : goal.returns-in_ok-origin-in-Var-clause-rank
-returns-in_ok-origin-in-Var-clause-rank c =
-    let view = c.requires.bench.0 in let s = c.requires.bench.2.0 in
-    let o = c.in_ok-origin-in-Var.ensures view c.requires.bench.1 (subst (λ (n : ℕ). IsCursor (state_of view c.args.bench.now) n c.args.from.now.at.now) (sym (c.input_of-input.ensures ∙ ap (λ (p : Plan). input_at (plan_value p).ops c.args.from.now.op) c.plan-2.ensures)) s.cursor) in
-    let l = origin_ranked (ops_of (state_of view c.args.bench.now)) c.requires.bench.1.fixed.typed c.args.from.now.op c.input_of-input.result c.args.from.now.next s.within (there_is _ _ _ _ c.requires.bench.2.1 c.count_pieces.ensures (ap (λ (p : Plan). length (pieces_of (op_at (plan_value p).ops c.args.from.now.op))) c.plan.ensures) c.if-from-count_pieces.false)
-    (c.input_of-input.ensures ∙ ap (λ (p : Plan). input_at (plan_value p).ops c.args.from.now.op) c.plan-2.ensures) c.in_ok-origin-in-Var.origin o.rank in
+pub returns-in_ok-behind-in-Var-clause-rank : goal.returns-in_ok-behind-in-Var-clause-rank
+returns-in_ok-behind-in-Var-clause-rank c =
+    let b = c.in_ok-behind-in-Var.ensures in let view = c.requires.bench.0 in let i = c.requires.bench.2 in let st = state_of view c.args.bench.now in
+    let f = c.in_ok-found-in-Var.ensures view c.requires.bench.1 (input_at (ops_of st) c.args.from.now.op) c.args.from.now.at.now i.stands.cursor i.along in
+    let o = f.0 in
+    let l = origin_ranked (ops_of st) c.requires.bench.1.fixed.typed c.args.from.now.op (input_at (ops_of st) c.args.from.now.op) c.args.from.now.next i.stands.within (there_is _ _ _ _ i.next c.count_pieces.ensures (ap (λ (p : Plan). length (pieces_of (op_at (plan_value p).ops c.args.from.now.op))) c.plan.ensures) c.if-from-count_pieces.false)
+    refl c.in_ok-found-in-Var.found.origin o.rank in
     if_ok c.enter.result _ (KeepsRank c.args.from.now.op c.args.up.now.value)
-    (λ t h k m n. h k (omega (arith, l, m)) (put_ranked c.in_ok-behind.behind.value c.args.up.now.value c.args.from.now.op k (ap rest_rank (behind_is c.in_ok-behind.behind.value c.args.from.now.op (c.args.from.now.next + 1) c.args.from.now.at.now c.in_ok-here.here _ c.in_ok-up.up.value c.args.up.now.value c.in_ok-behind.ensures c.in_ok-up.ensures c.in_ok-here.ensures)) m n)) c.enter.ensures.rank
+    (λ t h k m n. h k (omega (arith, l, m)) (put_ranked c.in_ok-behind-in-Var.behind.value c.args.up.now.value c.args.from.now.op k (ap rest_rank b.is) m n)) c.enter.ensures.rank
 
-pub returns-in_ok-head-in_default : goal.returns-in_ok-head-in_default
-returns-in_ok-head-in_default c = record {
-  answer = λ view h s r. head_stands (state_of view c.args.bench.now) c.args.from.now.op c.args.from.now.next c.args.from.now.at.now c.args.up.now.value (there_is _ _ _ _ c.requires.bench.2.1 c.count_pieces.ensures (ap (λ (p : Plan). length (pieces_of (op_at (plan_value p).ops c.args.from.now.op))) c.plan.ensures) c.if-from-count_pieces.false) s r _ c.in_ok-head-in_default.head (c.in_ok-head-in_default.ensures view h (subst (λ (n : ℕ). IsCursor (state_of view c.args.bench.now) n c.args.from.now.at.now) (sym (c.input_of-input.ensures ∙ ap (λ (p : Plan). input_at (plan_value p).ops c.args.from.now.op) c.plan-2.ensures)) s.cursor)) c.in_ok-behind.behind (behind_is c.in_ok-behind.behind.value c.args.from.now.op (c.args.from.now.next + 1) c.args.from.now.at.now c.in_ok-here.here _ c.in_ok-up.up.value c.args.up.now.value c.in_ok-behind.ensures c.in_ok-up.ensures c.in_ok-here.ensures);
-  left = λ view h s r. head_falls (state_of view c.args.bench.now) c.args.from.now.op c.args.from.now.next c.args.from.now.at.now c.args.up.now.value (there_is _ _ _ _ c.requires.bench.2.1 c.count_pieces.ensures (ap (λ (p : Plan). length (pieces_of (op_at (plan_value p).ops c.args.from.now.op))) c.plan.ensures) c.if-from-count_pieces.false) s r _ c.in_ok-head-in_default.head (c.in_ok-head-in_default.ensures view h (subst (λ (n : ℕ). IsCursor (state_of view c.args.bench.now) n c.args.from.now.at.now) (sym (c.input_of-input.ensures ∙ ap (λ (p : Plan). input_at (plan_value p).ops c.args.from.now.op) c.plan-2.ensures)) s.cursor))
-      (λ v e. c.in_default.not-Var v (c.piece.ensures ∙ ap (λ (p : Plan). piece_at (plan_value p).ops c.args.from.now.op c.args.from.now.next) c.plan-3.ensures ∙ e)) c.in_ok-behind.behind.value (behind_is c.in_ok-behind.behind.value c.args.from.now.op (c.args.from.now.next + 1) c.args.from.now.at.now c.in_ok-here.here _ c.in_ok-up.up.value c.args.up.now.value c.in_ok-behind.ensures c.in_ok-up.ensures c.in_ok-here.ensures);
-  rank = (let view = c.requires.bench.0 in let s = c.requires.bench.2.0 in
-      let h = c.in_ok-head-in_default.ensures view c.requires.bench.1 (subst (λ (n : ℕ). IsCursor (state_of view c.args.bench.now) n c.args.from.now.at.now) (sym (c.input_of-input.ensures ∙ ap (λ (p : Plan). input_at (plan_value p).ops c.args.from.now.op) c.plan-2.ensures)) s.cursor) in
-      member_ranked c.in_ok-head-in_default.head c.in_ok-behind.behind c.args.from.now.op c.args.up.now.value h.rank (ap rest_rank (behind_is c.in_ok-behind.behind.value c.args.from.now.op (c.args.from.now.next + 1) c.args.from.now.at.now c.in_ok-here.here _ c.in_ok-up.up.value c.args.up.now.value c.in_ok-behind.ensures c.in_ok-up.ensures c.in_ok-here.ensures)));
-}
+pub returns-in_ok-rest-in_default : goal.returns-in_ok-rest-in_default
+returns-in_ok-rest-in_default c =
+    let b = c.in_ok-rest-in_default.ensures in let k = c.in_ok-again-in_default.ensures in
+    record {
+      answer = λ view h i.
+          let st = state_of view c.args.bench.now in
+          head_stands st c.args.from.now.op c.args.from.now.next c.args.from.now.at.now c.args.up.now.value (there_is _ _ _ _ i.next c.count_pieces.ensures (ap (λ (p : Plan). length (pieces_of (op_at (plan_value p).ops c.args.from.now.op))) c.plan.ensures) c.if-from-count_pieces.false) i.stands i.behind b.count
+          c.in_ok-again-in_default.field-0 (k.0 st (input_at (ops_of st) c.args.from.now.op) c.args.from.now.at.now i.along.0, k.1 st (input_at (ops_of st) c.args.from.now.op) c.args.from.now.at.now i.along.1) c.in_ok-head-in_default.head (c.in_ok-head-in_default.ensures view h (subst (λ (n : ℕ). IsCursor st n c.args.from.now.at.now) (sym (c.input_of-input.ensures ∙ ap (λ (p : Plan). input_at (plan_value p).ops c.args.from.now.op) c.plan-in_default.ensures)) i.stands.cursor)) c.in_ok-rest-in_default.rest b.is;
+      left = λ view h i.
+          let st = state_of view c.args.bench.now in
+          head_falls st c.args.from.now.op c.args.from.now.next c.args.from.now.at.now c.args.up.now.value (there_is _ _ _ _ i.next c.count_pieces.ensures (ap (λ (p : Plan). length (pieces_of (op_at (plan_value p).ops c.args.from.now.op))) c.plan.ensures) c.if-from-count_pieces.false) i.stands i.behind b.count
+          c.in_ok-again-in_default.field-0 (k.0 st (input_at (ops_of st) c.args.from.now.op) c.args.from.now.at.now i.along.0, k.1 st (input_at (ops_of st) c.args.from.now.op) c.args.from.now.at.now i.along.1) c.in_ok-head-in_default.head (c.in_ok-head-in_default.ensures view h (subst (λ (n : ℕ). IsCursor st n c.args.from.now.at.now) (sym (c.input_of-input.ensures ∙ ap (λ (p : Plan). input_at (plan_value p).ops c.args.from.now.op) c.plan-in_default.ensures)) i.stands.cursor))
+          (λ v e. c.in_default.not-Var v (c.piece.ensures ∙ ap (λ (p : Plan). piece_at (plan_value p).ops c.args.from.now.op c.args.from.now.next) c.plan-2.ensures ∙ e)) c.in_ok-rest-in_default.rest.value b.is;
+      rank = (let view = c.requires.bench.0 in let h = c.requires.bench.1 in let i = c.requires.bench.2 in let st = state_of view c.args.bench.now in
+          let x = (c.in_ok-head-in_default.ensures view h (subst (λ (n : ℕ). IsCursor st n c.args.from.now.at.now) (sym (c.input_of-input.ensures ∙ ap (λ (p : Plan). input_at (plan_value p).ops c.args.from.now.op) c.plan-in_default.ensures)) i.stands.cursor)) in
+          member_ranked c.in_ok-head-in_default.head c.in_ok-rest-in_default.rest c.args.from.now.op c.args.up.now.value x.rank (ap rest_rank b.is));
+    }
+
+pub enter-requires : goal.enter-requires
+enter-requires c =
+    let b = c.in_ok-behind-in-Var.ensures in let view = c.requires.bench.0 in let i = c.requires.bench.2 in let st = state_of view c.args.bench.now in
+    let f = c.in_ok-found-in-Var.ensures view c.requires.bench.1 (input_at (ops_of st) c.args.from.now.op) c.args.from.now.at.now i.stands.cursor i.along in
+    record {
+      bench = (
+        view,
+        c.requires.bench.1,
+        (
+          f.0.origin,
+          subst (λ (r : Rest). IsRest st r) (sym b.is)
+              (rest_on st c.args.from.now.op c.args.from.now.next c.args.from.now.at.now c.args.up.now.value (there_is _ _ _ _ i.next c.count_pieces.ensures (ap (λ (p : Plan). length (pieces_of (op_at (plan_value p).ops c.args.from.now.op))) c.plan.ensures) c.if-from-count_pieces.false) i.stands i.behind b.count c.in_ok-found-in-Var.found.ways f.1),
+        ),
+      );
+    }
 
 pub returns-then-from-count_pieces-clause-answer : goal.returns-then-from-count_pieces-clause-answer
-returns-then-from-count_pieces-clause-answer c = λ view h s r.
+returns-then-from-count_pieces-clause-answer c = λ view h i.
     over_pieces (state_of view c.args.bench.now) c.args.from.now.op c.args.from.now.next c.args.from.now.at.now c.args.up.now.value c.in_ok-share.field-0.value
-    (c.if-from-count_pieces.true ∙ c.count_pieces.ensures ∙ ap (λ (p : Plan). length (pieces_of (op_at (plan_value p).ops c.args.from.now.op))) c.plan.ensures) c.in_ok-share.ensures r
+    (c.if-from-count_pieces.true ∙ c.count_pieces.ensures ∙ ap (λ (p : Plan). length (pieces_of (op_at (plan_value p).ops c.args.from.now.op))) c.plan.ensures) c.in_ok-share.ensures i.behind
