@@ -1,25 +1,29 @@
 -- A line that is read page by page.
-use Rattle.std.proofs.Common.{◌≡◌, ◌<◌, ◌≤◌, ◌+◌, ◌-◌, ◌^◌, ◌∙◌, inl, inr, ℕ, Bool, true, false, List, [], ◌∷◌, ◌++◌, Option, Some, None, IsTrue, cond, is_some, refl, ap, sym, subst, arith, length, take, append_assoc, length-append, length-take}
+use Rattle.std.proofs.Common.{◌≡◌, ◌<◌, ◌≤◌, ◌+◌, ◌-◌, ◌^◌, ◌∙◌, inl, inr, ℕ, zero, suc, Bool, true, false, List, [], ◌∷◌, ◌++◌, Option, Some, None, IsTrue, cond, is_some, refl, ap, sym, subst, arith, length, take, append_assoc, length-append, length-take}
 use Rattle.mix_base.proofs.Lists.{append_nil}
 use Rattle.mix_io.specs.Input.{InputView, Took}
+use Rattle.mix_io.specs.declared.input.TakeFault.{TakeFault}
+use Rattle.mix_io.specs.declared.input.TakeFault.TheVariants.{Failed, OutOfMemory}
 use Rattle.mix_script.specs.declared.step.LineRead.{LineRead}
 use Rattle.mix_talk.specs.Heard.{heard, next_asks}
 use Rattle.mix_talk.specs.Pages.{Refilled}
-use Rattle.mix_talk.specs.Reading.{HasNoLf, IsLine, IsReaderOf, Moved, Reads, to_read}
+use Rattle.mix_talk.specs.Reading.{HasNoLf, IsLine, IsReaderOf, Moved, TookSome, Reads, to_read}
 use Rattle.mix_talk.specs.declared.reader.LineReader.{LineReader}
 use Rattle.mix_talk.proofs.Long.{no_lf_append, no_lf_take, kept_asks, kept_line, lines_without}
 use Rattle.mix_talk.proofs.Taken.{took_none, took_more}
 
--- these bytes of a line with no LF among them were moved, and some pages were taken for it
+-- bytes of a line with no LF among them were moved, of which no more are kept than a line may have with its end, and some pages were taken
+-- for it
 pub record IsCutting (old now : InputView) (r r' : LineReader) (line : List ℕ) : Type 0 where
   pub bytes : List ℕ
   pub took : Took old now bytes
-  pub kept : length line ≤ 1048578
-  pub free : HasNoLf line
+  pub body : List ℕ
+  pub free : HasNoLf body
+  pub kept : line ≡ take 1048578 body
+  pub cut : r.page ++ bytes ≡ body ++ r'.page
   pub reader : IsReaderOf now r'
-  pub ask : (more : List ℕ) → heard (r.page ++ bytes ++ more) ≡ heard (line ++ r'.page ++ more)
   pub still : r.ended ≡ true → (bytes ≡ []) × (r'.ended ≡ true)
-  pub less : to_read now r' + length line ≤ to_read old r
+  pub less : to_read now r' + length body ≤ to_read old r
 
 -- how many pages can still be taken
 abbrev pub pages_left : InputView → LineReader → ℕ
@@ -52,63 +56,101 @@ some_part part body e = let long = ap (λ (xs : List ℕ). length xs) e ∙ leng
 not_both : {b : Bool} → b ≡ false → b ≡ true → ⊥
 not_both h k = let e : false ≡ true = sym h ∙ k in cc
 
+-- a front of a front with more behind it
+front_again : (n : ℕ) (xs ys : List ℕ) → take n (take n xs ++ ys) ≡ take n (xs ++ ys)
+front_again zero xs ys = refl
+front_again (suc n) [] ys = refl
+front_again (suc n) (x ∷ xs) ys = ap (λ r. x ∷ r) (front_again n xs ys)
+
 -- a reader begins with a line
 pub cutting_start : (input : InputView) (r : LineReader) → IsReaderOf input r → IsCutting input input r r []
 cutting_start input r reader = record {
   bytes = [];
   took = took_none input;
-  kept = omega arith;
+  body = [];
   free = tt;
+  kept = refl;
+  cut = append_nil r.page;
   reader = reader;
-  ask = λ more. ap (λ page. heard (page ++ more)) (append_nil r.page);
   still = λ ended. (refl, ended);
   less = omega arith;
 }
 
 module _ (old now : InputView) (r r' : LineReader) (line : List ℕ) (cut : IsCutting old now r r' line) where
+  -- no more of it is kept than of a line with its end
+  pub kept_length : length line ≤ 1048578
+  kept_length = let long = ap (λ (xs : List ℕ). length xs) cut.kept ∙ length-take 1048578 cut.body in omega (arith, long)
+
+  -- what is kept with a part behind it
+  kept_more : (page line' : List ℕ) (whole : Bool) → (moved : Moved r'.page page line line' whole) → line' ≡ take 1048578 (cut.body ++ moved.part)
+  kept_more page line' whole moved =
+      moved.kept ∙ ap (λ l. take 1048578 (l ++ moved.part)) cut.kept ∙ front_again 1048578 cut.body moved.part
+
+  -- what was taken is the body, the part behind it, and what is left of the page
+  cut_more : (page line' : List ℕ) (whole : Bool) → (moved : Moved r'.page page line line' whole) → r.page ++ cut.bytes ≡ (cut.body ++ moved.part) ++ page
+  cut_more page line' whole moved = cut.cut ∙ ap (λ p. cut.body ++ p) moved.cut ∙ sym (append_assoc cut.body moved.part page)
+
+  -- a part without LF leaves nothing of its page
+  page_moved : (page line' : List ℕ) → (moved : Moved r'.page page line line' false) → r.page ++ cut.bytes ≡ cut.body ++ moved.part
+  page_moved page line' moved = cut_more page line' false moved ∙ ap (λ p. (cut.body ++ moved.part) ++ p) moved.is.1 ∙ append_nil (cut.body ++ moved.part)
+
   -- the line's part of a page was moved, and another page was taken
   pub cutting_more : (new : InputView) (r'' : LineReader) (page line' : List ℕ) → Moved r'.page page line line' false → Refilled now new r''.page → (r''.ended ≡ true → r''.page ≡ []) → r'.ended ≡ false → IsCutting old new r r'' line'
   cutting_more new r'' page line' moved filled end goes = record {
     bytes = cut.bytes ++ r''.page;
     took = took_more old now new cut.bytes r''.page cut.took filled.took;
-    kept = omega (arith, shorter);
-    free = subst HasNoLf (sym moved.kept) (no_lf_take 1048578 whole none);
+    body = cut.body ++ moved.part;
+    free = no_lf_append cut.body moved.part cut.free moved.is.0;
+    kept = kept_more page line' false moved;
+    cut = sym (append_assoc r.page cut.bytes r''.page) ∙ ap (λ xs. xs ++ r''.page) (page_moved page line' moved);
     reader = λ ended. let none = end ended in (none, filled.end none);
-    ask = λ more.
-        ap heard (ap (λ xs. xs ++ more) (sym (append_assoc r.page cut.bytes r''.page)) ∙ append_assoc (r.page ++ cut.bytes) r''.page more) ∙ cut.ask (r''.page ++ more)
-        ∙ ap (λ p. heard (line ++ p ++ (r''.page ++ more))) all ∙ sym (kept_asks whole (r''.page ++ more) none)
-        ∙ ap (λ l. heard (l ++ (r''.page ++ more))) (sym moved.kept) ∙ ap heard (sym (append_assoc line' r''.page more));
     still = λ ended. absurd (not_both goes (cut.still ended).1);
     less =
-        let long = ap (λ (xs : List ℕ). length xs) all in
-        omega (arith, cut.less, filled.took.counted, filled.few, shorter, long, length-append line moved.part);
+        let long = ap (λ (xs : List ℕ). length xs) moved.cut ∙ length-append moved.part page in
+        omega (arith, cut.less, filled.took.counted, filled.few, long, length-append cut.body moved.part);
+  }
+
+  -- the input failed before the line's end came
+  pub cutting_failed : (new : InputView) (page line' : List ℕ) → Moved r'.page page line line' false → Took now new [] → r'.ended ≡ false → (fault : TakeFault) → TookSome old new r fault
+  cutting_failed new page line' moved took goes fault = record {
+    bytes = cut.bytes ++ [];
+    took = took_more old now new cut.bytes [] cut.took took;
+    still = λ ended. absurd (not_both goes (cut.still ended).1);
+    going = λ failed. not_yet r.ended refl;
+    part = λ failed.
+        subst HasNoLf (sym (page_moved page line' moved) ∙ ap (λ b. r.page ++ b) (sym (append_nil cut.bytes))) (no_lf_append cut.body moved.part cut.free moved.is.0);
   }
     where
-      whole : List ℕ
-      whole = line ++ moved.part
+      not_yet : (b : Bool) → r.ended ≡ b → r.ended ≡ false
+      not_yet true e = absurd (not_both goes (cut.still e).1)
+      not_yet false e = e
 
-      none : HasNoLf whole
-      none = no_lf_append line moved.part cut.free moved.is.0
-
-      all : r'.page ≡ moved.part
-      all = moved.cut ∙ ap (λ p. moved.part ++ p) moved.is.1 ∙ append_nil moved.part
-
-      shorter : (length line' ≤ 1048578) × (length line' ≤ length whole)
-      shorter = let long = ap (λ (xs : List ℕ). length xs) moved.kept ∙ length-take 1048578 whole in (omega (arith, long), omega (arith, long))
+  -- memory ran out
+  pub cutting_short : TookSome old now r OutOfMemory
+  cutting_short = record {
+    bytes = cut.bytes;
+    took = cut.took;
+    still = λ ended. (cut.still ended).0;
+    going = λ failed. absurd (other failed);
+    part = λ failed. absurd (other failed);
+  }
+    where
+      other : OutOfMemory ≡ Failed → ⊥
+      other e = cc
 
   -- the line's part of a page was moved, with its end
   module _ (page line' : List ℕ) (moved : Moved r'.page page line line' true) where
     abbrev body : List ℕ
-    body = line ++ moved.is.0
+    body = cut.body ++ moved.is.0
 
     none_in : HasNoLf body
-    none_in = no_lf_append line moved.is.0 cut.free moved.is.1
+    none_in = no_lf_append cut.body moved.is.0 cut.free moved.is.1
 
-    with_end : line ++ moved.part ≡ body ++ 10 ∷ []
-    with_end = ap (λ p. line ++ p) moved.is.2 ∙ sym (append_assoc line moved.is.0 (10 ∷ []))
+    with_end : cut.body ++ moved.part ≡ body ++ 10 ∷ []
+    with_end = ap (λ p. cut.body ++ p) moved.is.2 ∙ sym (append_assoc cut.body moved.is.0 (10 ∷ []))
 
     is_kept : line' ≡ take 1048578 (body ++ 10 ∷ [])
-    is_kept = moved.kept ∙ ap (take 1048578) with_end
+    is_kept = kept_more page line' true moved ∙ ap (take 1048578) with_end
 
     -- it is one line
     pub whole_line : IsLine line'
@@ -120,17 +162,16 @@ module _ (old now : InputView) (r r' : LineReader) (line : List ℕ) (cut : IsCu
       bytes = cut.bytes;
       took = cut.took;
       reader = λ ended. absurd (not_both goes ended);
+      line = body ++ 10 ∷ [];
+      cut = cut_more page line' true moved ∙ ap (λ l. l ++ page) with_end ∙ ap (λ p. (body ++ 10 ∷ []) ++ p) (sym is);
+      end = λ goes. (body, refl);
       ask = λ more end.
-          cut.ask more ∙ ap (λ xs. heard (xs ++ more)) (ap (λ p. line ++ p) moved.cut ∙ sym (append_assoc line moved.part page) ∙ ap (λ xs. xs ++ page) with_end)
-          ∙ ap heard (append_assoc (body ++ 10 ∷ []) page more ∙ append_assoc body (10 ∷ []) (page ++ more))
-          ∙ (kept_line body none_in).2 (page ++ more)
-          ∙ ap (λ asked. asked ++ heard (page ++ more)) (ap heard (sym is_kept) ∙ asks)
-          ∙ ap (λ p. next_asks read ++ heard (p ++ more)) (sym is);
+          ap heard (append_assoc body (10 ∷ []) more) ∙ (kept_line body none_in).2 more ∙ ap (λ asked. asked ++ heard more) (ap heard (sym is_kept) ∙ asks);
       still = λ ended. absurd (not_both open_before (cut.still ended).1);
       last = λ e. absurd (some (none e));
       less = λ h.
           subst (λ p. 2 ^ 64 - now.taken + length p < to_read old r) (sym is)
-          (fewer (2 ^ 64 - now.taken) (length r'.page) (length line) (length moved.part) (length page) (to_read old r) cut.less
+          (fewer (2 ^ 64 - now.taken) (length r'.page) (length cut.body) (length moved.part) (length page) (to_read old r) cut.less
           (ap (λ (xs : List ℕ). length xs) moved.cut ∙ length-append moved.part page) (some_part moved.part moved.is.0 moved.is.2));
     }
       where
@@ -142,7 +183,7 @@ module _ (old now : InputView) (r r' : LineReader) (line : List ℕ) (cut : IsCu
 
   -- the input has ended, and what was moved is one line or nothing
   pub last_line : IsLine line
-  last_line = by_line line cut.free
+  last_line = by_line line (subst HasNoLf (sym cut.kept) (no_lf_take 1048578 cut.body cut.free))
     where
       by_line : (xs : List ℕ) → HasNoLf xs → IsLine xs
       by_line [] h = inl refl
@@ -154,22 +195,22 @@ module _ (old now : InputView) (r r' : LineReader) (line : List ℕ) (cut : IsCu
     bytes = cut.bytes;
     took = cut.took;
     reader = cut.reader;
+    line = cut.body;
+    cut = cut.cut;
+    end = λ goes. absurd (not_both goes ended);
     ask = λ more end.
-        ap (λ m. heard (r.page ++ cut.bytes ++ m)) (end ended) ∙ cut.ask [] ∙ ap heard (append_nil (line ++ r'.page)) ∙ ap (λ p. heard (line ++ p)) empty
-        ∙ ap heard (append_nil line) ∙ asks ∙ sym (append_nil (next_asks read)) ∙ ap (λ xs. next_asks read ++ heard xs) (sym (ap (λ m. r'.page ++ m) (end ended) ∙ append_nil r'.page ∙ empty));
-    still = λ e. (no_more e, ended);
+        let same : heard cut.body ≡ next_asks read =
+        ap heard (sym (append_nil cut.body)) ∙ sym (kept_asks cut.body [] cut.free) ∙ ap heard (append_nil (take 1048578 cut.body) ∙ sym cut.kept) ∙ asks in
+        ap (λ m. heard (cut.body ++ m)) (end ended) ∙ ap heard (append_nil cut.body) ∙ same ∙ sym (append_nil (next_asks read)) ∙ ap (λ m. next_asks read ++ heard m) (sym (end ended));
+    still = λ e. ((cut.still e).0, ended);
     last = λ e. ended;
-    less = λ h. let long = some h line refl in omega (arith, cut.less, long);
+    less = λ h.
+        let long = some h cut.body refl in
+        omega (arith, cut.less, long);
   }
     where
-      no_more : r.ended ≡ true → cut.bytes ≡ []
-      no_more e = (cut.still e).0
-
-      empty : r'.page ≡ []
-      empty = (cut.reader ended).0
-
-      some : IsTrue (is_some read) → (xs : List ℕ) → line ≡ xs → 0 < length line
-      some h [] e = absurd (no read h (none e))
+      some : IsTrue (is_some read) → (xs : List ℕ) → cut.body ≡ xs → 0 < length cut.body
+      some h [] e = absurd (no read h (none (cut.kept ∙ ap (take 1048578) e)))
         where
           no : (o : Option LineRead) → IsTrue (is_some o) → o ≡ None → ⊥
           no None h e = let z : false ≡ true = h in cc

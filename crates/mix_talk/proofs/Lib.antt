@@ -1,4 +1,11 @@
+mod Answered
+mod Ceasing
 mod Cutting
 mod Long
 mod Parts
-mod Taken
+mod Answering
+pub mod Taken
+mod Talking
+pub mod Telling
+mod Unformed
+mod Whole

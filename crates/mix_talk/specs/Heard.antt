@@ -1,5 +1,5 @@
 -- What lines ask for.
-use Rattle.std.specs.Prelude.{ℕ, cond, nat_lt, List, [], ◌∷◌, ◌++◌, Option, Some, None, length, map}
+use Rattle.std.specs.Prelude.{ℕ, Bool, false, cond, nat_lt, ◌==◌, ◌||◌, List, [], ◌∷◌, ◌++◌, Option, Some, None, length, map}
 use Rattle.mix_words.specs.Lines.{lines_of}
 use Rattle.mix_script.specs.Steps.{line_steps, steps_read}
 use Rattle.mix_script.specs.declared.step.LineRead.{LineRead}
@@ -38,3 +38,13 @@ abbrev pub steps_in : List Heard → List Step
 steps_in [] = []
 steps_in (step s ∷ heard) = s ∷ steps_in heard
 steps_in (no_form ∷ heard) = steps_in heard
+
+-- whether a byte of a text is LF
+abbrev pub has_lf : List ℕ → Bool
+has_lf [] = false
+has_lf (b ∷ bs) = b == 10 || has_lf bs
+
+-- the whole lines of a text: up to its last LF and with it
+abbrev pub whole_lines : List ℕ → List ℕ
+whole_lines [] = []
+whole_lines (b ∷ bs) = cond (has_lf (b ∷ bs)) (b ∷ whole_lines bs) []

@@ -1,6 +1,8 @@
 -- What reading the next line of an input comes to.
 use Rattle.std.specs.Prelude.{◌≡◌, ◌⊎◌, ◌+◌, ◌-◌, ◌^◌, ◌<◌, ◌==◌, ℕ, Bool, true, false, IsTrue, List, [], ◌∷◌, ◌++◌, Option, None, is_some, length, take}
 use Rattle.mix_io.specs.Input.{InputView, IsAtEnd, Took}
+use Rattle.mix_io.specs.declared.input.TakeFault.{TakeFault}
+use Rattle.mix_io.specs.declared.input.TakeFault.TheVariants.{Failed}
 use Rattle.mix_words.specs.Lines.{lines_of}
 use Rattle.mix_script.specs.declared.step.LineRead.{LineRead}
 use Rattle.mix_talk.specs.Heard.{heard, next_asks}
@@ -10,6 +12,10 @@ use Rattle.mix_talk.specs.declared.reader.LineReader.{LineReader}
 abbrev pub HasNoLf : List ℕ → Type 0
 HasNoLf [] = Unit {0}
 HasNoLf (b ∷ bs) = (b == 10 ≡ false) × HasNoLf bs
+
+-- a text ends with LF
+abbrev pub EndsInLf : List ℕ → Type 0
+EndsInLf text = (body : List ℕ) × (text ≡ body ++ 10 ∷ [])
 
 -- a part of a text ends with the first LF; or there is no LF in it, and nothing behind it
 abbrev pub IsPart : List ℕ → List ℕ → Bool → Type 0
@@ -27,10 +33,6 @@ pub record Moved (page page' line line' : List ℕ) (whole : Bool) : Type 0 wher
 abbrev pub IsLine : List ℕ → Type 0
 IsLine text = (text ≡ []) ⊎ (length (lines_of text) ≡ 1)
 
--- some bytes were taken, or none; none by a reader that has met the end
-abbrev pub TookSome : InputView → InputView → LineReader → Type 0
-TookSome old new r = (bytes : List ℕ) × Took old new bytes × (r.ended ≡ true → bytes ≡ [])
-
 -- where a reader has met the end of its input, nothing is left
 abbrev pub IsReaderOf : InputView → LineReader → Type 0
 IsReaderOf input r = r.ended ≡ true → (r.page ≡ []) × IsAtEnd input
@@ -39,14 +41,26 @@ IsReaderOf input r = r.ended ≡ true → (r.page ≡ []) × IsAtEnd input
 abbrev pub to_read : InputView → LineReader → ℕ
 to_read input r = 2 ^ 64 - input.taken + length r.page
 
--- the next line was read of an input, or it has ended: what the bytes that a reader had and those that it took ask for, with any behind them,
--- is what the line asks for and what those ask for that it has now; behind the end there are no others, and
+-- some bytes were taken, or none, and no line came to its end: none by a reader that has met the end of its input. Where the input
+-- failed, the reader had not met it, and no byte of what it had and what was taken is LF
+pub record TookSome (old new : InputView) (r : LineReader) (fault : TakeFault) : Type 0 where
+  pub bytes : List ℕ
+  pub took : Took old new bytes
+  pub still : r.ended ≡ true → bytes ≡ []
+  pub going : fault ≡ Failed → r.ended ≡ false
+  pub part : fault ≡ Failed → HasNoLf (r.page ++ bytes)
+
+-- the next line was read of an input, or it has ended: what a reader had and what was taken is the line with its end and what the reader has
+-- now. With any bytes behind it the line asks for this, and those for their own; behind the end of the input there are none, and
 -- nothing is taken there
 pub record Reads (old new : InputView) (r r' : LineReader) (read : Option LineRead) : Type 0 where
   pub bytes : List ℕ
   pub took : Took old new bytes
   pub reader : IsReaderOf new r'
-  pub ask : (more : List ℕ) → (r'.ended ≡ true → more ≡ []) → heard (r.page ++ bytes ++ more) ≡ next_asks read ++ heard (r'.page ++ more)
+  pub line : List ℕ
+  pub cut : r.page ++ bytes ≡ line ++ r'.page
+  pub end : r'.ended ≡ false → EndsInLf line
+  pub ask : (more : List ℕ) → (r'.ended ≡ true → more ≡ []) → heard (line ++ more) ≡ next_asks read ++ heard more
   pub still : r.ended ≡ true → (bytes ≡ []) × (r'.ended ≡ true)
   pub last : read ≡ None → r'.ended ≡ true
   pub less : IsTrue (is_some read) → to_read new r' < to_read old r

@@ -1,5 +1,5 @@
 // The lines of an input, read one after another.
-ghost use Rattle.std.specs.Prelude.{◌≡◌, ◌≤◌, [], drop, length, take, false, None, IfOk, OnErr, IsErrOf};
+ghost use Rattle.std.specs.Prelude.{◌≡◌, ◌≤◌, [], drop, length, take, false, None, IfOk, IfErr, IsErrOf};
 ghost use Rattle.mix_base.specs.Counts.{HasRisen};
 ghost use Rattle.mix_io.specs.Input.{InputView};
 ghost use Rattle.mix_talk.specs.Heard.{heard, next_asks};
@@ -87,7 +87,7 @@ impl LineReader {
     ) -> Result<Option<LineRead>, TakeFault>
         requires { IsReaderOf (I.view input.old) self.old }
         ensures reads { IfOk result (Reads (I.view input.old) (I.view input.new) self.old self.new) }
-        ensures err { OnErr result (TookSome (I.view input.old) (I.view input.new) self.old) }
+        ensures err { IfErr result (TookSome (I.view input.old) (I.view input.new) self.old) }
         ensures count { (I.view input.old).faults ≤ (I.view input.new).faults }
         ensures failed { IsErrOf result TakeFault.Failed → HasRisen (I.view input.old).faults (I.view input.new).faults }
     {

@@ -1,10 +1,9 @@
-use Rattle.std.proofs.Common.{◌≡◌, ◌∙◌, ◌++◌, true, false, [], refl, ap, sym, subst, arith, rules}
+use Rattle.std.proofs.Common.{◌≡◌, ◌∙◌, true, false, [], refl, ap, sym, subst, arith, rules}
 use Rattle.std.proofs.lemmas.Grind.{common_steps}
-use Rattle.mix_script.proofs.Held.{on_err}
+use Rattle.std.proofs.lemmas.Result.{err_from_is_err_and}
 use Rattle.mix_talk.specs.Heard.{heard}
 use Rattle.mix_talk.specs.Reading.{IsLine, Moved}
-use Rattle.mix_talk.proofs.Taken.{took_more}
-use Rattle.mix_talk.proofs.Cutting.{IsCutting, cutting_start, cutting_more, whole_line, reads_line, last_line}
+use Rattle.mix_talk.proofs.Cutting.{IsCutting, cutting_start, cutting_more, cutting_failed, kept_length, whole_line, reads_line, last_line, reads_last}
 use Rattle.mix_talk.proofs.reader.LineReader.next.Goals as goal
 
 pub pages-init : goal.pages-init
@@ -33,8 +32,24 @@ returns-then-branch-clause-reads g c =
 pub returns-in_err-refill-clause-err : goal.returns-in_err-refill-clause-err
 returns-in_err-refill-clause-err g c =
     let view = g.I.Input.view in
-    let cut = c.pages.invariant.cutting in
-    on_err c.from_residual-in_err-refill.result (cut.bytes ++ [], took_more (view c.args.input.now) (view c.pages.input) (view c.refill.new.input) cut.bytes [] cut.took c.in_err-refill.ensures.err, λ ended. ap (λ b. b ++ []) (cut.still ended).0)
+    let moved : Moved c.pages.self.page c.move_line.new.page c.pages.line.items c.move_line.new.line.items false =
+    subst (Moved c.pages.self.page c.move_line.new.page c.pages.line.items c.move_line.new.line.items) c.if-branch.false c.in_ok-move_line.ensures in
+    let p = err_from_is_err_and c.from_residual-in_err-refill.result c.from_residual-in_err-refill.ensures.1 in
+    rw (p.1, p.2)
+    (cutting_failed (view c.args.input.now) (view c.pages.input) c.args.self.now c.pages.self c.pages.line.items c.pages.invariant.cutting (view c.refill.new.input) c.move_line.new.page c.move_line.new.line.items moved
+    c.in_err-refill.ensures.err (search rules) _)
+
+pub move_line-requires : goal.move_line-requires
+move_line-requires g c =
+    let view = g.I.Input.view in
+    kept_length (view c.args.input.now) (view c.pages.input) c.args.self.now c.pages.self c.pages.line.items c.pages.invariant.cutting
+
+pub returns-clause-reads : goal.returns-clause-reads
+returns-clause-reads g c =
+    let view = g.I.Input.view in
+    let read = c.in_ok-read_whole_line-2.ensures in
+    reads_last (view c.args.input.now) (view c.pages.input) c.args.self.now c.pages.self c.pages.line.items c.pages.invariant.cutting c.in_ok-read_whole_line-2.field-0 (grind (arith, c.pages-test.false))
+    (ap heard (sym c.deref-2.ensures.value) ∙ read.asks) (λ e. read.empty (c.deref-2.ensures.value ∙ e))
 
 pub pages-preserved : goal.pages-preserved
 pages-preserved g c =
