@@ -10,7 +10,7 @@ use Rattle.xmas_read.specs.Results.{names_of_sources}
 use Rattle.mix_mount.specs.declared.mount.Mount.{Mount}
 use Rattle.mix_top.specs.Course.{AreAccepted, IsCatalogFile, IsRuleFile, IsScript}
 use Rattle.mix_top.specs.Documents.{SpellsTree, StandsFor, IsDocument}
-use Rattle.mix_top.specs.FilesRead.{ReadsAmong, WalkMayRead, ViewMayRead, IsFileFor, SourceMayRead, RunMayRead}
+use Rattle.mix_top.specs.FilesRead.{ReadsAmong, WalkMayRead, ViewMayRead, IsFileFor, MayReadBehind, ScriptMayRead, SourceMayRead, RunMayRead}
 use Rattle.mix_top.proofs.MountLaws.{AreMountedTo, document_before}
 
 -- what each of two calls may read, both may
@@ -57,30 +57,48 @@ accepted_before old mid v sources n keeps h = λ k before less at is file.
     let f = h k before less at is file in
     (f.0, document_before (StandsFor before.name before.kind) old mid (file_of before.kind) f.0 keeps f.1)
 
+module _ (Then : List SourceSpec → RuleValue → List ℕ → Type 0) (old : FilesView) (view catalog : List ℕ) where
+  -- the catalog was read
+  pub reads_catalog : (new : FilesView) → ReadsOnly catalog new old → ReadsAmong (MayReadBehind Then old view catalog) new old
+  reads_catalog new only = reads_one (MayReadBehind Then old view catalog) catalog old new (inl refl) only
+
+  module _ (sources : List SourceSpec) (cat : IsCatalogFile old catalog sources) where
+    -- then the view
+    pub reads_view : (mid new : FilesView) → ReadsAmong (MayReadBehind Then old view catalog) mid old → ReadsOnly view new mid → ReadsAmong (MayReadBehind Then old view catalog) new old
+    reads_view mid new before only =
+        let May = MayReadBehind Then old view catalog in
+        reads_twice May old mid new before (reads_one May view mid new (inr (sources, cat, inl refl)) only)
+
+    -- then what comes behind them
+    pub reads_then : (v : RuleValue) → IsRuleFile old view (names_of_sources sources) v → (mid new : FilesView) → ReadsAmong (MayReadBehind Then old view catalog) mid old → (May : List ℕ → Type 0)
+        → ((path : List ℕ) → May path → Then sources v path) → ReadsAmong May new mid → ReadsAmong (MayReadBehind Then old view catalog) new old
+    reads_then v rule mid new before May is reads =
+        reads_twice (MayReadBehind Then old view catalog) old mid new before
+        (reads_wider May (MayReadBehind Then old view catalog) mid new (λ path h. inr (sources, cat, inr (v, rule, is path h))) reads)
+
+-- the files of sources may be read that may be read at a later moment
+pub source_may_before : (old mid : FilesView) (v : RuleValue) (sources : List SourceSpec) → KeepsFiles mid old → (path : List ℕ) → SourceMayRead mid v sources path → SourceMayRead old v sources path
+source_may_before old mid v sources keeps path h = (h.0, h.1, h.2, h.3, accepted_before old mid v sources h.0 keeps h.4)
+
 module _ (old : FilesView) (view catalog script : List ℕ) where
   -- the catalog of a run was read
   pub run_reads_catalog : (new : FilesView) → ReadsOnly catalog new old → ReadsAmong (RunMayRead old view catalog script) new old
-  run_reads_catalog new only = reads_one (RunMayRead old view catalog script) catalog old new (inl refl) only
+  run_reads_catalog = reads_catalog (ScriptMayRead old script) old view catalog
 
   module _ (sources : List SourceSpec) (cat : IsCatalogFile old catalog sources) where
     -- then its view
     pub run_reads_view : (mid new : FilesView) → ReadsAmong (RunMayRead old view catalog script) mid old → ReadsOnly view new mid → ReadsAmong (RunMayRead old view catalog script) new old
-    run_reads_view mid new before only =
-        let May = RunMayRead old view catalog script in
-        reads_twice May old mid new before (reads_one May view mid new (inr (sources, cat, inl refl)) only)
+    run_reads_view = reads_view (ScriptMayRead old script) old view catalog sources cat
 
     module _ (v : RuleValue) (rule : IsRuleFile old view (names_of_sources sources) v) where
       -- then its script
       pub run_reads_script : (mid new : FilesView) → ReadsAmong (RunMayRead old view catalog script) mid old → ReadsOnly script new mid → ReadsAmong (RunMayRead old view catalog script) new old
       run_reads_script mid new before only =
-          let May = RunMayRead old view catalog script in
-          reads_twice May old mid new before (reads_one May script mid new (inr (sources, cat, inr (v, rule, inl refl))) only)
+          reads_then (ScriptMayRead old script) old view catalog sources cat v rule mid new before (λ path. path ≡ script) (λ path h. inl h) (λ path no. only path no)
 
       -- then the files of its sources
       pub run_reads_sources : (mid new : FilesView) (steps : List Step) → IsScript old script steps → KeepsFiles mid old → ReadsAmong (RunMayRead old view catalog script) mid old
           → ReadsAmong (SourceMayRead mid v sources) new mid → ReadsAmong (RunMayRead old view catalog script) new old
       run_reads_sources mid new steps scr keeps before reads =
-          let May = RunMayRead old view catalog script in
-          reads_twice May old mid new before
-          (reads_wider (SourceMayRead mid v sources) May mid new
-          (λ path h. inr (sources, cat, inr (v, rule, inr (steps, scr, (h.0, h.1, h.2, h.3, accepted_before old mid v sources h.0 keeps h.4))))) reads)
+          reads_then (ScriptMayRead old script) old view catalog sources cat v rule mid new before (SourceMayRead mid v sources)
+          (λ path h. inr (steps, scr, source_may_before old mid v sources keeps path h)) reads

@@ -1,5 +1,5 @@
 -- What holds of a run whose sink has taken some of its lines holds after it took more.
-use Rattle.std.proofs.Common.{◌≡◌, ◌≤◌, ◌⊎◌, inl, inr, ◌∙◌, ℕ, List, ◌++◌, Option, append_assoc, string_bytes, sym, subst}
+use Rattle.std.proofs.Common.{◌≡◌, ◌≤◌, inl, inr, ◌∙◌, ℕ, List, ◌++◌, Option, ap, append_assoc, string_bytes, sym, subst}
 use Rattle.mix_base.proofs.Risen.{risen_before}
 use Rattle.mix_io.specs.Views.{SinkView}
 use Rattle.mix_io.specs.Contents.{Appends, AppendsFront}
@@ -8,10 +8,10 @@ use Rattle.mix_script.specs.Allowed.{answer_lines}
 use Rattle.mix_script.specs.declared.answer.Answer.{Answer}
 use Rattle.table_keep.specs.Views.{TablesView}
 use Rattle.xmas_read.specs.Results.{names_of_sources}
-use Rattle.mix_top.specs.Answered.{IsAnswered, IsFrugal}
+use Rattle.mix_top.specs.Answered.{IsAnswered, IsFrugal, in_order}
 use Rattle.mix_top.specs.Commands.{Command, help, version, walk, read, plan, run, count, load, unknown}
 use Rattle.mix_top.specs.Course.{IsCourse}
-use Rattle.mix_top.specs.Ends.{Ends, IsWhole, IsCutBySink, IsCutByMemory, TookFront, TookAtMost}
+use Rattle.mix_top.specs.Ends.{Ends, TookFront}
 use Rattle.mix_top.specs.Outside.{Outside}
 use Rattle.mix_top.specs.Question.{Question}
 use Rattle.mix_top.specs.Stops.{IsStop}
@@ -25,17 +25,16 @@ TookOn before after = (more : List ℕ) × Appends before.written after.written 
 
 module _ (before mid after : SinkView) (on : TookOn mid after) where
   -- steps that asked no more than their tolls asked no more still
-  frugal_on : (q : Question) (fills : ℕ) (answers : List Answer) → IsFrugal before.written mid.written q fills answers → IsFrugal before.written after.written q fills answers
-  frugal_on q fills answers h =
-      let lines = answer_lines (names_of_sources q.sources) h.whole q.steps in
-      record {
-        whole = h.whole;
-        later = h.later;
-        parts = h.parts;
-        rest = h.rest ++ on.0;
-        written = subst (λ (x : List ℕ). Appends before.written after.written x) (append_assoc lines h.rest on.0) (one_more before.written mid.written after.written (lines ++ h.rest) on.0 h.written on.1);
-        cost = h.cost;
-      }
+  frugal_on : (q : Question) (fills : ℕ) (answers : List Answer) → IsFrugal (in_order q) before.written mid.written q fills answers → IsFrugal (in_order q) before.written after.written q fills answers
+  frugal_on q fills answers h = record {
+    whole = h.whole;
+    later = h.later;
+    parts = h.parts;
+    lines = h.lines ++ on.0;
+    begin = (h.begin.0 ++ on.0, ap (λ l. l ++ on.0) h.begin.1 ∙ append_assoc (answer_lines (names_of_sources q.sources) h.whole q.steps) h.begin.0 on.0);
+    written = one_more before.written mid.written after.written h.lines on.0 h.written on.1;
+    cost = h.cost;
+  }
 
   -- the answers are those of a run still
   pub answered_on : (tables tables' : TablesView) (q : Question) (fills status : ℕ) (lines : List ℕ) → IsAnswered tables tables' q fills before mid status lines

@@ -47,17 +47,34 @@ all_told tables v sources = told_from tables v 0 sources
 abbrev pub steps_toll : Question → List Answer → ℕ
 steps_toll q answers = begun (act_toll_by 0 (place_toll q.docs (operators_for q.rule)) q.tree) (names_after q.tree) no_names answers q.steps
 
+-- how the answers to steps are written: the lines of the first answers, all lines under marks, and whether bytes begin with the whole lines of
+-- so many answers
+pub record Manner : Type 1 where
+  pub lines_of : List Answer → List ℕ
+  pub under : List (Option ℕ) → List ℕ
+  pub Begin : List Answer → List ℕ → Type 0
+
+-- the answers to the steps of a script are written one behind another
+abbrev pub in_order : Question → Manner
+in_order q = record {
+  lines_of = λ answers. answer_lines (names_of_sources q.sources) answers q.steps;
+  under = λ marks. transcript q.tree (names_of_sources q.sources) marks q.steps;
+  Begin = λ whole lines. (rest : List ℕ) × (lines ≡ answer_lines (names_of_sources q.sources) whole q.steps ++ rest);
+}
+
 -- no more fills were asked than the tolls of the steps come to that were begun: those whose lines were written whole, and the next one
-pub record IsFrugal (before after : Option (List ℕ)) (q : Question) (fills : ℕ) (answers : List Answer) : Type 0 where
+pub record IsFrugal (w : Manner) (before after : Option (List ℕ)) (q : Question) (fills : ℕ) (answers : List Answer) : Type 0 where
   pub whole : List Answer
   pub later : List Answer
   pub parts : answers ≡ whole ++ later
-  pub rest : List ℕ
-  pub written : Appends before after (answer_lines (names_of_sources q.sources) whole q.steps ++ rest)
+  pub lines : List ℕ
+  pub begin : w.Begin whole lines
+  pub written : Appends before after lines
   pub cost : fills ≤ steps_toll q whole
 
--- what a run comes to over tables that meant the first before and mean the second after, what it asked, and what a sink has taken of its lines
-pub record IsAnswered (before after : TablesView) (q : Question) (fills : ℕ) (sink sink' : SinkView) (status : ℕ) (lines : List ℕ) : Type 0 where
+-- what steps come to that are answered over tables that meant the first before and mean the second after, what it asked, and what a sink has
+-- taken of their lines
+pub record IsAnsweredIn (w : Manner) (before after : TablesView) (q : Question) (fills : ℕ) (sink sink' : SinkView) (status : ℕ) (lines : List ℕ) : Type 0 where
   -- the answers to the first steps; a fault is one of a table that the rule names
   pub answers : List Answer
   pub allowed : AreAnswers false (IsTableOf q.rule q.sources) no_names answers q.steps
@@ -67,12 +84,16 @@ pub record IsAnswered (before after : TablesView) (q : Question) (fills : ℕ) (
   -- each page was asked for a fill
   pub pages : after.pages ≤ before.pages + fills
   -- over told tables no more fills were asked than the tolls of the steps come to that were begun
-  pub cost : all_told before q.rule q.sources ≡ true → IsFrugal sink.written sink'.written q fills answers
-  -- over told tables the lines are the transcript of all steps, under the marks that the answers show
+  pub cost : all_told before q.rule q.sources ≡ true → IsFrugal w sink.written sink'.written q fills answers
+  -- over told tables the lines are those of all steps on the tree, under the marks that the answers show
   pub told : all_told before q.rule q.sources ≡ true → let marks = marks_of answers in
-      AreMarks false q.tree no_names marks q.steps × (lines ≡ transcript q.tree (names_of_sources q.sources) marks q.steps)
+      AreMarks false q.tree no_names marks q.steps × (lines ≡ w.under marks)
   -- else they are those of answers to all steps
-  pub untold : all_told before q.rule q.sources ≡ false → (length answers ≡ length q.steps) × (lines ≡ answer_lines (names_of_sources q.sources) answers q.steps)
+  pub untold : all_told before q.rule q.sources ≡ false → (length answers ≡ length q.steps) × (lines ≡ w.lines_of answers)
+
+-- so a run is answered
+abbrev pub IsAnswered : TablesView → TablesView → Question → ℕ → SinkView → SinkView → ℕ → List ℕ → Type 0
+IsAnswered before after q = IsAnsweredIn (in_order q) before after q
 
 -- where a rule names no table, the lines of a run are the transcript without marks, and the status is 0
 abbrev pub RunsWithoutTablesAreUnmarked : Type 0

@@ -38,12 +38,19 @@ abbrev pub SourceMayRead : FilesView → RuleValue → List SourceSpec → List 
 SourceMayRead files v sources path =
     (s : ℕ) × (spec : SourceSpec) × (slice_get sources s ≡ Some spec) × IsFileFor v s spec path × AreAccepted files v sources s
 
+-- a command may read the catalog, the view, and then as it is told of the files behind them
+abbrev pub MayReadBehind : (List SourceSpec → RuleValue → List ℕ → Type 0) → FilesView → List ℕ → List ℕ → List ℕ → Type 0
+MayReadBehind Then files view catalog path =
+    (path ≡ catalog) ⊎ ((sources : List SourceSpec) × IsCatalogFile files catalog sources
+    × ((path ≡ view) ⊎ ((v : RuleValue) × IsRuleFile files view (names_of_sources sources) v × Then sources v path)))
+
+-- the script, and behind it the files of the sources that the view names
+abbrev pub ScriptMayRead : FilesView → List ℕ → List SourceSpec → RuleValue → List ℕ → Type 0
+ScriptMayRead files script sources v path = (path ≡ script) ⊎ ((steps : List Step) × IsScript files script steps × SourceMayRead files v sources path)
+
 -- a run may read the catalog, the view, the script, and then the files of the sources that the view names
 abbrev pub RunMayRead : FilesView → List ℕ → List ℕ → List ℕ → List ℕ → Type 0
-RunMayRead files view catalog script path =
-    (path ≡ catalog) ⊎ ((sources : List SourceSpec) × IsCatalogFile files catalog sources
-    × ((path ≡ view) ⊎ ((v : RuleValue) × IsRuleFile files view (names_of_sources sources) v
-    × ((path ≡ script) ⊎ ((steps : List Step) × IsScript files script steps × SourceMayRead files v sources path)))))
+RunMayRead files view catalog script = MayReadBehind (ScriptMayRead files script) files view catalog
 
 -- what a command may read
 abbrev pub MayRead : FilesView → Command → List ℕ → Type 0

@@ -54,8 +54,8 @@ pub struct Answered<T> {
     pub tables: T,
 }
 
-// What a run comes to whose lines came to their end.
-fn outcome_of(marked: bool) -> Outcome
+/// What a run comes to whose lines came to their end: true where one of them is a fault line.
+pub fn outcome_of(marked: bool) -> Outcome
     ensures { result ≡ outcome_of marked }
 {
     if marked {

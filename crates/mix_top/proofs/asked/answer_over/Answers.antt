@@ -13,7 +13,8 @@ use Rattle.mix_lines.specs.declared.fault.LinesFault.{LinesFault}
 use Rattle.lazy_binding.specs.World.{reads}
 use Rattle.mix_top.specs.Running.{IsLinesEnd, LinesOver, by_fills}
 use Rattle.mix_top.proofs.Mounts.{reads_told}
-use Rattle.mix_top.proofs.Answering.{renamed, run_document, lines_end}
+use Rattle.mix_top.proofs.Answering.{run_document}
+use Rattle.mix_top.proofs.LinesEnd.{renamed, lines_end}
 use Rattle.mix_top.proofs.Sourced.{plan_reads}
 use Rattle.mix_top.proofs.asked.answer_over.Goals as goal
 

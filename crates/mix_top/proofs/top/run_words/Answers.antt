@@ -8,7 +8,7 @@ use Rattle.mix_top.specs.declared.refusal.Outcome.{Outcome}
 use Rattle.mix_top.specs.declared.refusal.Stop.{Stop}
 use Rattle.mix_top.specs.declared.refusal.Stop.TheVariants.{Refused}
 use Rattle.mix_top.proofs.Further.{refused_ends}
-use Rattle.mix_top.proofs.top.mixq.Goals as goal
+use Rattle.mix_top.proofs.top.run_words.Goals as goal
 
 pub returns-in-Err-Refused-clause-ends : goal.returns-in-Err-Refused-clause-ends
 returns-in-Err-Refused-clause-ends g c =

@@ -1,0 +1,132 @@
+-- How the lines of a run over mounted documents end.
+use Rattle.std.proofs.Common.{◌≡◌, ◌∙◌, ◌+◌, ◌≤◌, IsTrue, inl, inr, ℕ, Bool, true, false, cond, List, [], ◌∷◌, ◌++◌, Result, Ok, Err, refl, ap, sym, subst, arith, length, take, take_all, append_assoc}
+use Rattle.mix_base.proofs.Lists.{append_nil, take_append}
+use Rattle.mix_io.specs.Views.{FilesView, SinkView}
+use Rattle.mix_io.specs.Contents.{Appends}
+use Rattle.mix_tree.specs.Forest.{LabelledTree}
+use Rattle.mix_mount.specs.Mounts.{CameFrom, Mounting, view_of}
+use Rattle.xmas_rule.specs.RuleMade.{rule_of}
+use Rattle.xmas_rule.specs.Rules.{IsAccepted}
+use Rattle.xmas_rule.specs.Meaning.{IsFinished}
+use Rattle.xmas_read.specs.Results.{names_of_sources}
+use Rattle.plan_rewrite.specs.Rewritten.{operators_for}
+use Rattle.lazy_plan.specs.Bench.{BenchState, ops_of, documents, forward}
+use Rattle.mix_script.specs.Allowed.{answer_lines, has_fault}
+use Rattle.mix_script.specs.Answers.{line_of}
+use Rattle.mix_script.specs.declared.answer.Answer.{Answer}
+use Rattle.mix_script.specs.declared.step.Step.{Step}
+use Rattle.mix_script.proofs.Finished.{lines_are_transcript, lines_begin_transcript}
+use Rattle.mix_lines.specs.Lines.{Ends, EndsBetween, EndsWithin, IsLazy, IsRun, IsWhole}
+use Rattle.mix_lines.specs.declared.fault.LinesFault.{LinesFault}
+use Rattle.mix_lines.specs.declared.fault.LinesFault.TheVariants as lines_fault
+use Rattle.mix_session.specs.Meaning.{Course}
+use Rattle.mix_session.specs.Walks.{IsDocument, plan_course}
+use Rattle.lxp_core.specs.View.{View}
+use Rattle.mix_top.specs.Answered.{IsAnswered, all_told, in_order}
+use Rattle.mix_top.specs.Ends.{TookFront}
+use Rattle.mix_top.specs.Mounting.{AreMounted}
+use Rattle.mix_top.specs.declared.asked.Asked.{Asked}
+use Rattle.mix_top.specs.Question.{Question}
+use Rattle.mix_top.specs.Running.{IsLinesEnd, LinesOver, by_fills, documents_of, question}
+use Rattle.mix_top.proofs.Answering.{Frugal, IsAnswering, IsManner, answering, front_of}
+use Rattle.mix_top.specs.Stops.{IsDoneAlong, end_of, outcome_of, outcome_status}
+
+-- how lines end is said under the names and steps that these are
+pub renamed : {W : Type 0} (c : Course W) (old new : View) (names names' : List (List ℕ)) (steps steps' : List Step) (before after : SinkView) (r : Result Bool LinesFault) → names' ≡ names → steps' ≡ steps
+    → Ends c old new names' steps' before after r → Ends c old new names steps before after r
+renamed c old new names names' steps steps' before after r e f h =
+    subst (λ (n : List (List ℕ)). Ends c old new n steps before after r) e (subst (λ (s : List Step). Ends c old new names' s before after r) f h)
+
+-- the lines of answers are a front of those of these and more
+lines_more : (names : List (List ℕ)) (answers more : List Answer) (steps : List Step) → (rest : List ℕ) × (answer_lines names (answers ++ more) steps ≡ answer_lines names answers steps ++ rest)
+lines_more names [] more steps = (answer_lines names more steps, refl)
+lines_more names (x ∷ answers) more [] = ([], refl)
+lines_more names (x ∷ answers) more (step ∷ steps) =
+    let h = lines_more names answers more steps in
+    let line = line_of names step.client x in
+    (h.0, ap (λ r. line ++ r) h.1 ∙ sym (append_assoc line (answer_lines names answers steps) h.0))
+
+-- the status of answers is that of their outcome
+pub outcome_is : (marked : Bool) (answers : List Answer) → marked ≡ has_fault answers → cond (has_fault answers) 1 0 ≡ outcome_status (outcome_of marked)
+outcome_is true answers marks = ap (λ b. cond b 1 0) (sym marks)
+outcome_is false answers marks = ap (λ b. cond b 1 0) (sym marks)
+
+-- the lines of a script's answers are written one behind another
+in_order_is_manner : (q : Question) → IsManner (in_order q) q.tree q.steps
+in_order_is_manner q = record {
+  begins = λ answers of. lines_begin_transcript q.tree (names_of_sources q.sources) answers q.steps of;
+  all = λ answers of all. lines_are_transcript q.tree (names_of_sources q.sources) answers q.steps of all;
+  more = λ answers more. lines_more (names_of_sources q.sources) answers more q.steps;
+}
+
+module _ (files : FilesView) (a b : Mounting) (came : CameFrom b a) (asked : Asked) (mounted : AreMounted files (rule_of asked.rule) asked.catalog a.docs)
+    (accepted : IsAccepted (length (names_of_sources asked.catalog)) (rule_of asked.rule)) (st : BenchState) (same : ops_of st ≡ operators_for (rule_of asked.rule))
+    (docs_are : documents st ≡ documents_of a.tables a.docs) (ahead : IsTrue (forward st)) (t : LabelledTree)
+    (document_is : all_told a.tables (rule_of asked.rule) asked.catalog ≡ true → IsDocument st t) (unasked : a.fills ≡ 0) (few : b.tables.pages ≤ a.tables.pages + b.fills) (before after : SinkView)
+    (finished : IsFinished (documents_of a.tables a.docs) (rule_of asked.rule) t) where
+  abbrev names : List (List ℕ)
+  names = names_of_sources asked.catalog
+
+  abbrev steps : List Step
+  steps = asked.steps.items
+
+  abbrev q : Question
+  q = question a.tables a.docs asked t
+
+  abbrev Are : List Answer → Type 0
+  Are answers = IsRun (plan_course st) (view_of a).faults (view_of b).faults steps answers
+
+  abbrev Cost : List Answer → Type 0
+  Cost answers = IsLazy (plan_course st) (view_of a).fills (view_of b).fills steps answers
+
+  abbrev Answers : SinkView → SinkView → ℕ → List ℕ → Type 0
+  Answers = LinesOver (by_fills b.fills) a.tables b.tables a.docs asked
+
+  run : IsAnswering (in_order q) a b asked.catalog (rule_of asked.rule) steps st t before after
+  run = answering files a b came asked.catalog (rule_of asked.rule) steps mounted accepted (in_order q) st same docs_are ahead t document_is unasked few before after (in_order_is_manner q)
+
+  -- the lines of all answers were written
+  spent : (answers : List Answer) → Cost answers → Appends before.written after.written (answer_lines names answers steps) → Frugal (in_order q) a b q before after answers
+  spent answers lazy h =
+      subst (λ (all : List Answer). Frugal (in_order q) a b q before after all) (append_nil answers)
+      (run.frugal answers [] (answer_lines names answers steps) lazy ([], sym (append_nil (answer_lines names answers steps))) h)
+
+  -- a front of the last line was
+  spent_within : (answers : List Answer) (last : Answer) (n : ℕ) → Cost answers
+      → Appends before.written after.written (take (length (answer_lines names answers steps) + n) (answer_lines names (answers ++ last ∷ []) steps)) → Frugal (in_order q) a b q before after (answers ++ last ∷ [])
+  spent_within answers last n lazy h =
+      let more = lines_more names answers (last ∷ []) steps in
+      let lines = answer_lines names answers steps in
+      run.frugal answers (last ∷ []) (take (length lines + n) (answer_lines names (answers ++ last ∷ []) steps)) lazy (take n more.0, ap (take (length lines + n)) more.1 ∙ take_append lines more.0 n) h
+
+  -- a front of the lines of answers was written
+  took : (answers : List Answer) → Are answers → Frugal (in_order q) a b q before after answers → (n : ℕ) → Appends before.written after.written (take n (answer_lines names answers steps))
+      → TookFront (Answers before after) before after
+  took answers are less n h =
+      let f = run.front answers are less in
+      (f.status, f.lines, (t, finished, f.is), front_of before.written after.written n (answer_lines names answers steps) f.rest f.lines f.begun h)
+
+  -- so it is within a line
+  within : EndsWithin Are Cost names steps before after → TookFront (Answers before after) before after
+  within w = took (w.answers ++ w.last ∷ []) w.are (spent_within w.answers w.last w.count w.cost w.written) (length (answer_lines names w.answers steps) + w.count) w.written
+
+  -- and between lines
+  between : EndsBetween Are Cost names steps before after → TookFront (Answers before after) before after
+  between w =
+      let lines = answer_lines names w.answers steps in
+      took w.answers w.are (spent w.answers w.cost w.written) (length lines) (subst (λ (x : List ℕ). Appends before.written after.written x) (sym (take_all (length lines) lines (omega arith))) w.written)
+
+  -- all lines were written
+  whole : (marked : Bool) → IsWhole Are Cost names steps before after marked → IsDoneAlong Answers before after (outcome_of marked)
+  whole marked w =
+      (answer_lines names w.answers steps, (t, finished, subst Is (outcome_is marked w.answers w.marks) (run.whole w.answers w.are (spent w.answers w.cost w.written) w.all)), w.written)
+    where
+      Is : ℕ → Type 0
+      Is n = IsAnswered a.tables b.tables q b.fills before after n (answer_lines names w.answers steps)
+
+  -- the lines came to their end, or were cut short
+  pub lines_end : (r : Result Bool LinesFault) → Ends (plan_course st) (view_of a) (view_of b) names steps before after r → IsLinesEnd Answers before after (end_of r)
+  lines_end (Ok marked) w = whole marked w
+  lines_end (Err lines_fault.SinkFailed) w = (w.0, within w.1)
+  lines_end (Err lines_fault.OutOfMemory) (inl w) = inr (between w)
+  lines_end (Err lines_fault.OutOfMemory) (inr w) = inr (within w)
