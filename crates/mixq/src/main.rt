@@ -1,8 +1,8 @@
-//! The program `mixq`: the top call over the files of the system, tables of SQLite files, and standard output.
+//! The program `mixq`: the top call over the files of the system, tables of SQLite files, standard input and standard output.
 #![tactic(auto)]
 
-use mix_io::{OsFiles, StdSink};
-use mix_top::mixq;
+use mix_call::mixq;
+use mix_io::{OsFiles, StdInput, StdSink, Streams};
 use sqlite_tables::SqliteTables;
 use std::process::ExitCode;
 use std::{env, io};
@@ -26,8 +26,11 @@ fn main(rt: HostRuntime) -> ExitCode {
     };
     let alloc = rt.alloc();
     let mut files = OsFiles::new(rt);
-    let mut out = StdSink::new(rt);
+    let mut streams = Streams {
+        input: StdInput::new(rt),
+        out: StdSink::new(rt),
+    };
     let tables = SqliteTables::new(rt, alloc);
-    let (status, _) = mixq(alloc, &words, &mut files, tables, &mut out);
+    let (status, _) = mixq(alloc, &words, &mut files, tables, &mut streams);
     ExitCode::from(status)
 }

@@ -1,0 +1,93 @@
+-- How a talk is held, or refused.
+use Rattle.std.proofs.Common.{◌≡◌, inl, inr, ℕ, Bool, List, [], Result, Ok, Err, refl, sym, subst, string_bytes}
+use Rattle.mix_io.specs.Input.{InputView}
+use Rattle.mix_io.specs.Views.{FilesView, SinkView}
+use Rattle.mix_talk.specs.Ends.{heard_by}
+use Rattle.mix_talk.specs.Heard.{Heard, steps_in}
+use Rattle.mix_talk.specs.declared.fault.TalkFault.{TalkFault}
+use Rattle.mix_talk.specs.declared.fault.TalkFault.TheVariants.{InputFailed, SinkFailed, OutOfMemory}
+use Rattle.mix_talk.proofs.Taken.{took_none}
+use Rattle.table_keep.specs.Views.{TablesView}
+use Rattle.xmas_rule.specs.RuleMade.{rule_of}
+use Rattle.mix_top.specs.Ends.{Ends, TookFront}
+use Rattle.mix_top.specs.Outside.{outside}
+use Rattle.mix_top.specs.Running.{question_of}
+use Rattle.mix_top.specs.declared.refusal.Refusal.{Refusal}
+use Rattle.mix_top.specs.declared.refusal.Stop.TheVariants as stop
+use Rattle.mix_top.proofs.Mounts.{documents_mounted}
+use Rattle.mix_call.specs.Ends.{EndsSo, TalkEnds, TalkedAlong, talk_status}
+use Rattle.mix_call.specs.Over.{IsReady, IsReadyStop, TalkOver}
+use Rattle.mix_call.specs.Talks.{IsTalkRefused, Talks}
+use Rattle.mix_call.specs.declared.talking.Ready.{Ready}
+
+-- what lines come to in one manner
+abbrev Course : Type 1
+Course = List Heard → SinkView → SinkView → ℕ → List ℕ → Type 0
+
+-- memory ran out before anything was taken
+pub untaken : (C : Course) (input : InputView) (before : SinkView) → TalkedAlong C input input before before (Err OutOfMemory)
+untaken C input before = record { bytes = []; took = took_none input; ends = inl refl }
+
+-- a talk that ends in one course ends so in any that has its lines
+ends_weaker : (C D : SinkView → SinkView → ℕ → List ℕ → Type 0) (input input' : InputView) (before after : SinkView)
+    → ((status : ℕ) (lines : List ℕ) → C before after status lines → D before after status lines) → (end : Result Bool TalkFault) → EndsSo C input input' before after end → EndsSo D input input' before after end
+ends_weaker C D input input' before after w (Ok marked) h = (h.0, (h.1.0, w _ h.1.0 h.1.1, h.1.2))
+ends_weaker C D input input' before after w (Err InputFailed) h = (h.0, h.1, (h.2.0, w h.1 h.2.0 h.2.1, h.2.2))
+ends_weaker C D input input' before after w (Err SinkFailed) h = (h.0, (h.1.0, h.1.1, w h.1.0 h.1.1 h.1.2, h.1.3))
+ends_weaker C D input input' before after w (Err OutOfMemory) (inl h) = inl h
+ends_weaker C D input input' before after w (Err OutOfMemory) (inr h) = inr (h.0, h.1, w h.0 h.1 h.2, h.3)
+
+module _ (old new : FilesView) (tables tables' : TablesView) (view catalog : List ℕ) (input input' : InputView) (before after : SinkView) where
+  -- so the talk ends
+  abbrev Ended : ℕ → Type 0
+  Ended status = TalkEnds (outside old tables) (outside new tables') view catalog input input' before after status
+
+  -- a talk over what was made ready was held
+  pub held : (ready : Ready) → IsReady old view catalog ready → (end : Result Bool TalkFault)
+      → (fills : ℕ) × TalkedAlong (TalkOver fills tables tables' ready.docs.items ready.basis) input input' before after end → (status : ℕ) → status ≡ talk_status end → Ended status
+  held ready is end h status same =
+      let Over : Course = TalkOver h.0 tables tables' ready.docs.items ready.basis in
+      let All : Course = Talks (outside old tables) (outside new tables') view catalog in
+      let asked = heard_by h.1.bytes end in
+      inr (end, same, record { bytes = h.1.bytes; took = h.1.took; ends = ends_weaker (Over asked) (All asked) input input' before after (talks asked h.0) end h.1.ends })
+    where
+      talks : (asked : List Heard) (fills status : ℕ) (lines : List ℕ) → TalkOver fills tables tables' ready.docs.items ready.basis asked before after status lines
+          → Talks (outside old tables) (outside new tables') view catalog asked before after status lines
+      talks asked fills status lines h = (
+        question_of tables ready.docs.items ready.basis.catalog (rule_of ready.basis.rule) (steps_in asked) h.0,
+        record {
+          catalog_is = is.catalog_is;
+          rule_is = is.rule_is;
+          steps_are = refl;
+          documents = documents_mounted old (rule_of ready.basis.rule) ready.basis.catalog ready.docs.items is.mounted tables;
+          finished = h.1;
+        },
+        fills,
+        h.2,
+      )
+
+-- a talk was refused, and the line of its refusal was written, or cut short
+pub refused : (old new : FilesView) (tables : TablesView) (view catalog : List ℕ) (input : InputView) (before after : SinkView) (r : Refusal) (status : ℕ) → IsReadyStop old new view catalog (stop.Refused r)
+    → Ends (λ s lines. (s ≡ r.status) × (lines ≡ string_bytes r.line)) before after status → TalkEnds (outside old tables) (outside new tables) view catalog input input before after status
+refused old new tables view catalog input before after r status cause ends = inl (refl, ended ends)
+  where
+    Line : ℕ → List ℕ → Type 0
+    Line s lines = (s ≡ r.status) × (lines ≡ string_bytes r.line)
+
+    Refused : ℕ → List ℕ → Type 0
+    Refused = IsTalkRefused old new view catalog
+
+    lines_are : (s : ℕ) (lines : List ℕ) → Line s lines → Refused s lines
+    lines_are s lines l = subst (λ (n : ℕ). Refused n lines) (sym l.0) (subst (Refused r.status) (sym l.1) cause)
+
+    front : TookFront Line before after → TookFront Refused before after
+    front f = (f.0, f.1, lines_are f.0 f.1 f.2, f.3)
+
+    ended : Ends Line before after status → Ends Refused before after status
+    ended (inl w) = inl (record { lines = w.lines; course = lines_are status w.lines w.course; written = w.written })
+    ended (inr (inl w)) = inr (inl (record { five = w.five; cause = w.cause; front = front w.front }))
+    ended (inr (inr w)) = inr (inr (record { six = w.six; front = elim w.front [ inl same ↦ inl same | inr f ↦ inr (front f) ] }))
+
+-- a talk was stopped before it began, since memory ran out
+pub unbegun : (old new : FilesView) (tables : TablesView) (view catalog : List ℕ) (input : InputView) (before : SinkView) → TalkEnds (outside old tables) (outside new tables) view catalog input input before before 6
+unbegun old new tables view catalog input before = inl (refl, inr (inr (record { six = refl; front = inl refl })))

@@ -1,0 +1,131 @@
+-- How the lines of a talk over mounted documents end.
+use Rattle.std.proofs.Common.{◌≡◌, ◌∙◌, ◌+◌, ◌≤◌, IsTrue, inl, inr, ℕ, Bool, true, List, [], ◌∷◌, ◌++◌, Result, Ok, Err, refl, ap, sym, subst, arith, length, take, take_all, append_assoc}
+use Rattle.mix_base.proofs.Lists.{append_nil, take_append}
+use Rattle.mix_io.specs.Contents.{Appends}
+use Rattle.mix_io.specs.Input.{InputView}
+use Rattle.mix_io.specs.Views.{FilesView, SinkView}
+use Rattle.mix_tree.specs.Forest.{LabelledTree}
+use Rattle.mix_mount.specs.Mounts.{CameFrom, Mounting, view_of}
+use Rattle.xmas_rule.specs.RuleMade.{rule_of}
+use Rattle.xmas_rule.specs.Rules.{IsAccepted}
+use Rattle.xmas_rule.specs.Meaning.{IsFinished}
+use Rattle.xmas_read.specs.Results.{names_of_sources}
+use Rattle.plan_rewrite.specs.Rewritten.{operators_for}
+use Rattle.lazy_plan.specs.Bench.{BenchState, ops_of, documents, forward}
+use Rattle.mix_script.specs.Names.{no_names}
+use Rattle.mix_script.specs.declared.answer.Answer.{Answer}
+use Rattle.mix_script.specs.declared.step.Step.{Step}
+use Rattle.mix_lines.specs.Lines.{IsLazy, IsRun}
+use Rattle.mix_session.specs.Walks.{IsDocument, plan_course}
+use Rattle.mix_talk.specs.Ends.{EndsBy, IsWhole, StopsBetween, StopsWithin, TalkEnds, heard_by}
+use Rattle.mix_talk.specs.Heard.{Heard, steps_in}
+use Rattle.mix_talk.specs.Lines.{spoken}
+use Rattle.mix_talk.specs.declared.fault.TalkFault.{TalkFault}
+use Rattle.mix_talk.specs.declared.fault.TalkFault.TheVariants.{InputFailed, SinkFailed, OutOfMemory}
+use Rattle.mix_talk.proofs.Telling.{spoken_append, spoken_more, spoken_on}
+use Rattle.mix_top.specs.Answered.{IsAnsweredIn, all_told}
+use Rattle.mix_top.specs.Ends.{TookFront}
+use Rattle.mix_top.specs.Mounting.{AreMounted}
+use Rattle.mix_top.specs.Question.{Question}
+use Rattle.mix_top.specs.Running.{documents_of, question_of}
+use Rattle.mix_top.specs.Stops.{IsDoneWith, outcome_of, outcome_status}
+use Rattle.mix_top.proofs.Answering.{Frugal, IsAnswering, IsManner, answering, front_of}
+use Rattle.mix_top.proofs.LinesEnd.{outcome_is}
+use Rattle.mix_call.specs.Ends.{EndsSo, TalkedAlong}
+use Rattle.mix_call.specs.Over.{TalkOver}
+use Rattle.mix_call.specs.Talks.{in_talk}
+use Rattle.mix_call.specs.declared.talking.Basis.{Basis}
+
+-- so lines of a talk are written
+in_talk_is_manner : (asked : List Heard) (q : Question) → IsManner (in_talk asked q) q.tree (steps_in asked)
+in_talk_is_manner asked q = record {
+  begins = λ answers of. let on = spoken_on q.tree (names_of_sources q.sources) no_names asked answers of in (on.0, on.1);
+  all = λ answers of all.
+      let on = spoken_on q.tree (names_of_sources q.sources) no_names asked answers of in
+      let lines = spoken (names_of_sources q.sources) asked answers in
+      sym (append_nil lines) ∙ ap (λ r. lines ++ r) (sym (on.2 all)) ∙ on.1;
+  more = λ answers more. spoken_more (names_of_sources q.sources) asked answers more;
+}
+
+module _ (files : FilesView) (a b : Mounting) (came : CameFrom b a) (basis : Basis) (mounted : AreMounted files (rule_of basis.rule) basis.catalog a.docs)
+    (accepted : IsAccepted (length (names_of_sources basis.catalog)) (rule_of basis.rule)) (st : BenchState) (same : ops_of st ≡ operators_for (rule_of basis.rule))
+    (docs_are : documents st ≡ documents_of a.tables a.docs) (ahead : IsTrue (forward st)) (t : LabelledTree)
+    (document_is : all_told a.tables (rule_of basis.rule) basis.catalog ≡ true → IsDocument st t) (unasked : a.fills ≡ 0) (few : b.tables.pages ≤ a.tables.pages + b.fills)
+    (finished : IsFinished (documents_of a.tables a.docs) (rule_of basis.rule) t) (input input' : InputView) (before after : SinkView) where
+  abbrev names : List (List ℕ)
+  names = names_of_sources basis.catalog
+
+  abbrev Course : List Heard → SinkView → SinkView → ℕ → List ℕ → Type 0
+  Course = TalkOver b.fills a.tables b.tables a.docs basis
+
+  module _ (asked : List Heard) where
+    abbrev steps : List Step
+    steps = steps_in asked
+
+    abbrev q : Question
+    q = question_of a.tables a.docs basis.catalog (rule_of basis.rule) steps t
+
+    abbrev Are : List Answer → Type 0
+    Are answers = IsRun (plan_course st) (view_of a).faults (view_of b).faults steps answers
+
+    abbrev Cost : List Answer → Type 0
+    Cost answers = IsLazy (plan_course st) (view_of a).fills (view_of b).fills steps answers
+
+    run : IsAnswering (in_talk asked q) a b basis.catalog (rule_of basis.rule) steps st t before after
+    run = answering files a b came basis.catalog (rule_of basis.rule) steps mounted accepted (in_talk asked q) st same docs_are ahead t document_is unasked few before after (in_talk_is_manner asked q)
+
+    -- the lines of the first that was heard are a front of all lines
+    took : (answers : List Answer) → Are answers → Frugal (in_talk asked q) a b q before after answers → (lines rest : List ℕ) → lines ++ rest ≡ spoken names asked answers
+        → (n : ℕ) → Appends before.written after.written (take n lines) → TookFront (Course asked before after) before after
+    took answers are less lines rest begin n h =
+        let f = run.front answers are less in
+        let whole : lines ++ (rest ++ f.rest) ≡ f.lines = sym (append_assoc lines rest f.rest) ∙ ap (λ l. l ++ f.rest) begin ∙ f.begun in
+        (f.status, f.lines, (t, finished, f.is), front_of before.written after.written n lines (rest ++ f.rest) f.lines whole h)
+
+    -- they are, and what comes behind them
+    spoken_parts : (done later : List Heard) (answers last : List Answer) → asked ≡ done ++ later → length answers ≡ length (steps_in done)
+        → spoken names done answers ++ spoken names later last ≡ spoken names asked (answers ++ last)
+    spoken_parts done later answers last parts all = sym (ap (λ (h : List Heard). spoken names h (answers ++ last)) parts ∙ spoken_append names done later answers last all)
+
+    -- between two lines
+    between : StopsBetween Are Cost names asked before after → TookFront (Course asked before after) before after
+    between w =
+        let lines = spoken names w.done w.answers in
+        let less = run.frugal w.answers [] lines w.cost (w.done, w.later, w.parts, w.all, [], sym (append_nil lines)) w.written in
+        took w.answers w.are (subst (λ (x : List Answer). Frugal (in_talk asked q) a b q before after x) (append_nil w.answers) less) lines (spoken names w.later [])
+        (spoken_parts w.done w.later w.answers [] w.parts w.all ∙ ap (spoken names asked) (append_nil w.answers)) (length lines)
+        (subst (Appends before.written after.written) (sym (take_all (length lines) lines (omega arith))) w.written)
+
+    -- within a line
+    within : StopsWithin Are Cost names asked before after → TookFront (Course asked before after) before after
+    within w =
+        let lines = spoken names w.done w.answers in
+        let line = spoken names (w.next ∷ []) w.last in
+        let later = spoken names w.later [] in
+        let less = run.frugal w.answers w.last (lines ++ take w.count line) w.cost (w.done, w.next ∷ w.later, w.parts, w.all, take w.count line, refl) w.written in
+        let next : spoken names (w.next ∷ w.later) w.last ≡ line ++ later =
+        ap (spoken names (w.next ∷ w.later)) (sym (append_nil w.last)) ∙ spoken_append names (w.next ∷ []) w.later w.last [] w.one in
+        took (w.answers ++ w.last) w.are less (lines ++ line) later
+        (append_assoc lines line later ∙ ap (λ l. lines ++ l) (sym next) ∙ spoken_parts w.done (w.next ∷ w.later) w.answers w.last w.parts w.all) (length lines + w.count)
+        (subst (Appends before.written after.written) (sym (take_append lines line w.count)) w.written)
+
+    -- all lines were written
+    whole : (marked : Bool) → IsWhole Are Cost names asked before after marked → IsDoneWith (Course asked before after) (outcome_status (outcome_of marked)) before after
+    whole marked w =
+        let lines = spoken names asked w.answers in
+        let less = run.frugal w.answers [] lines w.cost (asked, [], sym (append_nil asked), w.all, [], sym (append_nil lines)) w.written in
+        let less' : Frugal (in_talk asked q) a b q before after w.answers = subst (λ (x : List Answer). Frugal (in_talk asked q) a b q before after x) (append_nil w.answers) less in
+        let Is : ℕ → Type 0 = λ n. IsAnsweredIn (in_talk asked q) a.tables b.tables q b.fills before after n lines in
+        (lines, (t, finished, subst Is (outcome_is marked w.answers w.marks) (run.whole w.answers w.are less' w.all)), w.written)
+
+    -- the lines came to their end, or were cut short
+    lines_end : (r : Result Bool TalkFault) → EndsBy Are Cost names asked input input' before after r → EndsSo (Course asked) input input' before after r
+    lines_end (Ok marked) e = (e.0, whole marked e.1)
+    lines_end (Err InputFailed) e = (e.0, outcome_status (outcome_of e.1), whole e.1 e.2)
+    lines_end (Err SinkFailed) e = (e.0, within e.1)
+    lines_end (Err OutOfMemory) (inl w) = inr (between w)
+    lines_end (Err OutOfMemory) (inr w) = inr (within w)
+
+  -- so a talk ends
+  pub talk_lines_end : (r : Result Bool TalkFault) → TalkEnds (plan_course st) (view_of a) (view_of b) names input input' before after r → TalkedAlong Course input input' before after r
+  talk_lines_end r e = record { bytes = e.bytes; took = e.took; ends = lines_end (heard_by e.bytes r) r e.ends }

@@ -1,0 +1,4 @@
+pub mod Ends
+pub mod Over
+pub mod Reading
+pub mod Talks

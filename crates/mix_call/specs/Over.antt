@@ -1,0 +1,46 @@
+-- A talk over sources that are mounted.
+use Rattle.std.specs.Prelude.{◌≤◌, ℕ, ◌+◌, List, Result, Bool, length}
+use Rattle.mix_io.specs.Input.{InputView}
+use Rattle.mix_io.specs.Views.{FilesView, SinkView}
+use Rattle.mix_mount.specs.declared.mount.Mount.{Mount}
+use Rattle.mix_mount.specs.Mounts.{Mounting}
+use Rattle.mix_talk.specs.Heard.{Heard, steps_in}
+use Rattle.mix_talk.specs.declared.fault.TalkFault.{TalkFault}
+use Rattle.mix_tree.specs.Forest.{LabelledTree}
+use Rattle.table_keep.specs.Views.{TablesView}
+use Rattle.xmas_rule.specs.Rules.{IsAccepted}
+use Rattle.xmas_rule.specs.RuleMade.{rule_of}
+use Rattle.xmas_rule.specs.Meaning.{IsFinished}
+use Rattle.xmas_read.specs.Results.{names_of_sources}
+use Rattle.mix_top.specs.Answered.{IsAnsweredIn}
+use Rattle.mix_top.specs.Course.{IsCatalogFile, IsRuleFile, IsSourceRefused}
+use Rattle.mix_top.specs.Mounting.{AreMounted}
+use Rattle.mix_top.specs.Running.{IsStopBehind, documents_of, question_of}
+use Rattle.mix_top.specs.declared.refusal.Stop.{Stop}
+use Rattle.mix_call.specs.Ends.{TalkedAlong}
+use Rattle.mix_call.specs.Talks.{in_talk}
+use Rattle.mix_call.specs.declared.talking.Basis.{Basis}
+use Rattle.mix_call.specs.declared.talking.Ready.{Ready}
+
+-- all files of a talk were accepted, and this is what they say
+pub record IsReady (files : FilesView) (view catalog : List ℕ) (r : Ready) : Type 0 where
+  pub catalog_is : IsCatalogFile files catalog r.basis.catalog
+  pub rule_is : IsRuleFile files view (names_of_sources r.basis.catalog) (rule_of r.basis.rule)
+  pub mounted : AreMounted files (rule_of r.basis.rule) r.basis.catalog r.docs.items
+  pub few : length r.docs.items ≤ 32
+  pub accepted : IsAccepted (length (names_of_sources r.basis.catalog)) (rule_of r.basis.rule)
+
+-- a file of a talk is refused, or memory ran out
+abbrev pub IsReadyStop : FilesView → FilesView → List ℕ → List ℕ → Stop → Type 0
+IsReadyStop old new view catalog = IsStopBehind (λ sources v. IsSourceRefused old new v sources) old new view catalog
+
+-- the lines answer what was heard, by so many fills over what is mounted
+abbrev pub TalkOver : ℕ → TablesView → TablesView → List Mount → Basis → List Heard → SinkView → SinkView → ℕ → List ℕ → Type 0
+TalkOver fills before after docs basis asked sink sink' status lines =
+    (t : LabelledTree) × IsFinished (documents_of before docs) (rule_of basis.rule) t
+    × (let q = question_of before docs basis.catalog (rule_of basis.rule) (steps_in asked) t in IsAnsweredIn (in_talk asked q) before after q fills sink sink' status lines)
+
+-- so a talk ends over what is mounted, by all its fills, where each page was asked for a fill
+abbrev pub IsMountedEnd : Mounting → Mounting → Basis → InputView → InputView → SinkView → SinkView → Result Bool TalkFault → Type 0
+IsMountedEnd old new basis input input' sink sink' end =
+    new.tables.pages ≤ old.tables.pages + new.fills → TalkedAlong (TalkOver new.fills old.tables new.tables old.docs basis) input input' sink sink' end

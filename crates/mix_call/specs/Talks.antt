@@ -1,0 +1,43 @@
+-- What a talk comes to.
+use Rattle.std.specs.Prelude.{◌≡◌, ◌++◌, ℕ, List, length}
+use Rattle.mix_io.specs.Views.{FilesView, SinkView}
+use Rattle.mix_talk.specs.Heard.{Heard, steps_in}
+use Rattle.mix_talk.specs.Lines.{spoken, talk_transcript}
+use Rattle.xmas_rule.specs.Meaning.{IsFinished}
+use Rattle.xmas_read.specs.Results.{names_of_sources}
+use Rattle.mix_top.specs.Answered.{IsAnsweredIn, Manner}
+use Rattle.mix_top.specs.Course.{AreDocuments, IsCatalogFile, IsRefusedBehind, IsRuleFile, IsSourceRefused}
+use Rattle.mix_top.specs.FilesRead.{MayReadBehind, SourceMayRead}
+use Rattle.mix_top.specs.Outside.{Outside}
+use Rattle.mix_top.specs.Question.{Question}
+
+-- a file of a talk is refused, the first in this order: the catalog, the view, and the files of the sources that the view names
+abbrev pub IsTalkRefused : FilesView → FilesView → List ℕ → List ℕ → ℕ → List ℕ → Type 0
+IsTalkRefused old new view catalog = IsRefusedBehind (λ sources v. IsSourceRefused old new v sources) old new view catalog
+
+-- a talk may read the catalog, the view, and then the files of the sources that the view names
+abbrev pub TalkMayRead : FilesView → List ℕ → List ℕ → List ℕ → Type 0
+TalkMayRead files view catalog = MayReadBehind (λ sources v. SourceMayRead files v sources) files view catalog
+
+-- a talk whose files were all accepted, and what the steps ask that were heard
+pub record IsTalk (before : Outside) (view catalog : List ℕ) (asked : List Heard) (q : Question) : Type 0 where
+  pub catalog_is : IsCatalogFile before.files catalog q.sources
+  pub rule_is : IsRuleFile before.files view (names_of_sources q.sources) q.rule
+  pub steps_are : q.steps ≡ steps_in asked
+  pub documents : AreDocuments before q.rule q.sources q.docs
+  pub finished : IsFinished q.docs q.rule q.tree
+
+-- the answers to the steps that were heard are written with the lines that answer lines of no form between them
+abbrev pub in_talk : List Heard → Question → Manner
+in_talk asked q = record {
+  lines_of = λ answers. spoken (names_of_sources q.sources) asked answers;
+  under = λ marks. talk_transcript q.tree (names_of_sources q.sources) marks asked;
+  Begin = λ whole lines. (done : List Heard) × (later : List Heard) × (asked ≡ done ++ later) × (length whole ≡ length (steps_in done))
+      × (rest : List ℕ) × (lines ≡ spoken (names_of_sources q.sources) done whole ++ rest);
+}
+
+-- the lines of a talk that has heard so much answer it on the rule's finished document
+abbrev pub Talks : Outside → Outside → List ℕ → List ℕ → List Heard → SinkView → SinkView → ℕ → List ℕ → Type 0
+Talks before after view catalog asked sink sink' status lines =
+    (q : Question) × IsTalk before view catalog asked q
+    × (fills : ℕ) × IsAnsweredIn (in_talk asked q) before.tables after.tables q fills sink sink' status lines

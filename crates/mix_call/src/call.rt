@@ -1,0 +1,67 @@
+// The top call.
+ghost use Rattle.std.specs.Prelude.{◌≡◌, ◌≤◌, Some, None, IfSome, MatchOption, false, map, string_bytes, codes};
+ghost use Rattle.mix_io.specs.Input.{InputView};
+ghost use Rattle.mix_io.specs.Views.{FilesView, SinkView, KeepsFiles};
+ghost use Rattle.table_keep.specs.Views.{KeepsTables, TablesView};
+ghost use Rattle.mix_top.specs.Commands.{asks_tables, command_of};
+ghost use Rattle.mix_top.specs.FilesRead.{ReadsAmong};
+ghost use Rattle.mix_top.specs.Outside.{outside};
+ghost use Rattle.mix_call.specs.Ends.{WordsEnd, talk_of};
+ghost use Rattle.mix_call.specs.Reading.{WordsMayRead};
+
+use crate::talking::{Talking, talk};
+use mix_io::{Files, Input, Sink, Streams};
+use mix_top::run_words;
+use std::alloc::Global;
+use table_keep::Tables;
+
+// The talk that words are, where they are one.
+fn read_talk(words: &[String]) -> Option<Talking<'_>>
+    ensures none { result ≡ None → talk_of (map string_bytes words.now) ≡ None }
+    ensures some { IfSome result (λ talking. talk_of (map string_bytes words.now) ≡ Some (talking.view.now, talking.catalog.now)) }
+{
+    match words {
+        [word, view, catalog] if word.as_str() == "talk" => Some(Talking {
+            view: view.as_str(),
+            catalog: catalog.as_str(),
+        }),
+        _ => None,
+    }
+}
+
+/// Does what the words behind the program's name ask for, and answers the exit status and the tables. All lines, those of refusals too,
+/// go to the streams' `out`, each by one write; a talk alone takes bytes of their `input`.
+///
+/// Status 0: all was done, and no line is a fault line. 1: all was done, and some line is a fault line. 2: the words are of no form. 3: a
+/// file is not accepted. 4: a file can't be read. 5: `out` failed. 6: memory ran out. 7: a file is longer than 67,108,864 bytes. 10: the
+/// input failed. A run or a talk that ends with 5 or 6 has written a front of its lines; a talk that ends with 10 has answered all whole
+/// lines that it took before. The tables are handed back whatever the status is (docs/FORMATS.md, "Commands", "Talks").
+pub fn mixq<F: Files, T: Tables, I: Input, K: Sink>(
+    alloc: Global,
+    words: &[String],
+    files: &mut F,
+    tables: T,
+    streams: &mut Streams<I, K>,
+) -> (u8, T)
+    // What was taken and written, and why the status is what it is.
+    ensures ends { let words = map string_bytes words.now in
+        WordsEnd (talk_of words) words (outside (F.view files.old) (T.view tables)) (outside (F.view files.new) (T.view result.1))
+        (I.view streams.old.input) (I.view streams.new.input) (K.view streams.old.out) (K.view streams.new.out) result.0 }
+
+    // Which files it may have read: none behind one that is refused.
+    ensures reads { let old = F.view files.old in let words = map string_bytes words.now in
+        ReadsAmong (WordsMayRead old (talk_of words) (command_of words)) (F.view files.new) old }
+
+    // The contents of all files and the rows of all tables stay, and no count falls.
+    ensures keeps { KeepsFiles (F.view files.new) (F.view files.old) }
+    ensures keeps_tables { KeepsTables (T.view result.1) (T.view tables) }
+    ensures untouched { let words = map string_bytes words.now in
+        talk_of words ≡ None → asks_tables (command_of words) ≡ false → result.1 ≡ tables }
+    ensures input { (I.view streams.old.input).faults ≤ (I.view streams.new.input).faults }
+    ensures count { (K.view streams.old.out).faults ≤ (K.view streams.new.out).faults }
+{
+    match read_talk(words) {
+        Some(talking) => talk(alloc, &talking, files, tables, streams),
+        None => run_words(alloc, words, files, tables, &mut streams.out),
+    }
+}
