@@ -1,6 +1,5 @@
 // Two clients on one answer: each one's lines are those of its steps alone, whatever the other asks in between.
-use crate::run::run_over;
-use crate::views::{HOMES, MED_HOME, SCHOOLS, TWO};
+use run_kit::{HOMES, MED_HOME, SCHOOLS, TWO, run_over};
 use std::alloc::{AllocError, Global};
 use std::test::Fail;
 

@@ -1,18 +1,10 @@
-//! Tests of whole runs of the top call, over files, tables and a sink in memory.
+//! Tests of whole runs over bracket text, and of the texts that are read and written, over files and a sink in memory.
 #![tactic(auto)]
 
 #[cfg(test)]
 mod clients;
 #[cfg(test)]
-mod fails;
-#[cfg(test)]
-mod filled;
-#[cfg(test)]
 mod lists;
-#[cfg(test)]
-mod loads;
-#[cfg(test)]
-mod paged;
 #[cfg(test)]
 mod plans;
 #[cfg(test)]
@@ -20,12 +12,6 @@ mod prints;
 #[cfg(test)]
 mod reads;
 #[cfg(test)]
-mod run;
-#[cfg(test)]
-mod tables;
-#[cfg(test)]
 mod views;
 #[cfg(test)]
 mod walks;
-#[cfg(test)]
-mod watched;

@@ -1,5 +1,5 @@
 // Views with several lists in one element: their plans, worked out by hand from the translation, and what `run` answers on them.
-use crate::run::{run, run_over};
+use run_kit::{run, run_over};
 use std::test::Fail;
 
 const CATALOG: &str =

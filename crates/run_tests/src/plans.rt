@@ -1,5 +1,5 @@
 // Runs of `plan`, with plans worked out by hand from the translation and the moving of selections. VIEW is the file `doc`, and CATALOG the file `s`.
-use crate::run::run;
+use run_kit::run;
 use std::test::Fail;
 
 const PLAN: [&str; 3] = ["plan", "doc", "s"];

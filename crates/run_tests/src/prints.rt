@@ -1,8 +1,7 @@
 // Runs of `run` that print the whole answer, with texts worked out by hand. VIEW is the file `v`, CATALOG the file `cat`, and SCRIPT
 // the file `s`.
 use crate::lists::SIDE_BY_SIDE;
-use crate::run::{Outcome, run_over};
-use crate::views::{HOMES, MED_HOME, ONE, SCHOOLS, TWO};
+use run_kit::{HOMES, MED_HOME, ONE, Outcome, SCHOOLS, TWO, run_over};
 use std::alloc::{AllocError, Global};
 use std::test::Fail;
 

@@ -1,5 +1,5 @@
 // Runs of `read`, with values worked out by hand. VIEW is the file `doc`, and CATALOG the file `s`.
-use crate::run::run;
+use run_kit::run;
 use std::test::Fail;
 
 const READ: [&str; 3] = ["read", "doc", "s"];

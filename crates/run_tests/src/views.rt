@@ -1,27 +1,9 @@
 // Runs of `run`, with answers worked out by hand. VIEW is the file `v`, CATALOG the file `cat`, and SCRIPT the file `s`.
-use crate::run::{Outcome, run_over};
+use run_kit::{HOMES, MED_HOME, ONE, Outcome, SCHOOLS, TWO, run_over};
 use std::alloc::{AllocError, Global};
 use std::test::Fail;
 
 const RUN: [&str; 4] = ["run", "v", "cat", "s"];
-
-/// The homes, each with its schools.
-pub const MED_HOME: &str =
-    "CONSTRUCT <answer> <med_home> $H $S {$S} </med_home> {$H} </answer> {} WHERE homes homes.home $H AND $H zip._ $V1 AND schools schools.school $S AND $S zip._ $V2 AND $V1 = $V2";
-
-/// A catalog of two sources.
-pub const TWO: &str = "source homes bracket h chunk 1\nsource schools bracket f chunk 1\n";
-
-/// A catalog of one source.
-pub const ONE: &str = "source s bracket f chunk 1\n";
-
-/// Two homes.
-pub const HOMES: &str =
-    "homes[home[addr[\"La Jolla\"],zip[91220]],home[addr[\"El Cajon\"],zip[91223]]]";
-
-/// Schools by both.
-pub const SCHOOLS: &str =
-    "schools[school[dir[Smith],zip[91220]],school[dir[Bar],zip[91220]],school[dir[Hart],zip[91223]]]";
 
 // A view over at most two documents `h` and `f`, a script, and the status and the lines that answer it.
 struct Row {

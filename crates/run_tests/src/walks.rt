@@ -1,12 +1,8 @@
 // Walks of a bracket document: the answers, and each way in which a run ends.
-use crate::run::run;
+use run_kit::{STEPS, run};
 use std::test::Fail;
 
 const WALK: [&str; 3] = ["walk", "doc", "s"];
-
-/// Goes to the second child and past it, and looks at both.
-pub const STEPS: &str =
-    "r = root\nx = down r\ny = right x\nfetch y\nz = right y\nfetch x\nfetch z\n";
 
 // Documents and scripts, with what is written.
 const WALKED: [(&str, &str, &str); 10] = [
@@ -150,7 +146,7 @@ fn help_tells_each_form(rt: HostRuntime) -> Result<(), Fail> {
     assert_eq!(rt; ended.status, 0);
     assert_eq!(rt;
         ended.written.iter().filter(|byte| **byte == b'\n').count(),
-        8
+        9
     );
     Ok(())
 }

@@ -1,6 +1,6 @@
 // What no clause says of tables in memory and of their documents: that calls succeed, and lists worked out by hand.
 use crate::memory::note;
-use lxp_core::{HoleId, SourceFault};
+use lxp_core::{HoleId, OpenTree, SourceFault};
 use mix_catalog::{Column, SourceKind, SourceSpec, TableColumns};
 use mix_tree::Label;
 use std::alloc::{AllocError, Global};
@@ -86,17 +86,13 @@ fn document(alloc: Global, declared: &Declared) -> Result<TableDoc, Fail> {
     Ok(TableDoc::open(alloc, &spec)?)
 }
 
-// Fills the hole that was noted at an index, and writes its list, or why there is none.
-fn ask(
-    alloc: Global,
-    doc: &TableDoc,
-    tables: &mut MemTables,
-    holes: &mut Vec<HoleId>,
-    i: usize,
+// Writes the list of a fill, or why there is none.
+fn tell(
     out: &mut Vec<u8>,
+    holes: &mut Vec<HoleId>,
+    filled: Result<Vec<OpenTree>, SourceFault>,
 ) -> Result<(), Fail> {
-    let hole = *holes.get(i).ok_or("no such hole")?;
-    match doc.fill(alloc, tables, hole) {
+    match filled {
         Ok(list) => note(out, holes, &list)?,
         Err(SourceFault::Failed) => out.extend_from_slice(b"failed")?,
         Err(SourceFault::UnknownHole) => out.extend_from_slice(b"unknown")?,
@@ -256,7 +252,8 @@ fn tables_are_asked_page_by_page(rt: HostRuntime) -> Result<(), Fail> {
         let mut out = Vec::new(alloc);
         for i in course.asked {
             out.push(b' ')?;
-            ask(alloc, &doc, &mut tables, &mut holes, *i, &mut out)?;
+            let hole = *holes.get(*i).ok_or("no such hole")?;
+            tell(&mut out, &mut holes, doc.fill(alloc, &mut tables, hole))?;
         }
         assert_eq!(rt; out.as_slice(), course.want.as_bytes());
         assert_eq!(rt; tables.pages(), course.pages);

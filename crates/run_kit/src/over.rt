@@ -1,6 +1,6 @@
-// A run of the top call over files, tables and a sink in memory.
+// Runs of words over files, tables and a sink in memory.
 use mix_io::{MemFile, MemFiles, MemSink};
-use mix_top::mixq;
+use mix_top::run_words;
 use std::alloc::{AllocError, Global};
 use table_keep::{NoTables, Tables};
 
@@ -19,8 +19,8 @@ fn file(alloc: Global, path: &str, bytes: Vec<u8>) -> Result<MemFile, AllocError
     })
 }
 
-// Files, each a path and a text.
-fn files_of(alloc: Global, texts: &[(&str, &str)]) -> Result<Vec<MemFile>, AllocError> {
+/// Files, each a path and a text.
+pub fn files_of(alloc: Global, texts: &[(&str, &str)]) -> Result<Vec<MemFile>, AllocError> {
     let mut files = Vec::new(alloc);
     for (path, text) in texts {
         files.push(file(alloc, path, text.as_bytes().to_vec(alloc)?)?)?;
@@ -42,7 +42,7 @@ fn run_over_all<T: Tables + Drop>(
     }
     let mut files = MemFiles::new(alloc, files, failing.0.to_vec(alloc)?)?;
     let mut out = MemSink::new(alloc, failing.1.to_vec(alloc)?);
-    let (status, tables) = mixq(alloc, &owned, &mut files, tables, &mut out);
+    let (status, tables) = run_words(alloc, &owned, &mut files, tables, &mut out);
     let written = out.bytes().to_vec(alloc)?;
     Ok((Outcome { status, written }, tables))
 }

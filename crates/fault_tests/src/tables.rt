@@ -1,5 +1,5 @@
 // Runs of `run` over CSV files, with answers worked out by hand. VIEW is the file `v`, CATALOG the file `cat`, and SCRIPT the file `s`.
-use crate::run::{Outcome, run_bytes, run_over};
+use run_kit::{Outcome, run_bytes, run_over};
 use std::alloc::{AllocError, Global};
 use std::test::Fail;
 

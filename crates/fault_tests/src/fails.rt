@@ -2,12 +2,10 @@
 // `cat`, and SCRIPT the file `s`.
 use crate::filled::{Cutting, answer};
 use crate::paged::{A_TO_E, NAMES, ROWS, tables_of};
-use crate::run::{Outcome, run, run_over, run_tables};
-use crate::views::{HOMES, MED_HOME, SCHOOLS, TWO};
-use crate::walks::STEPS;
 use lxp_core::{HoleId, SourceFault, Sources};
 use lxp_memory::MemSources;
 use mix_tree::{Label, Tree};
+use run_kit::{HOMES, MED_HOME, Outcome, SCHOOLS, STEPS, TWO, run, run_over, run_tables};
 use std::alloc::{AllocError, Global};
 use std::test::Fail;
 

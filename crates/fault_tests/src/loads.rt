@@ -1,5 +1,5 @@
 // Runs of `load`, with values worked out by hand.
-use crate::run::run_over;
+use run_kit::run_over;
 use std::test::Fail;
 
 const UNKNOWN: &str = "mixq: unknown words\n";

@@ -1,7 +1,7 @@
 // Runs of `run` and `count` over tables in memory: their rows, pages that fail, and what steps cost. VIEW is the file `v`, CATALOG the file `cat`, and SCRIPT the file
 // `s`.
-use crate::run::run_tables;
 use mix_tree::Label;
+use run_kit::run_tables;
 use std::alloc::{AllocError, Global};
 use std::test::Fail;
 use table_keep::{Cell, MemTable, MemTables, TableRow, Tables};

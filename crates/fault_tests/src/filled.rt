@@ -3,7 +3,6 @@ ghost use Rattle.std.specs.Prelude.{IfOk};
 ghost use Rattle.lxp_memory.specs.Memory.{memory_view};
 ghost use Rattle.lazy_value.specs.Mediators.{IsMediatorOf};
 
-use crate::views::{HOMES, MED_HOME, SCHOOLS, TWO};
 use crate::watched::Watched;
 use bracket_text::read_tree;
 use lazy_value::Mediator;
@@ -15,6 +14,7 @@ use mix_lines::run_lines;
 use mix_script::read_script;
 use mix_tree::{Label, Tree};
 use plan_rewrite::plan_view;
+use run_kit::{HOMES, MED_HOME, SCHOOLS, TWO};
 use std::alloc::Global;
 use std::test::Fail;
 use xmas_read::read_rule;
