@@ -6,11 +6,14 @@ pub mod FirstMembers
 pub mod Keep
 pub mod KeyParts
 pub mod Labels
+pub mod Lasts
 pub mod Members
 pub mod SameKeys
 pub mod SameNodes
 pub mod SeenLists
 pub mod SortedRows
+pub mod SourceBuffers
 pub mod Spots
+pub mod StableSorts
 pub mod Stay
 pub mod VariableSources

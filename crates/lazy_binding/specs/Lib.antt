@@ -1,10 +1,12 @@
 pub mod Bench
 pub mod Cursors
+pub mod Forms
 pub mod Keeping
 pub mod KeyLaws
 pub mod Keys
 pub mod Links
 pub mod Members
+pub mod Opening
 pub mod Parts
 pub mod Reading
 pub mod SortedLists

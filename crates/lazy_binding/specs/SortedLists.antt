@@ -5,7 +5,10 @@ use Rattle.std.specs.declared.rc.Rc.{Rc}
 use Rattle.std.specs.List.{AllByRecursion}
 use Rattle.plan_core.specs.Plans.{Operator}
 use Rattle.plan_core.specs.Shapes.{Shape, passes_on, in_order}
+use Rattle.plan_core.specs.Sorted.{sorted_by}
 use Rattle.plan_core.specs.TolledRows.{TolledRow}
+use Rattle.plan_core.specs.Unary.{comes_before}
+use Rattle.lazy_binding.specs.declared.labelled.Labelled.{Labelled}
 use Rattle.lazy_binding.specs.declared.position.Position.{Position}
 use Rattle.lazy_binding.specs.World.{World}
 use Rattle.lazy_binding.specs.Cursors.{binding, has_row, IsOf}
@@ -21,3 +24,7 @@ ArePositions w ops i places = AllByRecursion (λ c. IsOf w ops i c.value × IsTr
 -- the bindings at which they stand
 abbrev pub bindings_at : World → List Operator → ℕ → List (Rc Position Global) → List TolledRow
 bindings_at w ops i places = map (λ c. binding w ops i c.value) places
+
+-- positions sorted by their labels, ties as they stood
+abbrev pub by_label : Bool → List Labelled → List Labelled
+by_label desc rows = sorted_by (λ a b. comes_before desc a.label b.label) rows

@@ -1,9 +1,13 @@
-//! The bindings of a plan's operators, by the positions of cursors: what stands at a position, what is read off it, and what is under it.
+//! The bindings of a plan's operators, by the positions of cursors: what stands at a position, what is read off it, and what is under it; and what is
+//! read off the operators themselves, before any binding.
 #![tactic(auto)]
 
+pub mod forms;
 mod key;
+mod labelled;
 mod law;
 mod link;
+pub mod opening;
 mod parts;
 mod position;
 mod reading;
@@ -13,8 +17,9 @@ mod variable_spots;
 mod variables;
 
 pub use key::{KeyPart, KeyTuple, SeenKeys};
+pub use labelled::{Labelled, places, sort_labelled};
 pub use law::cursors_stay;
-pub use link::Link;
+pub use link::{Link, links};
 pub use parts::{Fixed, Growing, Walk};
 pub use position::{Position, inside, put, seen_up_to, share};
 pub use variables::{binds, names_var, var_of};

@@ -1,9 +1,82 @@
-// The variables by which the bindings of a join's right side are looked up.
-use mix_tree::Var;
+// By which variables the bindings of a join's right side are looked up.
+ghost use Rattle.std.specs.Prelude.{◌≡◌, ◌<◌, IfOk, length, map};
+ghost use Rattle.std.specs.List.{AllByRecursion};
+ghost use Rattle.plan_core.specs.PlanMade.{op_of};
+ghost use Rattle.plan_core.specs.Typed.{IsTyped};
+ghost use Rattle.plan_core.specs.Valid.{kinds, inputs_of};
+ghost use Rattle.lazy_binding.specs.Links.{test_link, first_link, op_link};
+
+use crate::variables::binds;
+use mix_tree::{Operand, Test, TestOp, Var};
+use plan_core::Op;
+use std::alloc::{AllocError, Global};
 
 /// A variable of the left side and one of the right side, where a comparison of the join says that they have the same label.
 #[derive(Clone, Copy)]
 pub struct Link {
     pub left: Var,
     pub right: Var,
+}
+
+/// The variables of a comparison of equal labels, where the left side binds one of them alone.
+fn link_of(ops: &[Op], left: u32, test: &Test) -> Option<Link>
+    requires typed { IsTyped (map op_of ops.now) }
+    requires op { left < length (map op_of ops.now) }
+    ensures { result ≡ test_link (kinds (map op_of ops.now) left) test.now }
+{
+    let Operand::Var(other) = &test.right else {
+        return None;
+    };
+    if !matches!(test.op, TestOp::Eq) {
+        return None;
+    }
+    match (binds(ops, left, test.left), binds(ops, left, *other)) {
+        (true, false) => Some(Link {
+            left: test.left,
+            right: *other,
+        }),
+        (false, true) => Some(Link {
+            left: *other,
+            right: test.left,
+        }),
+        _ => None,
+    }
+}
+
+/// The variables of the first comparison that has such ones.
+fn first_of(ops: &[Op], left: u32, tests: &[Test]) -> Option<Link>
+    requires typed { IsTyped (map op_of ops.now) }
+    requires op { left < length (map op_of ops.now) }
+    ensures { result ≡ first_link (kinds (map op_of ops.now) left) tests.now }
+{
+    for test in tests {
+        if let Some(link) = link_of(ops, left, test) {
+            return Some(link);
+        }
+    }
+    None
+}
+
+/// The same of an operator; only a join has such variables.
+fn join_link(ops: &[Op], op: &Op) -> Option<Link>
+    requires typed { IsTyped (map op_of ops.now) }
+    requires left { AllByRecursion (λ i. i < length (map op_of ops.now)) (inputs_of (op_of op.now)) }
+    ensures { result ≡ op_link (map op_of ops.now) (op_of op.now) }
+{
+    match op {
+        Op::Join { left, tests, .. } => first_of(ops, *left, tests),
+        _ => None,
+    }
+}
+
+/// The same of each operator.
+pub fn links(alloc: Global, ops: &[Op]) -> Result<Vec<Option<Link>>, AllocError>
+    requires { IsTyped (map op_of ops.now) }
+    ensures { IfOk result (λ links. links.items ≡ map (op_link (map op_of ops.now)) (map op_of ops.now)) }
+{
+    let mut links = Vec::new(alloc);
+    for op in ops {
+        links.push(join_link(ops, op))?;
+    }
+    Ok(links)
 }

@@ -21,7 +21,7 @@ use Rattle.lazy_binding.specs.declared.parts.Growing.{Growing}
 use Rattle.lazy_binding.specs.declared.position.Position.{Position, Start}
 use Rattle.lazy_binding.specs.Bench.{IsBench}
 use Rattle.lazy_binding.specs.World.{World, world, docs_of, is_told, Member, no_pairs, memo_at, last_of, passed}
-use Rattle.lazy_binding.specs.Cursors.{stands, binding, ahead, number, size, IsOf}
+use Rattle.lazy_binding.specs.Cursors.{binding, ahead, number, size, IsOf}
 use Rattle.lazy_binding.specs.Keeping.{Keeps, Stays}
 use Rattle.lazy_binding.specs.Links.{link_at}
 use Rattle.lazy_binding.specs.Members.{member_label, IsMember, AreNext, AreMembers}

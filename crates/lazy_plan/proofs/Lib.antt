@@ -16,6 +16,5 @@ pub mod PassSteps
 pub mod Passing
 pub mod Shapes
 pub mod Singles
-pub mod StableSorts
 pub mod Unders
 pub mod VisitSteps

@@ -1,6 +1,5 @@
 pub mod Bench
 pub mod Beside
-pub mod Opening
 pub mod Orders
 pub mod Steps
 pub mod Visits

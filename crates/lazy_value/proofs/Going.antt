@@ -16,7 +16,7 @@ use Rattle.lazy_plan.specs.declared.bench.Bench.{Bench}
 use Rattle.lazy_plan.specs.Bench.{BenchState, state_of, told_by, told, ops_of, documents, IsCursor, binding_at, ahead_at, number_at, KeepsBench, AsksAtMost, IsFirstOf, BenchRan}
 use Rattle.lazy_binding.specs.declared.position.Position.{Position}
 use Rattle.lazy_plan.proofs.Benches.{keeps_on}
-use Rattle.lazy_value.specs.Forms.{input_at, keys_of}
+use Rattle.lazy_binding.specs.Forms.{input_at, keys_of}
 use Rattle.lazy_value.specs.Ids.{stops_at, group_ahead}
 use Rattle.lazy_value.specs.Steps.{Walked, members_of, IsMember}
 use Rattle.lazy_value.proofs.Keep.{ops_kept, input_kept, binding_kept}

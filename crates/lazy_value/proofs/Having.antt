@@ -7,14 +7,13 @@ use Rattle.mix_base.proofs.Choices.{and_parts}
 use Rattle.mix_base.proofs.Firsts.{each_weaker}
 use Rattle.mix_tree.specs.Forest.{LabelledTree, first_tree}
 use Rattle.mix_tree.specs.Nodes.{Documents}
-use Rattle.plan_core.specs.declared.plan.Piece.TheVariants.{Var as var_piece}
 use Rattle.plan_core.specs.declared.plan.Plan.{Plan}
 use Rattle.plan_core.specs.PlanMade.{plan_value}
 use Rattle.plan_core.specs.Plans.{Operator, source, get_descendants, join, over, tuple_destroy, PlanValue, document}
 use Rattle.plan_core.specs.Unary.{select, order_by, project, group_by, concatenate, create_element}
 use Rattle.plan_core.specs.ByNumber.{op_at}
 use Rattle.plan_core.specs.Typed.{IsTyped}
-use Rattle.plan_core.specs.Valid.{Kind, Kinds, IsSinglePiece, kinds, op_kinds, kept, a_node, a_list, an_element, inputs_of, is_single, IsValid}
+use Rattle.plan_core.specs.Valid.{Kinds, kinds, op_kinds, kept, a_list, an_element, inputs_of, is_single, IsValid}
 use Rattle.plan_core.specs.Tolled.{Tolled, ends, item, is_item, item_label, plain}
 use Rattle.plan_core.specs.TolledRows.{TolledRow, tolled_value}
 use Rattle.plan_core.specs.Fronts.{Front, front}
@@ -22,20 +21,16 @@ use Rattle.plan_core.specs.Events.{RowEvents, expand, pairs, projected, concaten
 use Rattle.plan_core.proofs.Distinct.{distinct_new}
 use Rattle.plan_core.proofs.Found.{found-expand_some, found-pairs_yes, found-each_row_some}
 use Rattle.plan_core.proofs.Numbers.{events-of}
-use Rattle.lazy_plan.specs.Bench.{BenchState, ops_of}
 use Rattle.lazy_plan.specs.Steps.{single}
-use Rattle.lazy_binding.specs.declared.position.Position.{Position}
 use Rattle.plan_core.specs.Shapes.{shape_at}
 use Rattle.lazy_plan.proofs.Shapes.{single_at}
-use Rattle.lazy_value.specs.Ids.{IsLast}
 use Rattle.lazy_value.specs.Labels.{Labels, op_labels, labels, stands_in}
-use Rattle.lazy_value.specs.Forms.{form, makes_element, label_in}
+use Rattle.lazy_binding.specs.Forms.{form, makes_element, label_in, IsLast}
 use Rattle.lazy_value.specs.Origins.{makes, IsMadeHere}
-use Rattle.lazy_value.specs.Ways.{IsHeldAt}
 use Rattle.lazy_value.proofs.Numbering.{FitsKind, labels_fit, kind_of, labels_of}
 use Rattle.lazy_value.proofs.Making.{cond_true}
 use Rattle.lazy_value.proofs.RowLabels.{Holds, Fits, each_first, rows_fit}
-use Rattle.lazy_value.proofs.Lasts.{valid_ends, last_is}
+use Rattle.lazy_binding.proofs.Lasts.{valid_ends, last_is}
 
 -- there is a binding
 abbrev HasRow : RowEvents → Type 0
@@ -142,19 +137,3 @@ made_there p typed n v h (inl k) e = cc
 made_there p typed n v h (inr m) e =
     let z = element_made (kinds (plan_value p).ops) (labels (plan_value p).ops) (op_at (plan_value p).ops n) v m (sym (kind_of (plan_value p).ops typed n h (op_at (plan_value p).ops n) refl v) ∙ e) in
     (z.0, labels_of (plan_value p).ops typed n h (op_at (plan_value p).ops n) refl v ∙ z.1)
-
--- what is no list, and of which no element is made there, is a node
-pub node_alone : (p : Plan) → IsTyped (plan_value p).ops → (n v : ℕ) → n < length (plan_value p).ops → IsMadeHere p n v
-    → (form (op_at (plan_value p).ops n) ≡ makes_element → makes (op_at (plan_value p).ops n) v ≡ false)
-    → (k : Kind) → kinds (plan_value p).ops n v ≡ Some k → (k ≡ a_list → ⊥) → kinds (plan_value p).ops n v ≡ Some a_node
-node_alone p typed n v h here none a_node e f = e
-node_alone p typed n v h (inl k) none an_element e f = k
-node_alone p typed n v h (inr m) none an_element e f = let z = none (made_there p typed n v h (inr m) e).0 in cc
-node_alone p typed n v h here none a_list e f = absurd (f refl)
-
--- a variable that holds no list, and of which no element is made where it is held, has a node there
-pub node_held : (st : BenchState) → IsTyped (ops_of st) → (n v m : ℕ) (c d : Position) → n < length (ops_of st) → IsHeldAt st n c v m d → IsMadeHere st.plan m v
-    → (form (op_at (ops_of st) m) ≡ makes_element → makes (op_at (ops_of st) m) v ≡ false) → IsSinglePiece (kinds (ops_of st) n) (var_piece v)
-    → kinds (ops_of st) m v ≡ Some a_node
-node_held st typed n v m c d l h here none one =
-    node_alone st.plan typed m v (let w = h.within in omega (arith, w, l)) here none one.0 (sym h.kind ∙ one.1) one.2

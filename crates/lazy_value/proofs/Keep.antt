@@ -12,9 +12,9 @@ use Rattle.plan_core.specs.TolledRows.{TolledRow, piece_items, all_items, collec
 use Rattle.plan_core.specs.Events.{RowEvents, events, group_behind, tolled_document}
 use Rattle.lazy_plan.specs.Bench.{BenchState, ops_of, documents, events_of, size_of, IsCursor, CursorStays, binding_at, ahead_at, number_at, IsSpotAt, node_at, KeepsBench}
 use Rattle.lazy_binding.specs.declared.position.Position.{Position}
-use Rattle.lazy_value.specs.Forms.{Form, makes_list, makes_element, gathers_groups, form, input_at, pieces_of, keys_of, label_in, piece_at, piece_of}
+use Rattle.lazy_binding.specs.Forms.{Form, makes_list, makes_element, gathers_groups, form, input_at, pieces_of, keys_of, label_in, piece_at, piece_of, text_of, is_text}
 use Rattle.lazy_value.specs.Sizes.{pieces_count, size, extent}
-use Rattle.lazy_value.specs.Ids.{element_trees, pieces_trees, ahead_from, members_trees, stops_at, group_ahead, group_trees, Stands, GathersAll, IsHead, head_label, head_trees, text_of, is_text, IsRest, rest_trees, here, IsSite, weight, number_from, left, site_left}
+use Rattle.lazy_value.specs.Ids.{element_trees, pieces_trees, ahead_from, members_trees, stops_at, group_ahead, group_trees, Stands, GathersAll, IsHead, head_label, head_trees, IsRest, rest_trees, here, IsSite, weight, number_from, left, site_left}
 use Rattle.lazy_value.specs.Steps.{KeepsSites}
 use Rattle.lazy_value.specs.Ways.{IsWays}
 use Rattle.lazy_value.proofs.Along.{IsWays-kept}

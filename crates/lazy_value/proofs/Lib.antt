@@ -7,7 +7,6 @@ pub mod Having
 pub mod Heads
 pub mod Heights
 pub mod Keep
-pub mod Lasts
 pub mod Laws
 pub mod Making
 pub mod Numbering

@@ -24,7 +24,7 @@ use Rattle.plan_core.specs.Fronts.{op_stops, stops_over}
 use Rattle.lazy_plan.specs.Bench.{BenchState, ops_of, documents, events_of, size_of, IsCursor, binding_at, ahead_at, number_at, IsSpotAt, IsSpotOf, node_at, IsUnder, IsMadeOf}
 use Rattle.lazy_binding.specs.declared.position.Position.{Position}
 use Rattle.lazy_plan.proofs.Benches.{all_groups}
-use Rattle.lazy_value.specs.Forms.{Form, form, input_of, pieces_of, keys_of, label_in, input_at, makes_list, makes_element, gathers_groups}
+use Rattle.lazy_binding.specs.Forms.{Form, form, input_of, pieces_of, keys_of, label_in, input_at, makes_list, makes_element, gathers_groups}
 use Rattle.lazy_value.specs.Sizes.{pieces_count, size, extent, op_extent}
 use Rattle.lazy_value.specs.Ids.{Stands}
 use Rattle.lazy_value.specs.Origins.{IsOriginOf, IsMadeHere, makes}

@@ -12,7 +12,7 @@ use Rattle.plan_core.specs.TolledRows.{key_value, key_values, same_value, same_v
 use Rattle.lazy_plan.specs.declared.bench.Bench.{Bench}
 use Rattle.lazy_binding.specs.declared.position.Position.{Position}
 use Rattle.lazy_plan.specs.Bench.{BenchState, state_of, IsBenchOf, ops_of, told_by, documents, binding_at, number_at, trees_at_spot, GivesFirst}
-use Rattle.lazy_value.specs.Forms.{makes_list, gathers_all, gathers_groups, input_at, pieces_of}
+use Rattle.lazy_binding.specs.Forms.{makes_list, gathers_all, gathers_groups, input_at, pieces_of}
 use Rattle.lazy_value.specs.Ids.{Stands, IsOrigin, value_of, IsRest, rest_trees, weight, left, site_left, pieces_size, pieces_extent, pieces_trees, member_trees, members_trees, group_ahead, group_trees, ahead_from, number_from}
 use Rattle.lazy_value.specs.Origins.{origin_size, origin_extent}
 use Rattle.lazy_value.specs.Steps.{Walked, StandsFor, Turns, Falls, members_of}

@@ -1,14 +1,8 @@
 -- What an identifier stands for.
-use Rattle.std.specs.Prelude.{◌≡◌, ℕ, suc, ◌+◌, ◌<◌, ◌≤◌, Bool, true, false, IsTrue, Option, Some, None, List, [], length, drop, MatchOption}
+use Rattle.std.specs.Prelude.{◌≡◌, ℕ, suc, ◌+◌, ◌<◌, ◌≤◌, Bool, IsTrue, Option, Some, None, List, length, drop, MatchOption}
 use Rattle.mix_tree.specs.Forest.{first_kids, behind}
 use Rattle.mix_tree.specs.Nodes.{label_at, kids_at, label_of_first}
-use Rattle.plan_core.specs.declared.plan.Piece.{Piece}
-use Rattle.plan_core.specs.declared.plan.Piece.TheVariants.{Var as var_piece, LabelOf as label_piece, Text as text_piece}
-use Rattle.std.specs.List.{last_or}
-use Rattle.plan_core.specs.Plans.{Operator, tuple_destroy}
-use Rattle.plan_core.specs.Valid.{kinds}
-use Rattle.plan_core.specs.Valid.{an_element}
-use Rattle.lazy_plan.specs.Steps.{single}
+use Rattle.plan_core.specs.Plans.{Operator}
 use Rattle.plan_core.specs.ByNumber.{op_at}
 use Rattle.plan_core.specs.Tolled.{Tolled, ends, item, charged}
 use Rattle.plan_core.specs.TolledRows.{TolledValue, of_source, element, trees, piece_items, all_items, collected}
@@ -16,7 +10,7 @@ use Rattle.plan_core.specs.Events.{RowEvents, group_behind, tolled_document}
 use Rattle.plan_core.specs.Fronts.{op_stops}
 use Rattle.lazy_plan.specs.Bench.{BenchState, ops_of, documents, events_of, size_of, IsCursor, binding_at, ahead_at, number_at, IsSpotAt, node_at, trees_at_spot, after_at}
 use Rattle.lazy_binding.specs.declared.position.Position.{Position}
-use Rattle.lazy_value.specs.Forms.{Form, makes_list, makes_element, gathers_all, gathers_groups, form, input_at, pieces_of, keys_of, label_in, piece_at, piece_of}
+use Rattle.lazy_binding.specs.Forms.{Form, makes_list, makes_element, gathers_all, gathers_groups, form, input_at, pieces_of, keys_of, label_in, piece_at, piece_of, text_of, is_text}
 use Rattle.lazy_value.specs.Sizes.{pieces_count, size, extent}
 use Rattle.lazy_value.specs.Ways.{IsWays}
 use Rattle.lazy_value.specs.declared.ids.Origin.{Origin}
@@ -94,18 +88,6 @@ IsOrigin st (All op) = GathersAll st op
 IsOrigin st (Same op c) = Stands st op gathers_groups c × (number_at st (input_at (ops_of st) op) c ≤ size_of st (input_at (ops_of st) op))
 
 -- IDENTIFIERS
-
--- the text of a piece
-abbrev pub text_of : Piece → List ℕ
-text_of (var_piece v) = []
-text_of (label_piece v) = []
-text_of (text_piece label) = label
-
--- whether a piece is a text
-abbrev pub is_text : Piece → Bool
-is_text (var_piece v) = false
-is_text (label_piece v) = false
-is_text (text_piece label) = true
 
 -- a piece that is a text
 pub record IsText (st : BenchState) (op index : ℕ) : Type 0 where
@@ -193,10 +175,3 @@ abbrev pub site_left : BenchState → Site → ℕ
 site_left st Root = 0
 site_left st (Inside s p) = after_at st s p
 site_left st (Item head rest) = left st rest.value
-
--- the last operator makes the document of the element in the single binding of its input
-pub record IsLast (ops : List Operator) (input element : ℕ) : Type 0 where
-  pub within : input < length ops
-  pub kind : kinds ops input element ≡ Some an_element
-  pub single : IsTrue (single ops input)
-  pub last : last_or None ops ≡ Some (tuple_destroy input element)

@@ -1,5 +1,4 @@
 pub mod Calls
-pub mod Forms
 pub mod Heights
 pub mod Ids
 pub mod Labels

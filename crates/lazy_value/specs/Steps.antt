@@ -8,7 +8,7 @@ use Rattle.plan_core.specs.Tolled.{Tolled, dearer, paid, is_item}
 use Rattle.lazy_plan.specs.declared.bench.Bench.{Bench}
 use Rattle.lazy_binding.specs.declared.position.Position.{Position}
 use Rattle.lazy_plan.specs.Bench.{BenchState, state_of, IsBenchOf, told_by, told, forward, fills_of, ops_of, IsCursor, binding_at, number_at, KeepsBench, AsksAtMost}
-use Rattle.lazy_value.specs.Forms.{input_at}
+use Rattle.lazy_binding.specs.Forms.{input_at}
 use Rattle.lazy_value.specs.Ids.{group_ahead, here, IsSite, rest_trees, IsRest, weight, left, site_left}
 use Rattle.lazy_value.specs.declared.ids.Site.{Site}
 use Rattle.lazy_value.specs.declared.ids.Rest.{Rest}

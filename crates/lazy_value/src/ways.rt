@@ -6,14 +6,14 @@ ghost use Rattle.plan_core.specs.Valid.{Kind, kinds};
 ghost use Rattle.lazy_binding.specs.declared.position.Position.{Position};
 ghost use Rattle.lazy_plan.specs.Bench.{BenchState, plan_of, IsCursor};
 ghost use Rattle.lazy_value.specs.Origins.{IsMadeHere, FindsAlong};
-ghost use Rattle.lazy_value.specs.Ways.{foot_op, foot_at, IsWay, IsWays, KeepsWay, KeepsWays, GoesDown, IsHeldAt, Leads, LeadsUp};
+ghost use Rattle.lazy_value.specs.Ways.{foot_op, foot_at, IsWay, IsWays, KeepsWay, KeepsWays, GoesDown, Leads, LeadsUp};
 ghost use Rattle.lazy_value.specs.Calls.{InEach, InSome};
 ghost use Rattle.lazy_value.specs.declared.ways.Way.{Top};
 
 use crate::ids::Origin;
 use crate::origin::{made_here, passed_on};
-use crate::parts::operator;
 use lazy_binding::binds;
+use lazy_binding::forms::operator;
 use lazy_plan::{Bench, Cursor};
 use mix_tree::Var;
 use plan_core::{Op, Plan};
@@ -125,7 +125,12 @@ fn climb(bench: &Bench, way: &Rc<Way>, v: Var) -> Result<Rc<Way>, AllocError>
 }
 
 /// A way from its lowest cursor on down to where the value of a variable is made.
-fn descend(alloc: Global, bench: &Bench, way: &Rc<Way>, v: Var) -> Result<Rc<Way>, AllocError>
+pub(crate) fn descend(
+    alloc: Global,
+    bench: &Bench,
+    way: &Rc<Way>,
+    v: Var,
+) -> Result<Rc<Way>, AllocError>
     requires op { foot_op way.now.value < length (plan_value (plan_of bench.now)).ops }
     requires bench { InSome bench.now (λ st. IsCursor st (foot_op way.now.value) (foot_at way.now.value)) }
     requires kind { (k : Kind) × (kinds (plan_value (plan_of bench.now)).ops (foot_op way.now.value) v ≡ Some k) }
@@ -149,24 +154,6 @@ fn descend(alloc: Global, bench: &Bench, way: &Rc<Way>, v: Var) -> Result<Rc<Way
             descend(alloc, bench, &below, v)
         }
     }
-}
-
-/// The way from a cursor down to where the value of a variable in its binding is made.
-pub(crate) fn way_to(
-    alloc: Global,
-    bench: &Bench,
-    op: u32,
-    c: &Cursor,
-    v: Var,
-) -> Result<Rc<Way>, AllocError>
-    requires op { op < length (plan_value (plan_of bench.now)).ops }
-    requires bench { InSome bench.now (λ st. IsCursor st op c.now) }
-    requires kind { (k : Kind) × (kinds (plan_value (plan_of bench.now)).ops op v ≡ Some k) }
-    ensures here { IfOk result (λ w. IsMadeHere (plan_of bench.now) (foot_op w.value) v) }
-    ensures held { IfOk result (λ w. InEach bench.now (λ st. IsCursor st op c.now → IsHeldAt st op c.now v (foot_op w.value) (foot_at w.value))) }
-{
-    let top = begin(alloc, op, c)?;
-    descend(alloc, bench, &top.last, v)
 }
 
 /// The one of two ways from one cursor that goes down further.

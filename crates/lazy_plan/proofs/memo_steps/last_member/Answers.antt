@@ -1,4 +1,4 @@
-use Rattle.std.proofs.Common.{◌-◌, arith}
+use Rattle.std.proofs.Common.{arith}
 use Rattle.lazy_plan.proofs.Growing.{item_last, item_none}
 use Rattle.lazy_plan.proofs.memo_steps.last_member.Goals as goal
 

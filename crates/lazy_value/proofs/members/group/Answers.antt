@@ -1,5 +1,5 @@
 use Rattle.lazy_plan.specs.Bench.{state_of}
-use Rattle.lazy_value.specs.Forms.{gathers_groups}
+use Rattle.lazy_binding.specs.Forms.{gathers_groups}
 use Rattle.lazy_value.proofs.Keep.{Stands-kept}
 use Rattle.lazy_value.proofs.Gathering.{group_walked, group_rest, group_over, group_left, group_stand, group_fall}
 use Rattle.lazy_value.proofs.members.group.Goals as goal

@@ -1,5 +1,5 @@
 use Rattle.lazy_plan.specs.Bench.{state_of, IsBenchOf, ops_of, number_at}
-use Rattle.lazy_value.specs.Forms.{input_at, gathers_groups}
+use Rattle.lazy_binding.specs.Forms.{input_at, gathers_groups}
 use Rattle.lazy_value.specs.Ids.{Stands, group_ahead}
 use Rattle.lazy_value.proofs.Going.{Goes}
 use Rattle.lazy_value.proofs.members.next_of_group.Given as goal
