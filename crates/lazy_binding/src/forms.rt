@@ -1,11 +1,9 @@
 // What is written in the operators of a plan: their inputs, pieces, keys, labels and variables.
-ghost use Rattle.std.specs.Prelude.{◌≡◌, ◌-◌, ◌<◌, ◌∷◌, [], IsTrue, is_some, length};
-ghost use Rattle.mix_tree.specs.Keys.{has_var, key_var};
+ghost use Rattle.std.specs.Prelude.{◌≡◌, ◌-◌, ◌<◌, ◌∷◌, [], IsTrue, length};
 ghost use Rattle.plan_core.specs.declared.plan.Piece.TheVariants.{Var as var_piece};
 ghost use Rattle.plan_core.specs.ByNumber.{op_at};
 ghost use Rattle.plan_core.specs.PlanMade.{op_of, plan_value};
-ghost use Rattle.plan_core.specs.Typed.{IsTyped};
-ghost use Rattle.plan_core.specs.Valid.{IsValid, kinds};
+ghost use Rattle.plan_core.specs.Valid.{IsValid};
 ghost use Rattle.lazy_binding.specs.Forms as forms;
 ghost use Rattle.lazy_binding.specs.Forms.{pieces_of, piece_at, keys_of, input_at, form, makes_list, makes_element, label_in, labels_written, shown_by, texts_written, is_text, text_of, IsLast, IsWritten};
 

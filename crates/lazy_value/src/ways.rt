@@ -6,7 +6,7 @@ ghost use Rattle.plan_core.specs.Valid.{Kind, kinds};
 ghost use Rattle.lazy_binding.specs.declared.position.Position.{Position};
 ghost use Rattle.lazy_plan.specs.Bench.{BenchState, plan_of, IsCursor};
 ghost use Rattle.lazy_value.specs.Origins.{IsMadeHere, FindsAlong};
-ghost use Rattle.lazy_value.specs.Ways.{foot_op, foot_at, IsWay, IsWays, KeepsWay, KeepsWays, GoesDown, Leads, LeadsUp};
+ghost use Rattle.lazy_value.specs.Ways.{foot_op, foot_at, IsWay, KeepsWay, KeepsWays, GoesDown, Leads, LeadsUp};
 ghost use Rattle.lazy_value.specs.Calls.{InEach, InSome};
 ghost use Rattle.lazy_value.specs.declared.ways.Way.{Top};
 
