@@ -3,8 +3,8 @@ use Rattle.std.proofs.Common.{◌≡◌, ◌∙◌, ◌+◌, ◌<◌, ◌≤◌,
 use Rattle.std.specs.List.{AllByRecursion}
 use Rattle.mix_tree.specs.Comparisons.{compares_nodes}
 use Rattle.xmas_text.specs.declared.var.VarText.{VarText}
-use Rattle.xmas_text.specs.declared.cond.Comparison.{Comparison}
-use Rattle.xmas_text.specs.declared.cond.Comparison.TheVariants as comparison
+use Rattle.xmas_tokens.specs.declared.lexeme.Comparison.{Comparison}
+use Rattle.xmas_tokens.specs.declared.lexeme.Comparison.TheVariants as comparison
 use Rattle.xmas_text.specs.declared.cond.CondText.{CondText}
 use Rattle.xmas_text.specs.declared.cond.CondText.TheVariants as condition
 use Rattle.xmas_text.specs.declared.cond.OperandText.{OperandText}

@@ -12,11 +12,13 @@ use Rattle.path_expr.specs.Canonical.{canon}
 use Rattle.path_expr.proofs.Again.{quoted_pieces, pieces_of}
 use Rattle.xmas_text.specs.Grammar.{Operand, a_variable, a_text, Cond, source, walk, compare, Conds, one, also, Order, unordered, ordered, descending, IsCond, AreConds}
 use Rattle.xmas_text.specs.Grammar as written
-use Rattle.xmas_text.specs.Parsed.{path_form, operand_at, cond_at, conds_at, order_at}
+use Rattle.xmas_tokens.specs.Tokens.{quoted_text, op_text}
+use Rattle.xmas_text.specs.Parsed.{operand_at, cond_at, conds_at, order_at}
+use Rattle.xmas_tokens.specs.Lexemes.{path_form}
 use Rattle.xmas_text.specs.declared.var.VarText.{VarText}
-use Rattle.xmas_text.specs.declared.cond.PathLimit.{PathLimit}
-use Rattle.xmas_text.specs.declared.cond.Comparison.{Comparison}
-use Rattle.xmas_text.specs.declared.cond.Comparison.TheVariants as comparison
+use Rattle.xmas_tokens.specs.declared.lexeme.PathLimit.{PathLimit}
+use Rattle.xmas_tokens.specs.declared.lexeme.Comparison.{Comparison}
+use Rattle.xmas_tokens.specs.declared.lexeme.Comparison.TheVariants as comparison
 use Rattle.xmas_text.specs.declared.cond.CondText.{CondText}
 use Rattle.xmas_text.specs.declared.cond.CondText.TheVariants as condition
 use Rattle.xmas_text.specs.declared.cond.OperandText.{OperandText}
@@ -154,7 +156,7 @@ KnownCond sources names (condition.FromVar start path var) = (has_name names sta
 KnownCond sources names (condition.Compare left op right) = (has_name names left.name ≡ true) × KnownOperand names right
 
 -- a comparison's sign
-op_written : (o : Comparison) → written.op_text o ≡ op_sign (op_value o)
+op_written : (o : Comparison) → op_text o ≡ op_sign (op_value o)
 op_written comparison.Eq = refl
 op_written comparison.Ne = refl
 op_written comparison.Lt = refl
@@ -177,12 +179,12 @@ cond_written sources names n (walk start g p h v) k w =
     ∙ ap (λ r. 36 ∷ (r ++ (32 ∷ (canon (path_value (path_form p)) ++ (32 ∷ 36 ∷ v))))) (sym (name_back names start w.0))
     ∙ ap (λ r. 36 ∷ (get_or names (place_in names start) [] ++ (32 ∷ (canon (path_value (path_form p)) ++ (32 ∷ 36 ∷ r))))) (sym (name_back names v w.1))
 cond_written sources names n (compare v g o h (a_variable u)) k w =
-    ap (λ r. 36 ∷ (r ++ (32 ∷ (written.op_text o ++ (32 ∷ 36 ∷ u))))) (sym (name_back names v w.0))
+    ap (λ r. 36 ∷ (r ++ (32 ∷ (op_text o ++ (32 ∷ 36 ∷ u))))) (sym (name_back names v w.0))
     ∙ ap (λ r. 36 ∷ (get_or names (place_in names v) [] ++ (32 ∷ (r ++ (32 ∷ 36 ∷ u))))) (op_written o)
     ∙ ap (λ r. 36 ∷ (get_or names (place_in names v) [] ++ (32 ∷ (op_sign (op_value o) ++ (32 ∷ 36 ∷ r))))) (sym (name_back names u w.1))
 cond_written sources names n (compare v g o h (a_text ps)) k w =
-    ap (λ r. 36 ∷ (r ++ (32 ∷ (written.op_text o ++ (32 ∷ written.quoted_text (pieces_of (meaning ps))))))) (sym (name_back names v w.0))
-    ∙ ap (λ r. 36 ∷ (get_or names (place_in names v) [] ++ (32 ∷ (r ++ (32 ∷ written.quoted_text (pieces_of (meaning ps))))))) (op_written o)
+    ap (λ r. 36 ∷ (r ++ (32 ∷ (op_text o ++ (32 ∷ quoted_text (pieces_of (meaning ps))))))) (sym (name_back names v w.0))
+    ∙ ap (λ r. 36 ∷ (get_or names (place_in names v) [] ++ (32 ∷ (r ++ (32 ∷ quoted_text (pieces_of (meaning ps))))))) (op_written o)
     ∙ ap (λ r. 36 ∷ (get_or names (place_in names v) [] ++ (32 ∷ (op_sign (op_value o) ++ (32 ∷ r))))) (sym (quoted_pieces (meaning ps)).2)
 
 -- conditions behind a first one, and one more

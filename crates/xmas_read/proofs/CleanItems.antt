@@ -9,6 +9,7 @@ use Rattle.path_expr.proofs.Again.{quoted_pieces, pieces_of}
 use Rattle.xmas_text.specs.Groups.{GroupForm}
 use Rattle.xmas_text.specs.Grammar.{Key, node, label, Keys, none, first, more, Group, absent, braced, Items, nothing, variable, literal, element, AreItems}
 use Rattle.xmas_text.specs.Grammar as written
+use Rattle.xmas_tokens.specs.Tokens.{quoted_text}
 use Rattle.xmas_text.specs.Contents.{Contents}
 use Rattle.xmas_text.specs.Elements.{contents_of}
 use Rattle.xmas_text.specs.Parsed.{key_at, keys_at, group_at, items_at, shown_at, close_place}
@@ -100,7 +101,7 @@ turned before text item rest h k =
     regroup a b = simp append_assoc
 
 -- the text of a literal
-literal_written : (ps : List Piece) → written.quoted_text (pieces_of (meaning ps)) ≡ quoted (meaning ps)
+literal_written : (ps : List Piece) → quoted_text (pieces_of (meaning ps)) ≡ quoted (meaning ps)
 literal_written ps = sym (quoted_pieces (meaning ps)).2
 
 -- the keys that stand for those of a variable without a group label

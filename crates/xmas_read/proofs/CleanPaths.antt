@@ -14,11 +14,12 @@ use Rattle.path_expr.specs.Canonical.{canon}
 use Rattle.path_expr.specs.Results.{SpellsWithin}
 use Rattle.path_expr.proofs.Complete.{writes_read}
 use Rattle.path_expr.proofs.RoundTrip.{canon_within}
-use Rattle.xmas_text.specs.Lexical.{is_blank, IsBlanks, IsGap}
+use Rattle.xmas_tokens.specs.Lexical.{is_blank, IsBlanks, IsGap}
 use Rattle.xmas_text.specs.Grammar.{Cond, source, walk, compare, Conds, one, also, Order, unordered, ordered, descending, Rule, IsRule, IsCond, AreConds, IsOrder, cond_text, conds_text, order_text, items_text, rule_text}
-use Rattle.xmas_text.specs.Parsed.{path_form, cond_at, conds_at}
-use Rattle.xmas_text.specs.declared.cond.PathLimit.{PathLimit}
-use Rattle.xmas_text.specs.declared.cond.PathLimit.TheVariants.{Nesting, Positions}
+use Rattle.xmas_text.specs.Parsed.{cond_at, conds_at}
+use Rattle.xmas_tokens.specs.Lexemes.{path_form}
+use Rattle.xmas_tokens.specs.declared.lexeme.PathLimit.{PathLimit}
+use Rattle.xmas_tokens.specs.declared.lexeme.PathLimit.TheVariants.{Nesting, Positions}
 use Rattle.xmas_text.specs.declared.cond.CondText.{CondText}
 use Rattle.xmas_read.specs.Refusals.{is_nested, has_many, has_path}
 use Rattle.xmas_read.proofs.CleanForm.{or_else, clean_path}

@@ -9,13 +9,14 @@ use Rattle.mix_base.proofs.Utf8.{utf8_split, one_utf8, utf8_push}
 use Rattle.mix_tree.specs.LabelGrammar.{Piece, ArePieces, inside_quotes, meaning}
 use Rattle.mix_tree.specs.Names.{IsName}
 use Rattle.mix_tree.specs.Spelling.{escaped, quoted}
-use Rattle.xmas_text.specs.declared.cond.Comparison.{Comparison}
-use Rattle.xmas_text.specs.declared.cond.Comparison.TheVariants as op
+use Rattle.xmas_tokens.specs.declared.lexeme.Comparison.{Comparison}
+use Rattle.xmas_tokens.specs.declared.lexeme.Comparison.TheVariants as op
 use Rattle.path_expr.specs.Grammar.{Spelled, text_of}
 use Rattle.path_expr.proofs.Again.{quoted_pieces, pieces_of}
 use Rattle.path_expr.proofs.Utf8.{label_utf8, name_utf8}
-use Rattle.xmas_text.specs.Lexical.{is_blank, is_letter, is_word_byte, IsBlanks, IsGap, IsVar}
-use Rattle.xmas_text.specs.Grammar.{Key, node, label, Keys, none, first, more, Group, absent, braced, Items, nothing, variable, literal, element, Operand, a_variable, a_text, Cond, source, walk, compare, Conds, one, also, Order, unordered, ordered, descending, Rule, IsKey, AreKeys, IsGroup, IsItemGap, AreItems, IsTemplate, IsOperand, IsCond, AreConds, IsOrder, IsRule, key_text, keys_text, group_text, items_text, quoted_text, op_text, operand_text, cond_text, conds_text, order_text, rule_text}
+use Rattle.xmas_tokens.specs.Lexical.{is_blank, is_letter, is_word_byte, IsBlanks, IsGap, IsVar}
+use Rattle.xmas_text.specs.Grammar.{Key, node, label, Keys, none, first, more, Group, absent, braced, Items, nothing, variable, literal, element, Operand, a_variable, a_text, Cond, source, walk, compare, Conds, one, also, Order, unordered, ordered, descending, Rule, IsKey, AreKeys, IsGroup, IsItemGap, AreItems, IsTemplate, IsOperand, IsCond, AreConds, IsOrder, IsRule, key_text, keys_text, group_text, items_text, operand_text, cond_text, conds_text, order_text, rule_text}
+use Rattle.xmas_tokens.specs.Tokens.{quoted_text, op_text}
 use Rattle.xmas_read.proofs.CleanForm.{clean_key, clean_keys, clean_group, clean_items, clean_path, clean_operand, clean_cond, clean_conds, clean_order, clean_rule}
 use Rattle.xmas_read.proofs.CleanPaths.{PathKept, KeptCond, KeptConds, blank_low, behind_blanks, gap_blanks, around_gap, rule_parts}
 

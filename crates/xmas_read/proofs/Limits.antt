@@ -7,9 +7,10 @@ use Rattle.path_expr.specs.Depth.{nesting}
 use Rattle.path_expr.specs.Form.{positions_in}
 use Rattle.path_expr.specs.Values.{value_of}
 use Rattle.xmas_text.specs.Grammar.{Cond, source, walk, compare, Conds, one, also, conds_text}
-use Rattle.xmas_text.specs.Parsed.{RuleForm, path_form, cond_at, conds_at, conds_place}
+use Rattle.xmas_text.specs.Parsed.{RuleForm, cond_at, conds_at, conds_place}
+use Rattle.xmas_tokens.specs.Lexemes.{path_form}
 use Rattle.xmas_text.specs.Results.{SpellsWithin}
-use Rattle.xmas_text.specs.declared.cond.PathLimit.TheVariants.{Nesting, Positions}
+use Rattle.xmas_tokens.specs.declared.lexeme.PathLimit.TheVariants.{Nesting, Positions}
 use Rattle.xmas_text.specs.declared.cond.CondText.{CondText}
 use Rattle.xmas_text.specs.declared.cond.CondText.TheVariants as condition
 use Rattle.xmas_rule.specs.Conditions.{binders, AreSources, HasFewPositions}

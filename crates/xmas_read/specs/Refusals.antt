@@ -11,8 +11,8 @@ use Rattle.xmas_text.specs.Groups.{GroupForm}
 use Rattle.xmas_text.specs.Contents.{Leaf, node, label_of, text, Contents, nothing, element, leaf, ElementForm}
 use Rattle.xmas_text.specs.declared.var.VarText.{VarText}
 use Rattle.xmas_text.specs.declared.var.KeyText.{KeyText}
-use Rattle.xmas_text.specs.declared.cond.PathLimit.{PathLimit}
-use Rattle.xmas_text.specs.declared.cond.PathLimit.TheVariants.{Nesting as too_nested, Positions as too_many}
+use Rattle.xmas_tokens.specs.declared.lexeme.PathLimit.{PathLimit}
+use Rattle.xmas_tokens.specs.declared.lexeme.PathLimit.TheVariants.{Nesting as too_nested, Positions as too_many}
 use Rattle.xmas_text.specs.declared.cond.CondText.{CondText}
 use Rattle.xmas_text.specs.declared.cond.CondText.TheVariants as condition
 use Rattle.xmas_rule.specs.Items as items

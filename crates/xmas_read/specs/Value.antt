@@ -12,9 +12,9 @@ use Rattle.xmas_text.specs.Groups.{GroupForm}
 use Rattle.xmas_text.specs.Contents.{Leaf, node, label_of, text, Contents, nothing, element, leaf}
 use Rattle.xmas_text.specs.declared.var.KeyText.{KeyText}
 use Rattle.xmas_text.specs.declared.var.KeyText.TheVariants as keyed
-use Rattle.xmas_text.specs.declared.cond.PathLimit.{PathLimit}
-use Rattle.xmas_text.specs.declared.cond.Comparison.{Comparison}
-use Rattle.xmas_text.specs.declared.cond.Comparison.TheVariants as comparison
+use Rattle.xmas_tokens.specs.declared.lexeme.PathLimit.{PathLimit}
+use Rattle.xmas_tokens.specs.declared.lexeme.Comparison.{Comparison}
+use Rattle.xmas_tokens.specs.declared.lexeme.Comparison.TheVariants as comparison
 use Rattle.xmas_text.specs.declared.cond.CondText.{CondText}
 use Rattle.xmas_text.specs.declared.cond.CondText.TheVariants as condition
 use Rattle.xmas_text.specs.declared.cond.OperandText.{OperandText}

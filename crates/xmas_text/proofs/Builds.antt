@@ -1,43 +1,45 @@
 -- What is built of a text goes as the machine does.
-use Rattle.std.proofs.Common.{◌≡◌, ◌∙◌, ◌+◌, ◌<◌, ◌≤◌, ◌^◌, ℕ, Bool, true, false, cond, List, [], ◌∷◌, ◌++◌, Option, Some, None, option_map, option_and_then, refl, sym, ap, subst, arith, length, take, drop, slice_index, slice_range, length-append, append_assoc}
+use Rattle.std.proofs.Common.{◌≡◌, ◌∙◌, ◌+◌, ◌<◌, ◌≤◌, ◌^◌, ℕ, Bool, true, false, cond, List, [], ◌∷◌, ◌++◌, Option, Some, None, option_map, option_and_then, refl, sym, ap, subst, arith, length, take, drop, slice_index, slice_range, length-append, append_assoc, length-take-le, rules}
 use Rattle.std.proofs.lemmas.List.{take_all, take-append-drop}
-use Rattle.std.proofs.Common.{length-take-le, rules}
 use Rattle.std.proofs.lemmas.Str.{IsUtf8-nil, IsUtf8-between, IsCharBoundary-from_take}
 use Rattle.std.specs.Str.{IsUtf8}
 use Rattle.mix_base.proofs.Runs.{run_append, run_one, take_next}
 use Rattle.mix_base.proofs.Choices.{Gives, some_is, none_some}
 use Rattle.mix_base.proofs.Lists.{append_nil}
-use Rattle.xmas_text.specs.declared.lexer.Part.{Part}
-use Rattle.xmas_text.specs.declared.lexer.Part.TheVariants as part
+use Rattle.xmas_tokens.specs.declared.lexer.Part.{Part}
+use Rattle.xmas_tokens.specs.declared.lexer.Part.TheVariants as part
 use Rattle.xmas_text.specs.declared.scan.Scan.{Scan}
-use Rattle.xmas_text.specs.Lexical.{is_blank}
+use Rattle.xmas_tokens.specs.Lexical.{is_blank}
 use Rattle.xmas_text.specs.Grammar.{Items, nothing, variable, literal, element, Rule, Writes, IsTemplate}
-use Rattle.xmas_text.specs.Tokens.{Token, kind_of}
+use Rattle.xmas_tokens.specs.Tokens.{Token, kind_of}
 use Rattle.xmas_text.specs.Spots.{Spot, cond_done, sorted, takes}
-use Rattle.xmas_text.specs.Lexer.{Lex, between, marking, angle, opening, slash, closing, naming, dollar, varying, quoting, escaping, pathing, ready, comparing, lex_step, token_in, begin}
+use Rattle.xmas_tokens.specs.Lexer.{Lex, between, marking, angle, opening, slash, closing, naming, dollar, varying, quoting, escaping, pathing, ready, comparing, lex_step, token_in, begin}
 use Rattle.xmas_text.specs.Machine.{State, at, with_lex, next, step, run, rule_at, whole, start}
-use Rattle.xmas_text.specs.Parts.{part_of, part_step, kind_in, part_depth}
+use Rattle.xmas_tokens.specs.Parts.{part_of, part_step, kind_in, part_depth}
 use Rattle.xmas_text.specs.Scans.{scan_of, scan_step}
 use Rattle.xmas_text.specs.Parsed.{items_at, parsed}
 use Rattle.xmas_text.specs.Drafts.{DraftForm}
 use Rattle.xmas_text.specs.Shifted.{shifted}
-use Rattle.xmas_text.specs.Drafted.{lexeme_of, draft_of}
-use Rattle.xmas_text.specs.Lexemes.{IsLexeme}
+use Rattle.xmas_text.specs.Drafted.{draft_of}
+use Rattle.xmas_tokens.specs.Lexemes.{lexeme_of, IsLexeme}
 use Rattle.xmas_text.specs.Building.{BuildForm, IsEndedBy, IsEnded, EndsTokenBy, EndsToken, place_behind, CanBuild, BuildsBy, Builds, IsOneElement, tree_of}
-use Rattle.xmas_text.proofs.Texts.{spot_text, IsSpot, lex_text}
+use Rattle.xmas_text.proofs.Texts.{spot_text, IsSpot}
+use Rattle.xmas_tokens.proofs.Texts.{lex_text}
 use Rattle.xmas_text.proofs.Shifts.{shifts}
-use Rattle.xmas_text.proofs.Sound.{Goes, begin_goes}
-use Rattle.xmas_text.proofs.Runs.{Stands, token_ended, run_stands, start_stands}
+use Rattle.xmas_tokens.proofs.Sound.{Goes, begin_goes}
+use Rattle.xmas_text.proofs.Runs.{Stands, run_stands, start_stands}
+use Rattle.xmas_tokens.proofs.Ended.{token_ended}
 use Rattle.xmas_text.proofs.Complete.{writes_read}
 use Rattle.xmas_text.proofs.Fronts.{stood_at, stopped_writes}
-use Rattle.xmas_text.proofs.Parts.{step_part, kind_part}
+use Rattle.xmas_tokens.proofs.Parts.{step_part, kind_part}
 use Rattle.xmas_text.proofs.Steps.{rest_by, rest_in, rest, rest_between, step_rest, step_on}
-use Rattle.xmas_text.proofs.Cuts.{ScansTo, scan_more, InQuotes, front_utf8, quotes_go_on}
+use Rattle.xmas_text.proofs.Cuts.{ScansTo, scan_more, front_utf8}
+use Rattle.xmas_tokens.proofs.Quotes.{InQuotes, quotes_go_on}
 use Rattle.xmas_text.proofs.Verdicts.{whole_rest}
 use Rattle.xmas_text.proofs.Lengths.{spot_end, spot_length}
 use Rattle.xmas_text.proofs.DraftMoves.{drafts}
-use Rattle.xmas_text.proofs.Lexemes.{between_is}
-use Rattle.xmas_text.proofs.Unique.{lexeme_is}
+use Rattle.xmas_tokens.proofs.Lexemes.{between_is}
+use Rattle.xmas_tokens.proofs.Unique.{lexeme_is}
 
 -- what is kept of the text up to a place is that of the machine's state
 pub record Standing (text : List ℕ) (n : ℕ) (b : BuildForm) : Type 0 where

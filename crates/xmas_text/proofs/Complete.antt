@@ -5,18 +5,17 @@ use Rattle.std.specs.List.{list_all}
 use Rattle.mix_base.proofs.Runs.{run_then, run_byte}
 use Rattle.mix_base.proofs.Choices.{and_parts}
 use Rattle.mix_tree.specs.Names.{IsName}
-use Rattle.xmas_text.specs.Grammar.{quoted_text, Key, node, label, Keys, none, first, more, Group, absent, braced, Items, nothing, variable, literal, element, key_text, keys_text, group_text, items_text, IsKey, HasKeys, AreKeys, IsGroup, IsItemGap, AreItems, Operand, a_variable, a_text, op_text, operand_text, IsOperand, Cond, source, walk, compare, Conds, one, also, Order, unordered, ordered, descending, ordered_text, order_text, IsOrder, cond_text, conds_text, IsCond, AreConds, IsTemplate, construct_text, where_text, Rule, IsRule, Writes}
-use Rattle.xmas_text.specs.Lexer.{between}
-use Rattle.xmas_text.specs.Lexical.{is_blank, IsBlanks, IsGap, IsVar}
+use Rattle.xmas_text.specs.Grammar.{Key, node, label, Keys, none, first, more, Group, absent, braced, Items, nothing, variable, literal, element, key_text, keys_text, group_text, items_text, IsKey, HasKeys, AreKeys, IsGroup, IsItemGap, AreItems, Operand, a_variable, a_text, operand_text, IsOperand, Cond, source, walk, compare, Conds, one, also, Order, unordered, ordered, descending, ordered_text, order_text, IsOrder, cond_text, conds_text, IsCond, AreConds, IsTemplate, construct_text, where_text, Rule, IsRule, Writes}
+use Rattle.xmas_tokens.specs.Tokens.{quoted_text, op_text, Token, fixed, open_tag, close_tag, word, var, quoted, path, comparison, kind_of, token_text, IsToken}
+use Rattle.xmas_tokens.specs.Lexer.{between}
+use Rattle.xmas_tokens.specs.Lexical.{is_blank, IsBlanks, IsGap, IsVar}
 use Rattle.xmas_text.specs.Machine.{State, at, run, rule_at, whole, start, read_of, step}
 use Rattle.xmas_text.specs.Spots.{Frame, Head, at_first, at_more, Before, first_cond, also_cond, Start, by_name, by_var, Spot, beginning, items, labelled, keys, key_comma, key_label, cond_start, cond_from, cond_path, cond_done, compared, ordering, ordering_by, sorted, has_blank, item_gap, may_group, is_none, takes, with_group, push_cond, cond_of, shift}
-use Rattle.xmas_text.specs.Tokens.{Token, fixed, open_tag, close_tag, word, var, quoted, path, comparison, kind_of, token_text}
-use Rattle.xmas_text.specs.declared.cond.Comparison.{Comparison}
-use Rattle.xmas_text.specs.declared.token.Mark.TheVariants as mark
-use Rattle.xmas_text.specs.declared.token.Kind.TheVariants as kind
+use Rattle.xmas_tokens.specs.declared.lexeme.Comparison.{Comparison}
+use Rattle.xmas_tokens.specs.declared.token.Mark.TheVariants as mark
+use Rattle.xmas_tokens.specs.declared.token.Kind.TheVariants as kind
 use Rattle.path_expr.specs.Grammar as paths
 use Rattle.xmas_text.proofs.Texts.{label_text}
-use Rattle.xmas_text.specs.Tokens.{IsToken}
 use Rattle.xmas_text.proofs.Tokens.{IsAt, at_start, Behind, reading, gap_run, gap_step, blank_follows}
 use Rattle.xmas_text.proofs.Takes.{taken_reading}
 

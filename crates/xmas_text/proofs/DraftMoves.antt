@@ -2,18 +2,19 @@
 use Rattle.std.proofs.Common.{◌≡◌, ◌∙◌, ◌+◌, ℕ, IsTrue, reverse, List, [], ◌∷◌, ◌++◌, None, refl, sym, ap, arith, length}
 use Rattle.std.proofs.lemmas.List.{reverse-append, reverse-reverse}
 use Rattle.path_expr.specs.Grammar as paths
-use Rattle.xmas_text.specs.declared.cond.Comparison.{Comparison}
-use Rattle.xmas_text.specs.declared.token.Mark.TheVariants as mark
+use Rattle.xmas_tokens.specs.declared.lexeme.Comparison.{Comparison}
+use Rattle.xmas_tokens.specs.declared.token.Mark.TheVariants as mark
 use Rattle.xmas_text.specs.declared.element.ItemText.{ItemText}
 use Rattle.xmas_text.specs.declared.var.KeyText.TheVariants as keyed
 use Rattle.xmas_text.specs.declared.draft.Pending.TheVariants as pending
 use Rattle.xmas_text.specs.Grammar.{node, label, Keys, none, first, more, absent, braced, Items, nothing, variable, literal, element, keys_text, items_text, Cond, compare, a_variable, a_text, Conds, Order, ordered}
-use Rattle.xmas_text.specs.Tokens.{Token, fixed, open_tag, close_tag, word, var, quoted, path, comparison, kind_of}
+use Rattle.xmas_tokens.specs.Tokens.{Token, fixed, open_tag, close_tag, word, var, quoted, path, comparison, kind_of}
 use Rattle.xmas_text.specs.Spots.{Frame, Head, Place, at_first, at_more, Before, first_cond, also_cond, Start, by_name, by_var, Spot, beginning, items, labelled, keys, key_comma, key_label, cond_start, cond_from, cond_path, cond_done, compared, ordering, ordering_by, sorted, may_group, with_group, push_cond, cond_of, takes, shift}
 use Rattle.xmas_text.specs.Parsed.{var_at, keys_at, items_at, cond_at, conds_at}
 use Rattle.xmas_text.specs.Drafts.{BuiltForm}
 use Rattle.xmas_text.specs.Shifted.{draft, with_items, grouped_in, item_with, shifted}
-use Rattle.xmas_text.specs.Drafted.{lexeme_of, level_place, front_at, last_at, brace_place, head_place, before_place, conds_before, in_template, in_conds, draft_of}
+use Rattle.xmas_text.specs.Drafted.{level_place, front_at, last_at, brace_place, head_place, before_place, conds_before, in_template, in_conds, draft_of}
+use Rattle.xmas_tokens.specs.Lexemes.{lexeme_of}
 use Rattle.xmas_text.proofs.Texts.{IsPlace, IsSpot}
 use Rattle.xmas_text.proofs.Lengths.{spot_end}
 

@@ -1,9 +1,7 @@
 -- What a run has read goes on to a text of the grammar; where it stops, no text goes on.
-use Rattle.std.proofs.Common.{◌≡◌, ◌∙◌, ◌<◌, ℕ, Bool, true, false, ◌||◌, IsTrue, List, [], ◌∷◌, ◌++◌, Option, Some, None, option_and_then, refl, sym, ap, subst, append_assoc, arith}
+use Rattle.std.proofs.Common.{◌≡◌, ◌∙◌, ℕ, Bool, true, false, ◌||◌, IsTrue, List, [], ◌∷◌, ◌++◌, Option, Some, None, option_and_then, refl, sym, ap, subst, append_assoc, arith, zero, suc}
 use Rattle.std.specs.Str.{IsUtf8, IsAscii}
 use Rattle.std.specs.List.{list_all}
-use Rattle.std.proofs.Common.{nat_lt, zero, suc}
-use Rattle.std.proofs.lemmas.Bool.Decides.{nat_tests}
 use Rattle.std.proofs.lemmas.Str.{IsUtf8-nil, IsUtf8-append, IsUtf8-from_ascii}
 use Rattle.mix_base.proofs.Runs.{run_append, run_then}
 use Rattle.mix_base.specs.Reading.{IsFront}
@@ -13,27 +11,27 @@ use Rattle.mix_base.proofs.Choices.{and_parts, and_both, list_all-push, some_is,
 use Rattle.mix_tree.specs.LabelGrammar.{Piece, escape}
 use Rattle.mix_tree.specs.Names.{IsName}
 use Rattle.xmas_text.specs.Grammar.{Keys, Group, absent, Items, nothing, variable, literal, element, Conds, Order, unordered, ordered, descending, Rule, Writes}
-use Rattle.xmas_text.specs.Lexer.{Lex, between, marking, angle, opening, slash, closing, naming, dollar, varying, quoting, escaping, pathing, ready, comparing, map_path, as_path, lex_step, token_in}
-use Rattle.xmas_text.specs.Lexical.{is_blank, IsBlanks}
+use Rattle.xmas_tokens.specs.Lexer.{Lex, between, marking, angle, opening, slash, closing, naming, dollar, varying, quoting, escaping, pathing, ready, comparing, map_path, as_path, lex_step, token_in}
+use Rattle.xmas_tokens.specs.Lexical.{is_blank, IsBlanks}
 use Rattle.xmas_text.specs.Machine.{State, at, step, run, rule_at, whole, start}
 use Rattle.xmas_text.specs.Spots.{Frame, Head, Before, Start, Spot, beginning, items, labelled, keys, key_comma, key_label, cond_start, cond_from, cond_path, cond_done, compared, ordering, ordering_by, sorted, has_blank, takes, shift}
-use Rattle.xmas_text.specs.Tokens.{Token, fixed, open_tag, close_tag, word, var, quoted, path, comparison, kind_of, mark_text, with_equal, token_text}
-use Rattle.xmas_text.specs.declared.token.Mark.{Mark}
-use Rattle.xmas_text.specs.declared.token.Mark.TheVariants as mark
-use Rattle.xmas_text.specs.declared.token.Kind.TheVariants as kind
+use Rattle.xmas_tokens.specs.Tokens.{Token, fixed, open_tag, close_tag, word, var, quoted, path, comparison, kind_of, with_equal, token_text, IsToken}
+use Rattle.xmas_tokens.specs.declared.token.Mark.{Mark}
+use Rattle.xmas_tokens.specs.declared.token.Mark.TheVariants as mark
+use Rattle.xmas_tokens.specs.declared.token.Kind.TheVariants as kind
 use Rattle.path_expr.specs.Grammar as paths
 use Rattle.path_expr.specs.Machine as pathing_
 use Rattle.path_expr.proofs.Fronts as path_fronts
-use Rattle.path_expr.proofs.Complete as path_complete
-use Rattle.xmas_text.proofs.Texts.{IsLex}
-use Rattle.xmas_text.specs.Tokens.{IsToken}
+use Rattle.xmas_tokens.proofs.Texts.{IsLex}
 use Rattle.xmas_text.proofs.Lexes.{mark_read, path_run}
-use Rattle.xmas_text.proofs.Tokens.{is_apart, is_fixed, no_equal, follows, IsAt, at_start, gap_run, last_step, last_whole}
-use Rattle.xmas_text.proofs.Readings.{unfixed, varying_quiet, naming_quiet, repeat_quiet, apart_not_name, apart_marks}
+use Rattle.xmas_text.proofs.Tokens.{is_fixed, no_equal, follows, IsAt, at_start, gap_run, last_step, last_whole}
+use Rattle.xmas_tokens.proofs.Apart.{is_apart, varying_quiet, naming_quiet, whole_quiet}
+use Rattle.xmas_text.proofs.Readings.{unfixed}
 use Rattle.xmas_text.proofs.Takes.{push_unfixed}
 use Rattle.xmas_text.proofs.Complete.{Reads, stays, then, token}
 use Rattle.xmas_text.proofs.Runs.{Stands, run_stands, start_stands, read_writes}
 use Rattle.xmas_text.proofs.Complete as complete
+use Rattle.xmas_tokens.proofs.Quotes.{is_low, low_byte, mark_low}
 
 -- some text leads from the spot to one where a rule may end
 pub record On (s : Spot) : Type 0 where
@@ -43,14 +41,6 @@ pub record On (s : Spot) : Type 0 where
   pub whole : rule_at goal [] ≡ Some rule
   pub utf8 : IsUtf8 text
   pub reads : Reads s text goal
-
--- the byte is ASCII
-abbrev pub is_low : ℕ → Bool
-is_low b = nat_lt b 128
-
--- the byte is ASCII, as a number
-pub low_byte : (b : ℕ) → IsTrue (is_low b) → b < 128
-low_byte b h = grind (arith, nat_tests)
 
 -- ASCII bytes alone
 low_ascii : (x : List ℕ) → IsTrue (list_all is_low x) → IsAscii x
@@ -251,13 +241,6 @@ path_unfixed (sorted r cs unordered) g p h = cc
 path_unfixed (sorted r cs (ordered e f i j)) g p h = cc
 path_unfixed (sorted r cs (descending e f i j k)) g p h = cc
 
--- behind a whole path no apart byte goes on
-whole_quiet : (f : pathing_.Frame) (o : List pathing_.Frame) (m : pathing_.Mode) (r : Option paths.Spelled) (q : paths.Spelled) (b : ℕ) → pathing_.repeat_in m ≡ r → pathing_.whole_in f o r ≡ Some q → IsTrue (is_apart b)
-    → pathing_.step_in f o m b ≡ None
-whole_quiet f [] m None q b e w h = none_some q w
-whole_quiet f [] m (Some p) q b e w h = path_complete.ends_by b f [] m p (apart_not_name b h) (apart_marks b h) e ∙ repeat_quiet f p b h
-whole_quiet f (g ∷ o) m r q b e w h = none_some q w
-
 -- a path that is whole goes on
 path_last : (s : Spot) (g : List ℕ) (t : pathing_.State) (q : paths.Spelled) → IsTrue (takes s g kind.Path) → pathing_.whole t ≡ Some q → GoesOn (at s g (pathing t))
 path_last s g t q h w =
@@ -272,19 +255,6 @@ path_end s g y p (Some t) q l h r w = text_on y (at s g (pathing p)) (at s g (pa
 -- each path goes on
 path_goes : (s : Spot) (g : List ℕ) (p : pathing_.State) → IsTrue (takes s g kind.Path) → GoesOn (at s g (pathing p))
 path_goes s g p h = let on = path_fronts.mode_on p.here p.outer p.mode in path_end s g on.bytes p (pathing_.run p on.bytes) on.spelled on.utf8 h refl on.read
-
--- each such token is ASCII
-pub mark_low : (m : Mark) → IsTrue (list_all is_low (mark_text m))
-mark_low mark.Construct = refl
-mark_low mark.Where = refl
-mark_low mark.And = refl
-mark_low mark.LabelWord = refl
-mark_low mark.OpenBrace = refl
-mark_low mark.CloseBrace = refl
-mark_low mark.Comma = refl
-mark_low mark.Order = refl
-mark_low mark.By = refl
-mark_low mark.Desc = refl
 
 -- what holds of two lists holds of the second
 all_behind : (x y : List ℕ) → IsTrue (list_all is_low (x ++ y)) → IsTrue (list_all is_low y)

@@ -1,7 +1,8 @@
 -- How long the text before a token is.
 use Rattle.std.proofs.Common.{◌≡◌, ◌+◌, ℕ, List, [], ◌∷◌, refl, arith, length, length-append}
 use Rattle.path_expr.specs.Grammar as paths
-use Rattle.xmas_text.specs.Grammar.{Keys, none, first, more, Items, items_text, keys_text, conds_text, op_text, construct_text}
+use Rattle.xmas_text.specs.Grammar.{Keys, none, first, more, Items, items_text, keys_text, conds_text, construct_text}
+use Rattle.xmas_tokens.specs.Tokens.{op_text}
 use Rattle.xmas_text.specs.Spots.{Frame, Place, at_first, at_more, Before, first_cond, also_cond, Start, by_name, by_var, Spot, beginning, items, labelled, keys, key_comma, key_label, cond_start, cond_from, cond_path, cond_done, compared, ordering, ordering_by, sorted}
 use Rattle.xmas_text.specs.Drafted.{level_place, brace_place, head_place, before_place}
 use Rattle.xmas_text.proofs.Texts.{outer_text, base, before_text, start_text, spot_text, IsPlace, IsSpot}

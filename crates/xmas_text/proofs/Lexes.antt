@@ -7,12 +7,12 @@ use Rattle.mix_base.proofs.Choices.{and_parts, some_is, none_some}
 use Rattle.mix_base.proofs.Lists.{append_nil}
 use Rattle.mix_tree.specs.LabelGrammar.{Piece, plain, escape, is_escape, is_plain, is_piece, ArePieces, inside_quotes}
 use Rattle.mix_tree.specs.Names.{is_name_byte, IsName}
-use Rattle.xmas_text.specs.Lexer.{Lex, between, marking, angle, opening, slash, closing, naming, dollar, varying, quoting, escaping, pathing, ready, comparing, map_path, lex_step}
-use Rattle.xmas_text.specs.Lexical.{is_letter, is_word_byte, IsVar}
+use Rattle.xmas_tokens.specs.Lexer.{Lex, between, marking, angle, opening, slash, closing, naming, dollar, varying, quoting, escaping, pathing, ready, comparing, map_path, lex_step}
+use Rattle.xmas_tokens.specs.Lexical.{is_letter, is_word_byte, IsVar}
 use Rattle.xmas_text.specs.Machine.{at, or_behind, step, run}
 use Rattle.xmas_text.specs.Spots.{Spot}
-use Rattle.xmas_text.specs.Tokens.{open_tag, close_tag, quoted}
-use Rattle.xmas_text.specs.declared.token.Mark.{Mark}
+use Rattle.xmas_tokens.specs.Tokens.{open_tag, close_tag, quoted}
+use Rattle.xmas_tokens.specs.declared.token.Mark.{Mark}
 use Rattle.path_expr.specs.Machine as pathing_
 
 -- where a token goes on, so does the machine

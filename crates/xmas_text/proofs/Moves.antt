@@ -1,13 +1,13 @@
 -- What a scan keeps of a spot goes as the spot does.
 use Rattle.std.proofs.Common.{◌≡◌, ◌∙◌, ◌+◌, ◌-◌, ◌||◌, ℕ, suc, false, IsTrue, List, [], ◌∷◌, refl, ap, arith, length, nat_lt, max}
-use Rattle.xmas_text.specs.declared.token.Mark.TheVariants as mark
+use Rattle.xmas_tokens.specs.declared.token.Mark.TheVariants as mark
 use Rattle.xmas_text.specs.declared.stage.Last.TheVariants as last
 use Rattle.xmas_text.specs.declared.stage.Stage.TheVariants as stage
 use Rattle.path_expr.specs.Grammar.{Spelled}
-use Rattle.xmas_text.specs.declared.cond.Comparison.{Comparison}
+use Rattle.xmas_tokens.specs.declared.lexeme.Comparison.{Comparison}
 use Rattle.xmas_text.specs.Grammar.{Conds, braced, Items, nothing, variable, literal, element, Keys, Key, Order, ordered}
 use Rattle.xmas_text.specs.Levels.{levels}
-use Rattle.xmas_text.specs.Tokens.{Token, fixed, open_tag, close_tag, word, var, quoted, path, comparison, kind_of}
+use Rattle.xmas_tokens.specs.Tokens.{Token, fixed, open_tag, close_tag, word, var, quoted, path, comparison, kind_of}
 use Rattle.xmas_text.specs.Stages.{stage_behind, depth_behind}
 use Rattle.xmas_text.specs.Spots.{Frame, Head, Place, at_first, at_more, Before, Start, Spot, beginning, items, labelled, keys, key_comma, key_label, cond_start, cond_from, cond_path, cond_done, compared, ordering, ordering_by, sorted, last_of, may_group, is_none, push_key, with_group, stage_of, frames_of, takes, shift}
 use Rattle.xmas_text.specs.Scans.{levels_around, levels_at, deep_behind}

@@ -8,11 +8,12 @@ use Rattle.path_expr.specs.Depth.{nesting}
 use Rattle.xmas_text.specs.declared.var.KeyText.{KeyText}
 use Rattle.xmas_text.specs.declared.element.ItemText.{ItemText}
 use Rattle.xmas_text.specs.declared.element.ItemText.TheVariants as item
-use Rattle.xmas_text.specs.declared.cond.PathLimit.TheVariants.{Nesting, Positions}
+use Rattle.xmas_tokens.specs.declared.lexeme.PathLimit.TheVariants.{Nesting, Positions}
 use Rattle.xmas_text.specs.declared.cond.CondText.{CondText}
 use Rattle.xmas_text.specs.Elements.{contents_of}
 use Rattle.xmas_text.specs.Grammar.{Key, node, label, Keys, none, first, more, Group, absent, braced, Items, nothing, variable, literal, element, Operand, a_variable, a_text, Cond, source, walk, compare, Conds, one, also, Order, unordered, ordered, descending, Rule, IsKey, AreKeys, IsGroup, AreItems, IsOperand, IsCond, AreConds, IsTemplate, IsOrder, IsRule}
-use Rattle.xmas_text.specs.Parsed.{RuleForm, key_at, keys_at, group_at, shown_at, items_at, path_form, operand_at, cond_at, conds_at, order_at, parsed}
+use Rattle.xmas_text.specs.Parsed.{RuleForm, key_at, keys_at, group_at, shown_at, items_at, operand_at, cond_at, conds_at, order_at, parsed}
+use Rattle.xmas_tokens.specs.Lexemes.{path_form}
 use Rattle.xmas_text.specs.Results.{Spells}
 use Rattle.xmas_text.specs.Named.{IsNamedKey, AreNamedKeys, IsNamedGroup, AreNamed, IsReadPath, IsNamedOperand, IsNamedCond, AreNamedConds, IsNamedOrder, IsNamedTree}
 

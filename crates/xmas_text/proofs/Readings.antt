@@ -1,39 +1,25 @@
 -- Tokens of each kind are read, byte by byte.
-use Rattle.std.proofs.Common.{◌≡◌, ◌∙◌, ◌==◌, ℕ, Bool, true, false, ◌&&◌, ◌||◌, IsTrue, List, [], ◌∷◌, ◌++◌, Option, Some, None, option_and_then, refl, sym, ap, arith}
-use Rattle.std.proofs.lemmas.Bool.Decides.{nat_tests}
+use Rattle.std.proofs.Common.{◌≡◌, ◌∙◌, ℕ, Bool, true, false, ◌&&◌, ◌||◌, IsTrue, List, [], ◌∷◌, ◌++◌, Option, Some, None, option_and_then, refl, ap, arith}
 use Rattle.std.specs.List.{list_all}
 use Rattle.mix_base.proofs.Choices.{and_parts, some_is, none_some}
 use Rattle.mix_tree.specs.LabelGrammar.{Piece, ArePieces, inside_quotes}
 use Rattle.mix_tree.specs.Names.{is_name_byte, IsName}
-use Rattle.xmas_text.specs.Lexer.{marking, angle, naming, dollar, varying, quoting, pathing, ready, map_path, as_path, lex_step, begin}
-use Rattle.xmas_text.specs.Lexical.{is_blank, is_word_byte, IsVar}
+use Rattle.xmas_tokens.specs.Lexer.{marking, angle, naming, dollar, varying, quoting, pathing, ready, map_path, as_path, begin}
+use Rattle.xmas_tokens.specs.Lexical.{is_blank, IsVar}
 use Rattle.xmas_text.specs.Spots.{Spot, has_blank, takes, shift}
-use Rattle.xmas_text.specs.Tokens.{fixed, open_tag, close_tag, word, var, quoted, path, mark_first, mark_rest}
-use Rattle.xmas_text.specs.declared.token.Mark.{Mark}
-use Rattle.xmas_text.specs.declared.token.Mark.TheVariants as mark
+use Rattle.xmas_tokens.specs.Tokens.{fixed, open_tag, close_tag, word, var, quoted, path, mark_first, mark_rest}
+use Rattle.xmas_tokens.specs.declared.token.Mark.{Mark}
 use Rattle.path_expr.specs.Grammar as paths
 use Rattle.path_expr.specs.Machine as pathing_
 use Rattle.path_expr.proofs.Complete as path_complete
 use Rattle.xmas_text.proofs.Lexes.{open_read, close_read, name_read, var_read, quote_read, mark_read, path_run}
-use Rattle.xmas_text.proofs.Tokens.{is_apart, is_fixed, no_equal, follows, Reading}
+use Rattle.xmas_text.proofs.Tokens.{is_fixed, no_equal, follows, Reading}
+use Rattle.xmas_tokens.proofs.Apart.{is_apart, mark_solid, apart_not_name, varying_quiet, naming_quiet, name_solid, apart_marks, repeat_quiet, path_solid}
 
 -- a blank is no empty gap
 pub no_gap : (h : List ℕ) (c : Bool) → IsTrue (has_blank h) → h ≡ [] → IsTrue c
 no_gap [] c k e = cc
 no_gap (b ∷ h) c k e = cc
-
--- no token that is always the same begins with a blank
-mark_solid : (m : Mark) → is_blank (mark_first m) ≡ false
-mark_solid mark.Construct = refl
-mark_solid mark.Where = refl
-mark_solid mark.And = refl
-mark_solid mark.LabelWord = refl
-mark_solid mark.OpenBrace = refl
-mark_solid mark.CloseBrace = refl
-mark_solid mark.Comma = refl
-mark_solid mark.Order = refl
-mark_solid mark.By = refl
-mark_solid mark.Desc = refl
 
 -- a token that is always the same
 pub mark_reading : (s : Spot) (h : List ℕ) (m : Mark) → begin (takes s h) (mark_first m) ≡ Some (marking m (mark_first m ∷ []) (mark_rest m)) → (h ≡ [] → IsTrue (follows s (mark_first m))) → Reading s h (fixed m)
@@ -99,22 +85,6 @@ quoted_reading s h ps q b f = record {
   quiet = λ c g. refl;
 }
 
--- an apart byte goes on with no variable
-apart_not_word : (b : ℕ) → IsTrue (is_apart b) → is_word_byte b ≡ false
-apart_not_word b h = grind (arith, nat_tests)
-
--- nor with a name
-pub apart_not_name : (b : ℕ) → IsTrue (is_apart b) → is_name_byte b ≡ false
-apart_not_name b h = grind (arith, nat_tests)
-
--- so it ends a variable
-pub varying_quiet : (v : List ℕ) (b : ℕ) → IsTrue (is_apart b) → lex_step (varying v) b ≡ None
-varying_quiet v b h = rw (apart_not_word b h) refl
-
--- and a name
-pub naming_quiet : (l : List ℕ) (b : ℕ) → IsTrue (is_apart b) → lex_step (naming l) b ≡ None
-naming_quiet l b h = rw (apart_not_name b h) refl
-
 -- what follows a spot that is not fixed is apart
 pub unfixed : (q c e : Bool) → q ≡ false → IsTrue (q || (c && e)) → IsTrue c
 unfixed true c e n h = cc
@@ -137,10 +107,6 @@ var_reading s h v i n b f = record {
   quiet = λ c g. varying_quiet v c (unfixed (is_fixed (shift s h (var v))) (is_apart c) (no_equal (shift s h (var v)) c) n g);
 }
 
--- no name begins with a blank
-name_solid : (b : ℕ) → IsTrue (is_name_byte b) → is_blank b ≡ false
-name_solid b h = grind (arith, nat_tests)
-
 -- a name
 pub word_reading : (s : Spot) (h l : List ℕ) → IsName l → is_fixed (shift s h (word l)) ≡ false → ((b : ℕ) → IsTrue (is_name_byte b) → begin (takes s h) b ≡ Some (naming (b ∷ []))) → IsTrue (has_blank h) → Reading s h (word l)
 word_reading s h [] i n b f = absurd (omega arith)
@@ -158,39 +124,6 @@ word_reading s h (c ∷ l) i n b f =
       ends = refl;
       quiet = λ d g. naming_quiet (c ∷ l) d (unfixed (is_fixed (shift s h (word (c ∷ l)))) (is_apart d) (no_equal (shift s h (word (c ∷ l))) d) n g);
     }
-
--- an apart byte is no mark of a path
-pub apart_marks : (b : ℕ) → IsTrue (is_apart b) → paths.is_mark b ≡ false
-apart_marks b h = grind (arith, nat_tests)
-
--- nor a dot
-apart_dot : (b : ℕ) → IsTrue (is_apart b) → (b == 46) ≡ false
-apart_dot b h = grind (arith, nat_tests)
-
--- nor a bar
-apart_bar : (b : ℕ) → IsTrue (is_apart b) → (b == 124) ≡ false
-apart_bar b h = grind (arith, nat_tests)
-
--- nor a parenthesis
-apart_close : (b : ℕ) → IsTrue (is_apart b) → (b == 41) ≡ false
-apart_close b h = grind (arith, nat_tests)
-
--- so it ends a path
-pub repeat_quiet : (g : pathing_.Frame) (q : paths.Spelled) (b : ℕ) → IsTrue (is_apart b) → pathing_.after_repeat g [] q b ≡ None
-repeat_quiet g q b h = rw (apart_dot b h, apart_bar b h, apart_close b h) refl
-
--- no path begins with a blank
-blank_begins : (b : ℕ) → IsTrue (is_blank b) → pathing_.step pathing_.first b ≡ None
-blank_begins b h =
-    let n : is_name_byte b ≡ false = grind (arith, nat_tests) in
-    let q : (b == 34) ≡ false = grind (arith, nat_tests) in
-    let p : (b == 40) ≡ false = grind (arith, nat_tests) in
-    rw (n, q, p) refl
-
--- the first byte of a path is no blank
-path_solid : (b : ℕ) (q : Bool) (u : pathing_.State) → is_blank b ≡ q → pathing_.step pathing_.first b ≡ Some u → is_blank b ≡ false
-path_solid b true u e h = none_some u (sym (blank_begins b e) ∙ h)
-path_solid b false u e h = e
 
 -- a path, by its first byte
 path_reading_at : (s : Spot) (h : List ℕ) (p : paths.Spelled) (b : ℕ) (y : List ℕ) (o : Option pathing_.State) (g : pathing_.Frame) (m : pathing_.Mode) (q : paths.Spelled) → pathing_.step pathing_.first b ≡ o

@@ -1,25 +1,18 @@
 -- What a run has read is what its state writes.
-use Rattle.std.proofs.Common.{◌≡◌, ◌∙◌, ℕ, Bool, IsTrue, List, [], ◌∷◌, ◌++◌, Option, Some, None, option_and_then, refl, sym, ap, subst, append_assoc}
+use Rattle.std.proofs.Common.{◌≡◌, ◌∙◌, ℕ, List, [], ◌∷◌, ◌++◌, Option, Some, None, option_and_then, refl, sym, ap, subst, append_assoc}
 use Rattle.mix_base.proofs.Choices.{list_all-push, some_is, none_some, Gives, either}
 use Rattle.mix_base.proofs.Lists.{append_nil}
 use Rattle.xmas_text.specs.Grammar.{Rule, Writes, items_text, conds_text, order_text, construct_text, where_text}
-use Rattle.xmas_text.specs.Lexer.{Lex, between, marking, angle, opening, slash, closing, naming, dollar, varying, quoting, escaping, pathing, ready, comparing, lex_step, as_path, as_mark, token_in, begin}
-use Rattle.xmas_text.specs.Lexical.{is_blank, IsBlanks}
+use Rattle.xmas_tokens.specs.Lexer.{Lex, between, marking, angle, opening, slash, closing, naming, dollar, varying, quoting, escaping, pathing, ready, comparing, lex_step, token_in, begin}
+use Rattle.xmas_tokens.specs.Lexical.{is_blank, IsBlanks}
 use Rattle.xmas_text.specs.Machine.{State, at, with_lex, next, behind, or_behind, step_in, step, run, rule_at, rule_behind, whole_in, whole, start, read_of}
 use Rattle.xmas_text.specs.Spots.{Spot, cond_done, sorted, takes, shift}
-use Rattle.xmas_text.specs.Tokens.{Token, kind_of, sign_byte, by_sign, token_text}
-use Rattle.xmas_text.specs.declared.token.Kind.{Kind}
-use Rattle.xmas_text.specs.declared.token.Mark.{Mark}
-use Rattle.xmas_text.specs.declared.token.Sign.{Sign}
-use Rattle.xmas_text.specs.declared.token.Sign.TheVariants as sign
-use Rattle.xmas_text.specs.declared.token.Kind.TheVariants as kind
-use Rattle.path_expr.specs.Grammar as paths
-use Rattle.path_expr.specs.Machine as pathing_
-use Rattle.path_expr.proofs.Sound as path_sound
-use Rattle.xmas_text.proofs.Texts.{spot_text, IsSpot, lex_text, IsLex, Offered}
-use Rattle.xmas_text.specs.Tokens.{IsToken}
+use Rattle.xmas_tokens.specs.Tokens.{Token}
+use Rattle.xmas_text.proofs.Texts.{spot_text, IsSpot}
+use Rattle.xmas_tokens.proofs.Texts.{lex_text, IsLex, Offered}
 use Rattle.xmas_text.proofs.Shifts.{shifts}
-use Rattle.xmas_text.proofs.Sound.{Goes, lex_goes, begin_goes}
+use Rattle.xmas_tokens.proofs.Sound.{Goes, lex_goes, begin_goes}
+use Rattle.xmas_tokens.proofs.Ended.{token_ended}
 
 -- the state is well formed, and writes the text
 pub record Stands (x : List ℕ) (s : State) : Type 0 where
@@ -28,49 +21,6 @@ pub record Stands (x : List ℕ) (s : State) : Type 0 where
   pub lex : IsLex s.lex
   pub offered : Offered (takes s.spot s.gap) s.lex
   pub text : spot_text s.spot ++ (s.gap ++ lex_text s.lex) ≡ x
-
--- a token that may come has ended
-pub record Ended (may : Kind → Bool) (x : List ℕ) (t : Token) : Type 0 where
-  pub is : IsToken t
-  pub taken : IsTrue (may (kind_of t))
-  pub text : token_text t ≡ x
-
--- a token that is always the same has ended
-mark_ended : (may : Kind → Bool) (m : Mark) (done rest : List ℕ) (t : Token) → IsLex (marking m done rest) → Offered may (marking m done rest) → as_mark m rest ≡ Some t → Ended may done t
-mark_ended may m done [] t h o e = subst (Ended may done) (some_is _ _ e) (record { is = tt; taken = o; text = sym h ∙ append_nil done })
-mark_ended may m done (c ∷ rest) t h o e = none_some t e
-
--- a path that is whole is written so
-path_writes : (x : List ℕ) (s : pathing_.State) (p : paths.Spelled) → path_sound.StandsAt x s → pathing_.whole s ≡ Some p → paths.Writes x p
-path_writes x s p h e = path_sound.whole_writes x s p h e
-
--- a path has ended
-path_ended : (may : Kind → Bool) (x : List ℕ) (s : pathing_.State) (r : Option paths.Spelled) (t : Token) → path_sound.StandsAt x s → IsTrue (may kind.Path) → pathing_.whole s ≡ r → as_path r ≡ Some t → Ended may x t
-path_ended may x s None t h o w e = none_some t e
-path_ended may x s (Some p) t h o w e = let k = path_writes x s p h w in subst (Ended may x) (some_is _ _ e) (record { is = k.0; taken = o; text = k.1 })
-
--- an operator of one byte has ended
-sign_ended : (may : Kind → Bool) (k : Sign) (t : Token) → IsTrue (may kind.Operator) → by_sign k ≡ Some t → Ended may (sign_byte k ∷ []) t
-sign_ended may sign.Bang t o e = none_some t e
-sign_ended may sign.Less t o e = subst (Ended may (60 ∷ [])) (some_is _ _ e) (record { is = tt; taken = o; text = refl })
-sign_ended may sign.Greater t o e = subst (Ended may (62 ∷ [])) (some_is _ _ e) (record { is = tt; taken = o; text = refl })
-
--- each token that ends is one that may come
-pub token_ended : (may : Kind → Bool) (l : Lex) (t : Token) → IsLex l → Offered may l → token_in l ≡ Some t → Ended may (lex_text l) t
-token_ended may between t h o e = none_some t e
-token_ended may (marking m done rest) t h o e = mark_ended may m done rest t h o e
-token_ended may (angle p q) t h o e = none_some t e
-token_ended may (opening l) t h o e = none_some t e
-token_ended may slash t h o e = none_some t e
-token_ended may (closing l) t h o e = none_some t e
-token_ended may (naming l) t h o e = subst (Ended may l) (some_is _ _ e) (record { is = h; taken = o; text = refl })
-token_ended may dollar t h o e = none_some t e
-token_ended may (varying l) t h o e = subst (Ended may (36 ∷ l)) (some_is _ _ e) (record { is = h; taken = o; text = refl })
-token_ended may (quoting ps) t h o e = none_some t e
-token_ended may (escaping ps) t h o e = none_some t e
-token_ended may (pathing s) t h o e = path_ended may (lex_text (pathing s)) s (pathing_.whole s) t h o refl e
-token_ended may (comparing k) t h o e = sign_ended may k t o e
-token_ended may (ready u) t h o e = subst (Ended may (token_text u)) (some_is _ _ e) (record { is = h; taken = o; text = refl })
 
 -- a token has begun
 with_lex_stands : (x : List ℕ) (s : Spot) (g : List ℕ) (b : ℕ) (o : Option Lex) → IsSpot s → IsBlanks g → spot_text s ++ g ≡ x → Gives (Goes (takes s g) (b ∷ [])) o → Gives (Stands (x ++ b ∷ [])) (with_lex s g o)

@@ -4,15 +4,14 @@ use Rattle.std.proofs.Common.{not, ◌≡◌, ◌∙◌, ℕ, IsTrue, List, [], 
 use Rattle.mix_base.proofs.Choices.{and_parts}
 use Rattle.mix_base.proofs.Lists.{append_nil}
 use Rattle.mix_tree.specs.Names.{IsName}
-use Rattle.xmas_text.specs.Grammar.{quoted_text, Key, node, label, Keys, none, first, more, Group, absent, braced, Items, nothing, variable, literal, element, key_text, keys_text, group_text, items_text, IsKey, HasKeys, AreKeys, IsGroup, IsItemGap, AreItems, Operand, a_variable, a_text, op_text, operand_text, IsOperand, Cond, compare, Conds, Order, ordered, ordered_text, cond_text, conds_text, IsCond, AreConds, IsNothing, IsTemplate, construct_text, where_text}
-use Rattle.xmas_text.specs.Lexical.{IsBlanks, IsGap, IsVar}
+use Rattle.xmas_text.specs.Grammar.{Key, node, label, Keys, none, first, more, Group, absent, braced, Items, nothing, variable, literal, element, key_text, keys_text, group_text, items_text, IsKey, HasKeys, AreKeys, IsGroup, IsItemGap, AreItems, Operand, a_variable, a_text, operand_text, IsOperand, Cond, compare, Conds, Order, ordered, ordered_text, cond_text, conds_text, IsCond, AreConds, IsNothing, IsTemplate, construct_text, where_text}
+use Rattle.xmas_tokens.specs.Tokens.{quoted_text, op_text, Token, fixed, open_tag, close_tag, word, var, quoted, path, comparison, kind_of, token_text, IsToken}
+use Rattle.xmas_tokens.specs.Lexical.{IsBlanks, IsGap, IsVar}
 use Rattle.xmas_text.specs.Spots.{Frame, Head, Place, at_first, at_more, Before, first_cond, also_cond, Start, by_name, by_var, Spot, beginning, items, labelled, keys, key_comma, key_label, cond_start, cond_from, cond_path, cond_done, compared, ordering, ordering_by, sorted, has_blank, item_gap, may_group, is_nothing, is_none, takes, with_group, push_key, push_cond, cond_of, shift}
-use Rattle.xmas_text.specs.Tokens.{Token, fixed, open_tag, close_tag, word, var, quoted, path, comparison, kind_of, token_text}
-use Rattle.xmas_text.specs.declared.cond.Comparison.{Comparison}
-use Rattle.xmas_text.specs.declared.token.Mark.TheVariants as mark
+use Rattle.xmas_tokens.specs.declared.lexeme.Comparison.{Comparison}
+use Rattle.xmas_tokens.specs.declared.token.Mark.TheVariants as mark
 use Rattle.path_expr.specs.Grammar as paths
 use Rattle.xmas_text.proofs.Texts.{outer_text, base, head_text, label_text, place_text, before_text, start_text, spot_text, IsTop, Level, IsPlace, IsBefore, IsStart, IsSpot}
-use Rattle.xmas_text.specs.Tokens.{IsToken}
 use Rattle.xmas_text.proofs.Regrouped.{behind_base, open_text, close_text, var_text, where_behind, label_behind, key_behind, brace_behind, more_behind, comma_label, place_behind, two_behind, four_behind, six_behind, order_behind, by_behind, sorted_behind}
 
 -- the spot behind a token is well formed, and its text is that of the spot, the gap and the token

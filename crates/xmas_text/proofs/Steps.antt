@@ -4,17 +4,18 @@ use Rattle.std.proofs.lemmas.Bool.Decides.{nat_tests}
 use Rattle.mix_base.proofs.Choices.{some_is, none_some}
 use Rattle.xmas_text.specs.declared.stage.Stage.{Stage}
 use Rattle.xmas_text.specs.declared.scan.Scan.{Scan}
-use Rattle.xmas_text.specs.Lexical.{is_blank}
-use Rattle.xmas_text.specs.Tokens.{Token, kind_of}
+use Rattle.xmas_tokens.specs.Lexical.{is_blank}
+use Rattle.xmas_tokens.specs.Tokens.{Token, kind_of}
 use Rattle.xmas_text.specs.Stages.{may_come}
 use Rattle.xmas_text.specs.Spots.{Frame, Spot, has_blank, is_inside, stage_of, frames_of, takes, shift}
-use Rattle.xmas_text.specs.Lexer.{Lex, between, marking, angle, opening, slash, closing, naming, dollar, varying, quoting, escaping, pathing, ready, comparing, lex_step, token_in, begin}
+use Rattle.xmas_tokens.specs.Lexer.{Lex, between, marking, angle, opening, slash, closing, naming, dollar, varying, quoting, escaping, pathing, ready, comparing, lex_step, token_in, begin}
 use Rattle.xmas_text.specs.Machine.{State, at, with_lex, next, behind, or_behind, step_in}
-use Rattle.xmas_text.specs.Parts.{part_of, kind_in, first_part}
+use Rattle.xmas_tokens.specs.Parts.{part_of, kind_in, first_part}
 use Rattle.xmas_text.specs.Scans.{levels_at, scan_of, scan_behind, with_part, between_step, settled, begun, or_begun, scan_step}
-use Rattle.xmas_text.proofs.Runs.{Stands, token_ended}
+use Rattle.xmas_text.proofs.Runs.{Stands}
+use Rattle.xmas_tokens.proofs.Ended.{token_ended}
 use Rattle.xmas_text.proofs.Moves.{Moves, moves, may_group_of}
-use Rattle.xmas_text.proofs.Parts.{step_part, kind_part, begin_part}
+use Rattle.xmas_tokens.proofs.Parts.{step_part, kind_part, begin_part}
 
 -- some element is open where their number is above 0
 inside_count : (o : List Frame) → is_inside o ≡ nat_lt 0 (length o)

@@ -4,18 +4,18 @@ use Rattle.std.proofs.lemmas.Bool.Decides.{nat_tests}
 use Rattle.mix_base.proofs.Choices.{and_parts, none_some}
 use Rattle.mix_tree.specs.Names.{is_name_byte}
 use Rattle.xmas_text.specs.Grammar.{Key, Items, nothing, variable, literal, element, Keys, Conds, Order, ordered}
-use Rattle.xmas_text.specs.Lexer.{Lex, naming, pathing, ready, comparing, map_path, lex_step, begin}
+use Rattle.xmas_tokens.specs.Lexer.{Lex, naming, pathing, ready, comparing, map_path, lex_step, begin}
 use Rattle.xmas_text.specs.Spots.{Frame, Head, Place, at_first, at_more, Before, Start, by_var, Spot, beginning, items, labelled, keys, key_comma, key_label, cond_start, cond_from, cond_path, cond_done, compared, ordering, ordering_by, sorted, has_blank, item_gap, is_nothing, is_none, takes, push_key}
-use Rattle.xmas_text.specs.Tokens.{Token, fixed, open_tag, close_tag, word, var, quoted, path, comparison, kind_of}
-use Rattle.xmas_text.specs.declared.cond.Comparison.{Comparison}
-use Rattle.xmas_text.specs.declared.token.Sign.{Sign}
-use Rattle.xmas_text.specs.declared.cond.Comparison.TheVariants as op
-use Rattle.xmas_text.specs.declared.token.Mark.TheVariants as mark
-use Rattle.xmas_text.specs.declared.token.Sign.TheVariants as sign
+use Rattle.xmas_tokens.specs.Tokens.{Token, fixed, open_tag, close_tag, word, var, quoted, path, comparison, kind_of, IsToken}
+use Rattle.xmas_tokens.specs.declared.lexeme.Comparison.{Comparison}
+use Rattle.xmas_tokens.specs.declared.token.Sign.{Sign}
+use Rattle.xmas_tokens.specs.declared.lexeme.Comparison.TheVariants as op
+use Rattle.xmas_tokens.specs.declared.token.Mark.TheVariants as mark
+use Rattle.xmas_tokens.specs.declared.token.Sign.TheVariants as sign
 use Rattle.path_expr.specs.Grammar as paths
 use Rattle.path_expr.specs.Machine as pathing_
-use Rattle.xmas_text.specs.Tokens.{IsToken}
-use Rattle.xmas_text.proofs.Tokens.{is_apart, Reading}
+use Rattle.xmas_text.proofs.Tokens.{Reading}
+use Rattle.xmas_tokens.proofs.Apart.{is_apart}
 use Rattle.xmas_text.proofs.Readings.{no_gap, mark_reading, open_reading, close_reading, quoted_reading, var_reading, word_reading, path_reading}
 
 -- the token may come

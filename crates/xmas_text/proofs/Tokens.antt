@@ -5,15 +5,12 @@ use Rattle.std.specs.List.{list_all}
 use Rattle.mix_base.proofs.Runs.{run_then, run_byte}
 use Rattle.mix_base.proofs.Choices.{and_parts, none_some}
 use Rattle.mix_base.proofs.Lists.{append_nil}
-use Rattle.xmas_text.specs.Lexer.{Lex, between, marking, angle, opening, slash, closing, naming, dollar, varying, quoting, escaping, pathing, ready, comparing, lex_step, token_in, begin}
-use Rattle.xmas_text.specs.Lexical.{is_blank, IsBlanks}
+use Rattle.xmas_tokens.specs.Lexer.{Lex, between, marking, angle, opening, slash, closing, naming, dollar, varying, quoting, escaping, pathing, ready, comparing, lex_step, token_in, begin}
+use Rattle.xmas_tokens.specs.Lexical.{is_blank, IsBlanks}
 use Rattle.xmas_text.specs.Machine.{State, at, with_lex, next, behind, or_behind, step_in, step, run, rule_at, rule_behind, whole_in, whole}
 use Rattle.xmas_text.specs.Spots.{Spot, beginning, items, labelled, keys, key_comma, key_label, cond_start, cond_from, cond_path, cond_done, compared, ordering, ordering_by, sorted, is_nothing, is_none, takes, shift}
-use Rattle.xmas_text.specs.Tokens.{Token, token_text}
-
--- a byte that ends a name, a variable and a path
-abbrev pub is_apart : ℕ → Bool
-is_apart b = is_blank b || b == 123 || b == 125 || b == 36 || b == 34 || b == 44 || b == 60 || b == 61 || b == 33 || b == 62
+use Rattle.xmas_tokens.specs.Tokens.{Token, token_text}
+use Rattle.xmas_tokens.proofs.Apart.{is_apart}
 
 -- a spot behind which a token may come at once, since the last one has ended
 abbrev pub is_fixed : Spot → Bool

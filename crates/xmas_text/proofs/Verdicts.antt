@@ -8,9 +8,9 @@ use Rattle.mix_base.proofs.Choices.{Gives, some_is, none_some}
 use Rattle.xmas_text.specs.declared.scan.Scan.{Scan}
 use Rattle.xmas_text.specs.Grammar.{Rule, Writes}
 use Rattle.xmas_text.specs.Levels.{levels}
-use Rattle.xmas_text.specs.Tokens.{Token}
+use Rattle.xmas_tokens.specs.Tokens.{Token}
 use Rattle.xmas_text.specs.Spots.{Spot, cond_done, sorted, stage_of}
-use Rattle.xmas_text.specs.Lexer.{Lex, between, marking, angle, opening, slash, closing, naming, dollar, varying, quoting, escaping, pathing, ready, comparing, token_in}
+use Rattle.xmas_tokens.specs.Lexer.{Lex, between, marking, angle, opening, slash, closing, naming, dollar, varying, quoting, escaping, pathing, ready, comparing, token_in}
 use Rattle.xmas_text.specs.Machine.{State, run, rule_at, rule_behind, whole_in, whole, start, read_of}
 use Rattle.xmas_text.specs.Results.{Spells, IsTooDeep, Scans}
 use Rattle.xmas_text.specs.Ends.{EndsBy, EndsSo}

@@ -3,19 +3,19 @@ use Rattle.std.specs.Prelude.{◌≡◌, ◌+◌, ◌<◌, ◌≤◌, ◌^◌, �
 use Rattle.std.specs.Str.{IsUtf8}
 use Rattle.xmas_text.specs.declared.element.ItemText.{ItemText}
 use Rattle.xmas_text.specs.declared.element.ItemText.TheVariants as item
-use Rattle.xmas_text.specs.declared.token.Kind.{Kind}
-use Rattle.xmas_text.specs.declared.lexer.Part.{Part}
-use Rattle.xmas_text.specs.declared.lexer.Part.TheVariants as part
+use Rattle.xmas_tokens.specs.declared.token.Kind.{Kind}
+use Rattle.xmas_tokens.specs.declared.lexer.Part.{Part}
+use Rattle.xmas_tokens.specs.declared.lexer.Part.TheVariants as part
 use Rattle.xmas_text.specs.declared.scan.Scan.{Scan}
-use Rattle.xmas_text.specs.declared.draft.Lexeme.{Lexeme}
+use Rattle.xmas_tokens.specs.declared.lexeme.Lexeme.{Lexeme}
 use Rattle.xmas_text.specs.declared.build.Build.{Build}
 use Rattle.xmas_text.specs.Contents.{ElementForm}
-use Rattle.xmas_text.specs.Parts.{part_step, kind_in, part_depth}
+use Rattle.xmas_tokens.specs.Parts.{part_step, kind_in, part_depth}
 use Rattle.xmas_text.specs.Scans.{scan_step}
 use Rattle.xmas_text.specs.Parsed.{RuleForm}
 use Rattle.xmas_text.specs.Drafts.{DraftForm, draft_in}
 use Rattle.xmas_text.specs.Shifted.{shifted}
-use Rattle.xmas_text.specs.Lexemes.{IsWritten, IsLexeme}
+use Rattle.xmas_tokens.specs.Lexemes.{IsWritten, IsLexeme}
 
 -- what is kept of a text: the scan, where the token at hand begins, and the draft of what stands before it
 pub record BuildForm : Type 0 where

@@ -5,30 +5,17 @@ use Rattle.xmas_text.specs.declared.cond.CondText.{CondText}
 use Rattle.xmas_text.specs.declared.element.ItemText.{ItemText}
 use Rattle.xmas_text.specs.declared.element.ItemText.TheVariants as item
 use Rattle.xmas_text.specs.declared.rule.OrderText.{OrderText}
-use Rattle.xmas_text.specs.declared.draft.Lexeme.{Lexeme}
-use Rattle.xmas_text.specs.declared.draft.Lexeme.TheVariants as lexeme
 use Rattle.xmas_text.specs.declared.draft.StartText.{StartText}
 use Rattle.xmas_text.specs.declared.draft.StartText.TheVariants as begins
 use Rattle.xmas_text.specs.declared.draft.Pending.TheVariants as pending
 use Rattle.xmas_text.specs.Groups.{GroupForm}
 use Rattle.xmas_text.specs.Elements.{contents_of}
 use Rattle.xmas_text.specs.Grammar.{Keys, Items, nothing, variable, literal, element, items_text, conds_text, construct_text, where_text}
-use Rattle.xmas_text.specs.Tokens.{Token, fixed, open_tag, close_tag, word, var, quoted, path, comparison}
 use Rattle.xmas_text.specs.Spots.{Frame, Head, Before, first_cond, also_cond, Start, by_name, by_var, Spot, beginning, items, labelled, keys, key_comma, key_label, cond_start, cond_from, cond_path, cond_done, compared, ordering, ordering_by, sorted}
-use Rattle.xmas_text.specs.Parsed.{var_at, keys_at, shown_at, close_place, items_at, path_form, conds_at, order_at}
+use Rattle.xmas_text.specs.Parsed.{var_at, keys_at, shown_at, close_place, items_at, conds_at, order_at}
+use Rattle.xmas_tokens.specs.Lexemes.{path_form}
 use Rattle.xmas_text.specs.Drafts.{OpenForm, BuiltForm, DraftForm, empty}
 use Rattle.xmas_text.specs.Shifted.{draft}
-
--- what a token says
-abbrev pub lexeme_of : Token → Lexeme
-lexeme_of (fixed m) = lexeme.Fixed m
-lexeme_of (open_tag l) = lexeme.OpenTag l
-lexeme_of (close_tag l) = lexeme.CloseTag l
-lexeme_of (word l) = lexeme.Name l
-lexeme_of (var v) = lexeme.Var v
-lexeme_of (quoted ps) = lexeme.Quoted (meaning ps)
-lexeme_of (path p) = lexeme.Path (path_form p)
-lexeme_of (comparison o) = lexeme.Operator o
 
 -- where the items of the innermost open element begin, or the template
 abbrev pub level_place : List ℕ → List Frame → ℕ

@@ -1,11 +1,11 @@
 -- How rules are spelled.
 use Rattle.std.specs.Prelude.{◌≡◌, ℕ, List, [], ◌∷◌, ◌++◌, codes}
-use Rattle.mix_tree.specs.LabelGrammar.{Piece, ArePieces, inside_quotes}
+use Rattle.mix_tree.specs.LabelGrammar.{Piece, ArePieces}
 use Rattle.mix_tree.specs.Names.{IsName}
 use Rattle.path_expr.specs.Grammar as paths
-use Rattle.xmas_text.specs.declared.cond.Comparison.{Comparison}
-use Rattle.xmas_text.specs.declared.cond.Comparison.TheVariants as op
-use Rattle.xmas_text.specs.Lexical.{IsBlanks, IsGap, IsVar}
+use Rattle.xmas_tokens.specs.declared.lexeme.Comparison.{Comparison}
+use Rattle.xmas_tokens.specs.Lexical.{IsBlanks, IsGap, IsVar}
+use Rattle.xmas_tokens.specs.Tokens.{quoted_text, op_text}
 
 -- a variable, or `label`, a gap and a variable
 pub data Key : Type 0 where
@@ -30,10 +30,6 @@ pub data Items : Type 0 where
   variable : Items → List ℕ → Key → Group → Items
   literal : Items → List ℕ → List Piece → Items
   element : Items → List ℕ → List ℕ → Items → List ℕ → List ℕ → Group → Items
-
--- a quoted label
-abbrev pub quoted_text : List Piece → List ℕ
-quoted_text ps = 34 ∷ inside_quotes ps ++ 34 ∷ []
 
 -- the text of a key
 abbrev pub key_text : Key → List ℕ
@@ -100,15 +96,6 @@ AreItems (element before g name inside h close group) =
 pub data Operand : Type 0 where
   a_variable : List ℕ → Operand
   a_text : List Piece → Operand
-
--- the text of an operator
-abbrev pub op_text : Comparison → List ℕ
-op_text op.Eq = 61 ∷ []
-op_text op.Ne = 33 ∷ 61 ∷ []
-op_text op.Lt = 60 ∷ []
-op_text op.Le = 60 ∷ 61 ∷ []
-op_text op.Gt = 62 ∷ []
-op_text op.Ge = 62 ∷ 61 ∷ []
 
 -- the text of an operand
 abbrev pub operand_text : Operand → List ℕ

@@ -10,16 +10,11 @@ pub mod Ends
 pub mod Grammar
 pub mod Groups
 pub mod Levels
-pub mod Lexemes
-pub mod Lexer
-pub mod Lexical
 pub mod Machine
 pub mod Named
 pub mod Parsed
-pub mod Parts
 pub mod Results
 pub mod Scans
 pub mod Shifted
 pub mod Spots
 pub mod Stages
-pub mod Tokens

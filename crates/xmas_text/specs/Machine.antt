@@ -1,11 +1,11 @@
 -- Reading rules byte by byte: tokens, each behind blanks, and where they stand.
 use Rattle.std.specs.Prelude.{ℕ, cond, List, [], ◌∷◌, ◌++◌, Option, Some, None, option_and_then}
 use Rattle.mix_base.specs.Runs.{run_by}
-use Rattle.xmas_text.specs.Lexical.{is_blank}
+use Rattle.xmas_tokens.specs.Lexical.{is_blank}
 use Rattle.xmas_text.specs.Grammar.{unordered, Rule}
-use Rattle.xmas_text.specs.Tokens.{Token}
+use Rattle.xmas_tokens.specs.Tokens.{Token}
 use Rattle.xmas_text.specs.Spots.{Spot, beginning, cond_done, sorted, takes, shift}
-use Rattle.xmas_text.specs.Lexer.{Lex, between, marking, angle, opening, slash, closing, naming, dollar, varying, quoting, escaping, pathing, ready, comparing, lex_step, token_in, begin}
+use Rattle.xmas_tokens.specs.Lexer.{Lex, between, marking, angle, opening, slash, closing, naming, dollar, varying, quoting, escaping, pathing, ready, comparing, lex_step, token_in, begin}
 
 -- where the token at hand stands, the blanks before it, and what has been read of it
 pub record State : Type 0 where

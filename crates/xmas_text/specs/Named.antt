@@ -5,7 +5,7 @@ use Rattle.path_expr.specs.Form.{Form}
 use Rattle.path_expr.specs.Results as paths
 use Rattle.xmas_text.specs.declared.var.KeyText.{KeyText}
 use Rattle.xmas_text.specs.declared.var.KeyText.TheVariants as keyed
-use Rattle.xmas_text.specs.declared.cond.PathLimit.{PathLimit}
+use Rattle.xmas_tokens.specs.declared.lexeme.PathLimit.{PathLimit}
 use Rattle.xmas_text.specs.declared.cond.OperandText.{OperandText}
 use Rattle.xmas_text.specs.declared.cond.OperandText.TheVariants as operand
 use Rattle.xmas_text.specs.declared.cond.CondText.{CondText}
@@ -14,7 +14,7 @@ use Rattle.xmas_text.specs.declared.rule.OrderText.{OrderText}
 use Rattle.xmas_text.specs.Groups.{GroupForm}
 use Rattle.xmas_text.specs.Contents.{Leaf, node, label_of, text, Contents, nothing, element, leaf}
 use Rattle.xmas_text.specs.Elements.{contents_of}
-use Rattle.xmas_text.specs.Lexical.{IsVar}
+use Rattle.xmas_tokens.specs.Lexical.{IsVar}
 use Rattle.xmas_text.specs.Parsed.{RuleForm}
 
 -- a key's variable is one

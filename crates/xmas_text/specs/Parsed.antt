@@ -1,17 +1,12 @@
 -- The tree of a written rule. A place is the length of what stands before it.
-use Rattle.std.specs.Prelude.{ℕ, ◌+◌, true, false, cond, nat_lt, length, List, [], ◌∷◌, ◌++◌, Option, Some, None, Result, Ok, Err}
+use Rattle.std.specs.Prelude.{ℕ, ◌+◌, true, false, length, List, [], ◌∷◌, ◌++◌, Option, Some, None}
 use Rattle.mix_tree.specs.LabelGrammar.{meaning}
-use Rattle.path_expr.specs.Grammar.{Spelled, text_of}
-use Rattle.path_expr.specs.Depth.{nesting}
-use Rattle.path_expr.specs.Values.{value_of}
-use Rattle.path_expr.specs.Form.{Form, positions_in}
+use Rattle.path_expr.specs.Grammar.{text_of}
 use Rattle.xmas_text.specs.declared.var.VarText.{VarText}
 use Rattle.xmas_text.specs.declared.var.KeyText.{KeyText}
 use Rattle.xmas_text.specs.declared.var.KeyText.TheVariants as keyed
 use Rattle.xmas_text.specs.declared.element.ItemText.{ItemText}
 use Rattle.xmas_text.specs.declared.element.ItemText.TheVariants as item
-use Rattle.xmas_text.specs.declared.cond.PathLimit.{PathLimit}
-use Rattle.xmas_text.specs.declared.cond.PathLimit.TheVariants.{Nesting, Positions}
 use Rattle.xmas_text.specs.declared.cond.OperandText.{OperandText}
 use Rattle.xmas_text.specs.declared.cond.OperandText.TheVariants as operand
 use Rattle.xmas_text.specs.declared.cond.CondText.{CondText}
@@ -19,7 +14,9 @@ use Rattle.xmas_text.specs.declared.cond.CondText.TheVariants as condition
 use Rattle.xmas_text.specs.declared.rule.OrderText.{OrderText}
 use Rattle.xmas_text.specs.Groups.{GroupForm}
 use Rattle.xmas_text.specs.Elements.{contents_of}
-use Rattle.xmas_text.specs.Grammar.{Key, node, label, Keys, none, first, more, Group, absent, braced, Items, nothing, variable, literal, element, Operand, a_variable, a_text, Cond, source, walk, compare, Conds, one, also, Order, unordered, ordered, descending, Rule, keys_text, items_text, op_text, conds_text, construct_text, where_text}
+use Rattle.xmas_text.specs.Grammar.{Key, node, label, Keys, none, first, more, Group, absent, braced, Items, nothing, variable, literal, element, Operand, a_variable, a_text, Cond, source, walk, compare, Conds, one, also, Order, unordered, ordered, descending, Rule, keys_text, items_text, conds_text, construct_text, where_text}
+use Rattle.xmas_tokens.specs.Tokens.{op_text}
+use Rattle.xmas_tokens.specs.Lexemes.{path_form}
 
 -- a variable at a place
 abbrev pub var_at : ℕ → List ℕ → VarText
@@ -61,10 +58,6 @@ items_at at (element before g name inside h close e) =
     items_at at before
     ++ item.Element (record { at = here; name = name; contents = contents_of (items_at (here + 1 + length name + 1) inside); close_at = close_place here name inside h; close_name = close; group = group_at (at + length (items_text (element before g name inside h close absent))) e })
     ∷ []
-
--- a path, or what it has too much of: more than 100 parentheses open at once before more than 120 label positions
-abbrev pub path_form : Spelled → Result Form PathLimit
-path_form p = cond (nat_lt 100 (nesting p)) (Err Nesting) (cond (nat_lt 120 (positions_in (value_of p))) (Err Positions) (Ok (value_of p)))
 
 -- an operand that begins at a place
 abbrev pub operand_at : ℕ → Operand → OperandText

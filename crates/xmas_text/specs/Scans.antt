@@ -1,18 +1,18 @@
 -- What a scan keeps of a state, and how it goes on.
 use Rattle.std.specs.Prelude.{◌+◌, ℕ, Bool, true, false, cond, ◌||◌, nat_lt, max, List, [], ◌∷◌, length, Option, Some, None, option_map}
-use Rattle.xmas_text.specs.declared.token.Kind.{Kind}
-use Rattle.xmas_text.specs.declared.token.Kind.TheVariants as kind
+use Rattle.xmas_tokens.specs.declared.token.Kind.{Kind}
+use Rattle.xmas_tokens.specs.declared.token.Kind.TheVariants as kind
 use Rattle.xmas_text.specs.declared.stage.Stage.{Stage}
 use Rattle.xmas_text.specs.declared.stage.Stage.TheVariants as stage
-use Rattle.xmas_text.specs.declared.lexer.Part.{Part}
-use Rattle.xmas_text.specs.declared.lexer.Part.TheVariants as part
+use Rattle.xmas_tokens.specs.declared.lexer.Part.{Part}
+use Rattle.xmas_tokens.specs.declared.lexer.Part.TheVariants as part
 use Rattle.xmas_text.specs.declared.scan.Scan.{Scan}
-use Rattle.xmas_text.specs.Lexical.{is_blank}
+use Rattle.xmas_tokens.specs.Lexical.{is_blank}
 use Rattle.xmas_text.specs.Levels.{levels}
 use Rattle.xmas_text.specs.Stages.{may_come, stage_behind, depth_behind}
 use Rattle.xmas_text.specs.Spots.{Frame, Spot, beginning, items, labelled, keys, key_comma, key_label, cond_start, cond_from, cond_path, cond_done, compared, ordering, ordering_by, sorted, has_blank, stage_of, frames_of}
 use Rattle.xmas_text.specs.Machine.{State}
-use Rattle.xmas_text.specs.Parts.{part_of, part_step, kind_in, first_part}
+use Rattle.xmas_tokens.specs.Parts.{part_of, part_step, kind_in, first_part}
 
 -- how many levels the template has that these open elements stand in, with so many inside the innermost
 abbrev pub levels_around : List Frame → ℕ → ℕ

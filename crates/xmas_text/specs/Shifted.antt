@@ -1,20 +1,20 @@
 -- How a token is added to a rule that is being built.
 use Rattle.std.specs.Prelude.{ℕ, true, false, List, [], ◌∷◌, ◌++◌, reverse, Option, Some, None, Result}
 use Rattle.path_expr.specs.Form.{Form}
-use Rattle.xmas_text.specs.declared.token.Mark.TheVariants as mark
+use Rattle.xmas_tokens.specs.declared.token.Mark.TheVariants as mark
 use Rattle.xmas_text.specs.declared.var.VarText.{VarText}
 use Rattle.xmas_text.specs.declared.var.KeyText.{KeyText}
 use Rattle.xmas_text.specs.declared.var.KeyText.TheVariants as keyed
 use Rattle.xmas_text.specs.declared.element.ItemText.{ItemText}
 use Rattle.xmas_text.specs.declared.element.ItemText.TheVariants as item
-use Rattle.xmas_text.specs.declared.cond.Comparison.{Comparison}
-use Rattle.xmas_text.specs.declared.cond.PathLimit.{PathLimit}
+use Rattle.xmas_tokens.specs.declared.lexeme.Comparison.{Comparison}
+use Rattle.xmas_tokens.specs.declared.lexeme.PathLimit.{PathLimit}
 use Rattle.xmas_text.specs.declared.cond.OperandText.TheVariants as operand
 use Rattle.xmas_text.specs.declared.cond.CondText.{CondText}
 use Rattle.xmas_text.specs.declared.cond.CondText.TheVariants as condition
 use Rattle.xmas_text.specs.declared.rule.OrderText.{OrderText}
-use Rattle.xmas_text.specs.declared.draft.Lexeme.{Lexeme}
-use Rattle.xmas_text.specs.declared.draft.Lexeme.TheVariants as lexeme
+use Rattle.xmas_tokens.specs.declared.lexeme.Lexeme.{Lexeme}
+use Rattle.xmas_tokens.specs.declared.lexeme.Lexeme.TheVariants as lexeme
 use Rattle.xmas_text.specs.declared.draft.StartText.{StartText}
 use Rattle.xmas_text.specs.declared.draft.StartText.TheVariants as begins
 use Rattle.xmas_text.specs.declared.draft.Pending.{Pending}

@@ -1,15 +1,15 @@
 -- Where in a rule a token stands, with all that was read before it.
 use Rattle.std.specs.Prelude.{ℕ, Bool, true, false, List, [], ◌∷◌}
 use Rattle.path_expr.specs.Grammar.{Spelled}
-use Rattle.xmas_text.specs.declared.cond.Comparison.{Comparison}
-use Rattle.xmas_text.specs.declared.token.Mark.TheVariants as mark
-use Rattle.xmas_text.specs.declared.token.Kind.{Kind}
+use Rattle.xmas_tokens.specs.declared.lexeme.Comparison.{Comparison}
+use Rattle.xmas_tokens.specs.declared.token.Mark.TheVariants as mark
+use Rattle.xmas_tokens.specs.declared.token.Kind.{Kind}
 use Rattle.xmas_text.specs.declared.stage.Last.{Last}
 use Rattle.xmas_text.specs.declared.stage.Last.TheVariants as last
 use Rattle.xmas_text.specs.declared.stage.Stage.{Stage}
 use Rattle.xmas_text.specs.declared.stage.Stage.TheVariants as stage
 use Rattle.xmas_text.specs.Grammar.{Key, node, label, Keys, none, first, more, Group, absent, braced, Items, nothing, variable, literal, element, a_variable, a_text, Cond, source, walk, compare, Conds, one, also, Order, unordered, ordered, descending}
-use Rattle.xmas_text.specs.Tokens.{Token, fixed, open_tag, close_tag, word, var, quoted, path, comparison}
+use Rattle.xmas_tokens.specs.Tokens.{Token, fixed, open_tag, close_tag, word, var, quoted, path, comparison}
 use Rattle.xmas_text.specs.Stages.{is_first, may_stand, may_group_behind, may_come}
 
 -- an element whose tag is open: the items before it, the gap, and its name

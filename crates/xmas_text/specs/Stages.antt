@@ -1,8 +1,8 @@
 -- Which tokens may come at a stage of a rule, and what stage comes behind them.
 use Rattle.std.specs.Prelude.{ℕ, ◌+◌, ◌-◌, Bool, true, false, not, ◌&&◌}
-use Rattle.xmas_text.specs.declared.token.Mark.TheVariants as mark
-use Rattle.xmas_text.specs.declared.token.Kind.{Kind}
-use Rattle.xmas_text.specs.declared.token.Kind.TheVariants as kind
+use Rattle.xmas_tokens.specs.declared.token.Mark.TheVariants as mark
+use Rattle.xmas_tokens.specs.declared.token.Kind.{Kind}
+use Rattle.xmas_tokens.specs.declared.token.Kind.TheVariants as kind
 use Rattle.xmas_text.specs.declared.stage.Last.{Last}
 use Rattle.xmas_text.specs.declared.stage.Last.TheVariants as last
 use Rattle.xmas_text.specs.declared.stage.Stage.{Stage}

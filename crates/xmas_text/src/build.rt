@@ -7,12 +7,11 @@ ghost use Rattle.xmas_text.specs.Results.{Spells, form_of};
 
 use crate::draft::{Built, Draft};
 use crate::element::ItemText;
-use crate::lexeme::read_lexeme;
-use crate::lexer::{Part, ended_kind, next_part};
 use crate::rule::RuleText;
 use crate::scan::{Scan, scan_byte};
 use crate::shift::shift;
 use std::alloc::{AllocError, Global};
+use xmas_tokens::{Part, ended_kind, next_part, read_lexeme};
 
 /// What is kept of the text behind a place.
 #[derive(Drop)]

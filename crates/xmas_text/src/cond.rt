@@ -1,36 +1,7 @@
 // Conditions.
 use crate::var::VarText;
 use mix_tree::Label;
-use path_expr::Path;
-
-/// What a path has too much of.
-#[derive(Clone, Copy, Debug, PartialEq, Eq)]
-pub enum PathLimit {
-    /// A parenthesis is open inside 100 others.
-    Nesting,
-    /// It has more than 120 label positions.
-    Positions,
-}
-
-/// A path, or the limit that it passes.
-pub type PathText = Result<Path, PathLimit>;
-
-/// How a rule's text compares two labels (docs/FORMATS.md, "Rules").
-#[derive(Clone, Copy, PartialEq, Eq)]
-pub enum Comparison {
-    /// `=`.
-    Eq,
-    /// `!=`.
-    Ne,
-    /// `<`.
-    Lt,
-    /// `<=`.
-    Le,
-    /// `>`.
-    Gt,
-    /// `>=`.
-    Ge,
-}
+use xmas_tokens::{Comparison, PathText};
 
 /// What stands behind an operator.
 #[derive(Drop)]

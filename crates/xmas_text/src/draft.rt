@@ -2,34 +2,13 @@
 ghost use Rattle.std.specs.Prelude.{◌≡◌};
 ghost use Rattle.xmas_text.specs.Drafts as drafts;
 
-use crate::cond::{Comparison, CondText, PathText};
+use crate::cond::CondText;
 use crate::element::ItemText;
 use crate::rule::OrderText;
-use crate::token::Mark;
 use crate::var::{GroupText, VarText};
 use mix_tree::Label;
 use std::alloc::Global;
-
-/// A token with what it says.
-#[derive(Drop)]
-pub enum Lexeme {
-    /// One that is always written the same.
-    Fixed(Mark),
-    /// An opening tag of the name.
-    OpenTag(Label),
-    /// A closing tag of the name.
-    CloseTag(Label),
-    /// A source's name.
-    Name(Label),
-    /// A variable of the name.
-    Var(Label),
-    /// A quoted label.
-    Quoted(Label),
-    /// A path.
-    Path(PathText),
-    /// An operator.
-    Operator(Comparison),
-}
+use xmas_tokens::{Comparison, PathText};
 
 /// What a condition begins with.
 #[derive(Drop)]

@@ -1,17 +1,16 @@
 // Whether a text is a rule, and where it stops to be one.
 ghost use Rattle.std.specs.Prelude.{◌≡◌, ◌<◌, ◌≤◌, ◌+◌, ◌^◌, IfSome, IsUtf8, option_map};
 ghost use Rattle.xmas_text.specs.Machine.{start};
-ghost use Rattle.xmas_text.specs.Parts.{part_depth, first_keyword, first_item, first_path, first_word, first_part};
+ghost use Rattle.xmas_tokens.specs.Parts.{part_depth, first_keyword, first_item, first_path, first_word, first_part};
 ghost use Rattle.xmas_text.specs.Results.{Scans};
 ghost use Rattle.xmas_text.specs.Ends.{EndsSo};
 ghost use Rattle.xmas_text.specs.Scans as scans;
 ghost use Rattle.xmas_text.specs.Stages as stages;
 
 use crate::TextFault;
-use crate::lexer::{Part, ended_kind, is_blank_byte, next_part};
 use crate::stage::{Stage, may_come, stage_behind};
-use crate::token::{Kind, Mark, Sign};
 use path_expr::{Scan as PathScan, is_name, scan_byte as scan_path_byte};
+use xmas_tokens::{Kind, Mark, Part, Sign, ended_kind, is_blank_byte, next_part};
 
 // The most levels of elements that a rule may have.
 const LEVELS: usize = 20;

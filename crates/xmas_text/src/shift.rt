@@ -3,10 +3,11 @@ ghost use Rattle.std.specs.Prelude.{◌≡◌, IfOk};
 ghost use Rattle.xmas_text.specs.Drafts as drafts;
 ghost use Rattle.xmas_text.specs.Shifted as shifted;
 
-use crate::draft::{Draft, Lexeme, Pending};
+use crate::draft::{Draft, Pending};
 use crate::shift_conds::{shift_compared, shift_cond, shift_done, shift_from, shift_path};
 use crate::shift_items::{shift_item, shift_key_label, shift_keys, shift_labelled};
 use std::alloc::{AllocError, Global};
+use xmas_tokens::Lexeme;
 
 /// The draft behind one more token, which stands at a place.
 pub fn shift(alloc: Global, draft: Draft, at: usize, token: Lexeme) -> Result<Draft, AllocError>

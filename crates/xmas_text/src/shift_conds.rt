@@ -3,12 +3,12 @@ ghost use Rattle.std.specs.Prelude.{◌≡◌, IfOk};
 ghost use Rattle.xmas_text.specs.Drafts as drafts;
 ghost use Rattle.xmas_text.specs.Shifted as shifted;
 
-use crate::cond::{Comparison, CondText, OperandText, PathText};
-use crate::draft::{Built, Draft, Lexeme, Pending, StartText};
+use crate::cond::{CondText, OperandText};
+use crate::draft::{Built, Draft, Pending, StartText};
 use crate::rule::OrderText;
-use crate::token::Mark;
 use crate::var::VarText;
 use std::alloc::AllocError;
+use xmas_tokens::{Comparison, Lexeme, Mark, PathText};
 
 /// A token where a condition begins.
 pub fn shift_cond(built: Built, at: usize, token: Lexeme) -> Draft

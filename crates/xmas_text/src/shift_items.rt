@@ -3,12 +3,12 @@ ghost use Rattle.std.specs.Prelude.{◌≡◌, IfOk};
 ghost use Rattle.xmas_text.specs.Drafts as drafts;
 ghost use Rattle.xmas_text.specs.Shifted as shifted;
 
-use crate::draft::{Built, Draft, Lexeme, OpenElement, Pending};
+use crate::draft::{Built, Draft, OpenElement, Pending};
 use crate::element::{ElementText, ItemText};
-use crate::token::Mark;
 use crate::var::{GroupText, KeyText, ShownText, VarText};
 use mix_tree::Label;
 use std::alloc::{AllocError, Global};
+use xmas_tokens::{Lexeme, Mark};
 
 // One more item.
 fn push_item(built: Built, item: ItemText) -> Result<Draft, AllocError>

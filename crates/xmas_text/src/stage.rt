@@ -2,7 +2,7 @@
 ghost use Rattle.std.specs.Prelude.{◌≡◌, true, false};
 ghost use Rattle.xmas_text.specs.Stages as stages;
 
-use crate::token::{Kind, Mark};
+use xmas_tokens::{Kind, Mark};
 
 /// The item behind which a token stands, inside an element.
 #[derive(Clone, Copy)]

@@ -1,5 +1,5 @@
 use Rattle.std.proofs.Common.{◌≤◌, take}
-use Rattle.xmas_text.specs.Parts.{part_depth}
+use Rattle.xmas_tokens.specs.Parts.{part_depth}
 use Rattle.xmas_text.proofs.Cuts.{ScansTo}
 use Rattle.xmas_text.proofs.scan.scan_rule.Given as goal
 

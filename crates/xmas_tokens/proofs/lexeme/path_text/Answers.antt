@@ -1,5 +1,5 @@
-use Rattle.xmas_text.proofs.Lexemes.{path_nested, path_somewhere, path_not_cut}
-use Rattle.xmas_text.proofs.lexeme.path_text.Goals as goal
+use Rattle.xmas_tokens.proofs.Lexemes.{path_nested, path_somewhere, path_not_cut}
+use Rattle.xmas_tokens.proofs.lexeme.path_text.Goals as goal
 
 pub returns-in-Err-TooDeep : goal.returns-in-Err-TooDeep
 returns-in-Err-TooDeep c = path_nested c.args.text.now c.in-Err-TooDeep.field-0-0 (rw c.in-Err-TooDeep.field-0-is at c.in-Err-TooDeep.ensures.answers).1

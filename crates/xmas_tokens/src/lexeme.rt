@@ -1,13 +1,61 @@
 // What the text of a token says.
 ghost use Rattle.std.specs.Prelude.{◌≡◌, ◌<◌, ◌≤◌, nat_lt, length, slice_index, slice_range, IfOk, IsUtf8};
-ghost use Rattle.xmas_text.specs.Lexemes.{IsWritten, IsLexeme, IsQuotedText, Quotes, IsPathText, SpellsPath, op_by};
+ghost use Rattle.xmas_tokens.specs.Lexemes.{IsWritten, IsLexeme, IsQuotedText, Quotes, IsPathText, SpellsPath, op_by};
 
-use crate::cond::{Comparison, PathLimit, PathText};
-use crate::draft::Lexeme;
-use crate::token::Kind;
+use crate::token::{Kind, Mark};
 use mix_tree::{Label, LabelRead, read_label};
-use path_expr::{PathFault, read_path};
+use path_expr::{Path, PathFault, read_path};
 use std::alloc::{AllocError, Global};
+
+/// What a path has too much of.
+#[derive(Clone, Copy, Debug, PartialEq, Eq)]
+pub enum PathLimit {
+    /// A parenthesis is open inside 100 others.
+    Nesting,
+    /// It has more than 120 label positions.
+    Positions,
+}
+
+/// A path, or the limit that it passes.
+pub type PathText = Result<Path, PathLimit>;
+
+/// How a rule's text compares two labels (docs/FORMATS.md, "Rules").
+#[derive(Clone, Copy, PartialEq, Eq)]
+pub enum Comparison {
+    /// `=`.
+    Eq,
+    /// `!=`.
+    Ne,
+    /// `<`.
+    Lt,
+    /// `<=`.
+    Le,
+    /// `>`.
+    Gt,
+    /// `>=`.
+    Ge,
+}
+
+/// A token with what it says.
+#[derive(Drop)]
+pub enum Lexeme {
+    /// One that is always written the same.
+    Fixed(Mark),
+    /// An opening tag of the name.
+    OpenTag(Label),
+    /// A closing tag of the name.
+    CloseTag(Label),
+    /// A source's name.
+    Name(Label),
+    /// A variable of the name.
+    Var(Label),
+    /// A quoted label.
+    Quoted(Label),
+    /// A path.
+    Path(PathText),
+    /// An operator.
+    Operator(Comparison),
+}
 
 // The label of a part of a text.
 fn label_between(alloc: Global, text: &[u8], from: usize, to: usize) -> Result<Label, AllocError>

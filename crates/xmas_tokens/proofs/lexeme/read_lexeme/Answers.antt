@@ -1,5 +1,5 @@
-use Rattle.xmas_text.proofs.Lexemes.{open_utf8, close_utf8, name_of_var_utf8, quoted_lexeme, path_lexeme}
-use Rattle.xmas_text.proofs.lexeme.read_lexeme.Goals as goal
+use Rattle.xmas_tokens.proofs.Lexemes.{open_utf8, close_utf8, name_of_var_utf8, quoted_lexeme, path_lexeme}
+use Rattle.xmas_tokens.proofs.lexeme.read_lexeme.Goals as goal
 
 pub label_between-requires-clause-utf8 : goal.label_between-requires-clause-utf8
 label_between-requires-clause-utf8 c = open_utf8 c.args.kind c.args.text.now c.requires.written c.in-OpenTag.is

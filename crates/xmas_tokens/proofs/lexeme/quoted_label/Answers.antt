@@ -1,7 +1,7 @@
 use Rattle.std.proofs.Common.{subst}
 use Rattle.mix_tree.specs.LabelReads.{ReadsLabel}
-use Rattle.xmas_text.proofs.Lexemes.{quoted_longest, quoted_somewhere}
-use Rattle.xmas_text.proofs.lexeme.quoted_label.Goals as goal
+use Rattle.xmas_tokens.proofs.Lexemes.{quoted_longest, quoted_somewhere}
+use Rattle.xmas_tokens.proofs.lexeme.quoted_label.Goals as goal
 
 pub returns : goal.returns
 returns c = quoted_longest c.args.text.now c.in-Got.label c.in-Got.end c.requires.quoted (subst (ReadsLabel c.args.text.now 0) c.in-Got.is c.in_ok-label.ensures.reads)

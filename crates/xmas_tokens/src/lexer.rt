@@ -1,8 +1,8 @@
 // Reading a token byte by byte, keeping nothing but what it may be.
 ghost use Rattle.std.specs.Prelude.{◌≡◌, ◌<◌, ◌≤◌, ◌+◌, ◌^◌, IfSome};
-ghost use Rattle.xmas_text.specs.Lexical.{is_blank, is_letter, is_word_byte};
-ghost use Rattle.xmas_text.specs.Tokens.{mark_text};
-ghost use Rattle.xmas_text.specs.Parts.{mark_step, part_step, kind_in, part_depth};
+ghost use Rattle.xmas_tokens.specs.Lexical.{is_blank, is_letter, is_word_byte};
+ghost use Rattle.xmas_tokens.specs.Tokens.{mark_text};
+ghost use Rattle.xmas_tokens.specs.Parts.{mark_step, part_step, kind_in, part_depth};
 
 use crate::token::{Kind, Mark, Sign};
 use path_expr::{Scan as PathScan, is_escaped, is_name, may_end_scan, scan_byte as scan_path_byte};
@@ -61,8 +61,8 @@ fn is_var_byte(byte: u8) -> bool
     matches!(byte, b'a'..=b'z' | b'A'..=b'Z' | b'0'..=b'9' | b'_')
 }
 
-/// The text of a token that is always the same.
-pub fn mark_bytes(mark: Mark) -> &'static [u8]
+// The text of a token that is always the same.
+fn mark_bytes(mark: Mark) -> &'static [u8]
     ensures { result.now ≡ mark_text mark }
 {
     match mark {

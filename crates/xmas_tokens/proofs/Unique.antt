@@ -4,16 +4,13 @@ use Rattle.std.proofs.lemmas.List.{append_cancel_right}
 use Rattle.mix_tree.specs.LabelGrammar.{Piece, ArePieces, meaning}
 use Rattle.path_expr.specs.Grammar as paths
 use Rattle.path_expr.proofs.Verdicts.{one_spelled}
-use Rattle.xmas_text.specs.declared.cond.Comparison.{Comparison}
-use Rattle.xmas_text.specs.declared.cond.Comparison.TheVariants as op
-use Rattle.xmas_text.specs.declared.token.Mark.{Mark}
-use Rattle.xmas_text.specs.declared.draft.Lexeme.{Lexeme}
-use Rattle.xmas_text.specs.declared.draft.Lexeme.TheVariants as lexeme
-use Rattle.xmas_text.specs.Grammar.{op_text, quoted_text}
-use Rattle.xmas_text.specs.Tokens.{Token, fixed, open_tag, close_tag, word, var, quoted, path, comparison, kind_of, token_text, IsToken}
-use Rattle.xmas_text.specs.Parsed.{path_form}
-use Rattle.xmas_text.specs.Drafted.{lexeme_of}
-use Rattle.xmas_text.specs.Lexemes.{IsLexeme, op_by}
+use Rattle.xmas_tokens.specs.declared.lexeme.Comparison.{Comparison}
+use Rattle.xmas_tokens.specs.declared.lexeme.Comparison.TheVariants as op
+use Rattle.xmas_tokens.specs.declared.token.Mark.{Mark}
+use Rattle.xmas_tokens.specs.declared.lexeme.Lexeme.{Lexeme}
+use Rattle.xmas_tokens.specs.declared.lexeme.Lexeme.TheVariants as lexeme
+use Rattle.xmas_tokens.specs.Tokens.{op_text, quoted_text, Token, fixed, open_tag, close_tag, word, var, quoted, path, comparison, kind_of, token_text, IsToken}
+use Rattle.xmas_tokens.specs.Lexemes.{path_form, lexeme_of, IsLexeme, op_by}
 
 -- an operator's text stands for it
 op_again : (o : Comparison) → op_by (slice_index (op_text o) 0) (nat_lt 1 (length (op_text o))) ≡ o

@@ -1,22 +1,21 @@
--- What the machine has read is what its state writes.
+-- What has been read of a token is what it writes.
 use Rattle.std.proofs.Common.{◌≡◌, ◌∙◌, ◌==◌, ℕ, Bool, true, ◌&&◌, ◌||◌, IsTrue, List, [], ◌∷◌, ◌++◌, Option, Some, None, refl, sym, ap, subst, append_assoc, arith}
 use Rattle.mix_base.proofs.Choices.{and_parts, and_both, list_all-push, Gives, either, number_is}
 use Rattle.mix_tree.specs.LabelGrammar.{plain, escape, is_escape, is_piece, inside_quotes}
 use Rattle.mix_tree.specs.Names.{is_name_byte, IsName}
-use Rattle.xmas_text.specs.Grammar.{op_text}
-use Rattle.xmas_text.specs.Lexer.{Lex, between, marking, angle, opening, slash, closing, naming, dollar, varying, quoting, escaping, pathing, ready, comparing, on_mark, map_path, lex_step, begin_mark, begin}
-use Rattle.xmas_text.specs.Lexical.{is_letter, is_word_byte, IsVar}
-use Rattle.xmas_text.specs.Tokens.{open_tag, close_tag, quoted, comparison, mark_first, mark_rest, sign_byte, with_equal}
-use Rattle.xmas_text.specs.declared.token.Kind.{Kind}
-use Rattle.xmas_text.specs.declared.token.Mark.{Mark}
-use Rattle.xmas_text.specs.declared.token.Sign.{Sign}
-use Rattle.xmas_text.specs.declared.cond.Comparison.TheVariants as op
-use Rattle.xmas_text.specs.declared.token.Mark.TheVariants as mark
-use Rattle.xmas_text.specs.declared.token.Sign.TheVariants as sign
-use Rattle.xmas_text.specs.declared.token.Kind.TheVariants as kind
+use Rattle.xmas_tokens.specs.Tokens.{op_text, open_tag, close_tag, quoted, comparison, mark_first, mark_rest, sign_byte, with_equal}
+use Rattle.xmas_tokens.specs.Lexer.{Lex, between, marking, angle, opening, slash, closing, naming, dollar, varying, quoting, escaping, pathing, ready, comparing, on_mark, map_path, lex_step, begin_mark, begin}
+use Rattle.xmas_tokens.specs.Lexical.{is_letter, is_word_byte, IsVar}
+use Rattle.xmas_tokens.specs.declared.token.Kind.{Kind}
+use Rattle.xmas_tokens.specs.declared.token.Mark.{Mark}
+use Rattle.xmas_tokens.specs.declared.token.Sign.{Sign}
+use Rattle.xmas_tokens.specs.declared.lexeme.Comparison.TheVariants as op
+use Rattle.xmas_tokens.specs.declared.token.Mark.TheVariants as mark
+use Rattle.xmas_tokens.specs.declared.token.Sign.TheVariants as sign
+use Rattle.xmas_tokens.specs.declared.token.Kind.TheVariants as kind
 use Rattle.path_expr.specs.Machine as pathing_
 use Rattle.path_expr.proofs.Sound as path_sound
-use Rattle.xmas_text.proofs.Texts.{lex_text, IsLex, Offered}
+use Rattle.xmas_tokens.proofs.Texts.{lex_text, IsLex, Offered}
 
 -- a token goes on by a byte
 pub record Goes (may : Kind → Bool) (x : List ℕ) (k : Lex) : Type 0 where

@@ -4,15 +4,15 @@ use Rattle.mix_tree.specs.LabelGrammar.{Piece, plain, escape, is_escape}
 use Rattle.mix_tree.specs.Names.{is_name_byte}
 use Rattle.path_expr.specs.Grammar.{Spelled}
 use Rattle.path_expr.specs.Machine as paths
-use Rattle.xmas_text.specs.declared.cond.Comparison.TheVariants as op
-use Rattle.xmas_text.specs.declared.token.Mark.{Mark}
-use Rattle.xmas_text.specs.declared.token.Mark.TheVariants as mark
-use Rattle.xmas_text.specs.declared.token.Sign.{Sign}
-use Rattle.xmas_text.specs.declared.token.Sign.TheVariants as sign
-use Rattle.xmas_text.specs.declared.token.Kind.{Kind}
-use Rattle.xmas_text.specs.declared.token.Kind.TheVariants as kind
-use Rattle.xmas_text.specs.Lexical.{is_letter, is_word_byte}
-use Rattle.xmas_text.specs.Tokens.{Token, fixed, open_tag, close_tag, word, var, quoted, path, comparison, mark_first, mark_rest, with_equal, by_sign}
+use Rattle.xmas_tokens.specs.declared.lexeme.Comparison.TheVariants as op
+use Rattle.xmas_tokens.specs.declared.token.Mark.{Mark}
+use Rattle.xmas_tokens.specs.declared.token.Mark.TheVariants as mark
+use Rattle.xmas_tokens.specs.declared.token.Sign.{Sign}
+use Rattle.xmas_tokens.specs.declared.token.Sign.TheVariants as sign
+use Rattle.xmas_tokens.specs.declared.token.Kind.{Kind}
+use Rattle.xmas_tokens.specs.declared.token.Kind.TheVariants as kind
+use Rattle.xmas_tokens.specs.Lexical.{is_letter, is_word_byte}
+use Rattle.xmas_tokens.specs.Tokens.{Token, fixed, open_tag, close_tag, word, var, quoted, path, comparison, mark_first, mark_rest, with_equal, by_sign}
 
 -- what has been read of a token: of one that is always the same, the bytes read and those to come; of a tag's bracket, which tags may follow
 pub data Lex : Type 0 where

@@ -1,5 +1,5 @@
 -- What the text of a token says.
-use Rattle.std.proofs.Common.{◌≡◌, ◌∙◌, ◌+◌, ◌-◌, ◌<◌, ◌≤◌, inl, inr, ℕ, zero, suc, Bool, true, false, IsTrue, List, [], ◌∷◌, ◌++◌, Result, Ok, Err, refl, sym, ap, subst, arith, length, take, drop, nat_lt, slice_range, length-append}
+use Rattle.std.proofs.Common.{◌≡◌, ◌∙◌, ◌+◌, ◌-◌, ◌<◌, ◌≤◌, inl, inr, ℕ, zero, suc, Bool, true, false, IsTrue, List, [], ◌∷◌, ◌++◌, Result, Ok, Err, refl, sym, ap, subst, arith, length, take, drop, nat_lt, slice_range, length-append, rules}
 use Rattle.std.proofs.lemmas.Bool.Decides.{nat_tests}
 use Rattle.std.proofs.lemmas.List.{take_all, take-append-drop}
 use Rattle.std.proofs.lemmas.Str.{IsUtf8-from_ascii}
@@ -7,7 +7,6 @@ use Rattle.std.specs.List.{list_all}
 use Rattle.std.specs.Str.{IsUtf8, IsAscii}
 use Rattle.mix_base.proofs.Choices.{and_parts, none_some}
 use Rattle.mix_base.proofs.Lists.{append_nil, take_whole}
-use Rattle.std.proofs.Common.{rules}
 use Rattle.mix_tree.specs.Spelling.{is_bare_label}
 use Rattle.mix_tree.specs.LabelGrammar.{SpellsLabel, SpellsQuoted, meaning, inside_quotes}
 use Rattle.mix_tree.specs.LabelReads.{SpellsNowhere, IsLongest}
@@ -19,14 +18,14 @@ use Rattle.path_expr.specs.Results as paths_
 use Rattle.mix_base.specs.Reading.{IsUnexpected, IsCut}
 use Rattle.path_expr.proofs.Deep.{nests_none}
 use Rattle.path_expr.proofs.Utf8.{name_utf8}
-use Rattle.xmas_text.specs.declared.cond.PathLimit.{PathLimit}
-use Rattle.xmas_text.specs.declared.cond.PathLimit.TheVariants.{Nesting, Positions}
-use Rattle.xmas_text.specs.declared.token.Kind.{Kind}
-use Rattle.xmas_text.specs.declared.token.Kind.TheVariants as kind
-use Rattle.xmas_text.specs.declared.draft.Lexeme.TheVariants as lexeme
-use Rattle.xmas_text.specs.Lexical.{is_letter, is_word_byte, IsVar}
-use Rattle.xmas_text.specs.Tokens.{fixed, open_tag, close_tag, word, var, quoted, path, comparison}
-use Rattle.xmas_text.specs.Lexemes.{IsWritten, IsLexeme, IsQuotedText, Quotes, IsPathText, SpellsPath}
+use Rattle.xmas_tokens.specs.declared.lexeme.PathLimit.{PathLimit}
+use Rattle.xmas_tokens.specs.declared.lexeme.PathLimit.TheVariants.{Nesting, Positions}
+use Rattle.xmas_tokens.specs.declared.token.Kind.{Kind}
+use Rattle.xmas_tokens.specs.declared.token.Kind.TheVariants as kind
+use Rattle.xmas_tokens.specs.declared.lexeme.Lexeme.TheVariants as lexeme
+use Rattle.xmas_tokens.specs.Lexical.{is_letter, is_word_byte, IsVar}
+use Rattle.xmas_tokens.specs.Tokens.{fixed, open_tag, close_tag, word, var, quoted, path, comparison}
+use Rattle.xmas_tokens.specs.Lexemes.{IsWritten, IsLexeme, IsQuotedText, Quotes, IsPathText, SpellsPath}
 
 -- the part between a front and an end of a text
 pub between_is : (a l z : List ℕ) (from to : ℕ) → from ≡ length a → to ≡ length a + length l → slice_range (a ++ (l ++ z)) from to ≡ l

@@ -1,4 +1,4 @@
--- What a scan keeps of a token goes as the token does.
+-- What is kept of a token goes as the token does.
 use Rattle.std.proofs.Common.{◌≡◌, ◌∙◌, ◌==◌, ◌+◌, ◌<◌, ◌&&◌, ◌||◌, ℕ, Bool, true, false, cond, List, [], ◌∷◌, ◌++◌, Option, Some, None, option_map, refl, sym, ap, arith, length, nat_lt, slice_index, length-append, is_some}
 use Rattle.std.proofs.Math.Seq.{get_or-append_seam}
 use Rattle.std.proofs.lemmas.Bool.Decides.{nat_tests}
@@ -9,19 +9,19 @@ use Rattle.path_expr.specs.Grammar as paths
 use Rattle.path_expr.specs.Machine as pathing_
 use Rattle.path_expr.specs.Scanned as scanned
 use Rattle.path_expr.proofs.Shapes as path_shapes
-use Rattle.xmas_text.specs.declared.token.Mark.{Mark}
-use Rattle.xmas_text.specs.declared.token.Mark.TheVariants as mark
-use Rattle.xmas_text.specs.declared.token.Sign.{Sign}
-use Rattle.xmas_text.specs.declared.token.Sign.TheVariants as sign
-use Rattle.xmas_text.specs.declared.token.Kind.{Kind}
-use Rattle.xmas_text.specs.declared.token.Kind.TheVariants as kind
-use Rattle.xmas_text.specs.declared.lexer.Part.{Part}
-use Rattle.xmas_text.specs.declared.lexer.Part.TheVariants as part
-use Rattle.xmas_text.specs.Lexical.{is_letter, is_word_byte}
-use Rattle.xmas_text.specs.Tokens.{kind_of, mark_first, mark_text, by_sign}
-use Rattle.xmas_text.specs.Lexer.{Lex, between, marking, angle, opening, slash, closing, naming, dollar, varying, quoting, escaping, pathing, ready, comparing, on_mark, map_path, lex_step, as_path, as_mark, token_in, begin_mark, begin_word, begin}
-use Rattle.xmas_text.specs.Parts.{part_of, mark_step, part_step, kind_by_sign, kind_in, or_else, first_mark, first_item, first_path, first_word, first_part}
-use Rattle.xmas_text.proofs.Texts.{IsLex}
+use Rattle.xmas_tokens.specs.declared.token.Mark.{Mark}
+use Rattle.xmas_tokens.specs.declared.token.Mark.TheVariants as mark
+use Rattle.xmas_tokens.specs.declared.token.Sign.{Sign}
+use Rattle.xmas_tokens.specs.declared.token.Sign.TheVariants as sign
+use Rattle.xmas_tokens.specs.declared.token.Kind.{Kind}
+use Rattle.xmas_tokens.specs.declared.token.Kind.TheVariants as kind
+use Rattle.xmas_tokens.specs.declared.lexer.Part.{Part}
+use Rattle.xmas_tokens.specs.declared.lexer.Part.TheVariants as part
+use Rattle.xmas_tokens.specs.Lexical.{is_letter, is_word_byte}
+use Rattle.xmas_tokens.specs.Tokens.{kind_of, mark_first, mark_text, by_sign}
+use Rattle.xmas_tokens.specs.Lexer.{Lex, between, marking, angle, opening, slash, closing, naming, dollar, varying, quoting, escaping, pathing, ready, comparing, on_mark, map_path, lex_step, as_path, as_mark, token_in, begin_mark, begin_word, begin}
+use Rattle.xmas_tokens.specs.Parts.{part_of, mark_step, part_step, kind_by_sign, kind_in, or_else, first_mark, first_item, first_path, first_word, first_part}
+use Rattle.xmas_tokens.proofs.Texts.{IsLex}
 
 -- both choices, side by side
 either : (b : Bool) (x y : Option Lex) (v w : Option Part) → option_map part_of x ≡ v → option_map part_of y ≡ w → option_map part_of (cond b x y) ≡ cond b v w

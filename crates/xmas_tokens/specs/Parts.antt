@@ -1,22 +1,22 @@
--- What a scan keeps of a token that is being read.
+-- What is kept of a token that is being read.
 use Rattle.std.specs.Prelude.{◌+◌, ℕ, Bool, cond, ◌||◌, ◌&&◌, ◌==◌, nat_lt, length, slice_index, Option, Some, None, option_map}
 use Rattle.mix_tree.specs.LabelGrammar.{is_escape}
 use Rattle.mix_tree.specs.Names.{is_name_byte}
 use Rattle.path_expr.specs.Machine as paths
 use Rattle.path_expr.specs.Scanned as scanned
-use Rattle.xmas_text.specs.declared.token.Mark.{Mark}
-use Rattle.xmas_text.specs.declared.token.Mark.TheVariants as mark
-use Rattle.xmas_text.specs.declared.token.Sign.{Sign}
-use Rattle.xmas_text.specs.declared.token.Sign.TheVariants as sign
-use Rattle.xmas_text.specs.declared.token.Kind.{Kind}
-use Rattle.xmas_text.specs.declared.token.Kind.TheVariants as kind
-use Rattle.xmas_text.specs.declared.lexer.Part.{Part}
-use Rattle.xmas_text.specs.declared.lexer.Part.TheVariants as part
-use Rattle.xmas_text.specs.Lexical.{is_letter, is_word_byte}
-use Rattle.xmas_text.specs.Tokens.{kind_of, mark_first, mark_text}
-use Rattle.xmas_text.specs.Lexer.{Lex, between, marking, angle, opening, slash, closing, naming, dollar, varying, quoting, escaping, pathing, ready, comparing}
+use Rattle.xmas_tokens.specs.declared.token.Mark.{Mark}
+use Rattle.xmas_tokens.specs.declared.token.Mark.TheVariants as mark
+use Rattle.xmas_tokens.specs.declared.token.Sign.{Sign}
+use Rattle.xmas_tokens.specs.declared.token.Sign.TheVariants as sign
+use Rattle.xmas_tokens.specs.declared.token.Kind.{Kind}
+use Rattle.xmas_tokens.specs.declared.token.Kind.TheVariants as kind
+use Rattle.xmas_tokens.specs.declared.lexer.Part.{Part}
+use Rattle.xmas_tokens.specs.declared.lexer.Part.TheVariants as part
+use Rattle.xmas_tokens.specs.Lexical.{is_letter, is_word_byte}
+use Rattle.xmas_tokens.specs.Tokens.{kind_of, mark_first, mark_text}
+use Rattle.xmas_tokens.specs.Lexer.{Lex, between, marking, angle, opening, slash, closing, naming, dollar, varying, quoting, escaping, pathing, ready, comparing}
 
--- what a scan keeps
+-- what is kept
 abbrev pub part_of : Lex → Part
 part_of between = part.Between
 part_of (marking m done rest) = part.Marking m (length done)

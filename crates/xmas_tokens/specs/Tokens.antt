@@ -1,18 +1,17 @@
 -- Tokens as they are written.
 use Rattle.std.specs.Prelude.{ℕ, List, [], ◌∷◌, ◌++◌, Option, Some, None, codes}
-use Rattle.mix_tree.specs.LabelGrammar.{Piece, ArePieces}
+use Rattle.mix_tree.specs.LabelGrammar.{Piece, ArePieces, inside_quotes}
 use Rattle.path_expr.specs.Grammar.{Spelled, text_of, Is, a_path}
 use Rattle.mix_tree.specs.Names.{IsName}
-use Rattle.xmas_text.specs.Lexical.{IsVar}
-use Rattle.xmas_text.specs.declared.cond.Comparison.{Comparison}
-use Rattle.xmas_text.specs.declared.cond.Comparison.TheVariants as op
-use Rattle.xmas_text.specs.declared.token.Mark.{Mark}
-use Rattle.xmas_text.specs.declared.token.Mark.TheVariants as mark
-use Rattle.xmas_text.specs.declared.token.Sign.{Sign}
-use Rattle.xmas_text.specs.declared.token.Sign.TheVariants as sign
-use Rattle.xmas_text.specs.declared.token.Kind.{Kind}
-use Rattle.xmas_text.specs.declared.token.Kind.TheVariants as kind
-use Rattle.xmas_text.specs.Grammar.{quoted_text, op_text}
+use Rattle.xmas_tokens.specs.Lexical.{IsVar}
+use Rattle.xmas_tokens.specs.declared.lexeme.Comparison.{Comparison}
+use Rattle.xmas_tokens.specs.declared.lexeme.Comparison.TheVariants as op
+use Rattle.xmas_tokens.specs.declared.token.Mark.{Mark}
+use Rattle.xmas_tokens.specs.declared.token.Mark.TheVariants as mark
+use Rattle.xmas_tokens.specs.declared.token.Sign.{Sign}
+use Rattle.xmas_tokens.specs.declared.token.Sign.TheVariants as sign
+use Rattle.xmas_tokens.specs.declared.token.Kind.{Kind}
+use Rattle.xmas_tokens.specs.declared.token.Kind.TheVariants as kind
 
 -- a token
 pub data Token : Type 0 where
@@ -83,6 +82,19 @@ abbrev pub by_sign : Sign → Option Token
 by_sign sign.Bang = None
 by_sign sign.Less = Some (comparison op.Lt)
 by_sign sign.Greater = Some (comparison op.Gt)
+
+-- a quoted label
+abbrev pub quoted_text : List Piece → List ℕ
+quoted_text ps = 34 ∷ inside_quotes ps ++ 34 ∷ []
+
+-- the text of an operator
+abbrev pub op_text : Comparison → List ℕ
+op_text op.Eq = 61 ∷ []
+op_text op.Ne = 33 ∷ 61 ∷ []
+op_text op.Lt = 60 ∷ []
+op_text op.Le = 60 ∷ 61 ∷ []
+op_text op.Gt = 62 ∷ []
+op_text op.Ge = 62 ∷ 61 ∷ []
 
 -- the text of a token
 abbrev pub token_text : Token → List ℕ

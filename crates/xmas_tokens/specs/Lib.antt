@@ -1,0 +1,5 @@
+pub mod Lexemes
+pub mod Lexer
+pub mod Lexical
+pub mod Parts
+pub mod Tokens
