@@ -1,9 +1,13 @@
 // What the contracts leave to tests: that calls succeed, and values worked out by hand.
+use mix_catalog::CatalogFault::{Chunk, ColumnTwice, Columns, Line, NameTwice, TooMany};
 use mix_catalog::{Catalog, CatalogFault, SourceKind, read_catalog};
 use mix_tree::Label;
 use std::alloc::{AllocError, Global};
 use std::process::Abort;
 use std::test::Fail;
+
+// A text, with how many sources it has, or why it is no catalog.
+pub type Row = (&'static [u8], Result<u32, CatalogFault>);
 
 // How many sources a text has, or why it is no catalog.
 pub fn count(alloc: Global, text: &[u8]) -> Result<u32, CatalogFault> {
@@ -11,7 +15,7 @@ pub fn count(alloc: Global, text: &[u8]) -> Result<u32, CatalogFault> {
 }
 
 // Reads each text and compares.
-pub fn check(rt: &impl Abort, alloc: Global, rows: &[(&[u8], Result<u32, CatalogFault>)]) {
+pub fn check(rt: &impl Abort, alloc: Global, rows: &[Row]) {
     for (text, want) in rows {
         assert_eq!(rt; count(alloc, text), *want);
     }
@@ -19,110 +23,62 @@ pub fn check(rt: &impl Abort, alloc: Global, rows: &[(&[u8], Result<u32, Catalog
 
 #[test]
 fn lines_are_of_the_bracket_forms(rt: HostRuntime) {
-    let rows = [
-        (b"".as_slice(), Ok(0)),
-        (b"# \xff\n \t\n\n  #\r\n".as_slice(), Ok(0)),
+    let rows: [Row; 9] = [
+        (b"", Ok(0)),
+        (b"# \xff\n \t\n\n  #\r\n", Ok(0)),
         (
-            b"source a bracket f chunk 1\r\n\t source  b\tbracket f chunk 2 deep \r\n".as_slice(),
+            b"source a bracket f chunk 1\r\n\t source  b\tbracket f chunk 2 deep \r\n",
             Ok(2),
         ),
-        (b"source - bracket \"a \\\"b\" chunk 1".as_slice(), Ok(1)),
-        (
-            b"source a bracket \"f\"chunk 1".as_slice(),
-            Err(CatalogFault::Line(1)),
-        ),
-        (
-            b"source a bracket \"f chunk 1".as_slice(),
-            Err(CatalogFault::Line(1)),
-        ),
-        (
-            b"source a bracket f, chunk 1".as_slice(),
-            Err(CatalogFault::Line(1)),
-        ),
-        (
-            b"\n#\nsource a\xff bracket f chunk 1".as_slice(),
-            Err(CatalogFault::Line(3)),
-        ),
-        (
-            b"source a bracket f\xff chunk 1".as_slice(),
-            Err(CatalogFault::Line(1)),
-        ),
+        (b"source - bracket \"a \\\"b\" chunk 1", Ok(1)),
+        (b"source a bracket \"f\"chunk 1", Err(Line(1))),
+        (b"source a bracket \"f chunk 1", Err(Line(1))),
+        (b"source a bracket f, chunk 1", Err(Line(1))),
+        (b"\n#\nsource a\xff bracket f chunk 1", Err(Line(3))),
+        (b"source a bracket f\xff chunk 1", Err(Line(1))),
     ];
     check(&rt, rt.alloc(), &rows);
 }
 
 #[test]
 fn no_other_line_is_of_them(rt: HostRuntime) {
-    let rows = [
-        (
-            b"source a.b bracket f chunk 1".as_slice(),
-            Err(CatalogFault::Line(1)),
-        ),
-        (
-            b"source a bracket f chunk 1 flat".as_slice(),
-            Err(CatalogFault::Line(1)),
-        ),
-        (
-            b"source a bracket f chunk 1 deep deep".as_slice(),
-            Err(CatalogFault::Line(1)),
-        ),
-        (b"source a bracket f".as_slice(), Err(CatalogFault::Line(1))),
-        (
-            b"\xef\xbb\xbfsource a bracket f chunk 1".as_slice(),
-            Err(CatalogFault::Line(1)),
-        ),
+    let rows: [Row; 5] = [
+        (b"source a.b bracket f chunk 1", Err(Line(1))),
+        (b"source a bracket f chunk 1 flat", Err(Line(1))),
+        (b"source a bracket f chunk 1 deep deep", Err(Line(1))),
+        (b"source a bracket f", Err(Line(1))),
+        (b"\xef\xbb\xbfsource a bracket f chunk 1", Err(Line(1))),
     ];
     check(&rt, rt.alloc(), &rows);
 }
 
 #[test]
 fn chunks_are_from_1_to_1000(rt: HostRuntime) {
-    let rows = [
-        (
-            b"source a bracket f chunk 0".as_slice(),
-            Err(CatalogFault::Chunk(1)),
-        ),
-        (b"source a bracket f chunk 007".as_slice(), Ok(1)),
-        (b"source a bracket f chunk 1000".as_slice(), Ok(1)),
-        (
-            b"source a bracket f chunk 1001".as_slice(),
-            Err(CatalogFault::Chunk(1)),
-        ),
-        (
-            b"source a bracket f chunk 999999999".as_slice(),
-            Err(CatalogFault::Chunk(1)),
-        ),
-        (
-            b"source a bracket f chunk 0000000001".as_slice(),
-            Err(CatalogFault::Line(1)),
-        ),
-        (
-            b"source a bracket f chunk -1".as_slice(),
-            Err(CatalogFault::Line(1)),
-        ),
+    let rows: [Row; 7] = [
+        (b"source a bracket f chunk 0", Err(Chunk(1))),
+        (b"source a bracket f chunk 007", Ok(1)),
+        (b"source a bracket f chunk 1000", Ok(1)),
+        (b"source a bracket f chunk 1001", Err(Chunk(1))),
+        (b"source a bracket f chunk 999999999", Err(Chunk(1))),
+        (b"source a bracket f chunk 0000000001", Err(Line(1))),
+        (b"source a bracket f chunk -1", Err(Line(1))),
     ];
     check(&rt, rt.alloc(), &rows);
 }
 
 #[test]
 fn the_first_fault_is_named(rt: HostRuntime) {
-    let rows = [
+    let rows: [Row; 4] = [
         (
-            b"source a bracket f chunk 1\nsource b bracket f chunk 1\n\nsource a bracket g chunk 2".as_slice(),
-            Err(CatalogFault::NameTwice(4)),
+            b"source a bracket f chunk 1\nsource b bracket f chunk 1\n\nsource a bracket g chunk 2",
+            Err(NameTwice(4)),
         ),
         (
-            b"source a bracket f chunk 1\nsource a bracket f chunk 0".as_slice(),
-            Err(CatalogFault::Chunk(2)),
+            b"source a bracket f chunk 1\nsource a bracket f chunk 0",
+            Err(Chunk(2)),
         ),
-        (
-            b"source a bracket f chunk 0\nfly".as_slice(),
-            Err(CatalogFault::Chunk(1)),
-        ),
-        (
-            b"fly\nsource a bracket f chunk 0".as_slice(),
-            Err(CatalogFault::Line(1)),
-        ),
+        (b"source a bracket f chunk 0\nfly", Err(Chunk(1))),
+        (b"fly\nsource a bracket f chunk 0", Err(Line(1))),
     ];
     check(&rt, rt.alloc(), &rows);
 }
@@ -142,15 +98,9 @@ fn a_catalog_has_at_most_32_sources(rt: HostRuntime) -> Result<(), Fail> {
     let mut text = sources(alloc, 32)?;
     assert_eq!(rt; count(alloc, text.as_bytes()), Ok(32));
     text.push_str("source s31 bracket f chunk 1")?;
-    assert_eq!(rt;
-        count(alloc, text.as_bytes()),
-        Err(CatalogFault::NameTwice(33))
-    );
+    assert_eq!(rt; count(alloc, text.as_bytes()), Err(NameTwice(33)));
     let text = sources(alloc, 33)?;
-    assert_eq!(rt;
-        count(alloc, text.as_bytes()),
-        Err(CatalogFault::TooMany(33))
-    );
+    assert_eq!(rt; count(alloc, text.as_bytes()), Err(TooMany(33)));
     Ok(())
 }
 
@@ -182,61 +132,40 @@ fn sources_are_found_by_their_names(rt: HostRuntime) -> Result<(), Fail> {
 
 #[test]
 fn lines_are_of_the_csv_form(rt: HostRuntime) {
-    let rows = [
+    let rows: [Row; 8] = [
         (
-            b"source p csv f columns a chunk 1\n source\tq csv \"f g\"  columns \t b,\"c \",\"\" chunk 02 ".as_slice(),
+            b"source p csv f columns a chunk 1\n source\tq csv \"f g\"  columns \t b,\"c \",\"\" chunk 02 ",
             Ok(2),
         ),
-        (
-            b"source p csv f columns a chunk 1 deep".as_slice(),
-            Err(CatalogFault::Line(1)),
-        ),
-        (
-            b"source p csv f columns a, b chunk 1".as_slice(),
-            Err(CatalogFault::Line(1)),
-        ),
-        (
-            b"source p csv f columns a,,b chunk 1".as_slice(),
-            Err(CatalogFault::Line(1)),
-        ),
-        (
-            b"source p csv f columns a, chunk 1".as_slice(),
-            Err(CatalogFault::Line(1)),
-        ),
-        (
-            b"source p csv f columns chunk 1".as_slice(),
-            Err(CatalogFault::Line(1)),
-        ),
-        (
-            b"source p csv f columns a\"b\" chunk 1".as_slice(),
-            Err(CatalogFault::Line(1)),
-        ),
-        (
-            b"source p csv f chunk 1".as_slice(),
-            Err(CatalogFault::Line(1)),
-        ),
+        (b"source p csv f columns a chunk 1 deep", Err(Line(1))),
+        (b"source p csv f columns a, b chunk 1", Err(Line(1))),
+        (b"source p csv f columns a,,b chunk 1", Err(Line(1))),
+        (b"source p csv f columns a, chunk 1", Err(Line(1))),
+        (b"source p csv f columns chunk 1", Err(Line(1))),
+        (b"source p csv f columns a\"b\" chunk 1", Err(Line(1))),
+        (b"source p csv f chunk 1", Err(Line(1))),
     ];
     check(&rt, rt.alloc(), &rows);
 }
 
 #[test]
 fn a_column_stands_once(rt: HostRuntime) {
-    let rows = [
+    let rows: [Row; 4] = [
         (
-            b"source p csv f columns a,b,\"a\" chunk 1001".as_slice(),
-            Err(CatalogFault::Chunk(1)),
+            b"source p csv f columns a,b,\"a\" chunk 1001",
+            Err(Chunk(1)),
         ),
         (
-            b"source p csv f columns a,b,\"a\" chunk 1".as_slice(),
-            Err(CatalogFault::ColumnTwice(1)),
+            b"source p csv f columns a,b,\"a\" chunk 1",
+            Err(ColumnTwice(1)),
         ),
         (
-            b"source p bracket f chunk 1\nsource p csv f columns a,a chunk 1".as_slice(),
-            Err(CatalogFault::ColumnTwice(2)),
+            b"source p bracket f chunk 1\nsource p csv f columns a,a chunk 1",
+            Err(ColumnTwice(2)),
         ),
         (
-            b"source p bracket f chunk 1\nsource p csv f columns a,b chunk 1".as_slice(),
-            Err(CatalogFault::NameTwice(2)),
+            b"source p bracket f chunk 1\nsource p csv f columns a,b chunk 1",
+            Err(NameTwice(2)),
         ),
     ];
     check(&rt, rt.alloc(), &rows);
@@ -256,15 +185,15 @@ pub fn columns(alloc: Global, front: &str, count: u32) -> Result<String, AllocEr
 fn a_source_has_at_most_200_columns(rt: HostRuntime) -> Result<(), Fail> {
     let alloc = rt.alloc();
     let front = "source p csv f columns c1";
-    assert_eq!(rt; count(alloc, columns(alloc, front, 1)?.as_bytes()), Ok(1));
-    assert_eq!(rt;
-        count(alloc, columns(alloc, front, 199)?.as_bytes()),
-        Err(CatalogFault::ColumnTwice(1))
-    );
-    assert_eq!(rt;
-        count(alloc, columns(alloc, front, 200)?.as_bytes()),
-        Err(CatalogFault::Columns(1))
-    );
+    let rows = [
+        (1, Ok(1)),
+        (199, Err(ColumnTwice(1))),
+        (200, Err(Columns(1))),
+    ];
+    for (more, want) in rows {
+        let text = columns(alloc, front, more)?;
+        assert_eq!(rt; count(alloc, text.as_bytes()), want);
+    }
     Ok(())
 }
 

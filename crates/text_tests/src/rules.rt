@@ -2,6 +2,7 @@
 use mix_tree::Label;
 use std::alloc::{AllocError, Global};
 use std::test::Fail;
+use xmas_text::TextFault::{EndsEarly, NotUtf8, TooDeep, Unexpected};
 use xmas_text::{
     Comparison, CondText, GroupText, ItemText, KeyText, OperandText, PathLimit, RuleText,
     TextFault, VarText, no_text_spells_two_rules, parse_rule,
@@ -46,41 +47,29 @@ fn is_refused(alloc: Global, text: &[u8], wanted: TextFault) -> bool {
 
 // Texts that are no rules, each with its refusal.
 const REFUSED: [(&str, TextFault); 21] = [
-    ("", TextFault::EndsEarly),
-    (" CONSTR", TextFault::EndsEarly),
-    ("CONSTRUCT <a>", TextFault::EndsEarly),
-    ("CONSTRUCT <a></a> WHERE s a $", TextFault::EndsEarly),
-    ("CONSTRUCT <a></a> WHERE s a", TextFault::EndsEarly),
-    ("CONSTRUCT <a></a> WHERE s a $X AND", TextFault::EndsEarly),
-    (
-        "CONSTRUCT <a></a> WHERE s a $X ORDER BY",
-        TextFault::EndsEarly,
-    ),
-    ("CONSTRUCT<a></a>", TextFault::Unexpected(9)),
-    ("construct", TextFault::Unexpected(0)),
-    ("CONSTRUCT <a>$X$Y", TextFault::Unexpected(15)),
-    ("CONSTRUCT <a></ a>", TextFault::Unexpected(15)),
-    ("CONSTRUCT <a> $X {$X $Y}", TextFault::Unexpected(21)),
-    ("CONSTRUCT <a> \"x\" {", TextFault::Unexpected(18)),
-    ("CONSTRUCT <a> \"é\\é", TextFault::Unexpected(18)),
-    ("CONSTRUCT <a></a> {} {", TextFault::Unexpected(21)),
-    ("CONSTRUCT <a></a> WHERE s a..b", TextFault::Unexpected(28)),
-    ("CONSTRUCT <a></a> WHERE s = $X", TextFault::Unexpected(26)),
-    (
-        "CONSTRUCT <a></a> WHERE $X ! = $Y",
-        TextFault::Unexpected(28),
-    ),
-    (
-        "CONSTRUCT <a></a> WHERE s a $X and",
-        TextFault::Unexpected(31),
-    ),
-    (
-        "CONSTRUCT <a></a> WHERE s a $X é",
-        TextFault::Unexpected(31),
-    ),
+    ("", EndsEarly),
+    (" CONSTR", EndsEarly),
+    ("CONSTRUCT <a>", EndsEarly),
+    ("CONSTRUCT <a></a> WHERE s a $", EndsEarly),
+    ("CONSTRUCT <a></a> WHERE s a", EndsEarly),
+    ("CONSTRUCT <a></a> WHERE s a $X AND", EndsEarly),
+    ("CONSTRUCT <a></a> WHERE s a $X ORDER BY", EndsEarly),
+    ("CONSTRUCT<a></a>", Unexpected(9)),
+    ("construct", Unexpected(0)),
+    ("CONSTRUCT <a>$X$Y", Unexpected(15)),
+    ("CONSTRUCT <a></ a>", Unexpected(15)),
+    ("CONSTRUCT <a> $X {$X $Y}", Unexpected(21)),
+    ("CONSTRUCT <a> \"x\" {", Unexpected(18)),
+    ("CONSTRUCT <a> \"é\\é", Unexpected(18)),
+    ("CONSTRUCT <a></a> {} {", Unexpected(21)),
+    ("CONSTRUCT <a></a> WHERE s a..b", Unexpected(28)),
+    ("CONSTRUCT <a></a> WHERE s = $X", Unexpected(26)),
+    ("CONSTRUCT <a></a> WHERE $X ! = $Y", Unexpected(28)),
+    ("CONSTRUCT <a></a> WHERE s a $X and", Unexpected(31)),
+    ("CONSTRUCT <a></a> WHERE s a $X é", Unexpected(31)),
     (
         "CONSTRUCT <a></a> WHERE s a $X ORDER BY $X DESC AND",
-        TextFault::Unexpected(48),
+        Unexpected(48),
     ),
 ];
 
@@ -90,13 +79,7 @@ fn refusals_name_their_place(rt: HostRuntime) -> Result<(), Fail> {
     for (text, wanted) in REFUSED {
         assert!(rt; is_refused(alloc, text.as_bytes(), wanted));
     }
-    assert!(rt;
-        is_refused(
-            alloc,
-            b"CONSTRUCT <a>$ \"\xff".as_slice(),
-            TextFault::NotUtf8(16)
-        )
-    );
+    assert!(rt; is_refused(alloc, b"CONSTRUCT <a>$ \"\xff".as_slice(), NotUtf8(16)));
     Ok(())
 }
 
@@ -119,9 +102,9 @@ fn elements_have_20_levels_at_most(rt: HostRuntime) -> Result<(), Fail> {
     let most = nested(alloc, 20)?;
     assert!(rt; parse_rule(alloc, &most).is_ok());
     let mut more = nested(alloc, 21)?;
-    assert!(rt; is_refused(alloc, &more, TextFault::TooDeep));
+    assert!(rt; is_refused(alloc, &more, TooDeep));
     more.push(b'?')?;
-    assert!(rt; is_refused(alloc, &more, TextFault::Unexpected(10 + 21 * 7 + 13)));
+    assert!(rt; is_refused(alloc, &more, Unexpected(10 + 21 * 7 + 13)));
     Ok(())
 }
 
@@ -269,16 +252,9 @@ fn a_path_may_pass_its_limits(rt: HostRuntime) -> Result<(), Fail> {
     text.extend_from_slice(b" $X".as_slice())?;
     let rule = parse_rule(alloc, &text)?;
     assert_eq!(rt; rule.conds.len(), 1);
-    assert!(rt;
-        matches!(
-            &rule.conds[0],
-            CondText::FromSource {
-                at: _,
-                source: _,
-                path: Err(PathLimit::Positions),
-                var: _
-            }
-        )
-    );
+    let CondText::FromSource { path, .. } = &rule.conds[0] else {
+        return Err("the condition is of no source".into());
+    };
+    assert!(rt; matches!(path, Err(PathLimit::Positions)));
     Ok(())
 }

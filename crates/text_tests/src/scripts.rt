@@ -2,6 +2,7 @@
 ghost use Rattle.std.specs.Prelude.{length};
 ghost use Rattle.mix_script.specs.Answers.{IsNamed};
 
+use mix_script::ScriptFault::Line;
 use mix_script::{Act, Answer, Names, ScriptFault, Step, read_script, write_answer};
 use mix_tree::Label;
 use std::alloc::{AllocError, Global};
@@ -19,42 +20,36 @@ fn count(alloc: Global, text: &[u8]) -> Result<usize, ScriptFault> {
 
 #[test]
 fn the_first_line_of_no_form_is_named(rt: HostRuntime) {
-    let scripts = [
-        (b"".as_slice(), Ok(0)),
-        (b"r = root".as_slice(), Ok(1)),
+    let scripts: [(&[u8], Result<usize, ScriptFault>); 23] = [
+        (b"", Ok(0)),
+        (b"r = root", Ok(1)),
         (
-            b"# \xff\n \t\n\nr = root\r\n\tx_1  =\tdown r \nfetch x_1".as_slice(),
+            b"# \xff\n \t\n\nr = root\r\n\tx_1  =\tdown r \nfetch x_1",
             Ok(3),
         ),
-        (b"fly".as_slice(), Err(ScriptFault::Line(1))),
+        (b"fly", Err(Line(1))),
+        (b"r = root\n\nfetch r\r", Err(Line(3))),
+        (b"#\nx=right r\nfly\n", Err(Line(2))),
+        (b"1 = root", Err(Line(1))),
+        (b"fetch r #", Err(Line(1))),
+        (b"ann: r = root\nbob:\tfetch r", Ok(2)),
         (
-            b"r = root\n\nfetch r\r".as_slice(),
-            Err(ScriptFault::Line(3)),
-        ),
-        (b"#\nx=right r\nfly\n".as_slice(), Err(ScriptFault::Line(2))),
-        (b"1 = root".as_slice(), Err(ScriptFault::Line(1))),
-        (b"fetch r #".as_slice(), Err(ScriptFault::Line(1))),
-        (b"ann: r = root\nbob:\tfetch r".as_slice(), Ok(2)),
-        (
-            b"y = select x a\nann: y =\tselect x  \"La Jolla\" \nprint y".as_slice(),
+            b"y = select x a\nann: y =\tselect x  \"La Jolla\" \nprint y",
             Ok(3),
         ),
-        (b"ann:r = root".as_slice(), Err(ScriptFault::Line(1))),
-        (b"ann : r = root".as_slice(), Err(ScriptFault::Line(1))),
-        (b"1a: r = root".as_slice(), Err(ScriptFault::Line(1))),
-        (b"ann: bob: r = root".as_slice(), Err(ScriptFault::Line(1))),
-        (b"ann:".as_slice(), Err(ScriptFault::Line(1))),
-        (b"y = select x".as_slice(), Err(ScriptFault::Line(1))),
-        (b"y = select x a b".as_slice(), Err(ScriptFault::Line(1))),
-        (b"y = select x \"a".as_slice(), Err(ScriptFault::Line(1))),
-        (b"y = select x \"a\"b".as_slice(), Err(ScriptFault::Line(1))),
-        (
-            b"y = select x \"\xff\"".as_slice(),
-            Err(ScriptFault::Line(1)),
-        ),
-        (b"select x a".as_slice(), Err(ScriptFault::Line(1))),
-        (b"y = print x".as_slice(), Err(ScriptFault::Line(1))),
-        (b"print 1".as_slice(), Err(ScriptFault::Line(1))),
+        (b"ann:r = root", Err(Line(1))),
+        (b"ann : r = root", Err(Line(1))),
+        (b"1a: r = root", Err(Line(1))),
+        (b"ann: bob: r = root", Err(Line(1))),
+        (b"ann:", Err(Line(1))),
+        (b"y = select x", Err(Line(1))),
+        (b"y = select x a b", Err(Line(1))),
+        (b"y = select x \"a", Err(Line(1))),
+        (b"y = select x \"a\"b", Err(Line(1))),
+        (b"y = select x \"\xff\"", Err(Line(1))),
+        (b"select x a", Err(Line(1))),
+        (b"y = print x", Err(Line(1))),
+        (b"print 1", Err(Line(1))),
     ];
     for (text, want) in scripts {
         assert_eq!(rt; count(rt.alloc(), text), want);
@@ -83,27 +78,17 @@ fn told(
 fn answers_are_told(rt: HostRuntime) -> Result<(), Fail> {
     let alloc = rt.alloc();
     let sources = vec![in alloc; label(alloc, "homes")?, label(alloc, "schools")?]?;
-    assert_eq!(rt;
-        told(alloc, "", &Answer::Node, &sources)?.as_slice(),
-        b"node\n".as_slice()
-    );
-    assert_eq!(rt;
-        told(alloc, "ann", &Answer::None, &sources)?.as_slice(),
-        b"ann: none\n".as_slice()
-    );
-    assert_eq!(rt;
-        told(alloc, "", &Answer::NoNode, &sources)?.as_slice(),
-        b"no node\n".as_slice()
-    );
+    let line = told(alloc, "", &Answer::Node, &sources)?;
+    assert_eq!(rt; line.as_slice(), b"node\n".as_slice());
+    let line = told(alloc, "ann", &Answer::None, &sources)?;
+    assert_eq!(rt; line.as_slice(), b"ann: none\n".as_slice());
+    let line = told(alloc, "", &Answer::NoNode, &sources)?;
+    assert_eq!(rt; line.as_slice(), b"no node\n".as_slice());
     let label = Answer::Label(label(alloc, "La Jolla")?);
-    assert_eq!(rt;
-        told(alloc, "", &label, &sources)?.as_slice(),
-        b"label \"La Jolla\"\n".as_slice()
-    );
-    assert_eq!(rt;
-        told(alloc, "bob", &Answer::Fault(1), &sources)?.as_slice(),
-        b"bob: fault schools\n".as_slice()
-    );
+    let line = told(alloc, "", &label, &sources)?;
+    assert_eq!(rt; line.as_slice(), b"label \"La Jolla\"\n".as_slice());
+    let line = told(alloc, "bob", &Answer::Fault(1), &sources)?;
+    assert_eq!(rt; line.as_slice(), b"bob: fault schools\n".as_slice());
     Ok(())
 }
 

@@ -1,16 +1,17 @@
 // Lines of tables in a catalog: that calls succeed, and values worked out by hand.
-use crate::catalogs::{check, columns, count};
-use mix_catalog::{CatalogFault, SourceKind, read_catalog};
+use crate::catalogs::{Row, check, columns, count};
+use mix_catalog::CatalogFault::{Chunk, ColumnTwice, Columns, Line, NameTwice};
+use mix_catalog::{SourceKind, read_catalog};
 use std::test::Fail;
 
 #[test]
 fn lines_are_of_the_table_form(rt: HostRuntime) {
-    let texts = [
-        b"source p table f people key id columns name,zip! chunk 2".as_slice(),
-        b"\tsource  p table \"my f\"  people\tkey id columns  a!,_b1,C chunk 007 \r\n".as_slice(),
-        b"source p table \"\" _ key _ columns _! chunk 1000".as_slice(),
-        b"source p table f key key key columns key,columns,chunk chunk 1".as_slice(),
-        b"source p table f t key a columns a,A chunk 1".as_slice(),
+    let texts: [&[u8]; 5] = [
+        b"source p table f people key id columns name,zip! chunk 2",
+        b"\tsource  p table \"my f\"  people\tkey id columns  a!,_b1,C chunk 007 \r\n",
+        b"source p table \"\" _ key _ columns _! chunk 1000",
+        b"source p table f key key key columns key,columns,chunk chunk 1",
+        b"source p table f t key a columns a,A chunk 1",
     ];
     for text in texts {
         assert_eq!(rt; count(rt.alloc(), text), Ok(1));
@@ -19,58 +20,58 @@ fn lines_are_of_the_table_form(rt: HostRuntime) {
 
 #[test]
 fn other_lines_of_tables_fit_no_form(rt: HostRuntime) {
-    let texts = [
-        b"source p table f t key k columns a chunk 1 deep".as_slice(),
-        b"source p table f t key k columns a".as_slice(),
-        b"source p table f t key k columns chunk 1".as_slice(),
-        b"source p table f t key k columns a, b chunk 1".as_slice(),
-        b"source p table f t key k columns a ,b chunk 1".as_slice(),
-        b"source p table f t key k columns a,,b chunk 1".as_slice(),
-        b"source p table f t key k columns a, chunk 1".as_slice(),
-        b"source p table f t key k columns ,a chunk 1".as_slice(),
-        b"source p table f t key k columns a ! chunk 1".as_slice(),
-        b"source p table f t key k columns a!! chunk 1".as_slice(),
-        b"source p table f t key k columns !a chunk 1".as_slice(),
-        b"source p table f t key k columns a,! chunk 1".as_slice(),
-        b"source p table f t key k columns \"a\" chunk 1".as_slice(),
-        b"source p table f t key k columns a-b chunk 1".as_slice(),
-        b"source p table f t key k columns 1a chunk 1".as_slice(),
-        b"source p table f t key k columns \xc3\xa9 chunk 1".as_slice(),
-        b"source p table f 1t key k columns a chunk 1".as_slice(),
-        b"source p table f t key k! columns a chunk 1".as_slice(),
-        b"source p table f \"t\" key k columns a chunk 1".as_slice(),
-        b"source p table \"f\"t key k columns a chunk 1".as_slice(),
-        b"source p table f t columns a chunk 1".as_slice(),
-        b"source p table f t columns a key k chunk 1".as_slice(),
-        b"source p table t key k columns a chunk 1".as_slice(),
+    let texts: [&[u8]; 23] = [
+        b"source p table f t key k columns a chunk 1 deep",
+        b"source p table f t key k columns a",
+        b"source p table f t key k columns chunk 1",
+        b"source p table f t key k columns a, b chunk 1",
+        b"source p table f t key k columns a ,b chunk 1",
+        b"source p table f t key k columns a,,b chunk 1",
+        b"source p table f t key k columns a, chunk 1",
+        b"source p table f t key k columns ,a chunk 1",
+        b"source p table f t key k columns a ! chunk 1",
+        b"source p table f t key k columns a!! chunk 1",
+        b"source p table f t key k columns !a chunk 1",
+        b"source p table f t key k columns a,! chunk 1",
+        b"source p table f t key k columns \"a\" chunk 1",
+        b"source p table f t key k columns a-b chunk 1",
+        b"source p table f t key k columns 1a chunk 1",
+        b"source p table f t key k columns \xc3\xa9 chunk 1",
+        b"source p table f 1t key k columns a chunk 1",
+        b"source p table f t key k! columns a chunk 1",
+        b"source p table f \"t\" key k columns a chunk 1",
+        b"source p table \"f\"t key k columns a chunk 1",
+        b"source p table f t columns a chunk 1",
+        b"source p table f t columns a key k chunk 1",
+        b"source p table t key k columns a chunk 1",
     ];
     for text in texts {
-        assert_eq!(rt; count(rt.alloc(), text), Err(CatalogFault::Line(1)));
+        assert_eq!(rt; count(rt.alloc(), text), Err(Line(1)));
     }
 }
 
 #[test]
 fn the_first_fault_of_a_table_is_named(rt: HostRuntime) {
-    let rows = [
+    let rows: [Row; 5] = [
         (
-            b"source p table f t key k columns a,a chunk 0".as_slice(),
-            Err(CatalogFault::Chunk(1)),
+            b"source p table f t key k columns a,a chunk 0",
+            Err(Chunk(1)),
         ),
         (
-            b"source p table f t key k columns a chunk 1001".as_slice(),
-            Err(CatalogFault::Chunk(1)),
+            b"source p table f t key k columns a chunk 1001",
+            Err(Chunk(1)),
         ),
         (
-            b"source p table f t key k columns a,b,a! chunk 1".as_slice(),
-            Err(CatalogFault::ColumnTwice(1)),
+            b"source p table f t key k columns a,b,a! chunk 1",
+            Err(ColumnTwice(1)),
         ),
         (
-            b"source p bracket f chunk 1\nsource p table f t key k columns a!,a! chunk 1".as_slice(),
-            Err(CatalogFault::ColumnTwice(2)),
+            b"source p bracket f chunk 1\nsource p table f t key k columns a!,a! chunk 1",
+            Err(ColumnTwice(2)),
         ),
         (
-            b"source p bracket f chunk 1\nsource p table f t key k columns a chunk 1".as_slice(),
-            Err(CatalogFault::NameTwice(2)),
+            b"source p bracket f chunk 1\nsource p table f t key k columns a chunk 1",
+            Err(NameTwice(2)),
         ),
     ];
     check(&rt, rt.alloc(), &rows);
@@ -80,11 +81,10 @@ fn the_first_fault_of_a_table_is_named(rt: HostRuntime) {
 fn a_table_has_at_most_200_columns(rt: HostRuntime) -> Result<(), Fail> {
     let alloc = rt.alloc();
     let front = "source p table f t key k columns a!";
-    assert_eq!(rt; count(alloc, columns(alloc, front, 199)?.as_bytes()), Ok(1));
-    assert_eq!(rt;
-        count(alloc, columns(alloc, front, 200)?.as_bytes()),
-        Err(CatalogFault::Columns(1))
-    );
+    for (more, want) in [(199, Ok(1)), (200, Err(Columns(1)))] {
+        let text = columns(alloc, front, more)?;
+        assert_eq!(rt; count(alloc, text.as_bytes()), want);
+    }
     Ok(())
 }
 

@@ -3,6 +3,10 @@ use mix_catalog::{Catalog, read_catalog};
 use std::alloc::Global;
 use std::process::Abort;
 use std::test::Fail;
+use xmas_read::XmasFault::{
+    BoundTwice, EndsEarly, Loose, NotUtf8, OuterGroup, TagDiffers, TooLarge, Unbound, Unexpected,
+    UnknownSource,
+};
 use xmas_read::{Large, XmasFault, canonical_text_is_read_again, read_rule, write_rule};
 
 // A catalog of a few sources.
@@ -39,64 +43,40 @@ fn check(
 
 // Views, each with its refusal.
 const REFUSED: [(&str, XmasFault); 17] = [
-    ("", XmasFault::EndsEarly),
-    ("CONSTRUCT <a> $X </a> WHERE s a $", XmasFault::EndsEarly),
-    (
-        "CONSTRUCT <a> $X </a> WHERE s a $X }",
-        XmasFault::Unexpected(35),
-    ),
-    (
-        "CONSTRUCT <a> $X </a> WHERE s a..b $X",
-        XmasFault::Unexpected(32),
-    ),
-    (
-        "CONSTRUCT <a> $X </b> WHERE s a $Y",
-        XmasFault::TagDiffers(17),
-    ),
-    (
-        "CONSTRUCT <a> <b> </c> </d> WHERE s a $X",
-        XmasFault::TagDiffers(18),
-    ),
-    (
-        "CONSTRUCT <a> $X </a> WHERE t a $Y",
-        XmasFault::UnknownSource(28),
-    ),
+    ("", EndsEarly),
+    ("CONSTRUCT <a> $X </a> WHERE s a $", EndsEarly),
+    ("CONSTRUCT <a> $X </a> WHERE s a $X }", Unexpected(35)),
+    ("CONSTRUCT <a> $X </a> WHERE s a..b $X", Unexpected(32)),
+    ("CONSTRUCT <a> $X </b> WHERE s a $Y", TagDiffers(17)),
+    ("CONSTRUCT <a> <b> </c> </d> WHERE s a $X", TagDiffers(18)),
+    ("CONSTRUCT <a> $X </a> WHERE t a $Y", UnknownSource(28)),
     (
         "CONSTRUCT <a> $X </a> WHERE s a $X AND s b $X",
-        XmasFault::BoundTwice(43),
+        BoundTwice(43),
     ),
-    ("CONSTRUCT <a> $X </a> WHERE s a $Y", XmasFault::Unbound(14)),
-    (
-        "CONSTRUCT <a> $X </a> {$Y} WHERE s a $Y",
-        XmasFault::Unbound(14),
-    ),
-    (
-        "CONSTRUCT <a> $X </a> {$Y} WHERE s a $X",
-        XmasFault::Unbound(23),
-    ),
+    ("CONSTRUCT <a> $X </a> WHERE s a $Y", Unbound(14)),
+    ("CONSTRUCT <a> $X </a> {$Y} WHERE s a $Y", Unbound(14)),
+    ("CONSTRUCT <a> $X </a> {$Y} WHERE s a $X", Unbound(23)),
     (
         "CONSTRUCT <a> $X </a> WHERE $Y a $X AND s b $Y",
-        XmasFault::Unbound(28),
+        Unbound(28),
     ),
     (
         "CONSTRUCT <a> $X </a> WHERE s a $X AND $X < $Z",
-        XmasFault::Unbound(44),
+        Unbound(44),
     ),
     (
         "CONSTRUCT <a> $X </a> WHERE s a $X ORDER BY $Z",
-        XmasFault::Unbound(44),
+        Unbound(44),
     ),
-    (
-        "CONSTRUCT <a> $X </a> {$X} WHERE s a $X",
-        XmasFault::OuterGroup(22),
-    ),
+    ("CONSTRUCT <a> $X </a> {$X} WHERE s a $X", OuterGroup(22)),
     (
         "CONSTRUCT <a> $X {$Y} </a> WHERE s a $X AND s b $Y",
-        XmasFault::Loose(14),
+        Loose(14),
     ),
     (
         "CONSTRUCT <a> label $X {$Y} </a> WHERE s a $X AND s b $Y",
-        XmasFault::Loose(14),
+        Loose(14),
     ),
 ];
 
@@ -107,60 +87,48 @@ fn refusals_name_their_places(rt: HostRuntime) -> Result<(), Fail> {
     check(&rt, alloc, &catalog, &REFUSED)?;
     let bytes = b"CONSTRUCT <a> \"\xff\" </a> WHERE s a $X";
     let read = read_rule(alloc, bytes, &catalog);
-    assert!(rt; matches!(read, Err(XmasFault::NotUtf8(15))));
+    assert!(rt; matches!(read, Err(NotUtf8(15))));
     Ok(())
 }
 
 // Views with two causes, each with the one that comes first.
 const REFUSED_TWICE: [(&str, XmasFault); 13] = [
-    (
-        "CONSTRUCT <a> $X </b> WHERE s a..b $X",
-        XmasFault::Unexpected(32),
-    ),
-    ("CONSTRUCT <a> $X </b> WHERE s a $", XmasFault::EndsEarly),
-    (
-        "CONSTRUCT <a> $Y </b> WHERE t a $X",
-        XmasFault::TagDiffers(17),
-    ),
-    (
-        "CONSTRUCT <a> $Y </a> WHERE t a $X",
-        XmasFault::UnknownSource(28),
-    ),
+    ("CONSTRUCT <a> $X </b> WHERE s a..b $X", Unexpected(32)),
+    ("CONSTRUCT <a> $X </b> WHERE s a $", EndsEarly),
+    ("CONSTRUCT <a> $Y </b> WHERE t a $X", TagDiffers(17)),
+    ("CONSTRUCT <a> $Y </a> WHERE t a $X", UnknownSource(28)),
     (
         "CONSTRUCT <a> $X </a> WHERE s a $X AND s b $X AND t c $Y",
-        XmasFault::UnknownSource(50),
+        UnknownSource(50),
     ),
     (
         "CONSTRUCT <a> $X </a> WHERE t a $X AND s b $X",
-        XmasFault::UnknownSource(28),
+        UnknownSource(28),
     ),
     (
         "CONSTRUCT <a> $Y </a> WHERE s a $X AND s b $X",
-        XmasFault::BoundTwice(43),
+        BoundTwice(43),
     ),
     (
         "CONSTRUCT <a> $X </a> WHERE s a $X AND s b $X AND $X = $Z",
-        XmasFault::BoundTwice(43),
+        BoundTwice(43),
     ),
-    (
-        "CONSTRUCT <a> $Z </a> {$X} WHERE s a $X",
-        XmasFault::Unbound(14),
-    ),
+    ("CONSTRUCT <a> $Z </a> {$X} WHERE s a $X", Unbound(14)),
     (
         "CONSTRUCT <a> $X </a> {$X} WHERE s a $X ORDER BY $Z",
-        XmasFault::Unbound(49),
+        Unbound(49),
     ),
     (
         "CONSTRUCT <a> $X {$Y} </a> {$X} WHERE s a $X AND s b $Y",
-        XmasFault::OuterGroup(27),
+        OuterGroup(27),
     ),
     (
         "CONSTRUCT <a> $X $Y $X {$Y} </a> WHERE s a $X AND s b $Y",
-        XmasFault::Loose(20),
+        Loose(20),
     ),
     (
         "CONSTRUCT <a> $X {$Y} $X $Y </a> WHERE s a $X AND s b $Y",
-        XmasFault::Loose(14),
+        Loose(14),
     ),
 ];
 
@@ -170,7 +138,7 @@ fn the_earlier_cause_is_answered_wherever_it_stands(rt: HostRuntime) -> Result<(
     let catalog = catalog(alloc)?;
     check(&rt, alloc, &catalog, &REFUSED_TWICE)?;
     let read = read_rule(alloc, b"CONSTRUCT } \xff", &catalog);
-    assert!(rt; matches!(read, Err(XmasFault::NotUtf8(12))));
+    assert!(rt; matches!(read, Err(NotUtf8(12))));
     let text = repeated(
         alloc,
         "CONSTRUCT <a> $X </b> WHERE s a $X",
@@ -179,7 +147,7 @@ fn the_earlier_cause_is_answered_wherever_it_stands(rt: HostRuntime) -> Result<(
         "",
     )?;
     let fault = canonical(alloc, &catalog, text.as_str());
-    assert!(rt; matches!(fault, Err(XmasFault::TooLarge(Large::Conditions))));
+    assert!(rt; matches!(fault, Err(TooLarge(Large::Conditions))));
     Ok(())
 }
 
@@ -195,7 +163,7 @@ fn a_rule_has_60_variables_at_most(rt: HostRuntime) -> Result<(), Fail> {
     assert!(rt; canonical(alloc, &catalog, text.as_str()).is_ok());
     text.push_str(" AND $X = $Y")?;
     let fault = canonical(alloc, &catalog, text.as_str());
-    assert!(rt; matches!(fault, Err(XmasFault::TooLarge(Large::Variables))));
+    assert!(rt; matches!(fault, Err(TooLarge(Large::Variables))));
     Ok(())
 }
 
@@ -260,12 +228,12 @@ fn what_is_too_large_is_refused(rt: HostRuntime) -> Result<(), Fail> {
         assert!(rt; canonical(alloc, &catalog, text.as_str()).is_ok());
         let text = many(alloc, large, parts, more)?;
         let fault = canonical(alloc, &catalog, text.as_str());
-        assert!(rt; matches!(fault, Err(XmasFault::TooLarge(found)) if found == large));
+        assert!(rt; matches!(fault, Err(TooLarge(found)) if found == large));
     }
     let deep = repeated(alloc, "CONSTRUCT ", "<a> ", 21, "")?;
     let deep = repeated(alloc, deep.as_str(), "</a> ", 21, "WHERE s a $X")?;
     let fault = canonical(alloc, &catalog, deep.as_str());
-    assert!(rt; matches!(fault, Err(XmasFault::TooLarge(Large::Depth))));
+    assert!(rt; matches!(fault, Err(TooLarge(Large::Depth))));
     Ok(())
 }
 
