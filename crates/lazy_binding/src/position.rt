@@ -50,8 +50,8 @@ pub fn share(position: &Rc<Position>) -> Result<Rc<Position>, WalkFault>
 }
 
 /// The position of the input in a position; that of the left input of a join.
-pub fn inside(alloc: Global, at: &Rc<Position>) -> Result<Rc<Position>, WalkFault>
-    ensures ok { IfOk result (λ r. r.value ≡ below at.now.value) }
+pub fn inside(alloc: Global, at: &Position) -> Result<Rc<Position>, WalkFault>
+    ensures ok { IfOk result (λ r. r.value ≡ below at.now) }
     ensures err { IfErr result (λ e. e ≡ OutOfMemory) }
 {
     Ok(input_part(alloc, at)?)
@@ -73,22 +73,20 @@ fn part(here: &Position) -> Option<&Rc<Position>>
 }
 
 /// The same, where want of memory alone can stand in the way.
-pub(crate) fn input_part(alloc: Global, at: &Rc<Position>) -> Result<Rc<Position>, AllocError>
-    ensures { IfOk result (λ r. r.value ≡ below at.now.value) }
+pub(crate) fn input_part(alloc: Global, at: &Position) -> Result<Rc<Position>, AllocError>
+    ensures { IfOk result (λ r. r.value ≡ below at.now) }
 {
-    let here: &Position = at;
-    match part(here) {
+    match part(at) {
         Some(below) => below.clone(),
         None => Ok(Rc::new(alloc, Position::Start)?),
     }
 }
 
 /// How many keys were seen up to a position.
-pub fn seen_up_to(at: &Rc<Position>) -> usize
-    ensures { result ≡ count_of at.now.value }
+pub fn seen_up_to(at: &Position) -> usize
+    ensures { result ≡ count_of at.now }
 {
-    let here: &Position = at;
-    match here {
+    match at {
         Position::First(_, seen) => *seen,
         Position::Seen(_, seen) => *seen,
         _ => 0,

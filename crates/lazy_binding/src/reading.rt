@@ -14,18 +14,17 @@ ghost use Rattle.lazy_binding.specs.Parts.{operators, IsFixed};
 use crate::parts::{Growing, Walk};
 use crate::position::Position;
 use mix_tree::{Label, Operand, Test, TestOp, Var};
-use std::rc::Rc;
 use tree_buffer::{Spot, spots_are_one};
 
 impl Walk<'_> {
     /// The node of a variable in a position's binding: its source and its spot.
-    pub fn node_of(&self, at: &Rc<Position>, v: Var) -> (u32, Spot)
+    pub fn node_of(&self, at: &Position, v: Var) -> (u32, Spot)
         requires fixed { IsFixed self.now.fixed.now }
         requires op { self.now.op < length (operators self.now.fixed.now) }
-        requires cursor { (w : World) × IsOf w (operators self.now.fixed.now) self.now.op at.now.value }
-        requires row { IsTrue (has_row at.now.value) }
+        requires cursor { (w : World) × IsOf w (operators self.now.fixed.now) self.now.op at.now }
+        requires row { IsTrue (has_row at.now) }
         requires node { kinds (operators self.now.fixed.now) self.now.op v ≡ Some a_node }
-        ensures { InEachWorld self.now at.now.value (λ w row. Found w (operators self.now.fixed.now) self.now.op at.now.value v result.0 result.1) }
+        ensures { InEachWorld self.now at.now (λ w row. Found w (operators self.now.fixed.now) self.now.op at.now v result.0 result.1) }
     {
         match self.fixed.spot_of(self.op, at, v) {
             Some(found) => found,
@@ -34,27 +33,27 @@ impl Walk<'_> {
     }
 
     /// The label of a variable's node in a position's binding.
-    pub fn label_of<'a>(&self, growing: &'a Growing, at: &Rc<Position>, v: Var) -> &'a Label
+    pub fn label_of<'a>(&self, growing: &'a Growing, at: &Position, v: Var) -> &'a Label
         requires fixed { IsFixed self.now.fixed.now }
         requires op { self.now.op < length (operators self.now.fixed.now) }
-        requires cursor { HasStand growing.now self.now at.now.value }
-        requires row { IsTrue (has_row at.now.value) }
+        requires cursor { HasStand growing.now self.now at.now }
+        requires row { IsTrue (has_row at.now) }
         requires node { kinds (operators self.now.fixed.now) self.now.op v ≡ Some a_node }
-        ensures { Tells growing.now self.now at.now.value (λ w docs row. result.now ≡ label_at docs (row_node row v)) }
+        ensures { Tells growing.now self.now at.now (λ w docs row. result.now ≡ label_at docs (row_node row v)) }
     {
         let (source, spot) = self.node_of(at, v);
         growing.buffers[source as usize].label(&spot)
     }
 
     /// Whether the two variables of a comparison of nodes have the same node in a position's binding: the same spot of one source.
-    fn has_same_node(&self, at: &Rc<Position>, test: &Test) -> bool
+    fn has_same_node(&self, at: &Position, test: &Test) -> bool
         requires fixed { IsFixed self.now.fixed.now }
         requires op { self.now.op < length (operators self.now.fixed.now) }
-        requires cursor { (w : World) × IsOf w (operators self.now.fixed.now) self.now.op at.now.value }
-        requires row { IsTrue (has_row at.now.value) }
+        requires cursor { (w : World) × IsOf w (operators self.now.fixed.now) self.now.op at.now }
+        requires row { IsTrue (has_row at.now) }
         requires test { IsTest (kinds (operators self.now.fixed.now) self.now.op) test.now }
         requires nodes { compares_nodes test.now.op ≡ true }
-        ensures { InEachWorld self.now at.now.value (λ w row. result ≡ passes (docs_of w) test.now (row_node row)) }
+        ensures { InEachWorld self.now at.now (λ w row. result ≡ passes (docs_of w) test.now (row_node row)) }
     {
         let Operand::Var(right) = &test.right else {
             return false;
@@ -66,13 +65,13 @@ impl Walk<'_> {
     }
 
     /// Whether a comparison holds in a position's binding: of nodes by their spots, else of their labels.
-    pub fn passes(&self, growing: &Growing, at: &Rc<Position>, test: &Test) -> bool
+    pub fn passes(&self, growing: &Growing, at: &Position, test: &Test) -> bool
         requires fixed { IsFixed self.now.fixed.now }
         requires op { self.now.op < length (operators self.now.fixed.now) }
-        requires cursor { HasStand growing.now self.now at.now.value }
-        requires row { IsTrue (has_row at.now.value) }
+        requires cursor { HasStand growing.now self.now at.now }
+        requires row { IsTrue (has_row at.now) }
         requires test { IsTest (kinds (operators self.now.fixed.now) self.now.op) test.now }
-        ensures { Tells growing.now self.now at.now.value (λ w docs row. result ≡ passes docs test.now (row_node row)) }
+        ensures { Tells growing.now self.now at.now (λ w docs row. result ≡ passes docs test.now (row_node row)) }
     {
         match test.op {
             TestOp::Same => self.has_same_node(at, test),
@@ -87,13 +86,13 @@ impl Walk<'_> {
     }
 
     /// Whether all comparisons hold in a position's binding.
-    pub fn passes_each(&self, growing: &Growing, at: &Rc<Position>, tests: &[Test]) -> bool
+    pub fn passes_each(&self, growing: &Growing, at: &Position, tests: &[Test]) -> bool
         requires fixed { IsFixed self.now.fixed.now }
         requires op { self.now.op < length (operators self.now.fixed.now) }
-        requires cursor { HasStand growing.now self.now at.now.value }
-        requires row { IsTrue (has_row at.now.value) }
+        requires cursor { HasStand growing.now self.now at.now }
+        requires row { IsTrue (has_row at.now) }
         requires tests { AllByRecursion (IsTest (kinds (operators self.now.fixed.now) self.now.op)) tests.now }
-        ensures { Tells growing.now self.now at.now.value (λ w docs row. result ≡ passes_all docs tests.now row) }
+        ensures { Tells growing.now self.now at.now (λ w docs row. result ≡ passes_all docs tests.now row) }
     {
         for test in tests {
             if !self.passes(growing, at, test) {

@@ -16,7 +16,6 @@ use crate::position::Position;
 use lxp_core::WalkFault;
 use mix_tree::Key;
 use std::alloc::Global;
-use std::rc::Rc;
 
 impl Walk<'_> {
     /// What one key compares of a position's binding.
@@ -24,17 +23,17 @@ impl Walk<'_> {
         &self,
         alloc: Global,
         growing: &Growing,
-        at: &Rc<Position>,
+        at: &Position,
         key: Key,
     ) -> Result<KeyPart, WalkFault>
         requires fixed { IsFixed self.now.fixed.now }
         requires op { self.now.op < length (operators self.now.fixed.now) }
-        requires cursor { HasStand growing.now self.now at.now.value }
-        requires row { IsTrue (has_row at.now.value) }
+        requires cursor { HasStand growing.now self.now at.now }
+        requires row { IsTrue (has_row at.now) }
         requires key { IsNodeKey (kinds (operators self.now.fixed.now) self.now.op) key }
         ensures err { IfErr result (λ e. e ≡ OutOfMemory) }
-        ensures part { IfOk result (λ p. InEach growing.now self.now at.now.value (λ w. IsPart w p)) }
-        ensures value { IfOk result (λ p. Tells growing.now self.now at.now.value (λ w docs row. part_value w p ≡ key_value docs (row_node row) key)) }
+        ensures part { IfOk result (λ p. InEach growing.now self.now at.now (λ w. IsPart w p)) }
+        ensures value { IfOk result (λ p. Tells growing.now self.now at.now (λ w docs row. part_value w p ≡ key_value docs (row_node row) key)) }
     {
         match key {
             Key::Node(v) => {
@@ -53,17 +52,17 @@ impl Walk<'_> {
         &self,
         alloc: Global,
         growing: &Growing,
-        at: &Rc<Position>,
+        at: &Position,
         keys: &[Key],
     ) -> Result<KeyTuple, WalkFault>
         requires fixed { IsFixed self.now.fixed.now }
         requires op { self.now.op < length (operators self.now.fixed.now) }
-        requires cursor { HasStand growing.now self.now at.now.value }
-        requires row { IsTrue (has_row at.now.value) }
+        requires cursor { HasStand growing.now self.now at.now }
+        requires row { IsTrue (has_row at.now) }
         requires keys { AllByRecursion (IsNodeKey (kinds (operators self.now.fixed.now) self.now.op)) keys.now }
         ensures err { IfErr result (λ e. e ≡ OutOfMemory) }
-        ensures parts { IfOk result (λ key. InEach growing.now self.now at.now.value (λ w. AllByRecursion (IsPart w) key.items)) }
-        ensures value { let c = at.now.value in
+        ensures parts { IfOk result (λ key. InEach growing.now self.now at.now (λ w. AllByRecursion (IsPart w) key.items)) }
+        ensures value { let c = at.now in
             IfOk result (λ key. Tells growing.now self.now c (λ w docs row. map (part_value w) key.items ≡ key_values docs keys.now row)) }
     {
         let mut parts = KeyTuple::new(alloc);

@@ -16,15 +16,14 @@ impl Walk<'_> {
     pub fn under(
         &self,
         alloc: Global,
-        at: &Rc<Position>,
+        at: &Position,
         input: u32,
     ) -> Result<Rc<Position>, AllocError>
         requires op { self.now.op < length (operators self.now.fixed.now) }
-        ensures { IfOk result (λ d. d.value ≡ part_at (operators self.now.fixed.now) self.now.op at.now.value input) }
+        ensures { IfOk result (λ d. d.value ≡ part_at (operators self.now.fixed.now) self.now.op at.now input) }
     {
-        let here: &Position = at;
         match self.fixed.operator(self.op) {
-            Op::Join { left, .. } => match here {
+            Op::Join { left, .. } => match at {
                 Position::Pair(l, r, _) => { if *left == input { l.clone() } else { r.clone() } }
                 _ => input_part(alloc, at),
             },

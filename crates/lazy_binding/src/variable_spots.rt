@@ -8,49 +8,47 @@ use crate::position::Position;
 use crate::variables::names_var;
 use mix_tree::Var;
 use plan_core::Op;
-use std::rc::Rc;
 use tree_buffer::Spot;
 
 impl Fixed {
     /// The part of a position of an operator that stands at a variable's node. Nothing is copied on the way to it.
-    fn holder<'a>(&self, n: usize, at: &'a Rc<Position>, v: Var) -> Option<&'a Position>
+    fn holder<'a>(&self, n: usize, at: &'a Position, v: Var) -> Option<&'a Position>
         requires fixed { IsFixed self.now }
         requires op { n < length (operators self.now) }
-        ensures held { held_in result ≡ spot_in (operators self.now) n at.now.value v }
+        ensures held { held_in result ≡ spot_in (operators self.now) n at.now v }
         ensures some { IfSome result (λ p. is_some (held p.now) ≡ true) }
     {
-        let here: &Position = at;
         match self.operator(n) {
-            Op::Source { out, .. } => match here {
-                Position::Top(_, _) if *out == v => Some(here),
+            Op::Source { out, .. } => match at {
+                Position::Top(_, _) if *out == v => Some(at),
                 _ => None,
             },
-            Op::GetDescendants { input, out, .. } => match here {
-                Position::Found(_, _, Some(_)) if *out == v => Some(here),
+            Op::GetDescendants { input, out, .. } => match at {
+                Position::Found(_, _, Some(_)) if *out == v => Some(at),
                 Position::Found(below, _, _) => self.holder(*input as usize, below, v),
                 _ => None,
             },
             Op::Select { input, .. }
             | Op::Concatenate { input, .. }
-            | Op::CreateElement { input, .. } => match here {
+            | Op::CreateElement { input, .. } => match at {
                 Position::Pass(below) => self.holder(*input as usize, below, v),
                 _ => None,
             },
-            Op::Join { left, right, .. } => match here {
+            Op::Join { left, right, .. } => match at {
                 Position::Pair(l, r, _) => match self.holder(*left as usize, l, v) {
                     Some(part) => Some(part),
                     None => self.holder(*right as usize, r, v),
                 },
                 _ => None,
             },
-            Op::Project { input, keys } | Op::GroupBy { input, keys, .. } => match here {
+            Op::Project { input, keys } | Op::GroupBy { input, keys, .. } => match at {
                 Position::First(below, _) if names_var(keys, v) => {
                     self.holder(*input as usize, below, v)
                 }
                 _ => None,
             },
-            Op::OrderBy { input, .. } => match here {
-                Position::Sorted(list, at) => self.holder(*input as usize, list.get(*at)?, v),
+            Op::OrderBy { input, .. } => match at {
+                Position::Sorted(list, index) => self.holder(*input as usize, list.get(*index)?, v),
                 _ => None,
             },
             Op::TupleDestroy { .. } => None,
@@ -58,10 +56,10 @@ impl Fixed {
     }
 
     /// The spot of a variable in the binding of a position of an operator, with its source.
-    pub(crate) fn spot_of(&self, n: usize, at: &Rc<Position>, v: Var) -> Option<(u32, Spot)>
+    pub(crate) fn spot_of(&self, n: usize, at: &Position, v: Var) -> Option<(u32, Spot)>
         requires fixed { IsFixed self.now }
         requires op { n < length (operators self.now) }
-        ensures { result ≡ spot_in (operators self.now) n at.now.value v }
+        ensures { result ≡ spot_in (operators self.now) n at.now v }
     {
         match self.holder(n, at, v)? {
             Position::Top(source, spot) => Some((*source, *spot)),

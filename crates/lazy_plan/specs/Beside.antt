@@ -68,8 +68,8 @@ lets w ops l r tests x y = passes_all (docs_of w) tests (binding w ops l x ++ bi
 -- the event at a pair of a left position and the member at a place: a binding exactly where the comparisons hold
 abbrev pub IsMemberStep : World → List Operator → ℕ → ℕ → List Test → List Member → Position → ℕ → Step → Type 0
 IsMemberStep w ops l r tests ms x p Done = ⊥
-IsMemberStep w ops l r tests ms x p (At d) = IsPairAt ms x p d.value × (IsTrue (is_told w ops) → lets w ops l r tests x (passed ms (suc p)) ≡ true)
-IsMemberStep w ops l r tests ms x p (On d) = IsPairAt ms x p d.value × (IsTrue (is_told w ops) → lets w ops l r tests x (passed ms (suc p)) ≡ false)
+IsMemberStep w ops l r tests ms x p (At d) = IsPairAt ms x p d × (IsTrue (is_told w ops) → lets w ops l r tests x (passed ms (suc p)) ≡ true)
+IsMemberStep w ops l r tests ms x p (On d) = IsPairAt ms x p d × (IsTrue (is_told w ops) → lets w ops l r tests x (passed ms (suc p)) ≡ false)
 
 -- what a step from a position of the left side to the pair with the member at a place takes
 pub record CanPair (g : Growing) (k : Pairs) (x : Position) (p : ℕ) : Type 0 where

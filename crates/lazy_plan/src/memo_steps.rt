@@ -107,16 +107,15 @@ impl Pairs<'_> {
     /// The pair of a binding of the left side and the member at a place.
     fn pair_at(
         &self,
-        alloc: Global,
         growing: &Growing,
         l: &Rc<Position>,
         place: usize,
-    ) -> Result<Rc<Position>, WalkFault>
+    ) -> Result<Position, WalkFault>
         requires bench { (view : View) × IsBench (world_of view growing.now) (operators self.now.walk.fixed.now) }
         requires op { self.now.walk.op < length (operators self.now.walk.fixed.now) }
         requires place { place < length (memo_in growing.now self.now.walk.op).pairs }
         ensures err { IfErr result (λ e. e ≡ OutOfMemory) }
-        ensures pair { IfOk result (λ r. IsPairAt (memo_in growing.now self.now.walk.op).pairs l.now.value place r.value) }
+        ensures pair { IfOk result (λ r. IsPairAt (memo_in growing.now self.now.walk.op).pairs l.now.value place r) }
     {
         let memo = &growing.memos[self.walk.op];
         let there = place < memo.len();
@@ -125,16 +124,15 @@ impl Pairs<'_> {
             Some(member) => {
                 let l = share(l)?;
                 let r = share(member)?;
-                put(alloc, Position::Pair(l, r, place + 1))
+                Ok(Position::Pair(l, r, place + 1))
             }
-            None => put(alloc, Position::Start),
+            None => Ok(Position::Start),
         }
     }
 
     /// The event at the pair of a binding of the left side and the member at a place: a binding where all comparisons hold.
     pub(crate) fn at_member(
         &self,
-        alloc: Global,
         growing: &Growing,
         l: &Rc<Position>,
         place: usize,
@@ -143,7 +141,7 @@ impl Pairs<'_> {
         ensures err { IfErr result (λ e. e ≡ OutOfMemory) }
         ensures answer { PairSteps growing.now self.now l.now.value place result }
     {
-        let pair = self.pair_at(alloc, growing, l, place)?;
+        let pair = self.pair_at(growing, l, place)?;
         if self.walk.passes_each(growing, &pair, self.tests) {
             Ok(Step::At(pair))
         } else {
@@ -164,7 +162,6 @@ impl Pairs<'_> {
     /// The same where the member was looked up by its label: nothing is compared where that decides.
     pub(crate) fn at_found(
         &self,
-        alloc: Global,
         growing: &Growing,
         l: &Rc<Position>,
         place: usize,
@@ -177,10 +174,10 @@ impl Pairs<'_> {
         ensures answer { PairSteps growing.now self.now l.now.value place result }
     {
         if self.label_decides() {
-            let pair = self.pair_at(alloc, growing, l, place)?;
+            let pair = self.pair_at(growing, l, place)?;
             Ok(Step::At(pair))
         } else {
-            self.at_member(alloc, growing, l, place)
+            self.at_member(growing, l, place)
         }
     }
 

@@ -8,11 +8,10 @@ ghost use Rattle.lazy_plan.specs.Steps.{CanWalk, StepsOn};
 use crate::firsts::{KeyEvent, first_of_key};
 use crate::step::Step;
 use crate::steps::advance;
-use lazy_binding::{Growing, Position, Walk, inside, put, seen_up_to};
+use lazy_binding::{Growing, Position, Walk, inside, seen_up_to};
 use lxp_core::{Sources, WalkFault};
 use mix_tree::{Key, Test};
 use std::alloc::Global;
-use std::rc::Rc;
 use tree_buffer::spots_are_one;
 
 /// A select: its input, and the comparison that its bindings meet.
@@ -42,11 +41,11 @@ impl<'a> Filters<'a> {
         alloc: Global,
         growing: &mut Growing,
         s: &mut S,
-        at: &Rc<Position>,
+        at: &Position,
     ) -> Result<Step, WalkFault>
-        requires can { CanWalk (S.view s.old) growing.old self.now.walk at.now.value }
+        requires can { CanWalk (S.view s.old) growing.old self.now.walk at.now }
         requires is { shape_walked self.now.walk ≡ passes_on self.now.input (filters self.now.test.now) }
-        ensures { StepsOn S.view S.came_from self.now.walk at.now.value s.old growing.old s.new growing.new result }
+        ensures { StepsOn S.view S.came_from self.now.walk at.now s.old growing.old s.new growing.new result }
     {
         let input = Walk {
             fixed: self.walk.fixed,
@@ -57,7 +56,7 @@ impl<'a> Filters<'a> {
             None => Ok(Step::Done),
             Some(below) => {
                 let holds = input.passes(growing, &below, self.test);
-                let pass = put(alloc, Position::Pass(below))?;
+                let pass = Position::Pass(below);
                 if holds {
                     Ok(Step::At(pass))
                 } else {
@@ -93,11 +92,11 @@ impl<'a> Extends<'a> {
         alloc: Global,
         growing: &mut Growing,
         s: &mut S,
-        at: &Rc<Position>,
+        at: &Position,
     ) -> Result<Step, WalkFault>
-        requires can { CanWalk (S.view s.old) growing.old self.now.walk at.now.value }
+        requires can { CanWalk (S.view s.old) growing.old self.now.walk at.now }
         requires is { (out : ℕ) × (made : Made) × (shape_walked self.now.walk ≡ passes_on self.now.input (extends out made)) }
-        ensures { StepsOn S.view S.came_from self.now.walk at.now.value s.old growing.old s.new growing.new result }
+        ensures { StepsOn S.view S.came_from self.now.walk at.now s.old growing.old s.new growing.new result }
     {
         let input = Walk {
             fixed: self.walk.fixed,
@@ -106,10 +105,7 @@ impl<'a> Extends<'a> {
         let before = inside(alloc, at)?;
         match advance(alloc, input, growing, s, &before)? {
             None => Ok(Step::Done),
-            Some(below) => {
-                let pass = put(alloc, Position::Pass(below))?;
-                Ok(Step::At(pass))
-            }
+            Some(below) => Ok(Step::At(Position::Pass(below))),
         }
     }
 }
@@ -141,11 +137,11 @@ impl<'a> Firsts<'a> {
         alloc: Global,
         growing: &mut Growing,
         s: &mut S,
-        at: &Rc<Position>,
+        at: &Position,
     ) -> Result<Step, WalkFault>
-        requires can { CanWalk (S.view s.old) growing.old self.now.walk at.now.value }
+        requires can { CanWalk (S.view s.old) growing.old self.now.walk at.now }
         requires is { (group : Option (Piece × ℕ)) × (shape_walked self.now.walk ≡ passes_on self.now.input (first_by_keys self.now.keys.now group)) }
-        ensures { StepsOn S.view S.came_from self.now.walk at.now.value s.old growing.old s.new growing.new result }
+        ensures { StepsOn S.view S.came_from self.now.walk at.now s.old growing.old s.new growing.new result }
     {
         let input = Walk {
             fixed: self.walk.fixed,
@@ -158,13 +154,8 @@ impl<'a> Firsts<'a> {
             Some(below) => {
                 let key = input.key_of(alloc, growing, &below, self.keys)?;
                 spots_are_one();
-                first_of_key(
-                    alloc,
-                    &mut growing.seen,
-                    self.walk.op,
-                    KeyEvent { below, key },
-                    count,
-                )
+                let event = KeyEvent { below, key };
+                first_of_key(&mut growing.seen, self.walk.op, event, count)
             }
         }
     }

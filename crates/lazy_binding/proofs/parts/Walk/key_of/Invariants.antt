@@ -9,10 +9,10 @@ use Rattle.lazy_binding.specs.Parts.{operators, world_of}
 use Rattle.lazy_binding.proofs.parts.Walk.key_of.Given as goal
 
 abbrev pub invariant-loop-key : goal.invariant-loop-key
-invariant-loop-key l = ((view : View) → IsBench (world_of view l.growing) (operators l.self.fixed.now) → IsOf (world_of view l.growing) (operators l.self.fixed.now) l.self.op l.at.value
+invariant-loop-key l = ((view : View) → IsBench (world_of view l.growing) (operators l.self.fixed.now) → IsOf (world_of view l.growing) (operators l.self.fixed.now) l.self.op l.at
     → AllByRecursion (IsPart (world_of view l.growing)) l.parts.items)
-    × ((view : View) → IsBench (world_of view l.growing) (operators l.self.fixed.now) → IsOf (world_of view l.growing) (operators l.self.fixed.now) l.self.op l.at.value
+    × ((view : View) → IsBench (world_of view l.growing) (operators l.self.fixed.now) → IsOf (world_of view l.growing) (operators l.self.fixed.now) l.self.op l.at
     → IsTrue (is_told (world_of view l.growing) (operators l.self.fixed.now))
     → map (part_value (world_of view l.growing)) l.parts.items
-    ++ key_values (docs_of (world_of view l.growing)) (drop l.key-index l.keys) (binding (world_of view l.growing) (operators l.self.fixed.now) l.self.op l.at.value)
-    ≡ key_values (docs_of (world_of view l.growing)) l.fn.keys (binding (world_of view l.growing) (operators l.self.fixed.now) l.self.op l.at.value))
+    ++ key_values (docs_of (world_of view l.growing)) (drop l.key-index l.keys) (binding (world_of view l.growing) (operators l.self.fixed.now) l.self.op l.at)
+    ≡ key_values (docs_of (world_of view l.growing)) l.fn.keys (binding (world_of view l.growing) (operators l.self.fixed.now) l.self.op l.at))

@@ -19,4 +19,4 @@ returns-in-Node-clause-part c = λ view bench of. (c.node_of-source.ensures (wor
 pub returns-in-Node-clause-value : goal.returns-in-Node-clause-value
 returns-in-Node-clause-value c = λ view bench of told.
     ap by_node (sym (c.node_of-source.ensures (world_of view c.args.growing.now) of).node)
-    ∙ ap (key_value (docs_of (world_of view c.args.growing.now)) (row_node (binding (world_of view c.args.growing.now) (operators c.args.self.now.fixed.now) c.args.self.now.op c.args.at.now.value))) (sym c.in-Node.is)
+    ∙ ap (key_value (docs_of (world_of view c.args.growing.now)) (row_node (binding (world_of view c.args.growing.now) (operators c.args.self.now.fixed.now) c.args.self.now.op c.args.at.now))) (sym c.in-Node.is)

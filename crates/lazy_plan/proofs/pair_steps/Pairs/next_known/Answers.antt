@@ -23,7 +23,7 @@ returns-in-Some-clause-next c view bench of told =
     let docs = docs_of (world_of view c.args.growing.now) in
     let is : link_at ops k.walk.op ≡ Some c.in-Some.link = sym (link_read k.walk.fixed.now c.requires.fixed k.walk.op c.requires.op c.index.result.now c.index.ensures) ∙ c.in-Some.is in
     let key : c.label_of.result.now ≡ sought_label docs (link_at ops k.walk.op) row =
-    c.label_of.ensures view bench of told ∙ ap (λ (by : Option Link). sought_label docs by row) (sym is) in
+    (rw c.deref.ensures at c.label_of.ensures) view bench of told ∙ ap (λ (by : Option Link). sought_label docs by row) (sym is) in
     let memo : c.index-memo.result.now ≡ memo_in c.args.growing.now k.walk.op = memo_read view c.args.growing.now ops bench k.walk.op c.requires.op c.index-memo.result.now c.index-memo.ensures in
     next_place (memo_in c.args.growing.now k.walk.op).pairs (sought_label docs (link_at ops k.walk.op) row) c.args.from c.find.result
     (found_in c.index-memo.result.now (memo_in c.args.growing.now k.walk.op) c.label_of.result.now (sought_label docs (link_at ops k.walk.op) row) c.args.from c.find.result memo key c.find.ensures)
@@ -36,7 +36,7 @@ returns-in-Some-clause-label c view bench of told =
     let docs = docs_of (world_of view c.args.growing.now) in
     let is : link_at ops k.walk.op ≡ Some c.in-Some.link = sym (link_read k.walk.fixed.now c.requires.fixed k.walk.op c.requires.op c.index.result.now c.index.ensures) ∙ c.in-Some.is in
     let key : c.label_of.result.now ≡ sought_label docs (link_at ops k.walk.op) row =
-    c.label_of.ensures view bench of told ∙ ap (λ (by : Option Link). sought_label docs by row) (sym is) in
+    (rw c.deref.ensures at c.label_of.ensures) view bench of told ∙ ap (λ (by : Option Link). sought_label docs by row) (sym is) in
     let memo : c.index-memo.result.now ≡ memo_in c.args.growing.now k.walk.op = memo_read view c.args.growing.now ops bench k.walk.op c.requires.op c.index-memo.result.now c.index-memo.ensures in
     found_label (memo_in c.args.growing.now k.walk.op).pairs (sought_label docs (link_at ops k.walk.op) row) (link_at ops k.walk.op) c.args.from c.find.result
     (found_in c.index-memo.result.now (memo_in c.args.growing.now k.walk.op) c.label_of.result.now (sought_label docs (link_at ops k.walk.op) row) c.args.from c.find.result memo key c.find.ensures)

@@ -1,5 +1,4 @@
-use Rattle.std.proofs.Common.{◌<◌, ◌∙◌, ◌+◌, suc, length, sym, ap, subst, arith}
-use Rattle.std.proofs.lemmas.Result.{IfOk-weaker}
+use Rattle.std.proofs.Common.{◌<◌, ◌∙◌, ◌+◌, suc, length, refl, sym, ap, subst, arith}
 use Rattle.std.specs.declared.alloc.Global.{Global}
 use Rattle.std.specs.declared.rc.Rc.{Rc}
 use Rattle.join_memo.specs.Kept.{Kept}
@@ -16,9 +15,8 @@ returns-in_ok-r-in-Some-clause-pair c =
     let k = c.args.self.now in
     let memo = memo_read c.requires.bench.0 c.args.growing.now (operators k.walk.fixed.now) c.requires.bench.1 k.walk.op c.requires.op c.index-memo.result.now c.index-memo.ensures in
     let item = ap (λ (m : Kept (Rc Position Global)). passed m.pairs (suc c.args.place)) (sym memo) ∙ item_is c.index-memo.result.now.pairs c.args.place c.in-Some.member.now c.in-Some.ensures in
-    IfOk-weaker c.put.result _ _ (λ pair is.
-    pair_made (memo_in c.args.growing.now k.walk.op).pairs c.args.l.now.value c.in_ok-r-in-Some.r.value pair.value c.args.place (c.args.place + 1)
-    (rw c.in_ok-l-in-Some.ensures.ok at is) (c.in_ok-r-in-Some.ensures.ok ∙ sym item) (omega arith)) c.put.ensures.ok
+    rw c.in_ok-l-in-Some.ensures.ok (pair_made (memo_in c.args.growing.now k.walk.op).pairs c.args.l.now.value c.in_ok-r-in-Some.r.value _ c.args.place (c.args.place + 1)
+    refl (c.in_ok-r-in-Some.ensures.ok ∙ sym item) (omega arith))
 
 pub returns-in-None-clause-pair : goal.returns-in-None-clause-pair
 returns-in-None-clause-pair c =

@@ -1,4 +1,4 @@
-use Rattle.std.proofs.Common.{rules, ◌∙◌, sym}
+use Rattle.std.proofs.Common.{rules}
 use Rattle.plan_core.specs.Shapes.{one_source}
 use Rattle.lazy_binding.specs.Parts.{operators, world_of}
 use Rattle.lazy_plan.proofs.Goes.{ran_nothing, shaped, in_shape, placed}
@@ -10,23 +10,20 @@ index-requires g c =
     let h = source_within (operators c.args.self.now.walk.fixed.now) c.requires.can.fixed.typed c.args.self.now.walk.op c.requires.can.op c.args.self.now.source c.requires.is.0 c.requires.is.1 (world_of (g.S.Sources.view c.args.s.now) c.args.growing.now) c.requires.can.bench in
     search rules
 
-pub returns-in_err-position-in-Start : goal.returns-in_err-position-in-Start
-returns-in_err-position-in-Start g c = record { ran = ran_nothing g.met.S.Sources.same c.args.self.now.walk.op _ c.args.s.now c.args.growing.now c.requires.can.bench; cause = search rules; answer = search rules }
-
-pub returns-in_ok-position-in-Start : goal.returns-in_ok-position-in-Start
-returns-in_ok-position-in-Start g c =
+pub returns-in-Start : goal.returns-in-Start
+returns-in-Start g c =
     let h = source_within (operators c.args.self.now.walk.fixed.now) c.requires.can.fixed.typed c.args.self.now.walk.op c.requires.can.op c.args.self.now.source c.requires.is.0 c.requires.is.1 (world_of (g.S.Sources.view c.args.s.now) c.args.growing.now) c.requires.can.bench in
     let known = top_known (world_of (g.S.Sources.view c.args.s.now) c.args.growing.now) c.args.self.now.source c.index.result.now c.top-top.result h c.index.ensures c.top-top.ensures.spot in
     let place = top_place (world_of (g.S.Sources.view c.args.s.now) c.args.growing.now) c.args.self.now.source c.index.result.now c.top-top.result h c.index.ensures c.top-top.ensures.place in
-    placed c.args.at.now.value _ (sym c.deref-here.ensures ∙ c.in-Start.is) (one_source c.args.self.now.source c.requires.is.0) c.requires.is.1 (record {
+    placed c.args.at.now _ c.in-Start.is (one_source c.args.self.now.source c.requires.is.0) c.requires.is.1 (record {
       ran = ran_nothing g.met.S.Sources.same c.args.self.now.walk.op _ c.args.s.now c.args.growing.now c.requires.can.bench;
       cause = tt;
-      answer = rw c.in_ok-position-in-Start.ensures.ok (top_at (operators c.args.self.now.walk.fixed.now) c.requires.can.fixed.typed c.args.self.now.walk.op c.requires.can.op c.args.self.now.source c.requires.is.0 c.requires.is.1 (world_of (g.S.Sources.view c.args.s.now) c.args.growing.now) c.top-top.result known place);
+      answer = (top_at (operators c.args.self.now.walk.fixed.now) c.requires.can.fixed.typed c.args.self.now.walk.op c.requires.can.op c.args.self.now.source c.requires.is.0 c.requires.is.1 (world_of (g.S.Sources.view c.args.s.now) c.args.growing.now) c.top-top.result known place);
     })
 
 pub returns-in_default : goal.returns-in_default
-returns-in_default g c = shaped c.args.at.now.value (one_source c.args.self.now.source c.requires.is.0) c.requires.is.1 (record {
+returns-in_default g c = shaped c.args.at.now (one_source c.args.self.now.source c.requires.is.0) c.requires.is.1 (record {
   ran = ran_nothing g.met.S.Sources.same c.args.self.now.walk.op _ c.args.s.now c.args.growing.now c.requires.can.bench;
   cause = tt;
-  answer = λ u. top_over (operators c.args.self.now.walk.fixed.now) c.requires.can.fixed.typed c.args.self.now.walk.op c.requires.can.op c.args.self.now.source c.requires.is.0 c.requires.is.1 (world_of (g.S.Sources.view c.args.s.now) c.args.growing.now) c.args.at.now.value (in_shape c.requires.can (one_source c.args.self.now.source c.requires.is.0) c.requires.is.1) (λ e. c.in_default.not-Start (c.deref-here.ensures ∙ e));
+  answer = λ u. top_over (operators c.args.self.now.walk.fixed.now) c.requires.can.fixed.typed c.args.self.now.walk.op c.requires.can.op c.args.self.now.source c.requires.is.0 c.requires.is.1 (world_of (g.S.Sources.view c.args.s.now) c.args.growing.now) c.args.at.now (in_shape c.requires.can (one_source c.args.self.now.source c.requires.is.0) c.requires.is.1) (λ e. c.in_default.not-Start e);
 })

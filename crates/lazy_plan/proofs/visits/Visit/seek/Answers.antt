@@ -11,13 +11,13 @@ use Rattle.lazy_plan.proofs.visits.Visit.seek.Goals as goal
 
 pub first-requires-clause-start : goal.first-requires-clause-start
 first-requires-clause-start g c =
-    let found = c.node_of.ensures (world_of (g.S.Sources.view c.args.s.now) c.args.growing.now) c.requires.can.cursor in
+    let found = (rw c.deref.ensures at c.node_of.ensures) (world_of (g.S.Sources.view c.args.s.now) c.args.growing.now) c.requires.can.cursor in
     let source = sym (ap (λ (n : Node). n.source) found.node) ∙ c.requires.source in
     subst (λ (s : ℕ). IsSpotIn (world_of (g.S.Sources.view c.args.s.now) c.args.growing.now) s c.node_of.result.1) source found.known
 
 pub returns-in-None : goal.returns-in-None
 returns-in-None g c =
-    let found = c.node_of.ensures (world_of (g.S.Sources.view c.args.s.now) c.args.growing.now) c.requires.can.cursor in
+    let found = (rw c.deref.ensures at c.node_of.ensures) (world_of (g.S.Sources.view c.args.s.now) c.args.growing.now) c.requires.can.cursor in
     let source = sym (ap (λ (n : Node). n.source) found.node) ∙ c.requires.source in
     let here = found.node ∙ ap (λ (z : ℕ). spot_node (world_of (g.S.Sources.view c.args.s.now) c.args.growing.now) z c.node_of.result.1) source in
     rw c.in-None.is record {
