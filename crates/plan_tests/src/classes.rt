@@ -1,5 +1,5 @@
 // The classes of views over sources of given shapes, worked out by hand.
-use crate::open::{HOMES, MED_HOMES, PEOPLE, read};
+use bench_tests::{HOMES, MED_HOMES, PEOPLE, read};
 use browse_class::Class;
 use browse_visit::{Shape, TableColumn};
 use mix_tree::Label;

@@ -1,5 +1,5 @@
 // What rules mean over small documents, by the plain program. Files of records and tables stand here as the trees that they are.
-use crate::open::{HOMES, MED_HOMES, ONE, PEOPLE, read, trees};
+use bench_tests::{HOMES, MED_HOMES, ONE, PEOPLE, read, trees};
 use bracket_text::write_tree;
 use plain_rule::finished_document;
 use std::alloc::Global;

@@ -5,7 +5,7 @@ ghost use Rattle.xmas_rule.specs.RuleMade.{rule_of};
 ghost use Rattle.xmas_rule.specs.Rules.{IsAccepted};
 ghost use Rattle.lazy_value.specs.Mediators.{IsMediatorOf};
 
-use crate::open::{Cutting, RuleRead, read, sources, trees};
+use bench_tests::{Cutting, RuleRead, read, sources, trees};
 use lazy_value::Mediator;
 use lxp_core::Sources;
 use lxp_memory::MemSources;

@@ -1,6 +1,6 @@
 // What runs over views write, with lines worked out by hand.
-use crate::open::{Cutting, EACH_CHILD, HOMES, MED_HOMES, ONE, PEOPLE, trees};
 use crate::run::{Setting, run, run_on};
+use bench_tests::{Cutting, EACH_CHILD, HOMES, MED_HOMES, ONE, PEOPLE, trees};
 use mix_script::{Step, read_script};
 use mix_tree::Label;
 use std::alloc::{AllocError, Global};

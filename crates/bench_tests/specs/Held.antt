@@ -1,8 +1,8 @@
 -- What a variable holds.
 use Rattle.std.specs.Prelude.{Option, Some, None}
 use Rattle.plan_core.specs.Valid.{Kind, a_node, an_element, a_list}
-use Rattle.plan_tests.specs.declared.kind.Held.{Held}
-use Rattle.plan_tests.specs.declared.kind.Held.TheVariants.{Nothing, Node, Other}
+use Rattle.bench_tests.specs.declared.kind.Held.{Held}
+use Rattle.bench_tests.specs.declared.kind.Held.TheVariants.{Nothing, Node, Other}
 
 -- what a variable of a kind holds
 abbrev pub held : Option Kind → Held

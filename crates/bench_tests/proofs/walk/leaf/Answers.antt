@@ -1,6 +1,6 @@
 use Rattle.lxp_memory.specs.Memory.{memory_view}
-use Rattle.plan_tests.proofs.Runs.{ran_twice}
-use Rattle.plan_tests.proofs.walk.leaf.Goals as goal
+use Rattle.bench_tests.proofs.Runs.{ran_twice}
+use Rattle.bench_tests.proofs.walk.leaf.Goals as goal
 
 pub label-requires : goal.label-requires
 label-requires c = record { spot = (memory_view c.down.new.s, c.down.ensures.ran.bench, (c.down.ensures.ran.kept.spots c.args.source c.levels.at c.levels.invariant.spot).spot) }

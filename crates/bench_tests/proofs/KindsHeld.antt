@@ -5,8 +5,8 @@ use Rattle.plan_core.specs.ByNumber.{op_at}
 use Rattle.plan_core.specs.Shapes.{shape_at}
 use Rattle.plan_core.specs.Typed.{IsTyped}
 use Rattle.plan_core.specs.Valid.{Kind, a_node, an_element, a_list, kinds, Kinds, op_kinds, either_kind}
-use Rattle.plan_tests.specs.declared.kind.Held.TheVariants.{Nothing}
-use Rattle.plan_tests.specs.Held.{held}
+use Rattle.bench_tests.specs.declared.kind.Held.TheVariants.{Nothing}
+use Rattle.bench_tests.specs.Held.{held}
 use Rattle.lazy_binding.proofs.Bound.{kinds_at}
 
 -- the kind of a variable, from those of the inputs

@@ -5,7 +5,7 @@ ghost use Rattle.plan_core.specs.PlanMade.{plan_value, op_of};
 ghost use Rattle.plan_core.specs.ByNumber.{op_at};
 ghost use Rattle.plan_core.specs.Typed.{IsTyped};
 ghost use Rattle.plan_core.specs.Valid.{kinds};
-ghost use Rattle.plan_tests.specs.Held.{held};
+ghost use Rattle.bench_tests.specs.Held.{held};
 
 use mix_tree::{Key, Var};
 use plan_core::{Op, Plan};

@@ -1,6 +1,6 @@
-use Rattle.plan_tests.specs.Runs.{Ran}
-use Rattle.plan_tests.proofs.Runs.{ran_twice}
-use Rattle.plan_tests.proofs.walk.down.Goals as goal
+use Rattle.bench_tests.specs.Runs.{Ran}
+use Rattle.bench_tests.proofs.Runs.{ran_twice}
+use Rattle.bench_tests.proofs.walk.down.Goals as goal
 
 pub spot_down-requires-in-Err-Failed-clause-spot : goal.spot_down-requires-in-Err-Failed-clause-spot
 spot_down-requires-in-Err-Failed-clause-spot c = (c.spot_down.ensures.ran.kept.spots c.args.source c.args.p.now c.requires.spot).spot

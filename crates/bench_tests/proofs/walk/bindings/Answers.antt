@@ -1,8 +1,8 @@
 use Rattle.std.proofs.Common.{sym, subst}
 use Rattle.lazy_plan.specs.Bench.{IsCursor}
-use Rattle.plan_tests.specs.Runs.{state, AreCursors}
-use Rattle.plan_tests.proofs.Runs.{all_push, cursors_stay, ran_twice}
-use Rattle.plan_tests.proofs.walk.bindings.Goals as goal
+use Rattle.bench_tests.specs.Runs.{state, AreCursors}
+use Rattle.bench_tests.proofs.Runs.{all_push, cursors_stay, ran_twice}
+use Rattle.bench_tests.proofs.walk.bindings.Goals as goal
 
 pub events-preserved : goal.events-preserved
 events-preserved c =

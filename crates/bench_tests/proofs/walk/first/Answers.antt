@@ -1,6 +1,6 @@
-use Rattle.plan_tests.specs.Runs.{Ran}
-use Rattle.plan_tests.proofs.Runs.{ran_twice}
-use Rattle.plan_tests.proofs.walk.first.Goals as goal
+use Rattle.bench_tests.specs.Runs.{Ran}
+use Rattle.bench_tests.proofs.Runs.{ran_twice}
+use Rattle.bench_tests.proofs.walk.first.Goals as goal
 
 pub returns-in-Err-Failed-clause-ran : goal.returns-in-Err-Failed-clause-ran
 returns-in-Err-Failed-clause-ran c =

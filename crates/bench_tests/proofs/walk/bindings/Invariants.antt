@@ -1,7 +1,7 @@
 use Rattle.std.specs.Prelude.{IfSome}
 use Rattle.lazy_plan.specs.Bench.{IsCursor}
-use Rattle.plan_tests.specs.Runs.{state, Ran, AreCursors}
-use Rattle.plan_tests.proofs.walk.bindings.Given as goal
+use Rattle.bench_tests.specs.Runs.{state, Ran, AreCursors}
+use Rattle.bench_tests.proofs.walk.bindings.Given as goal
 
 abbrev pub invariant-events : goal.invariant-events
 invariant-events l = record {

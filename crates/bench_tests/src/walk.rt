@@ -4,7 +4,7 @@ ghost use Rattle.lxp_memory.specs.Memory.{memory_view};
 ghost use Rattle.plan_core.specs.PlanMade.{plan_value};
 ghost use Rattle.plan_core.specs.Valid.{kinds, a_node};
 ghost use Rattle.lazy_plan.specs.Bench.{plan_of, IsBenchOf, IsCursor, IsSpotAt};
-ghost use Rattle.plan_tests.specs.Runs.{state, Ran, AreCursors};
+ghost use Rattle.bench_tests.specs.Runs.{state, Ran, AreCursors};
 
 use crate::kind::{Held, held_by};
 use lazy_plan::{Bench, Cursor, WalkFault, benches_keep_on};

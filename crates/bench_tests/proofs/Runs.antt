@@ -7,7 +7,7 @@ use Rattle.plan_core.specs.declared.plan.Plan.{Plan}
 use Rattle.lazy_plan.specs.declared.bench.Bench.{Bench}
 use Rattle.lazy_binding.specs.declared.position.Position.{Position}
 use Rattle.lazy_plan.specs.Bench.{BenchState, KeepsBench, KeepsOn, ops_of}
-use Rattle.plan_tests.specs.Runs.{state, Ran, AreCursors}
+use Rattle.bench_tests.specs.Runs.{state, Ran, AreCursors}
 
 -- what holds of all elements holds of each
 pub each_at : {X : Type 0} (P : X → Type 0) (xs : List X) → AllByRecursion P xs → (i : ℕ) (x : X) → i < length xs → x ≡ get_or xs i x → P x

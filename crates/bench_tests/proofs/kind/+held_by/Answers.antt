@@ -5,9 +5,9 @@ use Rattle.mix_tree.specs.Keys.{has_var}
 use Rattle.plan_core.specs.PlanMade.{plan_value, op_of}
 use Rattle.plan_core.specs.Valid.{Kinds, a_node, an_element, a_list, kinds}
 use Rattle.plan_core.proofs.Groups.{group_kinds}
-use Rattle.plan_tests.specs.Held.{held}
-use Rattle.plan_tests.proofs.KindsHeld.{kind_of, either_nothing, either_bound}
-use Rattle.plan_tests.proofs.kind.+held_by.Goals as goal
+use Rattle.bench_tests.specs.Held.{held}
+use Rattle.bench_tests.proofs.KindsHeld.{kind_of, either_nothing, either_bound}
+use Rattle.bench_tests.proofs.kind.+held_by.Goals as goal
 
 pub returns-in-Select : goal.returns-in-Select
 returns-in-Select t c = c.held_by-in-Select.ensures ∙ sym (ap held (kind_of (plan_value c.args.plan.now).ops c.requires.typed c.args.n c.requires.op _ c.args.v (ap op_of (sym c.in-Select.is) ∙ c.operator.ensures)))

@@ -1,9 +1,9 @@
 use Rattle.std.proofs.Common.{ℕ, sym, subst}
 use Rattle.lxp_memory.specs.Memory.{memory_view}
 use Rattle.lazy_plan.specs.Bench.{IsCursor, IsSpotAt}
-use Rattle.plan_tests.specs.Runs.{state, AreCursors}
-use Rattle.plan_tests.proofs.Runs.{each_at, ran_twice}
-use Rattle.plan_tests.proofs.walk.leaves.Goals as goal
+use Rattle.bench_tests.specs.Runs.{state, AreCursors}
+use Rattle.bench_tests.proofs.Runs.{each_at, ran_twice}
+use Rattle.bench_tests.proofs.walk.leaves.Goals as goal
 
 pub leaf-requires-clause-spot : goal.leaf-requires-clause-spot
 leaf-requires-clause-spot c =
