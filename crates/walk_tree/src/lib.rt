@@ -1,7 +1,7 @@
 //! An example of a buffer's use: the labels of a whole subtree, and of two documents in turn, by the buffer's public contract alone.
 #![tactic(auto)]
 
-ghost use Rattle.std.specs.Prelude.{◌≡◌, ◌+◌, ◌*◌, ◌<◌, ◌≤◌, ◌++◌, ◌∷◌, [], true, OnOk, IfOk, IfSome, length};
+ghost use Rattle.std.specs.Prelude.{◌≡◌, ◌⊎◌, ◌+◌, ◌*◌, ◌<◌, ◌≤◌, ◌++◌, ◌∷◌, [], true, OnOk, IfOk, IfSome, length};
 ghost use Rattle.mix_tree.specs.Forest.{labels_of};
 ghost use Rattle.lxp_core.specs.Causes.{HasCause};
 ghost use Rattle.lxp_core.specs.View.{document};
@@ -89,7 +89,7 @@ pub fn walk_all<S: Sources>(alloc: Global, s: &mut S, number: u32) -> Result<Vec
 }
 
 /// The labels of two documents, each walked by a buffer of its own over the same sources: what a walk of the one asks
-/// leaves the other's buffer as it was.
+/// leaves the other's buffer as it was. `Failed`: that of the two failed.
 pub fn walk_two<S: Sources>(
     alloc: Global,
     s: &mut S,
@@ -103,6 +103,7 @@ pub fn walk_two<S: Sources>(
         → both.0.items ≡ [] ∷ labels_of (document (S.view s.old) first)) }
     ensures second { IfOk result (λ both. (S.view s.old).told second ≡ true
         → both.1.items ≡ [] ∷ labels_of (document (S.view s.old) second)) }
+    ensures cause { HasCause (λ n. (n ≡ first) ⊎ (n ≡ second)) (S.view s.old) (S.view s.new) result }
 {
     let mut left = Buffer::open(alloc, s, first)?;
     let mut right = Buffer::open(alloc, s, second)?;
