@@ -1,9 +1,9 @@
 -- An earlier cursor stands for the same after every call.
 use Rattle.std.proofs.Common.{◌≡◌, ◌≤◌, ◌+◌, ◌-◌, ◌*◌, ℕ, zero, suc, List, [], ◌∷◌, ◌++◌, Option, Some, None, length, take, drop, map, get_or, refl, ◌∙◌, sym, ap, subst, arith}
 use Rattle.std.specs.Prelude.{IsTrue, MatchOption}
-use Rattle.std.specs.List.{AllByRecursion}
+use Rattle.std.specs.List.{AllByRecursion, last_or}
 use Rattle.std.proofs.lemmas.Nat.{mul-le}
-use Rattle.mix_base.specs.Events.{Event, bind}
+use Rattle.mix_base.specs.Events.{Event, bind, found, cost}
 use Rattle.mix_tree.specs.Nodes.{Documents, Node}
 use Rattle.path_auto.specs.Automaton.{Machine, machine_of, table_of}
 use Rattle.tree_buffer.specs.declared.buffer.Buffer.{Buffer}
@@ -17,17 +17,21 @@ use Rattle.plan_core.specs.Plans.{Operator}
 use Rattle.plan_core.specs.Shapes.{Shape, one_source, visits_below, pairs_up, filters, extends, first_by_keys, one_group, in_order, shape_at, passes_on}
 use Rattle.plan_core.specs.Fronts.{stops_over}
 use Rattle.plan_core.specs.Events.{extended, kept_row, whole_row}
-use Rattle.plan_core.specs.TolledRows.{of_source, TolledRow, row_node, KeyValue, by_node}
+use Rattle.plan_core.specs.TolledRows.{of_source, TolledRow, row_node, KeyValue, by_node, key_values}
 use Rattle.plan_core.specs.Events.{RowEvents, events, expand, each_row, only, descendants, pairs, keys_seen, nodes_found, distinct, with_node}
 use Rattle.lazy_binding.specs.declared.key.KeyPart.{KeyPart}
 use Rattle.lazy_binding.specs.declared.key.KeyPart.TheVariants.{Node as node_part, Label as label_part, Free as free_part}
 use Rattle.lazy_binding.specs.declared.position.Position.{Position, Start, Top, Whole, Found', Pass', First', Seen', Pair', Sorted', Row_of-Position-Sorted-0-1 as Row, end_of-Position-Sorted-0-1 as no_more, more_of-Position-Sorted-0-1 as one_more}
 use Rattle.lazy_binding.specs.Bench.{IsBench}
 use Rattle.lazy_binding.specs.World.{World, docs_of, of_buffer, buffer_at, IsMatchIn, match_place, match_ahead, match_number, bound_of, seen_at, part_value, seen_values, last_of, IsPart}
-use Rattle.lazy_binding.specs.Cursors.{Standing, standing, stands, binding, ahead, size, number, weighs, IsIn, AreIn, rows_in, found_row, visit_ahead, left_ahead, up_to, found_number}
+use Rattle.lazy_binding.specs.Cursors.{Standing, standing, stands, binding, ahead, size, number, weighs, IsIn, AreIn, rows_in, found_row, visit_ahead, left_ahead, up_to, found_number, behind_first, IsPast}
 use Rattle.lazy_binding.specs.Keeping.{Keeps, StaysIn, KeepsCursors}
 use Rattle.lazy_binding.proofs.Keep.{told-kept, docs_kept, bound_kept, spot_kept, place_kept, node_kept}
 use Rattle.lazy_binding.proofs.FirstMembers.{none_before_kept, first_by_kept}
+
+-- what is past stays so
+past_kept : {es fs later left : RowEvents} → fs ≡ es → left ≡ later → IsPast es later → IsPast fs left
+past_kept e f h = record { found = ap found e ∙ h.found ∙ ap found (sym f); costs = (let x = ap cost e in let y = ap cost f in omega (arith, x, y, h.costs)) }
 
 module _ (a b : World) (k : Keeps a b) (ops : List Operator) (bench : IsBench a ops) where
   -- a cursor of a visit stays
@@ -183,8 +187,11 @@ module _ (a b : World) (k : Keeps a b) (ops : List Operator) (bench : IsBench a 
       subst (λ (z : ℕ). number b ops i c * suc (suc z) + found_number b s d ≤ number a ops i c * suc (suc (bound_of a)) + found_number a s d) (sym e) (omega (arith, l, f))
   number_kept n (passes_on i (filters test)) (Pass' q c) h = number_kept i (shape_at ops i) c h.0
   number_kept n (passes_on i (extends out made)) (Pass' q c) h = number_kept i (shape_at ops i) c h.0
-  number_kept n (passes_on i (first_by_keys keys group)) (First' q c m) h = number_kept i (shape_at ops i) c h.0
-  number_kept n (passes_on i (first_by_keys keys group)) (Seen' q c m) h = number_kept i (shape_at ops i) c h.0
+  number_kept n (passes_on i (first_by_keys keys group)) (First' q c m) h = (let e = ap (λ (z : ℕ). (z - m) * suc z + z) (size_kept i) in omega (arith, e))
+  number_kept n (passes_on i (first_by_keys keys group)) (Seen' q c m) h =
+      let e = ap (λ (z : ℕ). (z - m) * suc z) (size_kept i) in
+      let l = number_kept i (shape_at ops i) c h.0 in
+      omega (arith, e, l)
   number_kept n (pairs_up l r tests) (Pair' q x q' y m) h =
       let e = size_kept r in
       let i = mul-le (number b ops l x) (suc (size a ops r)) (number a ops l x) (suc (size a ops r)) (number_kept l (shape_at ops l) x h.0) (omega arith) in
@@ -220,6 +227,17 @@ module _ (a b : World) (k : Keeps a b) (ops : List Operator) (bench : IsBench a 
       λ t. none_before_kept ops i keys (docs_kept k ops bench) (seen_kept n m h.2) (ap (λ (z : Standing). z.ahead) (standing_kept i (shape_at ops i) c h.0)) (h.4 (subst IsTrue (told-kept k ops) t)),
       λ t. first_by_kept ops i keys (docs_kept k ops bench) (ap (λ (z : Standing). z.row) (standing_kept i (shape_at ops i) c h.0)) (ap (λ (z : Standing). z.ahead) (standing_kept i (shape_at ops i) c h.0))
           (h.5 (subst IsTrue (told-kept k ops) t)),
+      h.6,
+      (let e = size_kept i in let l = number_kept i (shape_at ops i) c h.0 in omega (arith, e, l, h.7)),
+      λ t.
+          ap (last_or None) (seen_kept n m h.2)
+          ∙ h.8 (subst IsTrue (told-kept k ops) t)
+          ∙ ap (λ (z : Documents). Some (key_values z keys (binding a ops i c))) (sym (docs_kept k ops bench))
+          ∙ ap (λ (z : Standing). Some (key_values (docs_of b) keys z.row)) (sym (standing_kept i (shape_at ops i) c h.0)),
+      λ t.
+          ap (λ (z : Standing). z.ahead) (standing_kept n (passes_on i (first_by_keys keys group)) (First' q c m) h)
+          ∙ h.9 (subst IsTrue (told-kept k ops) t)
+          ∙ ap (λ (z : Documents). behind_first m (events z ops n)) (sym (docs_kept k ops bench)),
     )
     cursor_kept n (passes_on i (first_by_keys keys group)) (Seen' q c m) h = (
       cursor_kept i (shape_at ops i) c h.0,
@@ -232,6 +250,9 @@ module _ (a b : World) (k : Keeps a b) (ops : List Operator) (bench : IsBench a 
           ∙ h.3 (subst IsTrue (told-kept k ops) t)
           ∙ ap (λ (z : Documents). drop m (keys_seen z keys [] (events z ops i))) (sym (docs_kept k ops bench)),
       λ t. none_before_kept ops i keys (docs_kept k ops bench) (seen_kept n m h.2) (ap (λ (z : Standing). z.ahead) (standing_kept i (shape_at ops i) c h.0)) (h.4 (subst IsTrue (told-kept k ops) t)),
+      (let e = size_kept i in let l = number_kept i (shape_at ops i) c h.0 in omega (arith, e, l, h.5)),
+      λ t. past_kept (ap (λ (z : Documents). behind_first m (events z ops n)) (docs_kept k ops bench))
+          (ap (λ (z : Standing). z.ahead) (standing_kept n (passes_on i (first_by_keys keys group)) (Seen' q c m) h)) (h.6 (subst IsTrue (told-kept k ops) t)),
     )
     cursor_kept n (pairs_up l r tests) (Pair' q x q' y m) h =
         (cursor_kept l (shape_at ops l) x h.0, h.1, cursor_kept r (shape_at ops r) y h.2, omega (arith, h.3, k.more n), ap (last_of Start) (k.members n m h.3) ∙ h.4)

@@ -11,7 +11,9 @@ use Rattle.plan_core.specs.Events.{events, keys_seen}
 use Rattle.plan_core.specs.Valid.{HasSource}
 use Rattle.lazy_binding.specs.Links.{link_at}
 use Rattle.lazy_binding.specs.Members.{AreMembers}
-use Rattle.lazy_binding.specs.World.{World, docs_of, is_told, buffer_at, seen_at, seen_values, memo_at, IsPart}
+use Rattle.lazy_binding.specs.declared.position.Reached.{Reached}
+use Rattle.lazy_binding.specs.Cursors.{HasSeen}
+use Rattle.lazy_binding.specs.World.{World, docs_of, is_told, buffer_at, seen_at, seen_values, memo_at, reached_at, IsPart}
 
 -- the input of a shape that drops bindings whose keys were seen, and these keys
 abbrev pub drops_by : Shape → Option (ℕ × List Key)
@@ -22,8 +24,12 @@ drops_by f = None
 abbrev pub HasMembers : World → List Operator → Type 0
 HasMembers w ops = (n l r : ℕ) (tests : List Test) → shape_at ops n ≡ pairs_up l r tests → AreMembers w ops r (link_at ops n) (memo_at w n)
 
+-- where the group at hand of an operator was walked to a binding of its input, that is one whose keys are among those that the group was found with
+abbrev pub HasReached : World → List Operator → Type 0
+HasReached w ops = (n : ℕ) (r : Reached) → reached_at w n ≡ Some r → HasSeen w ops n r.below.value r.seen
+
 -- the root hole of each source is known, the buffers are those of the sources of these operators, where the sources are told, the keys that an operator has seen are the first
--- ones of those that its input has, and the members of a join's memo are the first bindings of its right side
+-- ones of those that its input has, the members of a join's memo are the first bindings of its right side, and groups were walked to bindings of theirs
 pub record IsBench (w : World) (ops : List Operator) : Type 0 where
   pub roots : (s : ℕ) → s < w.view.count → w.view.knows s (w.view.root s) ≡ true
   pub few : length w.buffers ≤ w.view.count
@@ -35,3 +41,5 @@ pub record IsBench (w : World) (ops : List Operator) : Type 0 where
   pub seen : (n i : ℕ) (keys : List Key) → drops_by (shape_at ops n) ≡ Some (i, keys) → IsTrue (is_told w ops)
       → seen_values w (seen_at w n) ≡ take (length (seen_at w n)) (keys_seen (docs_of w) keys [] (events (docs_of w) ops i))
   pub members : HasMembers w ops
+  pub marks : length w.reached ≡ length ops
+  pub reached : HasReached w ops

@@ -1,7 +1,8 @@
 -- What a cursor of an operator stands for.
-use Rattle.std.specs.Prelude.{◌≡◌, ◌<◌, ◌≤◌, ◌+◌, ◌-◌, ◌*◌, ℕ, suc, Bool, true, false, IsTrue, Option, Some, None, List, [], ◌∷◌, ◌++◌, take, drop, length, map, MatchOption}
+use Rattle.std.specs.Prelude.{◌≡◌, ◌<◌, ◌≤◌, ◌+◌, ◌-◌, ◌*◌, ℕ, zero, suc, Bool, true, false, IsTrue, Option, Some, None, List, [], ◌∷◌, ◌++◌, take, drop, length, map, MatchOption}
 use Rattle.std.proofs.Common.{get_or}
-use Rattle.mix_base.specs.Events.{Event, bind, finds, found}
+use Rattle.std.specs.List.{last_or}
+use Rattle.mix_base.specs.Events.{Event, bind, Find, nothing, finds, found, cost}
 use Rattle.path_auto.specs.Visit.{visits}
 use Rattle.mix_tree.specs.Comparisons.{passes}
 use Rattle.mix_tree.specs.Nodes.{Documents, Node}
@@ -24,6 +25,21 @@ use Rattle.lazy_binding.specs.World.{World, docs_of, is_told, spot_node, IsSpotI
 pub record Standing : Type 0 where
   pub row : TolledRow
   pub ahead : RowEvents
+
+-- the events behind a binding that was found
+abbrev pub behind_found : Find TolledRow → RowEvents
+behind_found nothing = []
+behind_found (finds row es) = es
+
+-- the events behind the first so many bindings among these
+abbrev pub behind_first : ℕ → RowEvents → RowEvents
+behind_first zero es = es
+behind_first (suc k) es = behind_found (found (behind_first k es))
+
+-- no binding lies between the first of these events and those, which cost no more
+pub record IsPast (es later : RowEvents) : Type 0 where
+  pub found : found es ≡ found later
+  pub costs : cost later ≤ cost es
 
 -- THE PARTS OF EACH SHAPE
 
@@ -122,12 +138,13 @@ binding w ops n c = (standing w ops n c).row
 abbrev pub ahead : World → List Operator → ℕ → Position → RowEvents
 ahead w ops n c = (standing w ops n c).ahead
 
--- how many bindings there may be behind a stage
+-- a number above those of the positions of a stage, by that of its input. A position of first bindings by keys counts the keys that were not seen up to it before all else
 abbrev pub stage_size : Stage → ℕ → ℕ
 stage_size (one_group piece out) below = 1
+stage_size (first_by_keys keys group) below = suc below * suc below
 stage_size f below = below
 
--- how many bindings a shape may have, by the weights of the sources alone
+-- the same of a shape, by the weights of the sources alone
 abbrev pub shape_size : ℕ → Shape → (ℕ → ℕ) → ℕ
 shape_size bound (one_source s out) of = 1
 shape_size bound (visits_below i start path out) of = of i * suc (suc bound)
@@ -150,8 +167,8 @@ weighs w ops n f Start = size w ops n
 weighs w ops n (visits_below i start path out) (Found' q c s d) = weighs w ops i (shape_at ops i) c * suc (suc (bound_of w)) + found_number w s d
 weighs w ops n (passes_on i (filters test)) (Pass' q c) = weighs w ops i (shape_at ops i) c
 weighs w ops n (passes_on i (extends out made)) (Pass' q c) = weighs w ops i (shape_at ops i) c
-weighs w ops n (passes_on i (first_by_keys keys group)) (First' q c k) = weighs w ops i (shape_at ops i) c
-weighs w ops n (passes_on i (first_by_keys keys group)) (Seen' q c k) = weighs w ops i (shape_at ops i) c
+weighs w ops n (passes_on i (first_by_keys keys group)) (First' q c k) = (size w ops i - k) * suc (size w ops i) + size w ops i
+weighs w ops n (passes_on i (first_by_keys keys group)) (Seen' q c k) = (size w ops i - k) * suc (size w ops i) + weighs w ops i (shape_at ops i) c
 weighs w ops n (pairs_up l r tests) (Pair' q x q' y k) = weighs w ops l (shape_at ops l) x * suc (size w ops r) + (size w ops r - k)
 weighs w ops n (passes_on i (in_order v desc)) (Sorted' q m row k) = count row - suc k
 weighs w ops n f c = 0
@@ -181,7 +198,8 @@ IsFirstBy docs keys es row later = found (same_group docs keys row es) ≡ finds
 
 abbrev mutual
   -- a position of operator n in this shape. A pair stands at the last of the members that were passed. Of first bindings by keys it is also known that the keys ahead of it are those that the input has behind the ones
-  -- seen up to it, that no event before it has other keys, and where it stands at a binding, that this is the first one with its keys
+  -- seen up to it, that no event before it has other keys, that no more keys were seen than there are bindings, and which of the operator's bindings are ahead: where it stands at a binding, those behind as many as keys
+  -- were seen, and this is the first one with its keys, which were seen last; else the same up to events without a binding
   pub IsIn : World → List Operator → ℕ → Shape → Position → Type 0
   IsIn w ops n f Start = Unit {0}
   IsIn w ops n (one_source s out) (Top t x) = (t ≡ s) × IsSpotIn w t x × (place_in w t x ≡ [])
@@ -194,9 +212,14 @@ abbrev mutual
       × (IsTrue (is_told w ops) → keys_seen (docs_of w) keys (up_to w n k) (ahead w ops i c) ≡ drop k (keys_seen (docs_of w) keys [] (events (docs_of w) ops i)))
       × (IsTrue (is_told w ops) → NoneBefore (docs_of w) keys (events (docs_of w) ops i) (up_to w n k) (ahead w ops i c))
       × (IsTrue (is_told w ops) → IsFirstBy (docs_of w) keys (events (docs_of w) ops i) (binding w ops i c) (ahead w ops i c))
+      × (0 < k) × (number w ops i c + k ≤ size w ops i)
+      × (IsTrue (is_told w ops) → last_or None (up_to w n k) ≡ Some (key_values (docs_of w) keys (binding w ops i c)))
+      × (IsTrue (is_told w ops) → (stands w ops n (passes_on i (first_by_keys keys group)) (First' q c k)).ahead ≡ behind_first k (events (docs_of w) ops n))
   IsIn w ops n (passes_on i (first_by_keys keys group)) (Seen' q c k) = IsIn w ops i (shape_at ops i) c × IsTrue (has_row c) × (k ≤ length (seen_at w n))
       × (IsTrue (is_told w ops) → keys_seen (docs_of w) keys (up_to w n k) (ahead w ops i c) ≡ drop k (keys_seen (docs_of w) keys [] (events (docs_of w) ops i)))
       × (IsTrue (is_told w ops) → NoneBefore (docs_of w) keys (events (docs_of w) ops i) (up_to w n k) (ahead w ops i c))
+      × (number w ops i c + k ≤ size w ops i)
+      × (IsTrue (is_told w ops) → IsPast (behind_first k (events (docs_of w) ops n)) (stands w ops n (passes_on i (first_by_keys keys group)) (Seen' q c k)).ahead)
   IsIn w ops n (pairs_up l r tests) (Pair' q x q' y k) = IsIn w ops l (shape_at ops l) x × IsTrue (has_row x) × IsIn w ops r (shape_at ops r) y
       × (k ≤ length (memo_at w n).pairs) × (passed (memo_at w n).pairs k ≡ y)
   IsIn w ops n (passes_on i (in_order v desc)) (Sorted' q m row k) = AreIn w ops i row × (k < count row) × (count row ≤ size w ops n)
@@ -210,3 +233,7 @@ abbrev mutual
 -- a cursor of operator n
 abbrev pub IsOf : World → List Operator → ℕ → Position → Type 0
 IsOf w ops n c = IsIn w ops n (shape_at ops n) c
+
+-- a binding of the input of operator n whose keys are among the first k that the operator has seen, and so are those of all bindings behind the one that had the last of them first
+abbrev pub HasSeen : World → List Operator → ℕ → Position → ℕ → Type 0
+HasSeen w ops n c k = (q : _) → IsOf w ops n (Seen' q c k)

@@ -20,7 +20,7 @@ operators f = map op_of f.plan.ops.items
 
 -- what a view and what has grown are together
 abbrev pub world_of : View → Growing → World
-world_of v g = world v g.buffers.items g.seen.items g.memos.items
+world_of v g = world v g.buffers.items g.seen.items g.memos.items g.reached.items
 
 -- the plan is typed, each path has its automaton, and of each operator it is told whether its groups end at the first other key, and by which variables members are looked up
 pub record IsFixed (f : Fixed) : Type 0 where

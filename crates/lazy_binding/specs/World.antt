@@ -1,4 +1,5 @@
--- What a bench stands on: what its sources mean, a buffer for each of them, and for each operator the keys that were seen, and the memo of its right side.
+-- What a bench stands on: what its sources mean, a buffer for each of them, and for each operator the keys that were seen, the memo of its right side, and how far its
+-- group at hand was walked.
 use Rattle.std.specs.Prelude.{◌≡◌, ◌+◌, nat_lt, cond, ℕ, zero, suc, Bool, true, false, Option, Some, None, List, [], ◌∷◌, map, take, length, slice_get, slice_index_or}
 use Rattle.std.specs.List.{list_all}
 use Rattle.std.specs.declared.alloc.Global.{Global}
@@ -18,6 +19,7 @@ use Rattle.plan_core.specs.TolledRows.{KeyValue, by_node, by_label}
 use Rattle.lazy_descend.specs.declared.cursor.DescCursor.{DescCursor}
 use Rattle.lazy_descend.specs.Cursors.{IsCursor, place_at, ahead, number}
 use Rattle.lazy_binding.specs.declared.key.KeyPart.{KeyPart}
+use Rattle.lazy_binding.specs.declared.position.Reached.{Reached}
 use Rattle.lazy_binding.specs.declared.key.KeyPart.TheVariants.{Node as node_part, Label as label_part, Free as free_part}
 use Rattle.lazy_binding.specs.declared.position.Position.{Position, Start}
 
@@ -27,10 +29,11 @@ pub record World : Type 0 where
   pub buffers : List Buffer
   pub seen : List (List (List KeyPart))
   pub memos : List (Kept (Rc Position Global))
+  pub reached : List (Option Reached)
 
 -- these together
-abbrev pub world : View → List Buffer → List (List (List KeyPart)) → List (Kept (Rc Position Global)) → World
-world view buffers seen memos = record { view = view; buffers = buffers; seen = seen; memos = memos }
+abbrev pub world : View → List Buffer → List (List (List KeyPart)) → List (Kept (Rc Position Global)) → List (Option Reached) → World
+world view buffers seen memos reached = record { view = view; buffers = buffers; seen = seen; memos = memos; reached = reached }
 
 -- the documents of the sources; a number that no source has stands for no trees
 abbrev pub docs_of : World → Documents
@@ -118,6 +121,10 @@ no_pairs = record { pairs = []; ended = false }
 -- the memo of a join's right side
 abbrev pub memo_at : World → ℕ → Kept (Rc Position Global)
 memo_at w n = slice_index_or w.memos n no_pairs
+
+-- how far the group at hand of an operator was walked
+abbrev pub reached_at : World → ℕ → Option Reached
+reached_at w n = slice_index_or w.reached n None
 
 -- the last of these positions, or the one before them
 abbrev pub last_of : Position → List Member → Position

@@ -1,6 +1,6 @@
 // Keys that an operator has seen.
-ghost use Rattle.std.specs.Prelude.{◌≡◌, ◌++◌, ◌∷◌, [], OnErr, IfOk, IfErr, IsTrue, if◌then◌else◌, true, false, not, suc, length, take};
-ghost use Rattle.lazy_binding.specs.Keys.{same_part, part_fed, was_seen};
+ghost use Rattle.std.specs.Prelude.{◌≡◌, ◌<◌, ◌++◌, ◌∷◌, [], OnErr, IfOk, IfErr, IsTrue, if◌then◌else◌, true, false, not, suc, length, slice_index_or, take};
+ghost use Rattle.lazy_binding.specs.Keys.{same_part, same_parts, part_fed, was_seen};
 ghost use Rattle.lazy_binding.specs.KeyLaws.{part_partial_equivalence, part_equivalence, part_alike};
 ghost use Rattle.lxp_core.specs.declared.fault.WalkFault.TheVariants.{OutOfMemory};
 
@@ -109,7 +109,8 @@ impl SeenKeys {
     }
 
     /// Whether a key stands at a place. So it is none of those before.
-    fn stands_at(&self, place: usize, key: &KeyTuple) -> bool
+    pub fn stands_at(&self, place: usize, key: &KeyTuple) -> bool
+        ensures is { place < length self.now → result ≡ same_parts (slice_index_or self.now place []) key.now.items }
         ensures before { IsTrue result → was_seen key.now.items (take place self.now) ≡ false }
         ensures there { IsTrue result → was_seen key.now.items (take (suc place) self.now) ≡ true }
     {

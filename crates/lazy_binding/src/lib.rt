@@ -21,5 +21,5 @@ pub use labelled::{Labelled, places, sort_labelled};
 pub use law::cursors_stay;
 pub use link::{Link, links};
 pub use parts::{Fixed, Growing, Walk};
-pub use position::{Position, inside, put, seen_up_to, share};
+pub use position::{Position, Reached, inside, put, seen_up_to, share};
 pub use variables::{binds, names_var, var_of};

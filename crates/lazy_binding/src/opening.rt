@@ -1,12 +1,12 @@
 // What a new bench is made of.
-ghost use Rattle.std.specs.Prelude.{◌≡◌, ◌<◌, ◌≤◌, ◌⊎◌, [], ℕ, IfOk, length, map, slice_index_or};
+ghost use Rattle.std.specs.Prelude.{◌≡◌, ◌<◌, ◌≤◌, ◌⊎◌, [], ℕ, None, IfOk, length, map, slice_index_or};
 ghost use Rattle.plan_core.specs.ByNumber.{op_at};
 ghost use Rattle.plan_core.specs.PlanMade.{op_of};
 ghost use Rattle.lazy_binding.specs.Opening.{AreBuffers, table_in, HasShortPath};
 ghost use Rattle.lazy_binding.specs.World.{no_pairs};
 
 use crate::key::SeenKeys;
-use crate::position::Position;
+use crate::position::{Position, Reached};
 use join_memo::Memo;
 use lxp_core::Sources;
 use path_auto::Auto;
@@ -86,4 +86,16 @@ pub fn no_memos(alloc: Global, count: usize) -> Result<Vec<Memo<Rc<Position>>>, 
         memos.push(Memo::new(alloc))?;
     }
     Ok(memos)
+}
+
+/// For each operator that no group of it was walked.
+pub fn none_reached(alloc: Global, count: usize) -> Result<Vec<Option<Reached>>, AllocError>
+    ensures length { IfOk result (λ reached. length reached.items ≡ count) }
+    ensures none { IfOk result (λ reached. (n : ℕ) → slice_index_or reached.items n None ≡ None) }
+{
+    let mut reached = Vec::new(alloc);
+    for _ in 0..count {
+        reached.push(None)?;
+    }
+    Ok(reached)
 }

@@ -6,7 +6,7 @@ ghost use Rattle.lazy_binding.specs.Parts.{operators};
 
 use crate::key::SeenKeys;
 use crate::link::Link;
-use crate::position::Position;
+use crate::position::{Position, Reached};
 use join_memo::Memo;
 use path_auto::Auto;
 use plan_core::{Op, Plan};
@@ -23,13 +23,15 @@ pub struct Fixed {
     pub links: Vec<Option<Link>>,
 }
 
-/// What grows while a plan is walked: for each source the nodes that were handed out, and for each operator the keys that it has seen, and
-/// the bindings of its right side as far as they were asked for, where it is a join.
+/// What grows while a plan is walked: for each source the nodes that were handed out, and for each operator the keys that it has seen, the
+/// bindings of its right side as far as they were asked for, where it is a join, and how far its group at hand was walked, where its groups
+/// end at the first other key.
 #[derive(Drop)]
 pub struct Growing {
     pub buffers: Vec<Buffer>,
     pub seen: Vec<SeenKeys>,
     pub memos: Vec<Memo<Rc<Position>>>,
+    pub reached: Vec<Option<Reached>>,
 }
 
 /// An operator of a plan: the plan, and the operator's number.

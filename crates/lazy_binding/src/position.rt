@@ -33,6 +33,13 @@ pub enum Position {
     Sorted(Rc<Vec<Rc<Position>>>, usize),
 }
 
+/// How far the group at hand of an operator was walked: a binding of its input, and how many keys the operator had seen up to the group.
+#[derive(Drop)]
+pub struct Reached {
+    pub below: Rc<Position>,
+    pub seen: usize,
+}
+
 /// A position that can be shared.
 pub fn put(alloc: Global, position: Position) -> Result<Rc<Position>, WalkFault>
     ensures ok { IfOk result (λ r. r.value ≡ position) }
