@@ -1,5 +1,5 @@
 -- The positions of an operator that drops bindings by keys that it has seen: each stands over one of the input.
-use Rattle.std.proofs.Common.{◌≡◌, ◌<◌, ◌≤◌, ℕ, true, List, [], Option, Some, None, length, drop, refl, ◌∙◌, sym, ap, arith}
+use Rattle.std.proofs.Common.{◌≡◌, ◌<◌, ◌≤◌, ◌+◌, ◌-◌, ◌*◌, ℕ, suc, true, List, [], Option, Some, None, length, drop, refl, ◌∙◌, sym, ap, arith}
 use Rattle.std.specs.Prelude.{IsTrue}
 use Rattle.mix_base.specs.Events.{nothing, found, cost}
 use Rattle.lazy_descend.specs.Searches.{FindsNone}
@@ -15,7 +15,7 @@ use Rattle.plan_core.specs.Events.{events, distinct, keys_seen}
 use Rattle.plan_core.proofs.Distinct.{found-distinct_none, cost-distinct_le}
 use Rattle.lazy_binding.specs.declared.position.Position.{Position, Start, First', Seen'}
 use Rattle.lazy_binding.specs.World.{World, docs_of, is_told, seen_at}
-use Rattle.lazy_binding.specs.Cursors.{NoneBefore, up_to, ahead, number, stands, weighs, IsIn, IsOf}
+use Rattle.lazy_binding.specs.Cursors.{NoneBefore, IsPast, behind_first, up_to, ahead, number, size, stands, weighs, IsIn, IsOf}
 use Rattle.lazy_binding.specs.Reading.{below, count_of}
 use Rattle.lxp_core.specs.View.{View}
 use Rattle.lazy_binding.specs.declared.parts.Growing.{Growing}
@@ -23,7 +23,7 @@ use Rattle.lazy_binding.specs.declared.parts.Fixed.{Fixed}
 use Rattle.lazy_binding.specs.Parts.{operators, world_of}
 use Rattle.lazy_plan.specs.Steps.{single, CanStep, telling}
 use Rattle.lazy_binding.proofs.Bound.{inputs_at}
-use Rattle.lazy_plan.proofs.Goes.{in_shape, IsOver}
+use Rattle.lazy_plan.proofs.Goes.{in_shape, less_times, IsOver}
 use Rattle.lazy_plan.proofs.Shapes.{events_at, size_at, single_at}
 
 module _ (ops : List Operator) (n i : ℕ) (keys : List Key) (group : Option (Piece × ℕ)) where
@@ -68,12 +68,44 @@ module _ (ops : List Operator) (n i : ℕ) (keys : List Key) (group : Option (Pi
     firsts_before w (Seen' q c k) h t = h.4 t
     firsts_before w c h t = absurd h
 
-    -- its number is the input's
-    pub firsts_number_is : (w : World) (c : Position) → IsIn w ops n F c → weighs w ops n F c ≡ number w ops i (below c)
-    firsts_number_is w Start h = size_at ops typed n within F is w
-    firsts_number_is w (First' q c k) h = refl
-    firsts_number_is w (Seen' q c k) h = refl
-    firsts_number_is w c h = absurd h
+    -- no more keys were seen than there are bindings up to it
+    pub firsts_few : (w : World) (c : Position) → IsIn w ops n F c → number w ops i (below c) + count_of c ≤ size w ops i
+    firsts_few w Start h = omega arith
+    firsts_few w (First' q c k) h = h.7
+    firsts_few w (Seen' q c k) h = h.5
+    firsts_few w c h = absurd h
+
+    -- its number is above that of a later position with as many keys
+    pub firsts_above : (w : World) (c : Position) → IsIn w ops n F c → (m : ℕ) → m < number w ops i (below c) → (size w ops i - count_of c) * suc (size w ops i) + m < weighs w ops n F c
+    firsts_above w Start h m l =
+        let z = size_at ops typed n within F is w in
+        let k = less_times (size w ops i - count_of Start) (suc (size w ops i)) m (size w ops i) (omega arith) (omega (arith, l)) in
+        omega (arith, k, z)
+    firsts_above w (First' q c k) h m l = (let few = h.7 in omega (arith, few, l))
+    firsts_above w (Seen' q c k) h m l = omega (arith, l)
+    firsts_above w c h m l = absurd h
+
+    -- and above that of one at a binding, with one key more
+    pub firsts_over_next : (w : World) (c : Position) → IsIn w ops n F c → suc (count_of c) ≤ size w ops i
+        → (size w ops i - suc (count_of c)) * suc (size w ops i) + size w ops i < weighs w ops n F c
+    firsts_over_next w Start h l =
+        let z = size_at ops typed n within F is w in
+        let k = less_times (size w ops i - suc (count_of Start)) (suc (size w ops i)) (size w ops i) (size w ops i) (omega arith) (omega arith) in
+        omega (arith, k, z)
+    firsts_over_next w (First' q c k) h l =
+        let m = less_times (size w ops i - suc k) (size w ops i - k) (size w ops i) (size w ops i) (omega (arith, l)) (omega arith) in
+        omega (arith, m)
+    firsts_over_next w (Seen' q c k) h l =
+        let m = less_times (size w ops i - suc k) (size w ops i - k) (size w ops i) (size w ops i) (omega (arith, l)) (omega arith) in
+        omega (arith, m)
+    firsts_over_next w c h l = absurd h
+
+    -- the bindings ahead are those behind as many of the operator's as keys were seen
+    pub firsts_past : (w : World) (c : Position) → IsIn w ops n F c → IsTrue (is_told w ops) → IsPast (behind_first (count_of c) (events (docs_of w) ops n)) (stands w ops n F c).ahead
+    firsts_past w Start h t = record { found = refl; costs = omega arith }
+    firsts_past w (First' q c k) h t = record { found = ap found (sym (h.9 t)); costs = (let e = ap cost (h.9 t) in omega (arith, e)) }
+    firsts_past w (Seen' q c k) h t = h.6 t
+    firsts_past w c h t = absurd h
 
     -- a single one is over a single one
     pub firsts_single : IsTrue (single ops n) → IsTrue (single ops i)
