@@ -1,0 +1,69 @@
+-- Groups, from one of their members on.
+use Rattle.std.specs.Prelude.{ℕ, Bool, IsTrue, List, Option, Result, IfOk}
+use Rattle.mix_base.specs.Events.{cost}
+use Rattle.lazy_descend.specs.Searches as Searches
+use Rattle.lazy_descend.specs.Searches.{Cursors}
+use Rattle.lxp_core.specs.View.{View}
+use Rattle.lxp_core.specs.declared.fault.WalkFault.{WalkFault}
+use Rattle.plan_core.specs.Plans.{Operator}
+use Rattle.plan_core.specs.ByNumber.{op_at}
+use Rattle.plan_core.specs.Fronts.{op_stops}
+use Rattle.plan_core.specs.Events.{RowEvents, group_behind}
+use Rattle.plan_core.specs.TolledRows.{TolledRow}
+use Rattle.lazy_binding.specs.declared.position.Position.{Position, First'}
+use Rattle.lazy_binding.specs.Cursors.{IsOf, HasSeen}
+use Rattle.lazy_binding.specs.Forms.{input_at, keys_of}
+use Rattle.lazy_binding.specs.Parts.{operators}
+use Rattle.lazy_plan.specs.declared.bench.Bench.{Bench}
+use Rattle.lazy_plan.specs.declared.groups.GroupFrom.{GroupFrom}
+use Rattle.lazy_plan.specs.Bench.{BenchState, state_of, ops_of, told_by, documents, IsCursor, binding_at, ahead_at, number_at, BenchRan, AsksAtMost}
+use Rattle.lazy_plan.specs.Steps.{HasCause}
+
+-- the groups of an operator end at the first other key of its input
+abbrev pub stops_at : List Operator → ℕ → Bool
+stops_at ops op = op_stops ops (op_at ops op)
+
+-- the events of a group behind a cursor of the input
+abbrev pub group_ahead : BenchState → ℕ → Position → Position → RowEvents
+group_ahead st op first at =
+    let input = input_at (ops_of st) op in
+    group_behind (documents st) (keys_of (op_at (ops_of st) op)) (stops_at (ops_of st) op) (binding_at st input first) (ahead_at st input at)
+
+-- the group of this number, counted among those of the operator, begins at a cursor of the input
+abbrev pub BeginsGroup : BenchState → ℕ → ℕ → Position → Type 0
+BeginsGroup st op number first = (q : _) → IsOf st.world (ops_of st) op (First' q first number)
+
+-- where groups end at the first other key, a cursor of the input stands at a member of the group of this number
+abbrev pub InGroup : BenchState → ℕ → ℕ → Position → Type 0
+InGroup st op number at = IsTrue (stops_at (ops_of st) op) → HasSeen st.world (ops_of st) op at number
+
+-- a group, and one of its members
+pub record IsGroup (st : BenchState) (op number : ℕ) (first at : Position) : Type 0 where
+  pub begins : BeginsGroup st op number first
+  pub member : InGroup st op number at
+
+-- the cursors of the members of a group, among its events
+abbrev pub members_of : BenchState → ℕ → ℕ → Position → Cursors Position TolledRow
+members_of st op number first = record {
+  IsCursor = λ c. IsCursor st (input_at (ops_of st) op) c × InGroup st op number c;
+  HasRow = λ c. Unit {0};
+  binding = binding_at st (input_at (ops_of st) op);
+  ahead = group_ahead st op first;
+  number = number_at st (input_at (ops_of st) op);
+}
+
+-- the events of a group behind the member from which it is walked
+abbrev pub group_events : BenchState → GroupFrom → RowEvents
+group_events st g = group_ahead st g.op g.first.now g.at.now
+
+-- the next member, or there is none
+abbrev pub GivesMember : BenchState → BenchState → GroupFrom → Option Position → Type 0
+GivesMember old new g r =
+    Searches.GivesFirst (told_by old) (members_of new g.op g.number g.first.now) (group_events old g) (number_at old (input_at (ops_of old) g.op) g.at.now) r
+
+-- what a call for the next member leaves and answers
+pub record MemberWalked {S : Type 0} (view : S → View) (came_from : S → S → Type 0) (g : GroupFrom) (s : S) (b : Bench) (s' : S) (b' : Bench) (result : Result (Option Position) WalkFault) : Type 0 where
+  pub ran : BenchRan view came_from s b s' b'
+  pub lazy : AsksAtMost (state_of (view s) b) (state_of (view s') b') (cost (group_events (state_of (view s) b) g))
+  pub cause : HasCause (operators b.fixed) (view s) (view s') result
+  pub answer : IfOk result (GivesMember (state_of (view s) b) (state_of (view s') b') g)
