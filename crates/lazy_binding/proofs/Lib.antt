@@ -8,6 +8,7 @@ pub mod KeyParts
 pub mod Labels
 pub mod Lasts
 pub mod Members
+pub mod RightSides
 pub mod SameKeys
 pub mod SameNodes
 pub mod SeenLists

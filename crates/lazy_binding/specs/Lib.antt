@@ -9,6 +9,7 @@ pub mod Members
 pub mod Opening
 pub mod Parts
 pub mod Reading
+pub mod Sides
 pub mod SortedLists
 pub mod Unders
 pub mod World

@@ -8,19 +8,21 @@ use crate::key::SeenKeys;
 use crate::link::Link;
 use crate::position::{Position, Reached};
 use join_memo::Memo;
+use mix_tree::Var;
 use path_auto::Auto;
 use plan_core::{Op, Plan};
 use std::rc::Rc;
 use tree_buffer::Buffer;
 
 /// A plan, and for each operator the automaton of its path, where it has one, whether its groups end at the first other key, and by which
-/// variables the members of its right side are looked up, where it is a join with such ones.
+/// variables the members of its right side are looked up, where it is a join with such ones; and which variables are those of its right side alone.
 #[derive(Drop)]
 pub struct Fixed {
     pub plan: Plan,
     pub autos: Vec<Option<Auto>>,
     pub stops: Vec<bool>,
     pub links: Vec<Option<Link>>,
+    pub rights: Vec<Vec<Var>>,
 }
 
 /// What grows while a plan is walked: for each source the nodes that were handed out, and for each operator the keys that it has seen, the

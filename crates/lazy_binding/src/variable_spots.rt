@@ -1,5 +1,6 @@
 // The spots of the variables in a position's binding.
-ghost use Rattle.std.specs.Prelude.{◌≡◌, ◌<◌, IfSome, is_some, true, length};
+ghost use Rattle.std.specs.Prelude.{◌≡◌, ◌<◌, ◌==◌, IfSome, is_some, true, length};
+ghost use Rattle.std.specs.List.{list_any};
 ghost use Rattle.lazy_binding.specs.Reading.{held, held_in, spot_in};
 ghost use Rattle.lazy_binding.specs.Parts.{operators, IsFixed};
 
@@ -10,8 +11,21 @@ use mix_tree::Var;
 use plan_core::Op;
 use tree_buffer::Spot;
 
+/// Whether a variable is one of these.
+fn is_among(vars: &[Var], v: Var) -> bool
+    ensures { result ≡ list_any (λ u. u == v) vars.now }
+{
+    for u in vars {
+        if *u == v {
+            return true;
+        }
+    }
+    false
+}
+
 impl Fixed {
-    /// The part of a position of an operator that stands at a variable's node. Nothing is copied on the way to it.
+    /// The part of a position of an operator that stands at a variable's node. Nothing is copied on the way to it, and the left side of a join isn't
+    /// searched for a variable of the right side.
     fn holder<'a>(&self, n: usize, at: &'a Position, v: Var) -> Option<&'a Position>
         requires fixed { IsFixed self.now }
         requires op { n < length (operators self.now) }
@@ -35,6 +49,9 @@ impl Fixed {
                 _ => None,
             },
             Op::Join { left, right, .. } => match at {
+                Position::Pair(_, r, _) if is_among(&self.rights[n], v) => {
+                    self.holder(*right as usize, r, v)
+                }
                 Position::Pair(l, r, _) => match self.holder(*left as usize, l, v) {
                     Some(part) => Some(part),
                     None => self.holder(*right as usize, r, v),
