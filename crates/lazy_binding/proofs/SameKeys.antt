@@ -47,7 +47,7 @@ module _ (ones : SpotsAreOne) (w : World) where
   same_part-is p free_part h k = absurd k
 
   -- so are keys
-  same_parts-is : (ps qs : List KeyPart) → AllByRecursion (IsPart w) ps → AllByRecursion (IsPart w) qs → same_parts ps qs ≡ same_values (map (part_value w) ps) (map (part_value w) qs)
+  pub same_parts-is : (ps qs : List KeyPart) → AllByRecursion (IsPart w) ps → AllByRecursion (IsPart w) qs → same_parts ps qs ≡ same_values (map (part_value w) ps) (map (part_value w) qs)
   same_parts-is [] [] h k = refl
   same_parts-is [] (q ∷ qs) h k = refl
   same_parts-is (p ∷ ps) [] h k = refl

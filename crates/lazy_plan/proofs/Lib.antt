@@ -2,6 +2,7 @@ pub mod Benches
 pub mod FirstPositions
 pub mod FirstSteps
 pub mod Goes
+pub mod GroupSteps
 pub mod Growing
 pub mod Grown
 pub mod GrowingKeys

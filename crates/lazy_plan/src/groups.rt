@@ -74,18 +74,21 @@ impl Bench {
         requires group { let g = group.now in IsGroup (state_of (S.view s.old) self.old) g.op g.number g.first.now g.at.now }
         ensures { MemberWalked S.view S.came_from group.now s.old self.old s.new self.new result }
     {
-        let op = group.op as usize;
+        let below = input_of(&self.fixed.plan, group.op);
         let input = Walk {
             fixed: &self.fixed,
-            op: input_of(&self.fixed.plan, group.op) as usize,
+            op: below as usize,
         };
-        match advance(alloc, input, &mut self.growing, s, &group.at.position)? {
+        let op = group.op as usize;
+        let at = group.at;
+        match advance(alloc, input, &mut self.growing, s, &at.position)? {
             None => Ok(None),
             Some(position) => {
-                let keys = group_keys(&self.fixed.plan, group.op);
+                let keys = group_keys(&input.fixed.plan, group.op);
                 let key = input.key_of(alloc, &self.growing, &position, keys)?;
                 spots_are_one();
-                if !self.growing.seen[op].stands_at(group.number.saturating_sub(1), &key) {
+                let keys_seen = &self.growing.seen[op];
+                if !keys_seen.stands_at(group.number.saturating_sub(1), &key) {
                     return Ok(None);
                 }
                 let below = share(&position)?;

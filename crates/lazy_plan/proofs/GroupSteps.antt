@@ -1,0 +1,313 @@
+-- Groups whose members stand side by side: where one begins, and how it is walked.
+use Rattle.std.proofs.Common.{◌≡◌, ◌⊎◌, inl, inr, ◌<◌, ◌≤◌, ◌-◌, ℕ, zero, suc, Bool, true, false, List, [], ◌∷◌, Option, Some, None, length, map, take, get_or, refl, ◌∙◌, sym, ap, subst, arith}
+use Rattle.std.specs.Prelude.{IsTrue, slice_index_or}
+use Rattle.std.specs.List.{AllByRecursion, last_or}
+use Rattle.std.specs.declared.alloc.Global.{Global}
+use Rattle.std.specs.declared.rc.Rc.{Rc}
+use Rattle.std.specs.declared.vec.Vec.{Vec}
+use Rattle.std.proofs.lemmas.Bool.{cases_eq}
+use Rattle.std.proofs.lemmas.List.{get_or_default}
+use Rattle.mix_base.proofs.Choices.{some_is}
+use Rattle.mix_base.specs.Events.{nothing, finds, found, cost}
+use Rattle.mix_tree.specs.Nodes.{Documents}
+use Rattle.mix_tree.specs.declared.var.Key.{Key}
+use Rattle.lxp_core.specs.View.{View}
+use Rattle.lxp_core.proofs.Views.{keeps_same as keeps_view_same}
+use Rattle.tree_buffer.specs.Law.{SpotsAreOne}
+use Rattle.plan_core.specs.declared.plan.Piece.{Piece}
+use Rattle.plan_core.specs.declared.plan.Plan.{Plan}
+use Rattle.plan_core.specs.Plans.{Operator, over}
+use Rattle.plan_core.specs.PlanMade.{plan_value}
+use Rattle.plan_core.specs.Unary.{group_by}
+use Rattle.plan_core.specs.ByNumber.{op_at}
+use Rattle.plan_core.specs.Shapes.{Shape, passes_on, first_by_keys, shape_of, shape_at}
+use Rattle.plan_core.specs.Typed.{IsTyped}
+use Rattle.plan_core.specs.Events.{RowEvents, events, passing}
+use Rattle.plan_core.specs.TolledRows.{TolledRow, KeyValue, key_values, same_values}
+use Rattle.plan_core.proofs.Found.{cost-passing_le, found-passing_none, found-passing_yes, found-run_no}
+use Rattle.lazy_descend.specs.Searches as Searches
+use Rattle.lazy_descend.specs.Searches.{FindsNone}
+use Rattle.lazy_descend.proofs.Searches.{still_told}
+use Rattle.lazy_binding.specs.declared.key.KeyPart.{KeyPart}
+use Rattle.lazy_binding.specs.declared.parts.Growing.{Growing}
+use Rattle.lazy_binding.specs.declared.position.Position.{Position, Start, First', Seen'}
+use Rattle.lazy_binding.specs.declared.position.Reached.{Reached}
+use Rattle.lazy_binding.specs.Bench.{IsBench}
+use Rattle.lazy_binding.specs.World.{World, world, docs_of, is_told, seen_at, part_value, seen_values, IsPart}
+use Rattle.lazy_binding.specs.Cursors.{binding, ahead, number, has_row, up_to, IsIn, IsOf, HasSeen}
+use Rattle.lazy_binding.specs.Forms.{form, gathers_groups, input_of, input_at, keys_of}
+use Rattle.lazy_binding.specs.Keeping.{Keeps, Stays}
+use Rattle.lazy_binding.specs.Keys.{same_parts, was_seen}
+use Rattle.lazy_binding.specs.Parts.{operators, world_of}
+use Rattle.lazy_binding.specs.Reading.{below, count_of}
+use Rattle.lazy_binding.specs.Unders.{part_in, part_at}
+use Rattle.lazy_binding.proofs.Bound.{inputs_at}
+use Rattle.lazy_binding.proofs.Buffers.{keys_stay}
+use Rattle.lazy_binding.proofs.Keep.{docs_kept, told-kept, goes_idle, keeps_then}
+use Rattle.lazy_binding.proofs.Members.{same_members}
+use Rattle.lazy_binding.proofs.SameKeys.{same_parts-is}
+use Rattle.lazy_binding.proofs.Stay.{seen_kept, cursors_kept}
+use Rattle.lazy_plan.specs.declared.bench.Bench.{Bench}
+use Rattle.lazy_plan.specs.Bench.{state_of, told_by, IsBenchOf, IsCursor, AsksAtMost}
+use Rattle.lazy_plan.specs.Groups.{stops_at, group_ahead, IsGroup, members_of}
+use Rattle.lazy_plan.specs.Steps.{Asks, CanStep, Finds, IsReached, Ran, telling}
+use Rattle.lazy_plan.proofs.FirstSteps.{goes_past}
+use Rattle.lazy_plan.proofs.Goes.{tells_on}
+
+-- WHERE A GROUP BEGINS
+
+-- the shape of a groupBy by keys
+pub group_shape : (o : Operator) → form o ≡ gathers_groups → (group : Option (Piece × ℕ)) × (shape_of o ≡ passes_on (input_of o) (first_by_keys (keys_of o) group))
+group_shape (over i (group_by [] piece out)) h = cc
+group_shape (over i (group_by (k ∷ keys) piece out)) h = (Some (piece, out), refl)
+group_shape o h = cc
+
+module _ (w : World) (ops : List Operator) (n i : ℕ) (keys : List Key) (group : Option (Piece × ℕ)) (is : shape_at ops n ≡ passes_on i (first_by_keys keys group)) where
+  -- the shape of the operator
+  abbrev F : Shape
+  F = passes_on i (first_by_keys keys group)
+
+  -- a position in that shape is one of the operator
+  shaped : (c : Position) → IsIn w ops n F c → IsOf w ops n c
+  shaped c h = subst (λ (z : Shape). IsIn w ops n z c) (sym is) h
+
+  -- a position at a binding stands at the first member of a group
+  begins_in : (c : Position) → IsIn w ops n F c → IsTrue (has_row c)
+      → ((q : _) → IsOf w ops n (First' q (below c) (count_of c))) × HasSeen w ops n (below c) (count_of c)
+  begins_in Start h row = cc
+  begins_in (First' q x k) h row = (
+    λ u. shaped (First' u x k) h,
+    λ u. shaped (Seen' u x k) (h.0, h.1, h.2, h.3, h.4, h.7, λ t. record { found = ap found (sym (h.9 t)); costs = (let e = ap cost (h.9 t) in omega (arith, e)) }),
+  )
+  begins_in (Seen' q x k) h row = cc
+  begins_in c h row = absurd h
+
+-- the group at a cursor
+pub group_begins : (w : World) (p : Plan) (n : ℕ) (c d : Position) (m : ℕ) → form (op_at (plan_value p).ops n) ≡ gathers_groups → IsCursor (record { world = w; plan = p }) n c
+    → d ≡ part_at (plan_value p).ops n c (input_at (plan_value p).ops n) → m ≡ count_of c
+    → IsGroup (record { world = w; plan = p }) n m d d
+group_begins w p n c d m f k e g =
+    let sh = group_shape (op_at (plan_value p).ops n) f in
+    let b = begins_in w (plan_value p).ops n (input_at (plan_value p).ops n) (keys_of (op_at (plan_value p).ops n)) sh.0 sh.1 c
+    (subst (λ (z : Shape). IsIn w (plan_value p).ops n z c) sh.1 k.of) k.row in
+    subst (λ (x : Position). IsGroup (record { world = w; plan = p }) n m x x) (sym (e ∙ ap (λ (z : Shape). part_in z c (input_at (plan_value p).ops n)) sh.1))
+    (subst (λ (x : ℕ). IsGroup (record { world = w; plan = p }) n x (below c) (below c)) (sym g) (record { begins = b.0; member = λ s. b.1 }))
+
+-- HOW FAR A GROUP WAS WALKED
+
+-- that a group was walked on keeps what every call keeps
+pub reached_keeps : (b : World) (reached : List (Option Reached)) → Keeps b (world b.view b.buffers b.seen b.memos reached)
+reached_keeps b reached = record {
+  view = keeps_view_same b.view;
+  buffers = refl;
+  goes = λ s x there. record { later = x; there = there; goes = goes_idle b.view x };
+  lists = refl;
+  longer = λ j. omega arith;
+  seen = λ j k h. refl;
+  memos = refl;
+  more = λ j. omega arith;
+  members = λ j k h. refl;
+}
+
+-- and leaves a bench
+pub reached_bench : (b : World) (ops : List Operator) → IsBench b ops → (reached : List (Option Reached)) (n : ℕ) (to : Reached) → IsReached b.reached reached n to → HasSeen b ops n to.below.value to.seen
+    → IsBench (world b.view b.buffers b.seen b.memos reached) ops
+reached_bench b ops late reached n to r seen = record {
+  roots = late.roots;
+  few = late.few;
+  sources = late.sources;
+  enough = late.enough;
+  lists = late.lists;
+  memos = late.memos;
+  parts = λ j. keys_stay (reached_keeps b reached) (seen_at b j) (late.parts j);
+  seen = late.seen;
+  members = same_members (reached_keeps b reached) ops late refl;
+  marks = r.lists ∙ late.marks;
+  reached = λ j x e q. reached_at_one j x e q (cases_eq j n);
+}
+  where
+    here : World
+    here = world b.view b.buffers b.seen b.memos reached
+
+    reached_at_one : (j : ℕ) (x : Reached) → slice_index_or reached j None ≡ Some x → (q : _) → (j ≡ n) ⊎ (j ≡ n → ⊥) → IsOf here ops j (Seen' q x.below.value x.seen)
+    reached_at_one j x e q (inl z) =
+        let same : to ≡ x = some_is to x (sym r.here ∙ ap (λ (m : ℕ). slice_index_or reached m None) (sym z) ∙ e) in
+        subst (λ (m : ℕ). IsOf here ops m (Seen' q x.below.value x.seen)) (sym z)
+        (subst (λ (y : Reached). IsOf here ops n (Seen' q y.below.value y.seen)) same (cursors_kept b here (reached_keeps b reached) ops late n (Seen' q to.below.value to.seen) (seen q)).cursor)
+    reached_at_one j x e q (inr ne) =
+        (cursors_kept b here (reached_keeps b reached) ops late j (Seen' q x.below.value x.seen) (late.reached j x (sym (r.others j ne) ∙ e) q)).cursor
+
+-- a call, and then a group that was walked on
+pub ran_reached : {S : Type 0} {view : S → View} {came_from : S → S → Type 0} {ops : List Operator} {n : ℕ} {es : RowEvents} {s t : S} {g h : Growing} (reached : Vec (Option Reached) Global)
+    → IsBench (world (view t) h.buffers.items h.seen.items h.memos.items reached.items) ops
+    → Ran view came_from ops n es s g t h → Ran view came_from ops n es s g t (record { buffers = h.buffers; seen = h.seen; memos = h.memos; reached = reached })
+ran_reached {view} {t} {h} reached bench ran = record {
+  came = ran.came;
+  bench = bench;
+  asks = record {
+    kept = keeps_then ran.asks.kept (reached_keeps (world_of (view t) h) reached.items);
+    above = ran.asks.above;
+    lazy = ran.asks.lazy;
+    none = ran.asks.none;
+  };
+}
+
+-- THE NEXT MEMBER
+
+-- the keys that an operator has seen, as they are read
+pub seen_read : (v : View) (g : Growing) (ops : List Operator) → IsBench (world_of v g) ops → (n : ℕ) → n < length ops → (keys : List (List KeyPart)) → keys ≡ get_or g.seen.items n keys
+    → keys ≡ seen_at (world_of v g) n
+seen_read v g ops bench n within keys e = e ∙ get_or_default g.seen.items n keys [] (let l = bench.lists in omega (arith, l, within))
+
+-- from a member the walk of the input may go on
+pub group_can : (v : View) (b : Bench) (op m : ℕ) (first at : Position) (q : Rc (Unit {0}) Global) → IsBenchOf v b → op < length (operators b.fixed) → form (op_at (operators b.fixed) op) ≡ gathers_groups
+    → IsTrue (stops_at (operators b.fixed) op) → IsGroup (state_of v b) op m first at → CanStep v b.growing b.fixed (input_at (operators b.fixed) op) at
+group_can v b op m first at q bench within is stops g =
+    let sh = group_shape (op_at (operators b.fixed) op) is in
+    let less = (inputs_at (operators b.fixed) bench.fixed.typed op within (passes_on (input_at (operators b.fixed) op) (first_by_keys (keys_of (op_at (operators b.fixed) op)) sh.0)) sh.1).0 in
+    record {
+      fixed = bench.fixed;
+      op = omega (arith, less, within);
+      bench = bench.bench;
+      cursor = (subst (λ (z : Shape). IsIn (world_of v b.growing) (operators b.fixed) op z (Seen' q at m)) sh.1 (g.member stops q)).0;
+    }
+
+-- the last of the first few
+last_taken : {X Y : Type 0} (f : X → Y) (xs : List X) (m : ℕ) (d : X) → suc m ≤ length xs → last_or None (map f (take (suc m) xs)) ≡ Some (f (slice_index_or xs m d))
+last_taken f [] m d l = absurd (omega (arith, l))
+last_taken f (x ∷ xs) zero d l = refl
+last_taken f (x ∷ []) (suc m) d l = absurd (omega (arith, l))
+last_taken f (x ∷ y ∷ xs) (suc m) d l = last_taken f (y ∷ xs) m d (omega (arith, l))
+
+-- one of a list that all have a property
+each_one : {X : Type 0} (P : X → Type 0) (xs : List X) (m : ℕ) (d : X) → m < length xs → AllByRecursion P xs → P (slice_index_or xs m d)
+each_one P [] m d l h = absurd (omega (arith, l))
+each_one P (x ∷ xs) zero d l h = h.0
+each_one P (x ∷ xs) (suc m) d l h = each_one P xs m d (omega (arith, l)) h.1
+
+module _ (a b : World) (p : Plan) (op m : ℕ) (first at : Position) (q : Rc (Unit {0}) Global) (typed : IsTyped (plan_value p).ops) (within : op < length (plan_value p).ops)
+    (is : form (op_at (plan_value p).ops op) ≡ gathers_groups) (stops : IsTrue (stops_at (plan_value p).ops op)) (bench : IsBench a (plan_value p).ops)
+    (g : IsGroup (record { world = a; plan = p }) op m first at) (k : Asks a b (plan_value p).ops (input_at (plan_value p).ops op) (ahead a (plan_value p).ops (input_at (plan_value p).ops op) at))
+    (late : IsBench b (plan_value p).ops) where
+  -- the operators
+  abbrev ops : List Operator
+  ops = (plan_value p).ops
+
+  -- the input
+  abbrev i : ℕ
+  i = input_at ops op
+
+  -- the keys
+  abbrev keys : List Key
+  keys = keys_of (op_at ops op)
+
+  -- what is made of a group
+  abbrev made : Option (Piece × ℕ)
+  made = (group_shape (op_at ops op) is).0
+
+  -- the shape of the operator
+  at_shape : shape_at ops op ≡ passes_on i (first_by_keys keys made)
+  at_shape = (group_shape (op_at ops op) is).1
+
+  -- the group begins at its first member
+  begun : IsIn a ops op (passes_on i (first_by_keys keys made)) (First' q first m)
+  begun = subst (λ (z : Shape). IsIn a ops op z (First' q first m)) at_shape (g.begins q)
+
+  -- it was walked to one of them
+  member : IsIn a ops op (passes_on i (first_by_keys keys made)) (Seen' q at m)
+  member = subst (λ (z : Shape). IsIn a ops op z (Seen' q at m)) at_shape (g.member stops q)
+
+  -- the key of the group is among those that were seen
+  pub few_seen : m - 1 < length (seen_at b op)
+  few_seen =
+      let some = begun.6 in
+      let few = begun.2 in
+      let longer = k.kept.longer op in
+      omega (arith, some, few, longer)
+
+  -- whether a binding is of the group
+  abbrev of_group : Documents → TolledRow → TolledRow → Bool
+  of_group docs r row = same_values (key_values docs keys r) (key_values docs keys row)
+
+  -- no further binding is no further member
+  pub no_member : FindsNone (telling a ops) (ahead a ops i at) → IsTrue (is_told a ops) → found (group_ahead (record { world = a; plan = p }) op first at) ≡ nothing
+  no_member h t = found-passing_none (stops_at ops op) (of_group (docs_of a) (binding a ops i first)) (ahead a ops i at) (h t)
+
+  -- what is asked is within what is allowed
+  pub member_lazy : AsksAtMost (record { world = a; plan = p }) (record { world = b; plan = p }) (cost (group_ahead (record { world = a; plan = p }) op first at))
+  member_lazy t w =
+      let asked = k.lazy t w in
+      let l = cost-passing_le (stops_at ops op) (of_group (docs_of a) (binding a ops i first)) (ahead a ops i at) in
+      omega (arith, asked, l)
+
+  module _ (d : Position) (f : Finds a b ops i (shape_at ops i) (ahead a ops i at) (number a ops i at) d) (key : List KeyPart) (parts : AllByRecursion (IsPart b) key)
+      (val : IsTrue (is_told b ops) → map (part_value b) key ≡ key_values (docs_of b) keys (binding b ops i d)) (ones : SpotsAreOne) where
+    -- the key that was seen last is that of the group
+    last_key : IsTrue (is_told b ops) → map (part_value b) (slice_index_or (seen_at b op) (m - 1) []) ≡ key_values (docs_of a) keys (binding a ops i first)
+    last_key t =
+        let some = begun.6 in
+        let few = begun.2 in
+        let one : suc (m - 1) ≡ m = omega (arith, some) in
+        some_is _ _ (
+        sym (last_taken (map (part_value b)) (seen_at b op) (m - 1) [] (let l = few_seen in omega (arith, l)))
+        ∙ ap (λ (z : ℕ). last_or None (up_to b op z)) one
+        ∙ ap (last_or None) (seen_kept a b k.kept ops bench op m few)
+        ∙ begun.8 (subst IsTrue (told-kept k.kept ops) t))
+
+    -- the key of the binding is compared with it
+    compares : IsTrue (is_told b ops) → same_parts (slice_index_or (seen_at b op) (m - 1) []) key ≡ of_group (docs_of a) (binding a ops i first) (binding b ops i d)
+    compares t =
+        same_parts-is ones b (slice_index_or (seen_at b op) (m - 1) []) key (each_one (AllByRecursion (IsPart b)) (seen_at b op) (m - 1) [] few_seen (late.parts op)) parts
+        ∙ ap (λ (z : List KeyValue). same_values z (map (part_value b) key)) (last_key t)
+        ∙ ap (same_values (key_values (docs_of a) keys (binding a ops i first))) (val t ∙ ap (λ (z : Documents). key_values z keys (binding b ops i d)) (docs_kept k.kept ops bench))
+
+    -- what is compared where the sources were told before the call
+    tests : (w : Bool) → same_parts (slice_index_or (seen_at b op) (m - 1) []) key ≡ w → IsTrue (is_told a ops) → of_group (docs_of a) (binding a ops i first) (binding b ops i d) ≡ w
+    tests w e t = sym (compares (still_told (tells_on k.kept ops) t)) ∙ e
+
+    -- a binding with another key ends the group
+    pub member_other : same_parts (slice_index_or (seen_at b op) (m - 1) []) key ≡ false → IsTrue (is_told a ops) → found (group_ahead (record { world = a; plan = p }) op first at) ≡ nothing
+    member_other e t =
+        ap (λ (w : Bool). found (passing w (of_group (docs_of a) (binding a ops i first)) (ahead a ops i at))) stops
+        ∙ found-run_no (of_group (docs_of a) (binding a ops i first)) (ahead a ops i at) (binding b ops i d) (ahead b ops i d) (f.found t) (tests false e t)
+
+    module _ (seen : was_seen key (take (suc (m - 1)) (seen_at b op)) ≡ true) where
+      -- the operator may stand there
+      pub member_seen : HasSeen b ops op d m
+      member_seen u =
+          let some = begun.6 in
+          let one : suc (m - 1) ≡ m = omega (arith, some) in
+          subst (λ (z : Shape). IsIn b ops op z (Seen' u d m)) (sym at_shape)
+          (goes_past ops op i keys made typed within at_shape a (Seen' q at m) member b bench k d f late key parts val ones
+          (ap (λ (z : ℕ). was_seen key (take z (seen_at b op))) (sym one) ∙ seen) u).cursor
+
+      -- it is the next member
+      pub member_found : (reached : List (Option Reached)) → same_parts (slice_index_or (seen_at b op) (m - 1) []) key ≡ true
+          → Searches.Finds (told_by (record { world = a; plan = p })) (members_of (record { world = world b.view b.buffers b.seen b.memos reached; plan = p }) op m first)
+          (group_ahead (record { world = a; plan = p }) op first at) (number a ops i at) d
+      member_found reached e = record {
+        cursor = (record { of = stay.cursor; row = f.row }, λ s u. (cursors_kept b here keeps ops late op (Seen' u d m) (member_seen u)).cursor);
+        row = tt;
+        falls = (let x = f.falls in let y = stay.number_is in omega (arith, x, y));
+        found = λ t.
+            found-passing_yes (stops_at ops op) (of_group (docs_of a) (binding a ops i first)) (ahead a ops i at) (binding b ops i d) (ahead b ops i d) (f.found t) (tests true e t)
+            ∙ ap (λ (z : TolledRow). finds z (events_left (docs_of a) (binding a ops i first) (ahead b ops i d))) (sym stay.binding_is)
+            ∙ ap (λ (z : RowEvents). finds (binding here ops i d) (events_left (docs_of a) (binding a ops i first) z)) (sym stay.ahead_is)
+            ∙ ap (λ (z : TolledRow). finds (binding here ops i d) (events_left (docs_of a) z (ahead here ops i d))) (sym same_first)
+            ∙ ap (λ (z : Documents). finds (binding here ops i d) (events_left z (binding here ops i first) (ahead here ops i d))) (sym (docs_kept k.kept ops bench));
+      }
+        where
+          here : World
+          here = world b.view b.buffers b.seen b.memos reached
+
+          keeps : Keeps b here
+          keeps = reached_keeps b reached
+
+          stay : Stays b here ops i d
+          stay = cursors_kept b here keeps ops late i d f.cursor
+
+          events_left : Documents → TolledRow → RowEvents → RowEvents
+          events_left docs r es = passing (stops_at ops op) (of_group docs r) es
+
+          same_first : binding here ops i first ≡ binding a ops i first
+          same_first = (cursors_kept a here (keeps_then k.kept keeps) ops bench i first begun.0).binding_is
