@@ -28,7 +28,7 @@ returns-in_ok-first-in-GroupBy c = λ view h i. group_made (state_of view c.args
 pub returns-in_ok-at-in-Concatenate : goal.returns-in_ok-at-in-Concatenate
 returns-in_ok-at-in-Concatenate c = λ view h i. list_made (state_of view c.args.bench.now) h.fixed.typed c.args.op c.requires.op c.args.c.now c.args.v
     c.in-Concatenate.input c.in-Concatenate.pieces.items c.in-Concatenate.out c.in_ok-at-in-Concatenate.at (ap op_of (sym c.in-Concatenate.is) ∙ c.operator.ensures ∙ ap (λ (p : Plan). op_at (plan_value p).ops c.args.op) c.plan.ensures) (not_other (c.in-Concatenate.out == c.args.v) _ c.ne-in-Concatenate.ensures c.if-ne-2.false)
-    (c.in_ok-at-in-Concatenate.ensures view h i)
+    (c.in_ok-at-in-Concatenate.ensures.under view h i)
 
 pub returns-then-ne : goal.returns-then-ne
 returns-then-ne c = λ view h i. ap (λ (o : Operator). makes o c.args.v) (sym (ap op_of (sym c.in-GroupBy.is) ∙ c.operator.ensures ∙ ap (λ (p : Plan). op_at (plan_value p).ops c.args.op) c.plan.ensures)) ∙ is_other (c.in-GroupBy.out == c.args.v) _ c.ne.ensures c.if-ne.true
