@@ -117,7 +117,8 @@ InGroup st g up =
 
 -- the identifier stands for the member at which it begins, with those behind it
 abbrev pub IsGroupMember : BenchState → GroupFrom → Rest → Site → Type 0
-IsGroupMember st g up n = Stands st g.op gathers_groups g.first.now → Stands st g.op gathers_groups g.at.now → IsGroup st g.op g.number g.first.now g.at.now → IsRest st up
+IsGroupMember st g up n =
+    Stands st g.op gathers_groups g.first.now → Stands st g.op gathers_groups g.at.now → IsGroup st g.op g.number g.first.now g.at.now → IsRest st up
     → StandsFor st st (member_trees st g.op g.at.now (group_trees st g.op g.first.now g.at.now (rest_trees st up))) n
 
 -- the same of a list of all bindings
