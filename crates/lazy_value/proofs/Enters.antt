@@ -4,9 +4,10 @@ use Rattle.plan_core.specs.ByNumber.{op_at}
 use Rattle.plan_core.specs.Tolled.{Tolled, ends, tolled_followed}
 use Rattle.plan_core.specs.TolledRows.{value_trees, all_items, collected}
 use Rattle.lazy_plan.specs.Bench.{BenchState, ops_of, documents, binding_at, events_of}
+use Rattle.lazy_plan.specs.Groups.{IsGroup, group_ahead}
 use Rattle.lazy_binding.specs.declared.position.Position.{Position}
 use Rattle.lazy_binding.specs.Forms.{input_at, pieces_of, piece_of, makes_list, gathers_groups}
-use Rattle.lazy_value.specs.Ids.{group_ahead, group_trees, member_trees, Stands, GathersAll, IsOrigin, value_of, IsRest, rest_trees, weight}
+use Rattle.lazy_value.specs.Ids.{group_trees, member_trees, Stands, GathersAll, IsOrigin, value_of, IsRest, rest_trees, weight}
 use Rattle.lazy_value.specs.Origins.{origin_size}
 use Rattle.lazy_value.specs.Steps.{StandsFor, GoesOn}
 use Rattle.lazy_value.specs.Ways.{IsWay, IsWays}
@@ -38,9 +39,9 @@ module _ (st : BenchState) (behind : Rest) (h : IsRest st behind) where
       (collected_followed (documents st) (piece_of (ops_of st) op) (events_of st (input_at (ops_of st) op)) (ends 0) (rest_trees st behind)
       ∙ ap (collected (documents st) (piece_of (ops_of st) op) (events_of st (input_at (ops_of st) op))) nothing_before)
 
-  group_before : (op : ℕ) (c : Position)
-      → value_trees (documents st) (value_of st (Same op c)) (rest_trees st behind) ≡ member_trees st op c (group_trees st op c c (rest_trees st behind))
-  group_before op c =
+  group_before : (op : ℕ) (c : Position) (number : ℕ)
+      → value_trees (documents st) (value_of st (Same op c number)) (rest_trees st behind) ≡ member_trees st op c (group_trees st op c c (rest_trees st behind))
+  group_before op c number =
       piece_followed (documents st) (piece_of (ops_of st) op) (binding_at st (input_at (ops_of st) op) c) (group_trees st op c c (ends 0)) (rest_trees st behind)
       ∙ ap (member_trees st op c) (collected_followed (documents st) (piece_of (ops_of st) op) (group_ahead st op c c) (ends 0) (rest_trees st behind)
       ∙ ap (group_trees st op c c) nothing_before)
@@ -68,10 +69,10 @@ module _ (st : BenchState) (origin : Origin) (behind x : Rest) (o : IsOrigin st 
       (enter_all st behind h op q (subst (λ (w : Origin). IsOrigin st w) e o)))
 
   -- a group, and what is behind it
-  pub group_stands : (op : ℕ) (c : Position) (n : Site) → origin ≡ Same op c
-      → (Stands st op gathers_groups c → Stands st op gathers_groups c → IsRest st behind → StandsFor st st (member_trees st op c (group_trees st op c c (rest_trees st behind))) n)
+  pub group_stands : (op : ℕ) (c : Position) (number : ℕ) (n : Site) → origin ≡ Same op c number
+      → (Stands st op gathers_groups c → Stands st op gathers_groups c → IsGroup st op number c c → IsRest st behind → StandsFor st st (member_trees st op c (group_trees st op c c (rest_trees st behind))) n)
       → StandsFor st st (value_trees (documents st) (value_of st origin) (rest_trees st behind)) n
-  group_stands op c n e k =
-      let s = (subst (λ (w : Origin). IsOrigin st w) e o).0 in
+  group_stands op c number n e k =
+      let s = subst (λ (w : Origin). IsOrigin st w) e o in
       subst (λ (w : Origin). StandsFor st st (value_trees (documents st) (value_of st w) (rest_trees st behind)) n) (sym e)
-      (subst (λ (f : Tolled). StandsFor st st f n) (sym (group_before st behind h op c)) (k s s h))
+      (subst (λ (f : Tolled). StandsFor st st f n) (sym (group_before st behind h op c number)) (k s.0 s.0 s.2 h))

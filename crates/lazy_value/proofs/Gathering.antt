@@ -10,13 +10,14 @@ use Rattle.plan_core.specs.TolledRows.{TolledRow, piece_items, collected}
 use Rattle.plan_core.specs.Events.{RowEvents}
 use Rattle.lazy_plan.specs.declared.bench.Bench.{Bench}
 use Rattle.lazy_plan.specs.Bench.{BenchState, state_of, told_by, ops_of, documents, number_at, KeepsBench, AsksAtMost, IsFirstOf}
+use Rattle.lazy_plan.specs.Groups.{group_ahead, IsGroup}
 use Rattle.lazy_binding.specs.declared.position.Position.{Position}
-use Rattle.lazy_binding.specs.Forms.{input_at, piece_of, gathers_all}
-use Rattle.lazy_value.specs.Ids.{ahead_from, number_from, members_trees, group_ahead, group_trees, member_trees, Stands, GathersAll, IsRest, rest_trees, weight, left}
+use Rattle.lazy_binding.specs.Forms.{input_at, piece_of, gathers_all, gathers_groups}
+use Rattle.lazy_value.specs.Ids.{ahead_from, number_from, members_trees, group_trees, member_trees, Stands, GathersAll, IsRest, rest_trees, weight, left}
 use Rattle.lazy_value.specs.Steps.{Walked, StandsFor, GoesOn, IsMember}
 use Rattle.lazy_value.specs.declared.ids.Rest.{Rest}
 use Rattle.lazy_value.specs.declared.ids.Site.{Site}
-use Rattle.lazy_value.proofs.Keep.{ops_kept, input_kept, rest_trees-kept, IsRest-kept, left-kept, GathersAll-kept}
+use Rattle.lazy_value.proofs.Keep.{ops_kept, input_kept, rest_trees-kept, IsRest-kept, left-kept, GathersAll-kept, Stands-kept, IsGroup-kept}
 use Rattle.lazy_value.proofs.Laws.{collected_nothing, collected_finds, toll_collected}
 use Rattle.lazy_value.proofs.Turns.{on_end, at_behind}
 
@@ -105,7 +106,7 @@ module _ {S : Type 0} {view : S → View} {came_from : S → S → Type 0} (s t 
       (toll_collected (documents (state_of (view s) b)) (piece_of (ops_of (state_of (view s) b)) op) (group_ahead (state_of (view s) b) op first at) (rest_trees (state_of (view s) b) up))
 
   module _ (h : IsRest (state_of (view s) b) up) where
-    pub group_rest : IsRest (state_of (view t) d) up
+    group_rest : IsRest (state_of (view t) d) up
     group_rest = IsRest-kept (state_of (view s) b) (state_of (view t) d) walked.kept up h
 
     -- without a further one the list is at its end
@@ -116,13 +117,21 @@ module _ {S : Type 0} {view : S → View} {came_from : S → S → Type 0} (s t 
     pub group_left : (x : Rest) → x ≡ up → left (state_of (view t) d) x ≤ number_at (state_of (view s) b) (input_at (ops_of (state_of (view s) b)) op) at + left (state_of (view s) b) up
     group_left x z = left_over (state_of (view s) b) (state_of (view t) d) walked.kept op up h _ x z
 
-    module _ (p : Position) (f : IsMember (state_of (view s) b) (state_of (view t) d) op first (group_ahead (state_of (view s) b) op first at) (number_at (state_of (view s) b) (input_at (ops_of (state_of (view s) b)) op) at) p) where
+    module _ (number : ℕ) (p : Position) (f : IsMember (state_of (view s) b) (state_of (view t) d) op number first (group_ahead (state_of (view s) b) op first at) (number_at (state_of (view s) b) (input_at (ops_of (state_of (view s) b)) op) at) p) where
       -- its trees are the first of the list
       pub group_stand : (n : Site) → StandsFor (state_of (view t) d) (state_of (view t) d) (member_trees (state_of (view t) d) op p (group_trees (state_of (view t) d) op first p (rest_trees (state_of (view t) d) up))) n
           → StandsFor (state_of (view s) b) (state_of (view t) d) (group_trees (state_of (view s) b) op first at (rest_trees (state_of (view s) b) up)) n
       group_stand n w =
           at_behind (state_of (view s) b) (state_of (view t) d) walked.kept (cost (group_ahead (state_of (view s) b) op first at)) _ _
           (λ y. gathers_some (state_of (view s) b) (state_of (view t) d) walked.kept op up h (group_ahead (state_of (view s) b) op first at) _ _ (f.found y)) n w
+
+      -- it is in the group, before what is behind the list
+      pub group_in : Stands (state_of (view s) b) op gathers_groups first → IsGroup (state_of (view s) b) op number first at
+          → Stands (state_of (view t) d) op gathers_groups first × Stands (state_of (view t) d) op gathers_groups p × IsGroup (state_of (view t) d) op number first p × IsRest (state_of (view t) d) up
+      group_in i j =
+          let k = Stands-kept (state_of (view s) b) (state_of (view t) d) walked.kept op gathers_groups first i in
+          let l = IsGroup-kept (state_of (view s) b) (state_of (view t) d) walked.kept op number first at j in
+          (k, record { within = k.within; is = k.is; cursor = f.cursor.0 }, record { begins = l.begins; member = f.cursor.1 }, group_rest)
 
       pub group_fall : (m : ℕ) → m ≡ number_at (state_of (view t) d) (input_at (ops_of (state_of (view t) d)) op) p + left (state_of (view t) d) up
           → m < number_at (state_of (view s) b) (input_at (ops_of (state_of (view s) b)) op) at + left (state_of (view s) b) up

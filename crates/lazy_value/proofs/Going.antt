@@ -11,14 +11,14 @@ use Rattle.plan_core.specs.Plans.{Operator}
 use Rattle.plan_core.specs.ByNumber.{op_at}
 use Rattle.plan_core.specs.TolledRows.{TolledRow}
 use Rattle.plan_core.specs.Events.{RowEvents, only, passing}
-use Rattle.plan_core.proofs.Found.{found-only_no, cost-only_no, found-passing_none, found-passing_yes, found-run_no, cost-passing_le}
+use Rattle.plan_core.proofs.Found.{found-only_no, cost-only_no, found-passing_none, found-passing_yes, cost-passing_le}
 use Rattle.lazy_plan.specs.declared.bench.Bench.{Bench}
 use Rattle.lazy_plan.specs.Bench.{BenchState, state_of, told_by, told, ops_of, documents, IsCursor, binding_at, ahead_at, number_at, KeepsBench, AsksAtMost, IsFirstOf, BenchRan}
+use Rattle.lazy_plan.specs.Groups.{stops_at, group_ahead, InGroup, members_of}
 use Rattle.lazy_binding.specs.declared.position.Position.{Position}
 use Rattle.lazy_plan.proofs.Benches.{keeps_on}
 use Rattle.lazy_binding.specs.Forms.{input_at, keys_of}
-use Rattle.lazy_value.specs.Ids.{stops_at, group_ahead}
-use Rattle.lazy_value.specs.Steps.{Walked, members_of, IsMember}
+use Rattle.lazy_value.specs.Steps.{Walked, IsMember}
 use Rattle.lazy_value.proofs.Keep.{ops_kept, input_kept, binding_kept}
 use Rattle.lazy_value.proofs.Sames.{same_by}
 use Rattle.lazy_value.proofs.Turns.{tells_on}
@@ -27,6 +27,14 @@ use Rattle.lazy_value.proofs.Turns.{tells_on}
 pub record Goes (a b : BenchState) (whole now : RowEvents) (top num : ℕ) : Type 0 where
   pub kept : KeepsBench a b
   pub comes : Comes (told_by a) (told_by b) whole now top num
+
+-- a test does not both hold and fail
+no_both : true ≡ false → ⊥
+no_both e = cc
+
+-- groups that don't stop don't stop after a call
+pub among_after : (b c : BenchState) → KeepsBench b c → (op : ℕ) → stops_at (ops_of b) op ≡ false → stops_at (ops_of c) op ≡ false
+among_after b c k op n = ap (λ (ops : List Operator). stops_at ops op) (ops_kept b c k) ∙ n
 
 -- at the beginning
 pub goes_start : (a : BenchState) (whole : RowEvents) (top : ℕ) → Goes a a whole whole top top
@@ -65,14 +73,14 @@ module _ (a b c : BenchState) (whole : RowEvents) (op : ℕ) (first at : Positio
   pub goes_done : FindsNone (told_by b) (ahead_at b (input_at (ops_of b) op) at) → FindsNone (told_by a) whole
   goes_done h = comes_none g.comes (λ y. found-passing_none (stops_at (ops_of b) op) (passes b op first) (ahead_at b (input_at (ops_of b) op) at) (h y))
 
-  module _ (h : IsCursor b (input_at (ops_of b) op) first) (d : Position) (f : IsFirstOf b c (input_at (ops_of b) op) (ahead_at b (input_at (ops_of b) op) at) (number_at b (input_at (ops_of b) op) at) d) where
+  module _ (number : ℕ) (among : stops_at (ops_of b) op ≡ false) (h : IsCursor b (input_at (ops_of b) op) first) (d : Position) (f : IsFirstOf b c (input_at (ops_of b) op) (ahead_at b (input_at (ops_of b) op) at) (number_at b (input_at (ops_of b) op) at) d) where
     input_same : input_at (ops_of c) op ≡ input_at (ops_of b) op
     input_same = input_kept b c k op
 
     pub cursor_same : IsCursor c (input_at (ops_of c) op) d
     cursor_same = subst (λ (n : ℕ). IsCursor c n d) (sym input_same) f.cursor
 
-    pub falls_same : number_at c (input_at (ops_of c) op) d < number_at b (input_at (ops_of b) op) at
+    falls_same : number_at c (input_at (ops_of c) op) d < number_at b (input_at (ops_of b) op) at
     falls_same = subst (λ (n : ℕ). number_at c n d < number_at b (input_at (ops_of b) op) at) (sym input_same) f.falls
 
     -- what is found
@@ -84,11 +92,15 @@ module _ (a b c : BenchState) (whole : RowEvents) (op : ℕ) (first at : Positio
         → passes b op first (binding_at c (input_at (ops_of c) op) d) ≡ w
     test_before w t y = sym (passes_kept b c k op first h (binding_at c (input_at (ops_of c) op) d)) ∙ t (still_told (tells_on k) y)
 
+    -- where groups don't stop nothing is asked of a cursor in one
+    in_group : InGroup c op number d
+    in_group stops = (let e : true ≡ false = sym stops ∙ among_after b c k op among in absurd (no_both e))
+
     -- a binding of the group is the next member
     member_at : (IsTrue (told c) → passes c op first (binding_at c (input_at (ops_of c) op) d) ≡ true)
-        → IsMember b c op first (group_ahead b op first at) (number_at b (input_at (ops_of b) op) at) d
+        → IsMember b c op number first (group_ahead b op first at) (number_at b (input_at (ops_of b) op) at) d
     member_at t = record {
-      cursor = cursor_same;
+      cursor = (cursor_same, in_group);
       row = tt;
       falls = falls_same;
       found = λ y.
@@ -97,19 +109,19 @@ module _ (a b c : BenchState) (whole : RowEvents) (op : ℕ) (first at : Positio
     }
 
     -- and the first of all that are searched
-    pub goes_yes : (IsTrue (told c) → passes c op first (binding_at c (input_at (ops_of c) op) d) ≡ true) → IsMember a c op first whole top d
-    goes_yes t = comes_at g.comes {now = members_of c op first} (member_at t)
+    pub goes_yes : (IsTrue (told c) → passes c op first (binding_at c (input_at (ops_of c) op) d) ≡ true) → IsMember a c op number first whole top d
+    goes_yes t = comes_at g.comes {now = members_of c op number first} (member_at t)
 
-    -- another one is passed, where the group doesn't stop at it
-    member_on : stops_at (ops_of b) op ≡ false → (IsTrue (told c) → passes c op first (binding_at c (input_at (ops_of c) op) d) ≡ false)
-        → Moves (told_by b) (told_by c) (members_of c op first) (group_ahead b op first at) (number_at b (input_at (ops_of b) op) at) d
-    member_on n t =
+    -- another one is passed
+    member_on : (IsTrue (told c) → passes c op first (binding_at c (input_at (ops_of c) op) d) ≡ false)
+        → Moves (told_by b) (told_by c) (members_of c op number first) (group_ahead b op first at) (number_at b (input_at (ops_of b) op) at) d
+    member_on t =
         let es : RowEvents = ahead_at b (input_at (ops_of b) op) at in
-        let is : passing (stops_at (ops_of b) op) (passes b op first) es ≡ only (passes b op first) es = ap (λ (w : Bool). passing w (passes b op first) es) n in
+        let is : passing (stops_at (ops_of b) op) (passes b op first) es ≡ only (passes b op first) es = ap (λ (w : Bool). passing w (passes b op first) es) among in
         let later : RowEvents = ahead_at c (input_at (ops_of c) op) d in
-        let then : only (passes b op first) later ≡ group_ahead c op first d = ap (λ (w : Bool). passing w (passes b op first) later) (sym n) ∙ behind_kept b c k op first h later in
+        let then : only (passes b op first) later ≡ group_ahead c op first d = ap (λ (w : Bool). passing w (passes b op first) later) (sym among) ∙ behind_kept b c k op first h later in
         record {
-          cursor = cursor_same;
+          cursor = (cursor_same, in_group);
           falls = falls_same;
           found = λ y. ap found is ∙ found-only_no (passes b op first) es _ _ (finds_it y) (test_before false t y) ∙ ap found then;
           lazy = λ y w. (let i = e y w in
@@ -119,15 +131,9 @@ module _ (a b c : BenchState) (whole : RowEvents) (op : ℕ) (first at : Positio
         }
 
     -- from which the search goes on
-    pub goes_no : stops_at (ops_of b) op ≡ false → (IsTrue (told c) → passes c op first (binding_at c (input_at (ops_of c) op) d) ≡ false)
+    pub goes_no : (IsTrue (told c) → passes c op first (binding_at c (input_at (ops_of c) op) d) ≡ false)
         → Goes a c whole (group_ahead c op first d) top (number_at c (input_at (ops_of c) op) d)
-    goes_no n t = record { kept = goes_kept; comes = comes_then g.comes {now = members_of c op first} (tells_on k) (member_on n t) }
-
-    -- where it stops there, there is no further member
-    pub goes_end : stops_at (ops_of b) op ≡ true → (IsTrue (told c) → passes c op first (binding_at c (input_at (ops_of c) op) d) ≡ false) → FindsNone (told_by a) whole
-    goes_end n t =
-        let es : RowEvents = ahead_at b (input_at (ops_of b) op) at in
-        comes_none g.comes (λ y. ap (λ (w : Bool). found (passing w (passes b op first) es)) n ∙ found-run_no (passes b op first) es _ _ (finds_it y) (test_before false t y))
+    goes_no t = record { kept = goes_kept; comes = comes_then g.comes {now = members_of c op number first} (tells_on k) (member_on t) }
 
 -- what the code compared is the test
 pub test_is : (c : BenchState) (op input : ℕ) (first d : Position) (keys : List Key) (b t : Bool) → input ≡ input_at (ops_of c) op → keys ≡ keys_of (op_at (ops_of c) op)
@@ -161,7 +167,7 @@ module _ {S : Type 0} {view : S → View} {came_from : S → S → Type 0} (afte
       goes_done (state_of (view s) p) (state_of (view t) q) (state_of (view u) r) whole op first at g ran.kept asked
       (subst (λ (n : ℕ). FindsNone (told_by (state_of (view t) q)) (ahead_at (state_of (view t) q) n at)) i h)
 
-  module _ (h : IsCursor (state_of (view t) q) (input_at (ops_of (state_of (view t) q)) op) first) (d : Position)
+  module _ (number : ℕ) (among : stops_at (ops_of (state_of (view t) q)) op ≡ false) (h : IsCursor (state_of (view t) q) (input_at (ops_of (state_of (view t) q)) op) first) (d : Position)
       (f : IsFirstOf (state_of (view t) q) (state_of (view u) r) input (ahead_at (state_of (view t) q) input at) (number_at (state_of (view t) q) input at) d) where
     first_found : IsFirstOf (state_of (view t) q) (state_of (view u) r) (input_at (ops_of (state_of (view t) q)) op) (ahead_at (state_of (view t) q) (input_at (ops_of (state_of (view t) q)) op) at)
         (number_at (state_of (view t) q) (input_at (ops_of (state_of (view t) q)) op) at) d
@@ -169,27 +175,14 @@ module _ {S : Type 0} {view : S → View} {came_from : S → S → Type 0} (afte
 
     -- the cursor that was found is one of the input
     pub found_cursor : IsCursor (state_of (view u) r) (input_at (ops_of (state_of (view u) r)) op) d
-    found_cursor = cursor_same (state_of (view s) p) (state_of (view t) q) (state_of (view u) r) whole op first at g ran.kept asked h d first_found
-
-    pub found_falls : number_at (state_of (view u) r) (input_at (ops_of (state_of (view u) r)) op) d < number_at (state_of (view t) q) (input_at (ops_of (state_of (view t) q)) op) at
-    found_falls = falls_same (state_of (view s) p) (state_of (view t) q) (state_of (view u) r) whole op first at g ran.kept asked h d first_found
+    found_cursor = cursor_same (state_of (view s) p) (state_of (view t) q) (state_of (view u) r) whole op first at g ran.kept asked number among h d first_found
 
     -- a binding of the group is the next member
     pub member_found : (IsTrue (told (state_of (view u) r)) → passes (state_of (view u) r) op first (binding_at (state_of (view u) r) (input_at (ops_of (state_of (view u) r)) op) d) ≡ true)
-        → IsMember (state_of (view s) p) (state_of (view u) r) op first whole top d
-    member_found = goes_yes (state_of (view s) p) (state_of (view t) q) (state_of (view u) r) whole op first at g ran.kept asked h d first_found
+        → IsMember (state_of (view s) p) (state_of (view u) r) op number first whole top d
+    member_found = goes_yes (state_of (view s) p) (state_of (view t) q) (state_of (view u) r) whole op first at g ran.kept asked number among h d first_found
 
-    -- whether the group stops is the same after the call
-    stops_before : (w : Bool) → stops_at (ops_of (state_of (view u) r)) op ≡ w → stops_at (ops_of (state_of (view t) q)) op ≡ w
-    stops_before w n = ap (λ (ops : List Operator). stops_at ops op) (sym (ops_kept (state_of (view t) q) (state_of (view u) r) ran.kept)) ∙ n
-
-    -- another one is passed, where the group doesn't stop at it
-    pub goes_on : stops_at (ops_of (state_of (view u) r)) op ≡ false → (IsTrue (told (state_of (view u) r)) → passes (state_of (view u) r) op first (binding_at (state_of (view u) r) (input_at (ops_of (state_of (view u) r)) op) d) ≡ false)
+    -- another one is passed
+    pub goes_on : (IsTrue (told (state_of (view u) r)) → passes (state_of (view u) r) op first (binding_at (state_of (view u) r) (input_at (ops_of (state_of (view u) r)) op) d) ≡ false)
         → Goes (state_of (view s) p) (state_of (view u) r) whole (group_ahead (state_of (view u) r) op first d) top (number_at (state_of (view u) r) (input_at (ops_of (state_of (view u) r)) op) d)
-    goes_on n = goes_no (state_of (view s) p) (state_of (view t) q) (state_of (view u) r) whole op first at g ran.kept asked h d first_found (stops_before false n)
-
-    -- where it stops there, there is no further member
-    pub goes_over : stops_at (ops_of (state_of (view u) r)) op ≡ true
-        → (IsTrue (told (state_of (view u) r)) → passes (state_of (view u) r) op first (binding_at (state_of (view u) r) (input_at (ops_of (state_of (view u) r)) op) d) ≡ false)
-        → FindsNone (told_by (state_of (view s) p)) whole
-    goes_over n = goes_end (state_of (view s) p) (state_of (view t) q) (state_of (view u) r) whole op first at g ran.kept asked h d first_found (stops_before true n)
+    goes_on = goes_no (state_of (view s) p) (state_of (view t) q) (state_of (view u) r) whole op first at g ran.kept asked number among h d first_found

@@ -11,10 +11,11 @@ use Rattle.plan_core.specs.Tolled.{Tolled, ends, item, charged}
 use Rattle.plan_core.specs.TolledRows.{TolledRow, piece_items, all_items, collected}
 use Rattle.plan_core.specs.Events.{RowEvents, events, group_behind, tolled_document}
 use Rattle.lazy_plan.specs.Bench.{BenchState, ops_of, documents, events_of, size_of, IsCursor, CursorStays, binding_at, ahead_at, number_at, IsSpotAt, node_at, KeepsBench}
-use Rattle.lazy_binding.specs.declared.position.Position.{Position}
+use Rattle.lazy_plan.specs.Groups.{stops_at, group_ahead, IsGroup}
+use Rattle.lazy_binding.specs.declared.position.Position.{Position, First', Seen'}
 use Rattle.lazy_binding.specs.Forms.{Form, makes_list, makes_element, gathers_groups, form, input_at, pieces_of, keys_of, label_in, piece_at, piece_of, text_of, is_text}
 use Rattle.lazy_value.specs.Sizes.{pieces_count, size, extent}
-use Rattle.lazy_value.specs.Ids.{element_trees, pieces_trees, ahead_from, members_trees, stops_at, group_ahead, group_trees, Stands, GathersAll, IsHead, head_label, head_trees, IsRest, rest_trees, here, IsSite, weight, number_from, left, site_left}
+use Rattle.lazy_value.specs.Ids.{element_trees, pieces_trees, ahead_from, members_trees, group_trees, Stands, GathersAll, IsHead, head_label, head_trees, IsRest, rest_trees, here, IsSite, weight, number_from, left, site_left}
 use Rattle.lazy_value.specs.Steps.{KeepsSites}
 use Rattle.lazy_value.specs.Ways.{IsWays}
 use Rattle.lazy_value.proofs.Along.{IsWays-kept}
@@ -107,6 +108,12 @@ module _ (a b : BenchState) (k : KeepsBench a b) where
       behind : Documents → List Operator → TolledRow → RowEvents → RowEvents
       behind d ops row es = group_behind d (keys_of (op_at ops op)) (stops_at ops op) row es
 
+  pub IsGroup-kept : (op number : ℕ) (first at : Position) → IsGroup a op number first at → IsGroup b op number first at
+  IsGroup-kept op number first at h = record {
+    begins = λ q. k.positions op (First' q first number) (h.begins q);
+    member = λ t q. k.positions op (Seen' q at number) (h.member (subst (λ (ops : List Operator). IsTrue (stops_at ops op)) ops_kept t) q);
+  }
+
   pub IsRest-kept : (r : Rest) → IsRest a r → IsRest b r
   IsRest-kept End h = tt
   IsRest-kept (Pieces' op at next ways q up) h = (
@@ -116,15 +123,16 @@ module _ (a b : BenchState) (k : KeepsBench a b) where
     IsRest-kept up h.3,
   )
   IsRest-kept (Members' op at q up) h = (GathersAll-kept op h.0, at-kept op at h.1, IsRest-kept up h.2)
-  IsRest-kept (Group' op first at q up) h = (Stands-kept op gathers_groups first h.0, Stands-kept op gathers_groups at h.1, IsRest-kept up h.2)
+  IsRest-kept (Group' op first number at q up) h =
+      (Stands-kept op gathers_groups first h.0, Stands-kept op gathers_groups at h.1, IsGroup-kept op number first at h.2, IsRest-kept up h.3)
 
   pub rest_trees-kept : (r : Rest) → IsRest a r → rest_trees b r ≡ rest_trees a r
   rest_trees-kept End h = refl
   rest_trees-kept (Pieces' op at next ways q up) h = ap (pieces_trees b op at next) (rest_trees-kept up h.3) ∙ pieces-kept op at next (rest_trees a up) h.0
   rest_trees-kept (Members' op at q up) h =
       ap (members_trees b op at) (rest_trees-kept up h.2) ∙ collected-kept op (ahead_from b (input_at (ops_of b) op) at) (ahead_from a (input_at (ops_of a) op) at) (rest_trees a up) (ahead_from-kept op at h.1)
-  rest_trees-kept (Group' op first at q up) h =
-      ap (group_trees b op first at) (rest_trees-kept up h.2) ∙ collected-kept op (group_ahead b op first at) (group_ahead a op first at) (rest_trees a up) (group_ahead-kept op first at h.0 h.1)
+  rest_trees-kept (Group' op first number at q up) h =
+      ap (group_trees b op first at) (rest_trees-kept up h.3) ∙ collected-kept op (group_ahead b op first at) (group_ahead a op first at) (rest_trees a up) (group_ahead-kept op first at h.0 h.1)
 
   pub weight-kept : (r : Rest) → IsRest a r → weight b r ≡ weight a r
   weight-kept End h = refl
@@ -132,7 +140,7 @@ module _ (a b : BenchState) (k : KeepsBench a b) where
       ap (λ (ops : List Operator). suc (pieces_count (λ v. suc (size ops (input_at ops op) v)) (drop next (pieces_of (op_at ops op))) + weight b up)) ops_kept
       ∙ ap (λ (n : ℕ). suc (pieces_count (λ v. suc (size (ops_of a) (input_at (ops_of a) op) v)) (drop next (pieces_of (op_at (ops_of a) op))) + n)) (weight-kept up h.3)
   weight-kept (Members' op at q up) h = ap suc (weight-kept up h.2)
-  weight-kept (Group' op first at q up) h = ap suc (weight-kept up h.2)
+  weight-kept (Group' op first number at q up) h = ap suc (weight-kept up h.3)
 
   IsHead-kept : (x : Head) → IsHead a x → IsHead b x
   IsHead-kept (Whole s p) h = (k.spots s p h).spot
@@ -193,7 +201,7 @@ module _ (a b : BenchState) (k : KeepsBench a b) where
       ∙ ap (λ (ops : List Operator). pieces_count (extent (size_of a) ops (input_at ops op)) (drop next (pieces_of (op_at ops op)))) ops_kept in
       let i = left-kept up h.3 in omega (arith, e, i)
   left-kept (Members' op at q up) h = let i = left-kept up h.2 in let j = number_from-kept op at h.1 in omega (arith, i, j)
-  left-kept (Group' op first at q up) h = let i = left-kept up h.2 in let j = number_kept op at h.1.cursor in omega (arith, i, j)
+  left-kept (Group' op first number at q up) h = let i = left-kept up h.3 in let j = number_kept op at h.1.cursor in omega (arith, i, j)
 
   site_left-kept : (n : Site) → IsSite a n → site_left b n ≤ site_left a n
   site_left-kept Root h = omega arith

@@ -21,7 +21,8 @@ use Rattle.plan_core.specs.Tolled.{ends}
 use Rattle.plan_core.specs.TolledRows.{TolledRow, of_source, element, trees, tolled_value, row_node, piece_items, all_items, collected}
 use Rattle.plan_core.specs.Events.{RowEvents, group_row, group_behind}
 use Rattle.plan_core.specs.Fronts.{op_stops, stops_over}
-use Rattle.lazy_plan.specs.Bench.{BenchState, ops_of, documents, events_of, size_of, IsCursor, binding_at, ahead_at, number_at, IsSpotAt, IsSpotOf, node_at, IsUnder, IsMadeOf}
+use Rattle.lazy_plan.specs.Bench.{BenchState, ops_of, documents, events_of, size_of, IsCursor, binding_at, ahead_at, IsSpotAt, IsSpotOf, node_at, IsUnder, IsMadeOf}
+use Rattle.lazy_plan.specs.Groups.{IsGroup}
 use Rattle.lazy_binding.specs.declared.position.Position.{Position}
 use Rattle.lazy_plan.proofs.Benches.{all_groups}
 use Rattle.lazy_binding.specs.Forms.{Form, form, input_of, pieces_of, keys_of, label_in, input_at, makes_list, makes_element, gathers_groups}
@@ -108,6 +109,11 @@ pub node_here : (p : Plan) (n v : ℕ) → IsMadeHere p n v → makes (op_at (pl
 node_here p n v (inl h) other = h
 node_here p n v (inr m) other = cc
 
+-- the form of groups
+pub groups_form : (i : ℕ) (keys : List Key) (piece : Piece) (out : ℕ) → (keys ≡ [] → ⊥) → form (over i (group_by keys piece out)) ≡ gathers_groups
+groups_form i [] piece out h = absurd (h refl)
+groups_form i (k ∷ keys) piece out h = refl
+
 module _ (st : BenchState) (typed : IsTyped (ops_of st)) (n : ℕ) (within : n < length (ops_of st)) (c : Position) (v : ℕ) where
   -- a node of a source
   pub node_made : (s : ℕ) (x : Spot) → kinds (ops_of st) n v ≡ Some a_node → s ≡ (row_node (binding_at st n c) v).source → IsSpotOf st n c v (row_node (binding_at st n c) v).source x
@@ -140,11 +146,6 @@ module _ (st : BenchState) (typed : IsTyped (ops_of st)) (n : ℕ) (within : n <
         rank = omega arith;
       }
 
-  -- the form of groups
-  groups_form : (i : ℕ) (keys : List Key) (piece : Piece) (out : ℕ) → (keys ≡ [] → ⊥) → form (over i (group_by keys piece out)) ≡ gathers_groups
-  groups_form i [] piece out h = absurd (h refl)
-  groups_form i (k ∷ keys) piece out h = refl
-
   -- an operator that stands over a cursor of its input
   stands_over : (o : Operator) (f : Form) (d : Position) → o ≡ op_at (ops_of st) n → form o ≡ f → IsCursor st (input_of o) d → Stands st n f d
   stands_over o f d e h k = record { within = within; is = ap form (sym e) ∙ h; cursor = subst (λ (p : Operator). IsCursor st (input_of p) d) e k }
@@ -160,15 +161,16 @@ module _ (st : BenchState) (typed : IsTyped (ops_of st)) (n : ℕ) (within : n <
   by_keys row below es i (k ∷ keys) piece out some h = h
 
   -- a group
-  pub group_made : (i : ℕ) (keys : List Key) (piece : Piece) (out : ℕ) (d : Position) → over i (group_by keys piece out) ≡ op_at (ops_of st) n → (keys ≡ [] → ⊥) → (out == v) ≡ true
-      → IsUnder st n c i d → IsOriginOf st n c v (Same n d)
-  group_made i keys piece out d e some t u =
+  pub group_made : (i : ℕ) (keys : List Key) (piece : Piece) (out : ℕ) (d : Position) (number : ℕ) → over i (group_by keys piece out) ≡ op_at (ops_of st) n → (keys ≡ [] → ⊥) → (out == v) ≡ true
+      → IsUnder st n c (input_at (ops_of st) n) d → IsGroup st n number d d → IsOriginOf st n c v (Same n d number)
+  group_made i keys piece out d number e some t under group =
       let o : Operator = over i (group_by keys piece out) in
+      let u = subst (λ (p : Operator). IsUnder st n c (input_of p) d) (sym e) under in
       let k = numbering.kind_of (ops_of st) typed n within o e v ∙ ap (λ (g : Kinds). g v) (group_kinds keys piece out (kinds (ops_of st) i)) in
       let s = numbering.size_of (ops_of st) typed n within o e v ∙ cond_true (out == v) 3 _ t in
       let x = numbering.extent_of (ops_of st) typed n within o e (size_of st) v ∙ cond_true (out == v) (suc (size_of st i)) _ t in
       record {
-        origin = (stands_over o gathers_groups d e (groups_form i keys piece out some) u.cursor, subst (λ (p : Operator). number_at st (input_of p) d ≤ size_of st (input_of p)) e u.low);
+        origin = (stands_over o gathers_groups d e (groups_form i keys piece out some) u.cursor, under.low, group);
         value = ap (λ (r : TolledRow). tolled_value r v) (by_keys (binding_at st n c) (binding_at st i d) (ahead_at st i d) i keys piece out some (made_by o d e u)) ∙ cond_true (out == v) _ _ t
             ∙ ap (λ (p : Operator). trees (piece_items (documents st) (slice_index_or (pieces_of p) 0 (text_piece [])) (binding_at st (input_of p) d)
             (collected (documents st) (slice_index_or (pieces_of p) 0 (text_piece [])) (group_behind (documents st) (keys_of p) (op_stops (ops_of st) p) (binding_at st (input_of p) d) (ahead_at st (input_of p) d)) (ends 0)))) e;

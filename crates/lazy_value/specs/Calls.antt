@@ -1,7 +1,6 @@
 -- What contracts say of the states of a bench, each state named once.
 use Rattle.std.specs.Prelude.{◌≡◌, ℕ, suc, Bool, ◌+◌, ◌<◌, ◌≤◌, length, Option, Some, MatchOption, List}
 use Rattle.mix_base.specs.Events.{cost}
-use Rattle.lazy_descend.specs.Searches as Searches
 use Rattle.mix_tree.specs.Forest.{first_kids, behind}
 use Rattle.mix_tree.specs.declared.var.Key.{Key}
 use Rattle.lxp_core.specs.View.{View}
@@ -10,13 +9,14 @@ use Rattle.plan_core.specs.Events.{RowEvents}
 use Rattle.plan_core.specs.Tolled.{Tolled, toll, charged}
 use Rattle.plan_core.specs.TolledRows.{key_value, key_values, same_value, same_values, row_node, value_trees}
 use Rattle.lazy_plan.specs.declared.bench.Bench.{Bench}
+use Rattle.lazy_plan.specs.declared.groups.GroupFrom.{GroupFrom}
+use Rattle.lazy_plan.specs.Groups.{IsGroup}
 use Rattle.lazy_binding.specs.declared.position.Position.{Position}
-use Rattle.lazy_plan.specs.Bench.{BenchState, state_of, IsBenchOf, ops_of, told_by, documents, binding_at, number_at, trees_at_spot, GivesFirst}
+use Rattle.lazy_plan.specs.Bench.{BenchState, state_of, IsBenchOf, ops_of, documents, binding_at, number_at, trees_at_spot, GivesFirst}
 use Rattle.lazy_binding.specs.Forms.{makes_list, gathers_all, gathers_groups, input_at, pieces_of}
-use Rattle.lazy_value.specs.Ids.{Stands, IsOrigin, value_of, IsRest, rest_trees, weight, left, site_left, pieces_size, pieces_extent, pieces_trees, member_trees, members_trees, group_ahead, group_trees, ahead_from, number_from}
+use Rattle.lazy_value.specs.Ids.{Stands, IsOrigin, value_of, IsRest, rest_trees, weight, left, site_left, pieces_size, pieces_extent, pieces_trees, member_trees, members_trees, group_trees, ahead_from, number_from}
 use Rattle.lazy_value.specs.Origins.{origin_size, origin_extent}
-use Rattle.lazy_value.specs.Steps.{Walked, StandsFor, Turns, Falls, members_of}
-use Rattle.lazy_value.specs.declared.ids.GroupFrom.{GroupFrom}
+use Rattle.lazy_value.specs.Steps.{Walked, StandsFor, Turns, Falls}
 use Rattle.lazy_value.specs.declared.ids.MembersFrom.{MembersFrom}
 use Rattle.lazy_value.specs.declared.ids.Origin.{Origin}
 use Rattle.lazy_value.specs.declared.ids.PiecesFrom.{PiecesFrom}
@@ -112,11 +112,13 @@ same_keys_at st op first c keys = same_values (key_values (documents st) keys (b
 
 -- a group from a member of it on, with this behind it
 abbrev pub InGroup : BenchState → GroupFrom → Rest → Type 0
-InGroup st g up = Stands st g.op gathers_groups g.first.now × Stands st g.op gathers_groups g.at.now × IsRest st up
+InGroup st g up =
+    Stands st g.op gathers_groups g.first.now × Stands st g.op gathers_groups g.at.now × IsGroup st g.op g.number g.first.now g.at.now × IsRest st up
 
 -- the identifier stands for the member at which it begins, with those behind it
 abbrev pub IsGroupMember : BenchState → GroupFrom → Rest → Site → Type 0
-IsGroupMember st g up n = Stands st g.op gathers_groups g.first.now → Stands st g.op gathers_groups g.at.now → IsRest st up
+IsGroupMember st g up n =
+    Stands st g.op gathers_groups g.first.now → Stands st g.op gathers_groups g.at.now → IsGroup st g.op g.number g.first.now g.at.now → IsRest st up
     → StandsFor st st (member_trees st g.op g.at.now (group_trees st g.op g.first.now g.at.now (rest_trees st up))) n
 
 -- the same of a list of all bindings
@@ -131,15 +133,6 @@ behind_member st op at up = number_at st (input_at (ops_of st) op) at + left st 
 -- how many trees are in a list behind a cursor, or in all of it, at most, with this behind it
 abbrev pub behind_members : BenchState → MembersFrom → Rest → ℕ
 behind_members st l up = number_from st (input_at (ops_of st) l.op) l.at.now + left st up
-
--- the events of a group behind the member at which it begins
-abbrev pub group_events : BenchState → GroupFrom → RowEvents
-group_events st g = group_ahead st g.op g.first.now g.at.now
-
--- the next member, or there is none
-abbrev pub GivesMember : BenchState → BenchState → GroupFrom → Option Position → Type 0
-GivesMember old new g r =
-    Searches.GivesFirst (told_by old) (members_of new g.op g.first.now) (group_events old g) (number_at old (input_at (ops_of old) g.op) g.at.now) r
 
 -- the first binding of an operator, or the one behind a cursor, or there is none
 abbrev pub GivesFrom : BenchState → BenchState → ℕ → Option Position → Option Position → Type 0

@@ -20,7 +20,7 @@ origin_rank (Node s p) = 0
 origin_rank (Element op at) = suc op
 origin_rank (Joined op at) = op
 origin_rank (All op) = op
-origin_rank (Same op c) = op
+origin_rank (Same op c number) = op
 
 -- the one that makes a node, where it is an element
 abbrev pub head_rank : Head → ℕ
@@ -34,7 +34,7 @@ abbrev pub rest_rank : Rest → ℕ
 rest_rank End = 0
 rest_rank (Pieces' op at next ways q up) = max op (rest_rank up)
 rest_rank (Members' op at q up) = max op (rest_rank up)
-rest_rank (Group' op first at q up) = max op (rest_rank up)
+rest_rank (Group' op first number at q up) = max op (rest_rank up)
 
 -- a member of a list that the plan makes, in which no rank is greater
 abbrev pub IsRanked : ℕ → Site → Type 0

@@ -1,16 +1,15 @@
 -- What an identifier stands for.
-use Rattle.std.specs.Prelude.{◌≡◌, ℕ, suc, ◌+◌, ◌<◌, ◌≤◌, Bool, IsTrue, Option, Some, None, List, length, drop, MatchOption}
+use Rattle.std.specs.Prelude.{◌≡◌, ℕ, suc, ◌+◌, ◌<◌, ◌≤◌, IsTrue, Option, Some, None, List, length, drop, MatchOption}
 use Rattle.mix_tree.specs.Forest.{first_kids, behind}
 use Rattle.mix_tree.specs.Nodes.{label_at, kids_at, label_of_first}
-use Rattle.plan_core.specs.Plans.{Operator}
 use Rattle.plan_core.specs.ByNumber.{op_at}
 use Rattle.plan_core.specs.Tolled.{Tolled, ends, item, charged}
 use Rattle.plan_core.specs.TolledRows.{TolledValue, of_source, element, trees, piece_items, all_items, collected}
-use Rattle.plan_core.specs.Events.{RowEvents, group_behind, tolled_document}
-use Rattle.plan_core.specs.Fronts.{op_stops}
+use Rattle.plan_core.specs.Events.{RowEvents, tolled_document}
 use Rattle.lazy_plan.specs.Bench.{BenchState, ops_of, documents, events_of, size_of, IsCursor, binding_at, ahead_at, number_at, IsSpotAt, node_at, trees_at_spot, after_at}
+use Rattle.lazy_plan.specs.Groups.{IsGroup, group_ahead}
 use Rattle.lazy_binding.specs.declared.position.Position.{Position}
-use Rattle.lazy_binding.specs.Forms.{Form, makes_list, makes_element, gathers_all, gathers_groups, form, input_at, pieces_of, keys_of, label_in, piece_at, piece_of, text_of, is_text}
+use Rattle.lazy_binding.specs.Forms.{Form, makes_list, makes_element, gathers_all, gathers_groups, form, input_at, pieces_of, label_in, piece_at, piece_of, text_of, is_text}
 use Rattle.lazy_value.specs.Sizes.{pieces_count, size, extent}
 use Rattle.lazy_value.specs.Ways.{IsWays}
 use Rattle.lazy_value.specs.declared.ids.Origin.{Origin}
@@ -40,16 +39,6 @@ ahead_from st n (Some c) = ahead_at st n c
 abbrev pub members_trees : BenchState → ℕ → Option Position → Tolled → Tolled
 members_trees st op at rest = collected (documents st) (piece_of (ops_of st) op) (ahead_from st (input_at (ops_of st) op) at) rest
 
--- the groups of an operator end at the first other key of its input
-abbrev pub stops_at : List Operator → ℕ → Bool
-stops_at ops op = op_stops ops (op_at ops op)
-
--- the events of a group behind a cursor
-abbrev pub group_ahead : BenchState → ℕ → Position → Position → RowEvents
-group_ahead st op first at =
-    let input = input_at (ops_of st) op in
-    group_behind (documents st) (keys_of (op_at (ops_of st) op)) (stops_at (ops_of st) op) (binding_at st input first) (ahead_at st input at)
-
 -- the members of a group behind a cursor
 abbrev pub group_trees : BenchState → ℕ → Position → Position → Tolled → Tolled
 group_trees st op first at rest = collected (documents st) (piece_of (ops_of st) op) (group_ahead st op first at) rest
@@ -77,7 +66,7 @@ value_of st (Node s p) = of_source (node_at st s p)
 value_of st (Element op at) = element (label_in (op_at (ops_of st) op)) (element_trees st op at)
 value_of st (Joined op at) = trees (pieces_trees st op at 0 (ends 0))
 value_of st (All op) = trees (members_trees st op None (ends 0))
-value_of st (Same op c) = trees (member_trees st op c (group_trees st op c c (ends 0)))
+value_of st (Same op c number) = trees (member_trees st op c (group_trees st op c c (ends 0)))
 
 -- it is one that is made
 abbrev pub IsOrigin : BenchState → Origin → Type 0
@@ -85,7 +74,7 @@ IsOrigin st (Node s p) = IsSpotAt st s p
 IsOrigin st (Element op at) = Stands st op makes_element at
 IsOrigin st (Joined op at) = Stands st op makes_list at
 IsOrigin st (All op) = GathersAll st op
-IsOrigin st (Same op c) = Stands st op gathers_groups c × (number_at st (input_at (ops_of st) op) c ≤ size_of st (input_at (ops_of st) op))
+IsOrigin st (Same op c number) = Stands st op gathers_groups c × (number_at st (input_at (ops_of st) op) c ≤ size_of st (input_at (ops_of st) op)) × IsGroup st op number c c
 
 -- IDENTIFIERS
 
@@ -121,7 +110,7 @@ abbrev pub rest_trees : BenchState → Rest → Tolled
 rest_trees st End = ends 0
 rest_trees st (Pieces' op at next ways q up) = pieces_trees st op at next (rest_trees st up)
 rest_trees st (Members' op at q up) = members_trees st op at (rest_trees st up)
-rest_trees st (Group' op first at q up) = group_trees st op first at (rest_trees st up)
+rest_trees st (Group' op first number at q up) = group_trees st op first at (rest_trees st up)
 
 -- it is one of the bench's
 abbrev pub IsRest : BenchState → Rest → Type 0
@@ -129,7 +118,8 @@ IsRest st End = Unit {0}
 IsRest st (Pieces' op at next ways q up) =
     Stands st op makes_list at × (next ≤ length (pieces_of (op_at (ops_of st) op))) × IsWays st (input_at (ops_of st) op) at ways × IsRest st up
 IsRest st (Members' op at q up) = GathersAll st op × MatchOption at (Unit {0}) (λ c. IsCursor st (input_at (ops_of st) op) c) × IsRest st up
-IsRest st (Group' op first at q up) = Stands st op gathers_groups first × Stands st op gathers_groups at × IsRest st up
+IsRest st (Group' op first number at q up) =
+    Stands st op gathers_groups first × Stands st op gathers_groups at × IsGroup st op number first at × IsRest st up
 
 -- where an identifier stands: its tree, reached already, and those behind it
 abbrev pub here : BenchState → Site → Tolled
@@ -156,7 +146,7 @@ abbrev pub weight : BenchState → Rest → ℕ
 weight st End = 0
 weight st (Pieces' op at next ways q up) = suc (pieces_size st op next + weight st up)
 weight st (Members' op at q up) = suc (weight st up)
-weight st (Group' op first at q up) = suc (weight st up)
+weight st (Group' op first number at q up) = suc (weight st up)
 
 -- how many bindings are behind a cursor, or in all, at most
 abbrev pub number_from : BenchState → ℕ → Option Position → ℕ
@@ -168,7 +158,7 @@ abbrev pub left : BenchState → Rest → ℕ
 left st End = 0
 left st (Pieces' op at next ways q up) = pieces_extent st op next + left st up
 left st (Members' op at q up) = number_from st (input_at (ops_of st) op) at + left st up
-left st (Group' op first at q up) = number_at st (input_at (ops_of st) op) at + left st up
+left st (Group' op first number at q up) = number_at st (input_at (ops_of st) op) at + left st up
 
 -- a number of an identifier that no call raises, and that falls with each step to the right
 abbrev pub site_left : BenchState → Site → ℕ

@@ -32,7 +32,7 @@ origin_kind (Node s p) = a_node
 origin_kind (Element op at) = an_element
 origin_kind (Joined op at) = a_list
 origin_kind (All op) = a_list
-origin_kind (Same op c) = a_list
+origin_kind (Same op c number) = a_list
 
 -- how many lists and pieces are entered on the way through it
 abbrev pub origin_size : BenchState → Origin → ℕ
@@ -40,7 +40,7 @@ origin_size st (Node s p) = 0
 origin_size st (Element op at) = 0
 origin_size st (Joined op at) = suc (suc (pieces_count (λ v. suc (size (ops_of st) (input_at (ops_of st) op) v)) (pieces_of (op_at (ops_of st) op))))
 origin_size st (All op) = 2
-origin_size st (Same op c) = 2
+origin_size st (Same op c number) = 2
 
 -- how many trees it has at most
 abbrev pub origin_extent : BenchState → Origin → ℕ
@@ -48,7 +48,7 @@ origin_extent st (Node s p) = 1
 origin_extent st (Element op at) = 1
 origin_extent st (Joined op at) = pieces_count (extent (size_of st) (ops_of st) (input_at (ops_of st) op)) (pieces_of (op_at (ops_of st) op))
 origin_extent st (All op) = size_of st (input_at (ops_of st) op)
-origin_extent st (Same op c) = suc (size_of st (input_at (ops_of st) op))
+origin_extent st (Same op c number) = suc (size_of st (input_at (ops_of st) op))
 
 -- the value of a variable in a cursor's binding is made there
 pub record IsOriginOf (st : BenchState) (n : ℕ) (c : Position) (v : ℕ) (r : Origin) : Type 0 where

@@ -1,15 +1,14 @@
 -- What steps over a document come to.
 use Rattle.std.specs.Prelude.{◌≡◌, ℕ, ◌+◌, ◌<◌, ◌≤◌, false, IsTrue, Option, MatchOption}
-use Rattle.lazy_descend.specs.Searches.{Cursors, Finds}
+use Rattle.lazy_descend.specs.Searches.{Finds}
 use Rattle.lxp_core.specs.View.{View}
-use Rattle.plan_core.specs.TolledRows.{TolledRow}
 use Rattle.plan_core.specs.Events.{RowEvents}
 use Rattle.plan_core.specs.Tolled.{Tolled, dearer, paid, is_item}
 use Rattle.lazy_plan.specs.declared.bench.Bench.{Bench}
 use Rattle.lazy_binding.specs.declared.position.Position.{Position}
-use Rattle.lazy_plan.specs.Bench.{BenchState, state_of, IsBenchOf, told_by, told, forward, fills_of, ops_of, IsCursor, binding_at, number_at, KeepsBench, AsksAtMost}
-use Rattle.lazy_binding.specs.Forms.{input_at}
-use Rattle.lazy_value.specs.Ids.{group_ahead, here, IsSite, rest_trees, IsRest, weight, left, site_left}
+use Rattle.lazy_plan.specs.Bench.{BenchState, state_of, IsBenchOf, told_by, told, forward, fills_of, KeepsBench, AsksAtMost}
+use Rattle.lazy_plan.specs.Groups.{members_of}
+use Rattle.lazy_value.specs.Ids.{here, IsSite, rest_trees, IsRest, weight, left, site_left}
 use Rattle.lazy_value.specs.declared.ids.Site.{Site}
 use Rattle.lazy_value.specs.declared.ids.Rest.{Rest}
 use Rattle.lazy_value.specs.declared.ids.Turn.{Turn}
@@ -60,16 +59,6 @@ Falls st w Over = Unit {0}
 Falls st w (At n) = site_left st n < w
 Falls st w (On r) = left st r.value ≤ w
 
--- the cursors of the members of a group, among its events
-abbrev pub members_of : BenchState → ℕ → Position → Cursors Position TolledRow
-members_of st op first = record {
-  IsCursor = IsCursor st (input_at (ops_of st) op);
-  HasRow = λ c. Unit {0};
-  binding = binding_at st (input_at (ops_of st) op);
-  ahead = group_ahead st op first;
-  number = number_at st (input_at (ops_of st) op);
-}
-
 -- the cursor stands at the first binding of these events of a group
-abbrev pub IsMember : BenchState → BenchState → ℕ → Position → RowEvents → ℕ → Position → Type 0
-IsMember old new op first es top c = Finds (told_by old) (members_of new op first) es top c
+abbrev pub IsMember : BenchState → BenchState → ℕ → ℕ → Position → RowEvents → ℕ → Position → Type 0
+IsMember old new op number first es top c = Finds (told_by old) (members_of new op number first) es top c

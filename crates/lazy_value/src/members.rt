@@ -1,5 +1,5 @@
 // The members of lists that are gathered from bindings.
-ghost use Rattle.std.specs.Prelude.{◌≡◌, ◌<◌, Some, IsTrue, IfOk, MatchOption, length};
+ghost use Rattle.std.specs.Prelude.{◌≡◌, ◌<◌, false, Some, IsTrue, IfOk, MatchOption, length};
 ghost use Rattle.mix_tree.specs.Keys.{key_var};
 ghost use Rattle.mix_tree.specs.Nodes.{label_at};
 ghost use Rattle.plan_core.specs.PlanMade.{plan_value};
@@ -12,12 +12,13 @@ ghost use Rattle.lazy_binding.specs.Forms.{gathers_groups, input_at};
 ghost use Rattle.lazy_value.specs.Ids.{Stands, GathersAll, IsRest, left, ahead_from};
 ghost use Rattle.lazy_value.specs.Steps.{Falls};
 ghost use Rattle.lazy_value.specs.Heights.{KeepsRank};
-ghost use Rattle.lazy_value.specs.Calls.{Between, GivesFrom, GivesMember, InEach, InSome, TurnsGroup, TurnsMembers, WalkedOver, WalkedTo, behind_group, behind_members, group_events, same_key_at, same_keys_at, trees_of_group, trees_of_members};
+ghost use Rattle.lazy_plan.specs.Groups.{GivesMember, IsGroup, group_events, stops_at};
+ghost use Rattle.lazy_value.specs.Calls.{Between, GivesFrom, InEach, InSome, TurnsGroup, TurnsMembers, WalkedOver, WalkedTo, behind_group, behind_members, same_key_at, same_keys_at, trees_of_group, trees_of_members};
 
 use crate::entering::{group_member, list_member};
-use crate::ids::{GroupFrom, MembersFrom, Rest, Turn, share};
+use crate::ids::{MembersFrom, Rest, Turn, share};
 use lazy_binding::forms::{group_keys, input_of};
-use lazy_plan::{Bench, Cursor, WalkFault};
+use lazy_plan::{Bench, Cursor, GroupFrom, WalkFault};
 use lxp_core::Sources;
 use mix_tree::{Key, Label, Var, same_label};
 use std::alloc::Global;
@@ -75,6 +76,29 @@ fn next_of_group<S: Sources>(
     requires bench { IsBenchOf (S.view s.old) bench.old }
     requires first { Stands (state_of (S.view s.old) bench.old) group.now.op gathers_groups group.now.first.now }
     requires from { Stands (state_of (S.view s.old) bench.old) group.now.op gathers_groups group.now.at.now }
+    requires group { let g = group.now in IsGroup (state_of (S.view s.old) bench.old) g.op g.number g.first.now g.at.now }
+    ensures walked { WalkedOver S.view S.came_from s.old bench.old s.new bench.new (λ st. group_events st group.now) }
+    ensures cause { HasCause (ops_of (state_of (S.view s.old) bench.old)) (S.view s.old) (S.view s.new) result }
+    ensures answer { Between S.view s.old bench.old s.new bench.new (λ old new. IfOk result (GivesMember old new group.now)) }
+{
+    if bench.stops(group.op) {
+        bench.next_member(alloc, s, group)
+    } else {
+        next_among_all(alloc, bench, s, group)
+    }
+}
+
+/// The next member of a group behind a cursor, where those of other groups can stand between them.
+fn next_among_all<S: Sources>(
+    alloc: Global,
+    bench: &mut Bench,
+    s: &mut S,
+    group: &GroupFrom<'_>,
+) -> Result<Option<Cursor>, WalkFault>
+    requires bench { IsBenchOf (S.view s.old) bench.old }
+    requires first { Stands (state_of (S.view s.old) bench.old) group.now.op gathers_groups group.now.first.now }
+    requires from { Stands (state_of (S.view s.old) bench.old) group.now.op gathers_groups group.now.at.now }
+    requires among { stops_at (ops_of (state_of (S.view s.old) bench.old)) group.now.op ≡ false }
     ensures walked { WalkedOver S.view S.came_from s.old bench.old s.new bench.new (λ st. group_events st group.now) }
     ensures cause { HasCause (ops_of (state_of (S.view s.old) bench.old)) (S.view s.old) (S.view s.new) result }
     ensures answer { Between S.view s.old bench.old s.new bench.new (λ old new. IfOk result (GivesMember old new group.now)) }
@@ -93,9 +117,6 @@ fn next_of_group<S: Sources>(
                     group_keys(bench.plan(), group.op),
                 ) {
                     return Ok(Some(c));
-                }
-                if bench.stops(group.op) {
-                    return Ok(None);
                 }
                 at = c;
             }
@@ -161,6 +182,7 @@ pub(crate) fn group<S: Sources>(
     requires bench { IsBenchOf (S.view s.old) bench.old }
     requires first { Stands (state_of (S.view s.old) bench.old) group.now.op gathers_groups group.now.first.now }
     requires at { Stands (state_of (S.view s.old) bench.old) group.now.op gathers_groups group.now.at.now }
+    requires group { let g = group.now in IsGroup (state_of (S.view s.old) bench.old) g.op g.number g.first.now g.at.now }
     requires up { IsRest (state_of (S.view s.old) bench.old) up.now.value }
     ensures walked { WalkedTo S.view S.came_from s.old bench.old s.new bench.new (λ st. trees_of_group st group.now up.now.value) }
     ensures cause { HasCause (ops_of (state_of (S.view s.old) bench.old)) (S.view s.old) (S.view s.new) result }

@@ -22,4 +22,4 @@ returns-in_ok-put-in-All-clause-answer c = λ view h o r.
 pub returns-in_ok-group_member-in-Group-clause-answer : goal.returns-in_ok-group_member-in-Group-clause-answer
 returns-in_ok-group_member-in-Group-clause-answer c = λ view h o r.
     group_stands (state_of view c.args.bench.now) c.args.origin.now c.args.behind.now.value c.args.behind.now.value o r
-    c.in-Group.op c.in-Group.first c.in_ok-group_member-in-Group.field-0 c.in-Group.is (c.in_ok-group_member-in-Group.ensures.answer view h)
+    c.in-Group.op c.in-Group.first c.in-Group.number c.in_ok-group_member-in-Group.field-0 c.in-Group.is (c.in_ok-group_member-in-Group.ensures.answer view h)

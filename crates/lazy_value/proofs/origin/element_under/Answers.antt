@@ -15,4 +15,4 @@ returns-then-ne c = λ view h i e. ap (λ (o : Operator). makes o c.args.v) (sym
 pub returns-in_ok-under-in-CreateElement : goal.returns-in_ok-under-in-CreateElement
 returns-in_ok-under-in-CreateElement c = λ view h i. element_made (state_of view c.args.bench.now) h.fixed.typed c.args.op c.requires.op c.args.c.now c.args.v
     c.in-CreateElement.input c.in-CreateElement.label c.in-CreateElement.list c.in-CreateElement.out c.in_ok-under-in-CreateElement.field-0 (ap op_of (sym c.in-CreateElement.is) ∙ c.operator.ensures ∙ ap (λ (p : Plan). op_at (plan_value p).ops c.args.op) c.plan.ensures) (not_other (c.in-CreateElement.out == c.args.v) _ c.ne.ensures c.if-ne.false)
-    (c.in_ok-under-in-CreateElement.ensures view h i)
+    (c.in_ok-under-in-CreateElement.ensures.under view h i)

@@ -20,7 +20,7 @@ descend-requires t c =
       (
         omega (arith, p.within, e, f, c.requires.op),
         (
-          (b.0, b.1, subst (λ (w : Way). IsCursor st (foot_op w) (foot_at w)) (sym c.in_ok-below-in-Some.ensures) (c.in_ok-at-in-Some.ensures b.0 b.1 i).cursor),
+          (b.0, b.1, subst (λ (w : Way). IsCursor st (foot_op w) (foot_at w)) (sym c.in_ok-below-in-Some.ensures) (c.in_ok-at-in-Some.ensures.under b.0 b.1 i).cursor),
           (c.requires.kind.0, ap (λ (n : ℕ). kinds (ops_of st) n c.args.v) e ∙ sym p.kind ∙ ap (λ (n : ℕ). kinds (ops_of st) n c.args.v) f ∙ c.requires.kind.1),
         ),
       ),
@@ -49,5 +49,5 @@ returns-in_ok-below-in-Some-clause-held t c =
     (λ r. (view : _) → IsBenchOf view c.args.bench.now → GoesDown (state_of view c.args.bench.now) c.args.v c.args.way.now.value r.value)
     (λ r k view h n d i w. k view h n d i
     (way_on (state_of view c.args.bench.now) n d i c.args.way.now.value w c.foot-op.result.0 c.foot-op.result.1.now (c.foot-op.ensures.op ∙ ap foot_op c.deref.ensures) (c.foot-op.ensures.at ∙ ap foot_at c.deref.ensures)
-    c.in-Some.input c.in_ok-at-in-Some.at p.within all (c.in_ok-at-in-Some.ensures view h) c.in_ok-below-in-Some.below.value c.in_ok-above-in-Some.above.value _ c.in_ok-below-in-Some.ensures c.in_ok-above-in-Some.ensures))
+    c.in-Some.input c.in_ok-at-in-Some.at p.within all (c.in_ok-at-in-Some.ensures.under view h) c.in_ok-below-in-Some.below.value c.in_ok-above-in-Some.above.value _ c.in_ok-below-in-Some.ensures c.in_ok-above-in-Some.ensures))
     c.descend.ensures.held
