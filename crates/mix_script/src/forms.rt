@@ -1,8 +1,9 @@
 // What the words of a line ask for.
-ghost use Rattle.std.specs.Prelude.{◌≡◌, IfOk, IsTrue, map};
-ghost use Rattle.mix_words.specs.Words.{is_name};
+ghost use Rattle.std.specs.Prelude.{◌≡◌, IfOk, IsTrue};
+ghost use Rattle.mix_words.specs.Words.{is_name, words_of};
 ghost use Rattle.mix_script.specs.Forms.{act_of, read_form, reading_named, root_form, move_form, way_named, act_named, is_select_form, select_of};
 
+use crate::words::{LineWords, line_words};
 use crate::{Act, Way};
 use mix_tree::Label;
 use mix_words::words::is_script_name;
@@ -108,14 +109,14 @@ fn read_of(alloc: Global, command: &[u8], from: &[u8]) -> Result<Option<Act>, Al
 }
 
 /// What the words of a line ask for; `None` where they are of no form that ends with a name or `root`.
-pub fn read_act(alloc: Global, words: &[&[u8]]) -> Result<Option<Act>, AllocError>
-    ensures { IfOk result (λ act. act ≡ act_of (map (λ word. word.now) words.now)) }
+pub fn read_act(alloc: Global, line: &[u8]) -> Result<Option<Act>, AllocError>
+    ensures { IfOk result (λ act. act ≡ act_of (words_of line.now)) }
 {
-    match words {
-        [command, from] => read_of(alloc, command, from),
-        [name, is, command] => read_root(alloc, name, is, command),
-        [name, is, command, from] => read_move(alloc, name, is, command, from),
-        _ => Ok(None),
+    match line_words(line) {
+        LineWords::Two(command, from) => read_of(alloc, command, from),
+        LineWords::Three(name, is, command) => read_root(alloc, name, is, command),
+        LineWords::Four(name, is, command, from) => read_move(alloc, name, is, command, from),
+        LineWords::Other => Ok(None),
     }
 }
 
@@ -130,11 +131,11 @@ fn is_select(name: &[u8], is: &[u8], command: &[u8], from: &[u8]) -> bool
 }
 
 /// What the words in front of a label ask for, which are `X = select Y`; `None` where they are others.
-pub fn read_select(alloc: Global, words: &[&[u8]], label: Label) -> Result<Option<Act>, AllocError>
-    ensures { IfOk result (λ act. act ≡ select_of (map (λ word. word.now) words.now) label) }
+pub fn read_select(alloc: Global, front: &[u8], label: Label) -> Result<Option<Act>, AllocError>
+    ensures { IfOk result (λ act. act ≡ select_of (words_of front.now) label) }
 {
-    match words {
-        [name, is, command, from] if is_select(name, is, command, from) => {
+    match line_words(front) {
+        LineWords::Four(name, is, command, from) if is_select(name, is, command, from) => {
             let name = name_label(alloc, name)?;
             let from = name_label(alloc, from)?;
             Ok(Some(Act::Select { name, from, label }))

@@ -1,15 +1,15 @@
 // The step of a line.
-ghost use Rattle.std.specs.Prelude.{◌≡◌, ◌<◌, IfOk, IfSome, IsTrue, IsUtf8, length, map, option_map, take, true};
+ghost use Rattle.std.specs.Prelude.{◌≡◌, ◌<◌, IfOk, IfSome, IsTrue, IsUtf8, MatchBool, length, option_map, take, true};
 ghost use Rattle.mix_words.specs.Words.{is_name, words_of};
 ghost use Rattle.mix_words.specs.Places.{blank_behind};
-ghost use Rattle.mix_script.specs.Forms.{act_of};
-ghost use Rattle.mix_script.specs.Lines.{before_colon, client_named, client_of, select_at, act_in, step_with, step_in, utf8_step, no_words};
+ghost use Rattle.mix_script.specs.Lines.{before_colon, client_named, client_of, select_at, act_in, step_with, step_in, utf8_step};
 
 use crate::forms::{read_act, read_select};
+use crate::words::{first_word, is_wordless};
 use crate::{Act, Step};
 use mix_tree::{Label, LabelRead, read_label};
 use mix_words::places::word_place;
-use mix_words::words::{cut_words, is_script_name};
+use mix_words::words::is_script_name;
 use std::alloc::{AllocError, Global};
 use std::str;
 
@@ -39,23 +39,15 @@ fn client_in(word: &[u8]) -> Option<&[u8]>
 }
 
 // The client of a prefix.
-fn read_client(alloc: Global, front: &[u8]) -> Result<Option<&[u8]>, AllocError>
-    ensures client { IfOk result (λ found. option_map (λ name. name.now) found ≡ client_of (words_of front.now)) }
-    ensures name { IfOk result (λ found. IfSome found (λ name. IsTrue (is_name name.now))) }
+fn read_client(front: &[u8]) -> Option<&[u8]>
+    ensures client { option_map (λ name. name.now) result ≡ client_of (words_of front.now) }
+    ensures name { IfSome result (λ name. IsTrue (is_name name.now)) }
 {
-    let words = cut_words(alloc, front)?;
-    match words.as_slice() {
-        [word] => Ok(client_in(word)),
-        _ => Ok(None),
+    let (word, behind) = first_word(front)?;
+    if !is_wordless(behind) {
+        return None;
     }
-}
-
-// Whether a text has no words.
-fn is_wordless(alloc: Global, text: &[u8]) -> Result<bool, AllocError>
-    ensures { IfOk result (λ none. none ≡ no_words (words_of text.now)) }
-{
-    let words = cut_words(alloc, text)?;
-    Ok(words.is_empty())
+    client_in(word)
 }
 
 // What a line asks for whose label begins at a place.
@@ -68,11 +60,10 @@ fn read_select_at(alloc: Global, line: &[u8], at: usize) -> Result<Option<Act>, 
     let LabelRead::Got { label, end } = read_label(alloc, line, at)? else {
         return Ok(None);
     };
-    if !is_wordless(alloc, &line[end..])? {
+    if !is_wordless(&line[end..]) {
         return Ok(None);
     }
-    let words = cut_words(alloc, &line[..at])?;
-    read_select(alloc, &words, label)
+    read_select(alloc, &line[..at], label)
 }
 
 // What a line without a prefix asks for.
@@ -80,11 +71,13 @@ fn read_act_in(alloc: Global, line: &[u8]) -> Result<Option<Act>, AllocError>
     requires { IsUtf8 line.now }
     ensures { IfOk result (λ act. act ≡ act_in line.now) }
 {
-    if let Some(at) = word_place(line, BEFORE_LABEL) {
-        return read_select_at(alloc, line, at);
+    if let Some(act) = read_act(alloc, line)? {
+        return Ok(Some(act));
     }
-    let words = cut_words(alloc, line)?;
-    read_act(alloc, &words)
+    match word_place(line, BEFORE_LABEL) {
+        Some(at) => read_select_at(alloc, line, at),
+        None => Ok(None),
+    }
 }
 
 // The step of a client whose prefix stands in front of a line.
@@ -106,18 +99,25 @@ fn read_utf8(alloc: Global, line: &[u8]) -> Result<Option<Step>, AllocError>
     ensures { IfOk result (λ step. step ≡ step_in line.now) }
 {
     if let Some(at) = word_place(line, 1) {
-        if let Some(client) = read_client(alloc, &line[..at])? {
+        if let Some(client) = read_client(&line[..at]) {
             return read_step(alloc, client, &line[at..]);
         }
     }
     read_step(alloc, b"", line)
 }
 
+// Whether a line is UTF-8. Most lines are ASCII.
+fn is_utf8_line(line: &[u8]) -> bool
+    ensures { MatchBool result (IsUtf8 line.now) (¬ IsUtf8 line.now) }
+{
+    line.is_ascii() || str::from_utf8(line).is_ok()
+}
+
 /// The step of a line that is not passed over; `None` where it is not UTF-8 or fits no form (docs/FORMATS.md, "Scripts").
 pub fn line_step(alloc: Global, line: &[u8]) -> Result<Option<Step>, AllocError>
     ensures { IfOk result (λ step. step ≡ utf8_step line.now) }
 {
-    if str::from_utf8(line).is_err() {
+    if !is_utf8_line(line) {
         return Ok(None);
     }
     read_utf8(alloc, line)

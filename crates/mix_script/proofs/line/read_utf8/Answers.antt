@@ -8,7 +8,7 @@ use Rattle.mix_script.proofs.line.read_utf8.Goals as goal
 
 pub read_step-requires-clause-client : goal.read_step-requires-clause-client
 read_step-requires-clause-client c =
-    let name : IsTrue (is_name c.in-Some-2.client.now) = search rules in IsUtf8-name c.in-Some-2.client.now name
+    let name : IsTrue (is_name c.in-Some-read_client.client.now) = search rules in IsUtf8-name c.in-Some-read_client.client.now name
 
 pub read_step-requires-clause-line : goal.read_step-requires-clause-line
 read_step-requires-clause-line c =
