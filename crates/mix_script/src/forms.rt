@@ -1,5 +1,6 @@
 // What the words of a line ask for.
-ghost use Rattle.std.specs.Prelude.{◌≡◌, IfOk, IsTrue};
+ghost use Rattle.std.specs.Prelude.{◌≡◌, ◌&&◌, IfOk, IsTrue, codes};
+ghost use Rattle.std.specs.Str.{bytes_eq};
 ghost use Rattle.mix_words.specs.Words.{is_name, words_of};
 ghost use Rattle.mix_script.specs.Forms.{act_of, read_form, reading_named, root_form, move_form, way_named, act_named, is_select_form, select_of};
 
@@ -21,13 +22,18 @@ fn name_label(alloc: Global, name: &[u8]) -> Result<Label, AllocError>
 fn read_way(word: &[u8]) -> Option<Way>
     ensures { result ≡ way_named word.now }
 {
-    if word == b"down".as_slice() {
-        return Some(Way::Down);
+    match word {
+        b"down" => Some(Way::Down),
+        b"right" => Some(Way::Right),
+        _ => None,
     }
-    if word == b"right".as_slice() {
-        return Some(Way::Right);
-    }
-    None
+}
+
+// Whether words begin with `X =`.
+fn is_assigned(name: &[u8], is: &[u8]) -> bool
+    ensures { result ≡ (is_name name.now && bytes_eq is.now (codes "=")) }
+{
+    is_script_name(name) && matches!(is, b"=")
 }
 
 // The command of a word that stands before a name.
@@ -59,7 +65,7 @@ fn read_move(
 ) -> Result<Option<Act>, AllocError>
     ensures { IfOk result (λ act. act ≡ move_form name.now is.now command.now from.now) }
 {
-    if is_script_name(name) && is == b"=".as_slice() && is_script_name(from) {
+    if is_assigned(name, is) && is_script_name(from) {
         return read_command(alloc, name, command, from);
     }
     Ok(None)
@@ -74,7 +80,7 @@ fn read_root(
 ) -> Result<Option<Act>, AllocError>
     ensures { IfOk result (λ act. act ≡ root_form name.now is.now command.now) }
 {
-    if is_script_name(name) && is == b"=".as_slice() && command == b"root".as_slice() {
+    if is_assigned(name, is) && matches!(command, b"root") {
         return Ok(Some(Act::Root {
             name: name_label(alloc, name)?,
         }));
@@ -87,15 +93,15 @@ fn read_reading(alloc: Global, command: &[u8], from: &[u8]) -> Result<Option<Act
     requires { IsTrue (is_name from.now) }
     ensures { IfOk result (λ act. act ≡ reading_named command.now from.now) }
 {
-    if command == b"fetch".as_slice() {
-        let from = name_label(alloc, from)?;
-        return Ok(Some(Act::Fetch { from }));
+    match command {
+        b"fetch" => Ok(Some(Act::Fetch {
+            from: name_label(alloc, from)?,
+        })),
+        b"print" => Ok(Some(Act::Print {
+            from: name_label(alloc, from)?,
+        })),
+        _ => Ok(None),
     }
-    if command == b"print".as_slice() {
-        let from = name_label(alloc, from)?;
-        return Ok(Some(Act::Print { from }));
-    }
-    Ok(None)
 }
 
 // `fetch Y` and `print Y`.
@@ -124,10 +130,7 @@ pub fn read_act(alloc: Global, line: &[u8]) -> Result<Option<Act>, AllocError>
 fn is_select(name: &[u8], is: &[u8], command: &[u8], from: &[u8]) -> bool
     ensures { result ≡ is_select_form name.now is.now command.now from.now }
 {
-    is_script_name(name)
-        && is == b"=".as_slice()
-        && command == b"select".as_slice()
-        && is_script_name(from)
+    is_assigned(name, is) && command == b"select".as_slice() && is_script_name(from)
 }
 
 /// What the words in front of a label ask for, which are `X = select Y`; `None` where they are others.

@@ -1,5 +1,7 @@
 // The step of a line.
 ghost use Rattle.std.specs.Prelude.{◌≡◌, ◌<◌, IfOk, IfSome, IsTrue, IsUtf8, MatchBool, length, option_map, take, true};
+ghost use Rattle.std.specs.Char.{is_ascii};
+ghost use Rattle.std.specs.List.{list_all};
 ghost use Rattle.mix_words.specs.Words.{is_name, words_of};
 ghost use Rattle.mix_words.specs.Places.{blank_behind};
 ghost use Rattle.mix_script.specs.Lines.{before_colon, client_named, client_of, select_at, act_in, step_with, step_in, utf8_step};
@@ -106,11 +108,18 @@ fn read_utf8(alloc: Global, line: &[u8]) -> Result<Option<Step>, AllocError>
     read_step(alloc, b"", line)
 }
 
+// Whether all bytes of a line are ASCII.
+fn is_ascii_line(line: &[u8]) -> bool
+    ensures { result ≡ list_all is_ascii line.now }
+{
+    line.iter().all(|byte| byte.is_ascii())
+}
+
 // Whether a line is UTF-8. Most lines are ASCII.
 fn is_utf8_line(line: &[u8]) -> bool
     ensures { MatchBool result (IsUtf8 line.now) (¬ IsUtf8 line.now) }
 {
-    line.is_ascii() || str::from_utf8(line).is_ok()
+    is_ascii_line(line) || str::from_utf8(line).is_ok()
 }
 
 /// The step of a line that is not passed over; `None` where it is not UTF-8 or fits no form (docs/FORMATS.md, "Scripts").
