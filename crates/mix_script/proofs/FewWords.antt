@@ -1,5 +1,5 @@
 -- A line of at most four words has no label behind them.
-use Rattle.std.proofs.Common.{◌≡◌, ◌<◌, ◌≤◌, ◌+◌, ◌-◌, ◌∙◌, ℕ, zero, suc, Bool, true, false, cond, ◌&&◌, not, List, [], ◌∷◌, Option, Some, None, refl, ap, sym, arith, length}
+use Rattle.std.proofs.Common.{◌≡◌, ◌<◌, ◌≤◌, ◌+◌, ◌-◌, ◌∙◌, ℕ, Bool, true, false, cond, ◌&&◌, not, List, [], ◌∷◌, Some, None, refl, ap, sym, arith, length}
 use Rattle.mix_base.proofs.Choices.{none_some}
 use Rattle.mix_words.specs.Words.{is_blank, words_of, with_first, ends_word}
 use Rattle.mix_words.specs.Places.{word_from, place_of_word}
@@ -14,7 +14,7 @@ length-with_first b [] h = absurd (omega arith)
 length-with_first b (w ∷ words) h = refl
 
 -- a byte that is no blank is in a word
-some_word : (b : ℕ) (bs : List ℕ) → is_blank b ≡ false → 0 < length (words_of (b ∷ bs))
+pub some_word : (b : ℕ) (bs : List ℕ) → is_blank b ≡ false → 0 < length (words_of (b ∷ bs))
 some_word b bs h = rw h (begun (ends_word bs) (words_of bs))
   where
     begun : (t : Bool) (words : List (List ℕ)) → 0 < length (cond t ((b ∷ []) ∷ words) (with_first b words))
@@ -32,11 +32,12 @@ words_end : (b c : ℕ) (cs : List ℕ) → is_blank b ≡ false → is_blank c 
 words_end b c cs h k = let ends : words_of (b ∷ c ∷ cs) ≡ (b ∷ []) ∷ words_of cs = rw (h, k) refl in ap length ends ∙ omega arith
 
 -- no word begins behind as many as there are: at the front of a text, and behind a byte of a word
-record NoneFrom (xs : List ℕ) : Type 0 where
-  apart : (n at : ℕ) → length (words_of xs) ≤ n → word_from true n at xs ≡ None
-  within : (n at b : ℕ) → is_blank b ≡ false → length (words_of (b ∷ xs)) ≤ n + 1 → word_from false n at xs ≡ None
+pub record NoneFrom (xs : List ℕ) : Type 0 where
+  pub apart : (n at : ℕ) → length (words_of xs) ≤ n → word_from true n at xs ≡ None
+  pub within : (n at b : ℕ) → is_blank b ≡ false → length (words_of (b ∷ xs)) ≤ n + 1 → word_from false n at xs ≡ None
 
-none_from : (xs : List ℕ) → NoneFrom xs
+-- so it is in each text
+pub none_from : (xs : List ℕ) → NoneFrom xs
 none_from [] = record { apart = λ n at h. refl; within = λ n at b e h. refl }
 none_from (c ∷ cs) = by_case (is_blank c) refl (none_from cs)
   where

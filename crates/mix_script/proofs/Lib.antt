@@ -2,6 +2,7 @@ pub mod Answering
 pub mod Apart
 pub mod FewWords
 pub mod Finished
+pub mod FirstWords
 pub mod Held
 pub mod Holding
 pub mod LineForms

@@ -1,5 +1,5 @@
 -- The words of a text, one after another.
-use Rattle.std.proofs.Common.{◌≡◌, ◌<◌, ◌≤◌, ◌+◌, ◌∙◌, ℕ, true, List, [], ◌∷◌, ◌++◌, refl, ap, sym, subst, arith, length, drop, slice_index, slice_range, append-nil}
+use Rattle.std.proofs.Common.{◌≡◌, ◌<◌, ◌≤◌, ◌+◌, ◌∙◌, ℕ, true, List, [], ◌∷◌, ◌++◌, refl, ap, sym, arith, length, drop, slice_index, slice_range, append-nil}
 use Rattle.std.proofs.lemmas.List.{drop_more}
 use Rattle.mix_base.proofs.Slices.{drop_end}
 use Rattle.mix_words.specs.Words.{is_blank, words_of, unless_empty}

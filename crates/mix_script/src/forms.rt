@@ -1,7 +1,8 @@
 // What the words of a line ask for.
-ghost use Rattle.std.specs.Prelude.{◌≡◌, ◌&&◌, IfOk, IsTrue, codes};
+ghost use Rattle.std.specs.Prelude.{◌≡◌, ◌&&◌, ℕ, List, IfOk, IsTrue, codes};
 ghost use Rattle.std.specs.Str.{bytes_eq};
 ghost use Rattle.mix_words.specs.Words.{is_name, words_of};
+ghost use Rattle.mix_script.specs.LineWords.{AreWords};
 ghost use Rattle.mix_script.specs.Forms.{act_of, read_form, reading_named, root_form, move_form, way_named, act_named, is_select_form, select_of};
 
 use crate::words::{LineWords, line_words};
@@ -115,10 +116,10 @@ fn read_of(alloc: Global, command: &[u8], from: &[u8]) -> Result<Option<Act>, Al
 }
 
 /// What the words of a line ask for; `None` where they are of no form that ends with a name or `root`.
-pub fn read_act(alloc: Global, line: &[u8]) -> Result<Option<Act>, AllocError>
-    ensures { IfOk result (λ act. act ≡ act_of (words_of line.now)) }
+pub fn read_act(alloc: Global, words: LineWords) -> Result<Option<Act>, AllocError>
+    ensures { (ws : List (List ℕ)) → AreWords ws words.entry → IfOk result (λ act. act ≡ act_of ws) }
 {
-    match line_words(line) {
+    match words {
         LineWords::Two(command, from) => read_of(alloc, command, from),
         LineWords::Three(name, is, command) => read_root(alloc, name, is, command),
         LineWords::Four(name, is, command, from) => read_move(alloc, name, is, command, from),

@@ -1,13 +1,14 @@
 // The step of a line.
-ghost use Rattle.std.specs.Prelude.{◌≡◌, ◌<◌, IfOk, IfSome, IsTrue, IsUtf8, MatchBool, length, option_map, take, true};
+ghost use Rattle.std.specs.Prelude.{◌≡◌, ◌<◌, ℕ, List, false, IfOk, IfSome, IsTrue, IsUtf8, MatchBool, length, option_map, take, true};
 ghost use Rattle.std.specs.Char.{is_ascii};
 ghost use Rattle.std.specs.List.{list_all};
 ghost use Rattle.mix_words.specs.Words.{is_name, words_of};
 ghost use Rattle.mix_words.specs.Places.{blank_behind};
+ghost use Rattle.mix_script.specs.LineWords.{AreWords, NoClientFirst};
 ghost use Rattle.mix_script.specs.Lines.{before_colon, client_named, client_of, select_at, act_in, step_with, step_in, utf8_step};
 
 use crate::forms::{read_act, read_select};
-use crate::words::{first_word, is_wordless};
+use crate::words::{LineWords, first_word, is_wordless, line_words};
 use crate::{Act, Step};
 use mix_tree::{Label, LabelRead, read_label};
 use mix_words::places::word_place;
@@ -68,12 +69,13 @@ fn read_select_at(alloc: Global, line: &[u8], at: usize) -> Result<Option<Act>, 
     read_select(alloc, &line[..at], label)
 }
 
-// What a line without a prefix asks for.
-fn read_act_in(alloc: Global, line: &[u8]) -> Result<Option<Act>, AllocError>
-    requires { IsUtf8 line.now }
+// What a line without a prefix asks for, which has these words.
+fn read_act_in(alloc: Global, line: &[u8], words: LineWords) -> Result<Option<Act>, AllocError>
+    requires utf8 { IsUtf8 line.now }
+    requires words { AreWords (words_of line.now) words }
     ensures { IfOk result (λ act. act ≡ act_in line.now) }
 {
-    if let Some(act) = read_act(alloc, line)? {
+    if let Some(act) = read_act(alloc, words)? {
         return Ok(Some(act));
     }
     match word_place(line, BEFORE_LABEL) {
@@ -82,17 +84,50 @@ fn read_act_in(alloc: Global, line: &[u8]) -> Result<Option<Act>, AllocError>
     }
 }
 
-// The step of a client whose prefix stands in front of a line.
-fn read_step(alloc: Global, client: &[u8], line: &[u8]) -> Result<Option<Step>, AllocError>
+// The step of a client whose prefix stands in front of a line, which has these words.
+fn read_step(
+    alloc: Global,
+    client: &[u8],
+    line: &[u8],
+    words: LineWords,
+) -> Result<Option<Step>, AllocError>
     requires client { IsUtf8 client.now }
     requires line { IsUtf8 line.now }
+    requires words { AreWords (words_of line.now) words }
     ensures { IfOk result (λ step. step ≡ option_map (step_with client.now) (act_in line.now)) }
 {
-    let Some(act) = read_act_in(alloc, line)? else {
+    let Some(act) = read_act_in(alloc, line, words)? else {
         return Ok(None);
     };
     let client = Label::of_text(alloc, client)?;
     Ok(Some(Step { client, act }))
+}
+
+// The step of a line, behind a client's prefix or without one.
+fn read_prefixed(alloc: Global, line: &[u8], words: LineWords) -> Result<Option<Step>, AllocError>
+    requires utf8 { IsUtf8 line.now }
+    requires words { AreWords (words_of line.now) words }
+    ensures { IfOk result (λ step. step ≡ step_in line.now) }
+{
+    if let Some(at) = word_place(line, 1) {
+        if let Some(client) = read_client(&line[..at]) {
+            let line = &line[at..];
+            return read_step(alloc, client, line, line_words(line));
+        }
+    }
+    read_step(alloc, b"", line, words)
+}
+
+// Whether the first word may be a client's prefix.
+fn may_be_prefixed(words: LineWords) -> bool
+    ensures { result ≡ false → (ws : List (List ℕ)) → AreWords ws words.entry → NoClientFirst ws }
+{
+    match words {
+        LineWords::Two(word, _) => client_in(word).is_some(),
+        LineWords::Three(word, _, _) => client_in(word).is_some(),
+        LineWords::Four(word, _, _, _) => client_in(word).is_some(),
+        LineWords::Other => true,
+    }
 }
 
 // The step of a line that is UTF-8.
@@ -100,12 +135,11 @@ fn read_utf8(alloc: Global, line: &[u8]) -> Result<Option<Step>, AllocError>
     requires { IsUtf8 line.now }
     ensures { IfOk result (λ step. step ≡ step_in line.now) }
 {
-    if let Some(at) = word_place(line, 1) {
-        if let Some(client) = read_client(&line[..at]) {
-            return read_step(alloc, client, &line[at..]);
-        }
+    let words = line_words(line);
+    if may_be_prefixed(words) {
+        return read_prefixed(alloc, line, words);
     }
-    read_step(alloc, b"", line)
+    read_step(alloc, b"", line, words)
 }
 
 // Whether all bytes of a line are ASCII.
