@@ -22,14 +22,16 @@ some_word b bs h = rw h (begun (ends_word bs) (words_of bs))
     begun false [] = omega arith
     begun false (w ∷ words) = omega arith
 
--- a word goes on with a byte that is no blank, and ends before one
-words_on : (b c : ℕ) (cs : List ℕ) → is_blank b ≡ false → is_blank c ≡ false → length (words_of (b ∷ c ∷ cs)) ≡ length (words_of (c ∷ cs))
-words_on b c cs h k =
-    let goes : words_of (b ∷ c ∷ cs) ≡ with_first b (words_of (c ∷ cs)) = rw (h, k) refl in
-    ap length goes ∙ length-with_first b (words_of (c ∷ cs)) (some_word c cs k)
+-- a word ends before a blank, and goes on with another byte
+pub ends_before : (b c : ℕ) (cs : List ℕ) → is_blank b ≡ false → is_blank c ≡ true → words_of (b ∷ c ∷ cs) ≡ (b ∷ []) ∷ words_of cs
+ends_before b c cs h k = rw (h, k) refl
 
-words_end : (b c : ℕ) (cs : List ℕ) → is_blank b ≡ false → is_blank c ≡ true → length (words_of (b ∷ c ∷ cs)) ≡ 1 + length (words_of cs)
-words_end b c cs h k = let ends : words_of (b ∷ c ∷ cs) ≡ (b ∷ []) ∷ words_of cs = rw (h, k) refl in ap length ends ∙ omega arith
+pub goes_on : (b c : ℕ) (cs : List ℕ) → is_blank b ≡ false → is_blank c ≡ false → words_of (b ∷ c ∷ cs) ≡ with_first b (words_of (c ∷ cs))
+goes_on b c cs h k = rw (h, k) refl
+
+-- a word that goes on is no word more
+words_on : (b c : ℕ) (cs : List ℕ) → is_blank b ≡ false → is_blank c ≡ false → length (words_of (b ∷ c ∷ cs)) ≡ length (words_of (c ∷ cs))
+words_on b c cs h k = ap length (goes_on b c cs h k) ∙ length-with_first b (words_of (c ∷ cs)) (some_word c cs k)
 
 -- no word begins behind as many as there are: at the front of a text, and behind a byte of a word
 pub record NoneFrom (xs : List ℕ) : Type 0 where
@@ -47,7 +49,7 @@ none_from (c ∷ cs) = by_case (is_blank c) refl (none_from cs)
           let passed : words_of (c ∷ cs) ≡ words_of cs = rw k refl in
           word_from-other true n at c cs (ap (λ t. true && not t) k) ∙ ap (λ t. word_from t n (at + 1) cs) k ∙ more.apart n (at + 1) (omega (arith, h, ap length passed));
       within = λ n at b e h.
-          word_from-other false n at c cs refl ∙ ap (λ t. word_from t n (at + 1) cs) k ∙ more.apart n (at + 1) (omega (arith, h, words_end b c cs e k));
+          word_from-other false n at c cs refl ∙ ap (λ t. word_from t n (at + 1) cs) k ∙ more.apart n (at + 1) (omega (arith, h, ap length (ends_before b c cs e k)));
     }
     by_case false k more = record {
       apart = λ n at h.

@@ -4,20 +4,10 @@ use Rattle.mix_base.proofs.Choices.{none_some, some_is}
 use Rattle.mix_words.specs.Words.{is_blank, words_of, with_first}
 use Rattle.mix_words.specs.Places.{word_from, place_of_word}
 use Rattle.mix_words.proofs.WordPlaces.{word_from-other, word_from-next, word_from-here}
-use Rattle.mix_script.proofs.FewWords.{none_from, some_word}
+use Rattle.mix_script.proofs.LineWords.{blank_front}
+use Rattle.mix_script.proofs.FewWords.{ends_before, goes_on, none_from, some_word}
 use Rattle.mix_script.specs.LineWords.{NoClientFirst}
 use Rattle.mix_script.specs.Lines.{act_in, client_named, client_of, step_behind, step_from, step_in, step_with}
-
--- a blank in front is in no word
-blank_front : (b : ℕ) (bs : List ℕ) → is_blank b ≡ true → words_of (b ∷ bs) ≡ words_of bs
-blank_front b bs h = rw h refl
-
--- a word ends before a blank, and goes on with another byte
-ends_before : (b c : ℕ) (cs : List ℕ) → is_blank b ≡ false → is_blank c ≡ true → words_of (b ∷ c ∷ cs) ≡ (b ∷ []) ∷ words_of cs
-ends_before b c cs h k = rw (h, k) refl
-
-goes_on : (b c : ℕ) (cs : List ℕ) → is_blank b ≡ false → is_blank c ≡ false → words_of (b ∷ c ∷ cs) ≡ with_first b (words_of (c ∷ cs))
-goes_on b c cs h k = rw (h, k) refl
 
 -- no word stands before the next one
 none_before : (xs : List ℕ) (at place : ℕ) → word_from true 0 at xs ≡ Some place → (k : ℕ) × (place ≡ at + k) × (words_of (take k xs) ≡ [])

@@ -7,7 +7,7 @@ use Rattle.mix_words.proofs.Pieces.{Free, Free-rest, rest_whole}
 use Rattle.mix_words.proofs.WordCuts.{word_cut, words_at_end}
 
 -- a blank in front is in no word
-blank_front : (b : ℕ) (bs : List ℕ) → is_blank b ≡ true → words_of (b ∷ bs) ≡ words_of bs
+pub blank_front : (b : ℕ) (bs : List ℕ) → is_blank b ≡ true → words_of (b ∷ bs) ≡ words_of bs
 blank_front b bs h = rw h refl
 
 -- the words from a blank on are those behind it
