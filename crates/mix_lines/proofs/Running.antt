@@ -26,57 +26,60 @@ pub far_start : {V W : Type 0} (m : Meaning V W) (v : View) (values : NamesOf V)
     → IsFar m.course m v v values names steps before before false steps
 far_start m v values names steps before session none = record { session = session; answers = []; written = written_start names steps before; so = so_far_start m v values steps none }
 
--- the step at an index comes first of those behind the ones that were answered
-pub far_at : {V W : Type 0} (c : Course W) (m : Meaning V W) (old now : View) (values : NamesOf V) (names : List (List ℕ)) (steps : List Step) (before after : Option (List ℕ)) (marked : Bool) (i : ℕ) (step : Step) → i < length steps
-    → step ≡ get_or steps i step → IsFar c m old now values names steps before after marked (drop i steps) → IsFar c m old now values names steps before after marked (step ∷ drop (i + 1) steps)
-far_at c m old now values names steps before after marked i step h is so = subst (IsFar c m old now values names steps before after marked) (later_at steps i step h is) so
+module _ {V W : Type 0} (c : Course W) (m m' : Meaning V W) (old v v' : View) (values values' : NamesOf V) (names : List (List ℕ)) (steps : List Step) (before now : Option (List ℕ)) (marked : Bool) (i : ℕ) (step : Step)
+    (inside : i < length steps) (at_index : step ≡ get_or steps i step) (begun : IsFar c m old v values names steps before now marked (drop i steps)) where
+  -- the steps behind the one at the index
+  abbrev later : List Step
+  later = drop (i + 1) steps
 
--- the source of an answer has a name
-pub step_named : {V W : Type 0} (c : Course W) (m m' : Meaning V W) (old v v' : View) (values values' : NamesOf V) (names : List (List ℕ)) (steps : List Step) (before now : Option (List ℕ)) (marked : Bool) (step : Step) (later : List Step)
-    → IsFar c m old v values names steps before now marked (step ∷ later) → (a : Answer) → IsStep m m' v.faults v'.faults values values' step.client step.act a → ((s : ℕ) → c.MayFail s → s < length names) → IsNamed (length names) a
-step_named c m m' old v v' values values' names steps before now marked step later far a is named = so_far_named c m m' old v v' values values' (length names) steps step later far.answers far.so a is named
+  -- that one comes first of those which are not answered yet
+  far : IsFar c m old v values names steps before now marked (step ∷ later)
+  far = subst (IsFar c m old v values names steps before now marked) (later_at steps i step inside at_index) begun
 
-module _ {V W : Type 0} (c : Course W) (m m' : Meaning V W) (old v v' : View) (values values' : NamesOf V) (names : List (List ℕ)) (steps : List Step) (before now : Option (List ℕ)) (marked : Bool) (step : Step) (later : List Step)
-    (far : IsFar c m old v values names steps before now marked (step ∷ later)) (rises : (s : ℕ) → v.faults s ≤ v'.faults s) (r : Result Answer AllocError) (done : Stepped m m' v v' values values' step.client step.act r) where
-  -- the answers so far are those of a run
-  before_step : IsRun c old.faults v'.faults steps far.answers
-  before_step = earlier c m m' old v v' values values' steps step later far.answers far.so rises r done
+  -- the source of an answer has a name
+  pub step_named : (a : Answer) → IsStep m m' v.faults v'.faults values values' step.client step.act a → ((s : ℕ) → c.MayFail s → s < length names) → IsNamed (length names) a
+  step_named a is named = so_far_named c m m' old v v' values values' (length names) steps step later far.answers far.so a is named
 
-  -- what they and this step cost
-  with_step : IsLazy c old.fills v'.fills steps far.answers
-  with_step = lazy_begun c m m' old v v' values values' steps step later far.answers far.so rises r done
+  module _ (rises : (s : ℕ) → v.faults s ≤ v'.faults s) (r : Result Answer AllocError) (done : Stepped m m' v v' values values' step.client step.act r) where
+    -- the answers so far are those of a run
+    before_step : IsRun c old.faults v'.faults steps far.answers
+    before_step = earlier c m m' old v v' values values' steps step later far.answers far.so rises r done
 
-  -- memory ran out before there was an answer
-  pub far_short : (sink mid : SinkView) → sink.written ≡ before → mid.written ≡ now → Ends c old v' names steps sink mid (Err OutOfMemory)
-  far_short sink mid at there = inl record {
-    answers = far.answers;
-    are = before_step;
-    written = subst (λ o. Appends o mid.written (answer_lines names far.answers steps)) (sym at) (subst (λ o. Appends before o (answer_lines names far.answers steps)) (sym there) far.written.written);
-    cost = with_step;
-  }
+    -- what they and this step cost
+    with_step : IsLazy c old.fills v'.fills steps far.answers
+    with_step = lazy_begun c m m' old v v' values values' steps step later far.answers far.so rises r done
 
-  module _ (a : Answer) (is : IsStep m m' v.faults v'.faults values values' step.client step.act a) where
-    -- one step more was answered
-    more : IsSoFar c m' old v' values' steps later (far.answers ++ a ∷ [])
-    more = next c m m' old v v' values values' steps step later far.answers far.so rises r done a is
-
-    -- and its line was written
-    pub far_step : (after : Option (List ℕ)) → Appends now after (line_of names step.client a) → IsFar c m' old v' values' names steps before after (marked || is_fault a) later
-    far_step after wrote = record {
-      session = done.session;
-      answers = far.answers ++ a ∷ [];
-      written = written_step names steps step later before now marked far.answers far.written a after wrote;
-      so = more;
+    -- memory ran out before there was an answer
+    pub far_short : (sink mid : SinkView) → sink.written ≡ before → mid.written ≡ now → Ends c old v' names steps sink mid (Err OutOfMemory)
+    far_short sink mid at there = inl record {
+      answers = far.answers;
+      are = before_step;
+      written = subst (λ o. Appends o mid.written (answer_lines names far.answers steps)) (sym at) (subst (λ o. Appends before o (answer_lines names far.answers steps)) (sym there) far.written.written);
+      cost = with_step;
     }
 
-    -- a step was cut short in its line
-    pub far_cut : (sink mid sink' : SinkView) (fault : LinesFault) → sink.written ≡ before → mid.written ≡ now → sink.faults ≤ mid.faults
-        → IsStepCut (λ x. x ≡ a) names step.client mid sink' fault → Ends c old v' names steps sink sink' (Err fault)
-    far_cut sink mid sink' fault at there count h =
-        let written = subst (λ o. AreWritten names steps (step ∷ later) o mid.written marked far.answers) (sym at)
-        (subst (λ o. AreWritten names steps (step ∷ later) before o marked far.answers) (sym there) far.written) in
-        run_cut (IsRun c old.faults v'.faults steps) (IsLazy c old.fills v'.fills steps) names steps later sink mid sink' marked far.answers step written (λ x. x ≡ a) before_step
-        (λ x same. subst (λ y. IsRun c old.faults v'.faults steps (far.answers ++ y ∷ [])) (sym same) (so_far_run c m' old v' v' values' steps later (far.answers ++ a ∷ []) more (λ s. omega arith))) with_step count fault h
+    module _ (a : Answer) (is : IsStep m m' v.faults v'.faults values values' step.client step.act a) where
+      -- one step more was answered
+      more : IsSoFar c m' old v' values' steps later (far.answers ++ a ∷ [])
+      more = next c m m' old v v' values values' steps step later far.answers far.so rises r done a is
+
+      -- and its line was written
+      pub far_step : (after : Option (List ℕ)) → Appends now after (line_of names step.client a) → IsFar c m' old v' values' names steps before after (marked || is_fault a) later
+      far_step after wrote = record {
+        session = done.session;
+        answers = far.answers ++ a ∷ [];
+        written = written_step names steps step later before now marked far.answers far.written a after wrote;
+        so = more;
+      }
+
+      -- a step was cut short in its line
+      pub far_cut : (sink mid sink' : SinkView) (fault : LinesFault) → sink.written ≡ before → mid.written ≡ now → sink.faults ≤ mid.faults
+          → IsStepCut (λ x. x ≡ a) names step.client mid sink' fault → Ends c old v' names steps sink sink' (Err fault)
+      far_cut sink mid sink' fault at there count h =
+          let written = subst (λ o. AreWritten names steps (step ∷ later) o mid.written marked far.answers) (sym at)
+          (subst (λ o. AreWritten names steps (step ∷ later) before o marked far.answers) (sym there) far.written) in
+          run_cut (IsRun c old.faults v'.faults steps) (IsLazy c old.fills v'.fills steps) names steps later sink mid sink' marked far.answers step written (λ x. x ≡ a) before_step
+          (λ x same. subst (λ y. IsRun c old.faults v'.faults steps (far.answers ++ y ∷ [])) (sym same) (so_far_run c m' old v' v' values' steps later (far.answers ++ a ∷ []) more (λ s. omega arith))) with_step count fault h
 
 -- all steps were answered
 pub far_done : {V W : Type 0} (c : Course W) (m : Meaning V W) (old now : View) (values : NamesOf V) (names : List (List ℕ)) (steps later : List Step) (sink sink' : SinkView) (marked : Bool) → later ≡ []

@@ -2,6 +2,7 @@
 use Rattle.std.proofs.Common.{◌≡◌, ◌∙◌, inl, inr, ◌+◌, ℕ, Bool, false, List, [], ◌∷◌, ◌++◌, Option, Some, None, Result, Ok, Err, refl, ap, sym, subst, length, take}
 use Rattle.mix_base.proofs.Lists.{append_nil, take_append, take_front}
 use Rattle.mix_tree.specs.Forest.{LabelledTree}
+use Rattle.lxp_core.specs.View.{View}
 use Rattle.mix_io.specs.Views.{SinkView}
 use Rattle.mix_io.specs.Contents.{Appends, AppendsFront}
 use Rattle.mix_script.specs.Names.{no_names}
@@ -11,9 +12,10 @@ use Rattle.mix_script.specs.Finished.{AreOf}
 use Rattle.mix_script.specs.declared.step.Step.{Step}
 use Rattle.mix_script.specs.declared.answer.Answer.{Answer}
 use Rattle.mix_script.proofs.Finished.{lines_begin_transcript, lines_are_transcript, answers_show_marks, unmarked_lines}
+use Rattle.mix_session.specs.Meaning.{Course}
 use Rattle.mix_lines.specs.declared.fault.LinesFault.{LinesFault}
 use Rattle.mix_lines.specs.declared.fault.LinesFault.TheVariants.{SinkFailed, OutOfMemory}
-use Rattle.mix_lines.specs.Lines.{EndsWithin, EndsBy}
+use Rattle.mix_lines.specs.Lines.{IsRun, IsLazy, EndsWithin, EndsBy, Ends}
 use Rattle.mix_lines.specs.Told.{AreLinesOn, EndsOn, EndsUnmarked}
 
 -- a front of lines is a front of those that begin with them
@@ -43,7 +45,7 @@ module _ (Are Cost : List Answer → Type 0) (t : LabelledTree) (names : List (L
         )
 
     -- a run over a document that is told
-    pub ends_on : (r : Result Bool LinesFault) → EndsBy Are Cost names steps before after r → EndsOn roots t names steps before.written after.written r
+    ends_on : (r : Result Bool LinesFault) → EndsBy Are Cost names steps before after r → EndsOn roots t names steps before.written after.written r
     ends_on (Ok marked) e = (
       transcript t names (marks_of e.answers) steps,
       on_tree e.answers e.are,
@@ -89,3 +91,9 @@ nothing_on roots t names steps before fault = (transcript t names [] steps, reco
     nothing : (o : Option (List ℕ)) → AppendsFront o o (transcript t names [] steps)
     nothing None = refl
     nothing (Some b) = (0, ap Some (sym (append_nil b)))
+
+-- lines on a course whose document is told
+pub ends_told : {W : Type 0} (c : Course W) (old new : View) (names : List (List ℕ)) (steps : List Step) (before after : SinkView) (r : Result Bool LinesFault) → Ends c old new names steps before after r → (t : LabelledTree) → c.IsDocument t
+    → EndsOn c.roots t names steps before.written after.written r
+ends_told c old new names steps before after r ends t one =
+    ends_on (IsRun c old.faults new.faults steps) (IsLazy c old.fills new.fills steps) t names steps before after c.roots c.MayFail (λ answers are. are.allowed) (λ answers are. are.told t one) r ends

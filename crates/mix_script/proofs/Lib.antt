@@ -1,9 +1,12 @@
 pub mod Answering
 pub mod Apart
+pub mod FewWords
 pub mod Finished
+pub mod FirstWords
 pub mod Held
 pub mod Holding
 pub mod LineForms
+pub mod LineWords
 pub mod Reading
 pub mod Selecting
 pub mod WorkedRow

@@ -4,6 +4,7 @@ pub mod Clients
 pub mod Finished
 pub mod Forms
 pub mod Holding
+pub mod LineWords
 pub mod Lines
 pub mod Names
 pub mod Selects

@@ -85,6 +85,24 @@ fn push_answer(line: &mut Vec<u8>, answer: &Answer, sources: &[Label]) -> Result
     }
 }
 
+// Room for an answer's text. A label that is quoted and has escapes takes more.
+fn text_room(answer: &Answer) -> usize {
+    match answer {
+        Answer::Label(label) => label.bytes().len().saturating_add(8),
+        Answer::Text(text) => text.bytes().len().saturating_add(5),
+        Answer::Node | Answer::None | Answer::NoNode | Answer::Fault(_) => 16,
+    }
+}
+
+// Room for a line: the client's name with a colon, the text and an LF.
+fn line_room(client: &Label, answer: &Answer) -> usize {
+    client
+        .bytes()
+        .len()
+        .saturating_add(text_room(answer))
+        .saturating_add(3)
+}
+
 /// The line that tells a step's answer, with its LF. `sources` has the sources' names by their numbers.
 pub fn write_answer(
     alloc: Global,
@@ -95,7 +113,7 @@ pub fn write_answer(
     requires { IsNamed (length sources.now) answer.now }
     ensures { IfOk result (λ line. line.items ≡ line_of sources.now step.now.client answer.now) }
 {
-    let mut line = Vec::new(alloc);
+    let mut line = Vec::with_capacity(alloc, line_room(&step.client, answer))?;
     push_prefix(&mut line, &step.client)?;
     push_answer(&mut line, answer, sources)?;
     line.push(b'\n')?;

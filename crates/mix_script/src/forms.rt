@@ -1,8 +1,11 @@
 // What the words of a line ask for.
-ghost use Rattle.std.specs.Prelude.{◌≡◌, IfOk, IsTrue, map};
-ghost use Rattle.mix_words.specs.Words.{is_name};
+ghost use Rattle.std.specs.Prelude.{◌≡◌, ◌&&◌, ℕ, List, IfOk, IsTrue, codes};
+ghost use Rattle.std.specs.Str.{bytes_eq};
+ghost use Rattle.mix_words.specs.Words.{is_name, words_of};
+ghost use Rattle.mix_script.specs.LineWords.{AreWords};
 ghost use Rattle.mix_script.specs.Forms.{act_of, read_form, reading_named, root_form, move_form, way_named, act_named, is_select_form, select_of};
 
+use crate::words::{LineWords, line_words};
 use crate::{Act, Way};
 use mix_tree::Label;
 use mix_words::words::is_script_name;
@@ -20,13 +23,18 @@ fn name_label(alloc: Global, name: &[u8]) -> Result<Label, AllocError>
 fn read_way(word: &[u8]) -> Option<Way>
     ensures { result ≡ way_named word.now }
 {
-    if word == b"down".as_slice() {
-        return Some(Way::Down);
+    match word {
+        b"down" => Some(Way::Down),
+        b"right" => Some(Way::Right),
+        _ => None,
     }
-    if word == b"right".as_slice() {
-        return Some(Way::Right);
-    }
-    None
+}
+
+// Whether words begin with `X =`.
+fn is_assigned(name: &[u8], is: &[u8]) -> bool
+    ensures { result ≡ (is_name name.now && bytes_eq is.now (codes "=")) }
+{
+    is_script_name(name) && matches!(is, b"=")
 }
 
 // The command of a word that stands before a name.
@@ -58,7 +66,7 @@ fn read_move(
 ) -> Result<Option<Act>, AllocError>
     ensures { IfOk result (λ act. act ≡ move_form name.now is.now command.now from.now) }
 {
-    if is_script_name(name) && is == b"=".as_slice() && is_script_name(from) {
+    if is_assigned(name, is) && is_script_name(from) {
         return read_command(alloc, name, command, from);
     }
     Ok(None)
@@ -73,7 +81,7 @@ fn read_root(
 ) -> Result<Option<Act>, AllocError>
     ensures { IfOk result (λ act. act ≡ root_form name.now is.now command.now) }
 {
-    if is_script_name(name) && is == b"=".as_slice() && command == b"root".as_slice() {
+    if is_assigned(name, is) && matches!(command, b"root") {
         return Ok(Some(Act::Root {
             name: name_label(alloc, name)?,
         }));
@@ -86,15 +94,15 @@ fn read_reading(alloc: Global, command: &[u8], from: &[u8]) -> Result<Option<Act
     requires { IsTrue (is_name from.now) }
     ensures { IfOk result (λ act. act ≡ reading_named command.now from.now) }
 {
-    if command == b"fetch".as_slice() {
-        let from = name_label(alloc, from)?;
-        return Ok(Some(Act::Fetch { from }));
+    match command {
+        b"fetch" => Ok(Some(Act::Fetch {
+            from: name_label(alloc, from)?,
+        })),
+        b"print" => Ok(Some(Act::Print {
+            from: name_label(alloc, from)?,
+        })),
+        _ => Ok(None),
     }
-    if command == b"print".as_slice() {
-        let from = name_label(alloc, from)?;
-        return Ok(Some(Act::Print { from }));
-    }
-    Ok(None)
 }
 
 // `fetch Y` and `print Y`.
@@ -108,14 +116,14 @@ fn read_of(alloc: Global, command: &[u8], from: &[u8]) -> Result<Option<Act>, Al
 }
 
 /// What the words of a line ask for; `None` where they are of no form that ends with a name or `root`.
-pub fn read_act(alloc: Global, words: &[&[u8]]) -> Result<Option<Act>, AllocError>
-    ensures { IfOk result (λ act. act ≡ act_of (map (λ word. word.now) words.now)) }
+pub fn read_act(alloc: Global, words: LineWords) -> Result<Option<Act>, AllocError>
+    ensures { (ws : List (List ℕ)) → AreWords ws words.entry → IfOk result (λ act. act ≡ act_of ws) }
 {
     match words {
-        [command, from] => read_of(alloc, command, from),
-        [name, is, command] => read_root(alloc, name, is, command),
-        [name, is, command, from] => read_move(alloc, name, is, command, from),
-        _ => Ok(None),
+        LineWords::Two(command, from) => read_of(alloc, command, from),
+        LineWords::Three(name, is, command) => read_root(alloc, name, is, command),
+        LineWords::Four(name, is, command, from) => read_move(alloc, name, is, command, from),
+        LineWords::Other => Ok(None),
     }
 }
 
@@ -123,18 +131,15 @@ pub fn read_act(alloc: Global, words: &[&[u8]]) -> Result<Option<Act>, AllocErro
 fn is_select(name: &[u8], is: &[u8], command: &[u8], from: &[u8]) -> bool
     ensures { result ≡ is_select_form name.now is.now command.now from.now }
 {
-    is_script_name(name)
-        && is == b"=".as_slice()
-        && command == b"select".as_slice()
-        && is_script_name(from)
+    is_assigned(name, is) && command == b"select".as_slice() && is_script_name(from)
 }
 
 /// What the words in front of a label ask for, which are `X = select Y`; `None` where they are others.
-pub fn read_select(alloc: Global, words: &[&[u8]], label: Label) -> Result<Option<Act>, AllocError>
-    ensures { IfOk result (λ act. act ≡ select_of (map (λ word. word.now) words.now) label) }
+pub fn read_select(alloc: Global, front: &[u8], label: Label) -> Result<Option<Act>, AllocError>
+    ensures { IfOk result (λ act. act ≡ select_of (words_of front.now) label) }
 {
-    match words {
-        [name, is, command, from] if is_select(name, is, command, from) => {
+    match line_words(front) {
+        LineWords::Four(name, is, command, from) if is_select(name, is, command, from) => {
             let name = name_label(alloc, name)?;
             let from = name_label(alloc, from)?;
             Ok(Some(Act::Select { name, from, label }))

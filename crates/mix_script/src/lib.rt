@@ -8,6 +8,7 @@ mod line;
 mod names;
 mod script;
 mod step;
+mod words;
 
 pub use answer::{Answer, Text, write_answer};
 pub use law::{clients_are_apart, selects_are_spelled};

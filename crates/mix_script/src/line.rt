@@ -1,15 +1,18 @@
 // The step of a line.
-ghost use Rattle.std.specs.Prelude.{◌≡◌, ◌<◌, IfOk, IfSome, IsTrue, IsUtf8, length, map, option_map, take, true};
+ghost use Rattle.std.specs.Prelude.{◌≡◌, ◌<◌, ℕ, List, false, IfOk, IfSome, IsTrue, IsUtf8, MatchBool, length, option_map, take, true};
+ghost use Rattle.std.specs.Char.{is_ascii};
+ghost use Rattle.std.specs.List.{list_all};
 ghost use Rattle.mix_words.specs.Words.{is_name, words_of};
 ghost use Rattle.mix_words.specs.Places.{blank_behind};
-ghost use Rattle.mix_script.specs.Forms.{act_of};
-ghost use Rattle.mix_script.specs.Lines.{before_colon, client_named, client_of, select_at, act_in, step_with, step_in, utf8_step, no_words};
+ghost use Rattle.mix_script.specs.LineWords.{AreWords, NoClientFirst};
+ghost use Rattle.mix_script.specs.Lines.{before_colon, client_named, client_of, select_at, act_in, step_with, step_in, utf8_step};
 
 use crate::forms::{read_act, read_select};
+use crate::words::{LineWords, first_word, is_wordless, line_words};
 use crate::{Act, Step};
 use mix_tree::{Label, LabelRead, read_label};
 use mix_words::places::word_place;
-use mix_words::words::{cut_words, is_script_name};
+use mix_words::words::is_script_name;
 use std::alloc::{AllocError, Global};
 use std::str;
 
@@ -39,23 +42,15 @@ fn client_in(word: &[u8]) -> Option<&[u8]>
 }
 
 // The client of a prefix.
-fn read_client(alloc: Global, front: &[u8]) -> Result<Option<&[u8]>, AllocError>
-    ensures client { IfOk result (λ found. option_map (λ name. name.now) found ≡ client_of (words_of front.now)) }
-    ensures name { IfOk result (λ found. IfSome found (λ name. IsTrue (is_name name.now))) }
+fn read_client(front: &[u8]) -> Option<&[u8]>
+    ensures client { option_map (λ name. name.now) result ≡ client_of (words_of front.now) }
+    ensures name { IfSome result (λ name. IsTrue (is_name name.now)) }
 {
-    let words = cut_words(alloc, front)?;
-    match words.as_slice() {
-        [word] => Ok(client_in(word)),
-        _ => Ok(None),
+    let (word, behind) = first_word(front)?;
+    if !is_wordless(behind) {
+        return None;
     }
-}
-
-// Whether a text has no words.
-fn is_wordless(alloc: Global, text: &[u8]) -> Result<bool, AllocError>
-    ensures { IfOk result (λ none. none ≡ no_words (words_of text.now)) }
-{
-    let words = cut_words(alloc, text)?;
-    Ok(words.is_empty())
+    client_in(word)
 }
 
 // What a line asks for whose label begins at a place.
@@ -68,36 +63,71 @@ fn read_select_at(alloc: Global, line: &[u8], at: usize) -> Result<Option<Act>, 
     let LabelRead::Got { label, end } = read_label(alloc, line, at)? else {
         return Ok(None);
     };
-    if !is_wordless(alloc, &line[end..])? {
+    if !is_wordless(&line[end..]) {
         return Ok(None);
     }
-    let words = cut_words(alloc, &line[..at])?;
-    read_select(alloc, &words, label)
+    read_select(alloc, &line[..at], label)
 }
 
-// What a line without a prefix asks for.
-fn read_act_in(alloc: Global, line: &[u8]) -> Result<Option<Act>, AllocError>
-    requires { IsUtf8 line.now }
+// What a line without a prefix asks for, which has these words.
+fn read_act_in(alloc: Global, line: &[u8], words: LineWords) -> Result<Option<Act>, AllocError>
+    requires utf8 { IsUtf8 line.now }
+    requires words { AreWords (words_of line.now) words }
     ensures { IfOk result (λ act. act ≡ act_in line.now) }
 {
-    if let Some(at) = word_place(line, BEFORE_LABEL) {
-        return read_select_at(alloc, line, at);
+    if let Some(act) = read_act(alloc, words)? {
+        return Ok(Some(act));
     }
-    let words = cut_words(alloc, line)?;
-    read_act(alloc, &words)
+    match word_place(line, BEFORE_LABEL) {
+        Some(at) => read_select_at(alloc, line, at),
+        None => Ok(None),
+    }
 }
 
-// The step of a client whose prefix stands in front of a line.
-fn read_step(alloc: Global, client: &[u8], line: &[u8]) -> Result<Option<Step>, AllocError>
+// The step of a client whose prefix stands in front of a line, which has these words.
+fn read_step(
+    alloc: Global,
+    client: &[u8],
+    line: &[u8],
+    words: LineWords,
+) -> Result<Option<Step>, AllocError>
     requires client { IsUtf8 client.now }
     requires line { IsUtf8 line.now }
+    requires words { AreWords (words_of line.now) words }
     ensures { IfOk result (λ step. step ≡ option_map (step_with client.now) (act_in line.now)) }
 {
-    let Some(act) = read_act_in(alloc, line)? else {
+    let Some(act) = read_act_in(alloc, line, words)? else {
         return Ok(None);
     };
     let client = Label::of_text(alloc, client)?;
     Ok(Some(Step { client, act }))
+}
+
+// The step of a line, behind a client's prefix or without one.
+fn read_prefixed(alloc: Global, line: &[u8], words: LineWords) -> Result<Option<Step>, AllocError>
+    requires utf8 { IsUtf8 line.now }
+    requires words { AreWords (words_of line.now) words }
+    ensures { IfOk result (λ step. step ≡ step_in line.now) }
+{
+    if let Some(at) = word_place(line, 1) {
+        if let Some(client) = read_client(&line[..at]) {
+            let line = &line[at..];
+            return read_step(alloc, client, line, line_words(line));
+        }
+    }
+    read_step(alloc, b"", line, words)
+}
+
+// Whether the first word may be a client's prefix.
+fn may_be_prefixed(words: LineWords) -> bool
+    ensures { result ≡ false → (ws : List (List ℕ)) → AreWords ws words.entry → NoClientFirst ws }
+{
+    match words {
+        LineWords::Two(word, _) => client_in(word).is_some(),
+        LineWords::Three(word, _, _) => client_in(word).is_some(),
+        LineWords::Four(word, _, _, _) => client_in(word).is_some(),
+        LineWords::Other => true,
+    }
 }
 
 // The step of a line that is UTF-8.
@@ -105,19 +135,32 @@ fn read_utf8(alloc: Global, line: &[u8]) -> Result<Option<Step>, AllocError>
     requires { IsUtf8 line.now }
     ensures { IfOk result (λ step. step ≡ step_in line.now) }
 {
-    if let Some(at) = word_place(line, 1) {
-        if let Some(client) = read_client(alloc, &line[..at])? {
-            return read_step(alloc, client, &line[at..]);
-        }
+    let words = line_words(line);
+    if may_be_prefixed(words) {
+        return read_prefixed(alloc, line, words);
     }
-    read_step(alloc, b"", line)
+    read_step(alloc, b"", line, words)
+}
+
+// Whether all bytes of a line are ASCII.
+fn is_ascii_line(line: &[u8]) -> bool
+    ensures { result ≡ list_all is_ascii line.now }
+{
+    line.iter().all(|byte| byte.is_ascii())
+}
+
+// Whether a line is UTF-8. Most lines are ASCII.
+fn is_utf8_line(line: &[u8]) -> bool
+    ensures { MatchBool result (IsUtf8 line.now) (¬ IsUtf8 line.now) }
+{
+    is_ascii_line(line) || str::from_utf8(line).is_ok()
 }
 
 /// The step of a line that is not passed over; `None` where it is not UTF-8 or fits no form (docs/FORMATS.md, "Scripts").
 pub fn line_step(alloc: Global, line: &[u8]) -> Result<Option<Step>, AllocError>
     ensures { IfOk result (λ step. step ≡ utf8_step line.now) }
 {
-    if str::from_utf8(line).is_err() {
+    if !is_utf8_line(line) {
         return Ok(None);
     }
     read_utf8(alloc, line)

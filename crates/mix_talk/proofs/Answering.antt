@@ -18,10 +18,11 @@ use Rattle.mix_talk.specs.Answered.{IsReadAnswered, IsSaid}
 use Rattle.mix_talk.specs.Ends.{TalkEnds}
 use Rattle.mix_talk.specs.Faults.{of_lines}
 use Rattle.mix_talk.specs.Heard as heard
+use Rattle.mix_talk.specs.Reading.{Reads}
 use Rattle.mix_talk.specs.Heard.{Heard, next_asks}
 use Rattle.mix_talk.specs.declared.reader.LineReader.{LineReader}
 use Rattle.mix_talk.proofs.Answered.{talking_step, talking_short, talking_cut}
-use Rattle.mix_talk.proofs.Talking.{IsTalking, or_false}
+use Rattle.mix_talk.proofs.Talking.{IsTalking, or_false, talking_read}
 use Rattle.mix_talk.proofs.Unformed.{talking_no_form, talking_no_form_cut}
 
 -- what was marked in one way wasn't in another
@@ -57,23 +58,39 @@ module _ {U P V X : Type 0} (s s' : U) (session session' : P) (view : U → View
   Next coming = IsTalking c (means s session) old (view s) (values session) names input mid r sink.written between.written marked coming
 
   -- its answer was told
-  pub line_told : (read : LineRead) → Next (next_asks (Some read)) → (k : Bool) → IsReadAnswered s s' session session' view means values names read between sink' (Ok k)
+  next_told : (read : LineRead) → Next (next_asks (Some read)) → (k : Bool) → IsReadAnswered s s' session session' view means values names read between sink' (Ok k)
       → IsTalking c (means s' session') old (view s') (values session') names input mid r sink.written sink'.written (marked || k) []
-  line_told Passed far k is = rw (is.0, is.1, is.2, marks_same refl is.3, or_false marked) far
-  line_told NoForm far k is =
+  next_told Passed far k is = rw (is.0, is.1, is.2, marks_same refl is.3, or_false marked) far
+  next_told NoForm far k is =
       let said = is.2 in
       rw (is.0, is.1, said.0, or_false marked)
       (talking_no_form c (means s session) old (view s) (values session) names input mid r sink between marked sink'.written far said.1)
-  line_told (Step step) far k is =
+  next_told (Step step) far k is =
       step_told c (means s session) (means s' session') old (view s) (view s') (values session) (values session') names input mid r sink between sink' marked rises
       step far is.answer is.stepped k is.said
 
   -- its answer was cut short
-  pub line_cut : (read : LineRead) → Next (next_asks (Some read)) → (fault : LinesFault) → IsReadAnswered s s' session session' view means values names read between sink' (Err fault)
+  next_cut : (read : LineRead) → Next (next_asks (Some read)) → (fault : LinesFault) → IsReadAnswered s s' session session' view means values names read between sink' (Err fault)
       → sink.faults ≤ between.faults → TalkEnds c old (view s') names input mid sink sink' (Err (of_lines fault))
-  line_cut Passed far fault is more = absurd (let e = is.3 in cc)
-  line_cut NoForm far fault is more =
+  next_cut Passed far fault is more = absurd (let e = is.3 in cc)
+  next_cut NoForm far fault is more =
       rw is.0 (talking_no_form_cut c (means s session) old (view s) (values session) names input mid r sink between marked sink' far more fault is.2)
-  line_cut (Step step) far fault is more =
+  next_cut (Step step) far fault is more =
       step_cut c (means s session) (means s' session') old (view s) (view s') (values session) (values session') names input mid r sink between sink' marked rises
       step far is.answer is.stepped fault is.said more
+
+  module _ (taken : InputView) (reader : LineReader) (far : IsTalking c (means s session) old (view s) (values session) names input taken reader sink.written between.written marked [])
+      (read : LineRead) (reads : Reads taken mid reader r (Some read)) where
+    -- a line was read behind those that were answered
+    comes : Next (next_asks (Some read))
+    comes = talking_read c (means s session) old (view s) (values session) names input taken reader sink between marked mid r (Some read) far reads
+
+    -- its answer was told
+    pub line_told : (k : Bool) → IsReadAnswered s s' session session' view means values names read between sink' (Ok k)
+        → IsTalking c (means s' session') old (view s') (values session') names input mid r sink.written sink'.written (marked || k) []
+    line_told k is = next_told read comes k is
+
+    -- or cut short
+    pub line_cut : (fault : LinesFault) → IsReadAnswered s s' session session' view means values names read between sink' (Err fault)
+        → sink.faults ≤ between.faults → TalkEnds c old (view s') names input mid sink sink' (Err (of_lines fault))
+    line_cut fault is more = next_cut read comes fault is more

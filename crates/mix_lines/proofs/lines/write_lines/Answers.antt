@@ -1,12 +1,12 @@
-use Rattle.std.proofs.Common.{◌≡◌, ◌+◌, ◌<◌, ◌≤◌, ℕ, Ok, Err, refl, arith, length, drop, subst}
+use Rattle.std.proofs.Common.{◌≡◌, ◌<◌, ◌≤◌, ℕ, Ok, Err, refl, arith, length, drop, subst}
 use Rattle.std.proofs.lemmas.List.{drop_all}
 use Rattle.std.proofs.lemmas.Result.{err_from_is_err_and}
 use Rattle.lxp_core.specs.View.{Keeps}
 use Rattle.mix_script.specs.Names.{held}
-use Rattle.mix_lines.specs.Lines.{IsRun, IsLazy, Ends}
+use Rattle.mix_lines.specs.Lines.{Ends}
 use Rattle.mix_lines.specs.declared.fault.LinesFault.TheVariants.{OutOfMemory}
-use Rattle.mix_lines.proofs.Telling.{ends_on}
-use Rattle.mix_lines.proofs.Running.{far_start, far_at, far_step, far_short, far_cut, far_done, step_named}
+use Rattle.mix_lines.proofs.Telling.{ends_told}
+use Rattle.mix_lines.proofs.Running.{far_start, far_step, far_short, far_cut, far_done, step_named}
 use Rattle.mix_lines.proofs.lines.write_lines.Goals as goal
 
 pub loop-step-init : goal.loop-step-init
@@ -24,36 +24,18 @@ pub write_line-requires : goal.write_line-requires
 write_line-requires g c =
     let view = g.S.Sources.view in
     let means = g.W.Walker.means in
-    let sink = g.K.Sink.view in
     let start = means (view c.args.s.now) c.open-session.result.walker in
-    let step = c.step-item.result in
-    let later = drop (c.loop-step.step-index + 1) c.args.script.steps.now in
-    let now = means (view c.loop-step.s) c.loop-step.session.walker in
-    let far = far_at start.course now (view c.args.s.now) (view c.loop-step.s) (held c.loop-step.session.names) c.args.script.names.now c.args.script.steps.now (sink c.args.out.now).written (sink c.loop-step.out).written
-    c.loop-step.marked c.loop-step.step-index step c.loop-step-test.true c.step-item.is c.loop-step.invariant.far in
     let named : (n : ℕ) → start.course.MayFail n → n < length c.args.script.names.now =
     λ n may. c.requires.names n (subst (λ w. (means (view c.args.s.now) w).course.MayFail n) c.open-session.ensures.walker may) in
-    step_named start.course now (means (view c.step.new.s) c.step.new.self.walker) (view c.args.s.now) (view c.loop-step.s) (view c.step.new.s) (held c.loop-step.session.names) (held c.step.new.self.names)
-    c.args.script.names.now c.args.script.steps.now (sink c.args.out.now).written (sink c.loop-step.out).written c.loop-step.marked step later far c.in_ok-answer.answer c.in_ok-answer.ensures.stepped.answer named
+    step_named start.course _ _ _ _ (view c.step.new.s) _ _ _ _ _ _ _ _ _ c.loop-step-test.true c.step-item.is c.loop-step.invariant.far c.in_ok-answer.answer c.in_ok-answer.ensures.stepped.answer named
 
 pub loop-step-preserved : goal.loop-step-preserved
 loop-step-preserved g c =
-    let view = g.S.Sources.view in
-    let means = g.W.Walker.means in
-    let sink = g.K.Sink.view in
-    let start = means (view c.args.s.now) c.open-session.result.walker in
-    let step = c.step-item.result in
-    let later = drop (c.loop-step.step-index + 1) c.args.script.steps.now in
-    let now = means (view c.loop-step.s) c.loop-step.session.walker in
-    let then = means (view c.step.new.s) c.step.new.self.walker in
-    let far = far_at start.course now (view c.args.s.now) (view c.loop-step.s) (held c.loop-step.session.names) c.args.script.names.now c.args.script.steps.now (sink c.args.out.now).written (sink c.loop-step.out).written
-    c.loop-step.marked c.loop-step.step-index step c.loop-step-test.true c.step-item.is c.loop-step.invariant.far in
-    let keeps : Keeps (view c.step.new.s) (view c.loop-step.s) = g.met.S.Sources.keeps _ _ c.step.ensures.came in
+    let keeps : Keeps (g.S.Sources.view c.step.new.s) (g.S.Sources.view c.loop-step.s) = g.met.S.Sources.keeps _ _ c.step.ensures.came in
     let line = c.in_ok-fault.ensures.line in
     let same : line.a ≡ c.in_ok-answer.answer = line.answer in
-    let more = far_step start.course now then (view c.args.s.now) (view c.loop-step.s) (view c.step.new.s) (held c.loop-step.session.names) (held c.step.new.self.names) c.args.script.names.now c.args.script.steps.now
-    (sink c.args.out.now).written (sink c.loop-step.out).written c.loop-step.marked step later far keeps.faults (Ok c.in_ok-answer.answer) c.in_ok-answer.ensures.stepped
-    line.a (rw same c.in_ok-answer.ensures.stepped.answer) (sink c.write_line.new.out).written line.written in
+    let more = far_step _ _ _ _ _ _ _ _ _ _ _ _ _ _ _ c.loop-step-test.true c.step-item.is c.loop-step.invariant.far keeps.faults (Ok c.in_ok-answer.answer) c.in_ok-answer.ensures.stepped
+    line.a (rw same c.in_ok-answer.ensures.stepped.answer) (g.K.Sink.view c.write_line.new.out).written line.written in
     record {
       came = g.met.S.Sources.after _ _ _ c.loop-step.invariant.came c.step.ensures.came;
       count = omega (arith, c.loop-step.invariant.count, c.write_line.ensures.count);
@@ -63,60 +45,35 @@ loop-step-preserved g c =
 pub returns-in_err-answer-clause-ends : goal.returns-in_err-answer-clause-ends
 returns-in_err-answer-clause-ends g c =
     let view = g.S.Sources.view in
-    let means = g.W.Walker.means in
     let sink = g.K.Sink.view in
-    let start = means (view c.args.s.now) c.open-session.result.walker in
-    let step = c.step-item.result in
-    let later = drop (c.loop-step.step-index + 1) c.args.script.steps.now in
-    let now = means (view c.loop-step.s) c.loop-step.session.walker in
-    let far = far_at start.course now (view c.args.s.now) (view c.loop-step.s) (held c.loop-step.session.names) c.args.script.names.now c.args.script.steps.now (sink c.args.out.now).written (sink c.loop-step.out).written
-    c.loop-step.marked c.loop-step.step-index step c.loop-step-test.true c.step-item.is c.loop-step.invariant.far in
     let keeps : Keeps (view c.step.new.s) (view c.loop-step.s) = g.met.S.Sources.keeps _ _ c.step.ensures.came in
     let p = err_from_is_err_and c.from_residual.result c.from_residual.ensures.1 in
-    let short = far_short start.course now (means (view c.step.new.s) c.step.new.self.walker) (view c.args.s.now) (view c.loop-step.s) (view c.step.new.s) (held c.loop-step.session.names) (held c.step.new.self.names)
-    c.args.script.names.now c.args.script.steps.now (sink c.args.out.now).written (sink c.loop-step.out).written c.loop-step.marked step later far keeps.faults c.step.result c.step.ensures.stepped
-    (sink c.args.out.now) (sink c.loop-step.out) refl refl in
+    let short = far_short _ _ _ _ _ _ _ _ _ _ _ _ _ _ _ c.loop-step-test.true c.step-item.is c.loop-step.invariant.far keeps.faults c.step.result c.step.ensures.stepped (sink c.args.out.now) (sink c.loop-step.out) refl refl in
     rw (p.1, p.2)
-    (subst (λ w. Ends (means (view c.args.s.now) w).course (view c.args.s.now) (view c.step.new.s) c.args.script.names.now c.args.script.steps.now (sink c.args.out.now) (sink c.loop-step.out) (Err OutOfMemory))
+    (subst (λ w. Ends (g.W.Walker.means (view c.args.s.now) w).course (view c.args.s.now) (view c.step.new.s) c.args.script.names.now c.args.script.steps.now (sink c.args.out.now) (sink c.loop-step.out) (Err OutOfMemory))
     c.open-session.ensures.walker short)
 
 pub returns-in_err-answer-clause-told : goal.returns-in_err-answer-clause-told
-returns-in_err-answer-clause-told g c = λ t one.
-    let old = g.S.Sources.view c.args.s.now in
-    let new = g.S.Sources.view c.step.new.s in
-    let course = (g.W.Walker.means (g.S.Sources.view c.args.s.now) c.args.walker).course in
-    let steps = c.args.script.steps.now in
-    ends_on (IsRun course old.faults new.faults steps) (IsLazy course old.fills new.fills steps) t c.args.script.names.now steps (g.K.Sink.view c.args.out.now) (g.K.Sink.view c.loop-step.out) course.roots course.MayFail
-    (λ answers are. are.allowed) (λ answers are. are.told t one) _ (returns-in_err-answer-clause-ends g c)
+returns-in_err-answer-clause-told g c =
+    ends_told (g.W.Walker.means (g.S.Sources.view c.args.s.now) c.args.walker).course (g.S.Sources.view c.args.s.now) (g.S.Sources.view c.step.new.s) c.args.script.names.now c.args.script.steps.now
+    (g.K.Sink.view c.args.out.now) (g.K.Sink.view c.loop-step.out) _ (returns-in_err-answer-clause-ends g c)
 
 pub returns-in_err-fault-clause-ends : goal.returns-in_err-fault-clause-ends
 returns-in_err-fault-clause-ends g c =
     let view = g.S.Sources.view in
-    let means = g.W.Walker.means in
     let sink = g.K.Sink.view in
-    let start = means (view c.args.s.now) c.open-session.result.walker in
-    let step = c.step-item.result in
-    let later = drop (c.loop-step.step-index + 1) c.args.script.steps.now in
-    let now = means (view c.loop-step.s) c.loop-step.session.walker in
-    let far = far_at start.course now (view c.args.s.now) (view c.loop-step.s) (held c.loop-step.session.names) c.args.script.names.now c.args.script.steps.now (sink c.args.out.now).written (sink c.loop-step.out).written
-    c.loop-step.marked c.loop-step.step-index step c.loop-step-test.true c.step-item.is c.loop-step.invariant.far in
     let keeps : Keeps (view c.step.new.s) (view c.loop-step.s) = g.met.S.Sources.keeps _ _ c.step.ensures.came in
     let p = err_from_is_err_and c.from_residual-in_err-fault.result c.from_residual-in_err-fault.ensures.1 in
-    let cut = far_cut start.course now (means (view c.step.new.s) c.step.new.self.walker) (view c.args.s.now) (view c.loop-step.s) (view c.step.new.s) (held c.loop-step.session.names) (held c.step.new.self.names)
-    c.args.script.names.now c.args.script.steps.now (sink c.args.out.now).written (sink c.loop-step.out).written c.loop-step.marked step later far keeps.faults (Ok c.in_ok-answer.answer) c.in_ok-answer.ensures.stepped
-    c.in_ok-answer.answer c.in_ok-answer.ensures.stepped.answer (sink c.args.out.now) (sink c.loop-step.out) (sink c.write_line.new.out) c.in_err-fault.field-0.0 refl refl c.loop-step.invariant.count c.in_err-fault.ensures.cut in
+    let cut = far_cut _ _ _ _ _ _ _ _ _ _ _ _ _ _ _ c.loop-step-test.true c.step-item.is c.loop-step.invariant.far keeps.faults (Ok c.in_ok-answer.answer) c.in_ok-answer.ensures.stepped c.in_ok-answer.answer
+    c.in_ok-answer.ensures.stepped.answer (sink c.args.out.now) (sink c.loop-step.out) (sink c.write_line.new.out) c.in_err-fault.field-0.0 refl refl c.loop-step.invariant.count c.in_err-fault.ensures.cut in
     rw (p.1, p.2)
-    (subst (λ w. Ends (means (view c.args.s.now) w).course (view c.args.s.now) (view c.step.new.s) c.args.script.names.now c.args.script.steps.now (sink c.args.out.now) (sink c.write_line.new.out) (Err c.in_err-fault.field-0.0))
+    (subst (λ w. Ends (g.W.Walker.means (view c.args.s.now) w).course (view c.args.s.now) (view c.step.new.s) c.args.script.names.now c.args.script.steps.now (sink c.args.out.now) (sink c.write_line.new.out) (Err c.in_err-fault.field-0.0))
     c.open-session.ensures.walker cut)
 
 pub returns-in_err-fault-clause-told : goal.returns-in_err-fault-clause-told
-returns-in_err-fault-clause-told g c = λ t one.
-    let old = g.S.Sources.view c.args.s.now in
-    let new = g.S.Sources.view c.step.new.s in
-    let course = (g.W.Walker.means (g.S.Sources.view c.args.s.now) c.args.walker).course in
-    let steps = c.args.script.steps.now in
-    ends_on (IsRun course old.faults new.faults steps) (IsLazy course old.fills new.fills steps) t c.args.script.names.now steps (g.K.Sink.view c.args.out.now) (g.K.Sink.view c.write_line.new.out) course.roots course.MayFail
-    (λ answers are. are.allowed) (λ answers are. are.told t one) _ (returns-in_err-fault-clause-ends g c)
+returns-in_err-fault-clause-told g c =
+    ends_told (g.W.Walker.means (g.S.Sources.view c.args.s.now) c.args.walker).course (g.S.Sources.view c.args.s.now) (g.S.Sources.view c.step.new.s) c.args.script.names.now c.args.script.steps.now
+    (g.K.Sink.view c.args.out.now) (g.K.Sink.view c.write_line.new.out) _ (returns-in_err-fault-clause-ends g c)
 
 pub returns-clause-ends : goal.returns-clause-ends
 returns-clause-ends g c =
@@ -131,10 +88,6 @@ returns-clause-ends g c =
     c.open-session.ensures.walker whole
 
 pub returns-clause-told : goal.returns-clause-told
-returns-clause-told g c = λ t one.
-    let old = g.S.Sources.view c.args.s.now in
-    let new = g.S.Sources.view c.loop-step.s in
-    let course = (g.W.Walker.means (g.S.Sources.view c.args.s.now) c.args.walker).course in
-    let steps = c.args.script.steps.now in
-    ends_on (IsRun course old.faults new.faults steps) (IsLazy course old.fills new.fills steps) t c.args.script.names.now steps (g.K.Sink.view c.args.out.now) (g.K.Sink.view c.loop-step.out) course.roots course.MayFail
-    (λ answers are. are.allowed) (λ answers are. are.told t one) (Ok c.loop-step.marked) (returns-clause-ends g c)
+returns-clause-told g c =
+    ends_told (g.W.Walker.means (g.S.Sources.view c.args.s.now) c.args.walker).course (g.S.Sources.view c.args.s.now) (g.S.Sources.view c.loop-step.s) c.args.script.names.now c.args.script.steps.now
+    (g.K.Sink.view c.args.out.now) (g.K.Sink.view c.loop-step.out) (Ok c.loop-step.marked) (returns-clause-ends g c)

@@ -1,19 +1,10 @@
-use Rattle.std.proofs.Common.{◌-◌, sym, subst, arith, drop, length, IsUtf8, rules, IsTrue}
-use Rattle.std.proofs.lemmas.List.{take_all, length-drop}
-use Rattle.std.proofs.lemmas.Str.{IsUtf8-drop}
-use Rattle.mix_words.specs.Words.{is_name}
-use Rattle.mix_words.proofs.NameBytes.{IsUtf8-name}
-use Rattle.mix_words.proofs.WordPlaces.{boundary_behind_blank}
+use Rattle.std.proofs.Common.{◌∙◌}
+use Rattle.std.proofs.lemmas.Result.{IfOk-weaker}
+use Rattle.mix_words.specs.Words.{words_of}
+use Rattle.mix_script.proofs.FirstWords.{no_prefix}
 use Rattle.mix_script.proofs.line.read_utf8.Goals as goal
 
-pub read_step-requires-clause-client : goal.read_step-requires-clause-client
-read_step-requires-clause-client c =
-    let name : IsTrue (is_name c.in-Some-2.client.now) = search rules in IsUtf8-name c.in-Some-2.client.now name
-
-pub read_step-requires-clause-line : goal.read_step-requires-clause-line
-read_step-requires-clause-line c =
-    let line = c.args.line.now in
-    let at = c.in-Some.at in
-    let whole = take_all (length line - at) (drop at line) (omega (arith, length-drop at line)) in
-    let inside = c.in-Some.ensures.inside in
-    subst IsUtf8 (sym whole) (IsUtf8-drop line at c.requires (boundary_behind_blank line at c.requires (omega (arith, inside)) c.in-Some.ensures.apart))
+pub returns : goal.returns
+returns c =
+    let first = c.may_be_prefixed.ensures c.if-may_be_prefixed.false (words_of c.args.line.now) c.line_words-words.ensures in
+    IfOk-weaker c.read_step.result _ _ (λ step e. e ∙ no_prefix c.args.line.now first) c.read_step.ensures

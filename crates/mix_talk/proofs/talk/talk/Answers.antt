@@ -1,4 +1,4 @@
-use Rattle.std.proofs.Common.{[], Some, Ok, Err, refl, ap, arith, subst}
+use Rattle.std.proofs.Common.{[], Ok, Err, refl, ap, arith, subst}
 use Rattle.std.proofs.lemmas.Result.{err_from_is_err_and}
 use Rattle.mix_script.specs.Names.{held}
 use Rattle.mix_talk.specs.Ends.{TalkEnds}
@@ -6,7 +6,7 @@ use Rattle.mix_talk.specs.Faults.{of_lines, of_take}
 use Rattle.mix_talk.specs.Reading.{Reads}
 use Rattle.mix_talk.proofs.Answering.{line_told, line_cut}
 use Rattle.mix_talk.proofs.Ceasing.{talking_failed, talking_done}
-use Rattle.mix_talk.proofs.Talking.{talking_start, talking_read, talk_unbegun}
+use Rattle.mix_talk.proofs.Talking.{talking_start, talk_unbegun}
 use Rattle.mix_talk.proofs.talk.talk.Goals as goal
 
 pub returns-in_err-reader-clause-came : goal.returns-in_err-reader-clause-came
@@ -82,21 +82,18 @@ returns-in_err-fault-clause-ends g c =
     let sink = g.K.Sink.view in
     let input = g.I.Input.view in
     let old = view c.args.s.now in
-    let now = view c.lines.s in
     let then = view c.answer_read.new.s in
     let p = err_from_is_err_and c.from_residual-in_err-fault.result c.from_residual-in_err-fault.ensures.1 in
     let fault = c.in_err-fault.field-0.0 in
     let course = (means old c.open-session.result.walker).course in
     let reads = subst (Reads (input c.lines.streams.input) (input c.next.new.input) c.lines.reader c.next.new.self) c.in-Some.is c.in_ok-read.ensures.reads in
-    let far = talking_read course (means now c.lines.session.walker) old now (held c.lines.session.names) c.args.names.now (input c.args.streams.now.input) (input c.lines.streams.input) c.lines.reader
-    (sink c.args.streams.now.out) (sink c.lines.streams.out) c.lines.marked (input c.next.new.input) c.next.new.self (Some c.in-Some.read) c.lines.invariant.far reads in
     let keeps = g.met.S.Sources.keeps _ _ c.answer_read.ensures.came in
     rw (p.1, p.2)
     (subst (λ w. TalkEnds (means old w).course old then c.args.names.now (input c.args.streams.now.input) (input c.next.new.input) (sink c.args.streams.now.out) (sink c.answer_read.new.out) (Err (of_lines fault)))
     c.open-session.ensures.walker
     (line_cut c.lines.s c.answer_read.new.s c.lines.session c.answer_read.new.session view (λ s session. means (view s) session.walker) (λ session. held session.names) course old c.args.names.now
     (input c.args.streams.now.input) (input c.next.new.input) c.next.new.self (sink c.args.streams.now.out) (sink c.lines.streams.out) (sink c.answer_read.new.out) c.lines.marked keeps.faults
-    c.in-Some.read far fault c.in_err-fault.ensures.answered c.lines.invariant.count))
+    (input c.lines.streams.input) c.lines.reader c.lines.invariant.far c.in-Some.read reads fault c.in_err-fault.ensures.answered c.lines.invariant.count))
 
 pub returns-in_err-fault-clause-input : goal.returns-in_err-fault-clause-input
 returns-in_err-fault-clause-input g c = omega (arith, c.lines.invariant.inputs, c.next.ensures.count)
@@ -116,11 +113,8 @@ lines-preserved g c =
     let sink = g.K.Sink.view in
     let input = g.I.Input.view in
     let old = view c.args.s.now in
-    let now = view c.lines.s in
     let course = (means old c.open-session.result.walker).course in
     let reads = subst (Reads (input c.lines.streams.input) (input c.next.new.input) c.lines.reader c.next.new.self) c.in-Some.is c.in_ok-read.ensures.reads in
-    let far = talking_read course (means now c.lines.session.walker) old now (held c.lines.session.names) c.args.names.now (input c.args.streams.now.input) (input c.lines.streams.input) c.lines.reader
-    (sink c.args.streams.now.out) (sink c.lines.streams.out) c.lines.marked (input c.next.new.input) c.next.new.self (Some c.in-Some.read) c.lines.invariant.far reads in
     let keeps = g.met.S.Sources.keeps _ _ c.answer_read.ensures.came in
     record {
       came = g.met.S.Sources.after _ _ _ c.lines.invariant.came c.answer_read.ensures.came;
@@ -128,7 +122,7 @@ lines-preserved g c =
       inputs = omega (arith, c.lines.invariant.inputs, c.next.ensures.count);
       far = line_told c.lines.s c.answer_read.new.s c.lines.session c.answer_read.new.session view (λ s session. means (view s) session.walker) (λ session. held session.names) course old c.args.names.now
           (input c.args.streams.now.input) (input c.next.new.input) c.next.new.self (sink c.args.streams.now.out) (sink c.lines.streams.out) (sink c.answer_read.new.out) c.lines.marked keeps.faults
-          c.in-Some.read far c.in_ok-fault.fault c.in_ok-fault.ensures.answered;
+          (input c.lines.streams.input) c.lines.reader c.lines.invariant.far c.in-Some.read reads c.in_ok-fault.fault c.in_ok-fault.ensures.answered;
     }
 
 pub returns-clause-came : goal.returns-clause-came
