@@ -42,7 +42,8 @@ fn replace_top(stack: &mut Vec<OpenTree>, mut list: Vec<OpenTree>) -> Result<(),
     Ok(())
 }
 
-// One fill of the hole at the top.
+// One fill of the hole at the top. It stands apart, since what a source does in a fill takes much of the stack, and most calls ask none.
+#[inline(never)]
 fn refill<S: Sources>(
     alloc: Global,
     s: &mut S,
