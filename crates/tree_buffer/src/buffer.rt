@@ -9,7 +9,8 @@ use mix_tree::{Label, Place};
 use std::alloc::{AllocError, Global};
 
 /// The document of one source, as far as it was asked for. It hands out spots, which stand for nodes, and asks its
-/// source for more only where a step needs it. The document node stands above the document's root.
+/// source for more only where a step needs it. The document node stands above the document's root. It hands out at most 4,294,967,295 nodes,
+/// the document node among them; a step to one more fails as where memory runs out.
 #[derive(Drop)]
 pub struct Buffer {
     pub(crate) number: u32,
