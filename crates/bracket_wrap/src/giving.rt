@@ -29,12 +29,27 @@ impl BracketDoc {
         Ok(())
     }
 
+    // How many of the trees between two positions there are, up to one more than `most`.
+    fn count(&self, from: usize, mut to: usize, most: u32) -> usize
+        requires { to ≤ length self.now.nodes }
+        ensures { result ≤ most + 1 }
+    {
+        let all = most as usize + 1;
+        for count in 0..all {
+            let Some(i) = self.nodes.first(from, to) else {
+                return count;
+            };
+            to = self.nodes.before(i);
+        }
+        all
+    }
+
     // The trees between two positions, without holes.
     fn whole(&self, alloc: Global, from: usize, mut to: usize) -> Result<Vec<OpenTree>, AllocError>
         requires { to ≤ length self.now.nodes }
         ensures { IfOk result (λ list. plain list.items ≡ without_holes (between self.now.nodes from to)) }
     {
-        let mut list = Vec::new(alloc);
+        let mut list = Vec::with_capacity(alloc, self.count(from, to, u32::MAX))?;
         while let Some(i) = self.nodes.first(from, to) {
             let kids = self.whole(alloc, self.nodes.before(i), i)?;
             self.push_node(alloc, &mut list, i, kids)?;
@@ -100,9 +115,10 @@ impl BracketDoc {
         requires { is_there self.now.nodes rest ≡ true }
         ensures { IfOk result (λ list. plain list.items ≡ given_from self.now.nodes whole rest.node most rest.to) }
     {
-        let mut list = Vec::new(alloc);
         let from = self.nodes.before(rest.node);
         let mut to = rest.to;
+        // A hole behind the children takes the place of one more.
+        let mut list = Vec::with_capacity(alloc, self.count(from, to, most))?;
         let mut left = most;
         while left > 0 {
             let Some(i) = self.nodes.first(from, to) else {

@@ -1,5 +1,5 @@
 -- An index stays one as labels come.
-use Rattle.std.proofs.Common.{◌≡◌, ◌<◌, ◌+◌, ◌⊎◌, inl, inr, ℕ, suc, Bool, true, false, cond, List, [], ◌∷◌, ◌++◌, length, get_or, set, refl, ◌∙◌, sym, ap, subst, arith, Vec, Global, map}
+use Rattle.std.proofs.Common.{◌≡◌, ◌<◌, ◌+◌, ◌⊎◌, inl, inr, ℕ, suc, Bool, true, false, cond, List, [], ◌∷◌, ◌++◌, length, get_or, set, refl, ◌∙◌, sym, ap, subst, arith, map}
 use Rattle.std.specs.Prelude.{◌==◌}
 use Rattle.std.specs.Prelude.{Result, OnOk, is_err}
 use Rattle.std.specs.Prelude.{Ok, Err}
@@ -9,6 +9,7 @@ use Rattle.std.proofs.lemmas.Bool.Decides.{nat_tests}
 use Rattle.std.proofs.Math.Seq.{map-set_same}
 use Rattle.std.proofs.lemmas.List.{map-append, map-set, get_or-set_same, get_or-set_other, get_or_append_left, get_or-append-add}
 use Rattle.std.proofs.lemmas.Grind.{common_steps}
+use Rattle.smallvec.specs.SmallVec.{SmallVec}
 use Rattle.join_memo.specs.Places.{places, IsKnown, IsIndex}
 
 -- the place of a label behind others
@@ -137,26 +138,26 @@ module _ (known groups labels : List (List ℕ)) (key : List ℕ) (x : IsIndex k
       apart_at k i j (inr g) (inr h) = g.0 ∙ sym h.0
 
 -- a group written anew, among vectors
-pub set_vector : (gs : List (Vec ℕ Global)) (i : ℕ) (v w : Vec ℕ Global) → w.items ≡ v.items → v ≡ get_or gs i v → map (λ g. g.items) (set gs i w) ≡ map (λ g. g.items) gs
-set_vector gs i v w e f = map-set_same (λ (g : Vec ℕ Global). g.items) gs i w v (e ∙ ap (λ (g : Vec ℕ Global). g.items) f)
+pub set_vector : (gs : List (SmallVec ℕ)) (i : ℕ) (v w : SmallVec ℕ) → w.items ≡ v.items → v ≡ get_or gs i v → map (λ g. g.items) (set gs i w) ≡ map (λ g. g.items) gs
+set_vector gs i v w e f = map-set_same (λ (g : SmallVec ℕ). g.items) gs i w v (e ∙ ap (λ (g : SmallVec ℕ). g.items) f)
 
 -- with one more place
-pub grow_vector : (known : List (List ℕ)) (gs : List (Vec ℕ Global)) (labels : List (List ℕ)) (key : List ℕ) → IsIndex known (map (λ g. g.items) gs) labels
-    → (i : ℕ) → IsKnown known key i → (v w : Vec ℕ Global) (place : ℕ) → get_or (map (λ g. g.items) gs) i [] ≡ v.items → w.items ≡ v.items ++ place ∷ [] → length labels ≡ place
+pub grow_vector : (known : List (List ℕ)) (gs : List (SmallVec ℕ)) (labels : List (List ℕ)) (key : List ℕ) → IsIndex known (map (λ g. g.items) gs) labels
+    → (i : ℕ) → IsKnown known key i → (v w : SmallVec ℕ) (place : ℕ) → get_or (map (λ g. g.items) gs) i [] ≡ v.items → w.items ≡ v.items ++ place ∷ [] → length labels ≡ place
     → IsIndex known (map (λ g. g.items) (set gs i w)) (labels ++ key ∷ [])
 grow_vector known gs labels key x i h v w place at e n =
     let items : w.items ≡ get_or (map (λ g. g.items) gs) i [] ++ length labels ∷ [] = e ∙ ap (λ m. v.items ++ m ∷ []) (sym n) ∙ ap (λ vs. vs ++ length labels ∷ []) (sym at) in
-    subst (λ m. IsIndex known m (labels ++ key ∷ [])) (ap (set (map (λ g. g.items) gs) i) (sym items) ∙ sym (map-set (λ (g : Vec ℕ Global). g.items) gs i w))
+    subst (λ m. IsIndex known m (labels ++ key ∷ [])) (ap (set (map (λ g. g.items) gs) i) (sym items) ∙ sym (map-set (λ (g : SmallVec ℕ). g.items) gs i w))
     (index_grows known (map (λ g. g.items) gs) labels key x i h)
 
 -- a further group
-pub new_vector : (known : List (List ℕ)) (gs hs : List (Vec ℕ Global)) (labels : List (List ℕ)) (key : List ℕ) → IsIndex known (map (λ g. g.items) gs) labels
-    → ((i : ℕ) → IsKnown known key i → ⊥) → (v : Vec ℕ Global) (place : ℕ) → hs ≡ gs ++ v ∷ [] → v.items ≡ place ∷ [] → length labels ≡ place
+pub new_vector : (known : List (List ℕ)) (gs hs : List (SmallVec ℕ)) (labels : List (List ℕ)) (key : List ℕ) → IsIndex known (map (λ g. g.items) gs) labels
+    → ((i : ℕ) → IsKnown known key i → ⊥) → (v : SmallVec ℕ) (place : ℕ) → hs ≡ gs ++ v ∷ [] → v.items ≡ place ∷ [] → length labels ≡ place
     → IsIndex (known ++ key ∷ []) (map (λ g. g.items) hs) (labels ++ key ∷ [])
 new_vector known gs hs labels key x none v place e f n =
     let groups : map (λ g. g.items) hs ≡ map (λ g. g.items) gs ++ (length labels ∷ []) ∷ [] =
-    ap (map (λ (g : Vec ℕ Global). g.items)) e ∙ map-append (λ (g : Vec ℕ Global). g.items) gs (v ∷ [])
-    ∙ ap (λ (m : List ℕ). map (λ (g : Vec ℕ Global). g.items) gs ++ m ∷ []) (f ∙ ap (λ m. m ∷ []) (sym n)) in
+    ap (map (λ (g : SmallVec ℕ). g.items)) e ∙ map-append (λ (g : SmallVec ℕ). g.items) gs (v ∷ [])
+    ∙ ap (λ (m : List ℕ). map (λ (g : SmallVec ℕ). g.items) gs ++ m ∷ []) (f ∙ ap (λ m. m ∷ []) (sym n)) in
     subst (λ m. IsIndex (known ++ key ∷ []) m (labels ++ key ∷ [])) (sym groups) (index_new known (map (λ g. g.items) gs) labels key x none)
 
 -- what an answer that is no refusal says

@@ -1,10 +1,11 @@
 -- The first of ascending places, and what the places of a label are.
-use Rattle.std.proofs.Common.{◌≡◌, ◌<◌, ◌≤◌, ◌+◌, ◌⊎◌, inl, inr, ℕ, zero, suc, Bool, true, false, cond, List, [], ◌∷◌, length, get_or, refl, ◌∙◌, sym, ap, subst, arith, Option, Some, None, Vec, Global, map}
+use Rattle.std.proofs.Common.{◌≡◌, ◌<◌, ◌≤◌, ◌+◌, ◌⊎◌, inl, inr, ℕ, zero, suc, Bool, true, false, cond, List, [], ◌∷◌, length, get_or, refl, ◌∙◌, sym, ap, subst, arith, Option, Some, None, map}
 use Rattle.std.proofs.lemmas.List.{length-map}
 use Rattle.std.specs.Prelude.{◌==◌, nat_lt}
 use Rattle.std.specs.Str.{bytes_eq}
 use Rattle.std.proofs.lemmas.Slice.Eq.{bytes_eq-Decides}
 use Rattle.std.proofs.lemmas.Bool.Decides.{nat_tests}
+use Rattle.smallvec.specs.SmallVec.{SmallVec}
 use Rattle.join_memo.specs.Places.{places, IsKnown, IsIndex, IsAscending, IsLeast, IsLeastOf}
 use Rattle.join_memo.specs.Kept.{HasLabel, IsFirstFrom, IsFound}
 
@@ -142,14 +143,14 @@ module _ (known groups labels : List (List ℕ)) (key : List ℕ) (x : IsIndex k
       omega (arith, q.within, n))
 
 -- a group among vectors
-pub vector_at : (gs : List (Vec ℕ Global)) (i : ℕ) (v : Vec ℕ Global) → i < length gs → v ≡ get_or gs i v → get_or (map (λ g. g.items) gs) i [] ≡ v.items
+pub vector_at : (gs : List (SmallVec ℕ)) (i : ℕ) (v : SmallVec ℕ) → i < length gs → v ≡ get_or gs i v → get_or (map (λ g. g.items) gs) i [] ≡ v.items
 vector_at [] i v w e = absurd (omega (arith, w))
-vector_at (g ∷ gs) zero v w e = sym (ap (λ (u : Vec ℕ Global). u.items) e)
+vector_at (g ∷ gs) zero v w e = sym (ap (λ (u : SmallVec ℕ). u.items) e)
 vector_at (g ∷ gs) (suc i) v w e = vector_at gs i v (omega (arith, w)) e
 
 -- the group of a label has its places
-pub vector_is : (known : List (List ℕ)) (gs : List (Vec ℕ Global)) (labels : List (List ℕ)) (key : List ℕ) → IsIndex known (map (λ g. g.items) gs) labels
-    → (i : ℕ) → IsKnown known key i → (v : Vec ℕ Global) → v ≡ get_or gs i v → v.items ≡ places key 0 labels
+pub vector_is : (known : List (List ℕ)) (gs : List (SmallVec ℕ)) (labels : List (List ℕ)) (key : List ℕ) → IsIndex known (map (λ g. g.items) gs) labels
+    → (i : ℕ) → IsKnown known key i → (v : SmallVec ℕ) → v ≡ get_or gs i v → v.items ≡ places key 0 labels
 vector_is known gs labels key x i h v e =
-    let n : length (map (λ (g : Vec ℕ Global). g.items) gs) ≡ length gs = length-map gs (λ (g : Vec ℕ Global). g.items) in
+    let n : length (map (λ (g : SmallVec ℕ). g.items) gs) ≡ length gs = length-map gs (λ (g : SmallVec ℕ). g.items) in
     sym (vector_at gs i v (omega (arith, h.within, x.lists, n)) e) ∙ group_is known (map (λ g. g.items) gs) labels key x i h

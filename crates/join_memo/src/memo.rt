@@ -5,8 +5,12 @@ ghost use Rattle.join_memo.specs.Kept.{labels_of, IsFound};
 
 use crate::known::KnownLabels;
 use mix_tree::Label;
+use smallvec::SmallVec;
 use std::alloc::{AllocError, Global};
 use std::marker::Model;
+
+/// The places of one label. Most labels have few, which lie in the list of groups itself.
+type Group = SmallVec<usize, 3>;
 
 /// Pairs of a label and an item, in the order in which they were pushed, and whether all were. A pair keeps its place, whatever is pushed
 /// later, and its label may be that of others. What a member takes is in docs/DECISIONS.md.
@@ -14,7 +18,7 @@ use std::marker::Model;
 pub struct Memo<T> {
     pairs: Vec<(Label, T)>,
     known: KnownLabels,
-    groups: Vec<Vec<usize>>,
+    groups: Vec<Group>,
     // The number of each pair's label, by which a look-up behind the pair begins. Nothing is promised of it.
     numbers: Vec<usize>,
     ended: bool,
@@ -43,7 +47,7 @@ pub struct PushRefused<T> {
 fn add_place(
     alloc: Global,
     known: &mut KnownLabels,
-    groups: &mut Vec<Vec<usize>>,
+    groups: &mut Vec<Group>,
     key: &Label,
     place: usize,
 ) -> Result<usize, AllocError>
@@ -60,7 +64,7 @@ fn add_place(
             Ok(number)
         }
         None => {
-            let mut group = Vec::new(alloc);
+            let mut group = Group::new(alloc);
             group.push(place)?;
             groups.reserve(1)?;
             known.add(alloc, key)?;
@@ -178,7 +182,7 @@ impl<T: Drop> Memo<T> {
     {
         match number_near(&self.known, &self.numbers, key, from) {
             None => None,
-            Some(number) => first_from(&self.groups[number], from),
+            Some(number) => first_from(self.groups[number].as_slice(), from),
         }
     }
 }

@@ -142,12 +142,6 @@ module _ (es : List Entry) (p : ℕ) (e : Entry) (linked : AreLinked es) (some :
       let l = link_read es p e within read in
       after_some w (nodes es) p some ∙ ap (λ q. weight_from w (nodes es) q (index (nodes es).links p + 1)) l.0 ∙ ap (λ k. weight_from w (nodes es) e.parent (k + 1)) l.1
 
-  -- the node's index is below the number of entries
-  pub index_in : e.index < length es
-  index_in =
-      let l = link_read es p e within read in
-      omega (arith, linked.counted p some within, linked.few (parent (nodes es).links p), l.1, length-links es)
-
   -- the node is the last child of its parent, where no sibling behind it was handed out
   pub is_last : (f : Entry) → f ≡ get_or es e.parent f → f.count ≤ e.index + 1 → IsLast (nodes es) e.parent p
   is_last f above no_more =

@@ -1,5 +1,5 @@
 -- The stacks of trees that fills change.
-use Rattle.std.proofs.Common.{◌≡◌, ℕ, suc, ◌-◌, Some, List, [], ◌∷◌, ◌++◌, length, drop, refl, ap, ◌∙◌, arith, append_assoc, false}
+use Rattle.std.proofs.Common.{◌≡◌, ℕ, suc, ◌-◌, Some, List, [], ◌∷◌, ◌++◌, length, length-append, drop, refl, ap, ◌∙◌, arith, append_assoc, false}
 use Rattle.std.specs.Prelude.{reverse, remove, slice_get}
 use Rattle.std.proofs.lemmas.List.{take_at}
 use Rattle.lxp_core.specs.declared.open_tree.HoleId.{HoleId}
@@ -28,6 +28,11 @@ stacked-refilled front list t =
     dropped : (front : List OpenTree) (t : OpenTree) (rest : List OpenTree) → drop (suc (length front)) (front ++ (t ∷ rest)) ≡ rest
     dropped [] t rest = refl
     dropped (x ∷ front) t rest = dropped front t rest
+
+-- a list in the place of a stack's only tree
+pub stacked-only : (front list : List OpenTree) (t : OpenTree) → length (front ++ t ∷ []) ≡ 1 → stacked (reverse list) nil ≡ open_followed (plain list) (stacked front nil)
+stacked-only [] list t e = stacked-reverse list nil ∙ put_all-open_followed list nil
+stacked-only (x ∷ front) list t e = absurd (omega (arith, e, length-append front (t ∷ [])))
 
 -- the last of a list behind the others
 pub last_split : (xs : List OpenTree) (t : OpenTree) → Some t ≡ slice_get xs (length xs - 1) → (front : List OpenTree) × (xs ≡ front ++ t ∷ [])

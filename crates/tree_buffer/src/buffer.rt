@@ -9,7 +9,8 @@ use mix_tree::{Label, Place};
 use std::alloc::{AllocError, Global};
 
 /// The document of one source, as far as it was asked for. It hands out spots, which stand for nodes, and asks its
-/// source for more only where a step needs it. The document node stands above the document's root.
+/// source for more only where a step needs it. The document node stands above the document's root. It hands out at most 4,294,967,295 nodes,
+/// the document node among them; a step to one more fails as where memory runs out.
 #[derive(Drop)]
 pub struct Buffer {
     pub(crate) number: u32,
@@ -85,7 +86,7 @@ impl Buffer {
         while at != 0 {
             let entry = &self.entries[at];
             steps.push(entry.index as u64)?;
-            at = entry.parent;
+            at = entry.parent as usize;
         }
         steps.reverse();
         Ok(Place::new(steps))
@@ -128,7 +129,7 @@ impl Buffer {
         let entry = &self.entries[p.number];
         if entry.count > 0 {
             return Ok(Some(Spot {
-                number: entry.first,
+                number: entry.first as usize,
             }));
         }
         self.settle_at(alloc, s, p.number)?;
@@ -167,9 +168,11 @@ impl Buffer {
             return Ok(None);
         }
         let entry = &self.entries[p.number];
-        let parent = entry.parent;
-        if entry.index + 1 < self.entries[parent].count {
-            return Ok(Some(Spot { number: entry.next }));
+        let parent = entry.parent as usize;
+        if (entry.index as usize) + 1 < self.entries[parent].count as usize {
+            return Ok(Some(Spot {
+                number: entry.next as usize,
+            }));
         }
         self.settle_at(alloc, s, parent)?;
         Ok(self.hand_out(parent, p.number)?)

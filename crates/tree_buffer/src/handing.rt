@@ -2,7 +2,7 @@
 ghost use Rattle.std.specs.Prelude.{◌≡◌, ◌+◌, ◌<◌, ◌≤◌, true, false, is_some, OnOk, IfOk, MatchOption, length};
 
 use crate::buffer::Buffer;
-use crate::entry::Entry;
+use crate::entry::{Entry, MOST};
 use crate::spot::Spot;
 use crate::stacks::{pop_tree, settle};
 use lxp_core::{Sources, WalkFault};
@@ -40,7 +40,8 @@ impl Buffer {
         settle(alloc, s, number, &mut entry.rest)
     }
 
-    // Hands out the next child of a node, whose list begins with no hole. `before` is the last one before it.
+    // Hands out the next child of a node, whose list begins with no hole. `before` is the last one before it. It fails where memory runs
+    // out, and where so many nodes were handed out already that no number is left.
     pub(crate) fn hand_out(&mut self, q: usize, before: usize) -> Result<Option<Spot>, AllocError>
         requires spot { q < length (nodes_of self.old).links }
         requires top { begins_with_hole (get_or (nodes_of self.old).rests q nil) ≡ false }
@@ -57,16 +58,19 @@ impl Buffer {
         }
         self.entries.reserve(1)?;
         let new = self.entries.len();
+        if new >= MOST {
+            return Err(AllocError);
+        }
         let entry = &mut self.entries[q];
         let index = entry.count;
-        let first = new_or(index, new, entry.first);
+        let first = new_or(index, new, entry.first as usize);
         let before = new_or(index, new, before);
         let (label, rest) = pop_tree(&mut entry.rest);
         entry.count = index + 1;
-        entry.first = first;
+        entry.first = first as u32;
         let child = Entry {
             label,
-            parent: q,
+            parent: q as u32,
             index,
             count: 0,
             first: 0,
@@ -78,13 +82,13 @@ impl Buffer {
             Err(_) => unreachable!(),
         }
         let last = &mut self.entries[before];
-        last.next = new;
+        last.next = new as u32;
         Ok(Some(Spot { number: new }))
     }
 }
 
 // The new node where it is the first child, else the old one.
-fn new_or(index: usize, new: usize, old: usize) -> usize
+fn new_or(index: u32, new: usize, old: usize) -> usize
     ensures first { index ≡ 0 → result ≡ new }
     ensures later { 0 < index → result ≡ old }
 {

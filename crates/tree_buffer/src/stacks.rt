@@ -1,16 +1,16 @@
 // Stacks of trees with holes, of which the last is the first of the list.
-ghost use Rattle.std.specs.Prelude.{◌≡◌, ◌+◌, ◌<◌, ◌≤◌, ◌++◌, ◌∷◌, [], List, true, false, MatchOption, OnOk, length};
+ghost use Rattle.std.specs.Prelude.{◌≡◌, ◌+◌, ◌<◌, ◌≤◌, ◌++◌, ◌∷◌, [], List, true, false, MatchOption, OnOk, OnErr, length};
 ghost use Rattle.lxp_core.specs.Causes.{HasCause};
 ghost use Rattle.lxp_core.specs.declared.open_tree.OpenTree.{OpenTree};
 ghost use Rattle.lxp_core.specs.declared.open_tree.OpenTree.TheVariants.{Hole};
-ghost use Rattle.lxp_core.specs.Open.{Open, nil, node, AllHoles, IsApart, begins_with_hole};
-ghost use Rattle.lxp_core.specs.Plain.{put, stacked};
+ghost use Rattle.lxp_core.specs.Open.{Open, nil, node, AllHoles, IsApart, begins_with_hole, open_followed};
+ghost use Rattle.lxp_core.specs.Plain.{put, stacked, plain};
 ghost use Rattle.lxp_core.specs.View.{Keeps};
 ghost use Rattle.tree_buffer.specs.Fills.{IsRefined, IsLazy, left_in};
 
 use lxp_core::{HoleId, OpenTree, SourceFault, Sources, WalkFault};
 use mix_tree::Label;
-use std::alloc::Global;
+use std::alloc::{AllocError, Global};
 
 // The hole at the top, where one stands there.
 fn top_hole(stack: &Vec<OpenTree>) -> Option<HoleId>
@@ -24,7 +24,26 @@ fn top_hole(stack: &Vec<OpenTree>) -> Option<HoleId>
     }
 }
 
-// One fill of the hole at the top.
+// Puts a list in the place of the tree at the top. Where the stack holds nothing else, the list becomes the stack.
+fn replace_top(stack: &mut Vec<OpenTree>, mut list: Vec<OpenTree>) -> Result<(), AllocError>
+    requires { (front : List OpenTree) × (top : OpenTree) × (stack.old.items ≡ front ++ top ∷ []) }
+    ensures ok { OnOk result ((front : List OpenTree) (top : OpenTree) → stack.old.items ≡ front ++ top ∷ []
+        → stacked stack.new.items nil ≡ open_followed (plain list.items) (stacked front nil)) }
+    ensures err { OnErr result (stack.new.items ≡ stack.old.items) }
+{
+    list.reverse();
+    let at = stack.len() - 1;
+    if at == 0 {
+        *stack = list;
+        return Ok(());
+    }
+    stack.append(&mut list)?;
+    let _ = stack.remove(at);
+    Ok(())
+}
+
+// One fill of the hole at the top. It stands apart, since what a source does in a fill takes much of the stack, and most calls ask none.
+#[inline(never)]
 fn refill<S: Sources>(
     alloc: Global,
     s: &mut S,
@@ -44,16 +63,13 @@ fn refill<S: Sources>(
     ensures falls { OnOk result (left_in (S.view s.new) number stack.new.items < left_in (S.view s.old) number stack.old.items) }
     ensures cause { HasCause (λ n. n ≡ number) (S.view s.old) (S.view s.new) result }
 {
-    let mut list = match s.fill(alloc, number, hole) {
+    let list = match s.fill(alloc, number, hole) {
         Ok(list) => list,
         Err(SourceFault::Failed) => return Err(WalkFault::Failed(number)),
         Err(SourceFault::OutOfMemory) => return Err(WalkFault::OutOfMemory),
         Err(SourceFault::UnknownHole) => unreachable!(),
     };
-    list.reverse();
-    let at = stack.len() - 1;
-    stack.append(&mut list)?;
-    let _ = stack.remove(at);
+    replace_top(stack, list)?;
     Ok(())
 }
 

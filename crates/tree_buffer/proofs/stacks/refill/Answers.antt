@@ -1,11 +1,10 @@
-use Rattle.std.proofs.Common.{◌≡◌, ◌++◌, ◌∷◌, [], refl, ap, subst, ◌∙◌, arith, length, ◌-◌, length-append}
-use Rattle.std.specs.Prelude.{reverse, remove}
+use Rattle.std.proofs.Common.{◌≡◌, refl, ap, subst, ◌∙◌}
 use Rattle.lxp_core.specs.declared.open_tree.OpenTree.TheVariants.{Hole}
 use Rattle.lxp_core.specs.Open.{Open, nil, hole, AllHoles, IsApart, open_followed}
 use Rattle.lxp_core.specs.Plain.{stacked, plain}
 use Rattle.lxp_core.specs.View.{Keeps}
 use Rattle.tree_buffer.proofs.Fills.{stays, filled, falls, lazily}
-use Rattle.tree_buffer.proofs.StackTops.{stacked-hole, stacked-refilled}
+use Rattle.tree_buffer.proofs.StackTops.{stacked-hole}
 use Rattle.tree_buffer.proofs.stacks.refill.Goals as goal
 
 pub returns-in-Err-Failed-clause-refined : goal.returns-in-Err-Failed-clause-refined
@@ -24,11 +23,11 @@ unreachable-requires g c =
     let u = rw c.in-Err-UnknownHole.field-0-is at c.in-Err-UnknownHole.ensures.unknown in
     cc (k, u refl)
 
-pub returns-in_err-append-clause-refined : goal.returns-in_err-append-clause-refined
-returns-in_err-append-clause-refined g c =
-    rw c.in_err-append.ensures.items (stays _ _ _ _ (g.met.S.Sources.keeps _ _ c.fill.ensures.came) c.requires.known c.requires.apart)
+pub returns-in_err-replace_top-clause-refined : goal.returns-in_err-replace_top-clause-refined
+returns-in_err-replace_top-clause-refined g c =
+    rw c.in_err-replace_top.ensures.err (stays _ _ _ _ (g.met.S.Sources.keeps _ _ c.fill.ensures.came) c.requires.known c.requires.apart)
 
-module _ (g : _) (c : goal.After-drop-list-2 g) where
+module _ (g : _) (c : goal.In_ok-replace_top g) where
   tail : Open
   tail = stacked c.requires.top.0 nil
 
@@ -36,16 +35,9 @@ module _ (g : _) (c : goal.After-drop-list-2 g) where
   unfolding tail
   was = ap (λ xs. stacked xs nil) c.requires.top.1 ∙ stacked-hole c.requires.top.0 c.args.hole
 
-  is : stacked c.remove.new.self.items nil ≡ open_followed (plain c.in-Ok.list.items) tail
+  is : stacked c.replace_top.new.stack.items nil ≡ open_followed (plain c.in-Ok.list.items) tail
   unfolding tail
-  is =
-      let front = c.requires.top.0 in
-      let at_is : c.len-at.result - 1 ≡ length front =
-      omega (arith, c.len-at.ensures, c.args.stack.now.ok.0, ap length c.requires.top.1, length-append front (Hole c.args.hole ∷ [])) in
-      let whole : c.append.new.self.items ≡ (front ++ Hole c.args.hole ∷ []) ++ reverse c.in-Ok.list.items =
-      rw (c.in_ok-append.ensures.items, c.reverse.ensures.items, c.requires.top.1) refl in
-      ap (λ xs. stacked xs nil) (c.remove.ensures.items ∙ ap (λ xs. remove xs (c.len-at.result - 1)) whole ∙ ap (remove ((front ++ Hole c.args.hole ∷ []) ++ reverse c.in-Ok.list.items)) at_is)
-      ∙ stacked-refilled front c.in-Ok.list.items (Hole c.args.hole)
+  is = c.in_ok-replace_top.ensures.ok c.requires.top.0 (Hole c.args.hole) c.requires.top.1
 
   known : AllHoles ((g.S.Sources.view c.args.s.now).knows c.args.number) (hole c.args.hole tail)
   known = subst (AllHoles ((g.S.Sources.view c.args.s.now).knows c.args.number)) was c.requires.known

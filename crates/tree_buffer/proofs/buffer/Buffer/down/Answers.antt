@@ -17,15 +17,18 @@ first g c = first_child c.args.self.now.entries.items c.args.p.now.number c.inde
 
 pub returns-then-entry-gt0-clause-child : goal.returns-then-entry-gt0-clause-child
 returns-then-entry-gt0-clause-child g c =
-    record { spot = (first g c).known; place = child_place (nodes_of c.args.self.now) c.args.self.now.linked c.args.p.now.number 0 _ (first g c) }
+    let d = (goal.at.returns-then-entry-gt0-clause-child g c).Then-entry-gt0 in
+    record { spot = (first g d).known; place = child_place (nodes_of c.args.self.now) c.args.self.now.linked c.args.p.now.number 0 _ (first g d) }
 
 pub returns-then-entry-gt0-clause-exact : goal.returns-then-entry-gt0-clause-exact
 returns-then-entry-gt0-clause-exact g c = λ told.
-    sym (child_told (nodes_of c.args.self.now) c.args.self.now.linked _ _ c.args.p.now.number 0 _ c.requires.sources.sourced told (first g c))
+    let d = (goal.at.returns-then-entry-gt0-clause-exact g c).Then-entry-gt0 in
+    sym (child_told (nodes_of c.args.self.now) c.args.self.now.linked _ _ c.args.p.now.number 0 _ c.requires.sources.sourced told (first g d))
 
 pub returns-then-entry-gt0-clause-smaller : goal.returns-then-entry-gt0-clause-smaller
 returns-then-entry-gt0-clause-smaller g c =
-    child_lighter (nodes_of c.args.self.now) c.args.self.now.linked _ c.args.p.now.number 0 _ c.requires.sources.sourced.rests (first g c)
+    let d = (goal.at.returns-then-entry-gt0-clause-smaller g c).Then-entry-gt0 in
+    child_lighter (nodes_of c.args.self.now) c.args.self.now.linked _ c.args.p.now.number 0 _ c.requires.sources.sourced.rests (first g d)
 
 pub returns-then-entry-gt0-clause-trees : goal.returns-then-entry-gt0-clause-trees
 returns-then-entry-gt0-clause-trees g c = λ told.

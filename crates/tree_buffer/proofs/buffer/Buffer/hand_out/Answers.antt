@@ -26,6 +26,12 @@ returns-in_err-reserve-clause-sources c = λ v s. sources_from v _ (rw c.reserve
 pub returns-in_err-reserve-clause-advances : goal.returns-in_err-reserve-clause-advances
 returns-in_err-reserve-clause-advances c = λ v s. record { number = refl; moved = rw c.reserve.ensures.items (moved_same (weight_of (v.weight c.args.self.now.number)) (nodes c.args.self.now.entries.items)) }
 
+pub returns-then-new-ge-MOST-clause-sources : goal.returns-then-new-ge-MOST-clause-sources
+returns-then-new-ge-MOST-clause-sources c = λ v s. sources_from v _ (rw c.reserve.ensures.items s.sourced)
+
+pub returns-then-new-ge-MOST-clause-advances : goal.returns-then-new-ge-MOST-clause-advances
+returns-then-new-ge-MOST-clause-advances c = λ v s. record { number = refl; moved = rw c.reserve.ensures.items (moved_same (weight_of (v.weight c.args.self.now.number)) (nodes c.args.self.now.entries.items)) }
+
 module _ (c : After-index_mut-last) where
   in_es : c.args.q < length c.reserve.new.self.items
   in_es = rw c.reserve.ensures.items (within c.args.self.now.entries.items c.args.q c.requires.spot)

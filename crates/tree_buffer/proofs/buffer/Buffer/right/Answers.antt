@@ -9,7 +9,7 @@ use Rattle.tree_buffer.specs.Nodes.{place, IsChild, KeepsLists}
 use Rattle.tree_buffer.specs.Buffer.{nodes_of, weigh, below, after as after_spot, IsSpot, place_of, IsChildSpot, IsNextSpot, HasAllSiblings, ChangesOnly, IsSourcesOf}
 use Rattle.tree_buffer.specs.Advance.{Advances}
 use Rattle.tree_buffer.proofs.Entries.{length-links}
-use Rattle.tree_buffer.proofs.Spots.{is_some_from, if_some_from, child_place, child_lighter, child_told, next_child, count_read, up, next_is, right_is, after_is, index_in, own_place, is_last, link_read, child_at, child_counted}
+use Rattle.tree_buffer.proofs.Spots.{is_some_from, if_some_from, child_place, child_lighter, child_told, next_child, count_read, up, next_is, right_is, after_is, own_place, is_last, link_read, child_at, child_counted}
 use Rattle.tree_buffer.proofs.Calls.{advances_twice, ran_from}
 use Rattle.tree_buffer.proofs.Exact.{exact_child, exact_none, less_child, right_trees, next_spot, none_from}
 use Rattle.tree_buffer.proofs.Laws.{ran_same}
@@ -18,16 +18,6 @@ use Rattle.tree_buffer.proofs.buffer.Buffer.right.Goals as goal
 
 some : (p : ℕ) → (p ≡ 0 → ⊥) → 0 < p
 some p h = omega arith
-
-pub overflow_add-entry : goal.overflow_add-entry
-overflow_add-entry g c =
-    omega (
-      arith,
-      c.args.self.now.entries.ok.0,
-      c.args.self.now.entries.ok.1,
-      c.args.self.now.entries.small,
-      index_in c.args.self.now.entries.items c.args.p.now.number c.index-entry.result.now c.args.self.now.linked (some _ c.if-p-eq0.false) c.requires.spot c.index-entry.ensures,
-    )
 
 pub index-requires : goal.index-requires
 index-requires g c =
@@ -44,14 +34,16 @@ next g c =
 
 pub returns-then-entry-index-clause-next : goal.returns-then-entry-index-clause-next
 returns-then-entry-index-clause-next g c =
-    next_spot c.args.self.now c.args.p.now (record { number = c.index-entry.result.now.next }) (next g c).known
-    (ap Some (child_place (nodes_of c.args.self.now) c.args.self.now.linked _ _ _ (next g c))
+    let d = (goal.at.returns-then-entry-index-clause-next g c).Then-entry-index in
+    next_spot c.args.self.now c.args.p.now (record { number = c.index-entry.result.now.next }) (next g d).known
+    (ap Some (child_place (nodes_of c.args.self.now) c.args.self.now.linked _ _ _ (next g d))
     ∙ sym (next_is c.args.self.now.entries.items c.args.p.now.number c.index-entry.result.now c.args.self.now.linked (some _ c.if-p-eq0.false) c.requires.spot c.index-entry.ensures))
 
 pub returns-then-entry-index-clause-exact : goal.returns-then-entry-index-clause-exact
 returns-then-entry-index-clause-exact g c = λ told.
+    let d = (goal.at.returns-then-entry-index-clause-exact g c).Then-entry-index in
     sym (right_is c.args.self.now.entries.items c.args.p.now.number c.index-entry.result.now c.args.self.now.linked (some _ c.if-p-eq0.false) c.requires.spot c.index-entry.ensures _
-    ∙ child_told (nodes_of c.args.self.now) c.args.self.now.linked _ _ _ _ _ c.requires.sources.sourced told (next g c))
+    ∙ child_told (nodes_of c.args.self.now) c.args.self.now.linked _ _ _ _ _ c.requires.sources.sourced told (next g d))
 
 pub returns-then-entry-index-clause-trees : goal.returns-then-entry-index-clause-trees
 returns-then-entry-index-clause-trees g c = λ told.
@@ -60,10 +52,11 @@ returns-then-entry-index-clause-trees g c = λ told.
 
 pub returns-then-entry-index-clause-smaller : goal.returns-then-entry-index-clause-smaller
 returns-then-entry-index-clause-smaller g c =
+    let d = (goal.at.returns-then-entry-index-clause-smaller g c).Then-entry-index in
     let w = weigh (g.S.Sources.view c.args.s.now) c.args.self.now in
     omega (
       arith,
-      child_lighter (nodes_of c.args.self.now) c.args.self.now.linked w _ _ _ c.requires.sources.sourced.rests (next g c),
+      child_lighter (nodes_of c.args.self.now) c.args.self.now.linked w _ _ _ c.requires.sources.sourced.rests (next g d),
       after_is c.args.self.now.entries.items c.args.p.now.number c.index-entry.result.now c.args.self.now.linked (some _ c.if-p-eq0.false) c.requires.spot c.index-entry.ensures w,
     )
 
