@@ -1,2 +1,2 @@
-pub mod KindsHeld
+pub mod NodeLaws
 pub mod Runs

@@ -1,8 +1,9 @@
 // The bindings of operators, worked out by hand.
-use crate::open::{EACH_CHILD, HOMES, MED_HOMES, ONE, opened, sources, trees};
+use crate::open::opened;
 use crate::walk::{behind, beneath, bindings, leaves};
 use lxp_memory::MemSources;
 use mix_tree::Var;
+use plan_kit::{EACH_CHILD, HOMES, MED_HOMES, ONE, sources, trees};
 use std::alloc::Global;
 use std::test::Fail;
 

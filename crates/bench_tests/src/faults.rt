@@ -1,9 +1,10 @@
 // Fills that fail.
 use crate::bindings::{DOCS, each_child};
-use crate::open::{HOMES, MED_HOMES, opened};
+use crate::open::opened;
 use crate::walk::{bindings, leaves};
 use lazy_plan::WalkFault;
 use mix_tree::Var;
+use plan_kit::{HOMES, MED_HOMES};
 use std::alloc::Global;
 use std::test::Fail;
 

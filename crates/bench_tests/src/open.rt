@@ -1,108 +1,15 @@
-// Views over documents in memory, from their texts.
-ghost use Rattle.std.specs.Prelude.{◌≡◌, length, IfOk};
+// Benches over documents in memory, from the texts of their views.
+ghost use Rattle.std.specs.Prelude.{IfOk};
 ghost use Rattle.lxp_memory.specs.Memory.{memory_view};
-ghost use Rattle.xmas_rule.specs.RuleMade.{rule_of};
-ghost use Rattle.xmas_rule.specs.Rules.{IsAccepted};
 ghost use Rattle.lazy_plan.specs.Bench.{IsBenchOf};
 
-use bracket_text::read_tree;
 use lazy_plan::Bench;
 use lxp_core::Sources;
 use lxp_memory::MemSources;
-use mix_catalog::{Catalog, read_catalog};
-use mix_tree::{Label, Tree};
+use plan_kit::read;
 use plan_make::make_plan;
-use std::alloc::{AllocError, Global};
+use std::alloc::Global;
 use std::test::Fail;
-use xmas_read::read_rule;
-use xmas_rule::Rule;
-
-/// A catalog of two sources.
-pub const HOMES: &str =
-    "source homes bracket homes.txt chunk 1\nsource schools bracket schools.txt chunk 10";
-
-/// A catalog of people.
-pub const PEOPLE: &str = "source people bracket people.txt chunk 1";
-
-/// A catalog of one source.
-pub const ONE: &str = "source s bracket s.txt chunk 1";
-
-/// The homes, each with its schools.
-pub const MED_HOMES: &str =
-    "CONSTRUCT <answer> <med_home> $H $S {$S} </med_home> {$H} </answer> {} WHERE homes homes.home $H AND $H zip._ $V1 AND schools schools.school $S AND $S zip._ $V2 AND $V1 = $V2";
-
-/// A rule over the sources of these names.
-#[derive(Drop)]
-pub struct RuleRead {
-    pub rule: Rule,
-    pub names: Vec<Label>,
-}
-
-/// How documents in memory come: what bytes choose, and whether no list begins with a hole.
-#[derive(Clone, Copy)]
-pub struct Cutting {
-    pub choices: &'static [u8],
-    pub forward: bool,
-}
-
-/// A child at a time.
-pub const EACH_CHILD: Cutting = Cutting {
-    choices: &[],
-    forward: true,
-};
-
-/// The trees that these texts spell.
-pub fn trees(alloc: Global, docs: &[&str]) -> Result<Vec<Tree>, Fail> {
-    let mut trees = Vec::new(alloc);
-    for doc in docs {
-        match read_tree(alloc, doc.as_bytes()) {
-            Ok(tree) => trees.push(tree)?,
-            Err(_) => return Err("a document is refused".into()),
-        }
-    }
-    Ok(trees)
-}
-
-// The names of a catalog's sources, by their numbers.
-fn source_names(alloc: Global, catalog: &Catalog) -> Result<Vec<Label>, AllocError> {
-    let mut names = Vec::new(alloc);
-    for number in 0..catalog.len() {
-        names.push(catalog.spec(number).name.copy(alloc)?)?;
-    }
-    Ok(names)
-}
-
-/// The rule that a text spells over a catalog.
-pub fn read(alloc: Global, catalog: &str, view: &str) -> Result<RuleRead, Fail>
-    ensures { IfOk result (λ read. IsAccepted (length read.names.items) (rule_of read.rule)) }
-{
-    let Ok(catalog) = read_catalog(alloc, catalog.as_bytes()) else {
-        return Err("the catalog is refused".into());
-    };
-    let Ok(rule) = read_rule(alloc, view.as_bytes(), &catalog) else {
-        return Err("the view is refused".into());
-    };
-    let names = source_names(alloc, &catalog)?;
-    if names.len() != catalog.len() as usize {
-        return Err("not a name for each source".into());
-    }
-    Ok(RuleRead { rule, names })
-}
-
-/// Documents in memory that come so, of which the fills of these numbers fail.
-pub fn sources(
-    alloc: Global,
-    docs: Vec<Tree>,
-    cutting: &Cutting,
-    failing: &[u64],
-) -> Result<MemSources, Fail> {
-    if docs.len() > 9 {
-        return Err("too many documents".into());
-    }
-    let choices = cutting.choices.to_vec(alloc)?;
-    let failing = failing.to_vec(alloc)?;
-    Ok(MemSources::new(alloc, docs, choices, failing, cutting.forward)?)
-}
 
 /// A bench of a view over these sources.
 pub fn opened(alloc: Global, catalog: &str, view: &str, sources: &MemSources) -> Result<Bench, Fail>

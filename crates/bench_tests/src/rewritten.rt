@@ -4,12 +4,12 @@ ghost use Rattle.plan_core.specs.PlanMade.{plan_value};
 ghost use Rattle.plan_core.specs.Valid.{IsValid};
 
 use crate::bindings::{DOCS, each_child};
-use crate::open::{HOMES, MED_HOMES, read};
 use crate::walk::{bindings, leaves};
 use lazy_plan::Bench;
 use lxp_core::Sources;
 use mix_tree::Var;
 use plan_core::Plan;
+use plan_kit::{HOMES, MED_HOMES, read};
 use plan_make::make_plan;
 use plan_rewrite::rewrite;
 use std::alloc::Global;

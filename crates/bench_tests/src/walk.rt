@@ -6,7 +6,7 @@ ghost use Rattle.plan_core.specs.Valid.{kinds, a_node};
 ghost use Rattle.lazy_plan.specs.Bench.{plan_of, IsBenchOf, IsCursor, IsSpotAt};
 ghost use Rattle.bench_tests.specs.Runs.{state, Ran, AreCursors};
 
-use crate::kind::{Held, held_by};
+use crate::nodes::holds_node;
 use lazy_plan::{Bench, Cursor, WalkFault, benches_keep_on};
 use lxp_memory::MemSources;
 use mix_tree::{Label, Var};
@@ -149,7 +149,7 @@ pub fn leaves(
     if of.op as usize >= bench.plan().ops.len() {
         return Err("no such operator".into());
     }
-    if held_by(bench.plan(), of.op as usize, v) != Held::Node {
+    if !holds_node(&bench.plan().ops, of.op, v) {
         return Err("no node".into());
     }
     let mut text = Vec::new(alloc);

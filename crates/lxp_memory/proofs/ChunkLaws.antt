@@ -3,6 +3,7 @@ use Rattle.std.proofs.Common.{◌≡◌, ℕ, zero, suc, ◌+◌, ◌-◌, ◌<�
 use Rattle.std.proofs.lemmas.Bool.Decides.{nat_tests}
 use Rattle.lxp_core.specs.declared.open_tree.HoleId.{HoleId}
 use Rattle.lxp_memory.specs.declared.document.DocNode.{DocNode}
+use Rattle.lxp_memory.specs.declared.document.Document.{Document}
 use Rattle.lxp_memory.specs.declared.span.Span.{Span}
 use Rattle.lxp_memory.specs.declared.choice.Choice.{Choice}
 use Rattle.lxp_core.specs.Open.{Open, nil, node, hole, AllHoles}
@@ -10,7 +11,9 @@ use Rattle.lxp_memory.specs.Nodes.{first_of, count_of, run}
 use Rattle.lxp_memory.specs.Span.{hole_span, has_span, has_rest}
 use Rattle.lxp_memory.specs.Choice.{IsChoice, in_chunks}
 use Rattle.lxp_memory.specs.Cut.{hole_if, kids_of, children, shown_to, shown_from, cut}
+use Rattle.lxp_memory.specs.DocumentHoles.{document_knows, document_list, rest_is_there}
 use Rattle.lxp_core.proofs.Opens.{AllHoles-without_holes}
+use Rattle.lxp_memory.proofs.CutLaws.{IsAnswer, answer-cut}
 
 -- whether a hole stands for children up to the last
 abbrev to_last : List DocNode → HoleId → Bool
@@ -70,8 +73,12 @@ rests-cut ns most whole p h known =
     all false b k = cc
 
 -- lists in chunks are cut by a choice
-pub is_choice-in_chunks : (most : ℕ) (whole : Bool) → 1 ≤ most → IsChoice (in_chunks most whole)
+is_choice-in_chunks : (most : ℕ) (whole : Bool) → 1 ≤ most → IsChoice (in_chunks most whole)
 is_choice-in_chunks most whole h = record { some = omega arith; held = λ e. refl }
+
+-- the list of a hole that a document knows is an answer
+pub list_is_answer : (d : Document) (most : ℕ) (whole : Bool) (h : HoleId) → 1 ≤ most → document_knows d h ≡ true → IsAnswer d.nodes.items (in_chunks most whole) (hole_span h) (document_list d most whole h)
+list_is_answer d most whole h some known = answer-cut d.nodes.items (in_chunks most whole) (hole_span h) (is_choice-in_chunks most whole some) (rest_is_there d.nodes.items (hole_span h) known) d.within
 
 -- children that are there are children of a node that is there
 pub node_there : (ns : List DocNode) (p : Span) → has_span ns p ≡ true → p.node < length ns

@@ -145,33 +145,33 @@ module _ (p : PlanValue) (valid : IsValid p) (typed : IsTyped p.ops) where
   ops = p.ops
 
   -- so many readers up
-  abbrev Up : ℕ → ℕ → ℕ → Type 0
+  abbrev pub Up : ℕ → ℕ → ℕ → Type 0
   Up m zero n = m ≡ n
   Up m (suc d) n = (q : ℕ) × (q < length ops) × Among m (inputs_of (op_at ops q)) × Up q d n
 
   -- one reader further up
-  up_more : (m d i n : ℕ) → Up m d i → Among i (inputs_of (op_at ops n)) → n < length ops → Up m (suc d) n
+  pub up_more : (m d i n : ℕ) → Up m d i → Among i (inputs_of (op_at ops n)) → n < length ops → Up m (suc d) n
   up_more m zero i n u a b = (n, b, subst (λ (z : ℕ). Among z (inputs_of (op_at ops n))) (sym u) a, refl)
   up_more m (suc d) i n u a b = (u.0, u.1, u.2, up_more u.0 d i n u.3 a b)
 
   -- an input has a smaller number
-  smaller : (m n : ℕ) → n < length ops → Among m (inputs_of (op_at ops n)) → m < n
+  pub smaller : (m n : ℕ) → n < length ops → Among m (inputs_of (op_at ops n)) → m < n
   smaller m n b a = each_among (λ i. i < n) (inputs_of (op_at ops n)) (typed.inputs n b) m a
 
   -- each reader has a greater number
-  up_above : (m d n : ℕ) → Up m d n → m + d ≤ n
+  pub up_above : (m d n : ℕ) → Up m d n → m + d ≤ n
   up_above m zero n u = omega (arith, u)
   up_above m (suc d) n u = (let h = up_above u.0 d n u.3 in let k = smaller m u.0 u.1 u.2 in omega (arith, h, k))
 
   -- an input of an operator is an input once
-  once : (i n : ℕ) → n < length ops → Among i (inputs_of (op_at ops n)) → count_by (λ m. m == i) (flat_map inputs_of ops) ≤ 1
+  pub once : (i n : ℕ) → n < length ops → Among i (inputs_of (op_at ops n)) → count_by (λ m. m == i) (flat_map inputs_of ops) ≤ 1
   once i n b a =
       let s = smaller i n b a in
       let c : suc i < length ops = omega (arith, s, b) in
       let e : count_by (λ m. m == i) (flat_map inputs_of ops) ≡ 1 = valid.used_once i c in omega (arith, e)
 
   -- two ways up are one
-  one_way : (m d e a b : ℕ) → Up m d a → Up m e b → ((k : ℕ) × Up a k b) ⊎ ((k : ℕ) × Up b k a)
+  pub one_way : (m d e a b : ℕ) → Up m d a → Up m e b → ((k : ℕ) × Up a k b) ⊎ ((k : ℕ) × Up b k a)
   one_way m zero e a b u w = inl (e, subst (λ (z : ℕ). Up z e b) u w)
   one_way m (suc d) zero a b u w = inr (suc d, subst (λ (z : ℕ). Up z (suc d) a) w u)
   one_way m (suc d) (suc e) a b u w =
@@ -183,7 +183,7 @@ module _ (p : PlanValue) (valid : IsValid p) (typed : IsTyped p.ops) where
   Origin n v = (m : ℕ) × (d : ℕ) × (m < length ops) × Among v (outs_of (op_at ops m)) × Up m d n
 
   -- what an operator binds, from what its inputs bind
-  kinds-is : (n : ℕ) → n < length ops → kinds ops n ≡ op_kinds (op_at ops n) (kinds ops)
+  pub kinds-is : (n : ℕ) → n < length ops → kinds ops n ≡ op_kinds (op_at ops n) (kinds ops)
   unfolding kinds
   kinds-is n b = by_number-is op_kinds no_kinds ops n op_kinds-reads (typed.inputs n b)
 
@@ -217,12 +217,23 @@ module _ (p : PlanValue) (valid : IsValid p) (typed : IsTyped p.ops) where
       ]) refl
 
   -- two inputs of one operator, one of which stands above the other
-  no_above : (n a b k : ℕ) → n < length ops → Among a (inputs_of (op_at ops n)) → Among b (inputs_of (op_at ops n)) → (a ≡ b → ⊥) → Up a k b → ⊥
+  pub no_above : (n a b k : ℕ) → n < length ops → Among a (inputs_of (op_at ops n)) → Among b (inputs_of (op_at ops n)) → (a ≡ b → ⊥) → Up a k b → ⊥
   no_above n a b zero l x y other u = other u
   no_above n a b (suc k) l x y other u =
       let same : u.0 ≡ n = reader_once ops a (once a n l x) u.0 n u.1 l u.2 x in
       let up = up_above u.0 k b u.3 in
       let s = smaller b n l y in omega (arith, same, up, s)
+
+  -- two inputs of one operator differ
+  pub inputs_differ : (n left right : ℕ) → n < length ops → inputs_of (op_at ops n) ≡ left ∷ right ∷ [] → left ≡ right → ⊥
+  inputs_differ n left right b is z =
+      let u = once left n b (subst (Among left) (sym is) (inl refl)) in
+      let c = count_flat left ops n b in
+      let e : (right == left) ≡ true = grind (arith, nat_tests, z) in
+      let f : (left == left) ≡ true = grind (arith, nat_tests) in
+      let two : 2 ≤ count_by (λ m. m == left) (left ∷ right ∷ []) = rw (f, e) (omega arith) in
+      let t : 2 ≤ count_by (λ m. m == left) (inputs_of (op_at ops n)) = subst (λ (xs : List ℕ). 2 ≤ count_by (λ m. m == left) xs) (sym is) two in
+      omega (arith, u, c, t)
 
   -- the sides of a join bind nothing both
   pub sides_fresh : (n left right v : ℕ) (k : Kind) → n < length ops → inputs_of (op_at ops n) ≡ left ∷ right ∷ [] → kinds ops right v ≡ Some k → kinds ops left v ≡ None
@@ -253,11 +264,4 @@ module _ (p : PlanValue) (valid : IsValid p) (typed : IsTyped p.ops) where
       in_right = subst (Among right) (sym is) (inr (inl refl))
 
       differ : left ≡ right → ⊥
-      differ z =
-          let u = once left n b in_left in
-          let c = count_flat left ops n b in
-          let e : (right == left) ≡ true = grind (arith, nat_tests, z) in
-          let f : (left == left) ≡ true = grind (arith, nat_tests) in
-          let two : 2 ≤ count_by (λ m. m == left) (left ∷ right ∷ []) = rw (f, e) (omega arith) in
-          let t : 2 ≤ count_by (λ m. m == left) (inputs_of (op_at ops n)) = subst (λ (xs : List ℕ). 2 ≤ count_by (λ m. m == left) xs) (sym is) two in
-          omega (arith, u, c, t)
+      differ = inputs_differ n left right b is

@@ -14,9 +14,9 @@ use Rattle.plan_make.specs.Trees.{Tree, numbered}
 use Rattle.plan_rewrite.specs.Blocks.{block_at, without, block_over, IsBlock, AreBelow, SidesDiffer}
 use Rattle.plan_rewrite.specs.Rewritten.{rewritten, op_tree, tree_at, rewritten_ops}
 use Rattle.plan_rewrite.proofs.Kept.{rewritten-ended}
-use Rattle.plan_core.proofs.Fresh.{reader_once}
+use Rattle.plan_core.proofs.Fresh.{reader_once, smaller, once, inputs_differ}
 use Rattle.plan_rewrite.proofs.Endings.{IsBelow, Ended}
-use Rattle.plan_rewrite.proofs.PlanTree.{ending, once, smaller, below_at, tree_at-is, inputs_differ, last_at, all_but_one}
+use Rattle.plan_rewrite.proofs.PlanTree.{ending, below_at, tree_at-is, last_at, all_but_one}
 
 -- no operator before one reads this one
 abbrev pub IsUnread : List Operator → ℕ → ℕ → Type 0

@@ -1,6 +1,6 @@
 -- A rewritten plan is valid, and has the document of the plan.
-use Rattle.std.proofs.Common.{◌≡◌, ℕ, ◌+◌, List, [], ◌∷◌, ◌++◌, refl, sym, ap, subst, ◌∙◌, arith, length}
-use Rattle.std.specs.Prelude.{Option, None, Some}
+use Rattle.std.proofs.Common.{◌≡◌, ℕ, ◌+◌, List, [], ◌∷◌, refl, sym, ap, subst, ◌∙◌, arith, length}
+use Rattle.std.specs.Prelude.{None}
 use Rattle.std.specs.List.{last_or}
 use Rattle.plan_core.specs.Plans.{World, Operator, tuple_destroy, PlanValue, rows_of, element_of, destroyed, document}
 use Rattle.plan_core.specs.Typed.{IsTyped}

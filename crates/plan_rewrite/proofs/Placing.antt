@@ -14,7 +14,7 @@ use Rattle.plan_make.proofs.TreeParts.{tree_kinds}
 use Rattle.plan_rewrite.specs.Rewritten.{is_bound}
 use Rattle.plan_rewrite.specs.Edits.{Added, bumped_op, landed, edited}
 use Rattle.plan_rewrite.specs.Marks.{unary_binds, op_binds, marks}
-use Rattle.plan_make.proofs.Numbering.{numbered-length}
+use Rattle.plan_make.proofs.Numbering.{numbered_end, numbered_ends, join_behind}
 
 in_join : (t : Test) (n : ℕ) (o p : Operator) (rest : List Operator) → Added t None o p → p ∷ rest ≡ landed t n o rest
 in_join t n (source s out) p rest h = absurd h
@@ -125,18 +125,14 @@ mark-tree v (begin s out) ops i h =
     let e : i + zero ≡ i = omega arith in ap (mark v (ops ++ source s out ∷ [])) e ∙ mark-last v ops (source s out) i h ∙ sym (with_bound out v a_node None ∙ or_false (out == v))
 mark-tree v (descend x start path out) ops i h =
     let op : Operator = get_descendants (i + under x) start path out in
-    let k = length-append ops (numbered i x) in let l = numbered-length x i in
-    let e : i + suc (under x) ≡ length (ops ++ numbered i x) = omega (arith, h, k, l) in
     ap (λ (z : List Operator). mark v z (i + suc (under x))) (sym (append_assoc ops (numbered i x) (op ∷ [])))
-    ∙ mark-last v (ops ++ numbered i x) op (i + suc (under x)) e
+    ∙ mark-last v (ops ++ numbered i x) op (i + suc (under x)) (numbered_end x ops i h)
     ∙ ap (λ (b : Bool). (out == v) || b) (mark-tree v x ops i h)
     ∙ sym (with_bound out v a_node (tree_kinds x v))
 mark-tree v (above x op) ops i h =
     let o : Operator = over (i + under x) op in
-    let k = length-append ops (numbered i x) in let l = numbered-length x i in
-    let e : i + suc (under x) ≡ length (ops ++ numbered i x) = omega (arith, h, k, l) in
     ap (λ (z : List Operator). mark v z (i + suc (under x))) (sym (append_assoc ops (numbered i x) (o ∷ [])))
-    ∙ mark-last v (ops ++ numbered i x) o (i + suc (under x)) e
+    ∙ mark-last v (ops ++ numbered i x) o (i + suc (under x)) (numbered_end x ops i h)
     ∙ ap (unary_binds v op) (mark-tree v x ops i h)
     ∙ unary-bound v op (tree_kinds x)
 mark-tree v (both l r tests) ops i h =
@@ -146,16 +142,12 @@ mark-tree v (both l r tests) ops i h =
     let j : Operator = join (i + under l) (m + under r) tests in
     let one : List Operator = ops ++ left in
     let two : List Operator = one ++ right in
-    let k1 = length-append ops left in let l1 = numbered-length l i in
-    let k2 = length-append one right in let l2 = numbered-length r m in
+    let e = numbered_end l ops i h in
     let n : ℕ = i + (suc (under l) + suc (under r)) in
-    let shape : ops ++ (left ++ (right ++ j ∷ [])) ≡ two ++ j ∷ [] =
-    sym (append_assoc ops left (right ++ j ∷ [])) ∙ sym (append_assoc one right (j ∷ [])) in
-    let lefts : mark v two (i + under l) ≡ is_bound (tree_kinds l v) =
-    mark-stable v one right (i + under l) (omega (arith, h, k1, l1)) ∙ mark-tree v l ops i h in
-    let rights : mark v two (m + under r) ≡ is_bound (tree_kinds r v) = mark-tree v r one m (omega (arith, h, k1, l1)) in
-    ap (λ (z : List Operator). mark v z n) shape
-    ∙ mark-last v two j n (omega (arith, h, k1, l1, k2, l2))
+    let lefts : mark v two (i + under l) ≡ is_bound (tree_kinds l v) = mark-stable v one right (i + under l) (omega (arith, e)) ∙ mark-tree v l ops i h in
+    let rights : mark v two (m + under r) ≡ is_bound (tree_kinds r v) = mark-tree v r one m e in
+    ap (λ (z : List Operator). mark v z n) (join_behind ops left right j)
+    ∙ mark-last v two j n (numbered_ends l r ops i h)
     ∙ ap (λ (z : Bool). z || mark v two (m + under r)) lefts
     ∙ ap (λ (z : Bool). is_bound (tree_kinds l v) || z) rights
     ∙ both-bound (tree_kinds l v) (tree_kinds r v)

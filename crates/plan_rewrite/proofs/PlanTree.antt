@@ -1,23 +1,22 @@
 -- The tree of a valid plan: it has what its operators have, and a valid plan can be made of it.
-use Rattle.std.proofs.Common.{◌≡◌, ◌⊎◌, inl, inr, ℕ, zero, suc, ◌+◌, ◌<◌, ◌≤◌, Bool, true, false, List, [], ◌∷◌, ◌++◌, refl, sym, ap, subst, ◌∙◌, arith, length, length-append}
+use Rattle.std.proofs.Common.{◌≡◌, ◌⊎◌, inl, inr, ℕ, zero, suc, ◌<◌, Bool, true, false, List, [], ◌∷◌, ◌++◌, refl, sym, ap, subst, ◌∙◌, arith, length, length-append}
 use Rattle.std.specs.Prelude.{◌||◌, ◌&&◌, ◌==◌, Some}
-use Rattle.std.specs.List.{AllByRecursion, list_any, flat_map, count_by}
+use Rattle.std.specs.List.{AllByRecursion, list_any}
 use Rattle.std.proofs.lemmas.Bool.Decides.{nat_tests}
 use Rattle.std.proofs.lemmas.List.Folds.{list_any-append}
 use Rattle.std.proofs.lemmas.List.{get_or_append_left, get_or_at}
 use Rattle.mix_base.specs.Ascents.{Among}
-use Rattle.mix_base.proofs.Ascents.{each_among, among_each, among_cases}
+use Rattle.mix_base.proofs.Ascents.{among_each, among_cases}
 use Rattle.mix_tree.specs.declared.comparing.Test.{Test}
 use Rattle.plan_core.specs.ByNumber.{op_at}
 use Rattle.plan_core.specs.Plans.{World, Operator, source, get_descendants, join, over, tuple_destroy, PlanValue, descended, joined_rows, op_rows, rows_of}
 use Rattle.plan_core.specs.Rows.{Row}
 use Rattle.plan_core.specs.Typed.{IsTyped}
 use Rattle.plan_core.specs.Unary.{Unary, select, order_by, project, group_by, concatenate, create_element, unary}
-use Rattle.plan_core.specs.Valid.{a_node, Kinds, no_kinds, with_kind, either_kind, unary_kinds, op_kinds, kinds, IsFit, IsTest, IsUnaryFit, inputs_of, unary_outs, outs_of, AreDistinct, unary_single, is_single, is_single_at, EndsSingle, HasSource, IsValid}
-use Rattle.plan_core.proofs.Chained.{count-append}
-use Rattle.plan_core.proofs.Fresh.{bound_once, reader_once}
+use Rattle.plan_core.specs.Valid.{a_node, Kinds, with_kind, either_kind, unary_kinds, op_kinds, kinds, IsFit, IsTest, IsUnaryFit, inputs_of, unary_outs, outs_of, AreDistinct, unary_single, is_single, is_single_at, HasSource, IsValid}
+use Rattle.plan_core.proofs.Fresh.{bound_once, Up, up_more, smaller, up_above, one_way, kinds-is, no_above, inputs_differ}
 use Rattle.plan_core.proofs.Inputs.{is_single-reads}
-use Rattle.plan_core.proofs.Numbers.{ReadsInputs, by_number-is, op_kinds-reads}
+use Rattle.plan_core.proofs.Numbers.{ReadsInputs, by_number-is}
 use Rattle.plan_core.proofs.RowLaws.{rows-stable, rows-last, snoc}
 use Rattle.plan_core.proofs.Typed.{each_at}
 use Rattle.plan_make.specs.Trees.{Tree, begin, descend, both, above, tree_rows}
@@ -142,17 +141,6 @@ op_distinct (join left right tests) b of h f g = distinct_append (tree_outs (of 
 op_distinct (over input op) b of h f g = distinct_append (tree_outs (of input)) (unary_outs op) h.0 (unary_distinct op) (λ v x y. f input v (inl refl) y x)
 op_distinct (tuple_destroy input element) b of h f g = absurd b
 
--- NUMBERS THAT STAND ONCE
-
--- an operator reads another at most as often as all do
-count_flat : (i : ℕ) (ops : List Operator) (n : ℕ) → n < length ops → count_by (λ m. m == i) (inputs_of (op_at ops n)) ≤ count_by (λ m. m == i) (flat_map inputs_of ops)
-count_flat i [] n b = absurd (omega (arith, b))
-count_flat i (op ∷ ops) zero b = (let e = count-append i (inputs_of op) (flat_map inputs_of ops) in omega (arith, e))
-count_flat i (op ∷ ops) (suc n) b =
-    let c : n < length ops = omega (arith, b) in
-    let e = count-append i (inputs_of op) (flat_map inputs_of ops) in
-    let h = count_flat i ops n c in omega (arith, e, h)
-
 module _ (p : PlanValue) (valid : IsValid p) (typed : IsTyped p.ops) where
   abbrev pub ops : List Operator
   ops = p.ops
@@ -160,38 +148,6 @@ module _ (p : PlanValue) (valid : IsValid p) (typed : IsTyped p.ops) where
   -- where the operators end
   abbrev pub ending : Ended (is_single_at ops) ops
   ending = ended_of (is_single_at ops) ops valid.ends
-
-  -- so many readers up
-  abbrev Up : ℕ → ℕ → ℕ → Type 0
-  Up m zero n = m ≡ n
-  Up m (suc d) n = (q : ℕ) × (q < length ops) × Among m (inputs_of (op_at ops q)) × Up q d n
-
-  -- one reader further up
-  up_more : (m d i n : ℕ) → Up m d i → Among i (inputs_of (op_at ops n)) → n < length ops → Up m (suc d) n
-  up_more m zero i n u a b = (n, b, subst (λ (z : ℕ). Among z (inputs_of (op_at ops n))) (sym u) a, refl)
-  up_more m (suc d) i n u a b = (u.0, u.1, u.2, up_more u.0 d i n u.3 a b)
-
-  pub smaller : (m n : ℕ) → n < length ops → Among m (inputs_of (op_at ops n)) → m < n
-  smaller m n b a = each_among (λ i. i < n) (inputs_of (op_at ops n)) (typed.inputs n b) m a
-
-  -- readers have greater numbers
-  up_above : (m d n : ℕ) → Up m d n → m + d ≤ n
-  up_above m zero n u = omega (arith, u)
-  up_above m (suc d) n u = (let h = up_above u.0 d n u.3 in let k = smaller m u.0 u.1 u.2 in omega (arith, h, k))
-
-  pub once : (i n : ℕ) → n < length ops → Among i (inputs_of (op_at ops n)) → count_by (λ m. m == i) (flat_map inputs_of ops) ≤ 1
-  once i n b a =
-      let s = smaller i n b a in
-      let c : suc i < length ops = omega (arith, s, b) in
-      let e : count_by (λ m. m == i) (flat_map inputs_of ops) ≡ 1 = valid.used_once i c in omega (arith, e)
-
-  -- two ways up are one
-  one_way : (m d e a b : ℕ) → Up m d a → Up m e b → ((k : ℕ) × Up a k b) ⊎ ((k : ℕ) × Up b k a)
-  one_way m zero e a b u w = inl (e, subst (λ (z : ℕ). Up z e b) u w)
-  one_way m (suc d) zero a b u w = inr (suc d, subst (λ (z : ℕ). Up z (suc d) a) w u)
-  one_way m (suc d) (suc e) a b u w =
-      let same : u.0 ≡ w.0 = reader_once ops m (once m u.0 u.1 u.2) u.0 w.0 u.1 w.1 u.2 w.2 in
-      one_way u.0 d e a b u.3 (subst (λ (z : ℕ). Up z e b) (sym same) w.3)
 
   -- all but the last are no tupleDestroy
   pub below_at : (n : ℕ) → suc n < length ops → IsBelow (op_at ops n)
@@ -208,17 +164,12 @@ module _ (p : PlanValue) (valid : IsValid p) (typed : IsTyped p.ops) where
   less n b = omega (arith, b)
 
   input_less : (n i : ℕ) → suc n < length ops → Among i (inputs_of (op_at ops n)) → suc i < length ops
-  input_less n i b a = (let s = smaller i n (less n b) a in omega (arith, s, b))
+  input_less n i b a = (let s = smaller p valid typed i n (less n b) a in omega (arith, s, b))
 
   -- the tree of an operator, from those of its inputs
   pub tree_at-is : (n : ℕ) → n < length ops → tree_at ops n ≡ op_tree (op_at ops n) (tree_at ops)
   unfolding tree_at
   tree_at-is n b = by_number-is op_tree (begin 0 0) ops n op_tree-reads (typed.inputs n b)
-
-  -- its kinds
-  kinds-is : (n : ℕ) → n < length ops → kinds ops n ≡ op_kinds (op_at ops n) (kinds ops)
-  unfolding kinds
-  kinds-is n b = by_number-is op_kinds no_kinds ops n op_kinds-reads (typed.inputs n b)
 
   -- whether it is single
   single-is : (n : ℕ) → n < length ops → is_single_at ops n ≡ is_single (op_at ops n) (is_single_at ops)
@@ -245,7 +196,7 @@ module _ (p : PlanValue) (valid : IsValid p) (typed : IsTyped p.ops) where
       ∙ op_rows-reads world op (rows_of world s.0) (rows_of world ops)
       (among_each (λ i. rows_of world s.0 i ≡ rows_of world ops i) (inputs_of op)
       (λ i a.
-      let k = smaller i n b a in
+      let k = smaller p valid typed i n b a in
       let lt : i < length s.0 = omega (arith, k, s.3) in
       sym (ap (λ (z : List Operator). rows_of world z i) s.2 ∙ rows-stable world s.0 (op ∷ s.1) i lt)))
 
@@ -258,10 +209,10 @@ module _ (p : PlanValue) (valid : IsValid p) (typed : IsTyped p.ops) where
       let l = less n b in
       let r = op_agrees (length p.sources) (op_at ops n) (below_at n b) (tree_at ops) (kinds ops) (is_single_at ops)
       (among_each (λ i. Agrees (length p.sources) (tree_at ops i) (kinds ops i) (is_single_at ops i)) (inputs_of (op_at ops n))
-      (λ i a. let s = smaller i n l a in agrees k i (omega (arith, s, h)) (input_less n i b a)))
+      (λ i a. let s = smaller p valid typed i n l a in agrees k i (omega (arith, s, h)) (input_less n i b a)))
       (typed.fit n l) (each_at (HasSource (length p.sources)) ops n l valid.sources) in
       subst (λ (x : Tree). Agrees (length p.sources) x (kinds ops n) (is_single_at ops n)) (sym (tree_at-is n l))
-      (subst (λ (ks : Kinds). Agrees (length p.sources) (op_tree (op_at ops n) (tree_at ops)) ks (is_single_at ops n)) (sym (kinds-is n l))
+      (subst (λ (ks : Kinds). Agrees (length p.sources) (op_tree (op_at ops n) (tree_at ops)) ks (is_single_at ops n)) (sym (kinds-is p valid typed n l))
       (subst (λ (x : Bool). Agrees (length p.sources) (op_tree (op_at ops n) (tree_at ops)) (op_kinds (op_at ops n) (kinds ops)) x) (sym (single-is n l)) r))
 
   -- and has its bindings
@@ -271,12 +222,12 @@ module _ (p : PlanValue) (valid : IsValid p) (typed : IsTyped p.ops) where
       let l = less n b in
       ap (tree_rows world) (tree_at-is n l)
       ∙ op_means world (op_at ops n) (below_at n b) (tree_at ops) (rows_of world ops)
-      (among_each (λ i. tree_rows world (tree_at ops i) ≡ rows_of world ops i) (inputs_of (op_at ops n)) (λ i a. let s = smaller i n l a in means world k i (omega (arith, s, h)) (input_less n i b a)))
+      (among_each (λ i. tree_rows world (tree_at ops i) ≡ rows_of world ops i) (inputs_of (op_at ops n)) (λ i a. let s = smaller p valid typed i n l a in means world k i (omega (arith, s, h)) (input_less n i b a)))
       ∙ sym (rows-is world n l)
 
   -- where a variable of a tree is bound anew
   abbrev Origin : ℕ → ℕ → Type 0
-  Origin n v = (m : ℕ) × (d : ℕ) × (m < length ops) × Among v (outs_of (op_at ops m)) × Up m d n
+  Origin n v = (m : ℕ) × (d : ℕ) × (m < length ops) × Among v (outs_of (op_at ops m)) × Up p valid typed m d n
 
   -- a variable of a tree is bound anew by an operator below
   origin : (k n v : ℕ) → n < k → suc n < length ops → Among v (tree_outs (tree_at ops n)) → Origin n v
@@ -286,38 +237,19 @@ module _ (p : PlanValue) (valid : IsValid p) (typed : IsTyped p.ops) where
       elim (op_out (op_at ops n) (below_at n b) (tree_at ops) v (subst (λ (x : Tree). Among v (tree_outs x)) (tree_at-is n l) e)) [
         | inl a ↦ (n, 0, l, a, refl)
         | inr i ↦
-            (let s = smaller i.0 n l i.1 in
+            (let s = smaller p valid typed i.0 n l i.1 in
             let o = origin k i.0 v (omega (arith, s, h)) (input_less n i.0 b i.1) i.2 in
-            (o.0, suc o.1, o.2, o.3, up_more o.0 o.1 i.0 n o.4 i.1 l))
+            (o.0, suc o.1, o.2, o.3, up_more p valid typed o.0 o.1 i.0 n o.4 i.1 l))
       ]
 
   -- what an operator binds anew is not bound anew below it
   out_fresh : (n i v : ℕ) → suc n < length ops → Among i (inputs_of (op_at ops n)) → Among v (outs_of (op_at ops n)) → Among v (tree_outs (tree_at ops i)) → ⊥
   out_fresh n i v b a o e =
       let l = less n b in
-      let s = smaller i n l a in
+      let s = smaller p valid typed i n l a in
       let r = origin (suc i) i v (omega arith) (input_less n i b a) e in
       let same : r.0 ≡ n = bound_once ops valid.distinct r.0 n v r.2 l r.3 o in
-      let up = up_above r.0 r.1 i r.4 in omega (arith, same, up, s)
-
-  -- two inputs of one operator, one of which stands above the other
-  no_above : (n a b k : ℕ) → n < length ops → Among a (inputs_of (op_at ops n)) → Among b (inputs_of (op_at ops n)) → (a ≡ b → ⊥) → Up a k b → ⊥
-  no_above n a b zero l x y other u = other u
-  no_above n a b (suc k) l x y other u =
-      let same : u.0 ≡ n = reader_once ops a (once a n l x) u.0 n u.1 l u.2 x in
-      let up = up_above u.0 k b u.3 in
-      let s = smaller b n l y in omega (arith, same, up, s)
-
-  -- two inputs of one operator differ
-  pub inputs_differ : (n left right : ℕ) → n < length ops → inputs_of (op_at ops n) ≡ left ∷ right ∷ [] → left ≡ right → ⊥
-  inputs_differ n left right b is z =
-      let u = once left n b (subst (Among left) (sym is) (inl refl)) in
-      let c = count_flat left ops n b in
-      let e : (right == left) ≡ true = grind (arith, nat_tests, z) in
-      let f : (left == left) ≡ true = grind (arith, nat_tests) in
-      let two : 2 ≤ count_by (λ m. m == left) (left ∷ right ∷ []) = rw (f, e) (omega arith) in
-      let t : 2 ≤ count_by (λ m. m == left) (inputs_of (op_at ops n)) = subst (λ (xs : List ℕ). 2 ≤ count_by (λ m. m == left) xs) (sym is) two in
-      omega (arith, u, c, t)
+      let up = up_above p valid typed r.0 r.1 i r.4 in omega (arith, same, up, s)
 
   -- no variable is bound anew on both sides of a join
   sides_fresh : (n left right v : ℕ) → suc n < length ops → inputs_of (op_at ops n) ≡ left ∷ right ∷ [] → Among v (tree_outs (tree_at ops left)) → Among v (tree_outs (tree_at ops right)) → ⊥
@@ -326,9 +258,9 @@ module _ (p : PlanValue) (valid : IsValid p) (typed : IsTyped p.ops) where
       let x = origin (suc left) left v (omega arith) (input_less n left more in_left) g in
       let y = origin (suc right) right v (omega arith) (input_less n right more in_right) e in
       let same : x.0 ≡ y.0 = bound_once ops valid.distinct x.0 y.0 v x.2 y.2 x.3 y.3 in
-      elim (one_way x.0 x.1 y.1 left right x.4 (subst (λ (z : ℕ). Up z y.1 right) (sym same) y.4)) [
-        | inl u ↦ no_above n left right u.0 b in_left in_right differ u.1
-        | inr u ↦ no_above n right left u.0 b in_right in_left (λ (z : right ≡ left). differ (sym z)) u.1
+      elim (one_way p valid typed x.0 x.1 y.1 left right x.4 (subst (λ (z : ℕ). Up p valid typed z y.1 right) (sym same) y.4)) [
+        | inl u ↦ no_above p valid typed n left right u.0 b in_left in_right differ u.1
+        | inr u ↦ no_above p valid typed n right left u.0 b in_right in_left (λ (z : right ≡ left). differ (sym z)) u.1
       ]
     where
       in_left : Among left (inputs_of (op_at ops n))
@@ -338,7 +270,7 @@ module _ (p : PlanValue) (valid : IsValid p) (typed : IsTyped p.ops) where
       in_right = subst (Among right) (sym is) (inr (inl refl))
 
       differ : left ≡ right → ⊥
-      differ = inputs_differ n left right (less n more) is
+      differ = inputs_differ p valid typed n left right (less n more) is
 
   -- no tree binds a variable anew twice
   distinct : (k n : ℕ) → n < k → suc n < length ops → AreDistinct (tree_outs (tree_at ops n))
@@ -347,7 +279,7 @@ module _ (p : PlanValue) (valid : IsValid p) (typed : IsTyped p.ops) where
       let l = less n b in
       subst (λ (x : Tree). AreDistinct (tree_outs x)) (sym (tree_at-is n l))
       (op_distinct (op_at ops n) (below_at n b) (tree_at ops)
-      (among_each (λ i. AreDistinct (tree_outs (tree_at ops i))) (inputs_of (op_at ops n)) (λ i a. let s = smaller i n l a in distinct k i (omega (arith, s, h)) (input_less n i b a)))
+      (among_each (λ i. AreDistinct (tree_outs (tree_at ops i))) (inputs_of (op_at ops n)) (λ i a. let s = smaller p valid typed i n l a in distinct k i (omega (arith, s, h)) (input_less n i b a)))
       (λ i v a o e. out_fresh n i v b a o e)
       (λ left right v is x y. sides_fresh n left right v b is x y))
 
@@ -363,7 +295,7 @@ module _ (p : PlanValue) (valid : IsValid p) (typed : IsTyped p.ops) where
   input_at =
       let l = all_but_one in
       let b : length ending.front < length ops = omega (arith, l) in
-      let s = smaller ending.input (length ending.front) b (subst (λ (o : Operator). Among ending.input (inputs_of o)) (sym last_at) (inl refl)) in omega (arith, l, s)
+      let s = smaller p valid typed ending.input (length ending.front) b (subst (λ (o : Operator). Among ending.input (inputs_of o)) (sym last_at) (inl refl)) in omega (arith, l, s)
 
   -- the tree below the tupleDestroy makes a valid plan
   pub plan_whole : IsWhole (length p.sources) (tree_at ops ending.input) ending.element

@@ -1,9 +1,9 @@
 // The classes of views over sources of given shapes, worked out by hand.
-use bench_tests::{HOMES, MED_HOMES, PEOPLE, read};
 use browse_class::Class;
 use browse_visit::{Shape, TableColumn};
 use mix_tree::Label;
 use plan_class::class_of;
+use plan_kit::{HOMES, MED_HOMES, PEOPLE, read};
 use plan_make::make_plan;
 use std::alloc::{AllocError, Global};
 use std::process::Abort;

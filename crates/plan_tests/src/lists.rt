@@ -1,7 +1,7 @@
 // Views with several lists in one element: what they mean by the plain program, and what runs over cut documents answer.
 use crate::plain::finished;
 use crate::run::{Setting, run};
-use bench_tests::{Cutting, HOMES, ONE};
+use plan_kit::{Cutting, HOMES, ONE};
 use std::alloc::Global;
 use std::test::Fail;
 

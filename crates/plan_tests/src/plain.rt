@@ -1,7 +1,7 @@
 // What rules mean over small documents, by the plain program. Files of records and tables stand here as the trees that they are.
-use bench_tests::{HOMES, MED_HOMES, ONE, PEOPLE, read, trees};
 use bracket_text::write_tree;
 use plain_rule::finished_document;
+use plan_kit::{HOMES, MED_HOMES, ONE, PEOPLE, read, trees};
 use std::alloc::Global;
 use std::test::Fail;
 

@@ -1,9 +1,9 @@
 // `print` of every node of an answer, against the text that the plain program gives.
 use crate::run::{Setting, run};
-use bench_tests::{Cutting, EACH_CHILD, HOMES, MED_HOMES, read, trees};
 use bracket_text::write_tree;
 use mix_tree::Tree;
 use plain_rule::finished_document;
+use plan_kit::{Cutting, EACH_CHILD, HOMES, MED_HOMES, read, trees};
 use std::alloc::Global;
 use std::test::Fail;
 

@@ -5,7 +5,6 @@ ghost use Rattle.xmas_rule.specs.RuleMade.{rule_of};
 ghost use Rattle.xmas_rule.specs.Rules.{IsAccepted};
 ghost use Rattle.lazy_value.specs.Mediators.{IsMediatorOf};
 
-use bench_tests::{Cutting, RuleRead, read, sources, trees};
 use lazy_value::Mediator;
 use lxp_core::Sources;
 use lxp_memory::MemSources;
@@ -13,6 +12,7 @@ use mix_io::MemSink;
 use mix_lines::{LinesFault, run_lines};
 use mix_script::{Step, read_script};
 use mix_tree::Tree;
+use plan_kit::{Cutting, RuleRead, read, sources, trees};
 use plan_rewrite::plan_view;
 use std::alloc::Global;
 use std::test::Fail;

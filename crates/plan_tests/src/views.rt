@@ -1,8 +1,8 @@
 // What runs over views write, with lines worked out by hand.
 use crate::run::{Setting, run, run_on};
-use bench_tests::{Cutting, EACH_CHILD, HOMES, MED_HOMES, ONE, PEOPLE, trees};
 use mix_script::{Step, read_script};
 use mix_tree::Label;
+use plan_kit::{Cutting, EACH_CHILD, HOMES, MED_HOMES, ONE, PEOPLE, trees};
 use std::alloc::{AllocError, Global};
 use std::test::Fail;
 

@@ -89,7 +89,7 @@ pub fn walk_all<S: Sources>(alloc: Global, s: &mut S, number: u32) -> Result<Vec
 }
 
 /// The labels of two documents, each walked by a buffer of its own over the same sources: what a walk of the one asks
-/// leaves the other's buffer as it was. `Failed`: that of the two failed.
+/// leaves the other's buffer as it was. `Failed` names the one of the two that failed.
 pub fn walk_two<S: Sources>(
     alloc: Global,
     s: &mut S,

@@ -1,7 +1,6 @@
 use Rattle.std.proofs.Common.{◌∙◌, map, sym}
 use Rattle.std.proofs.lemmas.Result.{IfOk-weaker}
 use Rattle.plan_core.specs.PlanMade.{op_of}
-use Rattle.plan_core.specs.Plans.{document}
 use Rattle.plan_core.specs.declared.plan.Plan.{Plan}
 use Rattle.plan_make.specs.Law.{MeansRule}
 use Rattle.plan_rewrite.specs.Law.{SameDocument}
