@@ -1,7 +1,7 @@
 -- The variables of a join's right side alone, which the left side has no spots of.
-use Rattle.std.proofs.Common.{◌≡◌, ◌<◌, ◌≤◌, ◌+◌, ◌-◌, ◌||◌, ℕ, zero, suc, Bool, true, false, cond, List, [], ◌∷◌, Option, Some, None, length, map, take, drop, get_or, refl, ◌∙◌, sym, ap, subst, arith}
+use Rattle.std.proofs.Common.{◌≡◌, ◌<◌, ◌+◌, ◌-◌, ◌||◌, ℕ, zero, suc, Bool, true, false, cond, List, [], ◌∷◌, Option, Some, None, length, map, take, drop, get_or, refl, ◌∙◌, sym, ap, arith}
 use Rattle.std.specs.Prelude.{◌==◌, is_some}
-use Rattle.std.specs.List.{AllByRecursion, list_any}
+use Rattle.std.specs.List.{list_any}
 use Rattle.std.specs.Cmp.{unsigned_Decides}
 use Rattle.mix_tree.specs.Keys.{has_var}
 use Rattle.mix_tree.specs.declared.var.Key.{Key}
@@ -10,12 +10,12 @@ use Rattle.plan_core.specs.declared.plan.Op.{Op}
 use Rattle.plan_core.specs.Plans.{Operator}
 use Rattle.plan_core.specs.PlanMade.{op_of}
 use Rattle.plan_core.specs.Typed.{IsTyped}
-use Rattle.plan_core.specs.Valid.{Kind, Kinds, kinds, kept, inputs_of, shape_inputs, a_list, a_node, no_kinds, made_kind}
-use Rattle.plan_core.specs.Shapes.{Shape, one_source, visits_below, pairs_up, filters, extends, first_by_keys, one_group, in_order, shape_of, shape_at, passes_on}
+use Rattle.plan_core.specs.Valid.{Kind, Kinds, kinds, kept, a_list, a_node, no_kinds, made_kind}
+use Rattle.plan_core.specs.Shapes.{Shape, one_source, visits_below, pairs_up, filters, extends, first_by_keys, in_order, shape_of, shape_at, passes_on}
 use Rattle.plan_core.proofs.Numbers.{op_read}
 use Rattle.lazy_descend.specs.Cursors.{spot_of}
 use Rattle.tree_buffer.specs.declared.spot.Spot.{Spot}
-use Rattle.lazy_binding.specs.declared.position.Position.{Position, Start, Top, Whole, Found', Pass', First', Seen', Pair', Sorted', Row_of-Position-Sorted-0-1 as Row, end_of-Position-Sorted-0-1 as no_more, more_of-Position-Sorted-0-1 as one_more}
+use Rattle.lazy_binding.specs.declared.position.Position.{Position, Top, Found', Pass', First', Pair', Sorted', Row_of-Position-Sorted-0-1 as Row, end_of-Position-Sorted-0-1 as no_more, more_of-Position-Sorted-0-1 as one_more}
 use Rattle.lazy_binding.specs.Reading.{spot_at, spot_in, spot_nth, found_spot, or_else}
 use Rattle.lazy_binding.specs.Sides.{with_other, others, node_var, shape_right, right_vars}
 use Rattle.lazy_binding.proofs.Bound.{with_none, either_none, kinds_at, inputs_at}

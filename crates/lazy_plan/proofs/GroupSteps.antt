@@ -22,7 +22,7 @@ use Rattle.plan_core.specs.Unary.{group_by}
 use Rattle.plan_core.specs.ByNumber.{op_at}
 use Rattle.plan_core.specs.Shapes.{Shape, passes_on, first_by_keys, shape_of, shape_at}
 use Rattle.plan_core.specs.Typed.{IsTyped}
-use Rattle.plan_core.specs.Events.{RowEvents, events, passing}
+use Rattle.plan_core.specs.Events.{RowEvents, passing}
 use Rattle.plan_core.specs.TolledRows.{TolledRow, KeyValue, key_values, same_values}
 use Rattle.plan_core.proofs.Found.{cost-passing_le, found-passing_none, found-passing_yes, found-run_no}
 use Rattle.lazy_descend.specs.Searches as Searches
@@ -33,7 +33,7 @@ use Rattle.lazy_binding.specs.declared.parts.Growing.{Growing}
 use Rattle.lazy_binding.specs.declared.position.Position.{Position, Start, First', Seen'}
 use Rattle.lazy_binding.specs.declared.position.Reached.{Reached}
 use Rattle.lazy_binding.specs.Bench.{IsBench}
-use Rattle.lazy_binding.specs.World.{World, world, docs_of, is_told, seen_at, part_value, seen_values, IsPart}
+use Rattle.lazy_binding.specs.World.{World, world, docs_of, is_told, seen_at, part_value, IsPart}
 use Rattle.lazy_binding.specs.Cursors.{binding, ahead, number, has_row, up_to, IsIn, IsOf, HasSeen}
 use Rattle.lazy_binding.specs.Forms.{form, gathers_groups, input_of, input_at, keys_of}
 use Rattle.lazy_binding.specs.Keeping.{Keeps, Stays}
