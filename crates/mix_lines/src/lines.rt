@@ -14,6 +14,7 @@ use mix_script::Step;
 use mix_session::{Session, Walker};
 use mix_tree::Label;
 use std::alloc::Global;
+use std::mem;
 
 /// Steps, and the sources' names by their numbers.
 #[derive(Clone, Copy)]
@@ -22,7 +23,8 @@ pub struct Script<'a> {
     pub names: &'a [Label],
 }
 
-/// Answers steps on the document of a walker, each by a line in one write. True: a fault line was written.
+/// Answers steps on the document of a walker, each by a line in one write. True: a fault line was written. What the walk
+/// holds at its end is not given back piece by piece: the program ends behind the lines, and the system takes it all at once.
 pub fn write_lines<W: Walker + Drop, S: Sources, K: Sink>(
     alloc: Global,
     s: &mut S,
@@ -46,5 +48,6 @@ pub fn write_lines<W: Walker + Drop, S: Sources, K: Sink>(
         let fault = write_line(alloc, step, &answer, script.names, out)?;
         marked |= fault;
     }
+    mem::forget(session);
     Ok(marked)
 }
