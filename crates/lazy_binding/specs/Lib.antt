@@ -1,6 +1,7 @@
 pub mod Bench
 pub mod Cursors
 pub mod Forms
+pub mod Growth
 pub mod Keeping
 pub mod KeyLaws
 pub mod Keys

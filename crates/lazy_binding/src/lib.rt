@@ -3,6 +3,7 @@
 #![tactic(auto)]
 
 pub mod forms;
+pub mod growth;
 mod key;
 mod labelled;
 mod law;

@@ -50,7 +50,8 @@ use Rattle.lazy_binding.proofs.Stay.{seen_kept, cursors_kept}
 use Rattle.lazy_plan.specs.declared.bench.Bench.{Bench}
 use Rattle.lazy_plan.specs.Bench.{state_of, told_by, IsBenchOf, IsCursor, AsksAtMost}
 use Rattle.lazy_plan.specs.Groups.{stops_at, group_ahead, IsGroup, members_of}
-use Rattle.lazy_plan.specs.Steps.{Asks, CanStep, Finds, IsReached, Ran, telling}
+use Rattle.lazy_binding.specs.Growth.{IsReached}
+use Rattle.lazy_plan.specs.Steps.{Asks, CanStep, Finds, Ran, telling}
 use Rattle.lazy_plan.proofs.FirstSteps.{goes_past}
 use Rattle.lazy_plan.proofs.Goes.{tells_on}
 

@@ -30,7 +30,8 @@ use Rattle.lazy_binding.proofs.Buffers.{bench_stays}
 use Rattle.lazy_binding.proofs.Keep.{told-kept, goes_idle, keeps_then}
 use Rattle.lazy_binding.proofs.Members.{last_is, members_kept}
 use Rattle.lazy_binding.proofs.Stay.{cursors_kept, size_kept}
-use Rattle.lazy_plan.specs.Beside.{OthersStay, memo_in}
+use Rattle.lazy_binding.specs.Growth.{OthersStay}
+use Rattle.lazy_plan.specs.Beside.{memo_in}
 use Rattle.lazy_plan.specs.Steps.{Finds, Ran}
 
 -- THE MEMBERS OF A MEMO

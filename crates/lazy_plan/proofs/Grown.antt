@@ -21,7 +21,8 @@ use Rattle.lazy_binding.specs.Members.{member_label, AreMembers}
 use Rattle.lazy_binding.specs.Parts.{operators, world_of, IsFixed}
 use Rattle.lazy_binding.proofs.Bound.{inputs_at}
 use Rattle.lazy_binding.proofs.FirstLists.{take_front}
-use Rattle.lazy_plan.specs.Beside.{OthersStay, last_at, IsGrown}
+use Rattle.lazy_binding.specs.Growth.{OthersStay}
+use Rattle.lazy_plan.specs.Beside.{last_at, IsGrown}
 use Rattle.lazy_plan.specs.Steps.{telling, Finds, Ran, CanStep}
 use Rattle.lazy_plan.proofs.Goes.{ran_over, le_same}
 use Rattle.lazy_plan.proofs.Growing.{last_in, members_push, members_end, memo_keeps, memo_bench, finds_then, ran_memo}

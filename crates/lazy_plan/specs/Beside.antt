@@ -122,8 +122,3 @@ pub record Grew {S : Type 0} (view : S → View) (came_from : S → S → Type 0
       (ahead (world_of (view s) g) (operators k.walk.fixed.now) k.right (last_at (world_of (view s) g) k.walk.op)) s g s' g'
   pub cause : HasCause (operators k.walk.fixed.now) (view s) (view s') result
   pub answer : IfOk result (IsGrown (world_of (view s) g) (world_of (view s') g') (operators k.walk.fixed.now) k.walk.op k.right)
-
--- of a list of memos those of the other operators are as they were
-pub record OthersStay (old new : List (Kept (Rc Position Global))) (n : ℕ) : Type 0 where
-  pub lists : length new ≡ length old
-  pub others : (j : ℕ) → (j ≡ n → ⊥) → slice_index_or new j no_pairs ≡ slice_index_or old j no_pairs

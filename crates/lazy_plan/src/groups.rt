@@ -1,11 +1,10 @@
 // The groups of a groupBy by keys: where one begins, and the members of one whose members stand side by side.
-ghost use Rattle.std.specs.Prelude.{◌<◌, length};
-ghost use Rattle.lazy_plan.specs.Steps.{IsReached};
 
 use crate::bench::Bench;
 use crate::cursor::Cursor;
 use crate::steps::advance;
 use lazy_binding::forms::{group_keys, input_of};
+use lazy_binding::growth::reach;
 use lazy_binding::{Reached, Walk, seen_up_to, share};
 use lxp_core::{Sources, WalkFault};
 use std::alloc::{AllocError, Global};
@@ -19,14 +18,6 @@ pub struct GroupFrom<'a> {
     pub number: usize,
     pub first: &'a Cursor,
     pub at: &'a Cursor,
-}
-
-/// A group was walked to a binding of its operator's input.
-fn reach(reached: &mut Vec<Option<Reached>>, op: usize, to: Reached)
-    requires { op < length reached.old.items }
-    ensures { IsReached reached.old.items reached.new.items op to }
-{
-    reached[op] = Some(to);
 }
 
 impl Bench {

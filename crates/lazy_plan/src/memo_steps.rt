@@ -1,5 +1,5 @@
 // The members of a join's right side: the next one beside a binding of the left, its pair, and one more of them.
-ghost use Rattle.std.specs.Prelude.{◌≡◌, ◌<◌, ◌++◌, ◌∷◌, [], true, false, IsTrue, Some, IfOk, IfErr, IfSome, OnOk, OnErr, is_some, length, slice_index_or};
+ghost use Rattle.std.specs.Prelude.{◌≡◌, ◌<◌, true, false, IsTrue, IfOk, IfErr, IfSome, is_some, length};
 ghost use Rattle.plan_core.specs.Shapes.{pairs_up};
 ghost use Rattle.lxp_core.specs.View.{View};
 ghost use Rattle.lxp_core.specs.declared.fault.WalkFault.TheVariants.{OutOfMemory};
@@ -10,13 +10,14 @@ ghost use Rattle.lazy_binding.specs.Links.{link_at};
 ghost use Rattle.lazy_binding.specs.Members.{member_label};
 ghost use Rattle.lazy_binding.specs.Parts.{operators, shape_walked, world_of, IsFixed};
 ghost use Rattle.lazy_binding.specs.Reading.{HasStand, Tells};
-ghost use Rattle.lazy_binding.specs.World.{no_pairs, last_of};
-ghost use Rattle.lazy_plan.specs.Beside.{left_of, right_of, memo_in, sought_label, IsPlaceFrom, IsNextPlace, IsPairAt, HasSought, CanPair, PairSteps, Grew, OthersStay};
+ghost use Rattle.lazy_binding.specs.World.{last_of};
+ghost use Rattle.lazy_plan.specs.Beside.{left_of, right_of, memo_in, sought_label, IsPlaceFrom, IsNextPlace, IsPairAt, HasSought, CanPair, PairSteps, Grew};
 
 use crate::pair_steps::Pairs;
 use crate::step::Step;
 use crate::steps::advance;
 use join_memo::Memo;
+use lazy_binding::growth::{end_members, push_member};
 use lazy_binding::{Growing, Position, Walk, put, share};
 use lxp_core::{Sources, WalkFault};
 use mix_tree::Label;
@@ -32,40 +33,6 @@ fn last_member(alloc: Global, memo: &Memo<Rc<Position>>) -> Result<Rc<Position>,
         Some(member) => share(member),
         None => put(alloc, Position::Start),
     }
-}
-
-/// One more member behind those of an operator's memo.
-fn push_member(
-    alloc: Global,
-    memos: &mut Vec<Memo<Rc<Position>>>,
-    op: usize,
-    label: Label,
-    member: Rc<Position>,
-) -> Result<(), WalkFault>
-    requires op { op < length memos.old.items }
-    requires open { (slice_index_or memos.old.items op no_pairs).ended ≡ false }
-    ensures others { OthersStay memos.old.items memos.new.items op }
-    ensures ok { let old = slice_index_or memos.old.items op no_pairs in
-        OnOk result (slice_index_or memos.new.items op no_pairs ≡ record { pairs = old.pairs ++ (label, member) ∷ []; ended = false }) }
-    ensures err { OnErr result (slice_index_or memos.new.items op no_pairs ≡ slice_index_or memos.old.items op no_pairs) }
-    ensures memory { IfErr result (λ e. e ≡ OutOfMemory) }
-{
-    let memo = &mut memos[op];
-    match memo.push(alloc, label, member) {
-        Ok(()) => Ok(()),
-        Err(_) => Err(WalkFault::OutOfMemory),
-    }
-}
-
-/// No more members will come to an operator's memo.
-fn end_members(memos: &mut Vec<Memo<Rc<Position>>>, op: usize)
-    requires { op < length memos.old.items }
-    ensures others { OthersStay memos.old.items memos.new.items op }
-    ensures ended { let old = slice_index_or memos.old.items op no_pairs in
-        slice_index_or memos.new.items op no_pairs ≡ record { pairs = old.pairs; ended = true } }
-{
-    let memo = &mut memos[op];
-    memo.end();
 }
 
 impl Pairs<'_> {

@@ -1,15 +1,15 @@
 // One step over the events of an operator that passes on bindings of its input.
-ghost use Rattle.std.specs.Prelude.{◌≡◌, ◌<◌, ℕ, Option, IfOk, IfErr, IfSome, length};
+ghost use Rattle.std.specs.Prelude.{◌≡◌, ℕ, Option};
 ghost use Rattle.plan_core.specs.declared.plan.Piece.{Piece};
 ghost use Rattle.plan_core.specs.Shapes.{filters, extends, first_by_keys, passes_on, Made};
 ghost use Rattle.lazy_binding.specs.Parts.{shape_walked};
-ghost use Rattle.lazy_plan.specs.Steps.{CanWalk, Resumes, StepsOn};
-ghost use Rattle.lxp_core.specs.declared.fault.WalkFault.TheVariants.{OutOfMemory};
+ghost use Rattle.lazy_plan.specs.Steps.{CanWalk, StepsOn};
 
 use crate::firsts::{KeyEvent, first_of_key};
 use crate::step::Step;
 use crate::steps::advance;
-use lazy_binding::{Growing, Position, Walk, inside, seen_up_to, share};
+use lazy_binding::growth::resume;
+use lazy_binding::{Growing, Position, Walk, inside, seen_up_to};
 use lxp_core::{Sources, WalkFault};
 use mix_tree::{Key, Test};
 use std::alloc::Global;
@@ -131,24 +131,6 @@ impl<'a> Firsts<'a> {
         }
     }
 
-    /// Where the group at a position was walked, the last member that was found.
-    fn resume(&self, growing: &Growing, at: &Position) -> Result<Option<Position>, WalkFault>
-        requires op { self.now.walk.op < length growing.now.reached.items }
-        ensures err { IfErr result (λ e. e ≡ OutOfMemory) }
-        ensures later { IfOk result (λ r. IfSome r (Resumes growing.now.reached.items self.now.walk.op at.now)) }
-    {
-        let Position::First(_, seen) = at else {
-            return Ok(None);
-        };
-        match &growing.reached[self.walk.op] {
-            Some(reached) if reached.seen == *seen => {
-                let below = share(&reached.below)?;
-                Ok(Some(Position::Seen(below, *seen)))
-            }
-            _ => Ok(None),
-        }
-    }
-
     /// The input's next binding, a binding where its keys were not seen up to here. The members of a group that was walked aren't gone through again.
     #[cycle(walk)]
     pub(crate) fn step<S: Sources>(
@@ -162,7 +144,7 @@ impl<'a> Firsts<'a> {
         requires is { (group : Option (Piece × ℕ)) × (shape_walked self.now.walk ≡ passes_on self.now.input (first_by_keys self.now.keys.now group)) }
         ensures { StepsOn S.view S.came_from self.now.walk at.now s.old growing.old s.new growing.new result }
     {
-        match self.resume(growing, at)? {
+        match resume(growing, self.walk.op, at)? {
             Some(later) => Ok(Step::On(later)),
             None => self.next_key(alloc, growing, s, at),
         }

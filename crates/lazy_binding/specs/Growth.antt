@@ -1,0 +1,30 @@
+-- What is remembered while a plan is walked, before and after a call.
+use Rattle.std.specs.Prelude.{◌≡◌, ◌+◌, ℕ, false, Option, Some, None, List, length, take, slice_index_or}
+use Rattle.std.specs.declared.alloc.Global.{Global}
+use Rattle.std.specs.declared.rc.Rc.{Rc}
+use Rattle.join_memo.specs.Kept.{Kept}
+use Rattle.lazy_binding.specs.declared.key.KeyPart.{KeyPart}
+use Rattle.lazy_binding.specs.declared.position.Position.{Position, First', Seen'}
+use Rattle.lazy_binding.specs.declared.position.Reached.{Reached}
+use Rattle.lazy_binding.specs.Keys.{was_seen}
+use Rattle.lazy_binding.specs.World.{no_pairs}
+
+-- of a list of memos those of the other operators are as they were
+pub record OthersStay (old new : List (Kept (Rc Position Global))) (n : ℕ) : Type 0 where
+  pub lists : length new ≡ length old
+  pub others : (j : ℕ) → (j ≡ n → ⊥) → slice_index_or new j no_pairs ≡ slice_index_or old j no_pairs
+
+-- where one key more is seen, that key stands behind all others, and was not seen so far
+abbrev pub IsPushed : List (List KeyPart) → List (List KeyPart) → List KeyPart → ℕ → Type 0
+IsPushed old new key k = length new ≡ length old + 1 → (k ≡ length old) × (was_seen key (take k old) ≡ false)
+
+-- a group of operator n was walked to this binding, and those of the others as far as before
+pub record IsReached (old new : List (Option Reached)) (n : ℕ) (to : Reached) : Type 0 where
+  pub lists : length new ≡ length old
+  pub others : (j : ℕ) → (j ≡ n → ⊥) → slice_index_or new j None ≡ slice_index_or old j None
+  pub here : slice_index_or new n None ≡ Some to
+
+-- where the group at a position of operator n was walked, a later position is the binding that it was walked to
+abbrev pub Resumes : List (Option Reached) → ℕ → Position → Position → Type 0
+Resumes reached n c later = (r : Reached) × (q : _) × (x : Position) × (u : _)
+    × (slice_index_or reached n None ≡ Some r) × (c ≡ First' q x r.seen) × (later ≡ Seen' u r.below.value r.seen)

@@ -1,0 +1,91 @@
+// What is remembered while a plan is walked: members of a join's right side, keys that were seen, and how far a group was walked.
+ghost use Rattle.std.specs.Prelude.{◌≡◌, ◌<◌, ◌≤◌, ◌⊎◌, ◌++◌, ◌∷◌, [], true, false, not, IfOk, IfErr, IfSome, OnOk, OnErr, length, slice_index_or, take};
+ghost use Rattle.lxp_core.specs.declared.fault.WalkFault.TheVariants.{OutOfMemory};
+ghost use Rattle.lazy_binding.specs.Growth.{OthersStay, IsPushed, IsReached, Resumes};
+ghost use Rattle.lazy_binding.specs.Keys.{was_seen};
+ghost use Rattle.lazy_binding.specs.World.{no_pairs};
+
+use crate::key::{KeyTuple, SeenKeys};
+use crate::parts::Growing;
+use crate::position::{Position, Reached, share};
+use join_memo::Memo;
+use lxp_core::WalkFault;
+use mix_tree::Label;
+use std::alloc::Global;
+use std::rc::Rc;
+
+/// One more member behind those of an operator's memo.
+pub fn push_member(
+    alloc: Global,
+    memos: &mut Vec<Memo<Rc<Position>>>,
+    op: usize,
+    label: Label,
+    member: Rc<Position>,
+) -> Result<(), WalkFault>
+    requires op { op < length memos.old.items }
+    requires open { (slice_index_or memos.old.items op no_pairs).ended ≡ false }
+    ensures others { OthersStay memos.old.items memos.new.items op }
+    ensures ok { let old = slice_index_or memos.old.items op no_pairs in
+        OnOk result (slice_index_or memos.new.items op no_pairs ≡ record { pairs = old.pairs ++ (label, member) ∷ []; ended = false }) }
+    ensures err { OnErr result (slice_index_or memos.new.items op no_pairs ≡ slice_index_or memos.old.items op no_pairs) }
+    ensures memory { IfErr result (λ e. e ≡ OutOfMemory) }
+{
+    let memo = &mut memos[op];
+    match memo.push(alloc, label, member) {
+        Ok(()) => Ok(()),
+        Err(_) => Err(WalkFault::OutOfMemory),
+    }
+}
+
+/// No more members will come to an operator's memo.
+pub fn end_members(memos: &mut Vec<Memo<Rc<Position>>>, op: usize)
+    requires { op < length memos.old.items }
+    ensures others { OthersStay memos.old.items memos.new.items op }
+    ensures ended { let old = slice_index_or memos.old.items op no_pairs in
+        slice_index_or memos.new.items op no_pairs ≡ record { pairs = old.pairs; ended = true } }
+{
+    let memo = &mut memos[op];
+    memo.end();
+}
+
+/// Whether a key is new behind the first few; where it is the newest of all, it stands behind them then.
+pub fn is_first(list: &mut SeenKeys, key: KeyTuple, count: usize) -> Result<bool, WalkFault>
+    requires { count ≤ length list.old }
+    ensures err { IfErr result (λ e. e ≡ OutOfMemory) }
+    ensures first { IfOk result (λ first. not (was_seen key.items (take count list.old)) ≡ first) }
+    ensures within { IfOk result (λ first. first ≡ true → count < length list.new) }
+    ensures seen { IfOk result (λ first. first ≡ false → list.new ≡ list.old) }
+    ensures grows { (list.new ≡ list.old) ⊎ (list.new ≡ list.old ++ key.items ∷ []) }
+    ensures pushed { IsPushed list.old list.new key.items count }
+{
+    if count < list.len() {
+        return Ok(!list.begins_with(count, &key));
+    }
+    list.push(key)
+}
+
+/// A group was walked to a binding of its operator's input.
+pub fn reach(reached: &mut Vec<Option<Reached>>, op: usize, to: Reached)
+    requires { op < length reached.old.items }
+    ensures { IsReached reached.old.items reached.new.items op to }
+{
+    reached[op] = Some(to);
+}
+
+/// Where the group at a position was walked, the last member that was found.
+pub fn resume(growing: &Growing, op: usize, at: &Position) -> Result<Option<Position>, WalkFault>
+    requires op { op < length growing.now.reached.items }
+    ensures err { IfErr result (λ e. e ≡ OutOfMemory) }
+    ensures later { IfOk result (λ r. IfSome r (Resumes growing.now.reached.items op at.now)) }
+{
+    let Position::First(_, seen) = at else {
+        return Ok(None);
+    };
+    match &growing.reached[op] {
+        Some(reached) if reached.seen == *seen => {
+            let below = share(&reached.below)?;
+            Ok(Some(Position::Seen(below, *seen)))
+        }
+        _ => Ok(None),
+    }
+}
