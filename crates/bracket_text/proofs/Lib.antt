@@ -1,3 +1,4 @@
+pub mod AsciiTexts
 pub mod Complete
 pub mod Fronts
 pub mod Held

@@ -8,6 +8,7 @@ ghost use Rattle.bracket_text.specs.ReaderState.{GivesDocument};
 ghost use Rattle.bracket_text.specs.Results.{Answers, AnswersDocument, IsDocumentOf, IsTree};
 
 use crate::BracketFault;
+use crate::ascii::is_ascii_text;
 use crate::reader::Reader;
 use document_store::Store;
 use mix_tree::Tree;
@@ -36,6 +37,9 @@ pub fn read_document(alloc: Global, text: &[u8]) -> Result<Store, BracketFault>
     // What is spelled is read, unless memory runs out.
     ensures only { (t : LabelledTree) → IsUtf8 text.now → SpellsShallow text.now t → IsDocumentOf result t }
 {
+    if is_ascii_text(text) {
+        return read(alloc, text);
+    }
     match str::from_utf8(text) {
         Ok(_) => read(alloc, text),
         Err(error) => Err(BracketFault::NotUtf8(error.valid_up_to())),

@@ -7,6 +7,7 @@ pub mod Keep
 pub mod KeyParts
 pub mod Labels
 pub mod Lasts
+pub mod MemberItems
 pub mod Members
 pub mod RightSides
 pub mod SameKeys

@@ -28,3 +28,7 @@ pub record IsReached (old new : List (Option Reached)) (n : ℕ) (to : Reached) 
 abbrev pub Resumes : List (Option Reached) → ℕ → Position → Position → Type 0
 Resumes reached n c later = (r : Reached) × (q : _) × (x : Position) × (u : _)
     × (slice_index_or reached n None ≡ Some r) × (c ≡ First' q x r.seen) × (later ≡ Seen' u r.below.value r.seen)
+
+-- nothing is known of how far the group at a position of operator n was walked
+abbrev pub IsUnknown : List (Option Reached) → ℕ → Position → Type 0
+IsUnknown reached n c = (r : Reached) (q : _) (x : Position) → slice_index_or reached n None ≡ Some r → c ≡ First' q x r.seen → ⊥

@@ -1,13 +1,14 @@
 // What is remembered while a plan is walked: members of a join's right side, keys that were seen, and how far a group was walked.
-ghost use Rattle.std.specs.Prelude.{◌≡◌, ◌<◌, ◌≤◌, ◌⊎◌, ◌++◌, ◌∷◌, [], true, false, not, IfOk, IfErr, IfSome, OnOk, OnErr, length, slice_index_or, take};
+ghost use Rattle.std.specs.Prelude.{◌≡◌, ◌<◌, ◌≤◌, ◌⊎◌, ◌++◌, ◌∷◌, [], true, false, not, IfOk, IfErr, MatchOption, OnOk, OnErr, length, slice_index_or, take};
 ghost use Rattle.lxp_core.specs.declared.fault.WalkFault.TheVariants.{OutOfMemory};
-ghost use Rattle.lazy_binding.specs.Growth.{OthersStay, IsPushed, IsReached, Resumes};
+ghost use Rattle.lazy_binding.specs.Growth.{OthersStay, IsPushed, IsReached, IsUnknown, Resumes};
 ghost use Rattle.lazy_binding.specs.Keys.{was_seen};
-ghost use Rattle.lazy_binding.specs.World.{no_pairs};
+ghost use Rattle.lazy_binding.specs.World.{last_of, no_pairs};
+ghost use Rattle.lazy_binding.specs.declared.position.Position.{Start};
 
 use crate::key::{KeyTuple, SeenKeys};
 use crate::parts::Growing;
-use crate::position::{Position, Reached, share};
+use crate::position::{Position, Reached, put, share};
 use join_memo::Memo;
 use lxp_core::WalkFault;
 use mix_tree::Label;
@@ -34,6 +35,17 @@ pub fn push_member(
     match memo.push(alloc, label, member) {
         Ok(()) => Ok(()),
         Err(_) => Err(WalkFault::OutOfMemory),
+    }
+}
+
+/// The last of a memo's members, or the position before all events.
+pub fn last_member(alloc: Global, memo: &Memo<Rc<Position>>) -> Result<Rc<Position>, WalkFault>
+    ensures ok { IfOk result (λ r. r.value ≡ last_of Start memo.now.pairs) }
+    ensures err { IfErr result (λ e. e ≡ OutOfMemory) }
+{
+    match memo.get(memo.len().saturating_sub(1)) {
+        Some(member) => share(member),
+        None => put(alloc, Position::Start),
     }
 }
 
@@ -72,11 +84,12 @@ pub fn reach(reached: &mut Vec<Option<Reached>>, op: usize, to: Reached)
     reached[op] = Some(to);
 }
 
-/// Where the group at a position was walked, the last member that was found.
+/// Where the group at a position was walked, the last member that was found; `None` exactly where it isn't known.
 pub fn resume(growing: &Growing, op: usize, at: &Position) -> Result<Option<Position>, WalkFault>
     requires op { op < length growing.now.reached.items }
     ensures err { IfErr result (λ e. e ≡ OutOfMemory) }
-    ensures later { IfOk result (λ r. IfSome r (Resumes growing.now.reached.items op at.now)) }
+    ensures later { let reached = growing.now.reached.items in
+        IfOk result (λ r. MatchOption r (IsUnknown reached op at.now) (Resumes reached op at.now)) }
 {
     let Position::First(_, seen) = at else {
         return Ok(None);

@@ -66,10 +66,8 @@ impl Hash for KeyPart {
 
     fn hash<H: Hasher>(&self, state: &mut H) {
         match self {
-            KeyPart::Node(source, spot) => {
-                source.hash(state);
-                spot.hash(state);
-            }
+            // The nodes of one key are mostly of one source.
+            KeyPart::Node(_, spot) => spot.hash(state),
             KeyPart::Label(label) => label.hash(state),
             KeyPart::Free => {}
         }

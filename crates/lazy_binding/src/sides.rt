@@ -57,7 +57,8 @@ fn right_vars(alloc: Global, ops: &[Op], n: usize) -> Result<Vec<Var>, AllocErro
     }
 }
 
-/// The same of each operator.
+/// Of each operator the variables of nodes that its right side binds and its left one doesn't, so that the left one isn't searched for them. Only a join
+/// has some.
 pub fn rights(alloc: Global, ops: &[Op]) -> Result<Vec<Vec<Var>>, AllocError>
     requires { IsTyped (map op_of ops.now) }
     ensures length { IfOk result (λ rights. length rights.items ≡ length ops.now) }

@@ -1,5 +1,5 @@
 -- The members of a join's right side come one by one, and each stands at the next binding.
-use Rattle.std.proofs.Common.{◌≡◌, ◌⊎◌, inl, inr, ◌<◌, ◌≤◌, ◌+◌, ◌-◌, ℕ, zero, suc, true, false, List, [], ◌∷◌, ◌++◌, Option, Some, None, length, take, get_or, slice_get, option_map, refl, ◌∙◌, sym, ap, subst, arith}
+use Rattle.std.proofs.Common.{◌≡◌, ◌⊎◌, inl, inr, ◌<◌, ◌≤◌, ◌+◌, ℕ, zero, suc, true, false, List, [], ◌∷◌, ◌++◌, Option, length, take, get_or, refl, ◌∙◌, sym, ap, subst, arith}
 use Rattle.std.specs.Prelude.{IsTrue, slice_index_or}
 use Rattle.std.specs.declared.alloc.Global.{Global}
 use Rattle.std.specs.declared.rc.Rc.{Rc}
@@ -7,7 +7,6 @@ use Rattle.std.specs.declared.vec.Vec.{Vec}
 use Rattle.std.proofs.lemmas.Bool.{cases_eq}
 use Rattle.std.proofs.lemmas.List.{get_or_default}
 use Rattle.join_memo.specs.Kept.{Kept, labels_of}
-use Rattle.mix_base.proofs.Choices.{some_is}
 use Rattle.mix_base.specs.Events.{nothing, finds, found}
 use Rattle.mix_tree.specs.declared.comparing.Test.{Test}
 use Rattle.lxp_core.specs.View.{View}
@@ -28,6 +27,7 @@ use Rattle.lazy_binding.specs.Members.{member_label, IsMember, AreNext, AreMembe
 use Rattle.lazy_binding.specs.Parts.{world_of}
 use Rattle.lazy_binding.proofs.Buffers.{bench_stays}
 use Rattle.lazy_binding.proofs.Keep.{told-kept, goes_idle, keeps_then}
+use Rattle.lazy_binding.proofs.MemberItems.{none_passed}
 use Rattle.lazy_binding.proofs.Members.{last_is, members_kept}
 use Rattle.lazy_binding.proofs.Stay.{cursors_kept, size_kept}
 use Rattle.lazy_binding.specs.Growth.{OthersStay}
@@ -35,11 +35,6 @@ use Rattle.lazy_plan.specs.Beside.{memo_in}
 use Rattle.lazy_plan.specs.Steps.{Finds, Ran}
 
 -- THE MEMBERS OF A MEMO
-
--- none of the members were passed
-none_passed : (at : Position) (ms : List Member) → last_of at (take zero ms) ≡ at
-none_passed at [] = refl
-none_passed at (m ∷ ms) = refl
 
 module _ (w : World) (ops : List Operator) (i : ℕ) (by : Option Link) where
   -- the last of them is far enough from the end
@@ -64,13 +59,6 @@ module _ (w : World) (ops : List Operator) (i : ℕ) (by : Option Link) where
       let e : suc n + p ≡ n + suc p = omega arith in
       subst (λ (z : ℕ). IsMember w ops i by (last_of m.1.value (take p ms)) z (get_or (labels_of ms) p []) (last_of m.1.value (take (suc p) ms))) e
       (member_in m.1.value (suc n) ms p h.1 (omega (arith, l)))
-
--- all of the members
-pub take_all : (at : Position) (ms : List Member) (n : ℕ) → n ≡ length ms → last_of at (take n ms) ≡ last_of at ms
-take_all at [] zero e = refl
-take_all at [] (suc n) e = refl
-take_all at (m ∷ ms) zero e = absurd (omega (arith, e))
-take_all at (m ∷ ms) (suc n) e = take_all m.1.value ms n (omega (arith, e))
 
 -- none of them
 pub take_none : (ms : List Member) → passed ms 0 ≡ Start
@@ -129,31 +117,6 @@ module _ {a b : World} (k : Keeps a b) (ops : List Operator) (bench : IsBench a 
 -- no members
 pub no_members : (w : World) (ops : List Operator) (i : ℕ) (by : Option Link) → AreMembers w ops i by no_pairs
 no_members w ops i by = record { next = tt; all = λ e t. cc }
-
--- the item that a memo gives at a place
-pub item_is : (ms : List Member) (p : ℕ) (q : Rc Position Global) → Some q ≡ option_map (λ (m : Member). m.1) (slice_get ms p) → passed ms (suc p) ≡ q.value
-item_is ms p q h = at Start ms p h
-  where
-    at : (at : Position) (ms : List Member) (p : ℕ) → Some q ≡ option_map (λ (m : Member). m.1) (slice_get ms p) → last_of at (take (suc p) ms) ≡ q.value
-    at x [] p h = cc
-    at x (m ∷ ms) zero h = none_passed m.1.value ms ∙ ap (λ (z : Rc Position Global). z.value) (sym (some_is q m.1 h))
-    at x (m ∷ ms) (suc p) h = at m.1.value ms p h
-
--- it gives one at each place of a member
-pub item_there : (ms : List Member) (p : ℕ) → p < length ms → None ≡ option_map (λ (m : Member). m.1) (slice_get ms p) → ⊥
-item_there [] p l h = omega (arith, l)
-item_there (m ∷ ms) zero l h = cc
-item_there (m ∷ ms) (suc p) l h = item_there ms p (omega (arith, l)) h
-
--- the one at the last place is the last
-pub item_last : (ms : List Member) (p : ℕ) (q : Rc Position Global) → p ≡ length ms - 1 → Some q ≡ option_map (λ (m : Member). m.1) (slice_get ms p) → q.value ≡ last_of Start ms
-item_last [] p q e h = cc
-item_last (m ∷ ms) p q e h = sym (item_is (m ∷ ms) p q h) ∙ take_all Start (m ∷ ms) (suc p) (omega (arith, e))
-
--- where there is none, there are no members
-pub item_none : (ms : List Member) (p : ℕ) → p ≡ length ms - 1 → None ≡ option_map (λ (m : Member). m.1) (slice_get ms p) → last_of Start ms ≡ Start
-item_none [] p e h = refl
-item_none (m ∷ ms) p e h = absurd (item_there (m ∷ ms) p (omega (arith, e)) h)
 
 -- THE MEMOS OF A BENCH
 

@@ -23,19 +23,20 @@ use Rattle.lazy_binding.specs.declared.parts.Growing.{Growing}
 use Rattle.lazy_binding.specs.declared.parts.Fixed.{Fixed}
 use Rattle.lazy_binding.specs.declared.position.Position.{Position, Start, Pair'}
 use Rattle.lazy_binding.specs.Bench.{IsBench}
-use Rattle.lazy_binding.specs.World.{World, docs_of, is_told, Member, memo_at, passed}
+use Rattle.lazy_binding.specs.World.{World, docs_of, is_told, Member, memo_at, passed, last_of}
 use Rattle.lazy_binding.specs.Cursors.{binding, ahead, stands, weighs, IsIn, IsOf, has_row}
 use Rattle.lazy_binding.specs.Links.{shape_link, first_link, link_at}
 use Rattle.lazy_binding.specs.Members.{member_label, AreMembers}
 use Rattle.lazy_binding.specs.Parts.{operators, world_of}
 use Rattle.lazy_binding.proofs.Bound.{inputs_at, fit_at}
+use Rattle.lazy_binding.proofs.FirstLists.{take_all}
 use Rattle.lazy_binding.proofs.Keep.{keeps_same}
 use Rattle.lazy_binding.proofs.Spots.{lacks}
 use Rattle.lazy_plan.specs.Beside.{sought_label, HasSought, NoneBetween, IsPairAt, lets, IsMemberStep, beside_events, beside_number, last_at, IsGrown}
 use Rattle.lazy_plan.specs.declared.step.Step.{Step}
 use Rattle.lazy_plan.specs.Steps.{Asks, Steps, CanStep, left_events, left_number}
 use Rattle.lazy_plan.proofs.Goes.{Goes, goes_result, asks_nothing, tells_on, in_place}
-use Rattle.lazy_plan.proofs.Growing.{take_all, take_more, member_at, members_few}
+use Rattle.lazy_plan.proofs.Growing.{take_more, member_at, members_few}
 use Rattle.lazy_plan.proofs.Holding.{holds}
 use Rattle.lazy_plan.proofs.Linked.{link_fits, tests_fail, test_holds}
 use Rattle.lazy_plan.proofs.PairSteps.{right_over, member_steps}
@@ -161,7 +162,7 @@ module _ (ops : List Operator) (n l r : ℕ) (tests : List Test) (typed : IsType
       → Goes w w ops n (beside_events w ops l r tests x (passed ms k)) (beside_events w ops l r tests x (last_at w n)) (beside_number w ops l r x k) (beside_number w ops l r x (length ms))
   pass_all k le other =
       subst (λ (z : Position). Goes w w ops n (beside_events w ops l r tests x (passed ms k)) (beside_events w ops l r tests x z) (beside_number w ops l r x k) (beside_number w ops l r x (length ms)))
-      (take_all Start ms (length ms) refl) (pass_known k (length ms) le (omega arith) other)
+      (ap (last_of Start) (take_all ms (length ms) refl)) (pass_known k (length ms) le (omega arith) other)
 
   -- where the memo has ended, the left side goes on
   pub ended_goes : (memo_at w n).ended ≡ true

@@ -3,37 +3,23 @@ ghost use Rattle.std.specs.Prelude.{◌≡◌, ◌<◌, true, false, IsTrue, IfO
 ghost use Rattle.plan_core.specs.Shapes.{pairs_up};
 ghost use Rattle.lxp_core.specs.View.{View};
 ghost use Rattle.lxp_core.specs.declared.fault.WalkFault.TheVariants.{OutOfMemory};
-ghost use Rattle.lazy_binding.specs.declared.position.Position.{Start};
 ghost use Rattle.lazy_binding.specs.Bench.{IsBench};
 ghost use Rattle.lazy_binding.specs.Cursors.{has_row};
 ghost use Rattle.lazy_binding.specs.Links.{link_at};
 ghost use Rattle.lazy_binding.specs.Members.{member_label};
 ghost use Rattle.lazy_binding.specs.Parts.{operators, shape_walked, world_of, IsFixed};
 ghost use Rattle.lazy_binding.specs.Reading.{HasStand, Tells};
-ghost use Rattle.lazy_binding.specs.World.{last_of};
 ghost use Rattle.lazy_plan.specs.Beside.{left_of, right_of, memo_in, sought_label, IsPlaceFrom, IsNextPlace, IsPairAt, HasSought, CanPair, PairSteps, Grew};
 
 use crate::pair_steps::Pairs;
 use crate::step::Step;
 use crate::steps::advance;
-use join_memo::Memo;
-use lazy_binding::growth::{end_members, push_member};
-use lazy_binding::{Growing, Position, Walk, put, share};
+use lazy_binding::growth::{end_members, last_member, push_member};
+use lazy_binding::{Growing, Position, Walk, share};
 use lxp_core::{Sources, WalkFault};
 use mix_tree::Label;
 use std::alloc::{AllocError, Global};
 use std::rc::Rc;
-
-/// The last member, or the position before all events.
-fn last_member(alloc: Global, memo: &Memo<Rc<Position>>) -> Result<Rc<Position>, WalkFault>
-    ensures ok { IfOk result (λ r. r.value ≡ last_of Start memo.now.pairs) }
-    ensures err { IfErr result (λ e. e ≡ OutOfMemory) }
-{
-    match memo.get(memo.len().saturating_sub(1)) {
-        Some(member) => share(member),
-        None => put(alloc, Position::Start),
-    }
-}
 
 impl Pairs<'_> {
     /// The place of the next member beside a binding of the left side, at or behind one: the next of the label that is looked up, or whichever

@@ -18,10 +18,10 @@ use Rattle.plan_core.specs.Typed.{IsTyped}
 use Rattle.plan_core.specs.Valid.{Kind, a_node, an_element, a_list, Kinds, kinds, kept, op_kinds, either_kind, inputs_of}
 use Rattle.plan_core.proofs.Groups.{group_kinds}
 use Rattle.plan_core.specs.Tolled.{ends}
-use Rattle.plan_core.specs.TolledRows.{TolledRow, of_source, element, trees, tolled_value, row_node, piece_items, all_items, collected}
+use Rattle.plan_core.specs.TolledRows.{TolledRow, element, trees, tolled_value, piece_items, all_items, collected}
 use Rattle.plan_core.specs.Events.{RowEvents, group_row, group_behind}
 use Rattle.plan_core.specs.Fronts.{op_stops, stops_over}
-use Rattle.lazy_plan.specs.Bench.{BenchState, ops_of, documents, events_of, size_of, IsCursor, binding_at, ahead_at, IsSpotAt, IsSpotOf, node_at, IsUnder, IsMadeOf}
+use Rattle.lazy_plan.specs.Bench.{BenchState, ops_of, documents, events_of, size_of, IsCursor, binding_at, ahead_at, IsSpotOf, IsUnder, IsMadeOf}
 use Rattle.lazy_plan.specs.Groups.{IsGroup}
 use Rattle.lazy_binding.specs.declared.position.Position.{Position}
 use Rattle.lazy_plan.proofs.Benches.{all_groups}
@@ -116,11 +116,10 @@ groups_form i (k ∷ keys) piece out h = refl
 
 module _ (st : BenchState) (typed : IsTyped (ops_of st)) (n : ℕ) (within : n < length (ops_of st)) (c : Position) (v : ℕ) where
   -- a node of a source
-  pub node_made : (s : ℕ) (x : Spot) → kinds (ops_of st) n v ≡ Some a_node → s ≡ (row_node (binding_at st n c) v).source → IsSpotOf st n c v (row_node (binding_at st n c) v).source x
-      → IsOriginOf st n c v (Node s x)
-  node_made s x k e h = record {
-    origin = subst (λ (r : ℕ). IsSpotAt st r x) (sym e) h.spot;
-    value = h.value ∙ ap (λ (r : ℕ). of_source (node_at st r x)) (sym e);
+  pub node_made : (s : ℕ) (x : Spot) → kinds (ops_of st) n v ≡ Some a_node → IsSpotOf st n c v s x → IsOriginOf st n c v (Node s x)
+  node_made s x k h = record {
+    origin = h.spot;
+    value = h.value;
     kind = k;
     size = omega arith;
     extent = node_extent (ops_of st) typed (size_of st) n v within k;

@@ -33,7 +33,8 @@ fn label_in<'a>(bench: &'a Bench, op: u32, c: &Cursor, v: Var) -> &'a Label
     ensures { InEach bench.now (λ st. let node = row_node (binding_at st op c.now) v in
         IsCursor st op c.now → IsTrue (told st) → result.now ≡ label_at (documents st) node) }
 {
-    bench.label(bench.source_of(op, v), &bench.spot(op, c, v))
+    let (source, spot) = bench.node(op, c, v);
+    bench.label(source, &spot)
 }
 
 /// Whether the bindings at two cursors are the same by a key.

@@ -1,11 +1,7 @@
 -- Lines as they are read: prefixes of clients, labels behind words, and texts that are UTF-8.
-use Rattle.std.proofs.Common.{◌≡◌, ◌≢◌, ◌<◌, ◌≤◌, ◌-◌, ◌∙◌, ℕ, zero, suc, Bool, true, false, cond, ◌==◌, List, [], ◌∷◌, Some, None, option_map, option_and_then, refl, sym, ap, arith, length, take, drop, get_or, IsUtf8}
-use Rattle.std.specs.Char.{is_ascii}
-use Rattle.std.specs.List.{list_all}
-use Rattle.std.specs.Str.{is_utf8, IsAscii}
-use Rattle.std.proofs.lemmas.Bool.Decides.{nat_tests}
+use Rattle.std.proofs.Common.{◌≡◌, ◌≢◌, ◌<◌, ◌≤◌, ◌-◌, ◌∙◌, ℕ, suc, Bool, true, false, cond, ◌==◌, List, [], ◌∷◌, Some, None, option_map, option_and_then, refl, sym, ap, arith, length, take, drop, get_or, IsUtf8}
+use Rattle.std.specs.Str.{is_utf8}
 use Rattle.std.proofs.lemmas.Str.{IsUtf8-from_is_utf8, is_utf8-from_IsUtf8}
-use Rattle.mix_base.proofs.Choices.{and_parts}
 use Rattle.mix_tree.specs.LabelMachine.{Seen, got}
 use Rattle.mix_tree.specs.LabelReads.{seen_of}
 use Rattle.mix_tree.specs.declared.label_read.LabelRead.{LabelRead}
@@ -74,12 +70,3 @@ no_utf8 line h = by_case (is_utf8 line) refl
 -- one that is has the step of its words
 pub utf8_line : (line : List ℕ) → IsUtf8 line → step_in line ≡ utf8_step line
 utf8_line line h = sym (ap (λ b. cond b (step_in line) None) (is_utf8-from_IsUtf8 line h))
-
--- a line whose bytes are all tested is ASCII
-pub all_ascii : (line : List ℕ) → list_all is_ascii line ≡ true → IsAscii line
-all_ascii [] h i = omega arith
-all_ascii (b ∷ bs) h zero = ascii_below b (and_parts (is_ascii b) (list_all is_ascii bs) h).0
-  where
-    ascii_below : (b : ℕ) → is_ascii b ≡ true → b < 128
-    ascii_below b h = grind (arith, nat_tests)
-all_ascii (b ∷ bs) h (suc i) = all_ascii bs (and_parts (is_ascii b) (list_all is_ascii bs) h).1 i

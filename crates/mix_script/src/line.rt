@@ -1,7 +1,5 @@
 // The step of a line.
-ghost use Rattle.std.specs.Prelude.{◌≡◌, ◌<◌, ℕ, List, false, IfOk, IfSome, IsTrue, IsUtf8, MatchBool, length, option_map, take, true};
-ghost use Rattle.std.specs.Char.{is_ascii};
-ghost use Rattle.std.specs.List.{list_all};
+ghost use Rattle.std.specs.Prelude.{◌≡◌, ◌<◌, ℕ, List, false, IfOk, IfSome, IsTrue, IsUtf8, length, option_map, take, true};
 ghost use Rattle.mix_words.specs.Words.{is_name, words_of};
 ghost use Rattle.mix_words.specs.Places.{blank_behind};
 ghost use Rattle.mix_script.specs.LineWords.{AreWords, NoClientFirst};
@@ -10,11 +8,11 @@ ghost use Rattle.mix_script.specs.Lines.{before_colon, client_named, client_of, 
 use crate::forms::{read_act, read_select};
 use crate::words::{LineWords, first_word, is_wordless, line_words};
 use crate::{Act, Step};
+use bracket_text::is_utf8_text;
 use mix_tree::{Label, LabelRead, read_label};
 use mix_words::places::word_place;
 use mix_words::words::is_script_name;
 use std::alloc::{AllocError, Global};
-use std::str;
 
 // How many words stand in front of the label of a `select`.
 const BEFORE_LABEL: usize = 4;
@@ -142,25 +140,11 @@ fn read_utf8(alloc: Global, line: &[u8]) -> Result<Option<Step>, AllocError>
     read_step(alloc, b"", line, words)
 }
 
-// Whether all bytes of a line are ASCII.
-fn is_ascii_line(line: &[u8]) -> bool
-    ensures { result ≡ list_all is_ascii line.now }
-{
-    line.iter().all(|byte| byte.is_ascii())
-}
-
-// Whether a line is UTF-8. Most lines are ASCII.
-fn is_utf8_line(line: &[u8]) -> bool
-    ensures { MatchBool result (IsUtf8 line.now) (¬ IsUtf8 line.now) }
-{
-    is_ascii_line(line) || str::from_utf8(line).is_ok()
-}
-
 /// The step of a line that is not passed over; `None` where it is not UTF-8 or fits no form (docs/FORMATS.md, "Scripts").
 pub fn line_step(alloc: Global, line: &[u8]) -> Result<Option<Step>, AllocError>
     ensures { IfOk result (λ step. step ≡ utf8_step line.now) }
 {
-    if !is_utf8_line(line) {
+    if !is_utf8_text(line) {
         return Ok(None);
     }
     read_utf8(alloc, line)

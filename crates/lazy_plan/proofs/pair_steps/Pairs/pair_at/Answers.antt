@@ -6,7 +6,8 @@ use Rattle.lazy_binding.specs.declared.position.Position.{Position}
 use Rattle.lazy_binding.specs.Parts.{operators}
 use Rattle.lazy_binding.specs.World.{passed}
 use Rattle.lazy_plan.specs.Beside.{memo_in}
-use Rattle.lazy_plan.proofs.Growing.{memo_read, item_is, item_there}
+use Rattle.lazy_binding.proofs.MemberItems.{item_is, item_there}
+use Rattle.lazy_plan.proofs.Growing.{memo_read}
 use Rattle.lazy_plan.proofs.Passing.{pair_made}
 use Rattle.lazy_plan.proofs.pair_steps.Pairs.pair_at.Goals as goal
 

@@ -1,6 +1,6 @@
 use Rattle.std.proofs.Common.{arith}
-use Rattle.lazy_plan.proofs.Growing.{item_last, item_none}
-use Rattle.lazy_plan.proofs.memo_steps.last_member.Goals as goal
+use Rattle.lazy_binding.proofs.MemberItems.{item_last, item_none}
+use Rattle.lazy_binding.proofs.growth.last_member.Goals as goal
 
 pub returns-in-Some-clause-ok : goal.returns-in-Some-clause-ok
 returns-in-Some-clause-ok c =
