@@ -7,7 +7,7 @@ ghost use Rattle.mix_lines.specs.Cuts.{WroteLine, IsStepCut};
 
 use crate::LinesFault;
 use mix_io::Sink;
-use mix_script::{Answer, Step, write_answer};
+use mix_script::{Answer, Step, usual_line, write_answer};
 use mix_tree::Label;
 use std::alloc::Global;
 
@@ -35,6 +35,10 @@ pub fn write_line<K: Sink>(
     ensures cut { IfErr result (IsStepCut (λ a. a ≡ answer.now) sources.now step.now.client (K.view out.old) (K.view out.new)) }
     ensures count { (K.view out.old).faults ≤ (K.view out.new).faults }
 {
+    if let Some(line) = usual_line(&step.client, answer) {
+        out.write(alloc, line)?;
+        return Ok(false);
+    }
     let line = write_answer(alloc, step, answer, sources)?;
     out.write(alloc, &line)?;
     Ok(marks(answer))

@@ -1,5 +1,5 @@
 // Answers, and the lines that tell them.
-ghost use Rattle.std.specs.Prelude.{◌≡◌, ◌++◌, IfOk, OnOk, length};
+ghost use Rattle.std.specs.Prelude.{◌≡◌, ◌++◌, ℕ, List, IfOk, IfSome, OnOk, length};
 ghost use Rattle.mix_script.specs.Answers.{line_of, answer_text, prefix_of, IsNamed};
 
 use crate::Step;
@@ -101,6 +101,20 @@ fn line_room(client: &Label, answer: &Answer) -> usize {
         .len()
         .saturating_add(text_room(answer))
         .saturating_add(3)
+}
+
+/// The line that tells the client without a name whether a node was found, as most lines do. It takes no memory. `None`: it is another line.
+pub fn usual_line(client: &Label, answer: &Answer) -> Option<&'static [u8]>
+    ensures { IfSome result (λ line. (sources : List (List ℕ)) → line.now ≡ line_of sources client.now answer.now) }
+{
+    if !client.bytes().is_empty() {
+        return None;
+    }
+    match answer {
+        Answer::Node => Some(b"node\n"),
+        Answer::None => Some(b"none\n"),
+        Answer::Label(_) | Answer::Text(_) | Answer::NoNode | Answer::Fault(_) => None,
+    }
 }
 
 /// The line that tells a step's answer, with its LF. `sources` has the sources' names by their numbers.

@@ -10,7 +10,7 @@ mod script;
 mod step;
 mod words;
 
-pub use answer::{Answer, Text, write_answer};
+pub use answer::{Answer, Text, usual_line, write_answer};
 pub use law::{clients_are_apart, selects_are_spelled};
 pub use names::Names;
 pub use script::{ScriptFault, read_line, read_script};
