@@ -1,14 +1,17 @@
 -- The first binding among those that are the same by keys.
-use Rattle.std.proofs.Common.{◌≡◌, ℕ, Bool, true, false, ◌||◌, List, [], ◌∷◌, ◌++◌, refl, ◌∙◌, sym, ap, subst}
+use Rattle.std.proofs.Common.{◌≡◌, ℕ, zero, suc, Bool, true, false, ◌||◌, List, [], ◌∷◌, ◌++◌, refl, ◌∙◌, sym, ap, subst}
 use Rattle.std.specs.Cmp.Lexicographic.{bytes_decides}
 use Rattle.std.proofs.lemmas.Bool.{and_parts, and_from}
 use Rattle.mix_tree.specs.Nodes.{Documents}
 use Rattle.mix_tree.specs.declared.var.Key.{Key}
 use Rattle.mix_tree.proofs.SameKeys.{same_node-true, same_node-refl}
+use Rattle.mix_base.specs.Events.{skip, bind, finds, found}
+use Rattle.plan_core.specs.Beside.{EachBinding, Differ, AreApart}
 use Rattle.plan_core.specs.Plans.{Operator}
 use Rattle.plan_core.specs.Events.{RowEvents, events}
-use Rattle.plan_core.specs.TolledRows.{TolledRow, KeyValue, by_node, by_label, same_value, same_values, is_seen}
-use Rattle.lazy_binding.specs.Cursors.{NoneBefore, IsFirstBy}
+use Rattle.plan_core.specs.TolledRows.{TolledRow, KeyValue, by_node, by_label, key_values, same_value, same_values, is_seen}
+use Rattle.plan_core.proofs.Found.{found-only_yes}
+use Rattle.lazy_binding.specs.Cursors.{behind_found, behind_first, IsBindingOf, NoneBefore, IsFirstBy}
 
 -- what compares the same is the same
 same_value-true : (a b : KeyValue) → same_value a b ≡ true → a ≡ b
@@ -70,3 +73,54 @@ module _ (ops : List Operator) (i : ℕ) (keys : List Key) {d e : Documents} (do
   first_by_kept {r} {q} row {l} {m} later h =
       subst (λ (y : TolledRow). IsFirstBy e keys (events e ops i) y m) (sym row)
       (subst (λ (y : RowEvents). IsFirstBy e keys (events e ops i) r y) (sym later) (subst (λ (y : Documents). IsFirstBy y keys (events y ops i) r l) (sym docs) h))
+
+  -- what is a binding stays one
+  pub binding_of_kept : {r q : TolledRow} → q ≡ r → {l m : RowEvents} → m ≡ l → IsBindingOf (events d ops i) r l → IsBindingOf (events e ops i) q m
+  binding_of_kept {r} {q} row {l} {m} later h =
+      (h.0, ap (λ (y : Documents). found (behind_first h.0 (events y ops i))) docs ∙ h.1 ∙ ap (λ (y : TolledRow). finds y l) (sym row) ∙ ap (finds q) (sym later))
+
+-- BINDINGS THAT ARE ALL DIFFERENT
+
+-- the first binding is behind none
+behind_next : (k : ℕ) (es : RowEvents) → behind_first (suc k) es ≡ behind_first k (behind_found (found es))
+behind_next zero es = refl
+behind_next (suc k) es = ap (λ (z : RowEvents). behind_found (found z)) (behind_next k es)
+
+module _ (P : TolledRow → Type 0) where
+  -- what holds of each binding holds of the first
+  each_found : (es : RowEvents) (row : TolledRow) (later : RowEvents) → EachBinding P es → found es ≡ finds row later → P row
+  each_found [] row later h e = cc
+  each_found (skip ∷ es) row later h e = each_found es row later h e
+  each_found (bind b ∷ es) row later h e = (let z : b ≡ row = cc in subst P z h.0)
+
+  -- and of those behind it
+  each_left : (es : RowEvents) → EachBinding P es → EachBinding P (behind_found (found es))
+  each_left [] h = tt
+  each_left (skip ∷ es) h = each_left es h
+  each_left (bind b ∷ es) h = h.1
+
+  -- and of those behind the first few
+  each_behind : (k : ℕ) (es : RowEvents) → EachBinding P es → EachBinding P (behind_first k es)
+  each_behind zero es h = h
+  each_behind (suc k) es h = each_left (behind_first k es) (each_behind k es h)
+
+module _ (docs : Documents) (keys : List Key) (row : TolledRow) (later : RowEvents) where
+  -- whether a binding has the keys of this one
+  abbrev has_keys : TolledRow → Bool
+  has_keys r = same_values (key_values docs keys row) (key_values docs keys r)
+
+  -- where no two agree, each binding is the first one with its keys
+  first_at : (k : ℕ) (es : RowEvents) → AreApart docs keys es → found (behind_first k es) ≡ finds row later → IsFirstBy docs keys es row later
+  first_at zero es h e = found-only_yes has_keys es row later e (same_values-refl (key_values docs keys row))
+  first_at (suc k) [] h e = first_at k [] h (sym (ap found (behind_next k [])) ∙ e)
+  first_at (suc k) (skip ∷ es) h e = first_at (suc k) es h (ap found (behind_next k es) ∙ sym (ap found (behind_next k (skip ∷ es))) ∙ e)
+  first_at (suc k) (bind b ∷ es) h e =
+      let there : found (behind_first k es) ≡ finds row later = sym (ap found (behind_next k (bind b ∷ es))) ∙ e in
+      let other = each_found (Differ docs keys b) (behind_first k es) row later (each_behind (Differ docs keys b) k es h.0) there in
+      let differs : has_keys b ≡ false = not_both (has_keys b) (λ t.
+      let z : true ≡ false = sym (same_values-refl (key_values docs keys b)) ∙ ap (same_values (key_values docs keys b)) (sym (same_values-true (key_values docs keys row) (key_values docs keys b) t)) ∙ other in cc) in
+      rw differs (first_at k es h.1 there)
+
+  -- so is a binding of them
+  pub apart_first : (es : RowEvents) → AreApart docs keys es → IsBindingOf es row later → IsFirstBy docs keys es row later
+  apart_first es h at = first_at at.0 es h at.1

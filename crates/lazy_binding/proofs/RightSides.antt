@@ -7,10 +7,11 @@ use Rattle.mix_tree.specs.Keys.{has_var}
 use Rattle.mix_tree.specs.declared.var.Key.{Key}
 use Rattle.mix_tree.specs.declared.comparing.Test.{Test}
 use Rattle.plan_core.specs.declared.plan.Op.{Op}
+use Rattle.plan_core.specs.declared.plan.Piece.{Piece}
 use Rattle.plan_core.specs.Plans.{Operator}
 use Rattle.plan_core.specs.PlanMade.{op_of}
 use Rattle.plan_core.specs.Typed.{IsTyped}
-use Rattle.plan_core.specs.Valid.{Kind, Kinds, kinds, kept, a_list, a_node, no_kinds, made_kind}
+use Rattle.plan_core.specs.Valid.{Kind, Kinds, kinds, kept, a_list, a_node, no_kinds, made_kind, stage_kinds}
 use Rattle.plan_core.specs.Shapes.{Shape, one_source, visits_below, pairs_up, filters, extends, first_by_keys, in_order, shape_of, shape_at, passes_on}
 use Rattle.plan_core.proofs.Numbers.{op_read}
 use Rattle.lazy_descend.specs.Cursors.{spot_of}
@@ -74,6 +75,12 @@ module _ (ops : List Operator) (typed : IsTyped ops) where
   kept_none : (keys : List Key) (of : Kinds) (v : ℕ) (there : Option (ℕ × Spot)) → kept keys of v ≡ None → (of v ≡ None → there ≡ None) → cond (has_var keys v) there None ≡ None
   kept_none keys of v there h g = elim (has_var keys v) as (λ t. cond t (of v) None ≡ None → cond t there None ≡ None) [ true ↦ λ e. g e | false ↦ λ e. refl ] h
 
+  -- the same with the list of a group
+  first_none : (keys : List Key) (group : Option (Piece × ℕ)) (of : Kinds) (v : ℕ) (there : Option (ℕ × Spot)) → stage_kinds (first_by_keys keys group) of v ≡ None → (of v ≡ None → there ≡ None)
+      → cond (has_var keys v) there None ≡ None
+  first_none keys None of v there h g = kept_none keys of v there h g
+  first_none keys (Some group) of v there h g = kept_none keys of v there (with_none group.1 v a_list (kept keys of) h).1 g
+
   -- nothing is no spot
   found_none : (out v s : ℕ) (d : _) (there : Option (ℕ × Spot)) → (out == v) ≡ false → there ≡ None → found_spot (out == v) s d there ≡ None
   found_none out v s None there e h = h
@@ -96,14 +103,14 @@ module _ (ops : List Operator) (typed : IsTyped ops) where
         let z = with_none out v (made_kind made) (kinds ops i) (sym (ap (λ (g : Kinds). g v) (kinds_at ops typed n h (passes_on i (extends out made)) e)) ∙ k) in
         let l = inputs_at ops typed n h (passes_on i (extends out made)) e in
         no_spot i (omega (arith, h, l.0)) (shape_at ops i) refl c v z.1
-    no_spot n h (passes_on i (first_by_keys keys None)) e (First' q c m) v k =
-        let l = inputs_at ops typed n h (passes_on i (first_by_keys keys None)) e in
-        kept_none keys (kinds ops i) v (spot_in ops i c v) (sym (ap (λ (g : Kinds). g v) (kinds_at ops typed n h (passes_on i (first_by_keys keys None)) e)) ∙ k)
+    no_spot n h (passes_on i (first_by_keys keys group)) e (Pass' q c) v k =
+        let l = inputs_at ops typed n h (passes_on i (first_by_keys keys group)) e in
+        first_none keys group (kinds ops i) v (spot_in ops i c v) (sym (ap (λ (g : Kinds). g v) (kinds_at ops typed n h (passes_on i (first_by_keys keys group)) e)) ∙ k)
         (no_spot i (omega (arith, h, l.0)) (shape_at ops i) refl c v)
-    no_spot n h (passes_on i (first_by_keys keys (Some g))) e (First' q c m) v k =
-        let l = inputs_at ops typed n h (passes_on i (first_by_keys keys (Some g))) e in
-        let z = with_none g.1 v a_list (kept keys (kinds ops i)) (sym (ap (λ (y : Kinds). y v) (kinds_at ops typed n h (passes_on i (first_by_keys keys (Some g))) e)) ∙ k) in
-        kept_none keys (kinds ops i) v (spot_in ops i c v) z.1 (no_spot i (omega (arith, h, l.0)) (shape_at ops i) refl c v)
+    no_spot n h (passes_on i (first_by_keys keys group)) e (First' q c m) v k =
+        let l = inputs_at ops typed n h (passes_on i (first_by_keys keys group)) e in
+        first_none keys group (kinds ops i) v (spot_in ops i c v) (sym (ap (λ (g : Kinds). g v) (kinds_at ops typed n h (passes_on i (first_by_keys keys group)) e)) ∙ k)
+        (no_spot i (omega (arith, h, l.0)) (shape_at ops i) refl c v)
     no_spot n h (pairs_up l r tests) e (Pair' q x q' y m) v k =
         let g = inputs_at ops typed n h (pairs_up l r tests) e in
         let both = either_none (kinds ops l v) (kinds ops r v) (sym (ap (λ (y : Kinds). y v) (kinds_at ops typed n h (pairs_up l r tests) e)) ∙ k) in

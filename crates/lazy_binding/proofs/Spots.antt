@@ -75,6 +75,10 @@ module _ (ops : List Operator) (typed : IsTyped ops) (w : World) where
         let l = inputs_at ops typed n h (passes_on i (extends out made)) e in
         let y = lacks i (omega (arith, h, l.0)) (shape_at ops i) refl c of.0 of.1 v z.1 in
         (y.0, lacks_more out (made_value (docs_of w) made (binding w ops i c)) (binding w ops i c) v z.0 y.1)
+    lacks n h (passes_on i (first_by_keys keys None)) e (Pass' q c) of row v k =
+        let z = first_lacks (docs_of w) keys false v (kinds ops) None i (fit_nodes keys None (kinds ops i) (fit_at ops typed n h (passes_on i (first_by_keys keys None)) e))
+        (sym (ap (λ (g : Kinds). g v) (kinds_at ops typed n h (passes_on i (first_by_keys keys None)) e)) ∙ k) (binding w ops i c) [] in
+        (ap (λ (b : Bool). cond b (spot_in ops i c v) None) z.0, z.1)
     lacks n h (passes_on i (first_by_keys keys group)) e (First' q c m) of row v k =
         let z = first_lacks (docs_of w) keys (stops_over ops i keys) v (kinds ops) group i (fit_nodes keys group (kinds ops i) (fit_at ops typed n h (passes_on i (first_by_keys keys group)) e))
         (sym (ap (λ (g : Kinds). g v) (kinds_at ops typed n h (passes_on i (first_by_keys keys group)) e)) ∙ k) (binding w ops i c) (ahead w ops i c) in
@@ -150,6 +154,11 @@ module _ (ops : List Operator) (typed : IsTyped ops) (w : World) where
         let l = inputs_at ops typed n h (passes_on i (extends out made)) e in
         let y = spot_is i (omega (arith, h, l.0)) (shape_at ops i) refl c of.0 of.1 v z.1 in
         record { source = y.source; spot = y.spot; is = y.is; read = y.read; known = y.known; value = value_more out (made_value (docs_of w) made (binding w ops i c)) (binding w ops i c) v z.0 ∙ y.value }
+    spot_is n h (passes_on i (first_by_keys keys None)) e (Pass' q c) of row v k =
+        let z = first_node (docs_of w) keys false v (kinds ops) None i (sym (ap (λ (g : Kinds). g v) (kinds_at ops typed n h (passes_on i (first_by_keys keys None)) e)) ∙ k) (binding w ops i c) [] in
+        let l = inputs_at ops typed n h (passes_on i (first_by_keys keys None)) e in
+        let y = spot_is i (omega (arith, h, l.0)) (shape_at ops i) refl c of.0 of.1 v z.1 in
+        record { source = y.source; spot = y.spot; is = ap (λ (b : Bool). cond b (spot_in ops i c v) None) z.0 ∙ y.is; read = y.read; known = y.known; value = z.2 ∙ y.value }
     spot_is n h (passes_on i (first_by_keys keys group)) e (First' q c m) of row v k =
         let z = first_node (docs_of w) keys (stops_over ops i keys) v (kinds ops) group i (sym (ap (λ (g : Kinds). g v) (kinds_at ops typed n h (passes_on i (first_by_keys keys group)) e)) ∙ k) (binding w ops i c) (ahead w ops i c) in
         let l = inputs_at ops typed n h (passes_on i (first_by_keys keys group)) e in

@@ -17,7 +17,7 @@ use Rattle.plan_core.specs.Plans.{Operator}
 use Rattle.plan_core.specs.Shapes.{Shape, one_source, visits_below, pairs_up, filters, extends, first_by_keys, one_group, in_order, shape_at, passes_on}
 use Rattle.plan_core.specs.Fronts.{stops_over}
 use Rattle.plan_core.specs.Events.{extended, kept_row, whole_row}
-use Rattle.plan_core.specs.TolledRows.{of_source, TolledRow, row_node, KeyValue, by_node, key_values}
+use Rattle.plan_core.specs.TolledRows.{of_source, TolledRow, row_node, tolled_restrict, KeyValue, by_node, key_values}
 use Rattle.plan_core.specs.Events.{RowEvents, events, expand, each_row, only, descendants, pairs, keys_seen, nodes_found, distinct, with_node}
 use Rattle.lazy_binding.specs.declared.key.KeyPart.{KeyPart}
 use Rattle.lazy_binding.specs.declared.key.KeyPart.TheVariants.{Node as node_part, Label as label_part, Free as free_part}
@@ -27,7 +27,7 @@ use Rattle.lazy_binding.specs.World.{World, docs_of, of_buffer, buffer_at, IsMat
 use Rattle.lazy_binding.specs.Cursors.{Standing, standing, stands, binding, ahead, size, number, weighs, IsIn, AreIn, rows_in, found_row, visit_ahead, left_ahead, up_to, found_number, behind_first, IsPast}
 use Rattle.lazy_binding.specs.Keeping.{Keeps, StaysIn, KeepsCursors}
 use Rattle.lazy_binding.proofs.Keep.{told-kept, docs_kept, bound_kept, spot_kept, place_kept, node_kept}
-use Rattle.lazy_binding.proofs.FirstMembers.{none_before_kept, first_by_kept}
+use Rattle.lazy_binding.proofs.FirstMembers.{none_before_kept, first_by_kept, binding_of_kept}
 
 -- what is past stays so
 past_kept : {es fs later left : RowEvents} → fs ≡ es → left ≡ later → IsPast es later → IsPast fs left
@@ -143,6 +143,8 @@ module _ (a b : World) (k : Keeps a b) (ops : List Operator) (bench : IsBench a 
         let old : Standing = standing a ops i c in
         ap (λ (z : Standing). record { row = extended (docs_of b) out made z.row; ahead = each_row (extended (docs_of b) out made) z.ahead }) (standing_kept i (shape_at ops i) c h.0)
         ∙ ap (λ (z : Documents). record { row = extended z out made old.row; ahead = each_row (extended z out made) old.ahead }) (docs_kept k ops bench)
+    standing_kept n (passes_on i (first_by_keys keys None)) (Pass' q c) h =
+        ap (λ (z : Standing). record { row = tolled_restrict keys z.row; ahead = each_row (tolled_restrict keys) z.ahead }) (standing_kept i (shape_at ops i) c h.0)
     standing_kept n (passes_on i (first_by_keys keys group)) (First' q c m) h =
         let old : Standing = standing a ops i c in
         ap (λ (z : Standing). record { row = kept_row (docs_of b) keys (stops_over ops i keys) group z.row z.ahead; ahead = distinct (docs_of b) keys (kept_row (docs_of b) keys (stops_over ops i keys) group) (up_to b n m) z.ahead })
@@ -187,6 +189,7 @@ module _ (a b : World) (k : Keeps a b) (ops : List Operator) (bench : IsBench a 
       subst (λ (z : ℕ). number b ops i c * suc (suc z) + found_number b s d ≤ number a ops i c * suc (suc (bound_of a)) + found_number a s d) (sym e) (omega (arith, l, f))
   number_kept n (passes_on i (filters test)) (Pass' q c) h = number_kept i (shape_at ops i) c h.0
   number_kept n (passes_on i (extends out made)) (Pass' q c) h = number_kept i (shape_at ops i) c h.0
+  number_kept n (passes_on i (first_by_keys keys None)) (Pass' q c) h = number_kept i (shape_at ops i) c h.0
   number_kept n (passes_on i (first_by_keys keys group)) (First' q c m) h = (let e = ap (λ (z : ℕ). (z - m) * suc z + z) (size_kept i) in omega (arith, e))
   number_kept n (passes_on i (first_by_keys keys group)) (Seen' q c m) h =
       let e = ap (λ (z : ℕ). (z - m) * suc z) (size_kept i) in
@@ -214,6 +217,13 @@ module _ (a b : World) (k : Keeps a b) (ops : List Operator) (bench : IsBench a 
     )
     cursor_kept n (passes_on i (filters test)) (Pass' q c) h = (cursor_kept i (shape_at ops i) c h.0, h.1)
     cursor_kept n (passes_on i (extends out made)) (Pass' q c) h = (cursor_kept i (shape_at ops i) c h.0, h.1)
+    cursor_kept n (passes_on i (first_by_keys keys None)) (Pass' q c) h = (
+      cursor_kept i (shape_at ops i) c h.0,
+      h.1,
+      h.2,
+      λ t. binding_of_kept ops i keys (docs_kept k ops bench) (ap (λ (z : Standing). z.row) (standing_kept i (shape_at ops i) c h.0)) (ap (λ (z : Standing). z.ahead) (standing_kept i (shape_at ops i) c h.0))
+          (h.3 (subst IsTrue (told-kept k ops) t)),
+    )
     cursor_kept n (passes_on i (first_by_keys keys group)) (First' q c m) h = (
       cursor_kept i (shape_at ops i) c h.0,
       h.1,
@@ -238,6 +248,7 @@ module _ (a b : World) (k : Keeps a b) (ops : List Operator) (bench : IsBench a 
           ap (λ (z : Standing). z.ahead) (standing_kept n (passes_on i (first_by_keys keys group)) (First' q c m) h)
           ∙ h.9 (subst IsTrue (told-kept k ops) t)
           ∙ ap (λ (z : Documents). behind_first m (events z ops n)) (sym (docs_kept k ops bench)),
+      h.10,
     )
     cursor_kept n (passes_on i (first_by_keys keys group)) (Seen' q c m) h = (
       cursor_kept i (shape_at ops i) c h.0,
@@ -253,6 +264,7 @@ module _ (a b : World) (k : Keeps a b) (ops : List Operator) (bench : IsBench a 
       (let e = size_kept i in let l = number_kept i (shape_at ops i) c h.0 in omega (arith, e, l, h.5)),
       λ t. past_kept (ap (λ (z : Documents). behind_first m (events z ops n)) (docs_kept k ops bench))
           (ap (λ (z : Standing). z.ahead) (standing_kept n (passes_on i (first_by_keys keys group)) (Seen' q c m) h)) (h.6 (subst IsTrue (told-kept k ops) t)),
+      h.7,
     )
     cursor_kept n (pairs_up l r tests) (Pair' q x q' y m) h =
         (cursor_kept l (shape_at ops l) x h.0, h.1, cursor_kept r (shape_at ops r) y h.2, omega (arith, h.3, k.more n), ap (last_of Start) (k.members n m h.3) ∙ h.4)

@@ -90,6 +90,11 @@ module _ (ops : List Operator) (typed : IsTyped ops) (w : World) where
     source_is n h (passes_on i (extends out made)) e (Pass' q c) of row v =
         let l = inputs_at ops typed n h (passes_on i (extends out made)) e in
         source_is i (omega (arith, h, l.0)) (shape_at ops i) refl c of.0 of.1 v ∙ sym (source_at ops typed n h (passes_on i (extends out made)) e v)
+    source_is n h (passes_on i (first_by_keys keys None)) e (Pass' q c) of row v =
+        let l = inputs_at ops typed n h (passes_on i (first_by_keys keys None)) e in
+        source_new (has_var keys v) (spot_in ops i c v) None
+        ∙ ap (λ (z : Option ℕ). cond (has_var keys v) z None) (source_is i (omega (arith, h, l.0)) (shape_at ops i) refl c of.0 of.1 v)
+        ∙ sym (source_at ops typed n h (passes_on i (first_by_keys keys None)) e v)
     source_is n h (passes_on i (first_by_keys keys group)) e (First' q c k) of row v =
         let l = inputs_at ops typed n h (passes_on i (first_by_keys keys group)) e in
         source_new (has_var keys v) (spot_in ops i c v) None

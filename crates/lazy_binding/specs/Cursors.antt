@@ -13,9 +13,9 @@ use Rattle.path_auto.specs.Automaton.{machine_of, table_of}
 use Rattle.plan_core.specs.Plans.{Operator}
 use Rattle.plan_core.specs.ByNumber.{by_number}
 use Rattle.plan_core.specs.Shapes.{Stage, Shape, one_source, visits_below, pairs_up, filters, extends, first_by_keys, one_group, in_order, no_events, shape_of, shape_at, passes_on}
-use Rattle.plan_core.specs.Fronts.{stops_over}
+use Rattle.plan_core.specs.Fronts.{stops_over, apart_over, shape_apart}
 use Rattle.plan_core.specs.Events.{extended, kept_row, whole_row}
-use Rattle.plan_core.specs.TolledRows.{of_source, TolledRow, row_node, KeyValue, key_values, is_seen}
+use Rattle.plan_core.specs.TolledRows.{of_source, TolledRow, row_node, tolled_restrict, KeyValue, key_values, is_seen}
 use Rattle.plan_core.specs.Events.{RowEvents, events, expand, each_row, only, with_node, nodes_found, descendants, pairs, distinct, keys_seen, same_group}
 use Rattle.lazy_descend.specs.declared.cursor.DescCursor.{DescCursor}
 use Rattle.lazy_binding.specs.declared.position.Position.{Position, Start, Top, Whole, Found', Pass', First', Seen', Pair', Sorted', Row_of-Position-Sorted-0-1 as Row, end_of-Position-Sorted-0-1 as no_more, more_of-Position-Sorted-0-1 as one_more}
@@ -35,6 +35,10 @@ behind_found (finds row es) = es
 abbrev pub behind_first : ℕ → RowEvents → RowEvents
 behind_first zero es = es
 behind_first (suc k) es = behind_found (found (behind_first k es))
+
+-- this is a binding of these events, with those behind it
+abbrev pub IsBindingOf : RowEvents → TolledRow → RowEvents → Type 0
+IsBindingOf es row later = (k : ℕ) × (found (behind_first k es) ≡ finds row later)
 
 -- no binding lies between the first of these events and those, which cost no more
 pub record IsPast (es later : RowEvents) : Type 0 where
@@ -104,6 +108,8 @@ abbrev mutual
       let input = stands w ops i (shape_at ops i) c in record { row = input.row; ahead = only (λ row. passes (docs_of w) test (row_node row)) input.ahead }
   stands w ops n (passes_on i (extends out made)) (Pass' q c) =
       let input = stands w ops i (shape_at ops i) c in record { row = extended (docs_of w) out made input.row; ahead = each_row (extended (docs_of w) out made) input.ahead }
+  stands w ops n (passes_on i (first_by_keys keys None)) (Pass' q c) =
+      let input = stands w ops i (shape_at ops i) c in record { row = tolled_restrict keys input.row; ahead = each_row (tolled_restrict keys) input.ahead }
   stands w ops n (passes_on i (first_by_keys keys group)) (First' q c k) =
       let input = stands w ops i (shape_at ops i) c in record {
         row = kept_row (docs_of w) keys (stops_over ops i keys) group input.row input.ahead;
@@ -167,6 +173,7 @@ weighs w ops n f Start = size w ops n
 weighs w ops n (visits_below i start path out) (Found' q c s d) = weighs w ops i (shape_at ops i) c * suc (suc (bound_of w)) + found_number w s d
 weighs w ops n (passes_on i (filters test)) (Pass' q c) = weighs w ops i (shape_at ops i) c
 weighs w ops n (passes_on i (extends out made)) (Pass' q c) = weighs w ops i (shape_at ops i) c
+weighs w ops n (passes_on i (first_by_keys keys group)) (Pass' q c) = weighs w ops i (shape_at ops i) c
 weighs w ops n (passes_on i (first_by_keys keys group)) (First' q c k) = (size w ops i - k) * suc (size w ops i) + size w ops i
 weighs w ops n (passes_on i (first_by_keys keys group)) (Seen' q c k) = (size w ops i - k) * suc (size w ops i) + weighs w ops i (shape_at ops i) c
 weighs w ops n (pairs_up l r tests) (Pair' q x q' y k) = weighs w ops l (shape_at ops l) x * suc (size w ops r) + (size w ops r - k)
@@ -199,7 +206,8 @@ IsFirstBy docs keys es row later = found (same_group docs keys row es) ≡ finds
 abbrev mutual
   -- a position of operator n in this shape. A pair stands at the last of the members that were passed. Of first bindings by keys it is also known that the keys ahead of it are those that the input has behind the ones
   -- seen up to it, that no event before it has other keys, that no more keys were seen than there are bindings, and which of the operator's bindings are ahead: where it stands at a binding, those behind as many as keys
-  -- were seen, and this is the first one with its keys, which were seen last; else the same up to events without a binding
+  -- were seen, and this is the first one with its keys, which were seen last; else the same up to events without a binding. A project over bindings that are all different by its keys
+  -- has positions that stand at a binding of the input, and no others
   pub IsIn : World → List Operator → ℕ → Shape → Position → Type 0
   IsIn w ops n f Start = Unit {0}
   IsIn w ops n (one_source s out) (Top t x) = (t ≡ s) × IsSpotIn w t x × (place_in w t x ≡ [])
@@ -208,6 +216,8 @@ abbrev mutual
       × ((row_node (binding w ops i c) start).source ≡ s) × IsRead ops s × MatchOption d (Unit {0}) (IsMatchIn w s)
   IsIn w ops n (passes_on i (filters test)) (Pass' q c) = IsIn w ops i (shape_at ops i) c × IsTrue (has_row c)
   IsIn w ops n (passes_on i (extends out made)) (Pass' q c) = IsIn w ops i (shape_at ops i) c × IsTrue (has_row c)
+  IsIn w ops n (passes_on i (first_by_keys keys None)) (Pass' q c) = IsIn w ops i (shape_at ops i) c × IsTrue (has_row c) × (apart_over ops i keys ≡ true)
+      × (IsTrue (is_told w ops) → IsBindingOf (events (docs_of w) ops i) (binding w ops i c) (ahead w ops i c))
   IsIn w ops n (passes_on i (first_by_keys keys group)) (First' q c k) = IsIn w ops i (shape_at ops i) c × IsTrue (has_row c) × (k ≤ length (seen_at w n))
       × (IsTrue (is_told w ops) → keys_seen (docs_of w) keys (up_to w n k) (ahead w ops i c) ≡ drop k (keys_seen (docs_of w) keys [] (events (docs_of w) ops i)))
       × (IsTrue (is_told w ops) → NoneBefore (docs_of w) keys (events (docs_of w) ops i) (up_to w n k) (ahead w ops i c))
@@ -215,11 +225,13 @@ abbrev mutual
       × (0 < k) × (number w ops i c + k ≤ size w ops i)
       × (IsTrue (is_told w ops) → last_or None (up_to w n k) ≡ Some (key_values (docs_of w) keys (binding w ops i c)))
       × (IsTrue (is_told w ops) → (stands w ops n (passes_on i (first_by_keys keys group)) (First' q c k)).ahead ≡ behind_first k (events (docs_of w) ops n))
+      × (shape_apart ops (passes_on i (first_by_keys keys group)) ≡ false)
   IsIn w ops n (passes_on i (first_by_keys keys group)) (Seen' q c k) = IsIn w ops i (shape_at ops i) c × IsTrue (has_row c) × (k ≤ length (seen_at w n))
       × (IsTrue (is_told w ops) → keys_seen (docs_of w) keys (up_to w n k) (ahead w ops i c) ≡ drop k (keys_seen (docs_of w) keys [] (events (docs_of w) ops i)))
       × (IsTrue (is_told w ops) → NoneBefore (docs_of w) keys (events (docs_of w) ops i) (up_to w n k) (ahead w ops i c))
       × (number w ops i c + k ≤ size w ops i)
       × (IsTrue (is_told w ops) → IsPast (behind_first k (events (docs_of w) ops n)) (stands w ops n (passes_on i (first_by_keys keys group)) (Seen' q c k)).ahead)
+      × (shape_apart ops (passes_on i (first_by_keys keys group)) ≡ false)
   IsIn w ops n (pairs_up l r tests) (Pair' q x q' y k) = IsIn w ops l (shape_at ops l) x × IsTrue (has_row x) × IsIn w ops r (shape_at ops r) y
       × (k ≤ length (memo_at w n).pairs) × (passed (memo_at w n).pairs k ≡ y)
   IsIn w ops n (passes_on i (in_order v desc)) (Sorted' q m row k) = AreIn w ops i row × (k < count row) × (count row ≤ size w ops n)

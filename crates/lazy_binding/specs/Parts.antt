@@ -3,11 +3,12 @@ use Rattle.std.specs.Prelude.{◌≡◌, ◌<◌, ℕ, List, Some, length, map, 
 use Rattle.lxp_core.specs.View.{View}
 use Rattle.path_expr.specs.Form.{Form}
 use Rattle.path_auto.specs.Automaton.{table_of}
-use Rattle.plan_core.specs.Fronts.{op_stops}
+use Rattle.plan_core.specs.Fronts.{op_stops, op_apart}
 use Rattle.plan_core.specs.Plans.{Operator}
 use Rattle.plan_core.specs.Shapes.{Shape, visits_below, shape_at}
-use Rattle.plan_core.specs.PlanMade.{op_of}
+use Rattle.plan_core.specs.PlanMade.{op_of, plan_value}
 use Rattle.plan_core.specs.Typed.{IsTyped}
+use Rattle.plan_core.specs.Valid.{IsValid}
 use Rattle.lazy_binding.specs.Links.{op_link}
 use Rattle.lazy_binding.specs.Sides.{AreRights}
 use Rattle.lazy_binding.specs.World.{World, world}
@@ -23,13 +24,15 @@ operators f = map op_of f.plan.ops.items
 abbrev pub world_of : View → Growing → World
 world_of v g = world v g.buffers.items g.seen.items g.memos.items g.reached.items
 
--- the plan is typed, each path has its automaton, and of each operator it is told whether its groups end at the first other key, by which variables members are looked up, and which are those of
--- its right side alone
+-- the plan is valid, each path has its automaton, and of each operator it is told whether its groups end at the first other key, whether it passes on bindings that are all different by its keys, by
+-- which variables members are looked up, and which are those of its right side alone
 pub record IsFixed (f : Fixed) : Type 0 where
+  pub valid : IsValid (plan_value f.plan)
   pub typed : IsTyped (operators f)
   pub autos : (n i start : ℕ) (path : Form) (out : ℕ) → n < length (operators f) → shape_at (operators f) n ≡ visits_below i start path out
       → slice_get f.autos.items n ≡ Some (Some (table_of path))
   pub stops : f.stops.items ≡ map (op_stops (operators f)) (operators f)
+  pub apart : f.apart.items ≡ map (op_apart (operators f)) (operators f)
   pub links : f.links.items ≡ map (op_link (operators f)) (operators f)
   pub sides : length f.rights.items ≡ length (operators f)
   pub rights : AreRights (operators f) f.rights.items

@@ -35,6 +35,7 @@ abbrev mutual
   spot_at ops (visits_below i start path out) (Found' q c s d) v = found_spot (out == v) s d (spot_at ops (shape_at ops i) c v)
   spot_at ops (passes_on i (filters test)) (Pass' q c) v = spot_at ops (shape_at ops i) c v
   spot_at ops (passes_on i (extends out made)) (Pass' q c) v = spot_at ops (shape_at ops i) c v
+  spot_at ops (passes_on i (first_by_keys keys group)) (Pass' q c) v = cond (has_var keys v) (spot_at ops (shape_at ops i) c v) None
   spot_at ops (passes_on i (first_by_keys keys group)) (First' q c k) v = cond (has_var keys v) (spot_at ops (shape_at ops i) c v) None
   spot_at ops (pairs_up l r tests) (Pair' q x q' y k) v = or_else (spot_at ops (shape_at ops l) x v) (spot_at ops (shape_at ops r) y v)
   spot_at ops (passes_on i (in_order u desc)) (Sorted' q m row k) v = spot_nth ops i row k v

@@ -1,8 +1,9 @@
 // What a bench is made of: the plan with the automata of its paths, and what grows while it is walked; and an operator of such a plan.
 ghost use Rattle.std.specs.Prelude.{◌≡◌, ◌<◌, length};
 ghost use Rattle.plan_core.specs.ByNumber.{op_at};
+ghost use Rattle.plan_core.specs.Fronts.{op_apart};
 ghost use Rattle.plan_core.specs.PlanMade.{op_of};
-ghost use Rattle.lazy_binding.specs.Parts.{operators};
+ghost use Rattle.lazy_binding.specs.Parts.{operators, IsFixed};
 
 use crate::key::SeenKeys;
 use crate::link::Link;
@@ -14,13 +15,15 @@ use plan_core::{Op, Plan};
 use std::rc::Rc;
 use tree_buffer::Buffer;
 
-/// A plan, and for each operator the automaton of its path, where it has one, whether its groups end at the first other key, and by which
-/// variables the members of its right side are looked up, where it is a join with such ones; and which variables are those of its right side alone.
+/// A plan, and for each operator the automaton of its path, where it has one, whether its groups end at the first other key, whether it is a
+/// project that passes on each binding of its input, and by which variables the members of its right side are looked up, where it is a join with
+/// such ones; and which variables are those of its right side alone.
 #[derive(Drop)]
 pub struct Fixed {
     pub plan: Plan,
     pub autos: Vec<Option<Auto>>,
     pub stops: Vec<bool>,
+    pub apart: Vec<bool>,
     pub links: Vec<Option<Link>>,
     pub rights: Vec<Vec<Var>>,
 }
@@ -50,5 +53,14 @@ impl Fixed {
         ensures { op_of result.now ≡ op_at (operators self.now) n }
     {
         &self.plan.ops[n]
+    }
+
+    /// Whether an operator is a `project` that passes on each binding of its input, since no two of them agree by its keys.
+    pub fn is_apart(&self, n: usize) -> bool
+        requires fixed { IsFixed self.now }
+        requires op { n < length (operators self.now) }
+        ensures { result ≡ op_apart (operators self.now) (op_at (operators self.now) n) }
+    {
+        self.apart[n]
     }
 }

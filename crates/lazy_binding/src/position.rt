@@ -21,7 +21,7 @@ pub enum Position {
     Whole,
     /// In the visit below a node of the input's binding, which is in the source of this number: before its first match, or at a match.
     Found(Rc<Position>, u32, Option<DescCursor>),
-    /// At the event at which the input stands.
+    /// At the event at which the input stands. Such are those of a project, too, where no two bindings of its input agree by its keys.
     Pass(Rc<Position>),
     /// At the first binding of the input that has its keys, where so many keys were seen up to it.
     First(Rc<Position>, usize),

@@ -59,7 +59,7 @@ impl Fixed {
                 _ => None,
             },
             Op::Project { input, keys } | Op::GroupBy { input, keys, .. } => match at {
-                Position::First(below, _) if names_var(keys, v) => {
+                Position::First(below, _) | Position::Pass(below) if names_var(keys, v) => {
                     self.holder(*input as usize, below, v)
                 }
                 _ => None,

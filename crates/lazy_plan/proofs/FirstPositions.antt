@@ -1,19 +1,20 @@
 -- The positions of an operator that drops bindings by keys that it has seen: each stands over one of the input.
-use Rattle.std.proofs.Common.{◌≡◌, ◌<◌, ◌≤◌, ◌+◌, ◌-◌, ◌*◌, ℕ, suc, true, List, [], Option, Some, None, length, drop, refl, ◌∙◌, sym, ap, arith}
+use Rattle.std.proofs.Common.{◌≡◌, ◌<◌, ◌≤◌, ◌+◌, ◌-◌, ◌*◌, ℕ, suc, true, false, List, [], ◌∷◌, Option, Some, None, length, drop, refl, ◌∙◌, sym, ap, arith}
 use Rattle.std.specs.Prelude.{IsTrue}
 use Rattle.mix_base.specs.Events.{nothing, found, cost}
 use Rattle.lazy_descend.specs.Searches.{FindsNone}
 use Rattle.mix_tree.specs.declared.var.Key.{Key}
 use Rattle.plan_core.specs.declared.plan.Piece.{Piece}
-use Rattle.plan_core.specs.Plans.{Operator}
+use Rattle.plan_core.specs.Plans.{Operator, over}
+use Rattle.plan_core.specs.Unary.{group_by}
 use Rattle.plan_core.specs.Valid.{shape_single}
-use Rattle.plan_core.specs.Shapes.{Shape, first_by_keys, shape_at, passes_on}
-use Rattle.plan_core.specs.Fronts.{stops_over}
+use Rattle.plan_core.specs.Shapes.{Shape, first_by_keys, shape_of, shape_at, passes_on}
+use Rattle.plan_core.specs.Fronts.{stops_over, shape_apart}
 use Rattle.plan_core.specs.Events.{kept_row}
 use Rattle.plan_core.specs.Typed.{IsTyped}
 use Rattle.plan_core.specs.Events.{events, distinct, keys_seen}
 use Rattle.plan_core.proofs.Distinct.{found-distinct_none, cost-distinct_le}
-use Rattle.lazy_binding.specs.declared.position.Position.{Position, Start, First', Seen'}
+use Rattle.lazy_binding.specs.declared.position.Position.{Position, Start, Pass', First', Seen'}
 use Rattle.lazy_binding.specs.World.{World, docs_of, is_told, seen_at}
 use Rattle.lazy_binding.specs.Cursors.{NoneBefore, IsPast, behind_first, up_to, ahead, number, size, stands, weighs, IsIn, IsOf}
 use Rattle.lazy_binding.specs.Reading.{below, count_of}
@@ -26,16 +27,25 @@ use Rattle.lazy_binding.proofs.Bound.{inputs_at}
 use Rattle.lazy_plan.proofs.Goes.{in_shape, less_times, IsOver}
 use Rattle.lazy_plan.proofs.Shapes.{events_at, size_at, single_at}
 
-module _ (ops : List Operator) (n i : ℕ) (keys : List Key) (group : Option (Piece × ℕ)) where
+module _ (ops : List Operator) (n i : ℕ) (keys : List Key) (group : Option (Piece × ℕ)) (some : shape_apart ops (passes_on i (first_by_keys keys group)) ≡ false) where
   -- the shape of the operator
   abbrev F : Shape
   F = passes_on i (first_by_keys keys group)
+
+  -- no position passes on a binding whose keys aren't looked at
+  not_passed : (w : World) (q : _) (c : Position) → IsIn w ops n F (Pass' q c) → ⊥
+  not_passed w q c h = by_group group some h
+    where
+      by_group : (g : Option (Piece × ℕ)) → shape_apart ops (passes_on i (first_by_keys keys g)) ≡ false → IsIn w ops n (passes_on i (first_by_keys keys g)) (Pass' q c) → ⊥
+      by_group None e k = (let z : true ≡ false = sym k.2 ∙ e in cc)
+      by_group (Some g) e k = k
 
   -- the input's position in a position
   pub firsts_below : (w : World) (c : Position) → IsIn w ops n F c → IsOf w ops i (below c)
   firsts_below w Start h = tt
   firsts_below w (First' q c k) h = h.0
   firsts_below w (Seen' q c k) h = h.0
+  firsts_below w (Pass' q c) h = absurd (not_passed w q c h)
   firsts_below w c h = absurd h
 
   -- no more keys were seen up to it than were seen
@@ -43,6 +53,7 @@ module _ (ops : List Operator) (n i : ℕ) (keys : List Key) (group : Option (Pi
   firsts_count w Start h = omega arith
   firsts_count w (First' q c k) h = h.2
   firsts_count w (Seen' q c k) h = h.2
+  firsts_count w (Pass' q c) h = absurd (not_passed w q c h)
   firsts_count w c h = absurd h
 
   module _ (typed : IsTyped ops) (within : n < length ops) (is : shape_at ops n ≡ F) where
@@ -51,6 +62,7 @@ module _ (ops : List Operator) (n i : ℕ) (keys : List Key) (group : Option (Pi
     firsts_ahead_is w Start h = events_at ops typed n within F is (docs_of w)
     firsts_ahead_is w (First' q c k) h = refl
     firsts_ahead_is w (Seen' q c k) h = refl
+    firsts_ahead_is w (Pass' q c) h = absurd (not_passed w q c h)
     firsts_ahead_is w c h = absurd h
 
     -- the keys that it sees there are those behind the ones that were seen
@@ -59,6 +71,7 @@ module _ (ops : List Operator) (n i : ℕ) (keys : List Key) (group : Option (Pi
     firsts_keys w Start h t = refl
     firsts_keys w (First' q c k) h t = h.3 t
     firsts_keys w (Seen' q c k) h t = h.3 t
+    firsts_keys w (Pass' q c) h t = absurd (not_passed w q c h)
     firsts_keys w c h t = absurd h
 
     -- no event before it has other keys than those that were seen up to it
@@ -66,6 +79,7 @@ module _ (ops : List Operator) (n i : ℕ) (keys : List Key) (group : Option (Pi
     firsts_before w Start h t = λ row e. refl
     firsts_before w (First' q c k) h t = h.4 t
     firsts_before w (Seen' q c k) h t = h.4 t
+    firsts_before w (Pass' q c) h t = absurd (not_passed w q c h)
     firsts_before w c h t = absurd h
 
     -- no more keys were seen than there are bindings up to it
@@ -73,6 +87,7 @@ module _ (ops : List Operator) (n i : ℕ) (keys : List Key) (group : Option (Pi
     firsts_few w Start h = omega arith
     firsts_few w (First' q c k) h = h.7
     firsts_few w (Seen' q c k) h = h.5
+    firsts_few w (Pass' q c) h = absurd (not_passed w q c h)
     firsts_few w c h = absurd h
 
     -- its number is above that of a later position with as many keys
@@ -83,6 +98,7 @@ module _ (ops : List Operator) (n i : ℕ) (keys : List Key) (group : Option (Pi
         omega (arith, k, z)
     firsts_above w (First' q c k) h m l = (let few = h.7 in omega (arith, few, l))
     firsts_above w (Seen' q c k) h m l = omega (arith, l)
+    firsts_above w (Pass' q c) h m l = absurd (not_passed w q c h)
     firsts_above w c h m l = absurd h
 
     -- and above that of one at a binding, with one key more
@@ -98,6 +114,7 @@ module _ (ops : List Operator) (n i : ℕ) (keys : List Key) (group : Option (Pi
     firsts_over_next w (Seen' q c k) h l =
         let m = less_times (size w ops i - suc k) (size w ops i - k) (size w ops i) (size w ops i) (omega (arith, l)) (omega arith) in
         omega (arith, m)
+    firsts_over_next w (Pass' q c) h l = absurd (not_passed w q c h)
     firsts_over_next w c h l = absurd h
 
     -- the bindings ahead are those behind as many of the operator's as keys were seen
@@ -105,6 +122,7 @@ module _ (ops : List Operator) (n i : ℕ) (keys : List Key) (group : Option (Pi
     firsts_past w Start h t = record { found = refl; costs = omega arith }
     firsts_past w (First' q c k) h t = record { found = ap found (sym (h.9 t)); costs = (let e = ap cost (h.9 t) in omega (arith, e)) }
     firsts_past w (Seen' q c k) h t = h.6 t
+    firsts_past w (Pass' q c) h t = absurd (not_passed w q c h)
     firsts_past w c h t = absurd h
 
     -- a single one is over a single one
@@ -129,14 +147,21 @@ module _ (ops : List Operator) (n i : ℕ) (keys : List Key) (group : Option (Pi
           ap found (firsts_ahead_is a c h)
           ∙ found-distinct_none (docs_of a) keys (kept_row (docs_of a) keys (stops_over ops i keys) group) (up_to a n (count_of c)) (ahead a ops i (below c)) (f t)
 
+-- a groupBy passes on no binding as a project may
+pub group_some : (ops : List Operator) (i j : ℕ) (keys others : List Key) (piece : Piece) (out : ℕ) (group : Option (Piece × ℕ)) → shape_of (over i (group_by keys piece out)) ≡ passes_on j (first_by_keys others group)
+    → shape_apart ops (passes_on j (first_by_keys others group)) ≡ false
+group_some ops i j keys others piece out (Some g) e = refl
+group_some ops i j [] others piece out None e = cc
+group_some ops i j (k ∷ keys) others piece out None e = cc
+
 -- a position of first bindings stands over one of its input
 pub firsts_over : {v : View} {g : Growing} {p : Fixed} {n : ℕ} {c : Position} → CanStep v g p n c → (i : ℕ) (keys : List Key) (group : Option (Piece × ℕ))
-    → shape_at (operators p) n ≡ passes_on i (first_by_keys keys group) → IsOver (operators p) n i (passes_on i (first_by_keys keys group)) (world_of v g) c
-firsts_over {v} {g} {p} {n} {c} can i keys group is =
+    → shape_at (operators p) n ≡ passes_on i (first_by_keys keys group) → shape_apart (operators p) (passes_on i (first_by_keys keys group)) ≡ false → IsOver (operators p) n i (passes_on i (first_by_keys keys group)) (world_of v g) c
+firsts_over {v} {g} {p} {n} {c} can i keys group is some =
     let h = in_shape can (passes_on i (first_by_keys keys group)) is in record {
-      input = firsts_below (operators p) n i keys group (world_of v g) c h;
-      costs = firsts_costs (operators p) n i keys group can.fixed.typed can.op is (world_of v g) c h;
+      input = firsts_below (operators p) n i keys group some (world_of v g) c h;
+      costs = firsts_costs (operators p) n i keys group some can.fixed.typed can.op is (world_of v g) c h;
       less = (inputs_at (operators p) can.fixed.typed n can.op (passes_on i (first_by_keys keys group)) is).0;
-      alone = firsts_single (operators p) n i keys group can.fixed.typed can.op is;
-      over = firsts_done (operators p) n i keys group can.fixed.typed can.op is (world_of v g) c h;
+      alone = firsts_single (operators p) n i keys group some can.fixed.typed can.op is;
+      over = firsts_done (operators p) n i keys group some can.fixed.typed can.op is (world_of v g) c h;
     }

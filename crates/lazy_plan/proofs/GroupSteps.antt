@@ -58,15 +58,15 @@ use Rattle.lazy_plan.proofs.Goes.{tells_on}
 -- WHERE A GROUP BEGINS
 
 -- the shape of a groupBy by keys
-pub group_shape : (o : Operator) → form o ≡ gathers_groups → (group : Option (Piece × ℕ)) × (shape_of o ≡ passes_on (input_of o) (first_by_keys (keys_of o) group))
+pub group_shape : (o : Operator) → form o ≡ gathers_groups → (group : Piece × ℕ) × (shape_of o ≡ passes_on (input_of o) (first_by_keys (keys_of o) (Some group)))
 group_shape (over i (group_by [] piece out)) h = cc
-group_shape (over i (group_by (k ∷ keys) piece out)) h = (Some (piece, out), refl)
+group_shape (over i (group_by (k ∷ keys) piece out)) h = ((piece, out), refl)
 group_shape o h = cc
 
-module _ (w : World) (ops : List Operator) (n i : ℕ) (keys : List Key) (group : Option (Piece × ℕ)) (is : shape_at ops n ≡ passes_on i (first_by_keys keys group)) where
+module _ (w : World) (ops : List Operator) (n i : ℕ) (keys : List Key) (group : Piece × ℕ) (is : shape_at ops n ≡ passes_on i (first_by_keys keys (Some group))) where
   -- the shape of the operator
   abbrev F : Shape
-  F = passes_on i (first_by_keys keys group)
+  F = passes_on i (first_by_keys keys (Some group))
 
   -- a position in that shape is one of the operator
   shaped : (c : Position) → IsIn w ops n F c → IsOf w ops n c
@@ -78,7 +78,7 @@ module _ (w : World) (ops : List Operator) (n i : ℕ) (keys : List Key) (group 
   begins_in Start h row = cc
   begins_in (First' q x k) h row = (
     λ u. shaped (First' u x k) h,
-    λ u. shaped (Seen' u x k) (h.0, h.1, h.2, h.3, h.4, h.7, λ t. record { found = ap found (sym (h.9 t)); costs = (let e = ap cost (h.9 t) in omega (arith, e)) }),
+    λ u. shaped (Seen' u x k) (h.0, h.1, h.2, h.3, h.4, h.7, λ t. record { found = ap found (sym (h.9 t)); costs = (let e = ap cost (h.9 t) in omega (arith, e)) }, h.10),
   )
   begins_in (Seen' q x k) h row = cc
   begins_in c h row = absurd h
@@ -165,7 +165,7 @@ pub group_can : (v : View) (b : Bench) (op m : ℕ) (first at : Position) (q : R
     → IsTrue (stops_at (operators b.fixed) op) → IsGroup (state_of v b) op m first at → CanStep v b.growing b.fixed (input_at (operators b.fixed) op) at
 group_can v b op m first at q bench within is stops g =
     let sh = group_shape (op_at (operators b.fixed) op) is in
-    let less = (inputs_at (operators b.fixed) bench.fixed.typed op within (passes_on (input_at (operators b.fixed) op) (first_by_keys (keys_of (op_at (operators b.fixed) op)) sh.0)) sh.1).0 in
+    let less = (inputs_at (operators b.fixed) bench.fixed.typed op within (passes_on (input_at (operators b.fixed) op) (first_by_keys (keys_of (op_at (operators b.fixed) op)) (Some sh.0))) sh.1).0 in
     record {
       fixed = bench.fixed;
       op = omega (arith, less, within);
@@ -204,7 +204,7 @@ module _ (a b : World) (p : Plan) (op m : ℕ) (first at : Position) (q : Rc (Un
 
   -- what is made of a group
   abbrev made : Option (Piece × ℕ)
-  made = (group_shape (op_at ops op) is).0
+  made = Some (group_shape (op_at ops op) is).0
 
   -- the shape of the operator
   at_shape : shape_at ops op ≡ passes_on i (first_by_keys keys made)
@@ -279,7 +279,7 @@ module _ (a b : World) (p : Plan) (op m : ℕ) (first at : Position) (q : Rc (Un
           let some = begun.6 in
           let one : suc (m - 1) ≡ m = omega (arith, some) in
           subst (λ (z : Shape). IsIn b ops op z (Seen' u d m)) (sym at_shape)
-          (goes_past ops op i keys made typed within at_shape a (Seen' q at m) member b bench k d f late key parts val ones
+          (goes_past ops op i keys made refl typed within at_shape a (Seen' q at m) member b bench k d f late key parts val ones
           (ap (λ (z : ℕ). was_seen key (take z (seen_at b op))) (sym one) ∙ seen) u).cursor
 
       -- it is the next member

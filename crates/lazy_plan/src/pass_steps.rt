@@ -1,9 +1,8 @@
 // One step over the events of an operator that passes on bindings of its input.
-ghost use Rattle.std.specs.Prelude.{◌≡◌, ℕ, Option};
-ghost use Rattle.plan_core.specs.declared.plan.Piece.{Piece};
-ghost use Rattle.plan_core.specs.Shapes.{filters, extends, first_by_keys, passes_on, Made};
+ghost use Rattle.std.specs.Prelude.{◌≡◌};
+ghost use Rattle.plan_core.specs.Shapes.{filters, passes_on};
 ghost use Rattle.lazy_binding.specs.Parts.{shape_walked};
-ghost use Rattle.lazy_plan.specs.Steps.{CanWalk, StepsOn};
+ghost use Rattle.lazy_plan.specs.Steps.{CanWalk, StepsOn, PassesOn, KeepsFirsts};
 
 use crate::firsts::{KeyEvent, first_of_key};
 use crate::step::Step;
@@ -68,25 +67,25 @@ impl<'a> Filters<'a> {
     }
 }
 
-/// A concatenate or a createElement: its input.
+/// A concatenate, a createElement, or a project over bindings of which no two agree by its keys: its input.
 #[derive(Clone, Copy)]
-pub(crate) struct Extends<'a> {
+pub(crate) struct Passes<'a> {
     pub(crate) walk: Walk<'a>,
     pub(crate) input: usize,
 }
 
-impl<'a> Extends<'a> {
-    /// A concatenate or a createElement of this input.
-    pub(crate) fn new(walk: Walk<'a>, input: u32) -> Extends<'a>
+impl<'a> Passes<'a> {
+    /// Such an operator of this input.
+    pub(crate) fn new(walk: Walk<'a>, input: u32) -> Passes<'a>
         ensures { result ≡ record { walk = walk.entry; input = input } }
     {
-        Extends {
+        Passes {
             walk,
             input: input as usize,
         }
     }
 
-    /// The input's next binding, with one variable more.
+    /// The input's next binding, passed on.
     #[cycle(walk)]
     pub(crate) fn step<S: Sources>(
         &self,
@@ -96,7 +95,7 @@ impl<'a> Extends<'a> {
         at: &Position,
     ) -> Result<Step, WalkFault>
         requires can { CanWalk (S.view s.old) growing.old self.now.walk at.now }
-        requires is { (out : ℕ) × (made : Made) × (shape_walked self.now.walk ≡ passes_on self.now.input (extends out made)) }
+        requires is { PassesOn self.now.walk self.now.input }
         ensures { StepsOn S.view S.came_from self.now.walk at.now s.old growing.old s.new growing.new result }
     {
         let input = Walk {
@@ -141,7 +140,7 @@ impl<'a> Firsts<'a> {
         at: &Position,
     ) -> Result<Step, WalkFault>
         requires can { CanWalk (S.view s.old) growing.old self.now.walk at.now }
-        requires is { (group : Option (Piece × ℕ)) × (shape_walked self.now.walk ≡ passes_on self.now.input (first_by_keys self.now.keys.now group)) }
+        requires is { KeepsFirsts self.now.walk self.now.input self.now.keys.now }
         ensures { StepsOn S.view S.came_from self.now.walk at.now s.old growing.old s.new growing.new result }
     {
         match resume(growing, self.walk.op, at)? {
@@ -160,7 +159,7 @@ impl<'a> Firsts<'a> {
         at: &Position,
     ) -> Result<Step, WalkFault>
         requires can { CanWalk (S.view s.old) growing.old self.now.walk at.now }
-        requires is { (group : Option (Piece × ℕ)) × (shape_walked self.now.walk ≡ passes_on self.now.input (first_by_keys self.now.keys.now group)) }
+        requires is { KeepsFirsts self.now.walk self.now.input self.now.keys.now }
         ensures { StepsOn S.view S.came_from self.now.walk at.now s.old growing.old s.new growing.new result }
     {
         let input = Walk {

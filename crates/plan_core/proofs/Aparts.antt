@@ -193,3 +193,21 @@ module _ (docs : Documents) where
   covered_apart keys others c (skip ∷ es) h = covered_apart keys others c es h
   covered_apart keys others c (bind row ∷ es) h =
       (binding_weaker (Differ docs others row) (Differ docs keys row) (λ b d. covered_differ docs keys others c row b d) es h.0, covered_apart keys others c es h.1)
+
+  -- what was not seen is not seen behind a binding from which it differs
+  unseen_more : (keys : List Key) (row : TolledRow) (seen : List (List KeyValue)) (es : RowEvents) → EachBinding (λ c. is_seen (key_values docs keys c) seen ≡ false) es
+      → EachBinding (Differ docs keys row) es → EachBinding (λ c. is_seen (key_values docs keys c) (seen ++ key_values docs keys row ∷ []) ≡ false) es
+  unseen_more keys row seen [] u d = tt
+  unseen_more keys row seen (skip ∷ es) u d = unseen_more keys row seen es u d
+  unseen_more keys row seen (bind c ∷ es) u d = (
+    list_any-append (λ s. same_values s (key_values docs keys c)) seen (key_values docs keys row ∷ []) ∙ rw (u.0, d.0) refl,
+    unseen_more keys row seen es u.1 d.1,
+  )
+
+  -- where no two agree, and none was seen, none is dropped
+  pub distinct_apart : (keys : List Key) (f : TolledRow → TolledRow) (seen : List (List KeyValue)) (es : RowEvents) → EachBinding (λ c. is_seen (key_values docs keys c) seen ≡ false) es
+      → AreApart docs keys es → distinct docs keys (λ row rest. f row) seen es ≡ each_row f es
+  distinct_apart keys f seen [] u h = refl
+  distinct_apart keys f seen (skip ∷ es) u h = ap (λ (z : RowEvents). skip ∷ z) (distinct_apart keys f seen es u h)
+  distinct_apart keys f seen (bind row ∷ es) u h =
+      rw u.0 (ap (λ (z : RowEvents). bind (f row) ∷ z) (distinct_apart keys f (seen ++ key_values docs keys row ∷ []) es (unseen_more keys row seen es u.1 h.0) h.1))

@@ -1,7 +1,8 @@
 -- The events of each operator of a valid plan have its front.
 use Rattle.std.proofs.Common.{◌≡◌, inl, inr, ℕ, zero, suc, ◌<◌, ◌≤◌, true, false, List, [], ◌∷◌, refl, sym, ap, subst, ◌∙◌, arith, length, take}
 use Rattle.std.specs.Prelude.{Bool, Option, Some, None}
-use Rattle.std.proofs.lemmas.Bool.{cases_lt}
+use Rattle.std.specs.List.{AllByRecursion}
+use Rattle.std.proofs.lemmas.Bool.{cases_lt, and_parts}
 use Rattle.std.proofs.lemmas.List.{get_or_past}
 use Rattle.mix_base.specs.Ascents.{Among}
 use Rattle.mix_base.specs.Events.{skip, bind}
@@ -9,16 +10,17 @@ use Rattle.mix_tree.specs.Comparisons.{passes}
 use Rattle.mix_tree.specs.Nodes.{Documents}
 use Rattle.mix_tree.specs.declared.var.Key.{Key}
 use Rattle.plan_core.specs.declared.plan.Piece.{Piece}
-use Rattle.plan_core.specs.Beside.{Differ, StandsFirst, AreBeside, AreContiguous, HaveFront, FrontsAreOfEvents}
+use Rattle.plan_core.specs.Beside.{Differ, AreApart, StandsFirst, AreBeside, AreContiguous, HaveFront, FrontsAreOfEvents, ArePassed, ApartArePassed}
 use Rattle.plan_core.specs.ByNumber.{op_at}
 use Rattle.plan_core.specs.Events.{RowEvents, shape_events, events}
-use Rattle.plan_core.specs.Fronts.{Front, node_keys, shared, covers, are_contiguous, shape_front, front}
+use Rattle.plan_core.specs.Fronts.{Front, node_keys, shared, covers, are_contiguous, apart_over, shape_front, front}
 use Rattle.plan_core.specs.Plans.{source, PlanValue}
 use Rattle.plan_core.specs.Shapes.{Stage, filters, extends, first_by_keys, one_group, in_order, Shape, one_source, visits_below, pairs_up, passes_on, no_events, shape_at}
-use Rattle.plan_core.specs.TolledRows.{TolledRow, key_values, same_values, row_node}
+use Rattle.plan_core.specs.TolledRows.{TolledRow, key_values, same_values, row_node, tolled_restrict}
 use Rattle.plan_core.specs.Typed.{IsTyped}
 use Rattle.plan_core.specs.Valid.{Kinds, AreNodes, IsStageFit, IsShapeFit, shape_kinds, shape_inputs, shape_outs, kinds, IsValid}
-use Rattle.plan_core.proofs.Bindings.{binding_weaker}
+use Rattle.plan_core.proofs.Aparts.{covered_apart, distinct_apart}
+use Rattle.plan_core.proofs.Bindings.{binding_weaker, each_binding}
 use Rattle.plan_core.proofs.Fresh.{out_fresh, sides_fresh}
 use Rattle.plan_core.proofs.FrontSteps.{AreFronted, source_fronted, visits_fronted, filtered_fronted, extended_fronted, grouped_fronted, ordered_fronted, kept_fronted, pairs_fronted}
 use Rattle.plan_core.proofs.KeyValues.{covered_same, covers_shared, shared_front, take_front, length_front, take_length}
@@ -137,3 +139,34 @@ events_contiguous p valid docs i = elim (cases_lt i (length p.ops)) [
 -- the events of each operator of a valid plan have its front
 pub fronts_are_of_events : FrontsAreOfEvents
 fronts_are_of_events p valid docs n h = events_front p valid docs n h
+
+-- KEYS BY WHICH NO TWO AGREE
+
+module _ (p : PlanValue) (valid : IsValid p) (docs : Documents) (n i : ℕ) (keys : List Key) (b : n < length p.ops) (is : shape_at p.ops n ≡ passes_on i (first_by_keys keys None))
+    (apart : apart_over p.ops i keys ≡ true) where
+  -- the operator is typed
+  own : AllByRecursion (λ j. j < n) (shape_inputs (shape_at p.ops n))
+  own = (valid_is_typed p valid).inputs n b
+
+  -- its input stands before it
+  before : i < n
+  before = (subst (λ (f : Shape). AllByRecursion (λ j. j < n) (shape_inputs f)) is own).0
+
+  -- no two bindings of the input agree
+  input_apart : AreApart docs keys (events docs p.ops i)
+  input_apart =
+      let e = and_parts (front p.ops i).whole (covers keys (node_keys (front p.ops i).vars)) apart in
+      covered_apart docs keys (node_keys (front p.ops i).vars) e.1 (events docs p.ops i) ((events_front p valid docs i (omega (arith, before, b))).whole e.0)
+
+  -- so none is dropped
+  pub are_passed : ArePassed docs p.ops n i keys
+  are_passed = record {
+    apart = input_apart;
+    events_are =
+        events-of docs p.ops n (op_at p.ops n) refl own ∙ ap (λ (f : Shape). shape_events docs (front p.ops) f (events docs p.ops)) is
+        ∙ distinct_apart docs keys (tolled_restrict keys) [] (events docs p.ops i) (each_binding (λ c. false ≡ false) (λ c. refl) (events docs p.ops i)) input_apart;
+  }
+
+-- so it is of each valid plan
+pub apart_are_passed : ApartArePassed
+apart_are_passed p valid docs n i keys b is apart = are_passed p valid docs n i keys b is apart

@@ -1,12 +1,13 @@
 -- Bindings that agree by keys, those of which no two do, and those that stand side by side where they do.
-use Rattle.std.specs.Prelude.{◌≡◌, ◌⊎◌, ◌<◌, ◌≤◌, ℕ, true, false, List, [], ◌∷◌, length, take}
+use Rattle.std.specs.Prelude.{◌≡◌, ◌⊎◌, ◌<◌, ◌≤◌, ℕ, true, false, None, List, [], ◌∷◌, length, take}
 use Rattle.mix_base.specs.Events.{Event, skip, bind}
 use Rattle.mix_tree.specs.Nodes.{Documents}
 use Rattle.mix_tree.specs.declared.var.Key.{Key}
-use Rattle.plan_core.specs.Events.{RowEvents, events}
-use Rattle.plan_core.specs.Fronts.{Front, front, node_keys, are_contiguous}
-use Rattle.plan_core.specs.Plans.{PlanValue}
-use Rattle.plan_core.specs.TolledRows.{TolledRow, key_values, same_values}
+use Rattle.plan_core.specs.Events.{RowEvents, events, each_row}
+use Rattle.plan_core.specs.Fronts.{Front, front, node_keys, are_contiguous, apart_over}
+use Rattle.plan_core.specs.Plans.{Operator, PlanValue}
+use Rattle.plan_core.specs.Shapes.{first_by_keys, passes_on, shape_at}
+use Rattle.plan_core.specs.TolledRows.{TolledRow, key_values, same_values, tolled_restrict}
 use Rattle.plan_core.specs.Valid.{IsValid}
 
 -- each binding is as is said
@@ -54,3 +55,13 @@ pub record HaveFront (docs : Documents) (f : Front) (es : RowEvents) : Type 0 wh
 -- the events of each operator of a valid plan have its front
 abbrev pub FrontsAreOfEvents : Type 0
 FrontsAreOfEvents = (p : PlanValue) → IsValid p → (docs : Documents) (n : ℕ) → n < length p.ops → HaveFront docs (front p.ops n) (events docs p.ops n)
+
+-- no two bindings of operator i agree by the keys, and the events of operator n are those of it, of each binding the variables of the keys
+pub record ArePassed (docs : Documents) (ops : List Operator) (n i : ℕ) (keys : List Key) : Type 0 where
+  pub apart : AreApart docs keys (events docs ops i)
+  pub events_are : events docs ops n ≡ each_row (tolled_restrict keys) (events docs ops i)
+
+-- so it is where a project of a valid plan stands over bindings of which no two agree by its keys
+abbrev pub ApartArePassed : Type 0
+ApartArePassed = (p : PlanValue) → IsValid p → (docs : Documents) (n i : ℕ) (keys : List Key) → n < length p.ops → shape_at p.ops n ≡ passes_on i (first_by_keys keys None)
+    → apart_over p.ops i keys ≡ true → ArePassed docs p.ops n i keys

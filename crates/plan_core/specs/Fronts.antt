@@ -1,5 +1,5 @@
 -- Fronts: variables by whose first ones the bindings of an operator that agree stand side by side.
-use Rattle.std.specs.Prelude.{◌≡◌, ◌<◌, ℕ, Bool, true, false, cond, ◌&&◌, List, [], ◌∷◌, ◌++◌, map, length, slice_index_or}
+use Rattle.std.specs.Prelude.{◌≡◌, ◌<◌, ℕ, Bool, true, false, cond, ◌&&◌, None, List, [], ◌∷◌, ◌++◌, map, length, slice_index_or}
 use Rattle.std.specs.List.{list_all, list_any}
 use Rattle.mix_tree.specs.Keys.{key_eq, stands}
 use Rattle.mix_tree.specs.declared.var.Key.{Key}
@@ -58,7 +58,7 @@ op_front op of = shape_front (shape_of op) of
 
 -- the front of operator n
 unfoldable pub front : List Operator → ℕ → Front
-front ops n = by_number op_front (no_front false) ops n
+front ops n = by_number op_front (no_front true) ops n
 
 -- groups by these keys over operator n end at the first other key
 abbrev pub stops_over : List Operator → ℕ → List Key → Bool
@@ -77,9 +77,22 @@ op_stops ops (over input (concatenate pieces out)) = false
 op_stops ops (over input (create_element label list out)) = false
 op_stops ops (tuple_destroy input made) = false
 
--- the front of a number among fronts; elsewhere none
+-- no two bindings of operator n agree by these keys: they cover its front, and it is whole
+abbrev pub apart_over : List Operator → ℕ → List Key → Bool
+apart_over ops n keys = (front ops n).whole && covers keys (node_keys (front ops n).vars)
+
+-- a shape passes on each binding of its input, where it would keep the first ones by keys: it is a project's, and no two of them agree by its keys
+abbrev pub shape_apart : List Operator → Shape → Bool
+shape_apart ops (passes_on input (first_by_keys keys None)) = apart_over ops input keys
+shape_apart ops f = false
+
+-- so does an operator
+abbrev pub op_apart : List Operator → Operator → Bool
+op_apart ops op = shape_apart ops (shape_of op)
+
+-- the front of a number among fronts; elsewhere that of no bindings
 abbrev pub front_at : List Front → ℕ → Front
-front_at fronts n = slice_index_or fronts n (no_front false)
+front_at fronts n = slice_index_or fronts n (no_front true)
 
 -- these are the fronts of the operators
 pub record AreFronts (ops : List Operator) (fronts : List Front) : Type 0 where

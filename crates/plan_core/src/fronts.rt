@@ -1,9 +1,9 @@
-// Fronts: variables by whose first ones the bindings of an operator that agree stand side by side, and which groups end at the first other key.
+// Fronts: variables by whose first ones the bindings of an operator that agree stand side by side, and what they tell of the keys of operators.
 ghost use Rattle.std.specs.Prelude.{◌≡◌, ◌==◌, ◌++◌, [], List, IfOk, cond, map};
-ghost use Rattle.std.specs.List.{list_any};
+ghost use Rattle.std.specs.List.{list_all, list_any};
 ghost use Rattle.mix_tree.specs.Keys.{key_eq, stands};
 ghost use Rattle.mix_tree.specs.declared.var.Key.TheVariants.{Node as node_key};
-ghost use Rattle.plan_core.specs.Fronts.{no_front, node_keys, shared, covers, op_front, op_stops, front_at, AreFronts, are_contiguous};
+ghost use Rattle.plan_core.specs.Fronts.{no_front, node_keys, shared, covers, op_front, op_stops, op_apart, front_at, AreFronts, are_contiguous};
 ghost use Rattle.plan_core.specs.Plans.{Operator};
 ghost use Rattle.plan_core.specs.PlanMade.{op_of};
 
@@ -48,13 +48,13 @@ pub fn vars_at(fronts: &[Front], n: u32) -> &[Var]
     }
 }
 
-/// Whether the front of a number is whole: no two bindings agree in all of its variables.
+/// Whether the front of a number is whole: no two bindings agree in all of its variables. So it is where there is no such front.
 pub fn is_whole(fronts: &[Front], n: u32) -> bool
     ensures { result ≡ (front_at fronts.now n).whole }
 {
     match fronts.get(n as usize) {
         Some(front) => front.whole,
-        None => false,
+        None => true,
     }
 }
 
@@ -174,7 +174,7 @@ pub fn fronts_of(alloc: Global, ops: &[Op]) -> Result<Vec<Front>, AllocError>
 }
 
 // Whether the groups of an operator end at the first other key.
-fn stops(alloc: Global, op: &Op, fronts: &[Front]) -> Result<bool, AllocError>
+fn ends_groups(alloc: Global, op: &Op, fronts: &[Front]) -> Result<bool, AllocError>
     ensures { IfOk result (λ b. (ops : List Operator) → AreFronts ops fronts.now → b ≡ op_stops ops (op_of op.now)) }
 {
     match op {
@@ -186,15 +186,45 @@ fn stops(alloc: Global, op: &Op, fronts: &[Front]) -> Result<bool, AllocError>
     }
 }
 
-/// For each operator of a plan whether it is a `groupBy` whose groups end at the first other key of its input, since bindings that agree by
-/// its keys stand side by side (docs/MEANING.md, "Fronts").
-pub fn stopping_groups(alloc: Global, ops: &[Op]) -> Result<Vec<bool>, AllocError>
-    ensures { IfOk result (λ all. all.items ≡ map (op_stops (map op_of ops.now)) (map op_of ops.now)) }
+// Whether each of these variables' nodes is a key.
+fn are_node_keys(keys: &[Key], vars: &[Var]) -> bool
+    ensures { result ≡ list_all (λ v. list_any (key_eq (node_key v)) keys.now) vars.now }
+{
+    vars.iter().all(|var| is_node_key(keys, *var))
+}
+
+// Whether no two bindings below a project agree by its keys.
+fn is_apart(op: &Op, fronts: &[Front]) -> bool
+    ensures { (ops : List Operator) → AreFronts ops fronts.now → result ≡ op_apart ops (op_of op.now) }
+{
+    match op {
+        Op::Project { input, keys } => {
+            is_whole(fronts, *input) && are_node_keys(keys, vars_at(fronts, *input))
+        }
+        _ => false,
+    }
+}
+
+/// What the fronts of a plan tell of the keys of its operators, each by its number (docs/MEANING.md, "Fronts").
+#[derive(Drop)]
+pub struct KeyFacts {
+    /// Whether it is a `groupBy` whose groups end at the first other key of its input, since bindings that agree by its keys stand side by side.
+    pub stops: Vec<bool>,
+    /// Whether it is a `project` that passes on each binding of its input, since no two of them agree by its keys.
+    pub apart: Vec<bool>,
+}
+
+/// What is known of the keys of the operators of a plan. `Err`: memory.
+pub fn key_facts(alloc: Global, ops: &[Op]) -> Result<KeyFacts, AllocError>
+    ensures stops { IfOk result (λ facts. facts.stops.items ≡ map (op_stops (map op_of ops.now)) (map op_of ops.now)) }
+    ensures apart { IfOk result (λ facts. facts.apart.items ≡ map (op_apart (map op_of ops.now)) (map op_of ops.now)) }
 {
     let fronts = fronts_of(alloc, ops)?;
-    let mut all = Vec::new(alloc);
+    let mut stops = Vec::new(alloc);
+    let mut apart = Vec::new(alloc);
     'ops: for op in ops {
-        all.push(stops(alloc, op, &fronts)?)?;
+        stops.push(ends_groups(alloc, op, &fronts)?)?;
+        apart.push(is_apart(op, &fronts))?;
     }
-    Ok(all)
+    Ok(KeyFacts { stops, apart })
 }

@@ -1,4 +1,4 @@
-use Rattle.std.proofs.Common.{rules, ◌∙◌, refl, sym}
+use Rattle.std.proofs.Common.{rules, ◌∙◌, Some, refl, sym}
 use Rattle.lazy_binding.specs.Parts.{operators, world_of}
 use Rattle.lazy_binding.proofs.KeyParts.{keys_fit}
 use Rattle.lazy_plan.proofs.Benches.{walk_ran}
@@ -14,7 +14,7 @@ advance-requires g c =
 pub key_of-requires-clause-keys : goal.key_of-requires-clause-keys
 key_of-requires-clause-keys g c =
     let sh = group_shape _ c.requires.is in
-    rw (c.input_of-below.ensures, c.group_keys-keys.ensures) (keys_fit (operators c.args.self.now.fixed) c.requires.bench.fixed.typed c.args.group.now.op c.requires.op _ _ sh.0 sh.1)
+    rw (c.input_of-below.ensures, c.group_keys-keys.ensures) (keys_fit (operators c.args.self.now.fixed) c.requires.bench.fixed.typed c.args.group.now.op c.requires.op _ _ (Some sh.0) sh.1)
 
 pub returns-in_err-advance : goal.returns-in_err-advance
 returns-in_err-advance g c =

@@ -1,6 +1,6 @@
 use Rattle.std.proofs.Common.{◌∙◌}
 use Rattle.plan_core.proofs.FrontCode.{stops_found}
-use Rattle.plan_core.proofs.fronts.stops.Goals as goal
+use Rattle.plan_core.proofs.fronts.ends_groups.Goals as goal
 
 pub returns-in_ok-vars-in-GroupBy : goal.returns-in_ok-vars-in-GroupBy
 returns-in_ok-vars-in-GroupBy c = λ ops h.
