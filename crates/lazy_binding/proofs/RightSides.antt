@@ -77,7 +77,7 @@ module _ (ops : List Operator) (typed : IsTyped ops) where
   -- nothing is no spot
   found_none : (out v s : ℕ) (d : _) (there : Option (ℕ × Spot)) → (out == v) ≡ false → there ≡ None → found_spot (out == v) s d there ≡ None
   found_none out v s None there e h = h
-  found_none out v s (Some d) there e h = ap (λ (b : Bool). cond b (Some (s, spot_of d.frame.value)) there) e ∙ h
+  found_none out v s (Some d) there e h = ap (λ (b : Bool). cond b (Some (s, spot_of d.frame)) there) e ∙ h
 
   mutual
     -- no position of an operator has a spot of a variable that the operator doesn't bind

@@ -80,7 +80,7 @@ module _ (ops : List Operator) (typed : IsTyped ops) (w : World) where
         let x = spot_is ops typed w i small (shape_at ops i) refl c of.0 of.1 start (fit_at ops typed n h (visits_below i start path out) e).0 in
         let here : x.source ≡ s = sym (ap (λ (y : Node). y.source) (ap source_node x.value)) ∙ of.2 in
         let begun : Some s ≡ source_var ops i start = sym (ap Some here) ∙ sym (ap source_in x.is) ∙ source_is i small (shape_at ops i) refl c of.0 of.1 start in
-        source_new (out == v) (Some (s, spot_of d.frame.value)) (spot_in ops i c v)
+        source_new (out == v) (Some (s, spot_of d.frame)) (spot_in ops i c v)
         ∙ ap (λ (z : Option ℕ). cond (out == v) z (source_in (spot_in ops i c v))) begun
         ∙ ap (cond (out == v) (source_var ops i start)) (source_is i small (shape_at ops i) refl c of.0 of.1 v)
         ∙ sym (source_at ops typed n h (visits_below i start path out) e v)

@@ -26,7 +26,7 @@ or_else (Some p) q = Some p
 -- the spot of a match for a variable, or else another
 abbrev pub found_spot : Bool → ℕ → Option DescCursor → Option (ℕ × Spot) → Option (ℕ × Spot)
 found_spot is_out s None p = p
-found_spot is_out s (Some d) p = cond is_out (Some (s, spot_of d.frame.value)) p
+found_spot is_out s (Some d) p = cond is_out (Some (s, spot_of d.frame)) p
 
 abbrev mutual
   -- the spot of a variable in the binding of a position in this shape, with its source
@@ -53,7 +53,7 @@ spot_in ops n c v = spot_at ops (shape_at ops n) c v
 -- the spot at which a part of a position stands, with its source
 abbrev pub held : Position → Option (ℕ × Spot)
 held (Top t x) = Some (t, x)
-held (Found' q c s (Some d)) = Some (s, spot_of d.frame.value)
+held (Found' q c s (Some d)) = Some (s, spot_of d.frame)
 held c = None
 
 -- of a part, where there is one
