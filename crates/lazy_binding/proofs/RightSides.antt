@@ -84,7 +84,7 @@ module _ (ops : List Operator) (typed : IsTyped ops) where
   -- nothing is no spot
   found_none : (out v s : ℕ) (d : _) (there : Option (ℕ × Spot)) → (out == v) ≡ false → there ≡ None → found_spot (out == v) s d there ≡ None
   found_none out v s None there e h = h
-  found_none out v s (Some d) there e h = ap (λ (b : Bool). cond b (Some (s, spot_of d.frame.value)) there) e ∙ h
+  found_none out v s (Some d) there e h = ap (λ (b : Bool). cond b (Some (s, spot_of d.frame)) there) e ∙ h
 
   mutual
     -- no position of an operator has a spot of a variable that the operator doesn't bind
@@ -92,7 +92,7 @@ module _ (ops : List Operator) (typed : IsTyped ops) where
     no_spot n h (one_source s out) e (Top t x) v k =
         let z = with_none out v a_node no_kinds (sym (ap (λ (g : Kinds). g v) (kinds_at ops typed n h (one_source s out) e)) ∙ k) in
         ap (λ (b : Bool). cond b (Some (t, x)) None) z.0
-    no_spot n h (visits_below i start path out) e (Found' q c s d) v k =
+    no_spot n h (visits_below i start path out) e (Found' s q c d) v k =
         let z = with_none out v a_node (kinds ops i) (sym (ap (λ (g : Kinds). g v) (kinds_at ops typed n h (visits_below i start path out) e)) ∙ k) in
         let l = inputs_at ops typed n h (visits_below i start path out) e in
         found_none out v s d (spot_in ops i c v) z.0 (no_spot i (omega (arith, h, l.0)) (shape_at ops i) refl c v z.1)

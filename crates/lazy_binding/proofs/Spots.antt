@@ -59,12 +59,12 @@ module _ (ops : List Operator) (typed : IsTyped ops) (w : World) where
     lacks n h (passes_on i (one_group p out)) e Whole of row v k =
         let z = with_none out v a_list (kept [] (kinds ops i)) (sym (ap (λ (g : Kinds). g v) (kinds_at ops typed n h (passes_on i (one_group p out)) e)) ∙ k) in
         (refl, lacks_more out _ [] v z.0 (λ b. refl))
-    lacks n h (visits_below i start path out) e (Found' q c s None) of row v k = cc
-    lacks n h (visits_below i start path out) e (Found' q c s (Some d)) of row v k =
+    lacks n h (visits_below i start path out) e (Found' s q c None) of row v k = cc
+    lacks n h (visits_below i start path out) e (Found' s q c (Some d)) of row v k =
         let z = with_none out v a_node (kinds ops i) (sym (ap (λ (g : Kinds). g v) (kinds_at ops typed n h (visits_below i start path out) e)) ∙ k) in
         let l = inputs_at ops typed n h (visits_below i start path out) e in
         let y = lacks i (omega (arith, h, l.0)) (shape_at ops i) refl c of.0 of.1 v z.1 in (
-          ap (λ (b : Bool). cond b (Some (s, spot_of d.frame.value)) (spot_in ops i c v)) z.0 ∙ y.0,
+          ap (λ (b : Bool). cond b (Some (s, spot_of d.frame)) (spot_in ops i c v)) z.0 ∙ y.0,
           lacks_more out (of_source (record { source = (row_node (binding w ops i c) start).source; place = match_place w s d })) (binding w ops i c) v z.0 y.1,
         )
     lacks n h (passes_on i (filters test)) e (Pass' q c) of row v k =
@@ -121,17 +121,17 @@ module _ (ops : List Operator) (typed : IsTyped ops) (w : World) where
         ]
     spot_is n h (passes_on i (one_group p out)) e Whole of row v k =
         let z = with_other out v a_list (kept [] (kinds ops i)) no_list (sym (ap (λ (g : Kinds). g v) (kinds_at ops typed n h (passes_on i (one_group p out)) e)) ∙ k) in absurd (no_kind a_node z.1)
-    spot_is n h (visits_below i start path out) e (Found' q c s None) of row v k = cc
-    spot_is n h (visits_below i start path out) e (Found' q c s (Some d)) of row v k =
+    spot_is n h (visits_below i start path out) e (Found' s q c None) of row v k = cc
+    spot_is n h (visits_below i start path out) e (Found' s q c (Some d)) of row v k =
         let known = sym (ap (λ (g : Kinds). g v) (kinds_at ops typed n h (visits_below i start path out) e)) ∙ k in
         let node : Node = record { source = (row_node (binding w ops i c) start).source; place = match_place w s d } in
         elim (either_node out v (kinds ops i) node (binding w ops i c) known) [
           | inl z ↦ record {
             source = s;
-            spot = spot_of d.frame.value;
-            is = ap (λ (b : Bool). cond b (Some (s, spot_of d.frame.value)) (spot_in ops i c v)) z.0;
+            spot = spot_of d.frame;
+            is = ap (λ (b : Bool). cond b (Some (s, spot_of d.frame)) (spot_in ops i c v)) z.0;
             read = of.3;
-            known = record { buffer = of.4.buffer; there = of.4.there; spot = frame_spot of.4.buffer d.frame.value of.4.cursor };
+            known = record { buffer = of.4.buffer; there = of.4.there; spot = frame_spot of.4.buffer d.frame of.4.cursor };
             value = z.1 ∙ ap (λ (x : ℕ). of_source (record { source = x; place = match_place w s d })) of.2;
           }
           | inr z ↦ (
@@ -139,7 +139,7 @@ module _ (ops : List Operator) (typed : IsTyped ops) (w : World) where
               let y = spot_is i (omega (arith, h, l.0)) (shape_at ops i) refl c of.0 of.1 v z.1 in record {
                 source = y.source;
                 spot = y.spot;
-                is = ap (λ (b : Bool). cond b (Some (s, spot_of d.frame.value)) (spot_in ops i c v)) z.0 ∙ y.is;
+                is = ap (λ (b : Bool). cond b (Some (s, spot_of d.frame)) (spot_in ops i c v)) z.0 ∙ y.is;
                 read = y.read;
                 known = y.known;
                 value = z.2 ∙ y.value;

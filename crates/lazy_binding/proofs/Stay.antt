@@ -128,7 +128,7 @@ module _ (a b : World) (k : Keeps a b) (ops : List Operator) (bench : IsBench a 
     standing_kept n f Start h = ap (λ (z : Documents). record { row = []; ahead = events z ops n }) (docs_kept k ops bench)
     standing_kept n (one_source s out) (Top t x) h = ap (λ (z : Node). record { row = (out, of_source z) ∷ []; ahead = [] }) (node_kept k t x h.1)
     standing_kept n (passes_on i (one_group p out)) Whole h = ap (λ (z : Documents). record { row = whole_row z p out (events z ops i); ahead = [] }) (docs_kept k ops bench)
-    standing_kept n (visits_below i start path out) (Found' q c s d) h =
+    standing_kept n (visits_below i start path out) (Found' s q c d) h =
         let old : Standing = standing a ops i c in
         ap (λ (z : Standing). record { row = found_row b start out z.row s d; ahead = visit_ahead b start path out z.row s d ++ expand (descendants (docs_of b) start path out) z.ahead })
         (standing_kept i (shape_at ops i) c h.0)
@@ -182,7 +182,7 @@ module _ (a b : World) (k : Keeps a b) (ops : List Operator) (bench : IsBench a 
   number_kept n f Start h = let e = size_kept n in omega (arith, e)
   number_kept n (one_source s out) (Top t x) h = omega arith
   number_kept n (passes_on i (one_group p out)) Whole h = omega arith
-  number_kept n (visits_below i start path out) (Found' q c s d) h =
+  number_kept n (visits_below i start path out) (Found' s q c d) h =
       let e : bound_of b ≡ bound_of a = bound_kept k ops bench in
       let l = mul-le (number b ops i c) (suc (suc (bound_of a))) (number a ops i c) (suc (suc (bound_of a))) (number_kept i (shape_at ops i) c h.0) (omega arith) in
       let f = found_number-kept s d h.4 in
@@ -208,7 +208,7 @@ module _ (a b : World) (k : Keeps a b) (ops : List Operator) (bench : IsBench a 
     cursor_kept n f Start h = tt
     cursor_kept n (one_source s out) (Top t x) h = (h.0, spot_kept k t x h.1, place_kept k t x h.1 ∙ h.2)
     cursor_kept n (passes_on i (one_group p out)) Whole h = tt
-    cursor_kept n (visits_below i start path out) (Found' q c s d) h = (
+    cursor_kept n (visits_below i start path out) (Found' s q c d) h = (
       cursor_kept i (shape_at ops i) c h.0,
       h.1,
       ap (λ (z : Standing). (row_node z.row start).source) (standing_kept i (shape_at ops i) c h.0) ∙ h.2,

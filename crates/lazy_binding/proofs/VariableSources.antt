@@ -73,14 +73,14 @@ module _ (ops : List Operator) (typed : IsTyped ops) (w : World) where
     source_is n h (one_source s out) e (Top t x) of row v =
         source_new (out == v) (Some (t, x)) None ∙ ap (λ (z : ℕ). cond (out == v) (Some z) None) of.0 ∙ sym (source_at ops typed n h (one_source s out) e v)
     source_is n h (passes_on i (one_group p out)) e Whole of row v = sym (source_at ops typed n h (passes_on i (one_group p out)) e v)
-    source_is n h (visits_below i start path out) e (Found' q c s None) of row v = cc
-    source_is n h (visits_below i start path out) e (Found' q c s (Some d)) of row v =
+    source_is n h (visits_below i start path out) e (Found' s q c None) of row v = cc
+    source_is n h (visits_below i start path out) e (Found' s q c (Some d)) of row v =
         let l = inputs_at ops typed n h (visits_below i start path out) e in
         let small : i < length ops = omega (arith, h, l.0) in
         let x = spot_is ops typed w i small (shape_at ops i) refl c of.0 of.1 start (fit_at ops typed n h (visits_below i start path out) e).0 in
         let here : x.source ≡ s = sym (ap (λ (y : Node). y.source) (ap source_node x.value)) ∙ of.2 in
         let begun : Some s ≡ source_var ops i start = sym (ap Some here) ∙ sym (ap source_in x.is) ∙ source_is i small (shape_at ops i) refl c of.0 of.1 start in
-        source_new (out == v) (Some (s, spot_of d.frame.value)) (spot_in ops i c v)
+        source_new (out == v) (Some (s, spot_of d.frame)) (spot_in ops i c v)
         ∙ ap (λ (z : Option ℕ). cond (out == v) z (source_in (spot_in ops i c v))) begun
         ∙ ap (cond (out == v) (source_var ops i start)) (source_is i small (shape_at ops i) refl c of.0 of.1 v)
         ∙ sym (source_at ops typed n h (visits_below i start path out) e v)

@@ -81,7 +81,7 @@ abbrev pub has_row : Position → Bool
 has_row Start = false
 has_row (Top s x) = true
 has_row Whole = true
-has_row (Found' q c s d) = has_match d
+has_row (Found' s q c d) = has_match d
 has_row (Pass' q c) = true
 has_row (First' q c k) = true
 has_row (Seen' q c k) = false
@@ -99,7 +99,7 @@ abbrev mutual
   stands w ops n f Start = record { row = []; ahead = events (docs_of w) ops n }
   stands w ops n (one_source s out) (Top t x) = record { row = (out, of_source (spot_node w t x)) ∷ []; ahead = [] }
   stands w ops n (passes_on i (one_group piece out)) Whole = record { row = whole_row (docs_of w) piece out (events (docs_of w) ops i); ahead = [] }
-  stands w ops n (visits_below i start path out) (Found' q c s d) =
+  stands w ops n (visits_below i start path out) (Found' s q c d) =
       let input = stands w ops i (shape_at ops i) c in record {
         row = found_row w start out input.row s d;
         ahead = visit_ahead w start path out input.row s d ++ expand (descendants (docs_of w) start path out) input.ahead;
@@ -170,7 +170,7 @@ found_number w s (Some d) = match_number w s d
 -- a number of a position that no call raises, and that falls from event to event
 abbrev pub weighs : World → List Operator → ℕ → Shape → Position → ℕ
 weighs w ops n f Start = size w ops n
-weighs w ops n (visits_below i start path out) (Found' q c s d) = weighs w ops i (shape_at ops i) c * suc (suc (bound_of w)) + found_number w s d
+weighs w ops n (visits_below i start path out) (Found' s q c d) = weighs w ops i (shape_at ops i) c * suc (suc (bound_of w)) + found_number w s d
 weighs w ops n (passes_on i (filters test)) (Pass' q c) = weighs w ops i (shape_at ops i) c
 weighs w ops n (passes_on i (extends out made)) (Pass' q c) = weighs w ops i (shape_at ops i) c
 weighs w ops n (passes_on i (first_by_keys keys group)) (Pass' q c) = weighs w ops i (shape_at ops i) c
@@ -212,7 +212,7 @@ abbrev mutual
   IsIn w ops n f Start = Unit {0}
   IsIn w ops n (one_source s out) (Top t x) = (t ≡ s) × IsSpotIn w t x × (place_in w t x ≡ [])
   IsIn w ops n (passes_on i (one_group piece out)) Whole = Unit {0}
-  IsIn w ops n (visits_below i start path out) (Found' q c s d) = IsIn w ops i (shape_at ops i) c × IsTrue (has_row c)
+  IsIn w ops n (visits_below i start path out) (Found' s q c d) = IsIn w ops i (shape_at ops i) c × IsTrue (has_row c)
       × ((row_node (binding w ops i c) start).source ≡ s) × IsRead ops s × MatchOption d (Unit {0}) (IsMatchIn w s)
   IsIn w ops n (passes_on i (filters test)) (Pass' q c) = IsIn w ops i (shape_at ops i) c × IsTrue (has_row c)
   IsIn w ops n (passes_on i (extends out made)) (Pass' q c) = IsIn w ops i (shape_at ops i) c × IsTrue (has_row c)

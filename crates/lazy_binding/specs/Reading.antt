@@ -26,13 +26,13 @@ or_else (Some p) q = Some p
 -- the spot of a match for a variable, or else another
 abbrev pub found_spot : Bool → ℕ → Option DescCursor → Option (ℕ × Spot) → Option (ℕ × Spot)
 found_spot is_out s None p = p
-found_spot is_out s (Some d) p = cond is_out (Some (s, spot_of d.frame.value)) p
+found_spot is_out s (Some d) p = cond is_out (Some (s, spot_of d.frame)) p
 
 abbrev mutual
   -- the spot of a variable in the binding of a position in this shape, with its source
   pub spot_at : List Operator → Shape → Position → ℕ → Option (ℕ × Spot)
   spot_at ops (one_source s out) (Top t x) v = cond (out == v) (Some (t, x)) None
-  spot_at ops (visits_below i start path out) (Found' q c s d) v = found_spot (out == v) s d (spot_at ops (shape_at ops i) c v)
+  spot_at ops (visits_below i start path out) (Found' s q c d) v = found_spot (out == v) s d (spot_at ops (shape_at ops i) c v)
   spot_at ops (passes_on i (filters test)) (Pass' q c) v = spot_at ops (shape_at ops i) c v
   spot_at ops (passes_on i (extends out made)) (Pass' q c) v = spot_at ops (shape_at ops i) c v
   spot_at ops (passes_on i (first_by_keys keys group)) (Pass' q c) v = cond (has_var keys v) (spot_at ops (shape_at ops i) c v) None
@@ -54,7 +54,7 @@ spot_in ops n c v = spot_at ops (shape_at ops n) c v
 -- the spot at which a part of a position stands, with its source
 abbrev pub held : Position → Option (ℕ × Spot)
 held (Top t x) = Some (t, x)
-held (Found' q c s (Some d)) = Some (s, spot_of d.frame.value)
+held (Found' s q c (Some d)) = Some (s, spot_of d.frame)
 held c = None
 
 -- of a part, where there is one
@@ -70,7 +70,7 @@ nth (one_more q c rest) (suc k) = nth rest k
 
 -- the position of the input in a position, or that of the left input
 abbrev pub below : Position → Position
-below (Found' q c s d) = c
+below (Found' s q c d) = c
 below (Pass' q c) = c
 below (First' q c k) = c
 below (Seen' q c k) = c

@@ -20,7 +20,7 @@ pub enum Position {
     /// At the only binding of a groupBy by no keys.
     Whole,
     /// In the visit below a node of the input's binding, which is in the source of this number: before its first match, or at a match.
-    Found(Rc<Position>, u32, Option<DescCursor>),
+    Found(u32, Rc<Position>, Option<DescCursor>),
     /// At the event at which the input stands. Such are those of a project, too, where no two bindings of its input agree by its keys.
     Pass(Rc<Position>),
     /// At the first binding of the input that has its keys, where so many keys were seen up to it.
@@ -69,7 +69,7 @@ fn part(here: &Position) -> Option<&Rc<Position>>
     ensures { MatchOption result (below here.now ≡ Start) (λ p. p.now.value ≡ below here.now) }
 {
     match here {
-        Position::Found(below, _, _) => Some(below),
+        Position::Found(_, below, _) => Some(below),
         Position::Pass(below) => Some(below),
         Position::First(below, _) => Some(below),
         Position::Seen(below, _) => Some(below),

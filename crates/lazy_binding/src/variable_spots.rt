@@ -39,7 +39,7 @@ impl Fixed {
             },
             Op::GetDescendants { input, out, .. } => match at {
                 Position::Found(_, _, Some(_)) if *out == v => Some(at),
-                Position::Found(below, _, _) => self.holder(*input as usize, below, v),
+                Position::Found(_, below, _) => self.holder(*input as usize, below, v),
                 _ => None,
             },
             Op::Select { input, .. }
@@ -80,7 +80,7 @@ impl Fixed {
     {
         match self.holder(n, at, v)? {
             Position::Top(source, spot) => Some((*source, *spot)),
-            Position::Found(_, source, Some(at)) => Some((*source, *at.spot())),
+            Position::Found(source, _, Some(at)) => Some((*source, *at.spot())),
             _ => None,
         }
     }
