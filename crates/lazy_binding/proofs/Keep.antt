@@ -1,5 +1,5 @@
 -- What is kept over calls: documents, told sources, places, bounds and keys that were seen.
-use Rattle.std.proofs.Common.{◌≡◌, ◌<◌, ◌+◌, ℕ, zero, suc, Bool, true, false, List, [], length, refl, ◌∙◌, sym, ap, arith}
+use Rattle.std.proofs.Common.{◌≡◌, ◌<◌, ◌+◌, ℕ, zero, suc, Bool, true, false, Option, List, [], length, refl, ◌∙◌, sym, ap, arith}
 use Rattle.std.specs.Prelude.{nat_lt, cond}
 use Rattle.std.proofs.lemmas.Bool.Decides.{nat_tests}
 use Rattle.mix_tree.specs.Forest.{none}
@@ -11,8 +11,9 @@ use Rattle.tree_buffer.specs.Buffer.{Goes, place_of}
 use Rattle.lxp_core.proofs.Views.{keeps_same as keeps_view_same, keeps_twice}
 use Rattle.plan_core.specs.Plans.{Operator}
 use Rattle.lazy_binding.specs.Bench.{IsBench}
-use Rattle.lazy_binding.specs.World.{World, docs_of, reads, is_told, is_forward, of_buffer, place_in, spot_node, IsSpotIn, roots_weight, bound_of}
+use Rattle.lazy_binding.specs.World.{World, world, docs_of, reads, is_told, is_forward, of_buffer, place_in, spot_node, IsSpotIn, roots_weight, bound_of}
 use Rattle.lazy_binding.specs.Keeping.{Keeps}
+use Rattle.lazy_binding.specs.declared.position.Reached.{Reached}
 
 -- a list of tests that agree has one answer
 reads-same : (f g : ℕ → Bool) → ((s : ℕ) → f s ≡ g s) → (ops : List Operator) → list_all (reads f) ops ≡ list_all (reads g) ops
@@ -101,9 +102,9 @@ goes_twice g h = record {
   siblings = λ x i c. h.siblings x (g.spot x i) (g.siblings x i c);
 }
 
--- nothing happened
-pub keeps_same : (w : World) (ops : List Operator) → IsBench w ops → Keeps w w
-keeps_same w ops h = record {
+-- how far groups were walked is no part of what is kept
+pub keeps_walked : (w : World) (reached : List (Option Reached)) → Keeps w (world w.view w.buffers w.seen w.memos reached)
+keeps_walked w reached = record {
   view = keeps_view_same w.view;
   buffers = refl;
   goes = λ s b there. record { later = b; there = there; goes = goes_idle w.view b };
@@ -114,6 +115,10 @@ keeps_same w ops h = record {
   more = λ n. omega arith;
   members = λ n k l. refl;
 }
+
+-- nothing happened
+pub keeps_same : (w : World) (ops : List Operator) → IsBench w ops → Keeps w w
+keeps_same w ops h = keeps_walked w w.reached
 
 -- one call after another
 pub keeps_then : {a b c : World} → Keeps a b → Keeps b c → Keeps a c

@@ -12,7 +12,6 @@ use Rattle.mix_base.specs.Events.{nothing, finds, found, cost}
 use Rattle.mix_tree.specs.Nodes.{Documents}
 use Rattle.mix_tree.specs.declared.var.Key.{Key}
 use Rattle.lxp_core.specs.View.{View}
-use Rattle.lxp_core.proofs.Views.{keeps_same as keeps_view_same}
 use Rattle.tree_buffer.specs.Law.{SpotsAreOne}
 use Rattle.plan_core.specs.declared.plan.Piece.{Piece}
 use Rattle.plan_core.specs.declared.plan.Plan.{Plan}
@@ -43,7 +42,7 @@ use Rattle.lazy_binding.specs.Reading.{below, count_of}
 use Rattle.lazy_binding.specs.Unders.{part_in, part_at}
 use Rattle.lazy_binding.proofs.Bound.{inputs_at}
 use Rattle.lazy_binding.proofs.Buffers.{keys_stay}
-use Rattle.lazy_binding.proofs.Keep.{docs_kept, told-kept, goes_idle, keeps_then}
+use Rattle.lazy_binding.proofs.Keep.{docs_kept, told-kept, keeps_walked, keeps_then}
 use Rattle.lazy_binding.proofs.Members.{same_members}
 use Rattle.lazy_binding.proofs.SameKeys.{same_parts-is}
 use Rattle.lazy_binding.proofs.Stay.{seen_kept, cursors_kept}
@@ -96,21 +95,7 @@ group_begins w p n c d m f k e g =
 
 -- HOW FAR A GROUP WAS WALKED
 
--- that a group was walked on keeps what every call keeps
-pub reached_keeps : (b : World) (reached : List (Option Reached)) → Keeps b (world b.view b.buffers b.seen b.memos reached)
-reached_keeps b reached = record {
-  view = keeps_view_same b.view;
-  buffers = refl;
-  goes = λ s x there. record { later = x; there = there; goes = goes_idle b.view x };
-  lists = refl;
-  longer = λ j. omega arith;
-  seen = λ j k h. refl;
-  memos = refl;
-  more = λ j. omega arith;
-  members = λ j k h. refl;
-}
-
--- and leaves a bench
+-- that a group was walked on leaves a bench
 pub reached_bench : (b : World) (ops : List Operator) → IsBench b ops → (reached : List (Option Reached)) (n : ℕ) (to : Reached) → IsReached b.reached reached n to → HasSeen b ops n to.below.value to.seen
     → IsBench (world b.view b.buffers b.seen b.memos reached) ops
 reached_bench b ops late reached n to r seen = record {
@@ -120,9 +105,9 @@ reached_bench b ops late reached n to r seen = record {
   enough = late.enough;
   lists = late.lists;
   memos = late.memos;
-  parts = λ j. keys_stay (reached_keeps b reached) (seen_at b j) (late.parts j);
+  parts = λ j. keys_stay (keeps_walked b reached) (seen_at b j) (late.parts j);
   seen = late.seen;
-  members = same_members (reached_keeps b reached) ops late refl;
+  members = same_members (keeps_walked b reached) ops late refl;
   marks = r.lists ∙ late.marks;
   reached = λ j x e q. reached_at_one j x e q (cases_eq j n);
 }
@@ -134,9 +119,9 @@ reached_bench b ops late reached n to r seen = record {
     reached_at_one j x e q (inl z) =
         let same : to ≡ x = some_is to x (sym r.here ∙ ap (λ (m : ℕ). slice_index_or reached m None) (sym z) ∙ e) in
         subst (λ (m : ℕ). IsOf here ops m (Seen' q x.below.value x.seen)) (sym z)
-        (subst (λ (y : Reached). IsOf here ops n (Seen' q y.below.value y.seen)) same (cursors_kept b here (reached_keeps b reached) ops late n (Seen' q to.below.value to.seen) (seen q)).cursor)
+        (subst (λ (y : Reached). IsOf here ops n (Seen' q y.below.value y.seen)) same (cursors_kept b here (keeps_walked b reached) ops late n (Seen' q to.below.value to.seen) (seen q)).cursor)
     reached_at_one j x e q (inr ne) =
-        (cursors_kept b here (reached_keeps b reached) ops late j (Seen' q x.below.value x.seen) (late.reached j x (sym (r.others j ne) ∙ e) q)).cursor
+        (cursors_kept b here (keeps_walked b reached) ops late j (Seen' q x.below.value x.seen) (late.reached j x (sym (r.others j ne) ∙ e) q)).cursor
 
 -- a call, and then a group that was walked on
 pub ran_reached : {S : Type 0} {view : S → View} {came_from : S → S → Type 0} {ops : List Operator} {n : ℕ} {es : RowEvents} {s t : S} {g h : Growing} (reached : Vec (Option Reached) Global)
@@ -146,7 +131,7 @@ ran_reached {view} {t} {h} reached bench ran = record {
   came = ran.came;
   bench = bench;
   asks = record {
-    kept = keeps_then ran.asks.kept (reached_keeps (world_of (view t) h) reached.items);
+    kept = keeps_then ran.asks.kept (keeps_walked (world_of (view t) h) reached.items);
     above = ran.asks.above;
     lazy = ran.asks.lazy;
     none = ran.asks.none;
@@ -302,7 +287,7 @@ module _ (a b : World) (p : Plan) (op m : ℕ) (first at : Position) (q : Rc (Un
           here = world b.view b.buffers b.seen b.memos reached
 
           keeps : Keeps b here
-          keeps = reached_keeps b reached
+          keeps = keeps_walked b reached
 
           stay : Stays b here ops i d
           stay = cursors_kept b here keeps ops late i d f.cursor
