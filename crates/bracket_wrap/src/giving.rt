@@ -58,8 +58,7 @@ impl BracketDoc {
         Ok(list)
     }
 
-    // Puts a hole for some last children of a node behind a list, where there are any. The list has room for nothing more, since it lies in
-    // the buffer as long as nobody asks for what is below.
+    // Puts a hole for some last children of a node behind a list, where there are any.
     fn push_rest(&self, list: &mut Vec<OpenTree>, rest: Rest) -> Result<(), AllocError>
         requires { is_there self.now.nodes rest ≡ true }
         ensures { OnOk result (plain list.new.items ≡ put_all list.old.items (rest_given self.now.nodes rest)) }
@@ -67,7 +66,6 @@ impl BracketDoc {
         let from = self.nodes.before(rest.node);
         match self.nodes.first(from, rest.to) {
             Some(_) => {
-                list.reserve_exact(1)?;
                 list.push(OpenTree::Hole(rest.hole()))?;
                 Ok(())
             }
@@ -75,7 +73,7 @@ impl BracketDoc {
         }
     }
 
-    // The list below a node.
+    // The list below a node. With a hole it has room for nothing more, since it lies in the buffer as long as nobody asks for what is below.
     fn kids(&self, alloc: Global, whole: bool, i: usize) -> Result<Vec<OpenTree>, AllocError>
         requires { i < length self.now.nodes }
         ensures { IfOk result (λ list. plain list.items ≡ kids_given self.now.nodes whole i) }
@@ -83,9 +81,10 @@ impl BracketDoc {
         if whole {
             return self.whole(alloc, self.nodes.before(i), i);
         }
-        let mut list = Vec::new(alloc);
-        self.push_rest(&mut list, Rest { node: i, to: i })?;
-        Ok(list)
+        match self.nodes.first(self.nodes.before(i), i) {
+            Some(_) => Ok(vec![in alloc; OpenTree::Hole(Rest { node: i, to: i }.hole())]?),
+            None => Ok(Vec::new(alloc)),
+        }
     }
 
     /// The children that a hole names; `None` where the document doesn't know the hole.
