@@ -15,6 +15,7 @@ pub mod OrderSteps
 pub mod PairSteps
 pub mod PassSteps
 pub mod Passing
+pub mod Resuming
 pub mod Shapes
 pub mod Singles
 pub mod Unders
