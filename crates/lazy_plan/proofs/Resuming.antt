@@ -1,6 +1,6 @@
 -- Walking on from the last member that was found of a group.
-use Rattle.std.proofs.Common.{◌≡◌, ◌<◌, ℕ, List, Option, length, subst, sym, ap, arith}
-use Rattle.mix_base.specs.Events.{cost}
+use Rattle.std.proofs.Common.{◌≡◌, ℕ, List, Option, ◌∙◌, subst, sym, ap, arith}
+use Rattle.mix_base.specs.Events.{cost, found}
 use Rattle.mix_tree.specs.declared.var.Key.{Key}
 use Rattle.plan_core.specs.declared.plan.Piece.{Piece}
 use Rattle.plan_core.specs.Plans.{Operator}
