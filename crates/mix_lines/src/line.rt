@@ -37,7 +37,7 @@ pub fn write_line<K: Sink>(
 {
     if let Some(line) = usual_line(&step.client, answer) {
         out.write(alloc, line)?;
-        return Ok(false);
+        return Ok(marks(answer));
     }
     let line = write_answer(alloc, step, answer, sources)?;
     out.write(alloc, &line)?;
