@@ -1,5 +1,5 @@
 -- The stacks of trees that fills change.
-use Rattle.std.proofs.Common.{◌≡◌, ℕ, suc, ◌-◌, Some, List, [], ◌∷◌, ◌++◌, length, length-append, drop, refl, ap, ◌∙◌, arith, append_assoc, false}
+use Rattle.std.proofs.Common.{◌≡◌, ◌≤◌, ℕ, suc, ◌-◌, Some, List, [], ◌∷◌, ◌++◌, length, length-append, drop, refl, ap, ◌∙◌, arith, append_assoc, false}
 use Rattle.std.specs.Prelude.{reverse, remove, slice_get}
 use Rattle.std.proofs.lemmas.List.{take_at}
 use Rattle.lxp_core.specs.declared.open_tree.HoleId.{HoleId}
@@ -48,3 +48,9 @@ pub no_hole_at_top : (xs : List OpenTree) (t : OpenTree) (l : List ℕ) (ks : _)
 no_hole_at_top xs t l ks e is =
     let r = last_split xs t e in
     ap (λ ys. begins_with_hole (stacked ys nil)) r.1 ∙ ap begins_with_hole (stacked-top r.0 t ∙ ap (λ u. put u (stacked r.0 nil)) is ∙ put-node l ks (stacked r.0 nil))
+
+-- a list of at most one tree is the same, turned round
+pub turned_short : (xs : List OpenTree) → length xs ≤ 1 → xs ≡ reverse xs
+turned_short [] h = refl
+turned_short (x ∷ []) h = refl
+turned_short (x ∷ y ∷ xs) h = absurd (omega arith)

@@ -1,5 +1,5 @@
 // How a buffer comes to one node more.
-ghost use Rattle.std.specs.Prelude.{◌≡◌, ◌+◌, ◌<◌, ◌≤◌, true, false, is_some, OnOk, IfOk, MatchOption, length};
+ghost use Rattle.std.specs.Prelude.{◌≡◌, ◌+◌, ◌<◌, ◌≤◌, true, false, is_some, OnOk, IfOk, MatchOption, length, vec_len, vec_capacity};
 
 use crate::buffer::Buffer;
 use crate::entry::{Entry, MOST};
@@ -18,6 +18,7 @@ impl Buffer {
     ghost use Rattle.tree_buffer.specs.Advance.{Advances, Advanced};
 
     // Asks fills until no hole stands at the front of a node's list.
+    #[inline]
     pub(crate) fn settle_at<S: Sources>(
         &mut self,
         alloc: Global,
@@ -56,11 +57,11 @@ impl Buffer {
         if self.entries[q].rest.is_empty() {
             return Ok(None);
         }
-        self.entries.reserve(1)?;
         let new = self.entries.len();
         if new >= MOST {
             return Err(AllocError);
         }
+        make_room(&mut self.entries)?;
         let entry = &mut self.entries[q];
         let index = entry.count;
         let first = new_or(index, new, entry.first as usize);
@@ -68,7 +69,7 @@ impl Buffer {
         let (label, rest) = pop_tree(&mut entry.rest);
         entry.count = index + 1;
         entry.first = first as u32;
-        let child = Entry {
+        self.entries.push_reserved(Entry {
             label,
             parent: q as u32,
             index,
@@ -76,15 +77,23 @@ impl Buffer {
             first: 0,
             next: 0,
             rest,
-        };
-        match self.entries.push(child) {
-            Ok(()) => {}
-            Err(_) => unreachable!(),
-        }
+        });
         let last = &mut self.entries[before];
         last.next = new as u32;
         Ok(Some(Spot { number: new }))
     }
+}
+
+// Makes room for one node more.
+#[inline]
+fn make_room(entries: &mut Vec<Entry>) -> Result<(), AllocError>
+    ensures items { entries.new.items ≡ entries.old.items }
+    ensures room { OnOk result (vec_len entries.new < vec_capacity entries.new) }
+{
+    if entries.len() < entries.capacity() {
+        return Ok(());
+    }
+    entries.reserve(1)
 }
 
 // The new node where it is the first child, else the old one.

@@ -1,5 +1,5 @@
 // Stacks of trees with holes, of which the last is the first of the list.
-ghost use Rattle.std.specs.Prelude.{◌≡◌, ◌+◌, ◌<◌, ◌≤◌, ◌++◌, ◌∷◌, [], List, true, false, MatchOption, OnOk, OnErr, length};
+ghost use Rattle.std.specs.Prelude.{◌≡◌, ◌+◌, ◌<◌, ◌≤◌, ◌++◌, ◌∷◌, [], List, true, false, MatchOption, OnOk, OnErr, length, reverse};
 ghost use Rattle.lxp_core.specs.Causes.{HasCause};
 ghost use Rattle.lxp_core.specs.declared.open_tree.OpenTree.{OpenTree};
 ghost use Rattle.lxp_core.specs.declared.open_tree.OpenTree.TheVariants.{Hole};
@@ -13,6 +13,7 @@ use mix_tree::Label;
 use std::alloc::{AllocError, Global};
 
 // The hole at the top, where one stands there.
+#[inline]
 fn top_hole(stack: &Vec<OpenTree>) -> Option<HoleId>
     ensures { MatchOption result (begins_with_hole (stacked stack.now.items nil) ≡ false)
         (λ h. (rest : List OpenTree) × (stack.now.items ≡ rest ++ Hole h ∷ [])) }
@@ -24,6 +25,16 @@ fn top_hole(stack: &Vec<OpenTree>) -> Option<HoleId>
     }
 }
 
+// Turns a list round. Most have one tree, and stay.
+#[inline]
+fn turn_round(list: &mut Vec<OpenTree>)
+    ensures { list.new.items ≡ reverse list.old.items }
+{
+    if list.len() > 1 {
+        list.reverse();
+    }
+}
+
 // Puts a list in the place of the tree at the top. Where the stack holds nothing else, the list becomes the stack.
 fn replace_top(stack: &mut Vec<OpenTree>, mut list: Vec<OpenTree>) -> Result<(), AllocError>
     requires { (front : List OpenTree) × (top : OpenTree) × (stack.old.items ≡ front ++ top ∷ []) }
@@ -31,7 +42,7 @@ fn replace_top(stack: &mut Vec<OpenTree>, mut list: Vec<OpenTree>) -> Result<(),
         → stacked stack.new.items nil ≡ open_followed (plain list.items) (stacked front nil)) }
     ensures err { OnErr result (stack.new.items ≡ stack.old.items) }
 {
-    list.reverse();
+    turn_round(&mut list);
     let at = stack.len() - 1;
     if at == 0 {
         *stack = list;
@@ -74,6 +85,7 @@ fn refill<S: Sources>(
 }
 
 // Asks fills until no hole stands at the top.
+#[inline]
 pub(crate) fn settle<S: Sources>(
     alloc: Global,
     s: &mut S,
@@ -98,6 +110,7 @@ pub(crate) fn settle<S: Sources>(
 }
 
 // A tree's label, and the stack of its children.
+#[inline]
 fn parts_of(tree: OpenTree) -> (Label, Vec<OpenTree>)
     requires { (rest : Open) × (begins_with_hole (put tree rest) ≡ false) }
     ensures { (rest : Open) → put tree rest ≡ node result.0 (stacked result.1.items nil) rest }
@@ -105,7 +118,7 @@ fn parts_of(tree: OpenTree) -> (Label, Vec<OpenTree>)
     match tree {
         OpenTree::Node { label, kids } => {
             let mut stack = kids;
-            stack.reverse();
+            turn_round(&mut stack);
             (label, stack)
         }
         OpenTree::Hole(_) => unreachable!(),
@@ -113,6 +126,7 @@ fn parts_of(tree: OpenTree) -> (Label, Vec<OpenTree>)
 }
 
 // A stack that is empty takes no memory.
+#[inline]
 fn free_when_empty(stack: &mut Vec<OpenTree>)
     ensures { stack.new.items ≡ stack.old.items }
 {
@@ -122,16 +136,13 @@ fn free_when_empty(stack: &mut Vec<OpenTree>)
 }
 
 // Takes the tree at the top: its label, and the stack of its children.
+#[inline]
 pub(crate) fn pop_tree(stack: &mut Vec<OpenTree>) -> (Label, Vec<OpenTree>)
     requires some { 0 < length stack.old.items }
     requires top { begins_with_hole (stacked stack.old.items nil) ≡ false }
     ensures { stacked stack.old.items nil ≡ node result.0 (stacked result.1.items nil) (stacked stack.new.items nil) }
 {
-    match stack.pop() {
-        Some(tree) => {
-            free_when_empty(stack);
-            parts_of(tree)
-        }
-        None => unreachable!(),
-    }
+    let tree = stack.take_last();
+    free_when_empty(stack);
+    parts_of(tree)
 }

@@ -12,4 +12,4 @@ unreachable-requires c =
 pub returns : goal.returns
 returns c = λ rest.
     ap (λ t. put t rest) c.in-Node.is ∙ put-node c.in-Node.label c.in-Node.kids rest
-    ∙ ap (λ o. node c.in-Node.label o rest) (sym (stacked-reverse c.in-Node.kids.items nil) ∙ ap (λ xs. stacked xs nil) (sym c.reverse.ensures.items))
+    ∙ ap (λ o. node c.in-Node.label o rest) (sym (stacked-reverse c.in-Node.kids.items nil) ∙ ap (λ xs. stacked xs nil) (sym c.turn_round.ensures))

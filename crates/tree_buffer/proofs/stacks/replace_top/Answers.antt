@@ -9,12 +9,12 @@ pub returns-then-at-eq0-clause-ok : goal.returns-then-at-eq0-clause-ok
 returns-then-at-eq0-clause-ok c = λ front top e.
     let one : length (front ++ top ∷ []) ≡ 1 =
     omega (arith, c.if-at-eq0.true, c.len-at.ensures, c.args.stack.now.ok.0, ap length e, length-append front (top ∷ [])) in
-    ap (λ xs. stacked xs nil) c.reverse.ensures.items ∙ stacked-only front c.args.list.items top one
+    ap (λ xs. stacked xs nil) c.turn_round.ensures ∙ stacked-only front c.args.list.items top one
 
 pub returns-clause-ok : goal.returns-clause-ok
 returns-clause-ok c = λ front top e.
     let list = c.args.list.items in
     let at_is : c.len-at.result - 1 ≡ length front = omega (arith, c.len-at.ensures, c.args.stack.now.ok.0, ap length e, length-append front (top ∷ [])) in
-    let whole : c.append.new.self.items ≡ (front ++ top ∷ []) ++ reverse list = rw (c.in_ok-append.ensures.items, c.reverse.ensures.items, e) refl in
+    let whole : c.append.new.self.items ≡ (front ++ top ∷ []) ++ reverse list = rw (c.in_ok-append.ensures.items, c.turn_round.ensures, e) refl in
     ap (λ xs. stacked xs nil) (c.remove.ensures.items ∙ ap (λ xs. remove xs (c.len-at.result - 1)) whole ∙ ap (remove ((front ++ top ∷ []) ++ reverse list)) at_is)
     ∙ stacked-refilled front list top

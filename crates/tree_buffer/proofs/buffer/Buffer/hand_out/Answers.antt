@@ -20,113 +20,110 @@ use Rattle.tree_buffer.proofs.buffer.Buffer.hand_out.Goals as goal
 within : (es : _) (q : _) → q < length (nodes es).links → q < length es
 within es q h = omega (arith, h, length-links es)
 
-pub returns-in_err-reserve-clause-sources : goal.returns-in_err-reserve-clause-sources
-returns-in_err-reserve-clause-sources c = λ v s. sources_from v _ (rw c.reserve.ensures.items s.sourced)
+pub returns-in_err-make_room-clause-sources : goal.returns-in_err-make_room-clause-sources
+returns-in_err-make_room-clause-sources c = λ v s. sources_from v _ (rw c.make_room.ensures.items s.sourced)
 
-pub returns-in_err-reserve-clause-advances : goal.returns-in_err-reserve-clause-advances
-returns-in_err-reserve-clause-advances c = λ v s. record { number = refl; moved = rw c.reserve.ensures.items (moved_same (weight_of (v.weight c.args.self.now.number)) (nodes c.args.self.now.entries.items)) }
-
-pub returns-then-new-ge-MOST-clause-sources : goal.returns-then-new-ge-MOST-clause-sources
-returns-then-new-ge-MOST-clause-sources c = λ v s. sources_from v _ (rw c.reserve.ensures.items s.sourced)
+pub returns-in_err-make_room-clause-advances : goal.returns-in_err-make_room-clause-advances
+returns-in_err-make_room-clause-advances c = λ v s. record { number = refl; moved = rw c.make_room.ensures.items (moved_same (weight_of (v.weight c.args.self.now.number)) (nodes c.args.self.now.entries.items)) }
 
 pub returns-then-new-ge-MOST-clause-advances : goal.returns-then-new-ge-MOST-clause-advances
-returns-then-new-ge-MOST-clause-advances c = λ v s. record { number = refl; moved = rw c.reserve.ensures.items (moved_same (weight_of (v.weight c.args.self.now.number)) (nodes c.args.self.now.entries.items)) }
+returns-then-new-ge-MOST-clause-advances c = λ v s. record { number = refl; moved = moved_same (weight_of (v.weight c.args.self.now.number)) (nodes c.args.self.now.entries.items) }
 
 module _ (c : After-index_mut-last) where
-  in_es : c.args.q < length c.reserve.new.self.items
-  in_es = rw c.reserve.ensures.items (within c.args.self.now.entries.items c.args.q c.requires.spot)
+  in_es : c.args.q < length c.make_room.new.entries.items
+  in_es = rw c.make_room.ensures.items (within c.args.self.now.entries.items c.args.q c.requires.spot)
 
-  new_is : c.len-new.result ≡ length c.reserve.new.self.items
-  new_is = omega (arith, c.len-new.ensures, c.reserve.new.self.ok.0)
+  new_is : c.len-new.result ≡ length c.make_room.new.entries.items
+  new_is = omega (arith, c.len-new.ensures, c.args.self.now.entries.ok.0, ap (λ (xs : List Entry). length xs) c.make_room.ensures.items)
 
-  count_is : get_or (nodes c.reserve.new.self.items).counts c.args.q 0 ≡ c.index_mut-entry.result.now.count
-  count_is = column (λ (e : Entry). e.count) c.reserve.new.self.items c.args.q c.index_mut-entry.result.now 0 in_es c.index_mut-entry.ensures.value
+  count_is : get_or (nodes c.make_room.new.entries.items).counts c.args.q 0 ≡ c.index_mut-entry.result.now.count
+  count_is = column (λ (e : Entry). e.count) c.make_room.new.entries.items c.args.q c.index_mut-entry.result.now 0 in_es c.index_mut-entry.ensures.value
 
-  first_is : get_or (nodes c.reserve.new.self.items).firsts c.args.q 0 ≡ c.index_mut-entry.result.now.first
-  first_is = column (λ (e : Entry). e.first) c.reserve.new.self.items c.args.q c.index_mut-entry.result.now 0 in_es c.index_mut-entry.ensures.value
+  first_is : get_or (nodes c.make_room.new.entries.items).firsts c.args.q 0 ≡ c.index_mut-entry.result.now.first
+  first_is = column (λ (e : Entry). e.first) c.make_room.new.entries.items c.args.q c.index_mut-entry.result.now 0 in_es c.index_mut-entry.ensures.value
 
-  list : get_or (nodes c.reserve.new.self.items).rests c.args.q nil ≡ node c.pop_tree-label.result.0 (stacked c.pop_tree-label.result.1.items nil) (stacked c.pop_tree-label.new.stack.items nil)
+  list : get_or (nodes c.make_room.new.entries.items).rests c.args.q nil ≡ node c.pop_tree-label.result.0 (stacked c.pop_tree-label.result.1.items nil) (stacked c.pop_tree-label.new.stack.items nil)
   list =
-      column list_of c.reserve.new.self.items c.args.q c.index_mut-entry.result.now nil in_es c.index_mut-entry.ensures.value ∙ c.pop_tree-label.ensures
+      column list_of c.make_room.new.entries.items c.args.q c.index_mut-entry.result.now nil in_es c.index_mut-entry.ensures.value ∙ c.pop_tree-label.ensures
 
-  last_is : 0 < c.index_mut-entry.result.now.count → IsLast (nodes c.reserve.new.self.items) c.args.q c.new_or-before.result
+  last_is : 0 < c.index_mut-entry.result.now.count → IsLast (nodes c.make_room.new.entries.items) c.args.q c.new_or-before.result
   last_is some =
-      let asked = rw (← c.reserve.ensures.items) at c.requires.before in
-      subst (IsLast (nodes c.reserve.new.self.items) c.args.q) (sym (c.new_or-before.ensures.later some)) (asked (omega (arith, count_is, some)))
+      let asked = rw (← c.make_room.ensures.items) at c.requires.before in
+      subst (IsLast (nodes c.make_room.new.entries.items) c.args.q) (sym (c.new_or-before.ensures.later some)) (asked (omega (arith, count_is, some)))
 
-  before_in : c.new_or-before.result < length c.reserve.new.self.items + 1
+  before_in : c.new_or-before.result < length c.make_room.new.entries.items + 1
   before_in = cases (cases_eq c.index_mut-entry.result.now.count 0)
     where
-      cases : (c.index_mut-entry.result.now.count ≡ 0) ⊎ (c.index_mut-entry.result.now.count ≡ 0 → ⊥) → c.new_or-before.result < length c.reserve.new.self.items + 1
+      cases : (c.index_mut-entry.result.now.count ≡ 0) ⊎ (c.index_mut-entry.result.now.count ≡ 0 → ⊥) → c.new_or-before.result < length c.make_room.new.entries.items + 1
       cases (inl z) = omega (arith, c.new_or-before.ensures.first z, new_is)
-      cases (inr nz) = omega (arith, (last_is (omega arith)).child.known, length-links c.reserve.new.self.items)
+      cases (inr nz) = omega (arith, (last_is (omega arith)).child.known, length-links c.make_room.new.entries.items)
 
-  in_nodes : c.args.q < length (nodes c.reserve.new.self.items).links
-  in_nodes = omega (arith, in_es, length-links c.reserve.new.self.items)
+  in_nodes : c.args.q < length (nodes c.make_room.new.entries.items).links
+  in_nodes = omega (arith, in_es, length-links c.make_room.new.entries.items)
 
-  linked : IsLinked (nodes c.reserve.new.self.items).links (nodes c.reserve.new.self.items).counts (nodes c.reserve.new.self.items).firsts (nodes c.reserve.new.self.items).nexts
-  linked = subst (λ (xs : List Entry). IsLinked (nodes xs).links (nodes xs).counts (nodes xs).firsts (nodes xs).nexts) (sym c.reserve.ensures.items) c.args.self.now.linked
+  linked : IsLinked (nodes c.make_room.new.entries.items).links (nodes c.make_room.new.entries.items).counts (nodes c.make_room.new.entries.items).firsts (nodes c.make_room.new.entries.items).nexts
+  linked = subst (λ (xs : List Entry). IsLinked (nodes xs).links (nodes xs).counts (nodes xs).firsts (nodes xs).nexts) (sym c.make_room.ensures.items) c.args.self.now.linked
 
   after : Nodes
-  after = handed (nodes c.reserve.new.self.items) c.args.q c.new_or-first.result c.new_or-before.result c.pop_tree-label.result.0 (stacked c.pop_tree-label.result.1.items nil) (stacked c.pop_tree-label.new.stack.items nil)
+  after = handed (nodes c.make_room.new.entries.items) c.args.q c.new_or-first.result c.new_or-before.result c.pop_tree-label.result.0 (stacked c.pop_tree-label.result.1.items nil) (stacked c.pop_tree-label.new.stack.items nil)
 
-  made : nodes (set c.push.new.self.items c.new_or-before.result (record c.index_mut-last.result.now { next = c.len-new.result })) ≡ after
+  made : nodes (set c.push_reserved.new.self.items c.new_or-before.result (record c.index_mut-last.result.now { next = c.len-new.result })) ≡ after
   unfolding after
   made =
-      let whole = c.in-Ok.ensures.items in
+      let whole = c.push_reserved.ensures.items in
       let read = rw whole at c.index_mut-last.ensures.value in
       ap (λ xs. nodes (set xs c.new_or-before.result (record c.index_mut-last.result.now { next = c.len-new.result }))) whole
-      ∙ nodes-handed c.reserve.new.self.items c.args.q c.index_mut-entry.result.now _ _ c.new_or-before.result c.index_mut-last.result.now _ in_es c.index_mut-entry.ensures.value
+      ∙ nodes-handed c.make_room.new.entries.items c.args.q c.index_mut-entry.result.now _ _ c.new_or-before.result c.index_mut-last.result.now _ in_es c.index_mut-entry.ensures.value
       refl refl refl refl refl refl refl refl refl refl before_in read refl refl refl refl refl refl new_is
 
   linked_after : IsLinked after.links after.counts after.firsts after.nexts
   unfolding after
   linked_after =
-      linked_handed (nodes c.reserve.new.self.items) linked c.args.q c.new_or-first.result c.new_or-before.result c.pop_tree-label.result.0 (stacked c.pop_tree-label.result.1.items nil) (stacked c.pop_tree-label.new.stack.items nil) in_nodes
-      (λ z. omega (arith, c.new_or-first.ensures.first (sym count_is ∙ z), new_is, length-links c.reserve.new.self.items))
+      linked_handed (nodes c.make_room.new.entries.items) linked c.args.q c.new_or-first.result c.new_or-before.result c.pop_tree-label.result.0 (stacked c.pop_tree-label.result.1.items nil) (stacked c.pop_tree-label.new.stack.items nil) in_nodes
+      (λ z. omega (arith, c.new_or-first.ensures.first (sym count_is ∙ z), new_is, length-links c.make_room.new.entries.items))
       (λ some. c.new_or-first.ensures.later (omega (arith, some, count_is)) ∙ sym first_is)
-      (λ z. omega (arith, c.new_or-before.ensures.first (sym count_is ∙ z), new_is, length-links c.reserve.new.self.items))
+      (λ z. omega (arith, c.new_or-before.ensures.first (sym count_is ∙ z), new_is, length-links c.make_room.new.entries.items))
       (λ some. let l = last_is (omega (arith, some, count_is)) in (l.child, l.last))
 
   sourced_after : (v : View) → Sourced v c.args.self.now.number (nodes c.args.self.now.entries.items) → Sourced v c.args.self.now.number after
   unfolding after
   sourced_after v s =
-      sourced_handed (nodes c.reserve.new.self.items) linked c.args.q c.new_or-first.result c.new_or-before.result c.pop_tree-label.result.0 (stacked c.pop_tree-label.result.1.items nil) (stacked c.pop_tree-label.new.stack.items nil) in_nodes
-      v c.args.self.now.number (subst (λ (xs : List Entry). Sourced v c.args.self.now.number (nodes xs)) (sym c.reserve.ensures.items) s) list
+      sourced_handed (nodes c.make_room.new.entries.items) linked c.args.q c.new_or-first.result c.new_or-before.result c.pop_tree-label.result.0 (stacked c.pop_tree-label.result.1.items nil) (stacked c.pop_tree-label.new.stack.items nil) in_nodes
+      v c.args.self.now.number (subst (λ (xs : List Entry). Sourced v c.args.self.now.number (nodes xs)) (sym c.make_room.ensures.items) s) list
 
   moved_after : (v : View) → Sourced v c.args.self.now.number (nodes c.args.self.now.entries.items)
       → Moved (weight_of (v.weight c.args.self.now.number)) (nodes c.args.self.now.entries.items) (weight_of (v.weight c.args.self.now.number)) after
   unfolding after
   moved_after v s =
-      let s' = subst (λ (xs : List Entry). Sourced v c.args.self.now.number (nodes xs)) (sym c.reserve.ensures.items) s in
-      subst (λ (xs : List Entry). Moved (weight_of (v.weight c.args.self.now.number)) (nodes xs) (weight_of (v.weight c.args.self.now.number)) after) c.reserve.ensures.items
-      (moved_handed (nodes c.reserve.new.self.items) linked c.args.q c.new_or-first.result c.new_or-before.result c.pop_tree-label.result.0 (stacked c.pop_tree-label.result.1.items nil) (stacked c.pop_tree-label.new.stack.items nil) in_nodes
+      let s' = subst (λ (xs : List Entry). Sourced v c.args.self.now.number (nodes xs)) (sym c.make_room.ensures.items) s in
+      subst (λ (xs : List Entry). Moved (weight_of (v.weight c.args.self.now.number)) (nodes xs) (weight_of (v.weight c.args.self.now.number)) after) c.make_room.ensures.items
+      (moved_handed (nodes c.make_room.new.entries.items) linked c.args.q c.new_or-first.result c.new_or-before.result c.pop_tree-label.result.0 (stacked c.pop_tree-label.result.1.items nil) (stacked c.pop_tree-label.new.stack.items nil) in_nodes
       (v.weight c.args.self.now.number) s'.rests s'.labels list)
 
   bare_after : get_or after.labels 0 [] ≡ []
   unfolding after
   bare_after =
-      labels_front (nodes c.reserve.new.self.items) c.pop_tree-label.result.0
-      (omega (arith, length-map c.reserve.new.self.items entry_label, in_es))
-      (subst (λ (xs : List Entry). get_or (nodes xs).labels 0 [] ≡ []) (sym c.reserve.ensures.items) c.args.self.now.bare)
+      labels_front (nodes c.make_room.new.entries.items) c.pop_tree-label.result.0
+      (omega (arith, length-map c.make_room.new.entries.items entry_label, in_es))
+      (subst (λ (xs : List Entry). get_or (nodes xs).labels 0 [] ≡ []) (sym c.make_room.ensures.items) c.args.self.now.bare)
 
   child_after : IsChild after.links c.args.q (get_or (nodes c.args.self.now.entries.items).counts c.args.q 0) c.len-new.result
   unfolding after
   child_after =
-      let new : c.len-new.result ≡ length (nodes c.reserve.new.self.items).links = omega (arith, new_is, length-links c.reserve.new.self.items) in
-      rw (new, ← c.reserve.ensures.items)
-      (child_new (nodes c.reserve.new.self.items) linked c.args.q c.new_or-first.result c.new_or-before.result c.pop_tree-label.result.0 (stacked c.pop_tree-label.result.1.items nil) (stacked c.pop_tree-label.new.stack.items nil) in_nodes)
+      let new : c.len-new.result ≡ length (nodes c.make_room.new.entries.items).links = omega (arith, new_is, length-links c.make_room.new.entries.items) in
+      rw (new, ← c.make_room.ensures.items)
+      (child_new (nodes c.make_room.new.entries.items) linked c.args.q c.new_or-first.result c.new_or-before.result c.pop_tree-label.result.0 (stacked c.pop_tree-label.result.1.items nil) (stacked c.pop_tree-label.new.stack.items nil) in_nodes)
 
   others_after : KeepsLists c.args.q (nodes c.args.self.now.entries.items) after
   unfolding after
   others_after = λ i known other.
-      let m = nodes c.reserve.new.self.items in
+      let m = nodes c.make_room.new.entries.items in
       let left = stacked c.pop_tree-label.new.stack.items nil in
       let was = c.args.self.now.entries.items in
       let inside : i < length (set m.rests c.args.q left) =
-      omega (arith, known, length-set m.rests c.args.q left, length-map c.reserve.new.self.items list_of, length-links was, ap (λ (xs : List Entry). length xs) c.reserve.ensures.items) in
+      omega (arith, known, length-set m.rests c.args.q left, length-map c.make_room.new.entries.items list_of, length-links was, ap (λ (xs : List Entry). length xs) c.make_room.ensures.items) in
       get_or_append_left (set m.rests c.args.q left) _ nil i inside ∙ get_or-set_other m.rests c.args.q i left nil other
-      ∙ ap (λ (xs : List Entry). get_or (nodes xs).rests i nil) c.reserve.ensures.items
+      ∙ ap (λ (xs : List Entry). get_or (nodes xs).rests i nil) c.make_room.ensures.items
 
 pub invariant_of-self-2 : goal.invariant_of-self-2
 invariant_of-self-2 c =
@@ -148,8 +145,8 @@ returns-clause-child c =
     let d = (goal.at.returns-clause-child c).After-index_mut-last in
     subst (λ (m : Nodes). IsChild m.links c.args.q (get_or (nodes c.args.self.now.entries.items).counts c.args.q 0) c.len-new.result) (sym (made d)) (child_after d)
 
-pub returns-in_err-reserve-clause-others : goal.returns-in_err-reserve-clause-others
-returns-in_err-reserve-clause-others c = λ i known other. ap (λ xs. get_or (nodes xs).rests i nil) c.reserve.ensures.items
+pub returns-in_err-make_room-clause-others : goal.returns-in_err-make_room-clause-others
+returns-in_err-make_room-clause-others c = λ i known other. ap (λ xs. get_or (nodes xs).rests i nil) c.make_room.ensures.items
 
 pub returns-clause-others : goal.returns-clause-others
 returns-clause-others c = λ i known other.
