@@ -1,5 +1,5 @@
 // The lists with which a document answers.
-ghost use Rattle.std.specs.Prelude.{◌≡◌, ◌≤◌, ◌+◌, ◌<◌, length, true, false, IfOk, OnOk, MatchOption};
+ghost use Rattle.std.specs.Prelude.{◌≡◌, ◌≤◌, ◌+◌, ◌<◌, length, vec_len, vec_capacity, true, false, IfOk, OnOk, MatchOption};
 ghost use Rattle.lxp_core.specs.Open.{Open, node, without_holes};
 ghost use Rattle.lxp_core.specs.Plain.{plain, put_all};
 ghost use Rattle.document_store.specs.Laid.{node_at, below};
@@ -11,8 +11,24 @@ use crate::holes::Rest;
 use lxp_core::{HoleId, OpenTree};
 use std::alloc::{AllocError, Global};
 
+// A list over at most so many nodes has room for all of them.
+const FEW: usize = 4;
+
+// Makes room for one tree more behind a list. Mostly there is room, and the test is the whole cost.
+#[inline(always)]
+fn make_room(list: &mut Vec<OpenTree>) -> Result<(), AllocError>
+    ensures items { list.new.items ≡ list.old.items }
+    ensures room { OnOk result (vec_len list.new < vec_capacity list.new) }
+{
+    if list.len() < list.capacity() {
+        return Ok(());
+    }
+    list.reserve(1)
+}
+
 impl BracketDoc {
     // Puts a node behind a list, above a list of its own.
+    #[inline(always)]
     fn push_node(
         &self,
         alloc: Global,
@@ -24,8 +40,9 @@ impl BracketDoc {
         ensures { OnOk result ((rest : Open) → put_all list.new.items rest
             ≡ put_all list.old.items (node (node_at self.now.nodes i).label (plain kids.items) rest)) }
     {
+        make_room(list)?;
         let label = self.nodes.copy_label(alloc, i)?;
-        list.push(OpenTree::Node { label, kids })?;
+        list.push_reserved(OpenTree::Node { label, kids });
         Ok(())
     }
 
@@ -42,6 +59,17 @@ impl BracketDoc {
             to = self.nodes.before(i);
         }
         all
+    }
+
+    // For how many of the trees between two positions a list has room: for as many as there are nodes, where these are few.
+    fn room(&self, from: usize, to: usize, most: u32) -> usize
+        requires { to ≤ length self.now.nodes }
+    {
+        let nodes = to.saturating_sub(from);
+        if nodes <= FEW {
+            return nodes;
+        }
+        self.count(from, to, most)
     }
 
     // The trees between two positions, without holes.
@@ -66,22 +94,31 @@ impl BracketDoc {
         let from = self.nodes.before(rest.node);
         match self.nodes.first(from, rest.to) {
             Some(_) => {
-                list.push(OpenTree::Hole(rest.hole()))?;
+                make_room(list)?;
+                list.push_reserved(OpenTree::Hole(rest.hole()));
                 Ok(())
             }
             None => Ok(()),
         }
     }
 
-    // The list below a node. With a hole it has room for nothing more, since it lies in the buffer as long as nobody asks for what is below.
-    fn kids(&self, alloc: Global, whole: bool, i: usize) -> Result<Vec<OpenTree>, AllocError>
-        requires { i < length self.now.nodes }
+    // The list below a node, whose children begin at a position. With a hole it has room for nothing more, since it lies in the buffer as
+    // long as nobody asks for what is below.
+    fn kids(
+        &self,
+        alloc: Global,
+        whole: bool,
+        from: usize,
+        i: usize,
+    ) -> Result<Vec<OpenTree>, AllocError>
+        requires inside { i < length self.now.nodes }
+        requires from { from ≡ before self.now.nodes i }
         ensures { IfOk result (λ list. plain list.items ≡ kids_given self.now.nodes whole i) }
     {
         if whole {
-            return self.whole(alloc, self.nodes.before(i), i);
+            return self.whole(alloc, from, i);
         }
-        match self.nodes.first(self.nodes.before(i), i) {
+        match self.nodes.first(from, i) {
             Some(_) => Ok(vec![in alloc; OpenTree::Hole(Rest { node: i, to: i }.hole())]?),
             None => Ok(Vec::new(alloc)),
         }
@@ -117,15 +154,15 @@ impl BracketDoc {
         let from = self.nodes.before(rest.node);
         let mut to = rest.to;
         // A hole behind the children takes the place of one more.
-        let mut list = Vec::with_capacity(alloc, self.count(from, to, most))?;
+        let mut list = Vec::with_capacity(alloc, self.room(from, to, most))?;
         let mut left = most;
         while left > 0 {
             let Some(i) = self.nodes.first(from, to) else {
                 return Ok(list);
             };
-            let kids = self.kids(alloc, whole, i)?;
-            self.push_node(alloc, &mut list, i, kids)?;
             to = self.nodes.before(i);
+            let kids = self.kids(alloc, whole, to, i)?;
+            self.push_node(alloc, &mut list, i, kids)?;
             left -= 1;
         }
         self.push_rest(&mut list, Rest { to, ..rest })?;
