@@ -2,6 +2,7 @@ pub mod Automata
 pub mod Bindings
 pub mod Entries
 pub mod FirstPositions
+pub mod Least
 pub mod Living
 pub mod Runs
 pub mod Steps

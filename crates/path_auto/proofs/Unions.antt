@@ -1,6 +1,5 @@
 -- Laws of unions.
-use Rattle.std.proofs.Common.{◌≡◌, ◌∙◌, ℕ, suc, ◌+◌, ◌^◌, ◌<◌, ◌≤◌, ◌==◌, Bool, true, false, cond, ◌&&◌, ◌||◌, List, [], ◌∷◌, ◌++◌, length, get_or, drop, Option, refl, sym, ap, arith}
-use Rattle.std.specs.Int.{bit_at}
+use Rattle.std.proofs.Common.{◌≡◌, ◌∙◌, ℕ, suc, ◌+◌, ◌^◌, ◌<◌, ◌≤◌, Bool, true, false, cond, ◌||◌, List, [], ◌∷◌, ◌++◌, length, get_or, drop, refl, sym, ap, arith}
 use Rattle.std.specs.Int.RustNames.{bit_or}
 use Rattle.std.proofs.lemmas.Nat.Bits.{bit_at-zero, bit_at_or, same_from_bits}
 use Rattle.std.proofs.Math.Seq.{drop-cons}
@@ -8,8 +7,8 @@ use Rattle.std.proofs.lemmas.List.{drop_all}
 use Rattle.mix_base.proofs.Lists.{append_nil}
 use Rattle.path_expr.specs.Form.{Head, name, any, seq, alt, star, plus, opt, Paths, none, path, Form, paths_of}
 use Rattle.path_expr.specs.Description.{How, in_turn, one_of}
-use Rattle.path_auto.specs.Positions.{Position, passes, listed_by, listed, tests}
-use Rattle.path_auto.specs.Sets.{entry_by, entry, rows_by, rows, step_from, tests_by, tests_of, some_by, some, lives_by, lives, set_of}
+use Rattle.path_auto.specs.Positions.{Position, listed_by, listed, tests}
+use Rattle.path_auto.specs.Sets.{entry_by, entry, rows_by, rows, tests_by, tests_of, some_by, some, lives_by, lives, set_of}
 
 -- a union with the empty set
 pub or_zero : (a : ℕ) → bit_or a 0 ≡ a
@@ -80,16 +79,6 @@ drop_at xs i x d h e =
     let next : suc i ≡ i + 1 = omega arith in
     drop-cons xs i d h ∙ ap (λ y. y ∷ drop (suc i) xs) (sym e) ∙ ap (λ k. x ∷ drop k xs) next
 
--- what a step has found before one more position, and what it finds from it on
-pub step_more : (ts : List (Option (List ℕ))) (rs : List ℕ) (i n found given : ℕ) (l : List ℕ) (t : Option (List ℕ)) → i < length ts → i < length rs
-    → t ≡ get_or ts i t → given ≡ cond (bit_at n i == 1 && passes t l) (get_or rs i 0) 0
-    → bit_or (bit_or found given) (step_from (drop (i + 1) ts) (drop (i + 1) rs) (i + 1) n l) ≡ bit_or found (step_from (drop i ts) (drop i rs) i n l)
-step_more ts rs i n found given l t h k e g =
-    let r : ℕ = get_or rs i 0 in
-    or_assoc found given (step_from (drop (i + 1) ts) (drop (i + 1) rs) (i + 1) n l)
-    ∙ ap (λ v. bit_or found (bit_or v (step_from (drop (i + 1) ts) (drop (i + 1) rs) (i + 1) n l))) g
-    ∙ ap (bit_or found) (sym (ap (λ us. step_from us (drop i rs) i n l) (drop_at ts i t t h e) ∙ ap (λ us. step_from (t ∷ drop (i + 1) ts) us i n l) (drop_at rs i r 0 k refl)))
-
 -- what has been gathered of a set before one more position, and what comes from it on
 pub set_more : (os : List Bool) (i set given : ℕ) → i < length os → given ≡ cond (get_or os i false) (2 ^ i) 0
     → bit_or (bit_or set given) (set_of (drop (i + 1) os) (i + 1)) ≡ bit_or set (set_of (drop i os) i)
@@ -97,10 +86,6 @@ set_more os i set given h g =
     or_assoc set given (set_of (drop (i + 1) os) (i + 1))
     ∙ ap (λ v. bit_or set (bit_or v (set_of (drop (i + 1) os) (i + 1)))) g
     ∙ ap (bit_or set) (sym (ap (λ us. set_of us i) (drop_at os i (get_or os i false) false h refl)))
-
--- behind the last position a step finds nothing
-pub step_end : (ts : List (Option (List ℕ))) (rs : List ℕ) (i n found : ℕ) (l : List ℕ) → length ts ≤ i → bit_or found (step_from (drop i ts) (drop i rs) i n l) ≡ found
-step_end ts rs i n found l h = ap (λ us. bit_or found (step_from us (drop i rs) i n l)) (drop_all i ts h) ∙ or_zero found
 
 -- behind the last position there is nothing to gather
 pub set_end : (os : List Bool) (i set : ℕ) → length os ≤ i → bit_or set (set_of (drop i os) i) ≡ set

@@ -1,5 +1,5 @@
 -- Sets of positions as the bits of numbers, and the steps between them. The end of a path is one more position.
-use Rattle.std.specs.Prelude.{◌≡◌, ℕ, zero, suc, ◌+◌, ◌^◌, Bool, true, false, cond, ◌==◌, ◌&&◌, ◌||◌, List, [], ◌∷◌, ◌++◌, Option, Some, None, ◌↔◌}
+use Rattle.std.specs.Prelude.{◌≡◌, ◌≢◌, ◌<◌, ℕ, zero, suc, ◌+◌, ◌^◌, Bool, true, false, cond, ◌==◌, ◌&&◌, ◌||◌, List, [], ◌∷◌, ◌++◌, Option, Some, None, ◌↔◌}
 use Rattle.std.specs.Int.{bit_at}
 use Rattle.std.specs.Int.RustNames.{bit_or}
 use Rattle.path_expr.specs.Form.{Head, name, any, seq, alt, star, plus, opt, Paths, none, path, Form}
@@ -62,6 +62,23 @@ abbrev pub step_from : List (Option (List ℕ)) → List ℕ → ℕ → ℕ →
 step_from [] rs b n l = 0
 step_from (t ∷ ts) [] b n l = 0
 step_from (t ∷ ts) (r ∷ rs) b n l = bit_or (cond (bit_at n b == 1 && passes t l) r 0) (step_from ts rs (b + 1) n l)
+
+-- what a position gives to a step by a label: its row, where the label may stand there
+abbrev pub row_at : List (Option (List ℕ)) → List ℕ → ℕ → List ℕ → ℕ
+row_at [] rs i l = 0
+row_at (t ∷ ts) [] i l = 0
+row_at (t ∷ ts) (r ∷ rs) zero l = cond (passes t l) r 0
+row_at (t ∷ ts) (r ∷ rs) (suc i) l = row_at ts rs i l
+
+-- the least position of a set
+pub record IsLeast (n i : ℕ) : Type 0 where
+  pub has : bit_at n i ≡ 1
+  pub below : (j : ℕ) → j < i → bit_at n j ≡ 0
+
+-- a set without one of its positions
+pub record IsWithout (n i m : ℕ) : Type 0 where
+  pub gone : bit_at m i ≡ 0
+  pub others : (j : ℕ) → j ≢ i → bit_at m j ≡ bit_at n j
 
 -- the number of a path's end
 abbrev pub end_of : Form → ℕ

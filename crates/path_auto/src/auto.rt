@@ -1,13 +1,14 @@
 // The automaton of a path, over sets of its positions.
-ghost use Rattle.std.specs.Prelude.{◌≡◌, ◌<◌, ◌≤◌, ◌==◌, ◌&&◌, cond, length, IfOk};
-ghost use Rattle.std.specs.Int.{bit_at};
+ghost use Rattle.std.specs.Prelude.{◌≡◌, ◌≤◌, length, IfOk};
 ghost use Rattle.path_expr.specs.Form.{positions_in};
 ghost use Rattle.path_auto.specs.Positions.{passes};
-ghost use Rattle.path_auto.specs.Sets.{step_from};
+ghost use Rattle.path_auto.specs.Sets.{row_at, step_from};
 ghost use Rattle.path_auto.specs.Automaton.{machine_of, table_of, IsAutomatonOf};
 
 use crate::StateSet;
-use crate::sets::{entry_path, has, live_set, push_behind, push_labels, single};
+use crate::sets::{
+    entry_path, has, least, live_set, push_behind, push_labels, single, without_least,
+};
 use mix_tree::Label;
 use path_expr::{Path, count_positions};
 use std::alloc::{AllocError, Global};
@@ -105,26 +106,26 @@ fn passes_label(test: &Option<Label>, label: &Label) -> bool
 }
 
 // The set that a position gives to a step.
-fn row_of(states: u128, at: usize, test: &Option<Label>, behind: u128, label: &Label) -> u128
-    requires { at < 128 }
-    ensures { result ≡ cond (bit_at states at == 1 && passes test.now label.now) behind 0 }
+fn row_of(labels: &[Option<Label>], behind: &[u128], at: usize, label: &Label) -> u128
+    requires { length behind.now ≡ length labels.now }
+    ensures { result ≡ row_at labels.now behind.now at label.now }
 {
-    if has(states, at) && passes_label(test, label) {
-        behind
-    } else {
-        0
+    match labels.get(at) {
+        Some(test) if passes_label(test, label) => behind[at],
+        _ => 0,
     }
 }
 
 // The set behind a label.
 fn step_table(labels: &[Option<Label>], behind: &[u128], states: u128, label: &Label) -> u128
-    requires few { length labels.now ≤ 120 }
-    requires same { length behind.now ≡ length labels.now }
+    requires { length behind.now ≡ length labels.now }
     ensures { result ≡ step_from labels.now behind.now 0 states label.now }
 {
     let mut found = 0;
-    for at in 0..labels.len() {
-        found |= row_of(states, at, &labels[at], behind[at], label);
+    let mut rest = states;
+    while rest != 0 {
+        found |= row_of(labels, behind, least(rest), label);
+        rest = without_least(rest);
     }
     found
 }

@@ -1,10 +1,10 @@
 // The sets of a path's positions that its automaton is made of.
-ghost use Rattle.std.specs.Prelude.{◌≡◌, ◌<◌, ◌≤◌, length, if◌then◌else◌, ◌+◌, ◌^◌, ◌++◌, ◌==◌, true, OnOk, IfOk, IsUtf8};
+ghost use Rattle.std.specs.Prelude.{◌≡◌, ℕ, ◌<◌, ◌≤◌, length, if◌then◌else◌, ◌+◌, ◌^◌, ◌++◌, ◌==◌, true, OnOk, IfOk, IsUtf8};
 ghost use Rattle.std.specs.Int.{bit_at};
 ghost use Rattle.path_expr.specs.Form.{paths_of, positions_in, positions_of};
 ghost use Rattle.path_expr.specs.Description.{in_turn, one_of};
 ghost use Rattle.path_expr.specs.Labels.{HeadUtf8, AreUtf8};
-ghost use Rattle.path_auto.specs.Sets.{entry_by, entry, some_by, some, rows_by, rows, lives_by, lives, lives_in, tests_by, tests_of, set_of};
+ghost use Rattle.path_auto.specs.Sets.{IsLeast, IsWithout, entry_by, entry, some_by, some, rows_by, rows, lives_by, lives, lives_in, tests_by, tests_of, set_of};
 
 use mix_tree::Label;
 use path_expr::{Node, Path, count_positions};
@@ -24,6 +24,23 @@ pub fn has(states: u128, at: usize) -> bool
     ensures { result ≡ (bit_at states at == 1) }
 {
     (states >> at) & 1 == 1
+}
+
+/// The least position of a set.
+pub fn least(states: u128) -> usize
+    requires { 0 < states }
+    ensures { IsLeast states result }
+{
+    states.trailing_zeros() as usize
+}
+
+/// The set without its least position.
+pub fn without_least(states: u128) -> u128
+    requires { 0 < states }
+    ensures less { result < states }
+    ensures others { (at : ℕ) → IsLeast states at → IsWithout states at result }
+{
+    states & (states - 1)
 }
 
 /// The first positions of a path whose positions are numbered from `base`, where those behind it are `next`.
