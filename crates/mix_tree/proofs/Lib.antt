@@ -8,6 +8,7 @@ pub mod LabelOrders
 pub mod LabelSeen
 pub mod LabelSound
 pub mod LabelTaken
+pub mod LabelWords
 pub mod Numerals
 pub mod PlaceOrder
 pub mod Places

@@ -2,7 +2,7 @@
 ghost use Rattle.std.specs.Prelude.{◌≡◌, IfOk, MatchOption, IsUtf8};
 ghost use Rattle.std.specs.Str.{bytes_eq};
 
-use crate::label_text::{LabelText, copied, text_of};
+use crate::label_text::{LabelText, copied, same_bytes, text_of};
 use std::alloc::{AllocError, Global};
 use std::marker::Model;
 use std::str;
@@ -73,5 +73,8 @@ impl Label {
 pub fn same_label(a: &Label, b: &Label) -> bool
     ensures { result ≡ bytes_eq a.now b.now }
 {
-    a.bytes() == b.bytes()
+    match (&a.text, &b.text) {
+        (LabelText::Short(m, x), LabelText::Short(n, y)) => *m == *n && same_bytes(x, y),
+        _ => a.bytes() == b.bytes(),
+    }
 }

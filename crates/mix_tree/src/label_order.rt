@@ -5,7 +5,7 @@ ghost use Rattle.std.specs.Cmp.{partial_equiv_from_equiv};
 ghost use Rattle.std.specs.Cmp.Lexicographic.{bytes_decides, pointwise, slice_cmp, nat_list_eq_equiv, nat_list_cmp_total, texts_po, texts_ties};
 ghost use Rattle.std.specs.Hash as fed;
 
-use crate::Label;
+use crate::{Label, same_label};
 use std::cmp::Ordering;
 use std::hash::{Hash, Hasher};
 
@@ -15,7 +15,7 @@ impl PartialEq for Label {
     ghost laws = { partial_equiv_from_equiv nat_list_eq_equiv };
 
     fn eq(&self, other: &Self) -> bool {
-        self.bytes() == other.bytes()
+        same_label(self, other)
     }
 }
 

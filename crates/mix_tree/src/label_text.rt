@@ -1,5 +1,7 @@
 // How a label's bytes lie in memory.
-ghost use Rattle.std.specs.Prelude.{◌≡◌, ◌≤◌, length, string_bytes, IfOk, IsUtf8};
+ghost use Rattle.std.specs.Prelude.{◌≡◌, ◌≤◌, length, take, drop, string_bytes, IfOk, IsUtf8};
+ghost use Rattle.std.specs.Int.{w64, from_le_bytes};
+ghost use Rattle.std.specs.Str.{bytes_eq};
 ghost use Rattle.mix_tree.specs.LabelText.{text_bytes, IsText};
 
 use std::alloc::{AllocError, Global};
@@ -8,11 +10,38 @@ use std::str;
 /// The most bytes that lie in the label itself. With 14 of them a label takes 16 bytes.
 pub const ROOM: usize = 14;
 
-/// A text of at most `ROOM` bytes in place, with its length, or a longer one on the heap.
+/// A text of at most `ROOM` bytes in place, with its length, and zeros behind it; or a longer one on the heap.
 #[derive(Drop)]
 pub enum LabelText {
     Short(u8, [u8; ROOM]),
     Long(Box<String>),
+}
+
+// The first 8 bytes as a number.
+fn front_word(bytes: &[u8; ROOM]) -> u64
+    ensures { result ≡ from_le_bytes w64 (take 8 bytes.now) }
+{
+    match bytes.split_first_chunk() {
+        Some((front, _)) => u64::from_le_bytes(*front),
+        None => unreachable!(),
+    }
+}
+
+// The last 8 bytes as a number.
+fn back_word(bytes: &[u8; ROOM]) -> u64
+    ensures { result ≡ from_le_bytes w64 (drop 6 bytes.now) }
+{
+    match bytes.split_last_chunk() {
+        Some((_, back)) => u64::from_le_bytes(*back),
+        None => unreachable!(),
+    }
+}
+
+/// Whether the same bytes lie in place. The first 8 and the last 8 of them are all.
+pub fn same_bytes(a: &[u8; ROOM], b: &[u8; ROOM]) -> bool
+    ensures { result ≡ bytes_eq a.now b.now }
+{
+    front_word(a) == front_word(b) && back_word(a) == back_word(b)
 }
 
 // A text that fits in place.
