@@ -14,11 +14,11 @@ pub struct Spot {
     pub below: u32,
 }
 
-/// The most nodes.
+/// The most nodes, and the most bytes of labels.
 pub const MOST: usize = 4_294_967_295;
 
 /// Puts a node without children behind others; nothing where there is no room.
-#[inline]
+#[inline(always)]
 pub fn add(bytes: &mut Vec<u8>, spots: &mut Vec<Spot>, label: &[u8]) -> Result<(), AllocError>
     ensures bytes { OnOk result (bytes.new.items ≡ bytes.old.items ++ label.now) }
     ensures spots { OnOk result (spots.new.items ≡ spots.old.items ++ record { end = length bytes.old.items + length label.now; below = 0 } ∷ []) }
@@ -26,16 +26,17 @@ pub fn add(bytes: &mut Vec<u8>, spots: &mut Vec<Spot>, label: &[u8]) -> Result<(
     ensures same_bytes { OnErr result (bytes.new.items ≡ bytes.old.items) }
     ensures same_spots { OnErr result (spots.new.items ≡ spots.old.items) }
 {
-    let Ok(end) = u32::try_from(bytes.len() + label.len()) else {
-        return Err(AllocError);
-    };
-    if spots.len() >= MOST {
+    let end = bytes.len() + label.len();
+    if end > MOST || spots.len() >= MOST {
         return Err(AllocError);
     }
     make_room(bytes, label.len())?;
     make_room(spots, 1)?;
-    spots.push(Spot { end, below: 0 })?;
     bytes.extend_from_slice(label)?;
+    spots.push(Spot {
+        end: end as u32,
+        below: 0,
+    })?;
     Ok(())
 }
 

@@ -49,7 +49,7 @@ impl Store {
 
     /// Puts in a node without children. It fails where memory runs out, where the labels have 4 GB, and where there are
     /// 4,294,967,295 nodes, and leaves the document as it was then.
-    #[inline]
+    #[inline(always)]
     pub fn push(&mut self, label: &[u8]) -> Result<(), AllocError>
         requires { IsUtf8 label.now }
         ensures ok { OnOk result (self.new ≡ record { label = label.now; below = 0 } ∷ self.old) }
