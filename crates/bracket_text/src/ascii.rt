@@ -9,12 +9,11 @@ use std::str;
 pub fn is_ascii_text(text: &[u8]) -> bool
     ensures { result ≡ list_all is_ascii text.now }
 {
+    let mut all = true;
     for byte in text {
-        if !byte.is_ascii() {
-            return false;
-        }
+        all &= byte.is_ascii();
     }
-    true
+    all
 }
 
 /// Whether a text is UTF-8. Most are ASCII.

@@ -43,7 +43,7 @@ pub struct Reader {
 fn is_blank_byte(byte: u8) -> bool
     ensures { result ≡ is_blank byte }
 {
-    matches!(byte, b' ' | b'\t' | b'\n' | b'\r')
+    byte <= b' ' && matches!(byte, b' ' | b'\t' | b'\n' | b'\r')
 }
 
 // Puts in the node of a label between quotes, of which a place behind the opening one is given, with its escapes.
@@ -160,7 +160,7 @@ impl Reader {
     }
 
     // Takes a byte behind a label.
-    #[inline]
+    #[inline(always)]
     fn close_label(&mut self, at: usize, byte: u8) -> Result<(), BracketFault>
         ensures { (o : List Frame) (l : List ℕ) → HasTree self.old (leaf l) o → Gives result at self.new (after_label o l byte) }
     {
