@@ -1,6 +1,6 @@
 -- What is kept of texts shows them.
-use Rattle.std.proofs.Common.{◌≡◌, ◌∙◌, ℕ, zero, suc, ◌+◌, ◌-◌, ◌<◌, ◌≤◌, List, [], ◌∷◌, ◌++◌, length, take, drop, slice_range, get_or, IsUtf8, append_assoc, length-append, refl, sym, ap, subst, arith}
-use Rattle.std.specs.List.{All, concat}
+use Rattle.std.proofs.Common.{◌≡◌, ◌∙◌, ℕ, zero, suc, ◌+◌, ◌<◌, ◌≤◌, List, [], ◌∷◌, ◌++◌, length, slice_range, get_or, IsUtf8, append_assoc, length-append, refl, sym, ap, subst, arith}
+use Rattle.std.specs.List.{concat}
 use Rattle.std.proofs.lemmas.List.Elements.{All-append, All-cons, All-nil}
 use Rattle.std.proofs.lemmas.List.Folds.{concat-append}
 use Rattle.std.proofs.Math.Logic.{∥∥₁_map}

@@ -1,5 +1,3 @@
-use Rattle.std.proofs.Common.{sym, subst}
-use Rattle.document_store.specs.Texts.{AreKept}
 use Rattle.document_store.proofs.texts.Texts.shrink.Goals as goal
 
 pub invariant_of-self : goal.invariant_of-self
