@@ -1,13 +1,13 @@
 -- The first of ascending places, and what the places of a label are.
 use Rattle.std.proofs.Common.{◌≡◌, ◌<◌, ◌≤◌, ◌+◌, ◌⊎◌, inl, inr, ℕ, zero, suc, Bool, true, false, cond, List, [], ◌∷◌, length, get_or, refl, ◌∙◌, sym, ap, subst, arith, Option, Some, None, map}
-use Rattle.std.proofs.lemmas.List.{length-map}
+use Rattle.std.proofs.lemmas.List.{length-map, get_or-map}
 use Rattle.std.specs.Prelude.{◌==◌, nat_lt}
 use Rattle.std.specs.Str.{bytes_eq}
 use Rattle.std.proofs.lemmas.Slice.Eq.{bytes_eq-Decides}
 use Rattle.std.proofs.lemmas.Bool.Decides.{nat_tests}
 use Rattle.smallvec.specs.SmallVec.{SmallVec}
 use Rattle.join_memo.specs.Places.{places, IsKnown, IsIndex, IsAscending, IsLeast, IsLeastOf}
-use Rattle.join_memo.specs.Kept.{HasLabel, IsFirstFrom, IsFound}
+use Rattle.join_memo.specs.Kept.{labels_of, HasLabel, IsFirstFrom, IsFound}
 
 -- one number is below another or not
 pub below_or : (m n : ℕ) → (m < n) ⊎ (n ≤ m)
@@ -154,3 +154,26 @@ pub vector_is : (known : List (List ℕ)) (gs : List (SmallVec ℕ)) (labels : L
 vector_is known gs labels key x i h v e =
     let n : length (map (λ (g : SmallVec ℕ). g.items) gs) ≡ length gs = length-map gs (λ (g : SmallVec ℕ). g.items) in
     sym (vector_at gs i v (omega (arith, h.within, x.lists, n)) e) ∙ group_is known (map (λ g. g.items) gs) labels key x i h
+
+-- the label of the pair at a place
+pub label_there : {T : Type 0} (pairs : List (List ℕ × T)) (i : ℕ) (x : List ℕ × T) → i < length pairs → x ≡ get_or pairs i x → HasLabel (labels_of pairs) x.0 i
+label_there {T} pairs i x w e = record {
+  within = omega (arith, w, length-map pairs (λ (p : List ℕ × T). p.0));
+  is = get_or-map (λ (p : List ℕ × T). p.0) pairs i x [] w ∙ ap (λ (p : List ℕ × T). p.0) (sym e);
+}
+
+-- where the last label is the one that is looked up
+pub last_has : (labels : List (List ℕ)) (x key : List ℕ) (last : ℕ) → HasLabel labels x last → bytes_eq x key ≡ true → IsFirstFrom labels key last last
+last_has labels x key last h e = record {
+  behind = omega arith;
+  label = record { within = h.within; is = h.is ∙ (let d : x ≡ key = grind (arith, bytes_eq-Decides x key, e) in d) };
+  before = λ j f l at. absurd (omega (arith, f, l));
+}
+
+-- where it isn't
+pub last_lacks : (labels : List (List ℕ)) (x key : List ℕ) (last : ℕ) → length labels ≡ last + 1 → HasLabel labels x last → bytes_eq x key ≡ false
+    → (j : ℕ) → last ≤ j → HasLabel labels key j → ⊥
+last_lacks labels x key last one h e j f at =
+    let same : j ≡ last = omega (arith, one, f, at.within) in
+    let d : x ≡ key = sym h.is ∙ ap (λ m. get_or labels m []) (sym same) ∙ at.is in
+    grind (arith, bytes_eq-Decides x key, e, d)

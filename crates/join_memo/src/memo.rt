@@ -1,10 +1,10 @@
 // A list of pairs that grows at its end, and an index of it by label.
-ghost use Rattle.std.specs.Prelude.{◌≡◌, ◌++◌, ◌∷◌, [], ℕ, List, true, false, OnOk, OnErr, IfErr, length, map, slice_get, option_copied, option_map};
+ghost use Rattle.std.specs.Prelude.{◌≡◌, ◌++◌, ◌∷◌, [], ◌+◌, ℕ, List, true, false, OnOk, OnErr, IfErr, length, map, slice_get, option_copied, option_map};
 ghost use Rattle.join_memo.specs.Places.{IsIndex, IsNumber, IsAscending, IsLeastOf};
 ghost use Rattle.join_memo.specs.Kept.{labels_of, IsFound};
 
 use crate::known::KnownLabels;
-use mix_tree::Label;
+use mix_tree::{Label, same_label};
 use smallvec::SmallVec;
 use std::alloc::{AllocError, Global};
 use std::marker::Model;
@@ -176,10 +176,24 @@ impl<T: Drop> Memo<T> {
         }
     }
 
+    /// The place of the last pair, where it has this label. Nothing is hashed.
+    fn find_last(&self, key: &Label, last: usize) -> Option<usize>
+        requires { length self.now.pairs ≡ last + 1 }
+        ensures { IsFound (labels_of self.now.pairs) key.now last result }
+    {
+        match self.pairs.get(last) {
+            Some(pair) if same_label(&pair.0, key) => Some(last),
+            _ => None,
+        }
+    }
+
     /// The least place at or behind `from` at which a pair has this label; `None` exactly where no pair so far has it there. It takes no memory.
     pub fn find(&self, key: &Label, from: usize) -> Option<usize>
         ensures { IsFound (labels_of self.now.pairs) key.now from result }
     {
+        if self.pairs.len().saturating_sub(from) == 1 {
+            return self.find_last(key, from);
+        }
         match number_near(&self.known, &self.numbers, key, from) {
             None => None,
             Some(number) => first_from(self.groups[number].as_slice(), from),
