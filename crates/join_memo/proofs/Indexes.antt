@@ -6,7 +6,6 @@ use Rattle.std.specs.Prelude.{Ok, Err}
 use Rattle.std.specs.Str.{bytes_eq}
 use Rattle.std.proofs.lemmas.Slice.Eq.{bytes_eq-Decides}
 use Rattle.std.proofs.lemmas.Bool.Decides.{nat_tests}
-use Rattle.std.proofs.Math.Seq.{map-set_same}
 use Rattle.std.proofs.lemmas.List.{map-append, map-set, get_or-set_same, get_or-set_other, get_or_append_left, get_or-append-add}
 use Rattle.std.proofs.lemmas.Grind.{common_steps}
 use Rattle.smallvec.specs.SmallVec.{SmallVec}
@@ -137,11 +136,7 @@ module _ (known groups labels : List (List ℕ)) (key : List ℕ) (x : IsIndex k
       apart_at k i j (inr g) (inl h) = absurd (none j (record { within = h.within; is = h.is ∙ sym g.1 }))
       apart_at k i j (inr g) (inr h) = g.0 ∙ sym h.0
 
--- a group written anew, among vectors
-pub set_vector : (gs : List (SmallVec ℕ)) (i : ℕ) (v w : SmallVec ℕ) → w.items ≡ v.items → v ≡ get_or gs i v → map (λ g. g.items) (set gs i w) ≡ map (λ g. g.items) gs
-set_vector gs i v w e f = map-set_same (λ (g : SmallVec ℕ). g.items) gs i w v (e ∙ ap (λ (g : SmallVec ℕ). g.items) f)
-
--- with one more place
+-- a group with one more place, among vectors
 pub grow_vector : (known : List (List ℕ)) (gs : List (SmallVec ℕ)) (labels : List (List ℕ)) (key : List ℕ) → IsIndex known (map (λ g. g.items) gs) labels
     → (i : ℕ) → IsKnown known key i → (v w : SmallVec ℕ) (place : ℕ) → get_or (map (λ g. g.items) gs) i [] ≡ v.items → w.items ≡ v.items ++ place ∷ [] → length labels ≡ place
     → IsIndex known (map (λ g. g.items) (set gs i w)) (labels ++ key ∷ [])

@@ -1,13 +1,13 @@
 -- The number of a label among known.
-use Rattle.std.proofs.Common.{◌≡◌, ◌<◌, ◌≤◌, ◌||◌, ℕ, zero, suc, Bool, true, false, List, [], ◌∷◌, ◌++◌, length, refl, ◌∙◌, sym, subst, arith, position}
-use Rattle.std.specs.Prelude.{nat_lt, slice_get, Some}
+use Rattle.std.proofs.Common.{◌≡◌, ◌<◌, ◌≤◌, ℕ, zero, suc, Bool, true, false, List, [], ◌∷◌, ◌++◌, length, refl, ◌∙◌, sym, ap, subst, arith, position}
+use Rattle.std.specs.Prelude.{nat_lt, not, slice_get, Some}
 use Rattle.std.specs.List.{list_any, position_or_len}
 use Rattle.std.specs.Str.{bytes_eq}
 use Rattle.std.proofs.lemmas.Slice.Eq.{bytes_eq-Decides}
 use Rattle.std.proofs.lemmas.Bool.Decides.{nat_tests}
 use Rattle.indexmap.specs.IndexSet.{insert_key}
 use Rattle.mix_base.proofs.Choices.{some_is}
-use Rattle.join_memo.specs.Places.{IsKnown, IsNumber}
+use Rattle.join_memo.specs.Places.{IsKnown, IsNumber, IsPut}
 
 known_behind : (x : List ℕ) (ks : List (List ℕ)) (key : List ℕ) (i : ℕ) → IsKnown ks key i → IsKnown (x ∷ ks) key (suc i)
 known_behind x ks key i h = record { within = omega (arith, h.within); is = h.is }
@@ -42,21 +42,40 @@ number_is key ks = by_case (nat_lt (position_or_len (bytes_eq key) ks) (length k
     by_case true e = rw e (number_here key ks (grind (arith, nat_tests, e)))
     by_case false e = rw e (number_nowhere key ks (grind (arith, nat_tests, e)))
 
--- a label that is none of them is no key
-pub not_key : (key : List ℕ) (ks : List (List ℕ)) → ((i : ℕ) → IsKnown ks key i → ⊥) → list_any (bytes_eq key) ks ≡ false
-not_key key [] h = refl
-not_key key (x ∷ ks) h = by_case (not_key key ks (λ i n. h (suc i) (known_behind x ks key i n))) (bytes_eq key x) refl
+-- a label that is among them has a place
+any_within : (key : List ℕ) (ks : List (List ℕ)) → list_any (bytes_eq key) ks ≡ true → position_or_len (bytes_eq key) ks < length ks
+any_within key [] h = cc
+any_within key (x ∷ ks) h = by_case (any_within key ks) (bytes_eq key x) refl h
   where
-    by_case : list_any (bytes_eq key) ks ≡ false → (b : Bool) → bytes_eq key x ≡ b → b || list_any (bytes_eq key) ks ≡ false
-    by_case more true e = absurd (h 0 (record { within = omega arith; is = (let d : key ≡ x = grind (arith, bytes_eq-Decides key x, e) in sym d) }))
-    by_case more false e = more
+    by_case : (list_any (bytes_eq key) ks ≡ true → position_or_len (bytes_eq key) ks < length ks) → (b : Bool) → bytes_eq key x ≡ b
+        → list_any (bytes_eq key) (x ∷ ks) ≡ true → position_or_len (bytes_eq key) (x ∷ ks) < length (x ∷ ks)
+    by_case more true e h = rw e (omega arith)
+    by_case more false e h = (let rest = more (rw e at h) in rw e (omega (arith, rest)))
 
--- it comes last
-pub known_last : (key : List ℕ) (ks : List (List ℕ)) → ((i : ℕ) → IsKnown ks key i → ⊥)
-    → insert_key bytes_eq ks key ≡ ks ++ key ∷ []
-known_last key ks h =
-    let e : list_any (bytes_eq key) ks ≡ false = not_key key ks h in
-    rw e refl
+-- one that is not has none
+none_within : (key : List ℕ) (ks : List (List ℕ)) → list_any (bytes_eq key) ks ≡ false → length ks ≤ position_or_len (bytes_eq key) ks
+none_within key [] h = omega arith
+none_within key (x ∷ ks) h = by_case (none_within key ks) (bytes_eq key x) refl h
+  where
+    by_case : (list_any (bytes_eq key) ks ≡ false → length ks ≤ position_or_len (bytes_eq key) ks) → (b : Bool) → bytes_eq key x ≡ b
+        → list_any (bytes_eq key) (x ∷ ks) ≡ false → length (x ∷ ks) ≤ position_or_len (bytes_eq key) (x ∷ ks)
+    by_case more true e h = (let f : true ≡ false = (rw e at h) in cc)
+    by_case more false e h = (let rest = more (rw e at h) in rw e (omega (arith, rest)))
+
+-- what a set answers to a label that is put in
+pub put_is : (key : List ℕ) (ks after : List (List ℕ)) (i : ℕ) (new : Bool) → new ≡ not (list_any (bytes_eq key) ks) → i ≡ position_or_len (bytes_eq key) ks
+    → after ≡ insert_key bytes_eq ks key → IsPut ks key i new after
+put_is key ks after i new e f g = by_case (list_any (bytes_eq key) ks) refl
+  where
+    by_case : (b : Bool) → list_any (bytes_eq key) ks ≡ b → IsPut ks key i new after
+    by_case true h =
+        let known : IsKnown ks key i = subst (IsKnown ks key) (sym f) (number_here key ks (any_within key ks h)) in
+        let same : after ≡ ks = g ∙ rw h refl in
+        subst (λ b. IsPut ks key i b after) (sym (e ∙ ap not h)) (known, same)
+    by_case false h =
+        let none : (j : ℕ) → IsKnown ks key j → ⊥ = number_nowhere key ks (none_within key ks h) in
+        let last : after ≡ ks ++ key ∷ [] = g ∙ rw h refl in
+        subst (λ b. IsPut ks key i b after) (sym (e ∙ ap not h)) (none, last)
 
 -- a label that stands at a number has it
 pub known_at : (ks : List (List ℕ)) (key x : List ℕ) (i : ℕ) → slice_get ks i ≡ Some x → bytes_eq x key ≡ true → IsKnown ks key i

@@ -1,5 +1,5 @@
 -- The places at which a label stands in a list of labels, and an index of them.
-use Rattle.std.specs.Prelude.{◌≡◌, ◌<◌, ◌≤◌, ℕ, suc, cond, List, [], ◌∷◌, Option, MatchOption, length, slice_index_or}
+use Rattle.std.specs.Prelude.{◌≡◌, ◌<◌, ◌≤◌, ℕ, suc, Bool, true, false, cond, List, [], ◌∷◌, ◌++◌, Option, MatchOption, length, slice_index_or}
 use Rattle.std.specs.Str.{bytes_eq}
 
 -- the places at which a label stands, ascending, where the first label stands at place n
@@ -15,6 +15,11 @@ pub record IsKnown (known : List (List ℕ)) (key : List ℕ) (i : ℕ) : Type 0
 -- a label is none of the known, or that of this number
 abbrev pub IsNumber : List (List ℕ) → List ℕ → Option ℕ → Type 0
 IsNumber known key r = MatchOption r ((i : ℕ) → IsKnown known key i → ⊥) (IsKnown known key)
+
+-- putting a label among the known gives its number, and whether it was none of them: then it stands behind them
+abbrev pub IsPut : List (List ℕ) → List ℕ → ℕ → Bool → List (List ℕ) → Type 0
+IsPut known key i false after = IsKnown known key i × (after ≡ known)
+IsPut known key i true after = ((j : ℕ) → IsKnown known key j → ⊥) × (after ≡ known ++ key ∷ [])
 
 -- the group of each known label has the places at which it stands, no two of them are the same, and a label that is not known stands nowhere
 pub record IsIndex (known groups : List (List ℕ)) (labels : List (List ℕ)) : Type 0 where

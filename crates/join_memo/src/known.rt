@@ -1,6 +1,6 @@
 // Different labels, by their numbers.
-ghost use Rattle.std.specs.Prelude.{◌≡◌, ◌++◌, ◌∷◌, [], ℕ, IsTrue, OnOk, OnErr};
-ghost use Rattle.join_memo.specs.Places.{IsKnown, IsNumber};
+ghost use Rattle.std.specs.Prelude.{◌≡◌, [], IsTrue, IfOk, OnErr};
+ghost use Rattle.join_memo.specs.Places.{IsKnown, IsNumber, IsPut};
 
 use indexmap::IndexSet;
 use mix_tree::{Label, same_label};
@@ -48,15 +48,11 @@ impl KnownLabels {
         }
     }
 
-    /// A label that is not among them comes behind the others.
-    pub(crate) fn add(&mut self, alloc: Global, key: &Label) -> Result<(), AllocError>
-        requires { (i : ℕ) → IsKnown self.old key.now i → ⊥ }
-        ensures ok { OnOk result (self.new ≡ self.old ++ key.now ∷ []) }
+    /// The number of a label, and whether it is new: then it comes behind the others.
+    pub(crate) fn put(&mut self, alloc: Global, key: &Label) -> Result<(usize, bool), AllocError>
+        ensures ok { IfOk result (λ r. IsPut self.old key.now r.0 r.1 self.new) }
         ensures err { OnErr result (self.new ≡ self.old) }
     {
-        match self.labels.insert_full(key.copy(alloc)?) {
-            Ok(_) => Ok(()),
-            Err(_) => Err(AllocError),
-        }
+        Ok(self.labels.insert_full(key.copy(alloc)?)?)
     }
 }

@@ -57,22 +57,15 @@ fn add_place(
     ensures known { OnErr result (known.new ≡ known.old) }
     ensures groups { OnErr result (map (λ g. g.items) groups.new.items ≡ map (λ g. g.items) groups.old.items) }
 {
-    match known.number(key) {
-        Some(number) => {
-            let group = &mut groups[number];
-            group.push(place)?;
-            Ok(number)
-        }
-        None => {
-            let mut group = Group::new(alloc);
-            group.push(place)?;
-            groups.reserve(1)?;
-            known.add(alloc, key)?;
-            let number = groups.len();
-            groups.push(group)?;
-            Ok(number)
-        }
+    groups.reserve(1)?;
+    let (number, is_new) = known.put(alloc, key)?;
+    if is_new {
+        groups.push(Group::from_buf_and_len(alloc, [place, 0, 0], 1))?;
+    } else {
+        let group = &mut groups[number];
+        group.push(place)?;
     }
+    Ok(number)
 }
 
 /// The first of ascending places from one on.
