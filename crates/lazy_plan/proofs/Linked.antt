@@ -29,7 +29,7 @@ use Rattle.lazy_binding.specs.Links.{is_equality, on_sides, operand_link, test_l
 use Rattle.lazy_binding.specs.Parts.{operators, IsFixed}
 use Rattle.lazy_binding.specs.World.{Member}
 use Rattle.lazy_binding.proofs.Bound.{fit_at}
-use Rattle.lazy_plan.specs.Beside.{IsNextPlace, HasSought}
+use Rattle.lazy_plan.specs.Beside.{NoneBetween, IsNextPlace, HasSought}
 
 -- the variables of a link are of nodes, each of its side, and the left side doesn't bind the right one
 pub record LinkFits (left right : Kinds) (link : Link) : Type 0 where
@@ -171,6 +171,11 @@ found_in m m' key key' from r e f h =
 pub next_place : (ms : List Member) (key : List ℕ) (from : ℕ) (r : Option ℕ) → IsFound (labels_of ms) key from r → IsNextPlace ms key from r
 next_place ms key from None h = λ j f l e. h j f (record { within = (let n = length-map ms (λ (m : Member). m.0) in omega (arith, n, l)); is = e })
 next_place ms key from (Some p) h = λ j f l e. h.before j f l (record { within = (let w = h.label.within in omega (arith, w, l)); is = e })
+
+-- where there is none, no member has the label
+pub none_next : (ms : List Member) (key : List ℕ) (from : ℕ) (r : Option ℕ) → ((p : ℕ) → r ≡ Some p → ⊥) → IsNextPlace ms key from r → NoneBetween ms key from (length ms)
+none_next ms key from None never h = h
+none_next ms key from (Some p) never h = absurd (never p refl)
 
 -- it has the label that was looked up
 pub found_label : (ms : List Member) (key : List ℕ) (by : Option Link) (from : ℕ) (r : Option ℕ) → IsFound (labels_of ms) key from r → IfSome r (HasSought ms key by)

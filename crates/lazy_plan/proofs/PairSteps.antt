@@ -156,8 +156,8 @@ module _ (ops : List Operator) (n l r : ℕ) (tests : List Test) where
           pair_cursor : (q q' : _) → IsIn b ops n (pairs_up l r tests) (Pair' q x q' d (suc p))
           pair_cursor q q' = (stays.cursor, row, of, there, place)
 
-          pair_falls : (q q' : _) → weighs b ops n (pairs_up l r tests) (Pair' q x q' d (suc p)) < beside_number a ops l r x p
-          pair_falls q q' = (let e = size_kept a b k.kept ops bench r in omega (arith, left_falls, e, few))
+          past_falls : beside_number b ops l r x (suc p) < beside_number a ops l r x p
+          past_falls = (let e = size_kept a b k.kept ops bench r in omega (arith, left_falls, e, few))
 
           -- whether it is let through, under the documents before
           lets_old : (v : Bool) → lets b ops l r tests x d ≡ v → passes_all (docs_of a) tests (binding a ops l x ++ binding b ops r d) ≡ v
@@ -178,7 +178,7 @@ module _ (ops : List Operator) (n l r : ℕ) (tests : List Test) where
           right_at q q' h = record {
             cursor = pair_cursor q q';
             row = at;
-            falls = pair_falls q q';
+            falls = past_falls;
             found = λ t.
                 found-append_some beside behind _ _
                 (found-pairs_yes (docs_of a) tests (ahead a ops r y) (binding a ops l x) (binding b ops r d) (ahead b ops r d) (next t) (lets_old true (h (still_told (tells_on k.kept ops) t))))
@@ -186,18 +186,23 @@ module _ (ops : List Operator) (n l r : ℕ) (tests : List Test) where
                 ∙ ap (finds (binding b ops l x ++ binding b ops r d)) pair_ahead;
           }
 
-          -- that is passed
-          right_on : (q q' : _) → (IsTrue (is_told b ops) → lets b ops l r tests x d ≡ false)
-              → Moves a b ops n (pairs_up l r tests) (beside_events a ops l r tests x y) (beside_number a ops l r x p) (Pair' q x q' d (suc p))
-          right_on q q' h = record {
-            cursor = pair_cursor q q';
-            falls = pair_falls q q';
-            found = λ t. found-append_both beside (pairs (docs_of a) tests (ahead b ops r d) (binding a ops l x)) behind (past t).0 ∙ ap found pair_ahead;
-            lazy = λ t w.
-                let asked = k.lazy t w in
-                let whole = cost-append_both beside (pairs (docs_of a) tests (ahead b ops r d) (binding a ops l x)) behind (cost (ahead a ops r y)) (past t).0 (past t).1 in
-                let same = ap cost pair_ahead in
-                omega (arith, asked, whole, same);
+          -- that is passed: the events behind it are ahead
+          pub right_past : (IsTrue (is_told b ops) → lets b ops l r tests x d ≡ false)
+              → Goes a b ops n (beside_events a ops l r tests x y) (beside_events b ops l r tests x d) (beside_number a ops l r x p) (beside_number b ops l r x (suc p))
+          right_past h = record {
+            kept = k.kept;
+            above = k.above;
+            comes = record {
+              tells = tells_on k.kept ops;
+              falls = omega (arith, past_falls);
+              found = λ t. found-append_both beside (pairs (docs_of a) tests (ahead b ops r d) (binding a ops l x)) behind (past t).0 ∙ ap found pair_ahead;
+              lazy = λ t w.
+                  let asked = k.lazy t w in
+                  let whole = cost-append_both beside (pairs (docs_of a) tests (ahead b ops r d) (binding a ops l x)) behind (cost (ahead a ops r y)) (past t).0 (past t).1 in
+                  let same = ap cost pair_ahead in
+                  omega (arith, asked, whole, same);
+            };
+            none = k.none;
           }
             where
               past : IsTrue (is_told a ops)
@@ -208,6 +213,11 @@ module _ (ops : List Operator) (n l r : ℕ) (tests : List Test) where
                     found-pairs_no (docs_of a) tests (ahead a ops r y) (binding a ops l x) (binding b ops r d) (ahead b ops r d) (next t) e,
                     cost-pairs_no (docs_of a) tests (ahead a ops r y) (binding a ops l x) (binding b ops r d) (ahead b ops r d) (next t) e,
                   )
+
+          -- at its pair
+          pub right_on : (q q' : _) → (IsTrue (is_told b ops) → lets b ops l r tests x d ≡ false)
+              → Moves a b ops n (pairs_up l r tests) (beside_events a ops l r tests x y) (beside_number a ops l r x p) (Pair' q x q' d (suc p))
+          right_on q q' h = (let past = right_past h in record { cursor = pair_cursor q q'; falls = past_falls; found = past.comes.found; lazy = past.comes.lazy })
 
           -- the event at its pair, as a step comes to it
           pub member_steps : (s : Step) → IsMemberStep b ops l r tests (memo_at b n).pairs x p s → Steps a b ops n (pairs_up l r tests) (beside_events a ops l r tests x y) (beside_number a ops l r x p) s

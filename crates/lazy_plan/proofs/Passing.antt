@@ -24,7 +24,7 @@ use Rattle.lazy_binding.specs.declared.parts.Fixed.{Fixed}
 use Rattle.lazy_binding.specs.declared.position.Position.{Position, Start, Pair'}
 use Rattle.lazy_binding.specs.Bench.{IsBench}
 use Rattle.lazy_binding.specs.World.{World, docs_of, is_told, Member, memo_at, passed, last_of}
-use Rattle.lazy_binding.specs.Cursors.{binding, ahead, stands, weighs, IsIn, IsOf, has_row}
+use Rattle.lazy_binding.specs.Cursors.{binding, ahead, size, stands, weighs, IsIn, IsOf, has_row}
 use Rattle.lazy_binding.specs.Links.{shape_link, first_link, link_at}
 use Rattle.lazy_binding.specs.Members.{member_label, AreMembers}
 use Rattle.lazy_binding.specs.Parts.{operators, world_of}
@@ -32,14 +32,15 @@ use Rattle.lazy_binding.proofs.Bound.{inputs_at, fit_at}
 use Rattle.lazy_binding.proofs.FirstLists.{take_all}
 use Rattle.lazy_binding.proofs.Keep.{keeps_same}
 use Rattle.lazy_binding.proofs.Spots.{lacks}
-use Rattle.lazy_plan.specs.Beside.{sought_label, HasSought, NoneBetween, IsPairAt, lets, IsMemberStep, beside_events, beside_number, last_at, IsGrown}
+use Rattle.lazy_binding.proofs.Stay.{size_kept}
+use Rattle.lazy_plan.specs.Beside.{sought_label, HasSought, NoneBetween, IsNextPlace, IsPairAt, lets, IsMemberStep, beside_events, beside_number, last_at, IsGrown}
 use Rattle.lazy_plan.specs.declared.step.Step.{Step}
-use Rattle.lazy_plan.specs.Steps.{Asks, Steps, CanStep, left_events, left_number}
+use Rattle.lazy_plan.specs.Steps.{Asks, Steps, Ran, CanStep, left_events, left_number}
 use Rattle.lazy_plan.proofs.Goes.{Goes, goes_result, asks_nothing, tells_on, in_place}
 use Rattle.lazy_plan.proofs.Growing.{take_more, member_at, members_few}
 use Rattle.lazy_plan.proofs.Holding.{holds}
-use Rattle.lazy_plan.proofs.Linked.{link_fits, tests_fail, test_holds}
-use Rattle.lazy_plan.proofs.PairSteps.{right_over, member_steps}
+use Rattle.lazy_plan.proofs.Linked.{link_fits, tests_fail, test_holds, none_next}
+use Rattle.lazy_plan.proofs.PairSteps.{right_over, right_past, member_steps, can_then}
 
 module _ (ops : List Operator) (n l r : ℕ) (tests : List Test) (typed : IsTyped ops) (within : n < length ops) (is : shape_at ops n ≡ pairs_up l r tests) (w : World) (bench : IsBench w ops) (x : Position) (here : IsOf w ops l x) (row : IsTrue (has_row x)) where
   abbrev ms : List Member
@@ -171,17 +172,93 @@ module _ (ops : List Operator) (n l r : ℕ) (tests : List Test) (typed : IsType
       right_over ops n l r tests typed within is w w bench x (last_at w n) here row (asks_nothing w ops n (keeps_same w ops bench) (ahead w ops r (last_at w n))) (length ms) (λ t. members.all e t)
 
   -- a member that came
-  module _ (b : World) (k : Asks w b ops n (ahead w ops r (last_at w n))) where
+  module _ (b : World) (k : Asks w b ops n (ahead w ops r (last_at w n))) (g : IsGrown w b ops n r true) where
+    pub grown_few : suc (length ms) ≤ size w ops r
+    grown_few = (let few = members_few members in let less = g.2.falls in omega (arith, few, less))
+
+    now : (memo_at b n).pairs ≡ ms ++ g.0 ∷ []
+    now = ap (λ (m : Kept (Rc Position Global)). m.pairs) g.1
+
+    pub grown_length : length (memo_at b n).pairs ≡ suc (length ms)
+    grown_length = (let e = ap length now in let c = length-append ms (g.0 ∷ []) in omega (arith, e, c))
+
+    -- it stands behind the others
+    there : passed (memo_at b n).pairs (suc (length ms)) ≡ g.0.1.value
+    there = ap (λ (xs : List Member). passed xs (suc (length ms))) now ∙ take_more Start ms g.0 (length ms) refl
+
+    last_there : passed (memo_at b n).pairs (suc (length ms)) ≡ last_at b n
+    last_there = ap (last_of Start) (take_all (memo_at b n).pairs (suc (length ms)) (sym grown_length))
+
     -- the event at its pair, as a step comes to it
-    pub grown_steps : IsGrown w b ops n r true → (s : Step) → IsMemberStep b ops l r tests (memo_at b n).pairs x (length ms) s
+    pub grown_steps : (s : Step) → IsMemberStep b ops l r tests (memo_at b n).pairs x (length ms) s
         → Steps w b ops n (pairs_up l r tests) (beside_events w ops l r tests x (last_at w n)) (beside_number w ops l r x (length ms)) s
-    grown_steps g s h =
+    grown_steps s h =
         let f = g.2 in
-        let now = ap (λ (m : Kept (Rc Position Global)). m.pairs) g.1 in
-        member_steps ops n l r tests typed within is w b bench x (last_at w n) here row k g.0.1.value (length ms) f.cursor f.row f.found
-        (let few = members_few members in let less = f.falls in omega (arith, few, less))
-        (let e = ap length now in let c = length-append ms (g.0 ∷ []) in omega (arith, e, c))
-        (ap (λ (xs : List Member). passed xs (suc (length ms))) now ∙ take_more Start ms g.0 (length ms) refl) s h
+        member_steps ops n l r tests typed within is w b bench x (last_at w n) here row k g.0.1.value (length ms) f.cursor f.row f.found grown_few (omega (arith, grown_length)) there s h
+
+    -- the events behind it, where the comparisons don't let it through
+    pub grown_past : (IsTrue (is_told b ops) → lets b ops l r tests x (passed (memo_at b n).pairs (suc (length ms))) ≡ false)
+        → Goes w b ops n (beside_events w ops l r tests x (last_at w n)) (beside_events b ops l r tests x (last_at b n)) (beside_number w ops l r x (length ms))
+        (beside_number b ops l r x (length (memo_at b n).pairs))
+    grown_past h =
+        let f = g.2 in
+        subst (λ (z : Position). Goes w b ops n (beside_events w ops l r tests x (last_at w n)) (beside_events b ops l r tests x z) (beside_number w ops l r x (length ms))
+        (beside_number b ops l r x (length (memo_at b n).pairs))) (sym there ∙ last_there)
+        (subst (λ (z : ℕ). Goes w b ops n (beside_events w ops l r tests x (last_at w n)) (beside_events b ops l r tests x g.0.1.value) (beside_number w ops l r x (length ms))
+        (beside_number b ops l r x z)) (sym grown_length)
+        (right_past ops n l r tests typed within is w b bench x (last_at w n) here row k g.0.1.value (length ms) f.cursor f.row f.found grown_few (omega (arith, grown_length)) there
+        (λ t. ap (lets b ops l r tests x) (sym there) ∙ h t)))
+
+-- a call that brought one more member beside a left position, behind k of them
+module _ {S : Type 0} {view : S → View} {came_from : S → S → Type 0} {s t : S} {g h : Growing} {p : Fixed} {x : Position} (l r n : ℕ) (tests : List Test) (can : CanStep (view s) g p l x)
+    (row : IsTrue (has_row x)) (within : n < length (operators p)) (is : shape_at (operators p) n ≡ pairs_up l r tests)
+    (ran : Ran view came_from (operators p) n (ahead (world_of (view s) g) (operators p) r (last_at (world_of (view s) g) n)) s g t h)
+    (grown : IsGrown (world_of (view s) g) (world_of (view t) h) (operators p) n r true) (k : ℕ) (behind : k ≡ length (memo_at (world_of (view s) g) n).pairs) where
+  abbrev a : World
+  a = world_of (view s) g
+
+  abbrev b : World
+  b = world_of (view t) h
+
+  one_more : length (memo_at b n).pairs ≡ suc k
+  one_more = omega (arith, grown_length (operators p) n l r tests can.fixed.typed within is a can.bench x can.cursor row b ran.asks grown, behind)
+
+  -- it is the only one that may be found
+  only : (j : ℕ) → (k ≤ j) × (j < length (memo_at b n).pairs) → j ≡ length (memo_at a n).pairs
+  only j there = omega (arith, there.0, there.1, one_more, behind)
+
+  -- where it isn't found, the events behind it are ahead
+  pub more_goes : (res : Option ℕ) → ((j : ℕ) → res ≡ Some j → ⊥)
+      → (IsTrue (is_told b (operators p)) → IsNextPlace (memo_at b n).pairs (sought_label (docs_of b) (link_at (operators p) n) (binding b (operators p) l x)) k res)
+      → Goes a b (operators p) n (beside_events a (operators p) l r tests x (last_at a n)) (beside_events b (operators p) l r tests x (last_at b n))
+      (beside_number a (operators p) l r x (length (memo_at a n).pairs)) (beside_number b (operators p) l r x (length (memo_at b n).pairs))
+  more_goes res never next =
+      grown_past (operators p) n l r tests can.fixed.typed within is a can.bench x can.cursor row b ran.asks grown
+      (λ u. subst (λ (i : ℕ). lets b (operators p) l r tests x (passed (memo_at b n).pairs (suc i)) ≡ false) behind (fails u))
+    where
+      less : k < length (memo_at b n).pairs
+      less = omega (arith, one_more)
+
+      none : IsTrue (is_told b (operators p)) → NoneBetween (memo_at b n).pairs (sought_label (docs_of b) (link_at (operators p) n) (binding b (operators p) l x)) k (length (memo_at b n).pairs)
+      none u = none_next (memo_at b n).pairs (sought_label (docs_of b) (link_at (operators p) n) (binding b (operators p) l x)) k res never (next u)
+
+      fails : IsTrue (is_told b (operators p)) → lets b (operators p) l r tests x (passed (memo_at b n).pairs (suc k)) ≡ false
+      fails u =
+          other_fails (operators p) n l r tests can.fixed.typed within is b ran.bench x (can_then can (view t) h ran.bench ran.asks.kept).cursor row (passed (memo_at b n).pairs (suc k))
+          (λ e. none u k (omega arith) less ((member_at (ran.bench.members n l r tests is) k less).label_is u ∙ e))
+
+  -- fewer may come
+  pub more_falls : size b (operators p) r - length (memo_at b n).pairs < size a (operators p) r - length (memo_at a n).pairs
+  more_falls =
+      let same = size_kept a b ran.asks.kept (operators p) can.bench r in
+      let few = grown_few (operators p) n l r tests can.fixed.typed within is a can.bench x can.cursor row b ran.asks grown in
+      omega (arith, same, few, one_more, behind)
+
+  -- the event at its pair, as a step comes to it
+  pub more_steps : (j : ℕ) → (k ≤ j) × (j < length (memo_at b n).pairs) → (res : Result Step WalkFault) → IfOk res (IsMemberStep b (operators p) l r tests (memo_at b n).pairs x j)
+      → IfOk res (Steps a b (operators p) n (pairs_up l r tests) (beside_events a (operators p) l r tests x (last_at a n)) (beside_number a (operators p) l r x (length (memo_at a n).pairs)))
+  more_steps j there res h = IfOk-weaker res _ _ (λ z m. grown_steps (operators p) n l r tests can.fixed.typed within is a can.bench x can.cursor row b ran.asks grown z
+      (subst (λ (i : ℕ). IsMemberStep b (operators p) l r tests (memo_at b n).pairs x i z) (only j there) m)) h
 
 module _ {v : View} {g : Growing} {p : Fixed} {n : ℕ} {c : Position} (can : CanStep v g p n c) (l r : ℕ) (tests : List Test) (is : shape_at (operators p) n ≡ pairs_up l r tests) where
   module _ (q q' : _) (x y : Position) (k : ℕ) (e : c ≡ Pair' q x q' y k) where

@@ -84,7 +84,7 @@ impl Pairs<'_> {
     }
 
     /// The event at the pair of a binding of the left side and the member at a place: a binding where all comparisons hold.
-    pub(crate) fn at_member(
+    fn at_member(
         &self,
         growing: &Growing,
         l: &Rc<Position>,
