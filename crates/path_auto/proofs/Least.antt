@@ -1,10 +1,11 @@
 -- The least position of a set, and a step that goes over the positions of a set.
-use Rattle.std.proofs.Common.{◌≡◌, ◌∙◌, inl, inr, ◌≤◌, ◌<◌, ℕ, zero, suc, ◌+◌, ◌-◌, ◌/◌, ◌==◌, ◌&&◌, cond, List, [], ◌∷◌, length, get_or, Option, refl, sym, ap, arith}
+use Rattle.std.proofs.Common.{◌≡◌, ◌∙◌, inl, inr, ◌≤◌, ◌<◌, ℕ, zero, suc, ◌+◌, ◌-◌, ◌*◌, ◌/◌, ◌^◌, ◌==◌, ◌&&◌, not, Bool, true, false, cond, List, [], ◌∷◌, length, get_or, Option, refl, sym, ap, arith}
 use Rattle.std.specs.Int.{bit_at}
 use Rattle.std.specs.Int.RustNames.{bit_and, bit_or}
-use Rattle.std.proofs.lemmas.Nat.{or_comm}
-use Rattle.std.proofs.lemmas.Nat.Bits.{bit_at-zero, bit_at_and, bit_at_lowest, bit_at-suc}
+use Rattle.std.proofs.lemmas.Nat.{or_comm, pow_pos}
+use Rattle.std.proofs.lemmas.Nat.Bits.{bit_at-zero, bit_at_and, bit_at_lowest, bit_at-suc, bit_at-lt, and_pow}
 use Rattle.std.proofs.lemmas.Bool.{cases_eq, cases_lt}
+use Rattle.std.proofs.lemmas.Bool.Decides.{Decides-eqb}
 use Rattle.path_auto.specs.Positions.{passes}
 use Rattle.path_auto.specs.Sets.{row_at, step_from, IsLeast, IsWithout}
 use Rattle.path_auto.proofs.Unions.{or_assoc}
@@ -112,3 +113,24 @@ row_behind [] rs i l h = refl
 row_behind (u ∷ ts) [] i l h = refl
 row_behind (u ∷ ts) (r ∷ rs) zero l h = absurd (omega arith)
 row_behind (u ∷ ts) (r ∷ rs) (suc i) l h = row_behind ts rs i l (omega arith)
+
+-- what is above 0
+above_zero : (m : ℕ) → 0 < m → not (m == 0) ≡ true
+above_zero m h = by_test (m == 0) refl
+  where
+    by_test : (t : Bool) → (m == 0) ≡ t → not (m == 0) ≡ true
+    by_test false e = ap not e
+    by_test true e = (let none : m ≡ 0 = (Decides-eqb m 0).0 e in absurd (omega arith))
+
+-- a set has a position where it has one in common with the set of that position
+pub has_position : (n i set : ℕ) → set ≡ 2 ^ i → not (bit_and n set == 0) ≡ (bit_at n i == 1)
+has_position n i set is = by_bit (bit_at n i) refl
+  where
+    met : (b : ℕ) → bit_at n i ≡ b → bit_and n set ≡ b * 2 ^ i
+    met b e = ap (bit_and n) is ∙ and_pow n i ∙ ap (λ c. c * 2 ^ i) e
+
+    by_bit : (b : ℕ) → bit_at n i ≡ b → not (bit_and n set == 0) ≡ (bit_at n i == 1)
+    by_bit zero e = (let none : bit_and n set ≡ 0 = met 0 e ∙ omega arith in ap (λ m. not (m == 0)) none ∙ sym (ap (λ b. b == 1) e))
+    by_bit (suc zero) e =
+        (let some : 0 < bit_and n set = omega (arith, met 1 e, pow_pos i) in above_zero (bit_and n set) some ∙ sym (ap (λ b. b == 1) e))
+    by_bit (suc (suc b)) e = absurd (omega (arith, bit_at-lt n i, e))

@@ -6,9 +6,7 @@ ghost use Rattle.path_auto.specs.Sets.{row_at, step_from};
 ghost use Rattle.path_auto.specs.Automaton.{machine_of, table_of, IsAutomatonOf};
 
 use crate::StateSet;
-use crate::sets::{
-    entry_path, has, least, live_set, push_behind, push_labels, single, without_least,
-};
+use crate::sets::{entry_path, least, live_set, push_behind, push_labels, single, without_least};
 use mix_tree::Label;
 use path_expr::{Path, count_positions};
 use std::alloc::{AllocError, Global};
@@ -26,17 +24,19 @@ pub struct Auto {
     live: u128,
     /// The positions at which the first label may stand.
     first: u128,
+    /// The path's end.
+    end: u128,
 }
 
 impl Model for Auto {
-    ghost use Rattle.std.specs.Prelude.{◌≡◌, ◌≤◌, length};
+    ghost use Rattle.std.specs.Prelude.{◌≡◌, ◌≤◌, ◌^◌, length};
     ghost use Rattle.path_auto.specs.Automaton.{Table};
 
     ghost Value = { Table };
 
     ghost view = { λ a. record { labels = a.labels.items; behind = a.behind.items; live = a.live; first = a.first } };
 
-    ghost invariant = { λ a. (length a.labels.items ≤ 120) × (length a.behind.items ≡ length a.labels.items) };
+    ghost invariant = { λ a. (length a.labels.items ≤ 120) × (length a.behind.items ≡ length a.labels.items) × (a.end ≡ 2 ^ length a.labels.items) };
 }
 
 impl Auto {
@@ -59,6 +59,7 @@ impl Auto {
             behind,
             live,
             first,
+            end,
         })
     }
 
@@ -83,7 +84,7 @@ impl Auto {
     pub fn accepts(&self, states: StateSet) -> bool
         ensures { result ≡ (machine_of self.now).accepts states }
     {
-        has(states.bits(), self.labels.len())
+        states.bits() & self.end != 0
     }
 
     /// Whether the path describes some longer list of labels that begins with those so far.

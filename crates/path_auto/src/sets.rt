@@ -18,14 +18,6 @@ pub fn single(at: usize) -> u128
     1u128 << at
 }
 
-/// Whether the set has the position.
-pub fn has(states: u128, at: usize) -> bool
-    requires { at < 128 }
-    ensures { result ≡ (bit_at states at == 1) }
-{
-    (states >> at) & 1 == 1
-}
-
 /// The least position of a set.
 pub fn least(states: u128) -> usize
     requires { 0 < states }

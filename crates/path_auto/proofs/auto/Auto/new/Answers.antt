@@ -1,7 +1,7 @@
-use Rattle.std.proofs.Common.{◌≡◌, ◌∙◌, ◌^◌, ◌++◌, ap, sym, subst, arith}
+use Rattle.std.proofs.Common.{◌≡◌, ◌∙◌, ◌^◌, ◌++◌, length, ap, sym, subst, arith}
 use Rattle.path_auto.specs.Sets.{tests_by, tests_of, rows_by, rows, rows_in, entry_by, entry, end_of, first_set}
 use Rattle.path_auto.specs.Automaton.{machine_of, IsAutomatonOf}
-use Rattle.path_auto.proofs.Automata.{few_lives, sizes, table_automaton}
+use Rattle.path_auto.proofs.Automata.{few_lives, labels_length, sizes, table_automaton}
 use Rattle.path_auto.proofs.auto.Auto.new.Goals as goal
 
 pub live_set-requires : goal.live_set-requires
@@ -17,7 +17,8 @@ invariant_of-result c =
     c.in_ok-push_behind.ensures ∙ ap (λ xs. xs ++ rows_by p.head (rows p.members) (entry p.members) 0 c.single-end.result) c.new-behind.ensures.items
     ∙ ap (λ n. rows_by p.head (rows p.members) (entry p.members) 0 n) end in
     let fit = sizes c.push_labels.new.table.items c.push_behind.new.table.items p labels behind in
-    (omega (arith, fit.0, c.requires), fit.1)
+    let last : c.single-end.result ≡ 2 ^ length c.push_labels.new.table.items = end ∙ ap (λ n. 2 ^ n) (sym (ap length labels ∙ labels_length p)) in
+    (omega (arith, fit.0, c.requires), fit.1, last)
 
 pub returns-clause-table : goal.returns-clause-table
 returns-clause-table c =
