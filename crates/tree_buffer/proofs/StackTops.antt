@@ -54,3 +54,8 @@ pub turned_short : (xs : List OpenTree) → length xs ≤ 1 → xs ≡ reverse x
 turned_short [] h = refl
 turned_short (x ∷ []) h = refl
 turned_short (x ∷ y ∷ xs) h = absurd (omega arith)
+
+-- the last of one tree is that tree
+pub last_alone : (front : List OpenTree) (t u : OpenTree) → u ∷ [] ≡ front ++ t ∷ [] → t ≡ u
+last_alone [] t u e = cc
+last_alone (x ∷ front) t u e = absurd (omega (arith, ap length e, length-append front (t ∷ [])))

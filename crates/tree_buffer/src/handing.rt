@@ -18,7 +18,6 @@ impl Buffer {
     ghost use Rattle.tree_buffer.specs.Advance.{Advances, Advanced};
 
     // Asks fills until no hole stands at the front of a node's list.
-    #[inline]
     pub(crate) fn settle_at<S: Sources>(
         &mut self,
         alloc: Global,
@@ -43,6 +42,7 @@ impl Buffer {
 
     // Hands out the next child of a node, whose list begins with no hole. `before` is the last one before it. It fails where memory runs
     // out, and where so many nodes were handed out already that no number is left.
+    #[inline(always)]
     pub(crate) fn hand_out(&mut self, q: usize, before: usize) -> Result<Option<Spot>, AllocError>
         requires spot { q < length (nodes_of self.old).links }
         requires top { begins_with_hole (get_or (nodes_of self.old).rests q nil) ≡ false }
@@ -85,7 +85,6 @@ impl Buffer {
 }
 
 // Makes room for one node more.
-#[inline]
 fn make_room(entries: &mut Vec<Entry>) -> Result<(), AllocError>
     ensures items { entries.new.items ≡ entries.old.items }
     ensures room { OnOk result (vec_len entries.new < vec_capacity entries.new) }

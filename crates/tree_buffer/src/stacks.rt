@@ -1,6 +1,7 @@
 // Stacks of trees with holes, of which the last is the first of the list.
 ghost use Rattle.std.specs.Prelude.{◌≡◌, ◌+◌, ◌<◌, ◌≤◌, ◌++◌, ◌∷◌, [], List, true, false, MatchOption, OnOk, OnErr, length, reverse};
 ghost use Rattle.lxp_core.specs.Causes.{HasCause};
+ghost use Rattle.lxp_core.specs.declared.open_tree.HoleId.{HoleId};
 ghost use Rattle.lxp_core.specs.declared.open_tree.OpenTree.{OpenTree};
 ghost use Rattle.lxp_core.specs.declared.open_tree.OpenTree.TheVariants.{Hole};
 ghost use Rattle.lxp_core.specs.Open.{Open, nil, node, AllHoles, IsApart, begins_with_hole, open_followed};
@@ -11,9 +12,9 @@ ghost use Rattle.tree_buffer.specs.Fills.{IsRefined, IsLazy, left_in};
 use lxp_core::{HoleId, OpenTree, SourceFault, Sources, WalkFault};
 use mix_tree::Label;
 use std::alloc::{AllocError, Global};
+use std::mem::replace;
 
 // The hole at the top, where one stands there.
-#[inline]
 fn top_hole(stack: &Vec<OpenTree>) -> Option<HoleId>
     ensures { MatchOption result (begins_with_hole (stacked stack.now.items nil) ≡ false)
         (λ h. (rest : List OpenTree) × (stack.now.items ≡ rest ++ Hole h ∷ [])) }
@@ -25,8 +26,8 @@ fn top_hole(stack: &Vec<OpenTree>) -> Option<HoleId>
     }
 }
 
-// Turns a list round. Most have one tree, and stay.
-#[inline]
+// Turns a list round. Most have one tree and stay, and the test is the whole cost.
+#[inline(always)]
 fn turn_round(list: &mut Vec<OpenTree>)
     ensures { list.new.items ≡ reverse list.old.items }
 {
@@ -35,9 +36,19 @@ fn turn_round(list: &mut Vec<OpenTree>)
     }
 }
 
-// Puts a list in the place of the tree at the top. Where the stack holds nothing else, the list becomes the stack.
+// Frees a stack that holds a hole and nothing else.
+fn free_hole(mut stack: Vec<OpenTree>)
+    requires { (h : HoleId) × (stack.items ≡ Hole h ∷ []) }
+{
+    match stack.take_last() {
+        OpenTree::Hole(_) => stack.destroy_empty(),
+        OpenTree::Node { .. } => unreachable!(),
+    }
+}
+
+// Puts a list in the place of the hole at the top. Where the stack holds nothing else, the list becomes the stack.
 fn replace_top(stack: &mut Vec<OpenTree>, mut list: Vec<OpenTree>) -> Result<(), AllocError>
-    requires { (front : List OpenTree) × (top : OpenTree) × (stack.old.items ≡ front ++ top ∷ []) }
+    requires { (front : List OpenTree) × (h : HoleId) × (stack.old.items ≡ front ++ Hole h ∷ []) }
     ensures ok { OnOk result ((front : List OpenTree) (top : OpenTree) → stack.old.items ≡ front ++ top ∷ []
         → stacked stack.new.items nil ≡ open_followed (plain list.items) (stacked front nil)) }
     ensures err { OnErr result (stack.new.items ≡ stack.old.items) }
@@ -45,7 +56,7 @@ fn replace_top(stack: &mut Vec<OpenTree>, mut list: Vec<OpenTree>) -> Result<(),
     turn_round(&mut list);
     let at = stack.len() - 1;
     if at == 0 {
-        *stack = list;
+        free_hole(replace(stack, list));
         return Ok(());
     }
     stack.append(&mut list)?;
@@ -85,7 +96,6 @@ fn refill<S: Sources>(
 }
 
 // Asks fills until no hole stands at the top.
-#[inline]
 pub(crate) fn settle<S: Sources>(
     alloc: Global,
     s: &mut S,
@@ -110,7 +120,6 @@ pub(crate) fn settle<S: Sources>(
 }
 
 // A tree's label, and the stack of its children.
-#[inline]
 fn parts_of(tree: OpenTree) -> (Label, Vec<OpenTree>)
     requires { (rest : Open) × (begins_with_hole (put tree rest) ≡ false) }
     ensures { (rest : Open) → put tree rest ≡ node result.0 (stacked result.1.items nil) rest }
@@ -126,7 +135,7 @@ fn parts_of(tree: OpenTree) -> (Label, Vec<OpenTree>)
 }
 
 // A stack that is empty takes no memory.
-#[inline]
+#[inline(always)]
 fn free_when_empty(stack: &mut Vec<OpenTree>)
     ensures { stack.new.items ≡ stack.old.items }
 {
@@ -136,7 +145,7 @@ fn free_when_empty(stack: &mut Vec<OpenTree>)
 }
 
 // Takes the tree at the top: its label, and the stack of its children.
-#[inline]
+#[inline(always)]
 pub(crate) fn pop_tree(stack: &mut Vec<OpenTree>) -> (Label, Vec<OpenTree>)
     requires some { 0 < length stack.old.items }
     requires top { begins_with_hole (stacked stack.old.items nil) ≡ false }

@@ -9,7 +9,7 @@ pub returns-then-at-eq0-clause-ok : goal.returns-then-at-eq0-clause-ok
 returns-then-at-eq0-clause-ok c = λ front top e.
     let one : length (front ++ top ∷ []) ≡ 1 =
     omega (arith, c.if-at-eq0.true, c.len-at.ensures, c.args.stack.now.ok.0, ap length e, length-append front (top ∷ [])) in
-    ap (λ xs. stacked xs nil) c.turn_round.ensures ∙ stacked-only front c.args.list.items top one
+    rw (c.replace.ensures.after) (ap (λ xs. stacked xs nil) c.turn_round.ensures ∙ stacked-only front c.args.list.items top one)
 
 pub returns-clause-ok : goal.returns-clause-ok
 returns-clause-ok c = λ front top e.
