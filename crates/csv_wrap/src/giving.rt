@@ -34,8 +34,13 @@ fn push_cell(
     ensures { OnOk result ((rest : Open) → put_all list.new.items rest
         ≡ put_all list.old.items (node column.now (node field.now nil nil) rest)) }
 {
-    let mut below = Vec::new(alloc);
-    push_node(&mut below, Label::of_text(alloc, field)?, Vec::new(alloc))?;
+    let label = Label::of_text(alloc, field)?;
+    let below = vec![in alloc;
+        OpenTree::Node {
+            label,
+            kids: Vec::new(alloc)
+        },
+    ]?;
     push_node(list, column.copy(alloc)?, below)
 }
 
@@ -59,7 +64,7 @@ impl CsvDoc {
         ensures { IfOk result (λ list. plain list.items
             ≡ without_holes (forest_of (cells (columns_of self.now) (get_or (rows_of self.now) row [])))) }
     {
-        let mut list = Vec::new(alloc);
+        let mut list = Vec::with_capacity(alloc, self.columns.len())?;
         'columns: for column in 0..self.columns.len() {
             let field = self.field(row, column);
             push_cell(alloc, &mut list, &self.columns[column], field)?;
@@ -109,7 +114,8 @@ impl CsvDoc {
         ensures { IfOk result (λ list. plain list.items ≡ part_given self.now (Some (Part.RowsFrom first))) }
     {
         let last = self.chunk_end(first);
-        let mut list = Vec::new(alloc);
+        // A hole behind the rows takes the place of one more.
+        let mut list = Vec::with_capacity(alloc, last - first + 1)?;
         'rows: for row in first..last {
             let label = Label::of_text(alloc, b"row")?;
             push_node(&mut list, label, self.cells(alloc, row)?)?;

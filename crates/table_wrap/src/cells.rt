@@ -58,11 +58,15 @@ pub fn push_node(
 fn leaf(alloc: Global, cell: Cell) -> Result<Vec<OpenTree>, AllocError>
     ensures { IfOk result (λ list. plain list.items ≡ without_holes (leaf (label_of (value_of cell)))) }
 {
-    let mut list = Vec::new(alloc);
-    if let Some(label) = label_of(alloc, cell)? {
-        push_node(&mut list, label, Vec::new(alloc))?;
+    match label_of(alloc, cell)? {
+        Some(label) => Ok(vec![in alloc;
+            OpenTree::Node {
+                label,
+                kids: Vec::new(alloc)
+            },
+        ]?),
+        None => Ok(Vec::new(alloc)),
     }
-    Ok(list)
 }
 
 /// Puts a column of a row behind a list, with the label of its cell below it.

@@ -36,7 +36,7 @@ impl TableDoc {
         ensures { IfOk result (λ list. plain list.items
             ≡ without_holes (forest_of (cells (columns_of self.now) (map value_of found.items)))) }
     {
-        let mut list = Vec::new(alloc);
+        let mut list = Vec::with_capacity(alloc, self.columns.len())?;
         let mut rest = found.into_iter();
         'columns: for column in &self.columns {
             let Some(cell) = rest.next() else {
@@ -71,7 +71,8 @@ impl TableDoc {
     {
         let full = rows.len() == self.chunk as usize;
         let mut last = after;
-        let mut list = Vec::new(alloc);
+        // A hole behind the rows takes the place of one more.
+        let mut list = Vec::with_capacity(alloc, rows.len() + 1)?;
         'rows: for row in rows {
             let TableRow { key, cells } = row;
             last = Some(key);
