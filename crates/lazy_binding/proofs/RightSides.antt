@@ -17,7 +17,7 @@ use Rattle.plan_core.proofs.Numbers.{op_read}
 use Rattle.lazy_descend.specs.Cursors.{spot_of}
 use Rattle.tree_buffer.specs.declared.spot.Spot.{Spot}
 use Rattle.lazy_binding.specs.declared.position.Position.{Position, Top, Found', Pass', First', Pair', Sorted', Row_of-Position-Sorted-0-1 as Row, end_of-Position-Sorted-0-1 as no_more, more_of-Position-Sorted-0-1 as one_more}
-use Rattle.lazy_binding.specs.Reading.{spot_at, spot_in, spot_nth, found_spot, or_else}
+use Rattle.lazy_binding.specs.Reading.{spot_at, spot_in, spot_nth, or_else}
 use Rattle.lazy_binding.specs.Sides.{with_other, others, node_var, shape_right, right_vars}
 use Rattle.lazy_binding.proofs.Bound.{with_none, either_none, kinds_at, inputs_at}
 use Rattle.lazy_binding.proofs.FirstLists.{take_map}
@@ -81,11 +81,6 @@ module _ (ops : List Operator) (typed : IsTyped ops) where
   first_none keys None of v there h g = kept_none keys of v there h g
   first_none keys (Some group) of v there h g = kept_none keys of v there (with_none group.1 v a_list (kept keys of) h).1 g
 
-  -- nothing is no spot
-  found_none : (out v s : ℕ) (d : _) (there : Option (ℕ × Spot)) → (out == v) ≡ false → there ≡ None → found_spot (out == v) s d there ≡ None
-  found_none out v s None there e h = h
-  found_none out v s (Some d) there e h = ap (λ (b : Bool). cond b (Some (s, spot_of d.frame)) there) e ∙ h
-
   mutual
     -- no position of an operator has a spot of a variable that the operator doesn't bind
     pub no_spot : (n : ℕ) → n < length ops → (f : Shape) → shape_at ops n ≡ f → (c : Position) (v : ℕ) → kinds ops n v ≡ None → spot_at ops f c v ≡ None
@@ -95,7 +90,7 @@ module _ (ops : List Operator) (typed : IsTyped ops) where
     no_spot n h (visits_below i start path out) e (Found' s q c d) v k =
         let z = with_none out v a_node (kinds ops i) (sym (ap (λ (g : Kinds). g v) (kinds_at ops typed n h (visits_below i start path out) e)) ∙ k) in
         let l = inputs_at ops typed n h (visits_below i start path out) e in
-        found_none out v s d (spot_in ops i c v) z.0 (no_spot i (omega (arith, h, l.0)) (shape_at ops i) refl c v z.1)
+        ap (λ (b : Bool). cond b (Some (s, spot_of d.frame)) (spot_in ops i c v)) z.0 ∙ no_spot i (omega (arith, h, l.0)) (shape_at ops i) refl c v z.1
     no_spot n h (passes_on i (filters test)) e (Pass' q c) v k =
         let l = inputs_at ops typed n h (passes_on i (filters test)) e in
         no_spot i (omega (arith, h, l.0)) (shape_at ops i) refl c v (sym (ap (λ (g : Kinds). g v) (kinds_at ops typed n h (passes_on i (filters test)) e)) ∙ k)

@@ -59,8 +59,7 @@ module _ (ops : List Operator) (typed : IsTyped ops) (w : World) where
     lacks n h (passes_on i (one_group p out)) e Whole of row v k =
         let z = with_none out v a_list (kept [] (kinds ops i)) (sym (ap (λ (g : Kinds). g v) (kinds_at ops typed n h (passes_on i (one_group p out)) e)) ∙ k) in
         (refl, lacks_more out _ [] v z.0 (λ b. refl))
-    lacks n h (visits_below i start path out) e (Found' s q c None) of row v k = cc
-    lacks n h (visits_below i start path out) e (Found' s q c (Some d)) of row v k =
+    lacks n h (visits_below i start path out) e (Found' s q c d) of row v k =
         let z = with_none out v a_node (kinds ops i) (sym (ap (λ (g : Kinds). g v) (kinds_at ops typed n h (visits_below i start path out) e)) ∙ k) in
         let l = inputs_at ops typed n h (visits_below i start path out) e in
         let y = lacks i (omega (arith, h, l.0)) (shape_at ops i) refl c of.0 of.1 v z.1 in (
@@ -121,8 +120,7 @@ module _ (ops : List Operator) (typed : IsTyped ops) (w : World) where
         ]
     spot_is n h (passes_on i (one_group p out)) e Whole of row v k =
         let z = with_other out v a_list (kept [] (kinds ops i)) no_list (sym (ap (λ (g : Kinds). g v) (kinds_at ops typed n h (passes_on i (one_group p out)) e)) ∙ k) in absurd (no_kind a_node z.1)
-    spot_is n h (visits_below i start path out) e (Found' s q c None) of row v k = cc
-    spot_is n h (visits_below i start path out) e (Found' s q c (Some d)) of row v k =
+    spot_is n h (visits_below i start path out) e (Found' s q c d) of row v k =
         let known = sym (ap (λ (g : Kinds). g v) (kinds_at ops typed n h (visits_below i start path out) e)) ∙ k in
         let node : Node = record { source = (row_node (binding w ops i c) start).source; place = match_place w s d } in
         elim (either_node out v (kinds ops i) node (binding w ops i c) known) [

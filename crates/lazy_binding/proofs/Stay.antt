@@ -1,6 +1,6 @@
 -- An earlier cursor stands for the same after every call.
-use Rattle.std.proofs.Common.{◌≡◌, ◌≤◌, ◌+◌, ◌-◌, ◌*◌, ℕ, zero, suc, List, [], ◌∷◌, ◌++◌, Option, Some, None, length, take, drop, map, get_or, refl, ◌∙◌, sym, ap, subst, arith}
-use Rattle.std.specs.Prelude.{IsTrue, MatchOption}
+use Rattle.std.proofs.Common.{◌≡◌, ◌≤◌, ◌+◌, ◌-◌, ◌*◌, ℕ, zero, suc, List, [], ◌∷◌, ◌++◌, Some, None, length, take, drop, map, get_or, refl, ◌∙◌, sym, ap, subst, arith}
+use Rattle.std.specs.Prelude.{IsTrue}
 use Rattle.std.specs.List.{AllByRecursion, last_or}
 use Rattle.std.proofs.lemmas.Nat.{mul-le}
 use Rattle.mix_base.specs.Events.{Event, bind, found, cost}
@@ -24,7 +24,7 @@ use Rattle.lazy_binding.specs.declared.key.KeyPart.TheVariants.{Node as node_par
 use Rattle.lazy_binding.specs.declared.position.Position.{Position, Start, Top, Whole, Found', Pass', First', Seen', Pair', Sorted', Row_of-Position-Sorted-0-1 as Row, end_of-Position-Sorted-0-1 as no_more, more_of-Position-Sorted-0-1 as one_more}
 use Rattle.lazy_binding.specs.Bench.{IsBench}
 use Rattle.lazy_binding.specs.World.{World, docs_of, of_buffer, buffer_at, IsMatchIn, match_place, match_ahead, match_number, bound_of, seen_at, part_value, seen_values, last_of, IsPart}
-use Rattle.lazy_binding.specs.Cursors.{Standing, standing, stands, binding, ahead, size, number, weighs, IsIn, AreIn, rows_in, found_row, visit_ahead, left_ahead, up_to, found_number, behind_first, IsPast}
+use Rattle.lazy_binding.specs.Cursors.{Standing, standing, stands, binding, ahead, size, number, weighs, IsIn, AreIn, rows_in, visit_ahead, left_ahead, up_to, behind_first, IsPast}
 use Rattle.lazy_binding.specs.Keeping.{Keeps, StaysIn, KeepsCursors}
 use Rattle.lazy_binding.proofs.Keep.{told-kept, docs_kept, bound_kept, spot_kept, place_kept, node_kept}
 use Rattle.lazy_binding.proofs.FirstMembers.{none_before_kept, first_by_kept, binding_of_kept}
@@ -68,27 +68,9 @@ module _ (a b : World) (k : Keeps a b) (ops : List Operator) (bench : IsBench a 
       let l = (stays_in s d h (machine_of (record { labels = []; behind = []; live = 0; first = 0 }))).number in
       omega (arith, e, f, l)
 
-  -- the part of a number that is of a visit
-  found_number-kept : (s : ℕ) (d : Option DescCursor) → MatchOption d (Unit {0}) (IsMatchIn a s) → found_number b s d ≤ found_number a s d
-  found_number-kept s None h = let e = bound_kept k ops bench in omega (arith, e)
-  found_number-kept s (Some d) h = match_number-kept s d h
-
-  -- the match of a visit, where there is one
-  found_kept : (s : ℕ) (d : Option DescCursor) → MatchOption d (Unit {0}) (IsMatchIn a s) → MatchOption d (Unit {0}) (IsMatchIn b s)
-  found_kept s None h = tt
-  found_kept s (Some d) h = match_kept s d h
-
-  -- the binding of a visit
-  found_row-kept : (start out : ℕ) (row : TolledRow) (s : ℕ) (d : Option DescCursor) → MatchOption d (Unit {0}) (IsMatchIn a s) → found_row b start out row s d ≡ found_row a start out row s d
-  found_row-kept start out row s None h = refl
-  found_row-kept start out row s (Some d) h = ap (with_node out (row_node row start) row) (match_place-kept s d h)
-
   -- the events of a visit that are ahead
-  visit_ahead-kept : (start : ℕ) (path : Form) (out : ℕ) (row : TolledRow) (s : ℕ) (d : Option DescCursor) → MatchOption d (Unit {0}) (IsMatchIn a s)
-      → visit_ahead b start path out row s d ≡ visit_ahead a start path out row s d
-  visit_ahead-kept start path out row s None h = ap (λ (z : Documents). descendants z start path out row) (docs_kept k ops bench)
-  visit_ahead-kept start path out row s (Some d) h =
-      ap (λ (es : List (Event (List ℕ))). nodes_found out (row_node row start) row es) (match_ahead-kept s (machine_of (table_of path)) d h)
+  visit_ahead-kept : (start : ℕ) (path : Form) (out : ℕ) (row : TolledRow) (s : ℕ) (d : DescCursor) → IsMatchIn a s d → visit_ahead b start path out row s d ≡ visit_ahead a start path out row s d
+  visit_ahead-kept start path out row s d h = ap (λ (es : List (Event (List ℕ))). nodes_found out (row_node row start) row es) (match_ahead-kept s (machine_of (table_of path)) d h)
 
   -- keys that were seen compare the same
   part_kept : (p : KeyPart) → IsPart a p → part_value b p ≡ part_value a p
@@ -130,11 +112,14 @@ module _ (a b : World) (k : Keeps a b) (ops : List Operator) (bench : IsBench a 
     standing_kept n (passes_on i (one_group p out)) Whole h = ap (λ (z : Documents). record { row = whole_row z p out (events z ops i); ahead = [] }) (docs_kept k ops bench)
     standing_kept n (visits_below i start path out) (Found' s q c d) h =
         let old : Standing = standing a ops i c in
-        ap (λ (z : Standing). record { row = found_row b start out z.row s d; ahead = visit_ahead b start path out z.row s d ++ expand (descendants (docs_of b) start path out) z.ahead })
-        (standing_kept i (shape_at ops i) c h.0)
-        ∙ ap (λ (z : Documents). record { row = found_row b start out old.row s d; ahead = visit_ahead b start path out old.row s d ++ expand (descendants z start path out) old.ahead }) (docs_kept k ops bench)
-        ∙ ap (λ (z : TolledRow). record { row = z; ahead = visit_ahead b start path out old.row s d ++ expand (descendants (docs_of a) start path out) old.ahead }) (found_row-kept start out old.row s d h.4)
-        ∙ ap (λ (z : RowEvents). record { row = found_row a start out old.row s d; ahead = z ++ expand (descendants (docs_of a) start path out) old.ahead }) (visit_ahead-kept start path out old.row s d h.4)
+        let row : List ℕ → TolledRow = with_node out (row_node old.row start) old.row in
+        ap (λ (z : Standing). record {
+          row = with_node out (row_node z.row start) z.row (match_place b s d);
+          ahead = visit_ahead b start path out z.row s d ++ expand (descendants (docs_of b) start path out) z.ahead;
+        }) (standing_kept i (shape_at ops i) c h.0)
+        ∙ ap (λ (z : Documents). record { row = row (match_place b s d); ahead = visit_ahead b start path out old.row s d ++ expand (descendants z start path out) old.ahead }) (docs_kept k ops bench)
+        ∙ ap (λ (z : List ℕ). record { row = row z; ahead = visit_ahead b start path out old.row s d ++ expand (descendants (docs_of a) start path out) old.ahead }) (match_place-kept s d h.4)
+        ∙ ap (λ (z : RowEvents). record { row = row (match_place a s d); ahead = z ++ expand (descendants (docs_of a) start path out) old.ahead }) (visit_ahead-kept start path out old.row s d h.4)
     standing_kept n (passes_on i (filters test)) (Pass' q c) h =
         let old : Standing = standing a ops i c in
         ap (λ (z : Standing). record { row = z.row; ahead = only (λ row. passes (docs_of b) test (row_node row)) z.ahead }) (standing_kept i (shape_at ops i) c h.0)
@@ -185,8 +170,8 @@ module _ (a b : World) (k : Keeps a b) (ops : List Operator) (bench : IsBench a 
   number_kept n (visits_below i start path out) (Found' s q c d) h =
       let e : bound_of b ≡ bound_of a = bound_kept k ops bench in
       let l = mul-le (number b ops i c) (suc (suc (bound_of a))) (number a ops i c) (suc (suc (bound_of a))) (number_kept i (shape_at ops i) c h.0) (omega arith) in
-      let f = found_number-kept s d h.4 in
-      subst (λ (z : ℕ). number b ops i c * suc (suc z) + found_number b s d ≤ number a ops i c * suc (suc (bound_of a)) + found_number a s d) (sym e) (omega (arith, l, f))
+      let f = match_number-kept s d h.4 in
+      subst (λ (z : ℕ). number b ops i c * suc (suc z) + match_number b s d ≤ number a ops i c * suc (suc (bound_of a)) + match_number a s d) (sym e) (omega (arith, l, f))
   number_kept n (passes_on i (filters test)) (Pass' q c) h = number_kept i (shape_at ops i) c h.0
   number_kept n (passes_on i (extends out made)) (Pass' q c) h = number_kept i (shape_at ops i) c h.0
   number_kept n (passes_on i (first_by_keys keys None)) (Pass' q c) h = number_kept i (shape_at ops i) c h.0
@@ -213,7 +198,7 @@ module _ (a b : World) (k : Keeps a b) (ops : List Operator) (bench : IsBench a 
       h.1,
       ap (λ (z : Standing). (row_node z.row start).source) (standing_kept i (shape_at ops i) c h.0) ∙ h.2,
       h.3,
-      found_kept s d h.4,
+      match_kept s d h.4,
     )
     cursor_kept n (passes_on i (filters test)) (Pass' q c) h = (cursor_kept i (shape_at ops i) c h.0, h.1)
     cursor_kept n (passes_on i (extends out made)) (Pass' q c) h = (cursor_kept i (shape_at ops i) c h.0, h.1)

@@ -73,8 +73,7 @@ module _ (ops : List Operator) (typed : IsTyped ops) (w : World) where
     source_is n h (one_source s out) e (Top t x) of row v =
         source_new (out == v) (Some (t, x)) None ∙ ap (λ (z : ℕ). cond (out == v) (Some z) None) of.0 ∙ sym (source_at ops typed n h (one_source s out) e v)
     source_is n h (passes_on i (one_group p out)) e Whole of row v = sym (source_at ops typed n h (passes_on i (one_group p out)) e v)
-    source_is n h (visits_below i start path out) e (Found' s q c None) of row v = cc
-    source_is n h (visits_below i start path out) e (Found' s q c (Some d)) of row v =
+    source_is n h (visits_below i start path out) e (Found' s q c d) of row v =
         let l = inputs_at ops typed n h (visits_below i start path out) e in
         let small : i < length ops = omega (arith, h, l.0) in
         let x = spot_is ops typed w i small (shape_at ops i) refl c of.0 of.1 start (fit_at ops typed n h (visits_below i start path out) e).0 in

@@ -1,11 +1,10 @@
 -- What a cursor of an operator stands for.
-use Rattle.std.specs.Prelude.{◌≡◌, ◌<◌, ◌≤◌, ◌+◌, ◌-◌, ◌*◌, ℕ, zero, suc, Bool, true, false, IsTrue, Option, Some, None, List, [], ◌∷◌, ◌++◌, take, drop, length, map, MatchOption}
+use Rattle.std.specs.Prelude.{◌≡◌, ◌<◌, ◌≤◌, ◌+◌, ◌-◌, ◌*◌, ℕ, zero, suc, Bool, true, false, IsTrue, Option, Some, None, List, [], ◌∷◌, ◌++◌, take, drop, length, map}
 use Rattle.std.proofs.Common.{get_or}
 use Rattle.std.specs.List.{last_or}
-use Rattle.mix_base.specs.Events.{Event, bind, Find, nothing, finds, found, cost}
-use Rattle.path_auto.specs.Visit.{visits}
+use Rattle.mix_base.specs.Events.{bind, Find, nothing, finds, found, cost}
 use Rattle.mix_tree.specs.Comparisons.{passes}
-use Rattle.mix_tree.specs.Nodes.{Documents, Node}
+use Rattle.mix_tree.specs.Nodes.{Documents}
 use Rattle.mix_tree.specs.declared.var.Key.{Key}
 use Rattle.mix_tree.specs.declared.comparing.Test.{Test}
 use Rattle.path_expr.specs.Form.{Form}
@@ -47,19 +46,9 @@ pub record IsPast (es later : RowEvents) : Type 0 where
 
 -- THE PARTS OF EACH SHAPE
 
--- the binding of a visit from a variable; before the first match it is the input's
-abbrev pub found_row : World → ℕ → ℕ → TolledRow → ℕ → Option DescCursor → TolledRow
-found_row w start out row s None = row
-found_row w start out row s (Some d) = with_node out (row_node row start) row (match_place w s d)
-
--- the places of a visit from a node that are still ahead
-abbrev pub places_ahead : World → Form → Node → ℕ → Option DescCursor → List (Event (List ℕ))
-places_ahead w path node s None = visits (docs_of w) path node
-places_ahead w path node s (Some d) = match_ahead w s (machine_of (table_of path)) d
-
--- the events of the visit that are still ahead
-abbrev pub visit_ahead : World → ℕ → Form → ℕ → TolledRow → ℕ → Option DescCursor → RowEvents
-visit_ahead w start path out row s d = nodes_found out (row_node row start) row (places_ahead w path (row_node row start) s d)
+-- the events of a visit from a variable of a binding that are still ahead of a match
+abbrev pub visit_ahead : World → ℕ → Form → ℕ → TolledRow → ℕ → DescCursor → RowEvents
+visit_ahead w start path out row s d = nodes_found out (row_node row start) row (match_ahead w s (machine_of (table_of path)) d)
 
 -- the events of the left bindings behind the present one
 abbrev pub left_ahead : World → List Operator → ℕ → List Test → RowEvents → RowEvents
@@ -71,17 +60,12 @@ up_to w n k = seen_values w (take k (seen_at w n))
 
 -- WHAT POSITIONS STAND AT
 
--- a cursor of a visit stands at a match
-abbrev pub has_match : Option DescCursor → Bool
-has_match None = false
-has_match (Some d) = true
-
 -- a cursor stands at a binding of its input, or of both
 abbrev pub has_row : Position → Bool
 has_row Start = false
 has_row (Top s x) = true
 has_row Whole = true
-has_row (Found' s q c d) = has_match d
+has_row (Found' s q c d) = true
 has_row (Pass' q c) = true
 has_row (First' q c k) = true
 has_row (Seen' q c k) = false
@@ -101,7 +85,7 @@ abbrev mutual
   stands w ops n (passes_on i (one_group piece out)) Whole = record { row = whole_row (docs_of w) piece out (events (docs_of w) ops i); ahead = [] }
   stands w ops n (visits_below i start path out) (Found' s q c d) =
       let input = stands w ops i (shape_at ops i) c in record {
-        row = found_row w start out input.row s d;
+        row = with_node out (row_node input.row start) input.row (match_place w s d);
         ahead = visit_ahead w start path out input.row s d ++ expand (descendants (docs_of w) start path out) input.ahead;
       }
   stands w ops n (passes_on i (filters test)) (Pass' q c) =
@@ -162,15 +146,10 @@ shape_size bound (no_events i v) of = 0
 unfoldable pub size : World → List Operator → ℕ → ℕ
 size w ops n = by_number (λ o. shape_size (bound_of w) (shape_of o)) 0 ops n
 
--- the part of a number that is of the visit at hand
-abbrev pub found_number : World → ℕ → Option DescCursor → ℕ
-found_number w s None = suc (bound_of w)
-found_number w s (Some d) = match_number w s d
-
 -- a number of a position that no call raises, and that falls from event to event
 abbrev pub weighs : World → List Operator → ℕ → Shape → Position → ℕ
 weighs w ops n f Start = size w ops n
-weighs w ops n (visits_below i start path out) (Found' s q c d) = weighs w ops i (shape_at ops i) c * suc (suc (bound_of w)) + found_number w s d
+weighs w ops n (visits_below i start path out) (Found' s q c d) = weighs w ops i (shape_at ops i) c * suc (suc (bound_of w)) + match_number w s d
 weighs w ops n (passes_on i (filters test)) (Pass' q c) = weighs w ops i (shape_at ops i) c
 weighs w ops n (passes_on i (extends out made)) (Pass' q c) = weighs w ops i (shape_at ops i) c
 weighs w ops n (passes_on i (first_by_keys keys group)) (Pass' q c) = weighs w ops i (shape_at ops i) c
@@ -213,7 +192,7 @@ abbrev mutual
   IsIn w ops n (one_source s out) (Top t x) = (t ≡ s) × IsSpotIn w t x × (place_in w t x ≡ [])
   IsIn w ops n (passes_on i (one_group piece out)) Whole = Unit {0}
   IsIn w ops n (visits_below i start path out) (Found' s q c d) = IsIn w ops i (shape_at ops i) c × IsTrue (has_row c)
-      × ((row_node (binding w ops i c) start).source ≡ s) × IsRead ops s × MatchOption d (Unit {0}) (IsMatchIn w s)
+      × ((row_node (binding w ops i c) start).source ≡ s) × IsRead ops s × IsMatchIn w s d
   IsIn w ops n (passes_on i (filters test)) (Pass' q c) = IsIn w ops i (shape_at ops i) c × IsTrue (has_row c)
   IsIn w ops n (passes_on i (extends out made)) (Pass' q c) = IsIn w ops i (shape_at ops i) c × IsTrue (has_row c)
   IsIn w ops n (passes_on i (first_by_keys keys None)) (Pass' q c) = IsIn w ops i (shape_at ops i) c × IsTrue (has_row c) × (apart_over ops i keys ≡ true)

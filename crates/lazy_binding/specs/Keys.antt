@@ -27,7 +27,7 @@ was_seen key seen = list_any (λ k. same_parts k key) seen
 
 -- what a part feeds a hasher
 abbrev pub part_fed : KeyPart → fed.HashWrites
-part_fed (node_part s x) = fed.usize x.number
+part_fed (node_part s x) = fed.u32 x.number
 part_fed (label_part label) = fed.slice fed.u8 label
 part_fed free_part = []
 

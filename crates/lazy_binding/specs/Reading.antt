@@ -1,6 +1,6 @@
 -- What is read off a position: its spots, its parts, and how many keys were seen up to it.
 use Rattle.std.specs.Borrow.{Bor}
-use Rattle.std.specs.Prelude.{◌≡◌, ℕ, zero, suc, Bool, IsTrue, cond, ◌==◌, Option, Some, None, List}
+use Rattle.std.specs.Prelude.{◌≡◌, ℕ, zero, suc, IsTrue, cond, ◌==◌, Option, Some, None, List}
 use Rattle.mix_tree.specs.Keys.{has_var}
 use Rattle.tree_buffer.specs.declared.spot.Spot.{Spot}
 use Rattle.plan_core.specs.Plans.{Operator}
@@ -14,7 +14,6 @@ use Rattle.lazy_binding.specs.World.{World, docs_of, is_told, spot_node, IsSpotI
 use Rattle.lazy_binding.specs.Bench.{IsBench}
 use Rattle.lazy_binding.specs.Cursors.{binding, IsRead, IsOf}
 use Rattle.lazy_binding.specs.Parts.{operators, world_of}
-use Rattle.lazy_descend.specs.declared.cursor.DescCursor.{DescCursor}
 use Rattle.lazy_descend.specs.Cursors.{spot_of}
 use Rattle.lazy_binding.specs.declared.position.Position.{Position, Start, Top, Found', Pass', First', Seen', Pair', Sorted', Row_of-Position-Sorted-0-1 as Row, end_of-Position-Sorted-0-1 as no_more, more_of-Position-Sorted-0-1 as one_more}
 
@@ -23,16 +22,11 @@ abbrev pub or_else : Option (ℕ × Spot) → Option (ℕ × Spot) → Option (�
 or_else None p = p
 or_else (Some p) q = Some p
 
--- the spot of a match for a variable, or else another
-abbrev pub found_spot : Bool → ℕ → Option DescCursor → Option (ℕ × Spot) → Option (ℕ × Spot)
-found_spot is_out s None p = p
-found_spot is_out s (Some d) p = cond is_out (Some (s, spot_of d.frame)) p
-
 abbrev mutual
   -- the spot of a variable in the binding of a position in this shape, with its source
   pub spot_at : List Operator → Shape → Position → ℕ → Option (ℕ × Spot)
   spot_at ops (one_source s out) (Top t x) v = cond (out == v) (Some (t, x)) None
-  spot_at ops (visits_below i start path out) (Found' s q c d) v = found_spot (out == v) s d (spot_at ops (shape_at ops i) c v)
+  spot_at ops (visits_below i start path out) (Found' s q c d) v = cond (out == v) (Some (s, spot_of d.frame)) (spot_at ops (shape_at ops i) c v)
   spot_at ops (passes_on i (filters test)) (Pass' q c) v = spot_at ops (shape_at ops i) c v
   spot_at ops (passes_on i (extends out made)) (Pass' q c) v = spot_at ops (shape_at ops i) c v
   spot_at ops (passes_on i (first_by_keys keys group)) (Pass' q c) v = cond (has_var keys v) (spot_at ops (shape_at ops i) c v) None
@@ -54,7 +48,7 @@ spot_in ops n c v = spot_at ops (shape_at ops n) c v
 -- the spot at which a part of a position stands, with its source
 abbrev pub held : Position → Option (ℕ × Spot)
 held (Top t x) = Some (t, x)
-held (Found' s q c (Some d)) = Some (s, spot_of d.frame)
+held (Found' s q c d) = Some (s, spot_of d.frame)
 held c = None
 
 -- of a part, where there is one

@@ -19,8 +19,8 @@ pub enum Position {
     Top(u32, Spot),
     /// At the only binding of a groupBy by no keys.
     Whole,
-    /// In the visit below a node of the input's binding, which is in the source of this number: before its first match, or at a match.
-    Found(u32, Rc<Position>, Option<DescCursor>),
+    /// At a match of the visit below a node of the input's binding, which is in the source of this number.
+    Found(u32, Rc<Position>, DescCursor),
     /// At the event at which the input stands. Such are those of a project, too, where no two bindings of its input agree by its keys.
     Pass(Rc<Position>),
     /// At the first binding of the input that has its keys, where so many keys were seen up to it.

@@ -38,7 +38,7 @@ impl Fixed {
                 _ => None,
             },
             Op::GetDescendants { input, out, .. } => match at {
-                Position::Found(_, _, Some(_)) if *out == v => Some(at),
+                Position::Found(_, _, _) if *out == v => Some(at),
                 Position::Found(_, below, _) => self.holder(*input as usize, below, v),
                 _ => None,
             },
@@ -80,7 +80,7 @@ impl Fixed {
     {
         match self.holder(n, at, v)? {
             Position::Top(source, spot) => Some((*source, *spot)),
-            Position::Found(source, _, Some(at)) => Some((*source, *at.spot())),
+            Position::Found(source, _, at) => Some((*source, *at.spot())),
             _ => None,
         }
     }

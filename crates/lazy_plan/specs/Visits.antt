@@ -2,29 +2,18 @@
 use Rattle.std.specs.Prelude.{ℕ, suc, [], List, Option, Result, IfOk}
 use Rattle.mix_base.specs.Events.{Event}
 use Rattle.mix_tree.specs.Forest.{tree, none}
-use Rattle.mix_tree.specs.Nodes.{Node}
-use Rattle.path_auto.specs.Automaton.{Machine, machine_of, table_of}
+use Rattle.path_auto.specs.Automaton.{Machine, machine_of}
 use Rattle.path_auto.specs.Visit.{visit_below}
 use Rattle.lxp_core.specs.View.{View}
 use Rattle.tree_buffer.specs.declared.spot.Spot.{Spot}
 use Rattle.lazy_descend.specs.declared.cursor.DescCursor.{DescCursor}
 use Rattle.plan_core.specs.Plans.{Operator}
-use Rattle.plan_core.specs.TolledRows.{row_node}
 use Rattle.lxp_core.specs.declared.fault.WalkFault.{WalkFault}
 use Rattle.lazy_binding.specs.declared.parts.Growing.{Growing}
 use Rattle.lazy_plan.specs.declared.visits.Visit.{Visit}
 use Rattle.lazy_binding.specs.World.{World, docs_of, place_in, bound_of, match_ahead, match_number}
-use Rattle.lazy_binding.specs.Cursors.{binding, places_ahead, found_number}
 use Rattle.lazy_binding.specs.Parts.{operators, world_of}
 use Rattle.lazy_plan.specs.Steps.{Asked, GivesMatch, HasCause}
-
--- the node below which a visit goes
-abbrev pub start_node : World → Visit → Node
-start_node w k = row_node (binding w (operators k.input.fixed.now) k.input.op k.below.now.value) k.start
-
--- the places of a visit that are still ahead of a match, or of the first one
-abbrev pub visited_ahead : World → Visit → Option DescCursor → List (Event (List ℕ))
-visited_ahead w k d = places_ahead w k.path.now (start_node w k) k.source d
 
 -- the places below a spot
 abbrev pub places_below : World → Visit → Spot → List (Event (List ℕ))
@@ -37,21 +26,15 @@ pub record Sought {S : Type 0} (view : S → View) (came_from : S → S → Type
   pub cause : HasCause ops (view s) (view s') result
   pub answer : IfOk result (GivesMatch (world_of (view s) g) (world_of (view s') g') ops m src es top)
 
--- the next match behind a match of a visit, or the first one
-abbrev pub SeeksOn : {S : Type 0} → (S → View) → (S → S → Type 0) → Visit → Option DescCursor → S → Growing → S → Growing → Result (Option DescCursor) WalkFault → Type 0
-SeeksOn view came_from k d s g s' g' result =
-    let w = world_of (view s) g in
-    Sought view came_from (operators k.input.fixed.now) (machine_of (table_of k.path.now)) k.source (visited_ahead w k d) (found_number w k.source d) s g s' g' result
-
 -- the first match below a spot
 abbrev pub FindsFirst : {S : Type 0} → (S → View) → (S → S → Type 0) → Visit → Spot → S → Growing → S → Growing → Result (Option DescCursor) WalkFault → Type 0
 FindsFirst view came_from k x s g s' g' result =
     let w = world_of (view s) g in
-    Sought view came_from (operators k.input.fixed.now) (machine_of k.auto.now) k.source (places_below w k x) (suc (bound_of w)) s g s' g' result
+    Sought view came_from (operators k.fixed.now) (machine_of k.auto.now) k.source (places_below w k x) (suc (bound_of w)) s g s' g' result
 
 -- the next match behind another
 abbrev pub FindsNext : {S : Type 0} → (S → View) → (S → S → Type 0) → Visit → DescCursor → S → Growing → S → Growing → Result (Option DescCursor) WalkFault → Type 0
 FindsNext view came_from k d s g s' g' result =
     let w = world_of (view s) g in
     let m = machine_of k.auto.now in
-    Sought view came_from (operators k.input.fixed.now) m k.source (match_ahead w k.source m d) (match_number w k.source d) s g s' g' result
+    Sought view came_from (operators k.fixed.now) m k.source (match_ahead w k.source m d) (match_number w k.source d) s g s' g' result

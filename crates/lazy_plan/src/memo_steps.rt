@@ -135,6 +135,7 @@ impl Pairs<'_> {
     }
 
     /// The label by which a binding of the right side is found; no bytes where nothing is looked up.
+    #[inline(always)]
     fn label_for(
         &self,
         alloc: Global,

@@ -73,7 +73,7 @@ impl Buffer {
         requires { IsSpot self.now p.now }
         ensures { result.now ≡ label_of self.now p.now }
     {
-        &self.entries[p.number].label
+        &self.entries[p.number as usize].label
     }
 
     /// The place that a spot stands for, counted from the document node.
@@ -82,7 +82,7 @@ impl Buffer {
         ensures { IfOk result (λ place. place ≡ place_of self.now p.now) }
     {
         let mut steps = Vec::new(alloc);
-        let mut at = p.number;
+        let mut at = p.number as usize;
         while at != 0 {
             let entry = &self.entries[at];
             steps.push(entry.index as u64)?;
@@ -126,14 +126,15 @@ impl Buffer {
         // The cause.
         ensures cause { HasCause (IsSourceOf self.old) (S.view s.old) (S.view s.new) result }
     {
-        let entry = &self.entries[p.number];
+        let entry = &self.entries[p.number as usize];
         if entry.count > 0 {
             return Ok(Some(Spot {
-                number: entry.first as usize,
+                number: entry.first,
             }));
         }
-        self.settle_at(alloc, s, p.number)?;
-        Ok(self.hand_out(p.number, p.number)?)
+        let number = p.number as usize;
+        self.settle_at(alloc, s, number)?;
+        Ok(self.hand_out(number, number)?)
     }
 
     /// The next sibling; `None` where the node has none, as the document node. A fill is asked only while that sibling
@@ -167,14 +168,12 @@ impl Buffer {
         if p.number == 0 {
             return Ok(None);
         }
-        let entry = &self.entries[p.number];
+        let entry = &self.entries[p.number as usize];
         let parent = entry.parent as usize;
         if (entry.index as usize) + 1 < self.entries[parent].count as usize {
-            return Ok(Some(Spot {
-                number: entry.next as usize,
-            }));
+            return Ok(Some(Spot { number: entry.next }));
         }
         self.settle_at(alloc, s, parent)?;
-        Ok(self.hand_out(parent, p.number)?)
+        Ok(self.hand_out(parent, p.number as usize)?)
     }
 }

@@ -80,7 +80,7 @@ impl Buffer {
         });
         let last = &mut self.entries[before];
         last.next = new as u32;
-        Ok(Some(Spot { number: new }))
+        Ok(Some(Spot { number: new as u32 }))
     }
 }
 

@@ -3,5 +3,5 @@
 /// A node that a buffer handed out. It stands for the same node as long as the buffer is there.
 #[derive(Clone, Copy, Debug, PartialEq, Eq, Hash)]
 pub struct Spot {
-    pub(crate) number: usize,
+    pub(crate) number: u32,
 }

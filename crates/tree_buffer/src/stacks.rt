@@ -47,6 +47,7 @@ fn free_hole(mut stack: Vec<OpenTree>)
 }
 
 // Puts a list in the place of the hole at the top. Where the stack holds nothing else, the list becomes the stack.
+#[inline(always)]
 fn replace_top(stack: &mut Vec<OpenTree>, mut list: Vec<OpenTree>) -> Result<(), AllocError>
     requires { (front : List OpenTree) × (h : HoleId) × (stack.old.items ≡ front ++ Hole h ∷ []) }
     ensures ok { OnOk result ((front : List OpenTree) (top : OpenTree) → stack.old.items ≡ front ++ top ∷ []
@@ -120,6 +121,7 @@ pub(crate) fn settle<S: Sources>(
 }
 
 // A tree's label, and the stack of its children.
+#[inline(always)]
 fn parts_of(tree: OpenTree) -> (Label, Vec<OpenTree>)
     requires { (rest : Open) × (begins_with_hole (put tree rest) ≡ false) }
     ensures { (rest : Open) → put tree rest ≡ node result.0 (stacked result.1.items nil) rest }
