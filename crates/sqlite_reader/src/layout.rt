@@ -17,13 +17,17 @@ fn is_word(value: ValueRef<'_>, word: &[u8]) -> bool {
     is_same(value, ValueRef::Text(word))
 }
 
-fn without_root(alloc: Global, entry: &Row) -> Result<Row, AllocError> {
-    let mut row = Row::new(alloc);
+fn push_without_root(row: &mut Row, entry: &Row) -> Result<(), AllocError> {
     row.push(entry.get(0))?;
     row.push(entry.get(1))?;
     row.push(entry.get(2))?;
     row.push(entry.get(3))?;
-    row.push(entry.get(5))?;
+    row.push(entry.get(5))
+}
+
+fn without_root(alloc: Global, entry: &Row) -> Result<Row, AllocError> {
+    let mut row = Row::new(alloc);
+    push_without_root(&mut row, entry)?;
     Ok(row)
 }
 
@@ -63,7 +67,10 @@ fn is_own_table(alloc: Global, rows: &[Row], row: &Row) -> Result<bool, AllocErr
         return Ok(false);
     }
     let table = load::read_table(alloc, row)?;
-    Ok(table.is_some())
+    let is_read = table.is_some();
+    // It is given to `drop`, so that how its parts are dropped is proved once.
+    drop(table);
+    Ok(is_read)
 }
 
 fn has_own_table(alloc: Global, rows: &[Row], row: &Row) -> Result<bool, AllocError> {

@@ -6,16 +6,21 @@ use sqlite_disk::Files;
 use sqlite_pager::{Options, Pager};
 use sqlite_schema::schema::Schema;
 use sqlite_store::{FileStore, Unopened};
-use sqlite_wal::probe_page_size;
+use sqlite_wal::{PageSize, probe_page_size};
 use std::alloc::Global;
 
 // How many bytes of pages are kept in memory.
 const CACHE: usize = 1 << 23;
 
+fn page_size(files: &mut Files<PageDisk>) -> Result<PageSize, ReadFault> {
+    match probe_page_size(files)? {
+        Some(size) => Ok(size),
+        None => Err(ReadFault::Failed),
+    }
+}
+
 fn unopened(alloc: Global, mut files: Files<PageDisk>) -> Result<Unopened<PageDisk>, ReadFault> {
-    let Some(size) = probe_page_size(&mut files)? else {
-        return Err(ReadFault::Failed);
-    };
+    let size = page_size(&mut files)?;
     let options = Options {
         cache_pages: CACHE / size.bytes().max(512),
         spill_pages: 1,
@@ -31,10 +36,21 @@ fn list(alloc: Global, files: &mut Unopened<PageDisk>) -> Result<Schema, ReadFau
     let roots = files.index_roots(listed.as_slice())?;
     let rows = without_roots(alloc, listed.as_slice())?;
     let (schema, kinds) = lay_out(alloc, rows.as_slice(), roots.as_slice())?;
-    if files.list_schema(rows.as_slice(), kinds.as_slice())? {
-        Ok(schema)
-    } else {
-        Err(ReadFault::Failed)
+    match files.list_schema(rows.as_slice(), kinds.as_slice()) {
+        Ok(true) => Ok(schema),
+        Ok(false) => Err(ReadFault::Failed),
+        Err(error) => Err(error.into()),
+    }
+}
+
+fn opened(fresh: Unopened<PageDisk>) -> Result<FileStore<PageDisk>, ReadFault> {
+    match fresh.open_trusted() {
+        Ok(store) => Ok(store),
+        Err((error, files)) => {
+            // It is given to `drop`, so that how its parts are dropped is proved once.
+            drop(files);
+            Err(error.into())
+        }
     }
 }
 
@@ -44,9 +60,11 @@ pub fn open_store(
     files: Files<PageDisk>,
 ) -> Result<(FileStore<PageDisk>, Schema), ReadFault> {
     let mut fresh = unopened(alloc, files)?;
-    let schema = list(alloc, &mut fresh)?;
-    match fresh.open_trusted() {
-        Ok(store) => Ok((store, schema)),
-        Err((error, _)) => Err(error.into()),
+    match list(alloc, &mut fresh) {
+        Ok(schema) => Ok((opened(fresh)?, schema)),
+        Err(fault) => {
+            drop(fresh);
+            Err(fault)
+        }
     }
 }

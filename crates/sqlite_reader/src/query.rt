@@ -43,6 +43,46 @@ fn push_columns(text: &mut Vec<u8>, query: &Query<'_>) -> Result<(), AllocError>
     Ok(())
 }
 
+fn push_condition(text: &mut Vec<u8>, query: &Query<'_>) -> Result<(), AllocError> {
+    if query.after.is_some() {
+        push_column(text, query.table, query.key)?;
+        text.extend_from_slice(b" > ?2")?;
+    } else {
+        text.extend_from_slice(b"?2 IS NULL")?;
+    }
+    Ok(())
+}
+
+fn push_selection(
+    text: &mut Vec<u8>,
+    query: &Query<'_>,
+    further: Option<&[u8]>,
+) -> Result<(), AllocError> {
+    text.extend_from_slice(b"SELECT ")?;
+    push_columns(text, query)?;
+    if let Some(name) = further {
+        text.push(b',')?;
+        push_column(text, query.table, name)?;
+    }
+    Ok(())
+}
+
+fn push_statement(
+    text: &mut Vec<u8>,
+    query: &Query<'_>,
+    further: Option<&[u8]>,
+) -> Result<(), AllocError> {
+    push_selection(text, query, further)?;
+    text.extend_from_slice(b" FROM ")?;
+    push_quoted(text, query.table)?;
+    text.extend_from_slice(b" WHERE ")?;
+    push_condition(text, query)?;
+    text.extend_from_slice(b" ORDER BY ")?;
+    push_column(text, query.table, query.key)?;
+    text.extend_from_slice(b" LIMIT ?1")?;
+    Ok(())
+}
+
 /// The text of the statement, which has the limit as its first parameter and the number as its second. Where a further column is named,
 /// it stands behind the others.
 pub fn statement(
@@ -51,23 +91,6 @@ pub fn statement(
     further: Option<&[u8]>,
 ) -> Result<Vec<u8>, AllocError> {
     let mut text = Vec::new(alloc);
-    text.extend_from_slice(b"SELECT ")?;
-    push_columns(&mut text, query)?;
-    if let Some(name) = further {
-        text.push(b',')?;
-        push_column(&mut text, query.table, name)?;
-    }
-    text.extend_from_slice(b" FROM ")?;
-    push_quoted(&mut text, query.table)?;
-    text.extend_from_slice(b" WHERE ")?;
-    if query.after.is_some() {
-        push_column(&mut text, query.table, query.key)?;
-        text.extend_from_slice(b" > ?2")?;
-    } else {
-        text.extend_from_slice(b"?2 IS NULL")?;
-    }
-    text.extend_from_slice(b" ORDER BY ")?;
-    push_column(&mut text, query.table, query.key)?;
-    text.extend_from_slice(b" LIMIT ?1")?;
+    push_statement(&mut text, query, further)?;
     Ok(text)
 }

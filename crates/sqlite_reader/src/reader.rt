@@ -13,6 +13,7 @@ use sqlite_resolve::{Compiled, compile};
 use sqlite_schema::command::Command;
 use sqlite_schema::program::{self, Program, Table};
 use sqlite_schema::schema::Schema;
+use sqlite_sql::query::{Index, Let, Select};
 use sqlite_store::FileStore;
 use sqlite_typing::accepts_program;
 use sqlite_value::row::Row;
@@ -31,7 +32,10 @@ struct Engine {
 
 impl Drop for Engine {
     fn drop(self) {
-        let Engine { store: _, work: _ } = self;
+        // Each part is given to `drop`, so that how it is dropped is proved once.
+        let Engine { store, work } = self;
+        drop(store);
+        drop(work);
     }
 }
 
@@ -74,6 +78,27 @@ fn files_at(rt: &HostRuntime, alloc: Global, path: &str) -> Result<Files<PageDis
     Ok(Files { log, db })
 }
 
+impl Engine {
+    fn rows(
+        &mut self,
+        catalog: &[Index<'_>],
+        lets: &[Let<'_>],
+        body: &Select<'_>,
+        params: &Row,
+    ) -> Result<Vec<Row>, ReadFault> {
+        let mut budget = Budget::new(None);
+        Ok(run_program(
+            &mut self.store,
+            &mut self.work,
+            &mut budget,
+            catalog,
+            lets,
+            body,
+            params,
+        )?)
+    }
+}
+
 fn run(
     alloc: Global,
     engine: &mut Engine,
@@ -86,19 +111,14 @@ fn run(
     let lets = program::lets(alloc, loans.as_slice())?;
     let loan = program.body.lend(alloc)?;
     let body = loan.select();
-    if !accepts_program(alloc, schema, lets.as_slice(), &body, params)? {
-        return Err(ReadFault::Failed);
-    }
-    let mut budget = Budget::new(None);
-    Ok(run_program(
-        &mut engine.store,
-        &mut engine.work,
-        &mut budget,
-        catalog.as_slice(),
-        lets.as_slice(),
-        &body,
-        params,
-    )?)
+    let rows = match accepts_program(alloc, schema, lets.as_slice(), &body, params) {
+        Ok(true) => engine.rows(catalog.as_slice(), lets.as_slice(), &body, params),
+        Ok(false) => Err(ReadFault::Failed),
+        Err(error) => Err(error.into()),
+    };
+    // Given to `drop` as in `found`.
+    drop(loan);
+    rows
 }
 
 fn answer(
@@ -203,6 +223,9 @@ impl Reader {
         let text = statement(alloc, query, further)?;
         let params = params_of(alloc, query)?;
         let compiled = compile(alloc, &self.schema, text.as_slice())?;
-        answer(alloc, &mut self.engine, &self.schema, &compiled, &params)
+        let rows = answer(alloc, &mut self.engine, &self.schema, &compiled, &params);
+        // It is given to `drop`, so that how its parts are dropped is proved once.
+        drop(compiled);
+        rows
     }
 }
