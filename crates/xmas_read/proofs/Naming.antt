@@ -2,7 +2,7 @@
 use Rattle.std.proofs.Common.{◌≡◌, ◌∙◌, ◌+◌, ◌<◌, ◌≤◌, ℕ, Bool, true, false, cond, List, [], ◌∷◌, ◌++◌, refl, ap, sym, subst, drop, length, get_or, map, arith, bytes_eq, Option, Some, None, is_some, suc, not, ◌||◌, nat_lt, Bor}
 use Rattle.std.specs.List.{list_any, position_or_len}
 use Rattle.xmas_text.specs.declared.var.VarText.{VarText}
-use Rattle.std.proofs.lemmas.List.{drop_more, length-append}
+use Rattle.std.proofs.lemmas.List.{drop_all, drop_more, length-append}
 use Rattle.std.proofs.lemmas.Slice.Eq.{bytes_eq-Decides}
 use Rattle.std.proofs.lemmas.Bool.Decides.{nat_tests}
 use Rattle.mix_base.proofs.Firsts.{IsSameness, map-map}
@@ -99,6 +99,20 @@ note_step vars i v seen more n l e m h =
     ap (λ k. length k + length (distinct bytes_eq k rest)) m ∙ sym (noted_more seen v.now.name rest)
     ∙ ap (λ (ws : List (Bor VarText)). length seen + length (distinct bytes_eq seen (map (λ v. v.now.name) ws))) (sym shape)
     ∙ h
+
+-- more than 60 and some more are more than 60
+pub many_noted : (k r n : ℕ) → 60 < k → k + r ≡ n → true ≡ nat_lt 60 n
+many_noted k r n h e = grind (arith, nat_tests)
+
+-- at most 60 and none more are no more than 60
+few_noted : (k n : ℕ) → k ≤ 60 → k + 0 ≡ n → false ≡ nat_lt 60 n
+few_noted k n h e = grind (arith, nat_tests)
+
+-- behind the last variable no name is added
+pub none_left :
+    (vars : List (Bor VarText)) (i : ℕ) (seen : List (List ℕ)) (n : ℕ) → length vars ≤ i → length seen ≤ 60
+    → length seen + length (distinct bytes_eq seen (map (λ v. v.now.name) (drop i vars))) ≡ n → false ≡ nat_lt 60 n
+none_left vars i seen n l f h = few_noted (length seen) n f (rw (drop_all i vars l) at h)
 
 -- the place of a name, where there is a first source
 named_first :

@@ -1,7 +1,7 @@
 // The conditions of the rule that a tree stands for.
 ghost use Rattle.std.specs.Prelude.{◌≡◌, ◌<◌, ◌^◌, false, map, IfOk, length};
 ghost use Rattle.std.specs.List.{list_any};
-ghost use Rattle.xmas_read.specs.Value.{place_in, path_value, op_value, cond_value};
+ghost use Rattle.xmas_read.specs.Value.{place_in, path_value, op_value, operand_value, cond_value};
 ghost use Rattle.xmas_read.specs.Refusals.{has_path, is_nested, has_many};
 ghost use Rattle.xmas_read.specs.Results.{names_of_sources};
 
@@ -11,7 +11,7 @@ use mix_tree::{Label, Test, TestOp};
 use path_expr::Path;
 use std::alloc::{AllocError, Global};
 use xmas_rule::Cond;
-use xmas_text::{Comparison, CondText, PathText};
+use xmas_text::{Comparison, CondText, OperandText, PathText, VarText};
 
 /// The number of the source of a name; how many sources there are, where none has it.
 fn source_number(catalog: &Catalog, name: &Label) -> u32
@@ -49,6 +49,24 @@ fn op_of(comparison: Comparison) -> TestOp
     }
 }
 
+// A comparison.
+fn test_of(
+    alloc: Global,
+    names: &[Label],
+    left: VarText,
+    op: Comparison,
+    right: OperandText,
+) -> Result<Test, AllocError>
+    requires { length names.now < 2 ^ 32 }
+    ensures { IfOk result (λ test. test ≡ record { left = place_in names.now left.name; op = op_value op; right = operand_value names.now right }) }
+{
+    Ok(Test {
+        left: var_value(names, &left),
+        op: op_of(op),
+        right: operand_of(alloc, names, &right)?,
+    })
+}
+
 // A condition whose path passes no limit.
 fn cond_of(
     alloc: Global,
@@ -77,11 +95,9 @@ fn cond_of(
             path: path_of(path),
             var: var_value(names, &var),
         }),
-        CondText::Compare { left, op, right } => Ok(Cond::Compare(Test {
-            left: var_value(names, &left),
-            op: op_of(op),
-            right: operand_of(alloc, names, &right)?,
-        })),
+        CondText::Compare { left, op, right } => {
+            Ok(Cond::Compare(test_of(alloc, names, left, op, right)?))
+        }
     }
 }
 

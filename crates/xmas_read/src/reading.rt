@@ -1,11 +1,11 @@
 // Reading the rule that a text spells.
-ghost use Rattle.std.specs.Prelude.{◌≡◌, ◌<◌, ◌^◌, false, IfOk, None, length};
+ghost use Rattle.std.specs.Prelude.{◌≡◌, ◌<◌, ◌^◌, false, IfErr, IfOk, Err, None, length};
 ghost use Rattle.std.specs.List.{list_any};
 ghost use Rattle.xmas_rule.specs.RuleMade.{rule_of};
 ghost use Rattle.xmas_rule.specs.Rules.{IsAccepted, RuleValue};
 ghost use Rattle.xmas_read.specs.Tree.{tree_of, bound_names};
 ghost use Rattle.xmas_read.specs.Value.{rule_value};
-ghost use Rattle.xmas_read.specs.Refusals.{has_path, is_nested, has_many, checked};
+ghost use Rattle.xmas_read.specs.Refusals.{has_path, is_nested, has_many, first_of, size_refusals, scope_refusals, template_refusals, checked};
 ghost use Rattle.xmas_read.specs.Results.{names_of_sources, IsOutcome, Answers, Spells};
 ghost use Rattle.xmas_read.specs.Again.{IsReadAs};
 
@@ -34,9 +34,18 @@ fn make_rule(
     requires positions { list_any (has_path has_many) tree.conds.items ≡ false }
     ensures { IfOk result (λ rule. rule_of rule ≡ rule_value (names_of_sources catalog.now) (tree_of tree)) }
 {
-    let template = template_value(alloc, &names, &tree.template)?;
-    let order = order_of(&names, &tree.order);
-    let conds = conds_of(alloc, catalog, &names, tree.conds)?;
+    let RuleText {
+        template: element,
+        conds: texts,
+        order: ordering,
+    } = tree;
+    let order = order_of(&names, &ordering);
+    let made = template_value(alloc, &names, &element);
+    // As in `check_tree`.
+    drop(element);
+    drop(ordering);
+    let template = made?;
+    let conds = conds_of(alloc, catalog, &names, texts)?;
     Ok(Rule {
         template,
         conds,
@@ -45,21 +54,39 @@ fn make_rule(
     })
 }
 
+// The names that a tree binds, or its first refusal.
+fn checked_names(alloc: Global, catalog: &Catalog, tree: &RuleText) -> Result<Vec<Label>, XmasFault>
+    ensures names { IfOk result (λ names. names.items ≡ bound_names (tree_of tree.now).conds) }
+    ensures size { IfOk result (λ _. first_of (size_refusals (tree_of tree.now)) ≡ None) }
+    ensures scope { IfOk result (λ _. first_of (scope_refusals (names_of_sources catalog.now) (tree_of tree.now)) ≡ None) }
+    ensures template { IfOk result (λ _. first_of (template_refusals (tree_of tree.now)) ≡ None) }
+    ensures refused { IfErr result (λ e. IsOutcome (checked (names_of_sources catalog.now) (tree_of tree.now)) (Err e)) }
+{
+    if let Some(fault) = size_refusal(alloc, tree)? {
+        return Err(fault);
+    }
+    let names = bound_names(alloc, &tree.conds)?;
+    if let Some(fault) = scope_refusal(alloc, catalog, &names, tree)? {
+        return Err(fault);
+    }
+    if let Some(fault) = template_refusal(alloc, &names, tree)? {
+        return Err(fault);
+    }
+    Ok(names)
+}
+
 // What comes of a tree: its rule, or the first refusal.
 fn check_tree(alloc: Global, catalog: &Catalog, tree: RuleText) -> Result<Rule, XmasFault>
     ensures { IsOutcome (checked (names_of_sources catalog.now) (tree_of tree)) result }
 {
-    if let Some(fault) = size_refusal(alloc, &tree)? {
-        return Err(fault);
+    match checked_names(alloc, catalog, &tree) {
+        Ok(names) => Ok(make_rule(alloc, catalog, names, tree)?),
+        Err(fault) => {
+            // It is given to `drop`, so that how its parts are dropped is proved once.
+            drop(tree);
+            Err(fault)
+        }
     }
-    let names = bound_names(alloc, &tree.conds)?;
-    if let Some(fault) = scope_refusal(alloc, catalog, &names, &tree)? {
-        return Err(fault);
-    }
-    if let Some(fault) = template_refusal(alloc, &names, &tree)? {
-        return Err(fault);
-    }
-    Ok(make_rule(alloc, catalog, names, tree)?)
 }
 
 /// The rule that a text spells over the sources of a catalog (docs/FORMATS.md, "Rules").
