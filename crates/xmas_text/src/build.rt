@@ -1,12 +1,12 @@
 // Building the tree of a rule whose text is known to be one.
-ghost use Rattle.std.specs.Prelude.{◌≡◌, ◌<◌, ◌≤◌, ◌+◌, ◌^◌, length, slice_range, IfOk, IsUtf8};
+ghost use Rattle.std.specs.Prelude.{◌≡◌, ◌<◌, ◌≤◌, ◌+◌, ◌^◌, ◌∷◌, [], length, slice_range, IfOk, IsUtf8};
 ghost use Rattle.xmas_text.specs.Building.{build_in, IsEnded, EndsToken, place_behind, CanBuild, Builds, IsOneElement, tree_of};
 ghost use Rattle.xmas_text.specs.Drafts.{draft_in};
 ghost use Rattle.xmas_text.specs.Grammar.{Rule, Writes};
 ghost use Rattle.xmas_text.specs.Results.{Spells, form_of};
 
 use crate::draft::{Built, Draft};
-use crate::element::ItemText;
+use crate::element::{ElementText, ItemText};
 use crate::rule::RuleText;
 use crate::scan::{Scan, scan_byte};
 use crate::shift::shift;
@@ -39,8 +39,14 @@ fn end_token(
     let Some(kind) = ended_kind(part) else {
         return Ok(draft);
     };
-    let token = read_lexeme(alloc, kind, text)?;
-    shift(alloc, draft, from, token)
+    match read_lexeme(alloc, kind, text) {
+        Ok(token) => shift(alloc, draft, from, token),
+        Err(error) => {
+            // It is given to `drop`, so that how its parts are dropped is proved once.
+            drop(draft);
+            Err(error)
+        }
+    }
 }
 
 // Where the token at hand begins, behind a byte that did not go on with one.
@@ -91,23 +97,34 @@ fn end_build(alloc: Global, build: Build, text: &[u8]) -> Result<Draft, AllocErr
     end_token(alloc, draft, scan.part, from, &text[from..text.len()])
 }
 
+// The only item, an element.
+fn only_element(mut items: Vec<ItemText>) -> ElementText
+    requires { IsOneElement items.items }
+    ensures { items.items ≡ ItemText.Element result ∷ [] }
+{
+    let Some(ItemText::Element(element)) = items.pop() else {
+        unreachable!()
+    };
+    element
+}
+
 // The rule of a draft whose items are its template.
 fn finish(draft: Draft) -> RuleText
     requires { IsOneElement (draft_in draft).built.items }
     ensures { form_of result ≡ tree_of (draft_in draft) }
 {
-    let Draft { built, pending: _ } = draft;
+    let Draft { built, pending } = draft;
+    // As in `end_token`.
+    drop(pending);
     let Built {
-        open: _,
-        mut items,
+        open,
+        items,
         conds,
         order,
     } = built;
-    let Some(ItemText::Element(template)) = items.pop() else {
-        unreachable!()
-    };
+    drop(open);
     RuleText {
-        template,
+        template: only_element(items),
         conds,
         order,
     }
