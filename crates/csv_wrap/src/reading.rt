@@ -41,6 +41,36 @@ fn full_table(mut fields: Texts, rows: usize) -> Table
     Table { fields, rows }
 }
 
+// The rows of a reader at the start of a file.
+fn rows_of(
+    alloc: Global,
+    reader: &mut Reader<&[u8]>,
+    found: &mut ByteRecord,
+    columns: &[Label],
+) -> Result<Table, CsvFault>
+    ensures accepted { (bytes : List ℕ) → IsAt (without_marks bytes) [] reader.old
+        → IfOk result (λ table. IsFile bytes columns.now (rows_in (length columns.now) table)) }
+    ensures full { (bytes : List ℕ) → IsAt (without_marks bytes) [] reader.old
+        → IfOk result (IsFull (length columns.now)) }
+    ensures refused { (bytes : List ℕ) → IsAt (without_marks bytes) [] reader.old
+        → IfErr result (Explains bytes columns.now) }
+{
+    read_header(reader, found, columns)?;
+    let mut fields = Texts::new(alloc);
+    'rows: for row in 1..usize::MAX {
+        if !read_next(reader, found)? {
+            return Ok(full_table(fields, row - 1));
+        }
+        if found.len() != columns.len() {
+            return Err(CsvFault::Length(row, found.len(), columns.len()));
+        }
+        if !put_fields(&mut fields, found)? {
+            return Err(CsvFault::NotUtf8(row));
+        }
+    }
+    Err(CsvFault::OutOfMemory)
+}
+
 /// The rows of a CSV file with these columns (docs/FORMATS.md, "CSV files").
 pub fn read_rows(alloc: Global, bytes: &[u8], columns: &[Label]) -> Result<Table, CsvFault>
     ensures accepted { IfOk result (λ table. IsFile bytes.now columns.now (rows_in (length columns.now) table)) }
@@ -49,18 +79,5 @@ pub fn read_rows(alloc: Global, bytes: &[u8], columns: &[Label]) -> Result<Table
 {
     let mut reader = reader_of(alloc, without_marks(bytes));
     let mut found = ByteRecord::new(alloc);
-    read_header(&mut reader, &mut found, columns)?;
-    let mut fields = Texts::new(alloc);
-    'rows: for row in 1..usize::MAX {
-        if !read_next(&mut reader, &mut found)? {
-            return Ok(full_table(fields, row - 1));
-        }
-        if found.len() != columns.len() {
-            return Err(CsvFault::Length(row, found.len(), columns.len()));
-        }
-        if !put_fields(&mut fields, &found)? {
-            return Err(CsvFault::NotUtf8(row));
-        }
-    }
-    Err(CsvFault::OutOfMemory)
+    rows_of(alloc, &mut reader, &mut found, columns)
 }
