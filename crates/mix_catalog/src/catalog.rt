@@ -75,8 +75,20 @@ impl Catalog {
         ensures ok { OnOk result (self.new ≡ self.old ++ spec ∷ []) }
         ensures err { OnErr result (self.new ≡ self.old) }
     {
-        let name = Vec::from_slice(alloc, spec.name.bytes())?;
-        self.sources.insert(name, spec)?;
-        Ok(())
+        let Ok(name) = Vec::from_slice(alloc, spec.name.bytes()) else {
+            // It is given to `drop`, so that how its parts are dropped is proved once.
+            drop(spec);
+            return Err(AllocError);
+        };
+        match self.sources.insert(name, spec) {
+            Ok(old) => {
+                drop(old);
+                Ok(())
+            }
+            Err(failed) => {
+                drop(failed);
+                Err(AllocError)
+            }
+        }
     }
 }

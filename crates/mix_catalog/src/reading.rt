@@ -19,16 +19,10 @@ const CHUNK: u32 = 1000;
 // The most columns of a source.
 const COLUMNS: usize = 200;
 
-// Adds the source of a line, where the catalog takes it.
-fn add_source(
-    alloc: Global,
-    catalog: &mut Catalog,
-    source: SourceSpec,
-    number: usize,
-) -> Result<(), CatalogFault>
-    requires { IsName source.name }
-    ensures ok { OnOk result (IsTakenBy catalog.old source × (catalog.new ≡ catalog.old ++ source ∷ [])) }
-    ensures err { IfErr result (RefusesSource catalog.old source number) }
+// Whether the catalog takes the source of a line.
+fn check_source(catalog: &Catalog, source: &SourceSpec, number: usize) -> Result<(), CatalogFault>
+    ensures ok { OnOk result (IsTakenBy catalog.now source.now) }
+    ensures err { IfErr result (RefusesSource catalog.now source.now number) }
 {
     if source.chunk < 1 || source.chunk > CHUNK {
         return Err(CatalogFault::Chunk(number));
@@ -45,8 +39,28 @@ fn add_source(
     if catalog.len() >= SOURCES {
         return Err(CatalogFault::TooMany(number));
     }
-    catalog.add(alloc, source)?;
     Ok(())
+}
+
+// Adds the source of a line, where the catalog takes it.
+fn add_source(
+    alloc: Global,
+    catalog: &mut Catalog,
+    source: SourceSpec,
+    number: usize,
+) -> Result<(), CatalogFault>
+    requires { IsName source.name }
+    ensures ok { OnOk result (IsTakenBy catalog.old source × (catalog.new ≡ catalog.old ++ source ∷ [])) }
+    ensures err { IfErr result (RefusesSource catalog.old source number) }
+{
+    match check_source(catalog, &source, number) {
+        Ok(()) => Ok(catalog.add(alloc, source)?),
+        Err(fault) => {
+            // It is given to `drop`, so that how its parts are dropped is proved once.
+            drop(source);
+            Err(fault)
+        }
+    }
 }
 
 // Adds the source of a line, unless the line is passed over.

@@ -1,27 +1,43 @@
-use Rattle.std.proofs.Common.{◌≡◌, ◌<◌, ◌∙◌, ◌++◌, ◌∷◌, [], ℕ, None, ap, arith, map, length, Vec, Global}
+use Rattle.std.proofs.Common.{◌≡◌, ◌<◌, ◌∙◌, ◌++◌, ◌∷◌, [], ℕ, None, ap, arith, map, length, subst, sym, Vec, Global}
 use Rattle.std.proofs.lemmas.List.{map-append, length-map}
 use Rattle.mix_catalog.specs.declared.source.SourceSpec.{SourceSpec}
+use Rattle.mix_catalog.specs.Kept.{IsKept}
 use Rattle.mix_catalog.specs.Sources.{source_named}
 use Rattle.mix_catalog.proofs.Finds.{IsKept-push, new_last}
 use Rattle.mix_catalog.proofs.catalog.Catalog.add.Goals as goal
+use Rattle.mix_catalog.proofs.catalog.Catalog.add.Goals.{in-Ok-insert, in-Err}
 
--- the entries behind the call
-entries : (c : goal.Joined-branch-3) → c.insert.new.self.entries ≡ c.self.inside.sources.entries ++ (c.in_ok-name.name, c.args.spec) ∷ []
-entries c =
-    let same : c.in_ok-name.name.items ≡ c.args.spec.name = c.in_ok-name.ensures.items ∙ c.bytes.ensures.bytes in
-    let new : source_named (map (λ (e : Vec ℕ Global × SourceSpec). e.1) c.self.inside.sources.entries) c.args.spec.name ≡ None =
-    ap (λ sources. source_named sources c.args.spec.name) c.self.view_is ∙ c.requires.new in
-    c.in_ok-insert.ensures.entries ∙ new_last c.self.inside.sources.entries c.in_ok-name.name c.args.spec c.self.invariant.keys same new
+-- the name under which the source is put
+named : (c : goal.Joined-insert) → c.in-Ok.name.items ≡ c.args.spec.name
+named c = c.in-Ok.ensures.items ∙ c.bytes.ensures.bytes
 
-pub invariant_of-self-2 : goal.invariant_of-self-2
-invariant_of-self-2 c =
+-- no source has it yet
+new : (c : goal.Joined-insert) → source_named (map (λ (e : Vec ℕ Global × SourceSpec). e.1) c.self.inside.sources.entries) c.args.spec.name ≡ None
+new c = ap (λ sources. source_named sources c.args.spec.name) c.self.view_is ∙ c.requires.new
+
+-- the entries are kept behind one more
+kept_more : (c : goal.Joined-insert) → c.insert.new.self.entries ≡ c.self.inside.sources.entries ++ (c.in-Ok.name, c.args.spec) ∷ [] → IsKept c.insert.new.self.entries
+kept_more c e =
     let es = c.self.inside.sources.entries in
-    let same : c.in_ok-name.name.items ≡ c.args.spec.name = c.in_ok-name.ensures.items ∙ c.bytes.ensures.bytes in
     let few : length es < 32 = omega (arith, c.requires.room, ap length c.self.view_is, length-map es (λ (e : Vec ℕ Global × SourceSpec). e.1)) in
-    let new : source_named (map (λ (e : Vec ℕ Global × SourceSpec). e.1) es) c.args.spec.name ≡ None = ap (λ sources. source_named sources c.args.spec.name) c.self.view_is ∙ c.requires.new in
-    IsKept-push es c.insert.new.self.entries c.in_ok-name.name c.args.spec (entries c) same c.self.invariant few c.requires.named new
+    IsKept-push es c.insert.new.self.entries c.in-Ok.name c.args.spec e (named c) c.self.invariant few c.requires.named (new c)
+
+pub invariant_of-self : goal.invariant_of-self
+invariant_of-self c = elim c.match-insert.branch [
+  | in-Ok-insert w ↦ kept_more c (w.in-Ok-insert.ensures.entries ∙ new_last c.self.inside.sources.entries c.in-Ok.name c.args.spec c.self.invariant.keys (named c) (new c))
+  | in-Err w ↦ subst IsKept (sym w.in-Err.ensures.err) c.self.invariant
+]
+
+-- the sources behind one more entry
+seen_more :
+    (c : goal.Joined-insert) → c.insert.new.self.entries ≡ c.self.inside.sources.entries ++ (c.in-Ok.name, c.args.spec) ∷ []
+    → map (λ (e : Vec ℕ Global × SourceSpec). e.1) c.insert.new.self.entries ≡ c.args.self.now ++ c.args.spec ∷ []
+seen_more c e =
+    ap (map (λ (e : Vec ℕ Global × SourceSpec). e.1)) e ∙ map-append (λ (e : Vec ℕ Global × SourceSpec). e.1) c.self.inside.sources.entries ((c.in-Ok.name, c.args.spec) ∷ [])
+    ∙ ap (λ sources. sources ++ c.args.spec ∷ []) c.self.view_is
 
 pub returns-clause-ok : goal.returns-clause-ok
-returns-clause-ok c =
-    ap (map (λ (e : Vec ℕ Global × SourceSpec). e.1)) (entries c) ∙ map-append (λ (e : Vec ℕ Global × SourceSpec). e.1) c.self.inside.sources.entries ((c.in_ok-name.name, c.args.spec) ∷ [])
-    ∙ ap (λ sources. sources ++ c.args.spec ∷ []) c.self.view_is
+returns-clause-ok c = elim c.match-insert.branch [
+  | in-Ok-insert w ↦ rw w.result-is (seen_more c (w.in-Ok-insert.ensures.entries ∙ new_last c.self.inside.sources.entries c.in-Ok.name c.args.spec c.self.invariant.keys (named c) (new c)))
+  | in-Err w ↦ rw w.result-is tt
+]
