@@ -7,7 +7,7 @@ ghost use Rattle.xmas_rule.specs.Rules.{IsAccepted};
 ghost use Rattle.plain_rule.specs.Documents.{documents_of};
 
 use crate::binding::Binding;
-use crate::instances::{Scope, push_instances};
+use crate::instances::{Scope, labelled, push_instances};
 use crate::ordering::in_order;
 use crate::selecting::select;
 use crate::tuples::body_tuples;
@@ -37,5 +37,5 @@ pub fn finished_document(alloc: Global, rule: &Rule, docs: &[Tree]) -> Result<Tr
     let mut kids = Vec::new(alloc);
     let scope = Scope { docs, force: &[] };
     push_instances(alloc, &scope, &rule.template.items, &found, &mut kids)?;
-    Ok(Tree::new(rule.template.label.copy(alloc)?, kids))
+    labelled(alloc, &rule.template.label, kids)
 }

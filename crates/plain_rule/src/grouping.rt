@@ -3,6 +3,7 @@ ghost use Rattle.std.specs.Prelude.{◌≡◌, ◌++◌, ◌∷◌, [], cond, ma
 ghost use Rattle.std.specs.List.{filter};
 ghost use Rattle.mix_base.specs.Groups.{firsts as firsts_by, groups as groups_by};
 ghost use Rattle.mix_tree.specs.Keys.{same_key};
+ghost use Rattle.mix_tree.specs.declared.var.Key.TheVariants.{LabelOf as label_key};
 ghost use Rattle.mix_tree.specs.Nodes.{same_node as is_same_node};
 ghost use Rattle.xmas_rule.specs.Bindings.{node_of};
 ghost use Rattle.xmas_rule.specs.Meaning.{parts as parts_of};
@@ -12,7 +13,7 @@ ghost use Rattle.plain_rule.specs.Steps.{is_alike, is_seen};
 use crate::binding::{Binding, copy_binding, node_in};
 use crate::node::Node;
 use crate::selecting::label_in;
-use mix_tree::{Key, Tree, item_collects};
+use mix_tree::{Key, Tree, Var, item_collects};
 use std::alloc::{AllocError, Global};
 use std::marker::Model;
 
@@ -61,6 +62,30 @@ pub fn same_node(a: &Node, b: &Node) -> bool
     a.source() == b.source() && a.place().steps() == b.place().steps()
 }
 
+// Whether a variable has the same node in two bindings.
+fn same_by_node(alloc: Global, var: Var, a: &Binding, b: &Binding) -> Result<bool, AllocError>
+    ensures { IfOk result (λ alike. alike ≡ is_same_node (node_of a.now var) (node_of b.now var)) }
+{
+    let left = node_in(alloc, a, var)?;
+    let right = node_in(alloc, b, var)?;
+    Ok(same_node(&left, &right))
+}
+
+// Whether a variable's nodes in two bindings have the same label.
+fn same_by_label(
+    alloc: Global,
+    docs: &[Tree],
+    var: Var,
+    a: &Binding,
+    b: &Binding,
+) -> Result<bool, AllocError>
+    ensures { IfOk result (λ alike. alike ≡ same_key (documents_of docs.now) (label_key var) (node_of a.now) (node_of b.now)) }
+{
+    let left = label_in(alloc, docs, a, var)?;
+    let right = label_in(alloc, docs, b, var)?;
+    Ok(left == right)
+}
+
 // Whether two bindings are the same by a key.
 fn same_by_key(
     alloc: Global,
@@ -72,15 +97,8 @@ fn same_by_key(
     ensures { IfOk result (λ alike. alike ≡ same_key (documents_of docs.now) key.now (node_of a.now) (node_of b.now)) }
 {
     match key {
-        Key::Node(var) => {
-            let (left, right) = (node_in(alloc, a, *var)?, node_in(alloc, b, *var)?);
-            Ok(same_node(&left, &right))
-        },
-        Key::LabelOf(var) => {
-            let left = label_in(alloc, docs, a, *var)?;
-            let right = label_in(alloc, docs, b, *var)?;
-            Ok(left == right)
-        },
+        Key::Node(var) => same_by_node(alloc, *var, a, b),
+        Key::LabelOf(var) => same_by_label(alloc, docs, *var, a, b),
     }
 }
 

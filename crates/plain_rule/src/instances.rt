@@ -1,7 +1,7 @@
 // The instances of a template's items.
 ghost use Rattle.std.specs.Prelude.{◌≡◌, IfOk, OnOk};
 ghost use Rattle.mix_tree.specs.Forest.{forest_of, none, tree, joined};
-ghost use Rattle.xmas_rule.specs.Items.{whole, label_alone, done};
+ghost use Rattle.xmas_rule.specs.Items.{whole, label_alone, element, done};
 ghost use Rattle.xmas_rule.specs.Made.{items_of, item_before};
 ghost use Rattle.xmas_rule.specs.Meaning.{shown_first};
 ghost use Rattle.plain_rule.specs.Documents.{documents_of};
@@ -22,13 +22,20 @@ pub struct Scope<'a> {
     pub force: &'a [Key],
 }
 
+// A tree with another such label.
+pub fn labelled(alloc: Global, label: &Label, kids: Vec<Tree>) -> Result<Tree, AllocError>
+    ensures { IfOk result (λ made. made ≡ record { label = label.now; kids = forest_of kids.items }) }
+{
+    Ok(Tree::new(label.copy(alloc)?, kids))
+}
+
 /// Another such tree.
 #[cycle(copying)]
 pub fn copy_tree(alloc: Global, tree: &Tree) -> Result<Tree, AllocError>
     ensures { IfOk result (λ copy. copy ≡ tree.now) }
 {
-    let label = tree.label().copy(alloc)?;
-    Ok(Tree::new(label, copy_trees(alloc, tree.kids())?))
+    let kids = copy_trees(alloc, tree.kids())?;
+    labelled(alloc, tree.label(), kids)
 }
 
 /// Other such trees.
@@ -49,6 +56,18 @@ fn push_tree(made: &mut Vec<Tree>, label: Label, kids: Vec<Tree>) -> Result<(), 
 {
     made.push(Tree::new(label, kids))?;
     Ok(())
+}
+
+// Adds a tree with another such label.
+fn push_labelled(
+    alloc: Global,
+    made: &mut Vec<Tree>,
+    label: &Label,
+    kids: Vec<Tree>,
+) -> Result<(), AllocError>
+    ensures { OnOk result (Adds made.old.items made.new.items (tree label.now (forest_of kids.items) none)) }
+{
+    push_tree(made, label.copy(alloc)?, kids)
 }
 
 // Adds the subtree at the variable's node in the first binding.
@@ -133,9 +152,29 @@ fn push_elements(
     for part in found {
         let mut kids = Vec::new(alloc);
         push_instances(alloc, scope, &template.items, part.bindings(), &mut kids)?;
-        push_tree(made, template.label.copy(alloc)?, kids)?;
+        push_labelled(alloc, made, &template.label, kids)?;
     }
     Ok(())
+}
+
+// Adds the instances of an element.
+#[cycle(making)]
+fn push_element(
+    alloc: Global,
+    scope: &Scope<'_>,
+    template: &Template,
+    bindings: &[Binding],
+    made: &mut Vec<Tree>,
+) -> Result<(), AllocError>
+    ensures { OnOk result (Adds made.old.items made.new.items (instances_in scope.now (element template.now.label template.now.items template.now.keys done) bindings.now)) }
+{
+    let found = parts(alloc, scope.docs, scope.force, &template.keys, bindings)?;
+    let inside = keys_in_force(alloc, scope.force, &template.keys)?;
+    let scope = Scope {
+        docs: scope.docs,
+        force: &inside,
+    };
+    push_elements(alloc, &scope, template, &found, made)
 }
 
 // Adds the instances of an item.
@@ -150,7 +189,7 @@ fn push_item(
     ensures { OnOk result (Adds made.old.items made.new.items (instances_in scope.now (item_before item.now done) bindings.now)) }
 {
     match item {
-        Item::Text(label) => push_tree(made, label.copy(alloc)?, Vec::new(alloc)),
+        Item::Text(label) => push_labelled(alloc, made, label, Vec::new(alloc)),
         Item::Node { var, keys } => {
             let found = parts(alloc, scope.docs, scope.force, keys, bindings)?;
             push_wholes(alloc, scope.docs, *var, &found, made)
@@ -159,15 +198,7 @@ fn push_item(
             let found = parts(alloc, scope.docs, scope.force, keys, bindings)?;
             push_labels(alloc, scope.docs, *var, &found, made)
         },
-        Item::Element(template) => {
-            let found = parts(alloc, scope.docs, scope.force, &template.keys, bindings)?;
-            let inside = keys_in_force(alloc, scope.force, &template.keys)?;
-            let scope = Scope {
-                docs: scope.docs,
-                force: &inside,
-            };
-            push_elements(alloc, &scope, template, &found, made)
-        },
+        Item::Element(template) => push_element(alloc, scope, template, bindings, made),
     }
 }
 

@@ -8,13 +8,16 @@ use Rattle.plain_rule.specs.Documents.{documents_of}
 use Rattle.plain_rule.proofs.instances.+making.Given as goal
 
 abbrev pub decreases-push_elements : goal.decreases-push_elements
-decreases-push_elements l = 3 * element_size l.template.now
+decreases-push_elements l = 4 * element_size l.template.now
+
+abbrev pub decreases-push_element : goal.decreases-push_element
+decreases-push_element l = 4 * element_size l.template.now + 1
 
 abbrev pub decreases-push_item : goal.decreases-push_item
-decreases-push_item l = 3 * items_size (item_before l.item.now done) + 1
+decreases-push_item l = 4 * items_size (item_before l.item.now done) + 2
 
 abbrev pub decreases-push_instances : goal.decreases-push_instances
-decreases-push_instances l = 3 * items_size (items_of l.items.now) + 2
+decreases-push_instances l = 4 * items_size (items_of l.items.now) + 3
 
 abbrev pub invariant-push_elements-loop-part : goal.invariant-push_elements-loop-part
 invariant-push_elements-loop-part l =
