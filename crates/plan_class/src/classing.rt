@@ -1,17 +1,19 @@
 // The class of a plan.
-ghost use Rattle.std.specs.Prelude.{◌≡◌, IfOk, length, map};
+ghost use Rattle.std.specs.Prelude.{◌≡◌, ◌++◌, ◌∷◌, [], IfOk, OnOk, length, map};
+ghost use Rattle.plan_core.specs.Fronts.{front_at};
 ghost use Rattle.plan_core.specs.PlanMade.{op_of, plan_value};
 ghost use Rattle.plan_core.specs.Valid.{IsValid};
 ghost use Rattle.browse_class.specs.Classes.{op_bound, all_bounds, op_sorts, sorts_any, class_by, class_in};
 ghost use Rattle.browse_visit.specs.Shapes.{shapes_of};
 ghost use Rattle.plan_class.specs.Agree.{AreKnown, lists_in};
+ghost use Rattle.plan_class.specs.Known.{op_known, IsShort};
 
 use crate::known::{Known, domain_of};
 use crate::operators::op_known;
 use browse_class::Class;
 use browse_profile::larger;
 use browse_visit::Shape;
-use plan_core::fronts::fronts_of;
+use plan_core::fronts::{Front, fronts_of};
 use plan_core::{Op, Plan, valid_plans_are_typed};
 use std::alloc::{AllocError, Global};
 
@@ -72,6 +74,22 @@ fn class_by(constant: Option<u64>) -> Class
     }
 }
 
+// Adds what is known of an operator to what is known of those before it.
+fn push_known(
+    alloc: Global,
+    shapes: &[Shape],
+    fronts: &[Front],
+    known: &mut Vec<Known>,
+    op: &Op,
+) -> Result<(), AllocError>
+    requires { IsShort (op_of op.now) }
+    ensures { OnOk result (known.new.items ≡ known.old.items ++ op_known shapes.now (front_at fronts.now) known.old.items (op_of op.now) ∷ []) }
+{
+    let one = op_known(alloc, shapes, fronts, known, op)?;
+    known.push(one)?;
+    Ok(())
+}
+
 // What is known of all operators.
 fn all_known(alloc: Global, plan: &Plan, shapes: &[Shape]) -> Result<Vec<Known>, AllocError>
     requires { IsValid (plan_value plan.now) }
@@ -81,8 +99,7 @@ fn all_known(alloc: Global, plan: &Plan, shapes: &[Shape]) -> Result<Vec<Known>,
     let fronts = fronts_of(alloc, &plan.ops)?;
     let mut known: Vec<Known> = Vec::new(alloc);
     'ops: for op in &plan.ops {
-        let one = op_known(alloc, shapes, &fronts, &known, op)?;
-        known.push(one)?;
+        push_known(alloc, shapes, &fronts, &mut known, op)?;
     }
     Ok(known)
 }

@@ -78,7 +78,6 @@ pub fn own_level(profile: Profile) -> Profile
 }
 
 // So many levels of which nothing is known.
-#[tactic(auto, using(crate::proofs::LevelLists::opens_more))]
 fn opens(alloc: Global, count: usize) -> Result<Vec<Profile>, AllocError>
     ensures { IfOk result (λ levels. levels.items ≡ opens count) }
 {

@@ -1,5 +1,5 @@
 // What is known of an operator, from what is known of those before it.
-ghost use Rattle.std.specs.Prelude.{◌≡◌, IfOk, length};
+ghost use Rattle.std.specs.Prelude.{◌≡◌, ◌++◌, IfOk, length};
 ghost use Rattle.plan_core.specs.Fronts.{front_at};
 ghost use Rattle.plan_core.specs.PlanMade.{op_of};
 ghost use Rattle.plan_core.specs.Shapes.{shape_of};
@@ -42,6 +42,15 @@ fn front_size(fronts: &[Front], n: u32) -> FrontSize
     }
 }
 
+// Keys and others behind them. `Err`: memory.
+fn joined_keys(alloc: Global, keys: &[Key], more: &[Key]) -> Result<Vec<Key>, AllocError>
+    ensures { IfOk result (λ all. all.items ≡ keys.now ++ more.now) }
+{
+    let mut all = Vec::from_slice(alloc, keys)?;
+    all.extend_from_slice(more)?;
+    Ok(all)
+}
+
 // Of a visit below each binding of an input with such a front. `Err`: memory.
 fn visits_known(
     alloc: Global,
@@ -52,8 +61,7 @@ fn visits_known(
 ) -> Result<Known, AllocError>
     ensures { IfOk result (λ k. k ≡ visits_known out visit front.vars front.whole input.now) }
 {
-    let mut keys = Vec::from_slice(alloc, &input.keys)?;
-    keys.push(Key::Node(out))?;
+    let keys = joined_keys(alloc, &input.keys, &[Key::Node(out)])?;
     let profile = input.profile.replaced(visit.profile);
     let levels = visit_levels(alloc, front, input.profile, visit.profile)?;
     let visits = Known::new(alloc, profile, keys, &levels)?;
@@ -92,8 +100,7 @@ fn pairs_known(
 ) -> Result<Known, AllocError>
     ensures { IfOk result (λ k. k ≡ pairs_known tests.now front.vars front.whole left.now right.now) }
 {
-    let mut keys = Vec::from_slice(alloc, &left.keys)?;
-    keys.extend_from_slice(&right.keys)?;
+    let keys = joined_keys(alloc, &left.keys, &right.keys)?;
     let beside = Profile::one_skip().in_turn(right.profile);
     let profile = tested(tests, left.profile.replaced(beside));
     let levels = pair_levels(alloc, front, left.profile, &right.levels)?;

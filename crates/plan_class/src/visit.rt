@@ -45,6 +45,22 @@ fn shape_at<'a>(shapes: &'a [Shape], any: &'a Shape, source: u32) -> &'a Shape
     }
 }
 
+// By a path's automaton, in one of these sources.
+fn visit_by(
+    automaton: &Auto,
+    labels: &[Label],
+    row: &Label,
+    shapes: &[Shape],
+    start: Domain,
+) -> Visit
+    requires { row.now ≡ row_label }
+    ensures { result ≡ visit_in (machine_of automaton.now) labels.now (shape_at shapes.now start.source) start }
+{
+    let any = Shape::Any;
+    let shape = shape_at(shapes, &any, start.source);
+    visit_in(automaton, labels, row, shape, start)
+}
+
 /// The visit along a path below each of these nodes, behind the skip for its start. `Err`: memory.
 pub fn visit_along(
     alloc: Global,
@@ -58,8 +74,5 @@ pub fn visit_along(
     let automaton = Auto::new(alloc, path)?;
     let labels = sample_labels(alloc, path)?;
     let row = Label::of_text(alloc, b"row")?;
-    let any = Shape::Any;
-    let shape = shape_at(shapes, &any, start.source);
-    let visit = visit_in(&automaton, &labels, &row, shape, start);
-    Ok(visit)
+    Ok(visit_by(&automaton, &labels, &row, shapes, start))
 }
