@@ -1,5 +1,5 @@
 // The way of a selection down the joins.
-ghost use Rattle.std.specs.Prelude.{◌≡◌, List, map, IfOk, OnOk};
+ghost use Rattle.std.specs.Prelude.{◌≡◌, List, Some, map, IfOk, OnOk};
 ghost use Rattle.mix_tree.specs.declared.comparing.Test.{Test};
 ghost use Rattle.plan_core.specs.ByNumber.{op_at};
 ghost use Rattle.plan_core.specs.Plans.{Operator};
@@ -86,16 +86,25 @@ fn landing(ops: &[Op], c: &Covered, last: u32) -> u32
     at
 }
 
+// Where a selection into the operators of a tree comes to stand; `None` where there are none.
+fn landing_in(alloc: Global, ops: &[Op], test: &Test) -> Result<Option<u32>, AllocError>
+    ensures { (x : Tree) → map op_of ops.now ≡ numbered 0 x → IfOk result (λ at. at ≡ Some (landing test.now x)) }
+{
+    let c = new_covered(alloc, ops, test)?;
+    let Some(before) = ops.len().checked_sub(1) else {
+        return Ok(None);
+    };
+    let last = u32::try_from(before).map_err(|_| AllocError)?;
+    Ok(Some(landing(ops, &c, last)))
+}
+
 // Pushes a selection into the operators of a tree.
 pub fn push_test(alloc: Global, ops: &mut Vec<Op>, test: Test) -> Result<(), AllocError>
     requires { (x : Tree) × (map op_of ops.old.items ≡ numbered 0 x) }
     ensures { (x : Tree) → map op_of ops.old.items ≡ numbered 0 x → OnOk result (map op_of ops.new.items ≡ numbered 0 (pushed test x)) }
 {
-    let c = new_covered(alloc, ops.as_slice(), &test)?;
-    let Some(before) = ops.len().checked_sub(1) else {
-        return Ok(());
-    };
-    let last = u32::try_from(before).map_err(|_| AllocError)?;
-    let at = landing(ops.as_slice(), &c, last);
-    place(ops, at, test)
+    match landing_in(alloc, ops.as_slice(), &test)? {
+        Some(at) => place(ops, at, test),
+        None => Ok(()),
+    }
 }
