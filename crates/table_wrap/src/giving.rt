@@ -1,9 +1,9 @@
 // The lists with which a table's document answers.
-ghost use Rattle.std.specs.Prelude.{◌≡◌, cond, IfOk, OnOk, None, map, FitsSigned};
+ghost use Rattle.std.specs.Prelude.{◌≡◌, ◌∷◌, [], cond, IfOk, OnOk, None, map, FitsSigned};
 ghost use Rattle.std.specs.Int.{w64};
 ghost use Rattle.std.specs.List.{AllByRecursion};
 ghost use Rattle.mix_tree.specs.Forest.{forest_of};
-ghost use Rattle.lxp_core.specs.Open.{node, hole, nil, without_holes};
+ghost use Rattle.lxp_core.specs.Open.{Open, node, hole, nil, without_holes};
 ghost use Rattle.lxp_core.specs.Plain.{plain, put_all};
 ghost use Rattle.table_keep.specs.Rows.{rows_of, value_of};
 ghost use Rattle.table_wrap.specs.Document.{columns_of, name_of, rows_given};
@@ -47,6 +47,21 @@ impl TableDoc {
         Ok(list)
     }
 
+    // Puts a row of these cells behind a list, with its columns below it.
+    fn push_row(
+        &self,
+        alloc: Global,
+        list: &mut Vec<OpenTree>,
+        found: Vec<Cell>,
+    ) -> Result<(), AllocError>
+        ensures { OnOk result ((rest : Open) → put_all list.new.items rest
+            ≡ put_all list.old.items (node (114 ∷ 111 ∷ 119 ∷ []) (without_holes (forest_of (cells (columns_of self.now) (map value_of found.items)))) rest)) }
+    {
+        let label = Label::of_text(alloc, b"row")?;
+        let kids = self.cells(alloc, found)?;
+        push_node(list, label, kids)
+    }
+
     /// The name, with the hole of all rows below it.
     pub(crate) fn give_name(&self, alloc: Global) -> Result<Vec<OpenTree>, AllocError>
         ensures { IfOk result (λ list. plain list.items ≡ node (name_of self.now) (hole (hole_of (Rows None)) nil) nil) }
@@ -76,8 +91,7 @@ impl TableDoc {
         'rows: for row in rows {
             let TableRow { key, cells } = row;
             last = Some(key);
-            let label = Label::of_text(alloc, b"row")?;
-            push_node(&mut list, label, self.cells(alloc, cells)?)?;
+            self.push_row(alloc, &mut list, cells)?;
         }
         push_rest(&mut list, full, last)?;
         Ok(list)

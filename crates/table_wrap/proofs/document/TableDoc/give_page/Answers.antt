@@ -6,7 +6,7 @@ use Rattle.std.specs.List.{AllByRecursion}
 use Rattle.std.proofs.lemmas.Int.{to_z-of_z}
 use Rattle.mix_base.proofs.Firsts.{each_snoc, map-map}
 use Rattle.lxp_core.specs.Open.{hole, nil, node, open_followed, without_holes}
-use Rattle.lxp_core.specs.Plain.{plain, put_all}
+use Rattle.lxp_core.specs.Plain.{put_all}
 use Rattle.table_keep.specs.declared.row.TableRow.{TableRow}
 use Rattle.table_keep.specs.Rows.{Row, row_of, rows_of}
 use Rattle.table_wrap.specs.Document.{last_key, rest_given}
@@ -21,14 +21,11 @@ rows-preserved c =
     let columns = c.args.self.now.columns.items in
     let rows = rows_of c.rows.yielded in
     let row = row_of c.in-Some.row in
-    let old = c.rows.list.items in
     let more = rows_of_more c.rows.yielded c.in-Some.row in
     let fits : SFits w64 c.in-Some.row.key = search rules in
     record {
       given = λ rest.
-          c.in_ok-push_node.ensures rest
-          ∙ ap (λ label. put_all old (node label (plain c.in_ok-cells.field-0.items) rest)) c.in_ok-label.ensures
-          ∙ ap (λ kids. put_all old (node (row_tree columns row).label kids rest)) c.in_ok-cells.ensures
+          c.in_ok-push_row.ensures rest
           ∙ c.rows.invariant.given (node (row_tree columns row).label (without_holes (row_tree columns row).kids) rest)
           ∙ sym (rows_more columns rows row rest)
           ∙ ap (λ (rs : List Row). open_followed (without_holes (row_forest columns rs)) rest) (sym more);
