@@ -1,7 +1,7 @@
 -- The blocks of a valid plan, one operator after another: each stays until the operator that reads it.
-use Rattle.std.proofs.Common.{◌≡◌, inl, inr, ℕ, suc, ◌+◌, ◌<◌, ◌==◌, Bool, true, false, List, [], ◌∷◌, ◌++◌, map, get_or, set, length, refl, ◌∙◌, sym, ap, subst, arith, length-append, length-set}
+use Rattle.std.proofs.Common.{◌≡◌, inl, inr, ℕ, suc, ◌+◌, ◌<◌, ◌==◌, Bool, true, false, List, [], ◌∷◌, ◌++◌, map, get_or, set, length, refl, ◌∙◌, sym, ap, subst, arith, length-append, length-set, Vec, Global}
 use Rattle.std.proofs.lemmas.Bool.Decides.{nat_tests}
-use Rattle.std.proofs.lemmas.List.{get_or-map, get_or_append_left, get_or_at, get_or-set_other, length-map}
+use Rattle.std.proofs.lemmas.List.{map-append, get_or-map, get_or_append_left, get_or_at, get_or-set_other, length-map}
 use Rattle.mix_base.specs.Ascents.{Among}
 use Rattle.mix_base.proofs.Ascents.{among_each}
 use Rattle.plan_core.specs.ByNumber.{op_at}
@@ -11,7 +11,7 @@ use Rattle.plan_core.specs.Typed.{IsTyped}
 use Rattle.plan_core.specs.Valid.{inputs_of, is_single_at, IsValid}
 use Rattle.plan_core.specs.declared.plan.Op.{Op}
 use Rattle.plan_make.specs.Trees.{Tree, numbered}
-use Rattle.plan_rewrite.specs.Blocks.{block_at, without, block_over, IsBlock, AreBelow, SidesDiffer}
+use Rattle.plan_rewrite.specs.Blocks.{block_at, blocks_of, without, block_over, IsBlock, AreBelow, SidesDiffer}
 use Rattle.plan_rewrite.specs.Rewritten.{rewritten, op_tree, tree_at, rewritten_ops}
 use Rattle.plan_rewrite.proofs.Kept.{rewritten-ended}
 use Rattle.plan_core.proofs.Fresh.{reader_once, smaller, once, inputs_differ}
@@ -133,3 +133,7 @@ module _ (p : PlanValue) (valid : IsValid p) (typed : IsTyped p.ops) where
     where
       unread : IsUnread p.ops (length (ending p valid typed).front) (length p.ops)
       unread m w a = (let s = smaller p valid typed (length (ending p valid typed).front) m w a in let l = all_but_one p valid typed in omega (arith, s, l, w))
+
+-- the operators of a block behind those of others
+pub blocks_behind : (blocks : List (Vec Op Global)) (b : Vec Op Global) → blocks_of (blocks ++ b ∷ []) ≡ blocks_of blocks ++ map op_of b.items ∷ []
+blocks_behind blocks b = map-append (λ (v : Vec Op Global). map op_of v.items) blocks (b ∷ [])

@@ -1,7 +1,9 @@
 // The plan whose selections are moved.
-ghost use Rattle.std.specs.Prelude.{◌≡◌, map, IfOk, length};
+ghost use Rattle.std.specs.Prelude.{◌≡◌, ◌++◌, ◌∷◌, [], ℕ, map, IfOk, OnOk, length};
 ghost use Rattle.plan_core.specs.PlanMade.{op_of, plan_value};
-ghost use Rattle.plan_core.specs.Valid.{IsValid};
+ghost use Rattle.plan_core.specs.Valid.{IsValid, inputs_of};
+ghost use Rattle.plan_make.specs.Trees.{Tree};
+ghost use Rattle.plan_rewrite.specs.Blocks.{blocks_of, without, block_over, AreBelow, SidesDiffer};
 ghost use Rattle.plan_make.specs.Law.{MeansRule};
 ghost use Rattle.plan_rewrite.specs.Law.{SameDocument};
 ghost use Rattle.plan_rewrite.specs.Rewritten.{plan_for, rewritten_ops, rewritten_plan};
@@ -17,6 +19,19 @@ use plan_make::make_plan;
 use std::alloc::{AllocError, Global};
 use xmas_rule::Rule;
 
+// Puts the block of an operator behind the others, from which those of its inputs are taken.
+fn push_block(alloc: Global, blocks: &mut Vec<Vec<Op>>, op: &Op) -> Result<(), AllocError>
+    requires sides { SidesDiffer (op_of op.now) }
+    requires below { (of : ℕ → Tree) × AreBelow (op_of op.now) of (blocks_of blocks.old.items) }
+    ensures { let o = op_of op.now in
+        (of : ℕ → Tree) → AreBelow o of (blocks_of blocks.old.items)
+        → OnOk result (blocks_of blocks.new.items ≡ without (inputs_of o) (blocks_of blocks.old.items) ++ block_over o of ∷ []) }
+{
+    let block = next_block(alloc, blocks, op)?;
+    blocks.push(block)?;
+    Ok(())
+}
+
 // The operators of a plan, each selection moved as far down as it goes.
 fn rewrite_ops(alloc: Global, p: &Plan) -> Result<Vec<Op>, AllocError>
     requires { IsValid (plan_value p.now) }
@@ -25,8 +40,7 @@ fn rewrite_ops(alloc: Global, p: &Plan) -> Result<Vec<Op>, AllocError>
     valid_plans_are_typed();
     let mut blocks = Vec::new(alloc);
     for op in p.ops.as_slice() {
-        let block = next_block(alloc, &mut blocks, op)?;
-        blocks.push(block)?;
+        push_block(alloc, &mut blocks, op)?;
     }
     match blocks.pop() {
         Some(ops) => Ok(ops),

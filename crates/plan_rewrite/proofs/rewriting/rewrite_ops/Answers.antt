@@ -1,29 +1,24 @@
-use Rattle.std.proofs.Common.{◌≡◌, ◌+◌, ℕ, List, [], ◌∷◌, ◌++◌, map, length, ◌∙◌, sym, ap, subst, arith, Vec, Global}
-use Rattle.std.proofs.lemmas.List.{map-append, length-map}
+use Rattle.std.proofs.Common.{◌≡◌, ◌+◌, ℕ, List, [], ◌∷◌, ◌++◌, map, length, ◌∙◌, sym, ap, subst, arith}
+use Rattle.std.proofs.lemmas.List.{length-map}
 use Rattle.plan_core.specs.PlanMade.{op_of, plan_value}
 use Rattle.plan_core.specs.Plans.{Operator, PlanValue}
 use Rattle.plan_core.specs.Typed.{IsTyped}
 use Rattle.plan_core.specs.Valid.{inputs_of}
-use Rattle.plan_core.specs.declared.plan.Op.{Op}
 use Rattle.plan_make.specs.Trees.{Tree}
 use Rattle.plan_rewrite.specs.Blocks.{blocks_of, without, block_over, AreBelow, SidesDiffer}
 use Rattle.plan_rewrite.specs.Rewritten.{rewritten, tree_at}
-use Rattle.plan_rewrite.proofs.BlockSteps.{AreBlocks, op_here, blocks_below, sides_differ, blocks_more, last_block}
+use Rattle.plan_rewrite.proofs.BlockSteps.{AreBlocks, op_here, blocks_below, blocks_behind, sides_differ, blocks_more, last_block}
 use Rattle.plan_rewrite.proofs.rewriting.rewrite_ops.Goals as goal
 
--- the operators of a block behind those of others
-blocks_behind : (blocks : List (Vec Op Global)) (b : Vec Op Global) → blocks_of (blocks ++ b ∷ []) ≡ blocks_of blocks ++ map op_of b.items ∷ []
-blocks_behind blocks b = map-append (λ (v : Vec Op Global). map op_of v.items) blocks (b ∷ [])
-
-pub next_block-requires-clause-sides : goal.next_block-requires-clause-sides
-next_block-requires-clause-sides c =
+pub push_block-requires-clause-sides : goal.push_block-requires-clause-sides
+push_block-requires-clause-sides c =
     let p : PlanValue = plan_value c.args.p.now in
     let typed : IsTyped p.ops = c.valid_plans_are_typed.ensures p c.requires in
     let here = op_here c.as_slice-op-items.result.now c.args.p.now.ops.items c.loop-op.op-index c.op-item.result c.as_slice-op-items.ensures.value c.loop-op-test.true c.op-item.is in
     subst SidesDiffer (sym here.0) (sides_differ p c.requires typed c.loop-op.op-index here.1)
 
-pub next_block-requires-clause-below : goal.next_block-requires-clause-below
-next_block-requires-clause-below c =
+pub push_block-requires-clause-below : goal.push_block-requires-clause-below
+push_block-requires-clause-below c =
     let p : PlanValue = plan_value c.args.p.now in
     let typed : IsTyped p.ops = c.valid_plans_are_typed.ensures p c.requires in
     let here = op_here c.as_slice-op-items.result.now c.args.p.now.ops.items c.loop-op.op-index c.op-item.result c.as_slice-op-items.ensures.value c.loop-op-test.true c.op-item.is in
@@ -38,13 +33,12 @@ loop-op-preserved c =
     let here = op_here c.as_slice-op-items.result.now c.args.p.now.ops.items c.loop-op.op-index c.op-item.result c.as_slice-op-items.ensures.value c.loop-op-test.true c.op-item.is in
     let of : ℕ → Tree = λ i. rewritten (tree_at p.ops i) in
     let all : List (List Operator) = blocks_of c.loop-op.blocks.items in
-    let block : List Operator = map op_of c.in_ok-block.block.items in
     let below : AreBelow (op_of c.op-item.result) of all =
     subst (λ (o : Operator). AreBelow o of all) (sym here.0) (blocks_below p c.requires typed all c.loop-op.op-index here.1 c.loop-op.invariant) in
-    let more = ap blocks_of c.in_ok-push.ensures.items ∙ blocks_behind c.next_block.new.blocks.items c.in_ok-block.block
-    ∙ ap (λ (z : List (List Operator)). z ++ block ∷ []) (c.in_ok-block.ensures.left ∙ ap (λ (o : Operator). without (inputs_of o) all) here.0) in
+    let block : List Operator = block_over (op_of c.op-item.result) of in
+    let more = c.in_ok-push_block.ensures of below ∙ ap (λ (o : Operator). without (inputs_of o) all ++ block ∷ []) here.0 in
     subst (λ (z : List (List Operator)). AreBlocks p.ops z (c.loop-op.op-index + 1)) (sym more)
-    (blocks_more p c.requires typed all c.loop-op.op-index block c.loop-op.invariant (c.in_ok-block.ensures.made of below ∙ ap (λ (o : Operator). block_over o of) here.0))
+    (blocks_more p c.requires typed all c.loop-op.op-index block c.loop-op.invariant (ap (λ (o : Operator). block_over o of) here.0))
 
 pub returns-in-Some : goal.returns-in-Some
 returns-in-Some c =
