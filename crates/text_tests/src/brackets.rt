@@ -1,139 +1,143 @@
 // What the contracts leave to tests: that texts are read, and values worked out by hand.
+use crate::made::{Parts, made};
+use bracket_text::BracketFault::{Ends, NotUtf8, TooDeep, Unexpected};
 use bracket_text::{BracketFault, no_text_spells_two, read_tree, write_tree};
-use mix_tree::Place;
-use std::alloc::{AllocError, Global};
-use std::test::Fail;
+use mix_tree::{Place, Tree};
+use std::alloc::Global;
+
+// The canonical text of a tree that is read, or why it is refused.
+fn canonical(alloc: Global, text: &[u8]) -> Result<Vec<u8>, BracketFault> {
+    let tree = read_tree(alloc, text)?;
+    Ok(write_tree(alloc, &tree)?)
+}
+
+// Whether a text comes to this canonical text, or is refused so.
+fn comes_to(alloc: Global, text: &[u8], wanted: Result<&str, BracketFault>) -> bool {
+    match (canonical(alloc, text), wanted) {
+        (Ok(found), Ok(wanted)) => found.as_slice() == wanted.as_bytes(),
+        (Err(found), Err(wanted)) => found == wanted,
+        _ => false,
+    }
+}
+
+// Texts, each with its canonical text or its refusal.
+const TEXTS: &[(&[u8], Result<&str, BracketFault>)] = &[
+    (b"a", Ok("a")),
+    (b" a [ ] ", Ok("a")),
+    (
+        b"\"a\" [ \"b c\" , \xc3\xa9 [ ] , \"\" [ d ] ]",
+        Ok("a[\"b c\",é,\"\"[d]]"),
+    ),
+    (b"\"\\n\"[\"\t\"]", Ok("\"\\n\"[\"\\t\"]")),
+    (
+        b" a [ b , \"c\\\"\\n\" [ ] , d[e,f] ]",
+        Ok("a[b,\"c\\\"\\n\",d[e,f]]"),
+    ),
+    (b"\xff", Err(NotUtf8(0))),
+    (b"a]\xc3", Err(NotUtf8(2))),
+    (b"a[\"\xe2\x82\"]", Err(NotUtf8(3))),
+    (b"a]", Err(Unexpected(1))),
+    (b"a,b", Err(Unexpected(1))),
+    (b"a b", Err(Unexpected(2))),
+    (b"a[b] c", Err(Unexpected(5))),
+    (b"a[b,]", Err(Unexpected(4))),
+    (b"a[,b]", Err(Unexpected(2))),
+    (b"[a]", Err(Unexpected(0))),
+    (b"a[b][c]", Err(Unexpected(4))),
+    (b"a\"b\"", Err(Unexpected(1))),
+    (b"\"a\"b", Err(Unexpected(3))),
+    (b"\"a\"\xc3\xa9", Err(Unexpected(3))),
+    (b"a[\"\\x\"]", Err(Unexpected(4))),
+    (b"a[\"\xc3\xa9\\\xc3\xa9\"]", Err(Unexpected(6))),
+    (b"a!", Err(Unexpected(1))),
+];
 
 #[test]
-fn accepted_texts_have_their_shape(rt: HostRuntime) -> Result<(), Fail> {
-    let alloc = rt.alloc();
-    let root: &[u64] = &[];
-    let spaced = " \ta\n[\r b , \"c\"\t[ d ]\n, e\r] \n";
-    let rows: [(&str, &[u64], &str, usize); 12] = [
-        ("a", root, "a", 0),
-        ("aZ09_-.:/@#+$%é", root, "aZ09_-.:/@#+$%é", 0),
-        ("a[]", root, "a", 0),
-        (" \"\" [ ] ", root, "", 0),
-        ("a[b]", &[0], "b", 0),
-        ("a[b,c[d],e]", root, "a", 3),
-        ("a[b,c[d],e]", &[1], "c", 1),
-        ("a[b,c[d],e]", &[1, 0], "d", 0),
-        (spaced, root, "a", 3),
-        (spaced, &[1, 0], "d", 0),
-        (spaced, &[2], "e", 0),
-        ("a[\"[é\\\"\\\\\\n\\t,]\"]", &[0], "[é\"\\\n\t,]", 0),
-    ];
-    for (text, steps, label, count) in rows {
-        let tree = read_tree(alloc, text.as_bytes()).ok().ok_or("not read")?;
-        let place = Place::new(Vec::from_slice(alloc, steps)?);
-        let found = tree.at(&place).ok_or("no such place")?;
-        assert_eq!(rt; found.label().bytes(), label.as_bytes());
-        assert_eq!(rt; found.kids().len(), count);
+fn texts_have_one_canonical_text_or_a_refusal(rt: HostRuntime) {
+    for (text, wanted) in TEXTS {
+        assert!(rt; comes_to(rt.alloc(), text, *wanted));
     }
     no_text_spells_two();
-    Ok(())
 }
 
-#[test]
-fn a_tree_has_one_canonical_text(rt: HostRuntime) -> Result<(), Fail> {
-    let alloc = rt.alloc();
-    let rows = [
-        ("a", "a"),
-        (" a [ ] ", "a"),
-        (
-            "\"a\" [ \"b c\" , é [ ] , \"\" [ d ] ]",
-            "a[\"b c\",é,\"\"[d]]",
-        ),
-        ("\"\\n\"[\"\t\"]", "\"\\n\"[\"\\t\"]"),
-    ];
-    for (text, canonical) in rows {
-        let tree = read_tree(alloc, text.as_bytes()).ok().ok_or("not read")?;
-        assert_eq!(rt; write_tree(alloc, &tree)?.as_slice(), canonical.as_bytes());
-    }
-    Ok(())
-}
-
-// Whether a text is refused so.
-fn is_refused(alloc: Global, text: &[u8], wanted: BracketFault) -> bool {
-    match read_tree(alloc, text) {
-        Ok(_) => false,
-        Err(fault) => fault == wanted,
+// Whether the subtree at a place has this label and so many kids.
+fn has_at(tree: &Tree, place: &Place, label: &str, count: usize) -> bool {
+    match tree.at(place) {
+        Some(found) => found.label().bytes() == label.as_bytes() && found.kids().len() == count,
+        None => false,
     }
 }
 
+// Whether the subtree at a place of a text has this label and so many kids.
+fn stands_at(
+    alloc: Global,
+    text: &str,
+    steps: &[u64],
+    label: &str,
+    count: usize,
+) -> Result<bool, BracketFault> {
+    let place = Place::new(Vec::from_slice(alloc, steps)?);
+    let tree = read_tree(alloc, text.as_bytes())?;
+    Ok(has_at(&tree, &place, label, count))
+}
+
+// A text with spaces of each kind.
+const SPACED: &str = " \ta\n[\r b , \"c\"\t[ d ]\n, e\r] \n";
+
+// Texts, each with steps to a subtree, its label and how many kids it has.
+const SHAPES: &[(&str, &[u64], &str, usize)] = &[
+    ("a", &[], "a", 0),
+    ("aZ09_-.:/@#+$%é", &[], "aZ09_-.:/@#+$%é", 0),
+    ("a[]", &[], "a", 0),
+    (" \"\" [ ] ", &[], "", 0),
+    ("a[b]", &[0], "b", 0),
+    ("a[b,c[d],e]", &[], "a", 3),
+    ("a[b,c[d],e]", &[1], "c", 1),
+    ("a[b,c[d],e]", &[1, 0], "d", 0),
+    (SPACED, &[], "a", 3),
+    (SPACED, &[1, 0], "d", 0),
+    (SPACED, &[2], "e", 0),
+    ("a[\"[é\\\"\\\\\\n\\t,]\"]", &[0], "[é\"\\\n\t,]", 0),
+];
+
 #[test]
-fn refusals_name_their_place(rt: HostRuntime) -> Result<(), Fail> {
-    let alloc = rt.alloc();
-    let rows: [(&[u8], BracketFault); 17] = [
-        (b"\xff", BracketFault::NotUtf8(0)),
-        (b"a]\xc3", BracketFault::NotUtf8(2)),
-        (b"a[\"\xe2\x82\"]", BracketFault::NotUtf8(3)),
-        (b"a]", BracketFault::Unexpected(1)),
-        (b"a,b", BracketFault::Unexpected(1)),
-        (b"a b", BracketFault::Unexpected(2)),
-        (b"a[b] c", BracketFault::Unexpected(5)),
-        (b"a[b,]", BracketFault::Unexpected(4)),
-        (b"a[,b]", BracketFault::Unexpected(2)),
-        (b"[a]", BracketFault::Unexpected(0)),
-        (b"a[b][c]", BracketFault::Unexpected(4)),
-        (b"a\"b\"", BracketFault::Unexpected(1)),
-        (b"\"a\"b", BracketFault::Unexpected(3)),
-        (b"\"a\"\xc3\xa9", BracketFault::Unexpected(3)),
-        (b"a[\"\\x\"]", BracketFault::Unexpected(4)),
-        (b"a[\"\xc3\xa9\\\xc3\xa9\"]", BracketFault::Unexpected(6)),
-        (b"a!", BracketFault::Unexpected(1)),
-    ];
-    for (text, fault) in rows {
-        assert!(rt; is_refused(alloc, text, fault));
+fn accepted_texts_have_their_shape(rt: HostRuntime) {
+    for (text, steps, label, count) in SHAPES {
+        assert!(rt; stands_at(rt.alloc(), text, steps, label, *count) == Ok(true));
     }
-    Ok(())
 }
 
 #[test]
-fn each_proper_front_ends_too_early(rt: HostRuntime) -> Result<(), Fail> {
-    let alloc = rt.alloc();
+fn each_proper_front_ends_too_early(rt: HostRuntime) {
     let text = b" a [ b , \"c\\\"\\n\" [ ] , d[e,f] ]";
     for end in 0..text.len() {
         // Its first label alone is a text too.
         let is_text = end == 2 || end == 3;
-        assert!(rt; is_text || is_refused(alloc, &text[..end], BracketFault::Ends));
+        assert!(rt; is_text || comes_to(rt.alloc(), &text[..end], Err(Ends)));
     }
-    assert!(rt; read_tree(alloc, text).is_ok());
+}
+
+// Why the text of these parts is refused, if it is no tree.
+fn refusal(alloc: Global, parts: &Parts, times: usize) -> Result<(), BracketFault> {
+    let _tree = read_tree(alloc, &made(alloc, parts, times)?)?;
     Ok(())
 }
 
-// Adds a piece so many times.
-fn push_times(text: &mut Vec<u8>, piece: &[u8], count: usize) -> Result<(), AllocError> {
-    for _ in 0..count {
-        text.extend_from_slice(piece)?;
-    }
-    Ok(())
-}
-
-// A text with so many levels above a piece.
-fn nested(alloc: Global, levels: usize, piece: &[u8]) -> Result<Vec<u8>, AllocError> {
-    let mut text = Vec::new(alloc);
-    push_times(&mut text, b"a[", levels)?;
-    text.extend_from_slice(piece)?;
-    push_times(&mut text, b"]", levels)?;
-    Ok(text)
-}
+// Pieces below so many levels, each with its refusal, if it has one.
+const NESTED: &[(usize, Parts, Result<(), BracketFault>)] = &[
+    (199, [b"", b"a[", b"a", b"]", b""], Ok(())),
+    (200, [b"", b"a[", b" ", b"]", b""], Ok(())),
+    (200, [b"", b"a[", b"a", b"]", b""], Err(TooDeep(400))),
+    (200, [b"", b"a[", b" \"b\"", b"]", b""], Err(TooDeep(401))),
+    (200, [b"", b"a[", b"\xc3\xa9", b"]", b""], Err(TooDeep(400))),
+    (200, [b"", b"a[", b"\"\\x\"", b"]", b""], Err(TooDeep(400))),
+    (200, [b"", b"a[", b"\"", b"]", b""], Err(TooDeep(400))),
+    (200, [b"", b"a[", b",", b"]", b""], Err(Unexpected(400))),
+];
 
 #[test]
-fn no_more_levels_than_the_limit(rt: HostRuntime) -> Result<(), Fail> {
-    let alloc = rt.alloc();
-    assert!(rt; read_tree(alloc, &nested(alloc, 199, b"a")?).is_ok());
-    assert!(rt; read_tree(alloc, &nested(alloc, 200, b" ")?).is_ok());
-    let rows: [(&[u8], BracketFault); 6] = [
-        (b"a", BracketFault::TooDeep(400)),
-        (b" \"b\"", BracketFault::TooDeep(401)),
-        (b"\xc3\xa9", BracketFault::TooDeep(400)),
-        (b"\"\\x\"", BracketFault::TooDeep(400)),
-        (b"\"", BracketFault::TooDeep(400)),
-        (b",", BracketFault::Unexpected(400)),
-    ];
-    for (piece, fault) in rows {
-        assert!(rt; is_refused(alloc, &nested(alloc, 200, piece)?, fault));
+fn no_more_levels_than_the_limit(rt: HostRuntime) {
+    for (levels, parts, wanted) in NESTED {
+        assert!(rt; refusal(rt.alloc(), parts, *levels) == *wanted);
     }
-    Ok(())
 }

@@ -4,180 +4,225 @@ use mix_tree::{
     keys_in_force, label_cmp, push_quoted, read_label, same_label, write_label,
 };
 use std::alloc::{AllocError, Global};
-use std::test::Fail;
+
+// Whether a label has these bytes.
+pub fn is_label(label: &Label, text: &str) -> bool {
+    label.bytes() == text.as_bytes()
+}
 
 // A label of a text.
-fn label(alloc: Global, text: &str) -> Result<Label, AllocError> {
+pub fn label(alloc: Global, text: &str) -> Result<Label, AllocError> {
     Label::of_text(alloc, text.as_bytes())
 }
 
-#[test]
-fn labels_are_texts(rt: HostRuntime) -> Result<(), Fail> {
-    let alloc = rt.alloc();
-    assert!(rt; Label::new(alloc, b"\xff")?.is_none());
-    let texts = [
-        "",
-        "home",
-        "fourteen_bytes",
-        "fifteen___bytes",
-        "La Jolla über alles",
-    ];
-    for text in texts {
-        let label = Label::new(alloc, text.as_bytes())?.ok_or("not UTF-8")?;
-        assert_eq!(rt; label.bytes(), text.as_bytes());
-        assert!(rt; same_label(&label, &label.copy(alloc)?));
-        assert!(rt; label.cmp(&label.copy(alloc)?).is_eq());
-    }
-    assert!(rt; label(alloc, "10")? < label(alloc, "9")?);
-    assert!(rt; label(alloc, "a")? != label(alloc, "b")?);
-    Ok(())
+// Whether the label of a text has its bytes, and a copy is the same; `None` where there is no label.
+fn is_kept(alloc: Global, text: &[u8]) -> Result<Option<bool>, AllocError> {
+    let Some(label) = Label::new(alloc, text)? else {
+        return Ok(None);
+    };
+    let copy = label.copy(alloc)?;
+    let is_same = same_label(&label, &copy) && label.cmp(&copy).is_eq();
+    Ok(Some(label.bytes() == text && is_same))
+}
+
+// Texts, with whether they are kept, if they are labels.
+const LABELS: &[(&[u8], Option<bool>)] = &[
+    (b"\xff", None),
+    (b"", Some(true)),
+    (b"home", Some(true)),
+    (b"fourteen_bytes", Some(true)),
+    (b"fifteen___bytes", Some(true)),
+    (b"La Jolla \xc3\xbcber alles", Some(true)),
+];
+
+// Whether the labels of two texts ascend by their bytes, and differ.
+fn ascend(alloc: Global, first: &str, second: &str) -> Result<bool, AllocError> {
+    let (first, second) = (label(alloc, first)?, label(alloc, second)?);
+    Ok(first < second && first != second)
 }
 
 #[test]
-fn labels_are_spelled_bare_or_quoted(rt: HostRuntime) -> Result<(), Fail> {
-    let alloc = rt.alloc();
-    let spellings = [
-        ("home", "home"),
-        ("-7", "-7"),
-        ("été", "été"),
-        ("", "\"\""),
-        ("La Jolla", "\"La Jolla\""),
-        ("a\"b\\c\nd\te\rf", "\"a\\\"b\\\\c\\nd\\te\rf\""),
-        ("a[b", "\"a[b\""),
-    ];
-    for (text, spelling) in spellings {
-        let written = write_label(alloc, &label(alloc, text)?)?;
-        assert_eq!(rt; written.as_slice(), spelling.as_bytes());
+fn labels_are_texts(rt: HostRuntime) {
+    for (text, wanted) in LABELS {
+        assert!(rt; is_kept(rt.alloc(), text) == Ok(*wanted));
     }
+    assert!(rt; ascend(rt.alloc(), "10", "9") == Ok(true));
+    assert!(rt; ascend(rt.alloc(), "a", "b") == Ok(true));
+}
+
+// Whether a label is spelled so.
+fn is_written(alloc: Global, text: &str, spelling: &str) -> Result<bool, AllocError> {
+    let label = label(alloc, text)?;
+    Ok(write_label(alloc, &label)?.as_slice() == spelling.as_bytes())
+}
+
+// Whether a label is spelled so in quotes.
+fn is_quoted(alloc: Global, text: &str, spelling: &str) -> Result<bool, AllocError> {
+    let label = label(alloc, text)?;
     let mut out = Vec::new(alloc);
-    push_quoted(&mut out, &label(alloc, "home")?)?;
-    assert_eq!(rt; out.as_slice(), b"\"home\"".as_slice());
-    Ok(())
+    push_quoted(&mut out, &label)?;
+    Ok(out.as_slice() == spelling.as_bytes())
 }
 
-// What stands at a place of a text.
-fn read(alloc: Global, text: &str, from: usize) -> Result<LabelRead, Fail> {
-    if from > text.len() {
-        return Err("no such place".into());
-    }
-    Ok(read_label(alloc, text.as_bytes(), from)?)
-}
-
-// The label that is spelled at a place of a text, and the place behind it.
-fn spelled(alloc: Global, text: &str, from: usize) -> Result<(Label, usize), Fail> {
-    match read(alloc, text, from)? {
-        LabelRead::Got { label, end } => Ok((label, end)),
-        LabelRead::Unexpected(_) | LabelRead::Ends => Err("no label".into()),
-    }
-}
+// Labels, each with its spelling.
+const SPELLINGS: &[(&str, &str)] = &[
+    ("home", "home"),
+    ("-7", "-7"),
+    ("été", "été"),
+    ("", "\"\""),
+    ("La Jolla", "\"La Jolla\""),
+    ("a\"b\\c\nd\te\rf", "\"a\\\"b\\\\c\\nd\\te\rf\""),
+    ("a[b", "\"a[b\""),
+];
 
 #[test]
-fn labels_are_read_as_they_are_spelled(rt: HostRuntime) -> Result<(), Fail> {
-    let alloc = rt.alloc();
-    let rows = [
-        ("home", 0, "home", 4),
-        ("a[b]", 2, "b", 3),
-        ("été,", 0, "été", 5),
-        ("\"\"a", 0, "", 2),
-        ("\"La Jolla\"", 0, "La Jolla", 10),
-        ("\"é\\\"\\\\\\n\\té\" ", 0, "é\"\\\n\té", 14),
-    ];
-    for (text, from, label, end) in rows {
-        let read = spelled(alloc, text, from)?;
-        assert_eq!(rt; read.0.bytes(), label.as_bytes());
-        assert_eq!(rt; read.1, end);
+fn labels_are_spelled_bare_or_quoted(rt: HostRuntime) {
+    for (text, spelling) in SPELLINGS {
+        assert!(rt; is_written(rt.alloc(), text, spelling) == Ok(true));
+    }
+    assert!(rt; is_quoted(rt.alloc(), "home", "\"home\"") == Ok(true));
+}
+
+// A label with the place behind its spelling; or the byte that does not fit, if the text does not end there.
+type Spelled = Result<(&'static str, usize), Option<usize>>;
+
+// Whether this is what stands at a place of a text.
+fn stands_at(alloc: Global, text: &str, from: usize, wanted: Spelled) -> Result<bool, AllocError> {
+    if from > text.len() {
+        return Ok(false);
+    }
+    match read_label(alloc, text.as_bytes(), from)? {
+        LabelRead::Got { label, end } => match wanted {
+            Ok((text, at)) => Ok(is_label(&label, text) && end == at),
+            Err(_) => Ok(false),
+        },
+        LabelRead::Unexpected(at) => Ok(wanted == Err(Some(at))),
+        LabelRead::Ends => Ok(wanted == Err(None)),
+    }
+}
+
+// Texts and places, each with what stands there.
+const SPELLED: &[(&str, usize, Spelled)] = &[
+    ("home", 0, Ok(("home", 4))),
+    ("a[b]", 2, Ok(("b", 3))),
+    ("été,", 0, Ok(("été", 5))),
+    ("\"\"a", 0, Ok(("", 2))),
+    ("\"La Jolla\"", 0, Ok(("La Jolla", 10))),
+    ("\"é\\\"\\\\\\n\\té\" ", 0, Ok(("é\"\\\n\té", 14))),
+    ("", 0, Err(None)),
+    ("a", 1, Err(None)),
+    ("\"a", 0, Err(None)),
+    ("\"a\\", 0, Err(None)),
+    (" a", 0, Err(Some(0))),
+    ("a[b]", 1, Err(Some(1))),
+    ("\"é\\é\"", 0, Err(Some(4))),
+    ("\"\\n\\x\"", 0, Err(Some(4))),
+    ("é", 1, Err(Some(1))),
+];
+
+#[test]
+fn labels_are_read_as_they_are_spelled(rt: HostRuntime) {
+    for (text, from, wanted) in SPELLED {
+        assert!(rt; stands_at(rt.alloc(), text, *from, *wanted) == Ok(true));
     }
     assert!(rt; begins_label(b'a') && begins_label(b'"') && !begins_label(b'['));
-    Ok(())
 }
 
-// Where no label is spelled: the byte that does not fit, or none where the text ends.
-fn stop(alloc: Global, text: &str, from: usize) -> Result<Option<usize>, Fail> {
-    match read(alloc, text, from)? {
-        LabelRead::Got { .. } => Err("a label".into()),
-        LabelRead::Unexpected(at) => Ok(Some(at)),
-        LabelRead::Ends => Ok(None),
+// A tree of these kids.
+fn tree(alloc: Global, text: &str, kids: Vec<Tree>) -> Result<Tree, AllocError> {
+    Ok(Tree::new(label(alloc, text)?, kids))
+}
+
+// The tree `a[b[c],d]`.
+fn small_tree(alloc: Global) -> Result<Tree, AllocError> {
+    let leaf = tree(alloc, "c", Vec::new(alloc))?;
+    let left = tree(alloc, "b", vec![in alloc; leaf]?)?;
+    let right = tree(alloc, "d", Vec::new(alloc))?;
+    tree(alloc, "a", vec![in alloc; left, right]?)
+}
+
+// Whether the steps lead to a leaf with this label, or nowhere.
+fn leads_to(tree: &Tree, place: &Place, leaf: Option<&str>) -> bool {
+    match (tree.at(place), leaf) {
+        (Some(found), Some(leaf)) => is_label(found.label(), leaf) && found.kids().is_empty(),
+        (None, None) => true,
+        _ => false,
     }
 }
 
+// Whether these steps in the small tree lead to a leaf with this label, or nowhere.
+fn steps_lead_to(alloc: Global, steps: &[u64], leaf: Option<&str>) -> Result<bool, AllocError> {
+    let place = Place::new(Vec::from_slice(alloc, steps)?);
+    let tree = small_tree(alloc)?;
+    Ok(tree.kid(2).is_none() && leads_to(&tree, &place, leaf))
+}
+
+// Steps, each with the leaf that they lead to, if they do.
+const STEPS: &[(&[u64], Option<&str>)] = &[
+    (&[0, 0], Some("c")),
+    (&[1], Some("d")),
+    (&[1, 0], None),
+];
+
 #[test]
-fn other_texts_stop_where_no_label_goes_on(rt: HostRuntime) -> Result<(), Fail> {
-    let alloc = rt.alloc();
-    let rows = [
-        ("", 0, None),
-        ("a", 1, None),
-        ("\"a", 0, None),
-        ("\"a\\", 0, None),
-        (" a", 0, Some(0)),
-        ("a[b]", 1, Some(1)),
-        ("\"é\\é\"", 0, Some(4)),
-        ("\"\\n\\x\"", 0, Some(4)),
-        ("é", 1, Some(1)),
-    ];
-    for (text, from, at) in rows {
-        assert_eq!(rt; stop(alloc, text, from)?, at);
+fn a_place_leads_to_a_subtree(rt: HostRuntime) {
+    for (steps, leaf) in STEPS {
+        assert!(rt; steps_lead_to(rt.alloc(), steps, *leaf) == Ok(true));
     }
-    Ok(())
+}
+
+// Labels in ascending order.
+const ASCENDING: &[&str] = &[
+    "-999999999999999999",
+    "-3",
+    "-0",
+    "0",
+    "9",
+    "010",
+    "10",
+    "999999999999999999",
+    "",
+    "+1",
+    "-",
+    "1000000000000000000",
+    "x",
+];
+
+// Whether two labels stand as their numbers in the table do.
+fn stand_as(alloc: Global, a: (usize, &str), b: (usize, &str)) -> Result<bool, AllocError> {
+    let (first, second) = (label(alloc, a.1)?, label(alloc, b.1)?);
+    Ok(
+        label_cmp(&first, &second) == a.0.cmp(&b.0)
+            && TestOp::Ge.holds(&first, &second) == (a.0 >= b.0)
+            && TestOp::Ne.holds(&first, &second) == (a.0 != b.0),
+    )
 }
 
 #[test]
-fn a_place_leads_to_a_subtree(rt: HostRuntime) -> Result<(), Fail> {
-    let alloc = rt.alloc();
-    let leaf = Tree::new(label(alloc, "c")?, Vec::new(alloc));
-    let left = Tree::new(label(alloc, "b")?, vec![in alloc; leaf]?);
-    let right = Tree::new(label(alloc, "d")?, Vec::new(alloc));
-    let tree = Tree::new(label(alloc, "a")?, vec![in alloc; left, right]?);
-    let found = tree
-        .at(&Place::new(vec![in alloc; 0, 0]?))
-        .ok_or("no tree")?;
-    assert_eq!(rt; found.label().bytes(), b"c".as_slice());
-    let found = tree.at(&Place::new(vec![in alloc; 1]?)).ok_or("no tree")?;
-    assert_eq!(rt; found.label().bytes(), b"d".as_slice());
-    assert!(rt; found.kids().is_empty());
-    assert!(rt; tree.at(&Place::new(vec![in alloc; 1, 0]?)).is_none());
-    assert!(rt; tree.kid(2).is_none());
-    Ok(())
-}
-
-#[test]
-fn numerals_stand_before_other_labels(rt: HostRuntime) -> Result<(), Fail> {
-    let alloc = rt.alloc();
-    let ascending = [
-        "-999999999999999999",
-        "-3",
-        "-0",
-        "0",
-        "9",
-        "010",
-        "10",
-        "999999999999999999",
-        "",
-        "+1",
-        "-",
-        "1000000000000000000",
-        "x",
-    ];
-    for (i, text) in ascending.iter().enumerate() {
-        for (j, other) in ascending.iter().enumerate() {
-            let (a, b) = (label(alloc, text)?, label(alloc, other)?);
-            assert_eq!(rt; label_cmp(&a, &b), i.cmp(&j));
-            assert_eq!(rt; TestOp::Ge.holds(&a, &b), i >= j);
-            assert_eq!(rt; TestOp::Ne.holds(&a, &b), i != j);
+fn numerals_stand_before_other_labels(rt: HostRuntime) {
+    for (i, text) in ASCENDING.iter().enumerate() {
+        for (j, other) in ASCENDING.iter().enumerate() {
+            assert!(rt; stand_as(rt.alloc(), (i, text), (j, other)) == Ok(true));
         }
     }
-    Ok(())
+}
+
+// Whether a node in force gives its label too.
+fn node_gives_its_label(alloc: Global) -> Result<bool, AllocError> {
+    let (x, y) = (Var::new(0), Var::new(1));
+    let own = [Key::LabelOf(x), Key::Node(y), Key::Node(x)];
+    let force = keys_in_force(alloc, &[Key::Node(x)], &own)?;
+    Ok(
+        force.len() == 3
+            && key_stands(&force, &Key::LabelOf(y))
+            && !key_stands(&[Key::LabelOf(x)], &Key::Node(x))
+            && item_collects(&[Key::Node(x)], &own)
+            && !item_collects(&force, &own)
+            && x.number() == 0,
+    )
 }
 
 #[test]
-fn a_node_in_force_gives_its_label(rt: HostRuntime) -> Result<(), Fail> {
-    let (x, y) = (Var::new(0), Var::new(1));
-    let own = [Key::LabelOf(x), Key::Node(y), Key::Node(x)];
-    let force = keys_in_force(rt.alloc(), &[Key::Node(x)], &own)?;
-    assert_eq!(rt; force.len(), 3);
-    assert!(rt; key_stands(&force, &Key::LabelOf(y)));
-    assert!(rt; !key_stands(&[Key::LabelOf(x)], &Key::Node(x)));
-    assert!(rt; item_collects(&[Key::Node(x)], &own));
-    assert!(rt; !item_collects(&force, &own));
-    assert_eq!(rt; x.number(), 0);
-    Ok(())
+fn a_node_in_force_gives_its_label(rt: HostRuntime) {
+    assert!(rt; node_gives_its_label(rt.alloc()) == Ok(true));
 }

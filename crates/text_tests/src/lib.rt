@@ -8,6 +8,8 @@ mod catalogs;
 #[cfg(test)]
 mod labels;
 #[cfg(test)]
+mod made;
+#[cfg(test)]
 mod paths;
 #[cfg(test)]
 mod rules;

@@ -1,121 +1,126 @@
 // What the contracts leave to tests: that texts are read, and trees worked out by hand.
-use mix_tree::Label;
-use std::alloc::{AllocError, Global};
-use std::test::Fail;
+use crate::labels::is_label;
+use crate::made::{Parts, made};
+use std::alloc::Global;
 use xmas_text::TextFault::{EndsEarly, NotUtf8, TooDeep, Unexpected};
 use xmas_text::{
-    Comparison, CondText, GroupText, ItemText, KeyText, OperandText, PathLimit, RuleText,
-    TextFault, VarText, no_text_spells_two_rules, parse_rule,
+    Comparison, CondText, ElementText, GroupText, ItemText, KeyText, OperandText, OrderText,
+    PathLimit, TextFault, VarText, no_text_spells_two_rules, parse_rule,
 };
 
-// Whether a text is read.
-fn is_read(alloc: Global, text: &str) -> bool {
-    parse_rule(alloc, text.as_bytes()).is_ok()
-}
-
-#[test]
-fn texts_of_the_grammar_are_read(rt: HostRuntime) -> Result<(), Fail> {
-    let alloc = rt.alloc();
-    let rows = [
-        "CONSTRUCT <answer> <med_home> $H $S {$S} </med_home> {$H} </answer> {} WHERE homes homes.home $H AND $H zip._ $V1 AND schools schools.school $S AND $S zip._ $V2 AND $V1 = $V2",
-        "CONSTRUCT <a></a> WHERE s a $X",
-        "\t\r\nCONSTRUCT\n<a>\"x\"</a>{}\nWHERE s a $X\n",
-        "CONSTRUCT <a> label $X {label $X,$Y} <b></c> $label </a> WHERE WHERE AND $X AND $X (a|\"b c\")*.d? $Y",
-        "CONSTRUCT <a> $X { } </a> WHERE s a $X AND $X!=\"\\\"é\" AND $X<=$X AND $X<$X AND $X>=\"\" ORDER BY $X DESC ",
-        "CONSTRUCT <a> $X </a> WHERE s a $X AND $X a $ORDER ORDER BY $ORDER",
-        "CONSTRUCT <names> <p> $N </p> {$R,$N} </names> {} WHERE people people.row $R AND $R name._ $N",
-        "CONSTRUCT <r> $X </r> WHERE s (a|c)*.(c|a.c) $X",
-        "CONSTRUCT <o> $X </o> WHERE s l._ $X AND $X < \"10\"",
-        "CONSTRUCT <o> <g> label $Z <m> $H </m> {$H} </g> {label $Z} </o> WHERE homes homes.home $H AND $H zip._ $Z",
-        "CONSTRUCT <a> <b> \"x y\" </b> </a> WHERE s q $X",
-        "CONSTRUCT <a> $X </b> WHERE s a $Y",
-    ];
-    for text in rows {
-        assert!(rt; is_read(alloc, text));
-    }
-    no_text_spells_two_rules();
+// Why a text is refused, if it is no rule.
+fn refusal(alloc: Global, text: &[u8]) -> Result<(), TextFault> {
+    let _rule = parse_rule(alloc, text)?;
     Ok(())
 }
 
-// Whether a text is refused so.
-fn is_refused(alloc: Global, text: &[u8], wanted: TextFault) -> bool {
-    match parse_rule(alloc, text) {
-        Ok(_) => false,
-        Err(fault) => fault == wanted,
+// Texts that are rules, and others, each with its refusal.
+const TEXTS: &[(&[u8], Result<(), TextFault>)] = &[
+    (
+        b"CONSTRUCT <answer> <med_home> $H $S {$S} </med_home> {$H} </answer> {} WHERE homes homes.home $H AND $H zip._ $V1 AND schools schools.school $S AND $S zip._ $V2 AND $V1 = $V2",
+        Ok(()),
+    ),
+    (b"CONSTRUCT <a></a> WHERE s a $X", Ok(())),
+    (b"\t\r\nCONSTRUCT\n<a>\"x\"</a>{}\nWHERE s a $X\n", Ok(())),
+    (
+        b"CONSTRUCT <a> label $X {label $X,$Y} <b></c> $label </a> WHERE WHERE AND $X AND $X (a|\"b c\")*.d? $Y",
+        Ok(()),
+    ),
+    (
+        b"CONSTRUCT <a> $X { } </a> WHERE s a $X AND $X!=\"\\\"\xc3\xa9\" AND $X<=$X AND $X<$X AND $X>=\"\" ORDER BY $X DESC ",
+        Ok(()),
+    ),
+    (
+        b"CONSTRUCT <a> $X </a> WHERE s a $X AND $X a $ORDER ORDER BY $ORDER",
+        Ok(()),
+    ),
+    (
+        b"CONSTRUCT <names> <p> $N </p> {$R,$N} </names> {} WHERE people people.row $R AND $R name._ $N",
+        Ok(()),
+    ),
+    (b"CONSTRUCT <r> $X </r> WHERE s (a|c)*.(c|a.c) $X", Ok(())),
+    (
+        b"CONSTRUCT <o> $X </o> WHERE s l._ $X AND $X < \"10\"",
+        Ok(()),
+    ),
+    (
+        b"CONSTRUCT <o> <g> label $Z <m> $H </m> {$H} </g> {label $Z} </o> WHERE homes homes.home $H AND $H zip._ $Z",
+        Ok(()),
+    ),
+    (b"CONSTRUCT <a> <b> \"x y\" </b> </a> WHERE s q $X", Ok(())),
+    (b"CONSTRUCT <a> $X </b> WHERE s a $Y", Ok(())),
+    (b"", Err(EndsEarly)),
+    (b" CONSTR", Err(EndsEarly)),
+    (b"CONSTRUCT <a>", Err(EndsEarly)),
+    (b"CONSTRUCT <a></a> WHERE s a $", Err(EndsEarly)),
+    (b"CONSTRUCT <a></a> WHERE s a", Err(EndsEarly)),
+    (b"CONSTRUCT <a></a> WHERE s a $X AND", Err(EndsEarly)),
+    (b"CONSTRUCT <a></a> WHERE s a $X ORDER BY", Err(EndsEarly)),
+    (b"CONSTRUCT<a></a>", Err(Unexpected(9))),
+    (b"construct", Err(Unexpected(0))),
+    (b"CONSTRUCT <a>$X$Y", Err(Unexpected(15))),
+    (b"CONSTRUCT <a></ a>", Err(Unexpected(15))),
+    (b"CONSTRUCT <a> $X {$X $Y}", Err(Unexpected(21))),
+    (b"CONSTRUCT <a> \"x\" {", Err(Unexpected(18))),
+    (b"CONSTRUCT <a> \"\xc3\xa9\\\xc3\xa9", Err(Unexpected(18))),
+    (b"CONSTRUCT <a></a> {} {", Err(Unexpected(21))),
+    (b"CONSTRUCT <a></a> WHERE s a..b", Err(Unexpected(28))),
+    (b"CONSTRUCT <a></a> WHERE s = $X", Err(Unexpected(26))),
+    (b"CONSTRUCT <a></a> WHERE $X ! = $Y", Err(Unexpected(28))),
+    (b"CONSTRUCT <a></a> WHERE s a $X and", Err(Unexpected(31))),
+    (
+        b"CONSTRUCT <a></a> WHERE s a $X \xc3\xa9",
+        Err(Unexpected(31)),
+    ),
+    (
+        b"CONSTRUCT <a></a> WHERE s a $X ORDER BY $X DESC AND",
+        Err(Unexpected(48)),
+    ),
+    (b"CONSTRUCT <a>$ \"\xff", Err(NotUtf8(16))),
+];
+
+#[test]
+fn texts_are_read_or_refused_at_their_place(rt: HostRuntime) {
+    for (text, wanted) in TEXTS {
+        assert!(rt; refusal(rt.alloc(), text) == *wanted);
     }
+    no_text_spells_two_rules();
 }
 
-// Texts that are no rules, each with its refusal.
-const REFUSED: [(&str, TextFault); 21] = [
-    ("", EndsEarly),
-    (" CONSTR", EndsEarly),
-    ("CONSTRUCT <a>", EndsEarly),
-    ("CONSTRUCT <a></a> WHERE s a $", EndsEarly),
-    ("CONSTRUCT <a></a> WHERE s a", EndsEarly),
-    ("CONSTRUCT <a></a> WHERE s a $X AND", EndsEarly),
-    ("CONSTRUCT <a></a> WHERE s a $X ORDER BY", EndsEarly),
-    ("CONSTRUCT<a></a>", Unexpected(9)),
-    ("construct", Unexpected(0)),
-    ("CONSTRUCT <a>$X$Y", Unexpected(15)),
-    ("CONSTRUCT <a></ a>", Unexpected(15)),
-    ("CONSTRUCT <a> $X {$X $Y}", Unexpected(21)),
-    ("CONSTRUCT <a> \"x\" {", Unexpected(18)),
-    ("CONSTRUCT <a> \"é\\é", Unexpected(18)),
-    ("CONSTRUCT <a></a> {} {", Unexpected(21)),
-    ("CONSTRUCT <a></a> WHERE s a..b", Unexpected(28)),
-    ("CONSTRUCT <a></a> WHERE s = $X", Unexpected(26)),
-    ("CONSTRUCT <a></a> WHERE $X ! = $Y", Unexpected(28)),
-    ("CONSTRUCT <a></a> WHERE s a $X and", Unexpected(31)),
-    ("CONSTRUCT <a></a> WHERE s a $X é", Unexpected(31)),
+// Why the text of these parts is refused, if it is no rule.
+fn made_refusal(alloc: Global, parts: &Parts, times: usize) -> Result<(), TextFault> {
+    refusal(alloc, &made(alloc, parts, times)?)
+}
+
+// Parts and how many levels they have, each with its refusal, if it has one.
+const NESTED: &[(Parts, usize, Result<(), TextFault>)] = &[
     (
-        "CONSTRUCT <a></a> WHERE s a $X ORDER BY $X DESC AND",
-        Unexpected(48),
+        [b"CONSTRUCT ", b"<a>", b"", b"</a>", b" WHERE s a $X"],
+        20,
+        Ok(()),
+    ),
+    (
+        [b"CONSTRUCT ", b"<a>", b"", b"</a>", b" WHERE s a $X"],
+        21,
+        Err(TooDeep),
+    ),
+    (
+        [b"CONSTRUCT ", b"<a>", b"", b"</a>", b" WHERE s a $X?"],
+        21,
+        Err(Unexpected(10 + 21 * 7 + 13)),
     ),
 ];
 
 #[test]
-fn refusals_name_their_place(rt: HostRuntime) -> Result<(), Fail> {
-    let alloc = rt.alloc();
-    for (text, wanted) in REFUSED {
-        assert!(rt; is_refused(alloc, text.as_bytes(), wanted));
+fn elements_have_20_levels_at_most(rt: HostRuntime) {
+    for (parts, levels, wanted) in NESTED {
+        assert!(rt; made_refusal(rt.alloc(), parts, *levels) == *wanted);
     }
-    assert!(rt; is_refused(alloc, b"CONSTRUCT <a>$ \"\xff".as_slice(), NotUtf8(16)));
-    Ok(())
-}
-
-// A template of so many levels, and a condition.
-fn nested(alloc: Global, levels: usize) -> Result<Vec<u8>, AllocError> {
-    let mut text = Vec::from_slice(alloc, b"CONSTRUCT ".as_slice())?;
-    for _ in 0..levels {
-        text.extend_from_slice(b"<a>".as_slice())?;
-    }
-    for _ in 0..levels {
-        text.extend_from_slice(b"</a>".as_slice())?;
-    }
-    text.extend_from_slice(b" WHERE s a $X".as_slice())?;
-    Ok(text)
-}
-
-#[test]
-fn elements_have_20_levels_at_most(rt: HostRuntime) -> Result<(), Fail> {
-    let alloc = rt.alloc();
-    let most = nested(alloc, 20)?;
-    assert!(rt; parse_rule(alloc, &most).is_ok());
-    let mut more = nested(alloc, 21)?;
-    assert!(rt; is_refused(alloc, &more, TooDeep));
-    more.push(b'?')?;
-    assert!(rt; is_refused(alloc, &more, Unexpected(10 + 21 * 7 + 13)));
-    Ok(())
 }
 
 // Whether a variable is this one.
 fn is_var(var: &VarText, at: usize, name: &str) -> bool {
     var.at == at && is_label(&var.name, name)
-}
-
-// Whether a label has these bytes.
-fn is_label(label: &Label, text: &str) -> bool {
-    label.bytes() == text.as_bytes()
 }
 
 // Whether a key is that variable, or its label.
@@ -124,13 +129,6 @@ fn is_key(key: &KeyText, at: usize, name: &str, of_label: bool) -> bool {
         KeyText::Node(var) => !of_label && is_var(var, at, name),
         KeyText::LabelOf(var) => of_label && is_var(var, at, name),
     }
-}
-
-// A rule with all kinds of parts.
-fn with_all_parts(alloc: Global) -> Result<RuleText, TextFault> {
-    let text =
-        b"CONSTRUCT <a> $X {$X, label $Y} label $Z{} \"\\n\" <b> </c> {$X} </d> WHERE s x $X AND $X a.b $Y AND $Y<=\"q\" ORDER BY $X DESC";
-    parse_rule(alloc, text.as_slice())
 }
 
 // Whether an item shows this variable, with two keys in its group label.
@@ -172,18 +170,18 @@ fn is_last_item(item: &ItemText) -> bool {
         && element.group.is_some()
 }
 
-#[test]
-fn each_item_has_its_place(rt: HostRuntime) -> Result<(), Fail> {
-    let rule = with_all_parts(rt.alloc())?;
-    let template = &rule.template;
-    assert_eq!(rt; (template.at, template.close_at), (10, 62));
-    assert!(rt; is_label(&template.name, "a") && is_label(&template.close_name, "d"));
-    assert_eq!(rt; template.items.len(), 4);
-    assert!(rt; is_first_item(&template.items[0]));
-    assert!(rt; is_second_item(&template.items[1]));
-    assert!(rt; matches!(&template.items[2], ItemText::Text(label) if is_label(label, "\n")));
-    assert!(rt; is_last_item(&template.items[3]));
-    Ok(())
+// Whether a template has these tags and four items.
+fn is_template(template: &ElementText) -> bool {
+    let [first, second, ItemText::Text(third), last] = template.items.as_slice() else {
+        return false;
+    };
+    (template.at, template.close_at) == (10, 62)
+        && is_label(&template.name, "a")
+        && is_label(&template.close_name, "d")
+        && is_first_item(first)
+        && is_second_item(second)
+        && is_label(third, "\n")
+        && is_last_item(last)
 }
 
 // Whether a condition leads from a source to a variable.
@@ -226,35 +224,60 @@ fn is_third_cond(cond: &CondText) -> bool {
     is_var(left, 98, "Y") && is_label(label, "q")
 }
 
+// Whether there are these three conditions.
+fn are_conds(conds: &[CondText]) -> bool {
+    let [first, second, third] = conds else {
+        return false;
+    };
+    is_first_cond(first) && is_second_cond(second) && is_third_cond(third)
+}
+
+// Whether a rule is ordered so.
+fn is_ordered(order: &Option<OrderText>) -> bool {
+    let Some(order) = order else {
+        return false;
+    };
+    order.desc && is_var(&order.var, 115, "X")
+}
+
+// Whether all parts of a text have their places.
+fn has_its_parts(alloc: Global, text: &[u8]) -> Result<bool, TextFault> {
+    let rule = parse_rule(alloc, text)?;
+    Ok(is_template(&rule.template) && are_conds(&rule.conds) && is_ordered(&rule.order))
+}
+
+// A rule with all kinds of parts.
+const ALL_PARTS: &[u8] =
+    b"CONSTRUCT <a> $X {$X, label $Y} label $Z{} \"\\n\" <b> </c> {$X} </d> WHERE s x $X AND $X a.b $Y AND $Y<=\"q\" ORDER BY $X DESC";
+
 #[test]
-fn each_condition_has_its_place(rt: HostRuntime) -> Result<(), Fail> {
-    let RuleText {
-        template: _,
+fn each_part_has_its_place(rt: HostRuntime) {
+    assert!(rt; has_its_parts(rt.alloc(), ALL_PARTS) == Ok(true));
+}
+
+// Whether there is one condition, whose path has too many positions.
+fn pass_positions(conds: &[CondText]) -> bool {
+    matches!(
         conds,
-        order,
-    } = with_all_parts(rt.alloc())?;
-    assert_eq!(rt; conds.len(), 3);
-    assert!(rt; is_first_cond(&conds[0]));
-    assert!(rt; is_second_cond(&conds[1]));
-    assert!(rt; is_third_cond(&conds[2]));
-    let order = order.ok_or("no order")?;
-    assert!(rt; order.desc && is_var(&order.var, 115, "X"));
-    Ok(())
+        [CondText::FromSource {
+            path: Err(PathLimit::Positions),
+            ..
+        }]
+    )
+}
+
+// Whether the one condition of a text has a path with too many positions.
+fn passes_positions(alloc: Global, text: &[u8]) -> Result<bool, TextFault> {
+    Ok(pass_positions(&parse_rule(alloc, text)?.conds))
+}
+
+// Whether a rule with so many more positions passes the limit of a path.
+fn passes_limit(alloc: Global, more: usize) -> Result<bool, TextFault> {
+    let parts: Parts = [b"CONSTRUCT <a></a> WHERE s _", b"._", b" $X", b"", b""];
+    passes_positions(alloc, &made(alloc, &parts, more)?)
 }
 
 #[test]
-fn a_path_may_pass_its_limits(rt: HostRuntime) -> Result<(), Fail> {
-    let alloc = rt.alloc();
-    let mut text = Vec::from_slice(alloc, b"CONSTRUCT <a></a> WHERE s _".as_slice())?;
-    for _ in 0..120 {
-        text.extend_from_slice(b"._".as_slice())?;
-    }
-    text.extend_from_slice(b" $X".as_slice())?;
-    let rule = parse_rule(alloc, &text)?;
-    assert_eq!(rt; rule.conds.len(), 1);
-    let CondText::FromSource { path, .. } = &rule.conds[0] else {
-        return Err("the condition is of no source".into());
-    };
-    assert!(rt; matches!(path, Err(PathLimit::Positions)));
-    Ok(())
+fn a_path_may_pass_its_limits(rt: HostRuntime) {
+    assert!(rt; passes_limit(rt.alloc(), 120) == Ok(true));
 }

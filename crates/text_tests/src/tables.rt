@@ -1,118 +1,153 @@
 // Lines of tables in a catalog: that calls succeed, and values worked out by hand.
-use crate::catalogs::{Row, check, columns, count};
-use mix_catalog::CatalogFault::{Chunk, ColumnTwice, Columns, Line, NameTwice};
-use mix_catalog::{SourceKind, read_catalog};
-use std::test::Fail;
+use crate::catalogs::{Row, count};
+use crate::labels::is_label;
+use mix_catalog::CatalogFault::{Chunk, ColumnTwice, Line, NameTwice};
+use mix_catalog::{Column, SourceKind, SourceSpec};
 
-#[test]
-fn lines_are_of_the_table_form(rt: HostRuntime) {
-    let texts: [&[u8]; 5] = [
+// Lines of the table form.
+const TABLES: &[Row] = &[
+    (
         b"source p table f people key id columns name,zip! chunk 2",
+        Ok(1),
+    ),
+    (
         b"\tsource  p table \"my f\"  people\tkey id columns  a!,_b1,C chunk 007 \r\n",
-        b"source p table \"\" _ key _ columns _! chunk 1000",
+        Ok(1),
+    ),
+    (b"source p table \"\" _ key _ columns _! chunk 1000", Ok(1)),
+    (
         b"source p table f key key key columns key,columns,chunk chunk 1",
-        b"source p table f t key a columns a,A chunk 1",
-    ];
-    for text in texts {
-        assert_eq!(rt; count(rt.alloc(), text), Ok(1));
-    }
-}
+        Ok(1),
+    ),
+    (b"source p table f t key a columns a,A chunk 1", Ok(1)),
+];
 
-#[test]
-fn other_lines_of_tables_fit_no_form(rt: HostRuntime) {
-    let texts: [&[u8]; 23] = [
+// Lines that fit no form.
+const OTHERS: &[Row] = &[
+    (
         b"source p table f t key k columns a chunk 1 deep",
-        b"source p table f t key k columns a",
-        b"source p table f t key k columns chunk 1",
+        Err(Line(1)),
+    ),
+    (b"source p table f t key k columns a", Err(Line(1))),
+    (b"source p table f t key k columns chunk 1", Err(Line(1))),
+    (
         b"source p table f t key k columns a, b chunk 1",
+        Err(Line(1)),
+    ),
+    (
         b"source p table f t key k columns a ,b chunk 1",
+        Err(Line(1)),
+    ),
+    (
         b"source p table f t key k columns a,,b chunk 1",
-        b"source p table f t key k columns a, chunk 1",
-        b"source p table f t key k columns ,a chunk 1",
+        Err(Line(1)),
+    ),
+    (b"source p table f t key k columns a, chunk 1", Err(Line(1))),
+    (b"source p table f t key k columns ,a chunk 1", Err(Line(1))),
+    (
         b"source p table f t key k columns a ! chunk 1",
+        Err(Line(1)),
+    ),
+    (
         b"source p table f t key k columns a!! chunk 1",
-        b"source p table f t key k columns !a chunk 1",
+        Err(Line(1)),
+    ),
+    (b"source p table f t key k columns !a chunk 1", Err(Line(1))),
+    (
         b"source p table f t key k columns a,! chunk 1",
+        Err(Line(1)),
+    ),
+    (
         b"source p table f t key k columns \"a\" chunk 1",
+        Err(Line(1)),
+    ),
+    (
         b"source p table f t key k columns a-b chunk 1",
-        b"source p table f t key k columns 1a chunk 1",
+        Err(Line(1)),
+    ),
+    (b"source p table f t key k columns 1a chunk 1", Err(Line(1))),
+    (
         b"source p table f t key k columns \xc3\xa9 chunk 1",
-        b"source p table f 1t key k columns a chunk 1",
-        b"source p table f t key k! columns a chunk 1",
+        Err(Line(1)),
+    ),
+    (b"source p table f 1t key k columns a chunk 1", Err(Line(1))),
+    (b"source p table f t key k! columns a chunk 1", Err(Line(1))),
+    (
         b"source p table f \"t\" key k columns a chunk 1",
+        Err(Line(1)),
+    ),
+    (
         b"source p table \"f\"t key k columns a chunk 1",
-        b"source p table f t columns a chunk 1",
-        b"source p table f t columns a key k chunk 1",
-        b"source p table t key k columns a chunk 1",
-    ];
-    for text in texts {
-        assert_eq!(rt; count(rt.alloc(), text), Err(Line(1)));
+        Err(Line(1)),
+    ),
+    (b"source p table f t columns a chunk 1", Err(Line(1))),
+    (b"source p table f t columns a key k chunk 1", Err(Line(1))),
+    (b"source p table t key k columns a chunk 1", Err(Line(1))),
+];
+
+// Texts with two faults or one, each with the one that comes first.
+const FAULTS: &[Row] = &[
+    (
+        b"source p table f t key k columns a,a chunk 0",
+        Err(Chunk(1)),
+    ),
+    (
+        b"source p table f t key k columns a chunk 1001",
+        Err(Chunk(1)),
+    ),
+    (
+        b"source p table f t key k columns a,b,a! chunk 1",
+        Err(ColumnTwice(1)),
+    ),
+    (
+        b"source p bracket f chunk 1\nsource p table f t key k columns a!,a! chunk 1",
+        Err(ColumnTwice(2)),
+    ),
+    (
+        b"source p bracket f chunk 1\nsource p table f t key k columns a chunk 1",
+        Err(NameTwice(2)),
+    ),
+];
+
+#[test]
+fn lines_are_of_the_table_form_or_the_first_fault_is_named(rt: HostRuntime) {
+    for rows in [TABLES, OTHERS, FAULTS] {
+        for (text, want) in rows {
+            assert!(rt; count(rt.alloc(), text) == *want);
+        }
     }
 }
 
-#[test]
-fn the_first_fault_of_a_table_is_named(rt: HostRuntime) {
-    let rows: [Row; 5] = [
-        (
-            b"source p table f t key k columns a,a chunk 0",
-            Err(Chunk(1)),
-        ),
-        (
-            b"source p table f t key k columns a chunk 1001",
-            Err(Chunk(1)),
-        ),
-        (
-            b"source p table f t key k columns a,b,a! chunk 1",
-            Err(ColumnTwice(1)),
-        ),
-        (
-            b"source p bracket f chunk 1\nsource p table f t key k columns a!,a! chunk 1",
-            Err(ColumnTwice(2)),
-        ),
-        (
-            b"source p bracket f chunk 1\nsource p table f t key k columns a chunk 1",
-            Err(NameTwice(2)),
-        ),
-    ];
-    check(&rt, rt.alloc(), &rows);
+// Whether a column has this name, and is said never to be NULL or not.
+fn is_column(column: &Column, name: &str, never_null: bool) -> bool {
+    is_label(&column.name, name) && column.never_null == never_null
 }
 
-#[test]
-fn a_table_has_at_most_200_columns(rt: HostRuntime) -> Result<(), Fail> {
-    let alloc = rt.alloc();
-    let front = "source p table f t key k columns a!";
-    for (more, want) in [(199, Ok(1)), (200, Err(Columns(1)))] {
-        let text = columns(alloc, front, more)?;
-        assert_eq!(rt; count(alloc, text.as_bytes()), want);
-    }
-    Ok(())
+// Whether columns are these three.
+fn are_columns(columns: &[Column]) -> bool {
+    let [first, second, third] = columns else {
+        return false;
+    };
+    is_column(first, "name", true)
+        && is_column(second, "zip", false)
+        && is_column(third, "_9", true)
 }
 
-#[test]
-fn a_table_is_kept_as_declared(rt: HostRuntime) -> Result<(), Fail> {
-    let alloc = rt.alloc();
-    let text = b"source p table \"my people.db\" people key id columns name!,zip,_9! chunk 2";
-    let catalog = read_catalog(alloc, text)?;
-    assert_eq!(rt; catalog.len(), 1);
-    let spec = catalog.spec(0);
-    assert_eq!(rt; spec.chunk, 2);
-    assert_eq!(rt; spec.kind.file().bytes(), b"my people.db".as_slice());
+// Whether a source is a table as declared.
+pub fn is_people(source: &SourceSpec) -> bool {
     let SourceKind::Table {
+        file,
         table,
         key,
         columns,
-        ..
-    } = &spec.kind
+    } = &source.kind
     else {
-        panic!(rt; "the source is no table");
+        return false;
     };
-    assert_eq!(rt; table.bytes(), b"people".as_slice());
-    assert_eq!(rt; key.bytes(), b"id".as_slice());
-    let mut told = Vec::new(alloc);
-    for column in columns.as_slice() {
-        told.extend_from_slice(column.name.bytes())?;
-        told.push(if column.never_null { b'!' } else { b'?' })?;
-    }
-    assert_eq!(rt; told.as_slice(), b"name!zip?_9!".as_slice());
-    Ok(())
+    source.chunk == 2
+        && is_label(source.kind.file(), "my people.db")
+        && is_label(file, "my people.db")
+        && is_label(table, "people")
+        && is_label(key, "id")
+        && are_columns(columns.as_slice())
 }
