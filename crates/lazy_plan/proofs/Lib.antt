@@ -7,6 +7,7 @@ pub mod Growing
 pub mod Grown
 pub mod GrowingKeys
 pub mod Holding
+pub mod Inputs
 pub mod Linked
 pub mod Low
 pub mod Matches
