@@ -23,12 +23,16 @@ names_condition = FromVar 0 (two_steps (name (codes "name")) any) 1
 abbrev pub person_element : Element
 person_element = record { label = codes "p"; items = variable whole 1 [] done; keys = Node 0 ∷ Node 1 ∷ [] }
 
--- the rule: one element, in which those are
+-- one element, in which those are
+abbrev pub names_element : Element
+names_element = record { label = codes "names"; items = element person_element.label person_element.items person_element.keys done; keys = [] }
+
+-- the rule
 abbrev pub names_rule : RuleValue
 names_rule = record {
-  label = codes "names";
-  items = element person_element.label person_element.items person_element.keys done;
-  keys = [];
+  label = names_element.label;
+  items = names_element.items;
+  keys = names_element.keys;
   conds = rows_condition ∷ names_condition ∷ [];
   order = None;
   names = codes "R" ∷ codes "N" ∷ [];

@@ -1,9 +1,9 @@
 // The view of many people: their names, an element for each person.
-ghost use Rattle.std.specs.Prelude.{◌≡◌, IfOk, string_bytes};
+ghost use Rattle.std.specs.Prelude.{◌≡◌, ◌∷◌, [], IfOk, codes, string_bytes};
 ghost use Rattle.path_expr.specs.Form.{name, none};
 ghost use Rattle.xmas_rule.specs.RuleMade.{rule_of};
 ghost use Rattle.xmas_rule.specs.Rules.{IsAccepted};
-ghost use Rattle.mix_load.specs.View.{names_rule, names_condition, rows_condition, person_element};
+ghost use Rattle.mix_load.specs.View.{names_rule, names_element, names_condition, rows_condition, person_element};
 
 use mix_tree::{Key, Label, Var};
 use path_expr::{Node, Path};
@@ -66,6 +66,36 @@ fn person_element(alloc: Global) -> Result<Template, AllocError>
     })
 }
 
+// The element in which those of all people are: `<names> .. </names> {}`.
+fn names_element(alloc: Global) -> Result<Template, AllocError>
+    ensures { IfOk result (λ t. t ≡ names_element) }
+{
+    let person = Item::Element(person_element(alloc)?);
+    Ok(Template {
+        label: label(alloc, "names")?,
+        items: vec![in alloc; person]?,
+        keys: Vec::new(alloc),
+    })
+}
+
+// Both conditions.
+fn conditions(alloc: Global) -> Result<Vec<Cond>, AllocError>
+    ensures { IfOk result (λ conds. conds.items ≡ rows_condition ∷ names_condition ∷ []) }
+{
+    let rows = rows_condition(alloc)?;
+    let names = names_condition(alloc)?;
+    Ok(vec![in alloc; rows, names]?)
+}
+
+// The names of the variables.
+fn var_names(alloc: Global) -> Result<Vec<Label>, AllocError>
+    ensures { IfOk result (λ names. names.items ≡ codes "R" ∷ codes "N" ∷ []) }
+{
+    let row = label(alloc, "R")?;
+    let name = label(alloc, "N")?;
+    Ok(vec![in alloc; row, name]?)
+}
+
 /// The view of the names of people:
 /// `CONSTRUCT <names> <p> $N </p> {$R,$N} </names> {} WHERE people people.row $R AND $R name._ $N` over the one source `people`. It fails
 /// where memory runs out.
@@ -73,18 +103,12 @@ pub fn names_rule(alloc: Global) -> Result<Rule, AllocError>
     ensures rule { IfOk result (λ rule. rule_of rule ≡ names_rule) }
     ensures accepted { IfOk result (λ rule. IsAccepted 1 (rule_of rule)) }
 {
-    let person = Item::Element(person_element(alloc)?);
-    let template = Template {
-        label: label(alloc, "names")?,
-        items: vec![in alloc; person]?,
-        keys: Vec::new(alloc),
-    };
-    let rows = rows_condition(alloc)?;
-    let names = names_condition(alloc)?;
+    let template = names_element(alloc)?;
+    let conds = conditions(alloc)?;
     Ok(Rule {
         template,
-        conds: vec![in alloc; rows, names]?,
+        conds,
         order: None,
-        names: vec![in alloc; label(alloc, "R")?, label(alloc, "N")?]?,
+        names: var_names(alloc)?,
     })
 }
