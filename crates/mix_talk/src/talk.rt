@@ -34,14 +34,14 @@ fn answer_read<W: Walker + Drop, S: Sources, K: Sink>(
     alloc: Global,
     s: &mut S,
     session: &mut Session<W>,
-    asked: Asked,
+    asked: &Asked<'_>,
     out: &mut K,
 ) -> Result<bool, LinesFault>
     requires session { IsSession (W.means (S.view s.old) session.old.walker) (held session.old.names) }
-    requires names { (n : ℕ) → (W.means (S.view s.old) session.old.walker).course.MayFail n → n < length asked.names.now }
+    requires names { (n : ℕ) → (W.means (S.view s.old) session.old.walker).course.MayFail n → n < length asked.now.names.now }
     ensures came { S.came_from s.new s.old }
     ensures answered { IsReadAnswered s.old s.new session.old session.new S.view (λ s session. W.means (S.view s) session.walker)
-        (λ session. held session.names) asked.entry.names.now asked.entry.read (K.view out.old) (K.view out.new) result }
+        (λ session. held session.names) asked.now.names.now asked.now.read (K.view out.old) (K.view out.new) result }
     ensures count { (K.view out.old).faults ≤ (K.view out.new).faults }
 {
     match &asked.read {
@@ -79,7 +79,10 @@ fn talk<W: Walker + Drop, S: Sources, I: Input, K: Sink>(
     let mut marked = false;
     'lines: while let Some(read) = reader.next(alloc, &mut streams.input)? {
         let asked = Asked { read, names };
-        let fault = answer_read(alloc, s, &mut session, asked, &mut streams.out)?;
+        let answered = answer_read(alloc, s, &mut session, &asked, &mut streams.out);
+        // It is given to `drop`, so that how its parts are dropped is proved once.
+        drop(asked);
+        let fault = answered?;
         marked |= fault;
     }
     Ok(marked)

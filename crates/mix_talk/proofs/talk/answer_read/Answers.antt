@@ -6,5 +6,5 @@ pub write_line-requires : goal.write_line-requires
 write_line-requires g c =
     let m = g.W.Walker.means (g.S.Sources.view c.args.s.now) c.args.session.now.walker in
     let nodes = c.requires.session.nodes in
-    may_named m.course.roots m.course.MayFail (length c.args.asked.names.now) nodes.0 c.in-Step.step.client c.in-Step.step.act c.in_ok-answer-in-Step.answer c.requires.names
+    may_named m.course.roots m.course.MayFail (length c.args.asked.now.names.now) nodes.0 c.in-Step.step.client c.in-Step.step.act c.in_ok-answer-in-Step.answer c.requires.names
     (c.in_ok-answer-in-Step.ensures.stepped.answer.allowed nodes.0 nodes.1).0

@@ -65,15 +65,15 @@ returns-in_err-read-clause-input g c = omega (arith, c.lines.invariant.inputs, c
 pub returns-in_err-read-clause-count : goal.returns-in_err-read-clause-count
 returns-in_err-read-clause-count g c = c.lines.invariant.count
 
-pub answer_read-requires-clause-session : goal.answer_read-requires-clause-session
-answer_read-requires-clause-session g c = c.lines.invariant.far.session
+pub answer_read-answered-requires-clause-session : goal.answer_read-answered-requires-clause-session
+answer_read-answered-requires-clause-session g c = c.lines.invariant.far.session
 
-pub answer_read-requires-clause-names : goal.answer_read-requires-clause-names
-answer_read-requires-clause-names g c = λ n may.
+pub answer_read-answered-requires-clause-names : goal.answer_read-answered-requires-clause-names
+answer_read-answered-requires-clause-names g c = λ n may.
     c.requires.names n (subst (λ w. (g.W.Walker.means (g.S.Sources.view c.args.s.now) w).course.MayFail n) c.open-session.ensures.walker ((c.lines.invariant.far.so []).course.may n may))
 
 pub returns-in_err-fault-clause-came : goal.returns-in_err-fault-clause-came
-returns-in_err-fault-clause-came g c = g.met.S.Sources.after _ _ _ c.lines.invariant.came c.answer_read.ensures.came
+returns-in_err-fault-clause-came g c = g.met.S.Sources.after _ _ _ c.lines.invariant.came c.answer_read-answered.ensures.came
 
 pub returns-in_err-fault-clause-ends : goal.returns-in_err-fault-clause-ends
 returns-in_err-fault-clause-ends g c =
@@ -82,24 +82,24 @@ returns-in_err-fault-clause-ends g c =
     let sink = g.K.Sink.view in
     let input = g.I.Input.view in
     let old = view c.args.s.now in
-    let then = view c.answer_read.new.s in
+    let then = view c.answer_read-answered.new.s in
     let p = err_from_is_err_and c.from_residual-in_err-fault.result c.from_residual-in_err-fault.ensures.1 in
     let fault = c.in_err-fault.field-0.0 in
     let course = (means old c.open-session.result.walker).course in
     let reads = subst (Reads (input c.lines.streams.input) (input c.next.new.input) c.lines.reader c.next.new.self) c.in-Some.is c.in_ok-read.ensures.reads in
-    let keeps = g.met.S.Sources.keeps _ _ c.answer_read.ensures.came in
+    let keeps = g.met.S.Sources.keeps _ _ c.answer_read-answered.ensures.came in
     rw (p.1, p.2)
-    (subst (λ w. TalkEnds (means old w).course old then c.args.names.now (input c.args.streams.now.input) (input c.next.new.input) (sink c.args.streams.now.out) (sink c.answer_read.new.out) (Err (of_lines fault)))
+    (subst (λ w. TalkEnds (means old w).course old then c.args.names.now (input c.args.streams.now.input) (input c.next.new.input) (sink c.args.streams.now.out) (sink c.answer_read-answered.new.out) (Err (of_lines fault)))
     c.open-session.ensures.walker
-    (line_cut c.lines.s c.answer_read.new.s c.lines.session c.answer_read.new.session view (λ s session. means (view s) session.walker) (λ session. held session.names) course old c.args.names.now
-    (input c.args.streams.now.input) (input c.next.new.input) c.next.new.self (sink c.args.streams.now.out) (sink c.lines.streams.out) (sink c.answer_read.new.out) c.lines.marked keeps.faults
+    (line_cut c.lines.s c.answer_read-answered.new.s c.lines.session c.answer_read-answered.new.session view (λ s session. means (view s) session.walker) (λ session. held session.names) course old c.args.names.now
+    (input c.args.streams.now.input) (input c.next.new.input) c.next.new.self (sink c.args.streams.now.out) (sink c.lines.streams.out) (sink c.answer_read-answered.new.out) c.lines.marked keeps.faults
     (input c.lines.streams.input) c.lines.reader c.lines.invariant.far c.in-Some.read reads fault c.in_err-fault.ensures.answered c.lines.invariant.count))
 
 pub returns-in_err-fault-clause-input : goal.returns-in_err-fault-clause-input
 returns-in_err-fault-clause-input g c = omega (arith, c.lines.invariant.inputs, c.next.ensures.count)
 
 pub returns-in_err-fault-clause-count : goal.returns-in_err-fault-clause-count
-returns-in_err-fault-clause-count g c = omega (arith, c.lines.invariant.count, c.answer_read.ensures.count)
+returns-in_err-fault-clause-count g c = omega (arith, c.lines.invariant.count, c.answer_read-answered.ensures.count)
 
 pub lines-smaller : goal.lines-smaller
 lines-smaller g c =
@@ -115,13 +115,13 @@ lines-preserved g c =
     let old = view c.args.s.now in
     let course = (means old c.open-session.result.walker).course in
     let reads = subst (Reads (input c.lines.streams.input) (input c.next.new.input) c.lines.reader c.next.new.self) c.in-Some.is c.in_ok-read.ensures.reads in
-    let keeps = g.met.S.Sources.keeps _ _ c.answer_read.ensures.came in
+    let keeps = g.met.S.Sources.keeps _ _ c.answer_read-answered.ensures.came in
     record {
-      came = g.met.S.Sources.after _ _ _ c.lines.invariant.came c.answer_read.ensures.came;
-      count = omega (arith, c.lines.invariant.count, c.answer_read.ensures.count);
+      came = g.met.S.Sources.after _ _ _ c.lines.invariant.came c.answer_read-answered.ensures.came;
+      count = omega (arith, c.lines.invariant.count, c.answer_read-answered.ensures.count);
       inputs = omega (arith, c.lines.invariant.inputs, c.next.ensures.count);
-      far = line_told c.lines.s c.answer_read.new.s c.lines.session c.answer_read.new.session view (λ s session. means (view s) session.walker) (λ session. held session.names) course old c.args.names.now
-          (input c.args.streams.now.input) (input c.next.new.input) c.next.new.self (sink c.args.streams.now.out) (sink c.lines.streams.out) (sink c.answer_read.new.out) c.lines.marked keeps.faults
+      far = line_told c.lines.s c.answer_read-answered.new.s c.lines.session c.answer_read-answered.new.session view (λ s session. means (view s) session.walker) (λ session. held session.names) course old c.args.names.now
+          (input c.args.streams.now.input) (input c.next.new.input) c.next.new.self (sink c.args.streams.now.out) (sink c.lines.streams.out) (sink c.answer_read-answered.new.out) c.lines.marked keeps.faults
           (input c.lines.streams.input) c.lines.reader c.lines.invariant.far c.in-Some.read reads c.in_ok-fault.fault c.in_ok-fault.ensures.answered;
     }
 
