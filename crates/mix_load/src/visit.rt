@@ -94,7 +94,10 @@ impl Visitor {
             client: label(alloc, "")?,
             act,
         };
-        let answer = self.session.step(alloc, &mut self.sources, &step)?;
+        let answered = self.session.step(alloc, &mut self.sources, &step);
+        // It is given to `drop`, so that how its parts are dropped is proved once.
+        drop(step);
+        let answer = answered?;
         self.commands += 1;
         Ok(answer)
     }
