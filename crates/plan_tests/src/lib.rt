@@ -1,4 +1,4 @@
-//! Tests of plans: automata, texts, classes, runs and the plain program of rules, over documents in memory.
+//! Tests of plans: places and keys, automata, texts, classes, runs and the plain program of rules, over documents in memory.
 #![tactic(auto)]
 
 #[cfg(test)]
@@ -7,6 +7,8 @@ mod automata;
 mod classes;
 #[cfg(test)]
 mod lists;
+#[cfg(test)]
+mod nodes;
 #[cfg(test)]
 mod plain;
 #[cfg(test)]

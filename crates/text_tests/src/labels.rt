@@ -1,7 +1,7 @@
 // What the contracts leave to tests: that calls succeed, and values worked out by hand.
 use mix_tree::{
-    Key, Label, LabelRead, Place, TestOp, Tree, Var, begins_label, item_collects, key_stands,
-    keys_in_force, label_cmp, push_quoted, read_label, same_label, write_label,
+    Label, LabelRead, TestOp, begins_label, label_cmp, push_quoted, read_label, same_label,
+    write_label,
 };
 use std::alloc::{AllocError, Global};
 
@@ -128,49 +128,6 @@ fn labels_are_read_as_they_are_spelled(rt: HostRuntime) {
     assert!(rt; begins_label(b'a') && begins_label(b'"') && !begins_label(b'['));
 }
 
-// A tree of these kids.
-fn tree(alloc: Global, text: &str, kids: Vec<Tree>) -> Result<Tree, AllocError> {
-    Ok(Tree::new(label(alloc, text)?, kids))
-}
-
-// The tree `a[b[c],d]`.
-fn small_tree(alloc: Global) -> Result<Tree, AllocError> {
-    let leaf = tree(alloc, "c", Vec::new(alloc))?;
-    let left = tree(alloc, "b", vec![in alloc; leaf]?)?;
-    let right = tree(alloc, "d", Vec::new(alloc))?;
-    tree(alloc, "a", vec![in alloc; left, right]?)
-}
-
-// Whether the steps lead to a leaf with this label, or nowhere.
-fn leads_to(tree: &Tree, place: &Place, leaf: Option<&str>) -> bool {
-    match (tree.at(place), leaf) {
-        (Some(found), Some(leaf)) => is_label(found.label(), leaf) && found.kids().is_empty(),
-        (None, None) => true,
-        _ => false,
-    }
-}
-
-// Whether these steps in the small tree lead to a leaf with this label, or nowhere.
-fn steps_lead_to(alloc: Global, steps: &[u64], leaf: Option<&str>) -> Result<bool, AllocError> {
-    let place = Place::new(Vec::from_slice(alloc, steps)?);
-    let tree = small_tree(alloc)?;
-    Ok(tree.kid(2).is_none() && leads_to(&tree, &place, leaf))
-}
-
-// Steps, each with the leaf that they lead to, if they do.
-const STEPS: &[(&[u64], Option<&str>)] = &[
-    (&[0, 0], Some("c")),
-    (&[1], Some("d")),
-    (&[1, 0], None),
-];
-
-#[test]
-fn a_place_leads_to_a_subtree(rt: HostRuntime) {
-    for (steps, leaf) in STEPS {
-        assert!(rt; steps_lead_to(rt.alloc(), steps, *leaf) == Ok(true));
-    }
-}
-
 // Labels in ascending order.
 const ASCENDING: &[&str] = &[
     "-999999999999999999",
@@ -205,24 +162,4 @@ fn numerals_stand_before_other_labels(rt: HostRuntime) {
             assert!(rt; stand_as(rt.alloc(), (i, text), (j, other)) == Ok(true));
         }
     }
-}
-
-// Whether a node in force gives its label too.
-fn node_gives_its_label(alloc: Global) -> Result<bool, AllocError> {
-    let (x, y) = (Var::new(0), Var::new(1));
-    let own = [Key::LabelOf(x), Key::Node(y), Key::Node(x)];
-    let force = keys_in_force(alloc, &[Key::Node(x)], &own)?;
-    Ok(
-        force.len() == 3
-            && key_stands(&force, &Key::LabelOf(y))
-            && !key_stands(&[Key::LabelOf(x)], &Key::Node(x))
-            && item_collects(&[Key::Node(x)], &own)
-            && !item_collects(&force, &own)
-            && x.number() == 0,
-    )
-}
-
-#[test]
-fn a_node_in_force_gives_its_label(rt: HostRuntime) {
-    assert!(rt; node_gives_its_label(rt.alloc()) == Ok(true));
 }

@@ -1,4 +1,4 @@
-//! Tests of labels, bracket text, paths, catalogs, scripts and rules as text, and of what views are read over a catalog.
+//! Tests of labels, bracket text, paths, catalogs and rules as text, and of what views are read over a catalog.
 #![tactic(auto)]
 
 #[cfg(test)]
@@ -14,10 +14,6 @@ mod paths;
 #[cfg(test)]
 mod rules;
 #[cfg(test)]
-mod scripts;
-#[cfg(test)]
 mod tables;
 #[cfg(test)]
 mod views;
-#[cfg(test)]
-mod words;

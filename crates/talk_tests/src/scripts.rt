@@ -2,11 +2,15 @@
 ghost use Rattle.std.specs.Prelude.{length};
 ghost use Rattle.mix_script.specs.Answers.{IsNamed};
 
-use crate::labels::label;
 use mix_script::ScriptFault::Line;
 use mix_script::{Act, Answer, Names, ScriptFault, Step, read_script, write_answer};
 use mix_tree::Label;
 use std::alloc::{AllocError, Global};
+
+// A label of a text.
+fn label(alloc: Global, text: &str) -> Result<Label, AllocError> {
+    Label::of_text(alloc, text.as_bytes())
+}
 
 // How many steps a script has.
 fn count(alloc: Global, text: &[u8]) -> Result<usize, ScriptFault> {
