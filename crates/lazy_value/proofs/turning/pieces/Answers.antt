@@ -1,15 +1,16 @@
-use Rattle.std.proofs.Common.{ℕ, length, refl, ◌∙◌, sym, ap, subst, arith}
+use Rattle.std.proofs.Common.{◌≡◌, ℕ, length, refl, ◌∙◌, sym, ap, subst, arith}
 use Rattle.plan_core.specs.declared.plan.Plan.{Plan}
 use Rattle.plan_core.specs.PlanMade.{plan_value}
 use Rattle.plan_core.specs.ByNumber.{op_at}
 use Rattle.lazy_plan.specs.Bench.{state_of, ops_of, IsCursor}
-use Rattle.lazy_binding.specs.Forms.{input_at, pieces_of, piece_at}
+use Rattle.lazy_binding.specs.Forms.{input_at, pieces_of, piece_at, makes_list, makes_element}
 use Rattle.lazy_value.specs.Ids.{IsRest}
 use Rattle.lazy_value.specs.declared.ids.Rest.{Rest}
 use Rattle.lazy_value.proofs.Heads.{if_ok}
 use Rattle.lazy_value.specs.Heights.{rest_rank, KeepsRank}
 use Rattle.lazy_value.proofs.Heights.{origin_ranked, put_ranked, member_ranked}
 use Rattle.lazy_value.proofs.PieceTurns.{there_is, var_turned, var_fallen, head_stands, head_falls, rest_on, over_pieces}
+use Rattle.std.proofs.lemmas.Grind.{common_steps}
 use Rattle.lazy_value.proofs.turning.pieces.Goals as goal
 
 pub returns-in_ok-behind-in-Var-clause-answer : goal.returns-in_ok-behind-in-Var-clause-answer
@@ -84,3 +85,33 @@ pub returns-then-from-count_pieces-clause-answer : goal.returns-then-from-count_
 returns-then-from-count_pieces-clause-answer c = λ view h i.
     over_pieces (state_of view c.args.bench.now) c.args.from.now.op c.args.from.now.next c.args.from.now.at.now c.args.up.now.value c.in_ok-share.field-0.value
     (c.if-from-count_pieces.true ∙ c.count_pieces.ensures ∙ ap (λ (p : Plan). length (pieces_of (op_at (plan_value p).ops c.args.from.now.op))) c.plan.ensures) c.in_ok-share.ensures i.behind
+
+pub count_pieces-requires-clause-op : goal.count_pieces-requires-clause-op
+count_pieces-requires-clause-op c = let i = c.requires.bench.2 in rw c.plan.ensures i.stands.within
+
+pub count_pieces-requires-clause-list : goal.count_pieces-requires-clause-list
+count_pieces-requires-clause-list c = let i = c.requires.bench.2 in rw c.plan.ensures i.stands.is
+
+pub piece-requires-clause-op : goal.piece-requires-clause-op
+piece-requires-clause-op c = let i = c.requires.bench.2 in rw c.plan-2.ensures i.stands.within
+
+pub piece-requires-clause-index : goal.piece-requires-clause-index
+piece-requires-clause-index c = let i = c.requires.bench.2 in rw c.plan-2.ensures (there_is _ _ _ _ i.next c.count_pieces.ensures (ap (λ (p : Plan). length (pieces_of (op_at (plan_value p).ops c.args.from.now.op))) c.plan.ensures) c.if-from-count_pieces.false)
+
+pub piece-requires-clause-written : goal.piece-requires-clause-written
+piece-requires-clause-written c = let i = c.requires.bench.2 in rw c.plan-2.ensures (λ e. let z : makes_list ≡ makes_element = sym i.stands.is ∙ e in cc)
+
+pub input_of-input-requires : goal.input_of-input-requires
+input_of-input-requires c = let i = c.requires.bench.2 in rw c.plan-in_default.ensures i.stands.within
+
+pub head_of-requires : goal.head_of-requires
+head_of-requires c =
+    let i = c.requires.bench.2 in
+    record {
+      op = i.stands.within;
+      index = (there_is _ _ _ _ i.next c.count_pieces.ensures (ap (λ (p : Plan). length (pieces_of (op_at (plan_value p).ops c.args.from.now.op))) c.plan.ensures) c.if-from-count_pieces.false);
+      input = (c.input_of-input.ensures ∙ ap (λ (p : Plan). input_at (plan_value p).ops c.args.from.now.op) c.plan-in_default.ensures);
+      bench = (c.requires.bench.0, c.requires.bench.1, subst (λ (n : ℕ). IsCursor (state_of c.requires.bench.0 c.args.bench.now) n c.args.from.now.at.now) (sym (c.input_of-input.ensures ∙ ap (λ (p : Plan). input_at (plan_value p).ops c.args.from.now.op) c.plan-in_default.ensures)) i.stands.cursor);
+      written = (λ e. let z : makes_list ≡ makes_element = sym i.stands.is ∙ e in cc);
+      one = grind (arith, common_steps);
+    }
