@@ -166,7 +166,8 @@ fn push_element(
     bindings: &[Binding],
     made: &mut Vec<Tree>,
 ) -> Result<(), AllocError>
-    ensures { OnOk result (Adds made.old.items made.new.items (instances_in scope.now (element template.now.label template.now.items template.now.keys done) bindings.now)) }
+    ensures { let e = template.now in
+        OnOk result (Adds made.old.items made.new.items (instances_in scope.now (element e.label e.items e.keys done) bindings.now)) }
 {
     let found = parts(alloc, scope.docs, scope.force, &template.keys, bindings)?;
     let inside = keys_in_force(alloc, scope.force, &template.keys)?;
