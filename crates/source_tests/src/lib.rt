@@ -1,12 +1,10 @@
-//! Tests of files and sinks in memory, of sources in memory and mounted ones, of CSV documents, of tables and their documents, of buffers, of visits, and of walks.
+//! Tests of sources in memory and mounted ones, of CSV documents, of tables and their documents, of buffers, of visits, and of walks.
 #![tactic(auto)]
 
 #[cfg(test)]
 mod buffers;
 #[cfg(test)]
 mod documents;
-#[cfg(test)]
-mod files;
 #[cfg(test)]
 mod memory;
 #[cfg(test)]
