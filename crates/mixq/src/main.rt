@@ -4,6 +4,7 @@
 use mix_call::mixq;
 use mix_io::{OsFiles, StdInput, StdSink, Streams};
 use sqlite_tables::SqliteTables;
+use std::alloc::Global;
 use std::process::ExitCode;
 use std::{env, io};
 
@@ -14,6 +15,18 @@ fn words(rt: &HostRuntime) -> io::Result<Vec<String>> {
         words.push(word)?;
     }
     Ok(words)
+}
+
+// The status of the top call. It stands apart, since what that call promises would make the proof of `main` long.
+fn answer(
+    alloc: Global,
+    words: &[String],
+    files: &mut OsFiles,
+    tables: SqliteTables,
+    streams: &mut Streams<StdInput, StdSink>,
+) -> u8 {
+    let (status, _) = mixq(alloc, words, files, tables, streams);
+    status
 }
 
 // Where memory runs out before the top call, the status is 6. A word that is no text makes the words a form of none, as no
@@ -31,6 +44,5 @@ fn main(rt: HostRuntime) -> ExitCode {
         out: StdSink::new(rt),
     };
     let tables = SqliteTables::new(rt, alloc);
-    let (status, _) = mixq(alloc, &words, &mut files, tables, &mut streams);
-    ExitCode::from(status)
+    ExitCode::from(answer(alloc, &words, &mut files, tables, &mut streams))
 }
