@@ -1,96 +1,16 @@
-// Whether a case is answered as it is wanted, also where each of its calls fails in turn.
-use crate::command_run::{Outcome, Wanted, is_as_wanted, read_wanted, run};
-use crate::command_setting::{Twist, numbers};
-use crate::fault::Fault;
-use crate::part::{Part, number, part_of};
+// Whether a case of a command is answered as it is wanted: as it stands, with each front of a file, or with each text of a list.
+use crate::command_fails::{ended, failures, where_it_differs};
+use crate::command_run::{Wanted, differs, read_wanted};
+use crate::command_setting::Twist;
+use crate::fault::{Defect, Fault};
+use crate::part::{Part, has_part, number, part_of};
 use std::alloc::Global;
 
-// Runs a case so, and hands out what it left where that isn't wanted.
-fn differs(
-    alloc: Global,
-    parts: &[Part<'_>],
-    twist: Twist<'_>,
-    wanted: &Wanted<'_>,
-) -> Result<Option<Outcome>, Fault> {
-    let outcome = run(alloc, parts, twist)?;
-    if is_as_wanted(&outcome, wanted) {
-        Ok(None)
-    } else {
-        Ok(Some(outcome))
-    }
-}
-
-// The lines before that of a number, counted from 1, and half of that one.
-fn lines_before(lines: &[u8], number: u64) -> &[u8] {
-    let mut left = number;
-    let mut from = 0;
-    for (at, byte) in lines.iter().enumerate() {
-        if *byte == b'\n' {
-            left = left.saturating_sub(1);
-            if left == 0 {
-                let half = (at + 1).saturating_sub(from) / 2;
-                return lines.get(..half.saturating_add(from)).unwrap_or(lines);
-            }
-            from = at + 1;
-        }
-    }
-    lines
-}
-
-// Each of the first so many writes fails in turn: the lines before it are written, and half of its own.
-fn writes_fail(
-    alloc: Global,
-    parts: &[Part<'_>],
-    count: u64,
-    whole: &Wanted<'_>,
-) -> Result<Option<Outcome>, Fault> {
-    for number in 0..count {
-        let number = number.saturating_add(1);
-        let wanted = Wanted {
-            status: 5,
-            written: lines_before(whole.written, number),
-            pages: None,
-        };
-        let found = differs(alloc, parts, Twist::Fails("writes", number), &wanted)?;
-        if found.is_some() {
-            return Ok(found);
-        }
-    }
-    differs(
-        alloc,
-        parts,
-        Twist::Fails("writes", count.saturating_add(1)),
-        whole,
-    )
-}
-
-// Each read fails in turn, and the one line names its file: `paths` has that of each.
-fn reads_fail(
-    alloc: Global,
-    parts: &[Part<'_>],
-    paths: &str,
-    whole: &Wanted<'_>,
-) -> Result<Option<Outcome>, Fault> {
-    let mut number = 0_u64;
-    for path in paths.split_whitespace() {
-        number = number.saturating_add(1);
-        let line = format!(in alloc; "{path}: cannot be read\n")?;
-        let wanted = Wanted {
-            status: 4,
-            written: line.as_bytes(),
-            pages: None,
-        };
-        let found = differs(alloc, parts, Twist::Fails("reads", number), &wanted)?;
-        if found.is_some() {
-            return Ok(found);
-        }
-    }
-    differs(
-        alloc,
-        parts,
-        Twist::Fails("reads", number.saturating_add(1)),
-        whole,
-    )
+// The path of a file and two numbers, which stand behind a word.
+fn path_and_numbers(words: &str) -> Result<(&str, u64, u64), Fault> {
+    let (path, numbers) = words.split_once(' ').ok_or(Fault::Form)?;
+    let (first, last) = numbers.split_once(' ').ok_or(Fault::Form)?;
+    Ok((path, number(first)?, number(last)?))
 }
 
 // Each front of a file, from so many bytes to so many, comes to what the case wants.
@@ -99,111 +19,84 @@ fn fronts_differ(
     parts: &[Part<'_>],
     words: &str,
     whole: &Wanted<'_>,
-) -> Result<Option<Outcome>, Fault> {
-    let (path, ends) = words.split_once(' ').ok_or(Fault::Form)?;
-    let (first, last) = ends.split_once(' ').ok_or(Fault::Form)?;
-    for end in number(first)?..number(last)?.saturating_add(1) {
+) -> Result<Option<String>, Fault> {
+    let (path, first, last) = path_and_numbers(words)?;
+    if !has_part(parts, "file", path) || first > last {
+        return Err(Fault::Form);
+    }
+    for end in first..last.saturating_add(1) {
         let found = differs(alloc, parts, Twist::Ends(path, end), whole)?;
         if found.is_some() {
-            return Ok(found);
+            return where_it_differs(alloc, "front", end, found);
         }
     }
     Ok(None)
 }
 
-// What answers the lines whose ends are among the first bytes of an input: all lines have one answer, but those of the numbers `silent`.
-fn answers<'w>(input: &[u8], silent: &[u64], lines: &'w [u8]) -> &'w [u8] {
-    let mut line = 0_u64;
-    let mut count = 0_u64;
-    for byte in input {
-        if *byte == b'\n' {
-            line = line.saturating_add(1);
-            if !silent.contains(&line) {
-                count = count.saturating_add(1);
-            }
-        }
-    }
-    let mut left = count;
-    for (at, byte) in lines.iter().enumerate() {
-        if left == 0 {
-            return &lines[..at];
-        }
-        if *byte == b'\n' {
-            left = left.saturating_sub(1);
-        }
-    }
-    lines
-}
-
-// Each take fails in turn: all whole lines before it are answered.
-fn takes_fail(
+// Runs a case with a file of this text, which is answered by one more line.
+fn pair_differs(
     alloc: Global,
     parts: &[Part<'_>],
+    text: Twist<'_>,
+    answer: &[u8],
     whole: &Wanted<'_>,
-) -> Result<Option<Outcome>, Fault> {
-    let input = part_of(parts, "input").ok_or(Fault::Form)?;
-    let most = number(input.rest)?.max(1) as usize;
-    let silent = numbers(alloc, parts, "silent")?;
-    let mut come = 0_usize;
+) -> Result<Option<String>, Fault> {
+    let mut lines = whole.written.to_vec(alloc)?;
+    lines.extend_from_slice(answer)?;
+    lines.push(b'\n')?;
+    differs(alloc, parts, text, &ended(whole.status, &lines))
+}
+
+// Each line of some pairs, as the text of a file, is answered by the line behind it.
+fn pairs_differ(
+    alloc: Global,
+    parts: &[Part<'_>],
+    pairs: &Part<'_>,
+    whole: &Wanted<'_>,
+) -> Result<Option<String>, Fault> {
+    let bytes = pairs.bytes.strip_suffix(b"\n").ok_or(Fault::Form)?;
+    let lines: Vec<&[u8]> = bytes.split(|byte| *byte == b'\n').collect(alloc)?;
     let mut number = 0_u64;
-    for chunk in input.bytes.chunks(most) {
-        number = number.saturating_add(1);
-        let front = input.bytes.get(..come).unwrap_or(&input.bytes);
-        let wanted = Wanted {
-            status: 10,
-            written: answers(front, &silent, whole.written),
-            pages: None,
+    for pair in lines.chunks(2) {
+        let [text, answer] = pair else {
+            return Err(Fault::Form);
         };
-        let found = differs(alloc, parts, Twist::Fails("takes", number), &wanted)?;
+        number = number.saturating_add(1);
+        let text = Twist::Holds(pairs.rest, text);
+        let found = pair_differs(alloc, parts, text, answer, whole)?;
         if found.is_some() {
-            return Ok(found);
+            return where_it_differs(alloc, "pair", number, found);
         }
-        come = come.saturating_add(chunk.len());
     }
     Ok(None)
 }
 
-// What a case left that isn't wanted, in a run with a call that fails.
-fn failures(
-    alloc: Global,
-    parts: &[Part<'_>],
-    whole: &Wanted<'_>,
-) -> Result<Option<Outcome>, Fault> {
-    let mut found = None;
-    if let Some(part) = part_of(parts, "each-write") {
-        found = writes_fail(alloc, parts, number(part.rest)?, whole)?;
+// Refuses a part beside which stands one that it leaves no place for.
+fn check_alone(parts: &[Part<'_>], part: &Part<'_>, others: &[&str]) -> Result<(), Fault> {
+    for other in others {
+        if part_of(parts, other).is_some() {
+            return Err(part.wrong(Defect::Beside));
+        }
     }
-    if let (None, Some(part)) = (&found, part_of(parts, "each-read")) {
-        found = reads_fail(alloc, parts, part.rest, whole)?;
-    }
-    if let (None, Some(_)) = (&found, part_of(parts, "silent")) {
-        found = takes_fail(alloc, parts, whole)?;
-    }
-    Ok(found)
+    Ok(())
 }
 
-// What a case left that isn't wanted.
-fn left(alloc: Global, parts: &[Part<'_>]) -> Result<Option<Outcome>, Fault> {
+/// What differs of what a case wants, as lines.
+pub fn judge(alloc: Global, parts: &[Part<'_>]) -> Result<Option<String>, Fault> {
     let whole = read_wanted(parts)?;
+    let others = ["each-read", "each-take", "each-write", "asked"];
     if let Some(part) = part_of(parts, "fronts") {
+        check_alone(parts, part, &others)?;
+        check_alone(parts, part, &["pairs"])?;
         return fronts_differ(alloc, parts, part.rest, &whole);
+    }
+    if let Some(part) = part_of(parts, "pairs") {
+        check_alone(parts, part, &others)?;
+        return pairs_differ(alloc, parts, part, &whole);
     }
     let found = differs(alloc, parts, Twist::None, &whole)?;
     if found.is_some() {
         return Ok(found);
     }
     failures(alloc, parts, &whole)
-}
-
-/// What a case left that isn't wanted, as a text.
-pub fn judge(alloc: Global, parts: &[Part<'_>]) -> Result<Option<String>, Fault> {
-    let Some(outcome) = left(alloc, parts)? else {
-        return Ok(None);
-    };
-    let written = String::from_utf8_lossy(alloc, &outcome.written)?;
-    let text = format!(in alloc;
-        "status {}, pages {}\n{written}",
-        outcome.status, outcome.pages
-    )?;
-    Ok(Some(text))
 }

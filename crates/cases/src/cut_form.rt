@@ -1,0 +1,22 @@
+// The parts that a case of documents in pieces may have.
+use crate::form::Shape::{Nothing, Pieces, Words};
+use crate::form::Times::{Often, Once, OnceEach};
+use crate::form::Form;
+
+/// The parts that a case of documents in pieces may have.
+pub const FORMS: [Form; 14] = [
+    Form("with", Words, OnceEach),
+    Form("catalog", Pieces, Once),
+    Form("view", Pieces, Once),
+    Form("doc", Pieces, Often),
+    Form("choices", Words, Once),
+    Form("forward", Nothing, Once),
+    Form("fails", Words, Once),
+    Form("writes", Words, Once),
+    Form("script", Pieces, Once),
+    Form("lines", Pieces, Once),
+    Form("marked", Nothing, Once),
+    Form("fills", Words, Once),
+    Form("at-most", Words, Once),
+    Form("each-fill", Nothing, Once),
+];
