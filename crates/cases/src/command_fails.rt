@@ -13,7 +13,7 @@ pub fn where_it_differs(
     found: Option<String>,
 ) -> Result<Option<String>, Fault> {
     match found {
-        Some(found) => Ok(Some(format!(in alloc; "  at {place} {number}\n{found}")?)),
+        Some(found) => Ok(Some(format!(in alloc; "  with {place} {number}\n{found}")?)),
         None => Ok(None),
     }
 }

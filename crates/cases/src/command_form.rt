@@ -1,7 +1,7 @@
 // The parts that a case of a command may have.
+use crate::form::Form;
 use crate::form::Shape::{Nothing, Pieces, Words, WordsAndPieces};
 use crate::form::Times::{Often, Once, OnceEach};
-use crate::form::Form;
 
 /// The parts that a case of a command may have.
 pub const FORMS: [Form; 18] = [

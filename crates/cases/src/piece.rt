@@ -18,7 +18,7 @@ fn text_of<'p>(parts: &'p [Part<'_>], name: &str) -> Result<&'p [u8], Fault> {
             return Ok(&part.bytes);
         }
     }
-    Err(Fault::Form)
+    Err(Fault::Name)
 }
 
 // The first byte of a line, and what follows it.
