@@ -1,33 +1,31 @@
 // Runs of a case in which each call of a kind fails in turn.
-use crate::command_run::{Wanted, differs};
+use crate::command_run::{Wanted, runs};
 use crate::command_setting::{Twist, numbers};
 use crate::fault::{Defect, Fault};
 use crate::part::{Part, part_of};
 use std::alloc::Global;
 
-/// What differs in a run of a number: where, and what.
-pub fn where_it_differs(
-    alloc: Global,
-    place: &str,
-    number: u64,
-    found: Option<String>,
-) -> Result<Option<String>, Fault> {
-    match found {
-        Some(found) => Ok(Some(format!(in alloc; "  with {place} {number}\n{found}")?)),
-        None => Ok(None),
-    }
+/// Adds to a report in which run it differs.
+pub fn tell_run(alloc: Global, report: &mut String, kind: &str, number: u64) -> Result<(), Fault> {
+    let line = format!(in alloc; "  with {kind} {number}\n")?;
+    report.push_str(&line)?;
+    Ok(())
 }
 
-// Runs a case in which the call of a number fails: one of the calls of this name.
+// Whether a case in which the call of a number fails too, one of the calls of this name, leaves what is wanted.
 fn call_fails(
     alloc: Global,
     parts: &[Part<'_>],
     call: (&str, u64),
     wanted: &Wanted<'_>,
-) -> Result<Option<String>, Fault> {
+    report: &mut String,
+) -> Result<bool, Fault> {
     let (calls, number) = call;
-    let found = differs(alloc, parts, Twist::Fails(calls, number), wanted)?;
-    where_it_differs(alloc, calls, number, found)
+    let is_right = runs(alloc, parts, Twist::Fails(calls, number), wanted, report)?;
+    if !is_right {
+        tell_run(alloc, report, calls, number)?;
+    }
+    Ok(is_right)
 }
 
 /// What a run is wanted to leave that ends with this status and these bytes.
@@ -72,17 +70,23 @@ fn writes_fail(
     alloc: Global,
     parts: &[Part<'_>],
     whole: &Wanted<'_>,
-) -> Result<Option<String>, Fault> {
+    report: &mut String,
+) -> Result<bool, Fault> {
     let count = count_lines(whole.written);
     for number in 0..count {
         let number = number.saturating_add(1);
         let wanted = ended(5, lines_before(whole.written, number));
-        let found = call_fails(alloc, parts, ("writes", number), &wanted)?;
-        if found.is_some() {
-            return Ok(found);
+        if !call_fails(alloc, parts, ("writes", number), &wanted, report)? {
+            return Ok(false);
         }
     }
-    call_fails(alloc, parts, ("writes", count.saturating_add(1)), whole)
+    call_fails(
+        alloc,
+        parts,
+        ("writes", count.saturating_add(1)),
+        whole,
+        report,
+    )
 }
 
 // Each read fails in turn, and the one line names its file: `paths` has that of each. A read behind the last is none.
@@ -91,18 +95,24 @@ fn reads_fail(
     parts: &[Part<'_>],
     paths: &str,
     whole: &Wanted<'_>,
-) -> Result<Option<String>, Fault> {
+    report: &mut String,
+) -> Result<bool, Fault> {
     let mut number = 0_u64;
     for path in paths.split_whitespace() {
         number = number.saturating_add(1);
         let line = format!(in alloc; "{path}: cannot be read\n")?;
         let wanted = ended(4, line.as_bytes());
-        let found = call_fails(alloc, parts, ("reads", number), &wanted)?;
-        if found.is_some() {
-            return Ok(found);
+        if !call_fails(alloc, parts, ("reads", number), &wanted, report)? {
+            return Ok(false);
         }
     }
-    call_fails(alloc, parts, ("reads", number.saturating_add(1)), whole)
+    call_fails(
+        alloc,
+        parts,
+        ("reads", number.saturating_add(1)),
+        whole,
+        report,
+    )
 }
 
 // How many of the first lines of an input have an answer: those whose ends are among its first bytes, but for those of the numbers `silent`.
@@ -140,7 +150,8 @@ fn takes_fail(
     parts: &[Part<'_>],
     input: &Part<'_>,
     whole: &Wanted<'_>,
-) -> Result<Option<String>, Fault> {
+    report: &mut String,
+) -> Result<bool, Fault> {
     let most = input.number()?.max(1);
     let silent = numbers(alloc, parts, "each-take")?;
     let takes = (input.bytes.len() as u64).div_ceil(most).saturating_add(1);
@@ -149,30 +160,36 @@ fn takes_fail(
         let front = input.bytes.get(..come).unwrap_or(&input.bytes);
         let answers = first_lines(whole.written, count_answers(front, &silent));
         let call = ("takes", number.saturating_add(1));
-        let found = call_fails(alloc, parts, call, &ended(10, answers))?;
-        if found.is_some() {
-            return Ok(found);
+        if !call_fails(alloc, parts, call, &ended(10, answers), report)? {
+            return Ok(false);
         }
     }
-    call_fails(alloc, parts, ("takes", takes.saturating_add(1)), whole)
+    call_fails(
+        alloc,
+        parts,
+        ("takes", takes.saturating_add(1)),
+        whole,
+        report,
+    )
 }
 
-/// What differs in a run of a case in which a call fails, where it wants each call of a kind to fail in turn.
+/// Whether a case leaves what is wanted where each call of a kind fails in turn, as far as it says so.
 pub fn failures(
     alloc: Global,
     parts: &[Part<'_>],
     whole: &Wanted<'_>,
-) -> Result<Option<String>, Fault> {
-    let mut found = None;
+    report: &mut String,
+) -> Result<bool, Fault> {
+    let mut is_right = true;
     if part_of(parts, "each-write").is_some() {
-        found = writes_fail(alloc, parts, whole)?;
+        is_right = writes_fail(alloc, parts, whole, report)?;
     }
-    if let (None, Some(part)) = (&found, part_of(parts, "each-read")) {
-        found = reads_fail(alloc, parts, part.rest, whole)?;
+    if let Some(part) = part_of(parts, "each-read") {
+        is_right &= reads_fail(alloc, parts, part.rest, whole, report)?;
     }
-    if let (None, Some(part)) = (&found, part_of(parts, "each-take")) {
+    if let Some(part) = part_of(parts, "each-take") {
         let input = part_of(parts, "input").ok_or(part.wrong(Defect::Beside))?;
-        found = takes_fail(alloc, parts, input, whole)?;
+        is_right &= takes_fail(alloc, parts, input, whole, report)?;
     }
-    Ok(found)
+    Ok(is_right)
 }

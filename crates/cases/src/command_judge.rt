@@ -1,6 +1,6 @@
 // Whether a case of a command is answered as it is wanted: as it stands, with each front of a file, or with each text of a list.
-use crate::command_fails::{ended, failures, where_it_differs};
-use crate::command_run::{Wanted, differs, read_wanted};
+use crate::command_fails::{ended, failures, tell_run};
+use crate::command_run::{Wanted, read_wanted, runs};
 use crate::command_setting::Twist;
 use crate::fault::{Defect, Fault};
 use crate::part::{Part, has_part, number, part_of};
@@ -13,62 +13,66 @@ fn path_and_numbers(words: &str) -> Result<(&str, u64, u64), Fault> {
     Ok((path, number(first)?, number(last)?))
 }
 
-// Each front of a file, from so many bytes to so many, comes to what the case wants.
-fn fronts_differ(
+// Whether each front of a file, from so many bytes to so many, comes to what the case wants.
+fn fronts_are_right(
     alloc: Global,
     parts: &[Part<'_>],
     words: &str,
     whole: &Wanted<'_>,
-) -> Result<Option<String>, Fault> {
+    report: &mut String,
+) -> Result<bool, Fault> {
     let (path, first, last) = path_and_numbers(words)?;
     if !has_part(parts, "file", path) || first > last {
         return Err(Fault::Form);
     }
     for end in first..last.saturating_add(1) {
-        let found = differs(alloc, parts, Twist::Ends(path, end), whole)?;
-        if found.is_some() {
-            return where_it_differs(alloc, "front", end, found);
+        if !runs(alloc, parts, Twist::Ends(path, end), whole, report)? {
+            tell_run(alloc, report, "front", end)?;
+            return Ok(false);
         }
     }
-    Ok(None)
+    Ok(true)
 }
 
-// Runs a case with a file of this text, which is answered by one more line.
-fn pair_differs(
-    alloc: Global,
-    parts: &[Part<'_>],
-    text: Twist<'_>,
-    answer: &[u8],
-    whole: &Wanted<'_>,
-) -> Result<Option<String>, Fault> {
-    let mut lines = whole.written.to_vec(alloc)?;
-    lines.extend_from_slice(answer)?;
-    lines.push(b'\n')?;
-    differs(alloc, parts, text, &ended(whole.status, &lines))
+// Some lines, and one more.
+fn with_line(alloc: Global, lines: &[u8], line: &[u8]) -> Result<Vec<u8>, Fault> {
+    let mut all = lines.to_vec(alloc)?;
+    all.extend_from_slice(line)?;
+    all.push(b'\n')?;
+    Ok(all)
 }
 
-// Each line of some pairs, as the text of a file, is answered by the line behind it.
-fn pairs_differ(
+// The lines of pairs.
+fn lines_of<'p>(alloc: Global, pairs: &'p Part<'_>) -> Result<Vec<&'p [u8]>, Fault> {
+    let [front @ .., b'\n'] = pairs.bytes.as_slice() else {
+        return Err(pairs.wrong(Defect::Form));
+    };
+    Ok(front.split(|byte| *byte == b'\n').collect(alloc)?)
+}
+
+// Whether each line of some pairs, as the text of a file, is answered by the line behind it.
+fn pairs_are_right(
     alloc: Global,
     parts: &[Part<'_>],
     pairs: &Part<'_>,
     whole: &Wanted<'_>,
-) -> Result<Option<String>, Fault> {
-    let bytes = pairs.bytes.strip_suffix(b"\n").ok_or(Fault::Form)?;
-    let lines: Vec<&[u8]> = bytes.split(|byte| *byte == b'\n').collect(alloc)?;
+    report: &mut String,
+) -> Result<bool, Fault> {
+    let lines = lines_of(alloc, pairs)?;
     let mut number = 0_u64;
     for pair in lines.chunks(2) {
         let [text, answer] = pair else {
-            return Err(Fault::Form);
+            return Err(pairs.wrong(Defect::Form));
         };
         number = number.saturating_add(1);
+        let all = with_line(alloc, whole.written, answer)?;
         let text = Twist::Holds(pairs.rest, text);
-        let found = pair_differs(alloc, parts, text, answer, whole)?;
-        if found.is_some() {
-            return where_it_differs(alloc, "pair", number, found);
+        if !runs(alloc, parts, text, &ended(whole.status, &all), report)? {
+            tell_run(alloc, report, "pair", number)?;
+            return Ok(false);
         }
     }
-    Ok(None)
+    Ok(true)
 }
 
 // Refuses a part beside which stands one that it leaves no place for.
@@ -81,22 +85,28 @@ fn check_alone(parts: &[Part<'_>], part: &Part<'_>, others: &[&str]) -> Result<(
     Ok(())
 }
 
-/// What differs of what a case wants, as lines.
-pub fn judge(alloc: Global, parts: &[Part<'_>]) -> Result<Option<String>, Fault> {
+// Whether a case leaves what it wants; what differs is added to a report.
+fn is_right(alloc: Global, parts: &[Part<'_>], report: &mut String) -> Result<bool, Fault> {
     let whole = read_wanted(parts)?;
     let others = ["each-read", "each-take", "each-write", "asked"];
     if let Some(part) = part_of(parts, "fronts") {
         check_alone(parts, part, &others)?;
         check_alone(parts, part, &["pairs"])?;
-        return fronts_differ(alloc, parts, part.rest, &whole);
+        return fronts_are_right(alloc, parts, part.rest, &whole, report);
     }
     if let Some(part) = part_of(parts, "pairs") {
         check_alone(parts, part, &others)?;
-        return pairs_differ(alloc, parts, part, &whole);
+        return pairs_are_right(alloc, parts, part, &whole, report);
     }
-    let found = differs(alloc, parts, Twist::None, &whole)?;
-    if found.is_some() {
-        return Ok(found);
+    Ok(runs(alloc, parts, Twist::None, &whole, report)? && failures(alloc, parts, &whole, report)?)
+}
+
+/// What differs of what a case wants, as lines.
+pub fn judge(alloc: Global, parts: &[Part<'_>]) -> Result<Option<String>, Fault> {
+    let mut report = String::new(alloc);
+    if is_right(alloc, parts, &mut report)? {
+        Ok(None)
+    } else {
+        Ok(Some(report))
     }
-    failures(alloc, parts, &whole)
 }

@@ -1,5 +1,6 @@
 // A run of a case, and what differs of what it is wanted to leave.
-use crate::command_setting::{Twist, files_of, own_words, streams_of, tables_of};
+use crate::command_setting::{Twist, files_of, own_words, streams_of};
+use crate::command_table::tables_of;
 use crate::differ::{differing_line, differing_number};
 use crate::fault::Fault;
 use crate::part::{Part, part_of};
@@ -72,32 +73,49 @@ pub fn read_wanted<'p>(parts: &'p [Part<'_>]) -> Result<Wanted<'p>, Fault> {
     })
 }
 
-// What differs of what was wanted: the status, the pages and the first line.
-fn differing(
+// Adds to a report what was found to differ, and tells whether nothing was.
+fn tell(report: &mut String, found: Option<String>) -> Result<bool, Fault> {
+    match found {
+        Some(text) => {
+            report.push_str(&text)?;
+            Ok(false)
+        }
+        None => Ok(true),
+    }
+}
+
+// Whether a run left what is wanted; what differs is added to a report: the status, the pages and the first line.
+fn is_as_wanted(
     alloc: Global,
     outcome: &Outcome,
     wanted: &Wanted<'_>,
-) -> Result<Option<String>, Fault> {
+    report: &mut String,
+) -> Result<bool, Fault> {
+    let status = u64::from(outcome.status);
     let asked = wanted.pages.unwrap_or(outcome.pages);
-    let found = [
-        differing_number(alloc, "status", wanted.status, u64::from(outcome.status))?,
+    let has_status = tell(
+        report,
+        differing_number(alloc, "status", wanted.status, status)?,
+    )?;
+    let has_pages = tell(
+        report,
         differing_number(alloc, "pages", asked, outcome.pages)?,
+    )?;
+    let has_lines = tell(
+        report,
         differing_line(alloc, wanted.written, &outcome.written)?,
-    ];
-    let mut text = String::new(alloc);
-    for one in &found {
-        text.push_str(one.as_deref().unwrap_or(""))?;
-    }
-    Ok(if text.is_empty() { None } else { Some(text) })
+    )?;
+    Ok(has_status && has_pages && has_lines)
 }
 
-/// Runs a case so, and tells what differs.
-pub fn differs(
+/// Runs a case so, and tells whether it left what is wanted; what differs is added to a report.
+pub fn runs(
     alloc: Global,
     parts: &[Part<'_>],
     twist: Twist<'_>,
     wanted: &Wanted<'_>,
-) -> Result<Option<String>, Fault> {
+    report: &mut String,
+) -> Result<bool, Fault> {
     let outcome = run(alloc, parts, twist)?;
-    differing(alloc, &outcome, wanted)
+    is_as_wanted(alloc, &outcome, wanted, report)
 }

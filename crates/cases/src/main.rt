@@ -7,16 +7,13 @@ mod command_form;
 mod command_judge;
 mod command_run;
 mod command_setting;
+mod command_table;
 mod cut_form;
 mod cut_judge;
 mod cut_run;
 mod cut_setting;
-mod differ;
-mod fault;
-mod form;
-mod part;
-mod piece;
 
+use case_text::{differ, fault, form, part};
 use fault::Fault;
 use form::{check_parts, check_places};
 use part::{Part, cut_parts, is_head, part_of};

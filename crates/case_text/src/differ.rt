@@ -11,16 +11,19 @@ fn cut_line(bytes: &[u8]) -> (&[u8], &[u8]) {
     bytes.split_at_checked(end).unwrap_or((bytes, &[]))
 }
 
-// The piece that spells a line: `|` one with its end, `'` one without.
-fn piece_of(alloc: Global, line: &[u8]) -> Result<String, Fault> {
+// Adds the piece that spells a line: `|` one with its end, `'` one without.
+fn push_piece(alloc: Global, text: &mut String, line: &[u8]) -> Result<(), Fault> {
     if line.is_empty() {
-        return Ok(String::from_str(alloc, "nothing")?);
+        text.push_str("nothing")?;
+        return Ok(());
     }
-    let text = String::from_utf8_lossy(alloc, line)?;
-    Ok(match text.strip_suffix('\n') {
-        Some(text) => format!(in alloc; "|{text}")?,
-        None => format!(in alloc; "'{text}")?,
-    })
+    let (mark, line) = match line {
+        [front @ .., b'\n'] => ("|", front),
+        _ => ("'", line),
+    };
+    text.push_str(mark)?;
+    text.push_str(&String::from_utf8_lossy(alloc, line)?)?;
+    Ok(())
 }
 
 // The first line in which two texts differ, with its number.
@@ -45,9 +48,11 @@ pub fn differing_line(alloc: Global, wanted: &[u8], came: &[u8]) -> Result<Optio
     let Some((number, wanted, came)) = first_difference(wanted, came) else {
         return Ok(None);
     };
-    let wanted = piece_of(alloc, wanted)?;
-    let came = piece_of(alloc, came)?;
-    let text = format!(in alloc; "  line {number}\n    wanted {wanted}\n    came   {came}\n")?;
+    let mut text = format!(in alloc; "  line {number}\n    wanted ")?;
+    push_piece(alloc, &mut text, wanted)?;
+    text.push_str("\n    came   ")?;
+    push_piece(alloc, &mut text, came)?;
+    text.push_str("\n")?;
     Ok(Some(text))
 }
 
