@@ -8,10 +8,15 @@ mod command_judge;
 mod command_run;
 mod command_setting;
 mod command_table;
+mod cut_fails;
 mod cut_form;
+mod cut_given;
 mod cut_judge;
+mod cut_mount;
+mod cut_plain;
 mod cut_run;
 mod cut_setting;
+mod cut_watched;
 
 use case_text::{differ, fault, form, part};
 use fault::Fault;
