@@ -16,29 +16,12 @@ pub fn document(alloc: Global, text: &str) -> Result<Tree, Fail> {
     }
 }
 
-/// How the documents in memory come: what bytes choose, which fills fail, and whether no list begins with a hole.
-#[derive(Clone, Copy)]
-pub struct Cutting {
-    pub choices: &'static [u8],
-    pub failing: &'static [u64],
-    pub forward: bool,
-}
-
-/// A child at a time, and no fill fails.
-pub const EACH_CHILD: Cutting = Cutting {
-    choices: &[],
-    failing: &[],
-    forward: true,
-};
-
-/// One document in memory, cut so.
-pub fn source(alloc: Global, text: &str, cutting: &Cutting) -> Result<MemSources, Fail>
+/// One document in memory that comes a child at a time.
+pub fn source(alloc: Global, text: &str) -> Result<MemSources, Fail>
     ensures { IfOk result (λ m. (memory_view m).count ≡ 1) }
 {
     let docs = vec![in alloc; document(alloc, text)?]?;
-    let choices = cutting.choices.to_vec(alloc)?;
-    let failing = cutting.failing.to_vec(alloc)?;
-    Ok(MemSources::new(alloc, docs, choices, failing, cutting.forward)?)
+    Ok(MemSources::new(alloc, docs, Vec::new(alloc), Vec::new(alloc), true)?)
 }
 
 /// Labels, one behind another.

@@ -1,4 +1,5 @@
 // What the contracts leave to tests: that calls succeed, and values worked out by hand.
+use lazy_descend::{cursors_stay, finds_next_matches, numbers_are_small};
 use mix_tree::Label;
 use path_auto::{Auto, bindings_are_matches, visits_are_matches};
 use path_expr::{Node, Path, PathFault, read_path};
@@ -54,5 +55,8 @@ fn an_automaton_tells_what_its_path_describes(rt: HostRuntime) -> Result<(), Fai
     assert!(rt; found == (false, false));
     bindings_are_matches();
     visits_are_matches();
+    finds_next_matches();
+    cursors_stay();
+    numbers_are_small();
     Ok(())
 }
