@@ -1,18 +1,20 @@
-// A run of a case, and what it is wanted to leave.
-use crate::command_setting::{Twist, files_of, own_words, streams_of, tables_of};
+// A run of a case, and what differs of what it is wanted to leave.
+use crate::command_setting::{Twist, files_of, own_words, streams_of};
+use crate::command_table::tables_of;
+use crate::differ::{differing_line, differing_number};
 use crate::fault::Fault;
-use crate::part::{Part, number, part_of};
+use crate::part::{Part, part_of};
 use mix_call::mixq;
 use mix_io::{MemFiles, MemInput, MemSink, Streams};
 use std::alloc::Global;
 use table_keep::{MemTables, Tables};
 
-/// What a run left: its status, the bytes written, and how many pages were asked.
+// What a run left: its status, the bytes written, and how many pages were asked.
 #[derive(Drop)]
-pub struct Outcome {
-    pub status: u8,
-    pub written: Vec<u8>,
-    pub pages: u64,
+struct Outcome {
+    status: u8,
+    written: Vec<u8>,
+    pages: u64,
 }
 
 /// What a run is wanted to leave. Of pages it may say nothing.
@@ -34,8 +36,8 @@ fn call(
     mixq(alloc, words, files, tables, streams)
 }
 
-/// Runs a case by the top call.
-pub fn run(alloc: Global, parts: &[Part<'_>], twist: Twist<'_>) -> Result<Outcome, Fault> {
+// Runs a case by the top call.
+fn run(alloc: Global, parts: &[Part<'_>], twist: Twist<'_>) -> Result<Outcome, Fault> {
     let words = own_words(alloc, parts)?;
     let mut files = files_of(alloc, parts, twist)?;
     let tables = tables_of(alloc, parts, twist)?;
@@ -50,34 +52,70 @@ pub fn run(alloc: Global, parts: &[Part<'_>], twist: Twist<'_>) -> Result<Outcom
     })
 }
 
+// The number of a part, where there is one.
+fn number_of(parts: &[Part<'_>], word: &str) -> Result<Option<u64>, Fault> {
+    match part_of(parts, word) {
+        Some(part) => Ok(Some(part.number()?)),
+        None => Ok(None),
+    }
+}
+
 /// What the parts of a case want: `status`, 0 where none is said, `lines`, and `asked`, the pages.
 pub fn read_wanted<'p>(parts: &'p [Part<'_>]) -> Result<Wanted<'p>, Fault> {
-    let status = match part_of(parts, "status") {
-        Some(part) => number(part.rest)?,
-        None => 0,
-    };
     let written = match part_of(parts, "lines") {
         Some(part) => part.bytes.as_slice(),
         None => &[],
     };
-    let pages = match part_of(parts, "asked") {
-        Some(part) => Some(number(part.rest)?),
-        None => None,
-    };
     Ok(Wanted {
-        status,
+        status: number_of(parts, "status")?.unwrap_or(0),
         written,
-        pages,
+        pages: number_of(parts, "asked")?,
     })
 }
 
-/// Whether a run left what is wanted.
-pub fn is_as_wanted(outcome: &Outcome, wanted: &Wanted<'_>) -> bool {
-    let is_counted = match wanted.pages {
-        Some(pages) => outcome.pages == pages,
-        None => true,
-    };
-    is_counted
-        && u64::from(outcome.status) == wanted.status
-        && outcome.written.as_slice() == wanted.written
+// Adds to a report what was found to differ, and tells whether nothing was.
+fn tell(report: &mut String, found: Option<String>) -> Result<bool, Fault> {
+    match found {
+        Some(text) => {
+            report.push_str(&text)?;
+            Ok(false)
+        }
+        None => Ok(true),
+    }
+}
+
+// Whether a run left what is wanted; what differs is added to a report: the status, the pages and the first line.
+fn is_as_wanted(
+    alloc: Global,
+    outcome: &Outcome,
+    wanted: &Wanted<'_>,
+    report: &mut String,
+) -> Result<bool, Fault> {
+    let status = u64::from(outcome.status);
+    let asked = wanted.pages.unwrap_or(outcome.pages);
+    let has_status = tell(
+        report,
+        differing_number(alloc, "status", wanted.status, status)?,
+    )?;
+    let has_pages = tell(
+        report,
+        differing_number(alloc, "pages", asked, outcome.pages)?,
+    )?;
+    let has_lines = tell(
+        report,
+        differing_line(alloc, wanted.written, &outcome.written)?,
+    )?;
+    Ok(has_status && has_pages && has_lines)
+}
+
+/// Runs a case so, and tells whether it left what is wanted; what differs is added to a report.
+pub fn runs(
+    alloc: Global,
+    parts: &[Part<'_>],
+    twist: Twist<'_>,
+    wanted: &Wanted<'_>,
+    report: &mut String,
+) -> Result<bool, Fault> {
+    let outcome = run(alloc, parts, twist)?;
+    is_as_wanted(alloc, &outcome, wanted, report)
 }

@@ -1,67 +1,165 @@
-// Whether a case is answered as it is wanted, also where each of its fills fails in turn.
-use crate::cut_run::{Outcome, is_wanted, run};
-use crate::fault::Fault;
+// Whether a case of documents in pieces is answered as it is wanted.
+use crate::cut_fails::each_fill_fails;
+use crate::cut_given;
+use crate::cut_plain::{course_of, finished};
+use crate::cut_run::{Outcome, Turn, has_view, run};
+use crate::differ::{differing_line, differing_number};
+use crate::fault::{Defect, Fault};
 use crate::part::{Part, part_of};
+use bracket_text::write_tree;
+use mix_lines::LinesFault;
 use std::alloc::Global;
 
-// How many lines differ from those that are wanted; none where one of these is no fault line.
-fn fault_lines(lines: &str, wanted: &str) -> Option<u64> {
-    let mut count = 0_u64;
-    for (line, want) in lines.lines().zip(wanted.lines()) {
-        if line != want {
-            if !line.starts_with("fault ") {
-                return None;
-            }
-            count = count.saturating_add(1);
-        }
-    }
-    Some(count)
+// Whether a fault line is among these lines.
+fn has_fault(lines: &[u8]) -> Result<bool, Fault> {
+    let lines = str::from_utf8(lines).ok().ok_or(Fault::Form)?;
+    Ok(lines.lines().any(|line| line.starts_with("fault ") || line.contains(": fault ")))
 }
 
-// Whether one line alone is a fault line, and each other as in the run without a failure.
-fn has_one_fault(outcome: &Outcome, whole: &Outcome) -> bool {
-    match (
-        str::from_utf8(&outcome.written),
-        str::from_utf8(&whole.written),
-    ) {
-        (Ok(lines), Ok(wanted)) => fault_lines(lines, wanted) == Some(1),
-        _ => false,
+// Whether a run ended as its case says: where a write fails, by that alone, and else marked where a fault line is wanted.
+fn has_ended(parts: &[Part<'_>], outcome: &Outcome, lines: &[u8]) -> Result<bool, Fault> {
+    if part_of(parts, "writes").is_some() {
+        return Ok(outcome.answer == Err(LinesFault::SinkFailed));
     }
+    Ok(outcome.answer == Ok(has_fault(lines)?))
 }
 
-// Each fill fails in turn: one line is a fault line, and the others are as they were.
-fn fills_fail(
+// What differs of the lines of a run, and of how it ended.
+fn lines_differ(
     alloc: Global,
     parts: &[Part<'_>],
-    whole: &Outcome,
-) -> Result<Option<Outcome>, Fault> {
-    for number in 0..whole.fills {
-        let outcome = run(alloc, parts, Some(number.saturating_add(1)))?;
-        if !has_one_fault(&outcome, whole) {
-            return Ok(Some(outcome));
-        }
+    outcome: &Outcome,
+    lines: &[u8],
+) -> Result<Option<String>, Fault> {
+    let found = differing_line(alloc, lines, &outcome.written)?;
+    if found.is_some() || has_ended(parts, outcome, lines)? {
+        return Ok(found);
     }
-    Ok(None)
+    Ok(Some(format!(in alloc; "  ended {:?}\n", outcome.answer)?))
 }
 
-// What a case left that isn't wanted.
-fn left(alloc: Global, parts: &[Part<'_>]) -> Result<Option<Outcome>, Fault> {
-    let outcome = run(alloc, parts, None)?;
-    if !is_wanted(parts, &outcome)? {
-        return Ok(Some(outcome));
-    }
-    match part_of(parts, "each-fill") {
-        Some(_) => fills_fail(alloc, parts, &outcome),
-        None => Ok(None),
+// The number that a part says, or another where there is no such part.
+fn said(parts: &[Part<'_>], word: &str, other: u64) -> Result<u64, Fault> {
+    match part_of(parts, word) {
+        Some(part) => part.number(),
+        None => Ok(other),
     }
 }
 
-/// What a case left that isn't wanted, as a text.
-pub fn judge(alloc: Global, parts: &[Part<'_>]) -> Result<Option<String>, Fault> {
-    let Some(outcome) = left(alloc, parts)? else {
-        return Ok(None);
+/// What differs of how many fills were asked: just so many by `fills`, no fewer by `at-least`, no more by `at-most`.
+pub fn fills_differ(
+    alloc: Global,
+    parts: &[Part<'_>],
+    fills: u64,
+) -> Result<Option<String>, Fault> {
+    let least = said(parts, "at-least", 0)?.max(said(parts, "fills", 0)?);
+    let most = said(parts, "at-most", u64::MAX)?.min(said(parts, "fills", u64::MAX)?);
+    differing_number(alloc, "fills", fills.max(least).min(most), fills)
+}
+
+// What differs in a run of a script: of its lines alone, where the plan is taken as it is made.
+fn turn_differs(
+    alloc: Global,
+    parts: &[Part<'_>],
+    turn: &Turn<'_>,
+    lines: &[u8],
+) -> Result<Option<String>, Fault> {
+    let outcome = run(alloc, parts, turn)?;
+    let found = lines_differ(alloc, parts, &outcome, lines)?;
+    if found.is_some() || turn.is_unmoved {
+        return Ok(found);
+    }
+    fills_differ(alloc, parts, outcome.fills)
+}
+
+// What differs in the runs of a script by the plan of commands and by the plan as it is made. Where fills fail by their numbers there is no
+// second one, since it asks them in another order.
+fn plans_differ(
+    alloc: Global,
+    parts: &[Part<'_>],
+    script: &[u8],
+    lines: &[u8],
+) -> Result<Option<String>, Fault> {
+    let turn = Turn {
+        script,
+        failing: None,
+        is_unmoved: false,
     };
-    let written = String::from_utf8_lossy(alloc, &outcome.written)?;
-    let text = format!(in alloc; "{:?}, fills {}\n{written}", outcome.answer, outcome.fills)?;
-    Ok(Some(text))
+    let found = turn_differs(alloc, parts, &turn, lines)?;
+    if found.is_some() || !has_view(parts) || part_of(parts, "fails").is_some() {
+        return Ok(found);
+    }
+    let unmoved = Turn {
+        is_unmoved: true,
+        ..turn
+    };
+    turn_differs(alloc, parts, &unmoved, lines)
+}
+
+// What differs where the script of a case is answered.
+fn script_differs(
+    alloc: Global,
+    parts: &[Part<'_>],
+    script: &[u8],
+) -> Result<Option<String>, Fault> {
+    let lines = &part_of(parts, "lines").ok_or(Fault::Form)?.bytes;
+    let found = plans_differ(alloc, parts, script, lines)?;
+    match part_of(parts, "each-fill") {
+        Some(_) if found.is_none() => each_fill_fails(alloc, parts, script, lines),
+        _ => Ok(found),
+    }
+}
+
+// What differs from the text of the finished document: what the definition gives, or what a print of some node writes.
+fn plain_differs(alloc: Global, parts: &[Part<'_>], text: &[u8]) -> Result<Option<String>, Fault> {
+    let made = finished(alloc, parts)?;
+    let found = differing_line(alloc, text, &write_tree(alloc, &made)?)?;
+    if found.is_some() {
+        return Ok(found);
+    }
+    let course = course_of(alloc, &made)?;
+    let turn = Turn {
+        script: course.script.as_bytes(),
+        failing: None,
+        is_unmoved: true,
+    };
+    let found = turn_differs(alloc, parts, &turn, &course.wanted)?;
+    if found.is_some() {
+        return Ok(found);
+    }
+    let outcome = run(
+        alloc,
+        parts,
+        &Turn {
+            is_unmoved: false,
+            ..turn
+        },
+    )?;
+    lines_differ(alloc, parts, &outcome, &course.wanted)
+}
+
+// Refuses a case where one of these parts stands and the other doesn't.
+fn check_beside(parts: &[Part<'_>], word: &str, other: &str) -> Result<(), Fault> {
+    match (part_of(parts, word), part_of(parts, other)) {
+        (Some(part), None) | (None, Some(part)) => Err(part.wrong(Defect::Beside)),
+        _ => Ok(()),
+    }
+}
+
+/// What differs of what a case wants, as lines.
+pub fn judge(alloc: Global, parts: &[Part<'_>]) -> Result<Option<String>, Fault> {
+    if part_of(parts, "gives").is_some() {
+        return cut_given::judge(alloc, parts);
+    }
+    check_beside(parts, "script", "lines")?;
+    let plain = part_of(parts, "plain");
+    let mut found = None;
+    if let Some(plain) = plain {
+        found = plain_differs(alloc, parts, &plain.bytes)?;
+    }
+    match part_of(parts, "script") {
+        Some(script) if found.is_none() => script_differs(alloc, parts, &script.bytes),
+        None if plain.is_none() => Err(Fault::Form),
+        _ => Ok(found),
+    }
 }

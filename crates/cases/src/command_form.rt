@@ -1,0 +1,26 @@
+// The parts that a case of a command may have.
+use crate::form::Form;
+use crate::form::Shape::{Nothing, Pieces, Words, WordsAndPieces};
+use crate::form::Times::{Often, Once, OnceEach};
+
+/// The parts that a case of a command may have.
+pub const FORMS: [Form; 18] = [
+    Form("with", Words, OnceEach),
+    Form("words", Words, Once),
+    Form("file", WordsAndPieces, OnceEach),
+    Form("input", WordsAndPieces, Once),
+    Form("table", Words, Once),
+    Form("row", Words, Often),
+    Form("reads", Words, Once),
+    Form("takes", Words, Once),
+    Form("writes", Words, Once),
+    Form("pages", Words, Once),
+    Form("status", Words, Once),
+    Form("lines", Pieces, Once),
+    Form("asked", Words, Once),
+    Form("each-read", Words, Once),
+    Form("each-take", Words, Once),
+    Form("each-write", Nothing, Once),
+    Form("fronts", Words, Once),
+    Form("pairs", WordsAndPieces, Once),
+];

@@ -1,0 +1,29 @@
+// The parts that a case of documents in pieces may have.
+use crate::form::Form;
+use crate::form::Shape::{Nothing, Pieces, Words, WordsAndPieces};
+use crate::form::Times::{Often, Once, OnceEach};
+
+/// The parts that a case of documents in pieces may have.
+pub const FORMS: [Form; 21] = [
+    Form("with", Words, OnceEach),
+    Form("catalog", Pieces, Once),
+    Form("view", Pieces, Once),
+    Form("doc", Pieces, Often),
+    Form("file", WordsAndPieces, OnceEach),
+    Form("table", Words, Once),
+    Form("row", Words, Often),
+    Form("choices", Words, Once),
+    Form("forward", Nothing, Once),
+    Form("fails", Words, Once),
+    Form("pages", Words, Once),
+    Form("writes", Words, Once),
+    Form("script", Pieces, Once),
+    Form("lines", Pieces, Once),
+    Form("plain", Pieces, Once),
+    Form("gives", Pieces, Once),
+    Form("fills", Words, Once),
+    Form("at-least", Words, Once),
+    Form("at-most", Words, Once),
+    Form("asked", Words, Once),
+    Form("each-fill", Nothing, Once),
+];

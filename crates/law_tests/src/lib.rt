@@ -1,0 +1,17 @@
+//! Tests of labels, trees, paths, catalogs and rules that only a call of a library shows, and calls of their laws.
+#![tactic(auto)]
+
+#[cfg(test)]
+mod brackets;
+#[cfg(test)]
+mod catalogs;
+#[cfg(test)]
+mod labels;
+#[cfg(test)]
+mod made;
+#[cfg(test)]
+mod paths;
+#[cfg(test)]
+mod rules;
+#[cfg(test)]
+mod tables;
