@@ -1,8 +1,7 @@
 // Runs of a case in which each call of a kind fails in turn.
-use crate::command_run::{Wanted, runs};
-use crate::command_setting::{Twist, numbers};
-use crate::fault::{Defect, Fault};
-use crate::part::{Part, part_of};
+use crate::run::{Wanted, runs};
+use crate::setting::Twist;
+use case_text::{Defect, Fault, Part, numbers, part_of};
 use std::alloc::Global;
 
 /// Adds to a report in which run it differs.

@@ -7,11 +7,9 @@ ghost use Rattle.plan_core.specs.PlanMade.{plan_value};
 ghost use Rattle.plan_core.specs.Valid.{IsValid};
 ghost use Rattle.lazy_value.specs.Mediators.{IsMediatorOf};
 
-use crate::command_setting::numbers;
-use crate::cut_setting::{RuleRead, rule_of_case, sources_of, steps_of};
-use crate::cut_watched::Watched;
-use crate::fault::Fault;
-use crate::part::{Part, part_of};
+use crate::setting::{RuleRead, rule_of_case, sources_of, steps_of};
+use crate::watched::Watched;
+use case_text::{Fault, Part, numbers, part_of};
 use lazy_value::Mediator;
 use lxp_core::Sources;
 use mix_io::MemSink;

@@ -1,12 +1,10 @@
 // Whether a case of documents in pieces is answered as it is wanted.
-use crate::cut_fails::each_fill_fails;
-use crate::cut_given;
-use crate::cut_plain::{course_of, finished};
-use crate::cut_run::{Outcome, Turn, has_view, run};
-use crate::differ::{differing_line, differing_number};
-use crate::fault::{Defect, Fault};
-use crate::part::{Part, part_of};
+use crate::fails::each_fill_fails;
+use crate::given;
+use crate::plain::{course_of, finished};
+use crate::run::{Outcome, Turn, has_view, run};
 use bracket_text::write_tree;
+use case_text::{Defect, Fault, Part, differing_line, differing_number, part_of};
 use mix_lines::LinesFault;
 use std::alloc::Global;
 
@@ -149,7 +147,7 @@ fn check_beside(parts: &[Part<'_>], word: &str, other: &str) -> Result<(), Fault
 /// What differs of what a case wants, as lines.
 pub fn judge(alloc: Global, parts: &[Part<'_>]) -> Result<Option<String>, Fault> {
     if part_of(parts, "gives").is_some() {
-        return cut_given::judge(alloc, parts);
+        return given::judge(alloc, parts);
     }
     check_beside(parts, "script", "lines")?;
     let plain = part_of(parts, "plain");

@@ -1,8 +1,7 @@
 // The finished document of a view as its definition gives it, and the script that prints each of its nodes.
-use crate::cut_setting::{docs_of, rule_of_case};
-use crate::fault::Fault;
-use crate::part::Part;
+use crate::setting::{docs_of, rule_of_case};
 use bracket_text::write_tree;
+use case_text::{Fault, Part};
 use mix_tree::Tree;
 use plain_rule::finished_document;
 use std::alloc::Global;

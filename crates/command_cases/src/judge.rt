@@ -1,9 +1,8 @@
 // Whether a case of a command is answered as it is wanted: as it stands, with each front of a file, or with each text of a list.
-use crate::command_fails::{ended, failures, tell_run};
-use crate::command_run::{Wanted, read_wanted, runs};
-use crate::command_setting::Twist;
-use crate::fault::{Defect, Fault};
-use crate::part::{Part, has_part, number, part_of};
+use crate::fails::{ended, failures, tell_run};
+use crate::run::{Wanted, read_wanted, runs};
+use crate::setting::Twist;
+use case_text::{Defect, Fault, Part, has_part, number, part_of};
 use std::alloc::Global;
 
 // The path of a file and two numbers, which stand behind a word.

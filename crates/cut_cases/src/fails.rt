@@ -1,8 +1,6 @@
 // Runs of a case of documents in pieces in which each fill fails in turn.
-use crate::cut_run::{Turn, run};
-use crate::differ::{differing_line, differing_number};
-use crate::fault::Fault;
-use crate::part::Part;
+use crate::run::{Turn, run};
+use case_text::{Fault, Part, differing_line, differing_number};
 use std::alloc::Global;
 
 // The text of some bytes.

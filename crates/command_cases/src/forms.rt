@@ -1,7 +1,7 @@
 // The parts that a case of a command may have.
-use crate::form::Form;
-use crate::form::Shape::{Nothing, Pieces, Words, WordsAndPieces};
-use crate::form::Times::{Often, Once, OnceEach};
+use case_text::Form;
+use case_text::Shape::{Nothing, Pieces, Words, WordsAndPieces};
+use case_text::Times::{Often, Once, OnceEach};
 
 /// The parts that a case of a command may have.
 pub const FORMS: [Form; 18] = [

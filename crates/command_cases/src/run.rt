@@ -1,9 +1,6 @@
 // A run of a case, and what differs of what it is wanted to leave.
-use crate::command_setting::{Twist, files_of, own_words, streams_of};
-use crate::command_table::tables_of;
-use crate::differ::{differing_line, differing_number};
-use crate::fault::Fault;
-use crate::part::{Part, part_of};
+use crate::setting::{Twist, failing, files_of, own_words, streams_of};
+use case_text::{Fault, Part, differing_line, differing_number, part_of, tables_of};
 use mix_call::mixq;
 use mix_io::{MemFiles, MemInput, MemSink, Streams};
 use std::alloc::Global;
@@ -40,7 +37,7 @@ fn call(
 fn run(alloc: Global, parts: &[Part<'_>], twist: Twist<'_>) -> Result<Outcome, Fault> {
     let words = own_words(alloc, parts)?;
     let mut files = files_of(alloc, parts, twist)?;
-    let tables = tables_of(alloc, parts, twist)?;
+    let tables = tables_of(alloc, parts, failing(alloc, parts, "pages", twist)?)?;
     let mut streams = streams_of(alloc, parts, twist)?;
     let (status, tables) = call(alloc, &words, &mut files, tables, &mut streams);
     let pages = tables.pages();

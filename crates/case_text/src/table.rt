@@ -2,7 +2,6 @@
 ghost use Rattle.std.specs.Prelude.{◌≡◌, true, IfOk, IfSome, ◌<◌};
 ghost use Rattle.table_keep.specs.Table.{is_sound};
 
-use crate::command_setting::{Twist, failing};
 use crate::fault::{Defect, Fault};
 use crate::part::{Part, part_of};
 use mix_tree::Label;
@@ -125,9 +124,8 @@ fn one_table(
     Ok(MemTables::new(alloc, tables, failing)?)
 }
 
-/// The tables of a case, none or one, some of whose pages fail.
-pub fn tables_of(alloc: Global, parts: &[Part<'_>], twist: Twist<'_>) -> Result<MemTables, Fault> {
-    let failing = failing(alloc, parts, "pages", twist)?;
+/// The tables of a case, none or one, of which the pages of these numbers fail.
+pub fn tables_of(alloc: Global, parts: &[Part<'_>], failing: Vec<u64>) -> Result<MemTables, Fault> {
     match (part_of(parts, "table"), part_of(parts, "row")) {
         (Some(part), _) => one_table(alloc, parts, part, failing),
         (None, Some(row)) => Err(row.wrong(Defect::Beside)),

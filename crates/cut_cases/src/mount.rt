@@ -1,11 +1,8 @@
 // The documents of a case's catalog, mounted: of files and of tables that the case has.
-use crate::command_setting::Twist;
-use crate::command_table::tables_of;
-use crate::cut_setting::catalog_of;
-use crate::fault::Fault;
-use crate::part::Part;
+use crate::setting::catalog_of;
 use bracket_text::read_document;
 use bracket_wrap::BracketDoc;
+use case_text::{Fault, Part, numbers, tables_of};
 use csv_wrap::CsvDoc;
 use mix_catalog::{Catalog, SourceKind, SourceSpec};
 use mix_mount::{Mount, Mounted};
@@ -84,6 +81,6 @@ pub fn mounted(alloc: Global, parts: &[Part<'_>]) -> Result<Mounted<MemTables>, 
     if mounts.len() > 32 {
         return Err(Fault::Form);
     }
-    let tables = tables_of(alloc, parts, Twist::None)?;
+    let tables = tables_of(alloc, parts, numbers(alloc, parts, "pages")?)?;
     Ok(Mounted::new(mounts, tables))
 }

@@ -1,10 +1,8 @@
 // What sources give: a case of fills, each asked by a line of its part `gives`, which also says what is wanted to come.
-use crate::cut_judge::fills_differ;
-use crate::cut_mount::mounted;
-use crate::cut_setting::sources_of;
-use crate::differ::{differing_line, differing_number};
-use crate::fault::Fault;
-use crate::part::{Part, number, part_of};
+use crate::judge::fills_differ;
+use crate::mount::mounted;
+use crate::setting::sources_of;
+use case_text::{Fault, Part, differing_line, differing_number, number, part_of};
 use lxp_core::{HoleId, OpenTree, SourceFault, Sources};
 use mix_tree::push_label;
 use std::alloc::{AllocError, Global};
