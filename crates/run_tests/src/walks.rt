@@ -146,7 +146,7 @@ fn help_tells_each_form(rt: HostRuntime) -> Result<(), Fail> {
     assert_eq!(rt; ended.status, 0);
     assert_eq!(rt;
         ended.written.iter().filter(|byte| **byte == b'\n').count(),
-        9
+        32
     );
     Ok(())
 }
