@@ -9,7 +9,7 @@ def leaf(label):
 
 def spelling(label):
     """The canonical spelling of a label of printable characters."""
-    bare = re.fullmatch(r"[A-Za-z0-9_.:/@+-]+", label)
+    bare = re.fullmatch(r"(?:[A-Za-z0-9_.:/@#+$%-]|[^\x00-\x7f])+", label)
     return label if bare else '"' + label.replace("\\", "\\\\").replace('"', '\\"') + '"'
 
 
@@ -28,6 +28,22 @@ def node(document, place):
     return document
 
 
+def find(document, words, at):
+    """The place that a command asks for; None where there is none."""
+    if words[2] == "root":
+        return ()
+    place = at[words[3]]
+    if words[2] == "down":
+        return place + (0,)
+    if not place:
+        return None
+    if words[2] == "right":
+        return place[:-1] + (place[-1] + 1,)
+    siblings = node(document, place[:-1])[1]
+    later = (number for number in range(place[-1] + 1, len(siblings)) if spelling(siblings[number][0]) == words[4])
+    return next((place[:-1] + (number,) for number in later), None)
+
+
 def answer(document, script):
     """Prints the answer to each line of a script of one client whose names all hold nodes."""
     at = {}
@@ -41,11 +57,7 @@ def answer(document, script):
         if words[0] == "print":
             print("text", text(node(document, at[words[1]])))
             continue
-        place = () if words[2] == "root" else at[words[3]]
-        if words[2] == "down":
-            place = place + (0,)
-        elif words[2] == "right":
-            place = place[:-1] + (place[-1] + 1,) if place else None
+        place = find(document, words, at)
         found = place is not None and node(document, place) is not None
         at[words[0]] = place if found else None
         print("node" if found else "none")
