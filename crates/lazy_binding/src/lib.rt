@@ -22,7 +22,7 @@ pub use key::{KeyPart, KeyTuple, SeenKeys};
 pub use labelled::{Labelled, places, sort_labelled};
 pub use law::cursors_stay;
 pub use link::{Link, links};
-pub use parts::{Fixed, Growing, Walk};
+pub use parts::{Fixed, Growing, Walk, Walked};
 pub use position::{Position, Reached, inside, put, seen_up_to, share};
 pub use sides::rights;
 pub use variables::{binds, names_var, var_of};
