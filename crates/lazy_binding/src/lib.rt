@@ -3,6 +3,7 @@
 #![tactic(auto)]
 
 pub mod forms;
+mod gathered;
 pub mod growth;
 mod key;
 mod labelled;
@@ -18,6 +19,7 @@ mod under;
 mod variable_spots;
 mod variables;
 
+pub use gathered::Gathered;
 pub use key::{KeyPart, KeyTuple, SeenKeys};
 pub use labelled::{Labelled, places, sort_labelled};
 pub use law::cursors_stay;
