@@ -1,5 +1,5 @@
 -- What a call on one buffer leaves of a bench.
-use Rattle.std.proofs.Common.{◌≡◌, ◌<◌, ◌≤◌, ◌⊎◌, inl, inr, ℕ, zero, suc, true, List, [], ◌∷◌, Option, Some, None, length, take, set, refl, ◌∙◌, sym, ap, subst, arith}
+use Rattle.std.proofs.Common.{◌≡◌, ◌<◌, ◌≤◌, ◌⊎◌, inl, inr, ℕ, zero, suc, true, List, [], ◌∷◌, Some, None, length, take, set, refl, ◌∙◌, sym, ap, subst, arith}
 use Rattle.std.specs.Prelude.{IsTrue, slice_get, slice_index_or}
 use Rattle.std.specs.List.{AllByRecursion}
 use Rattle.std.specs.declared.alloc.Global.{Global}
@@ -18,7 +18,7 @@ use Rattle.plan_core.specs.Events.{events, keys_seen}
 use Rattle.lazy_binding.specs.declared.key.KeyPart.{KeyPart}
 use Rattle.lazy_binding.specs.declared.key.KeyPart.TheVariants.{Node as node_part, Label as label_part, Free as free_part}
 use Rattle.lazy_binding.specs.declared.position.Position.{Position, Seen'}
-use Rattle.lazy_binding.specs.declared.position.Reached.{Reached}
+use Rattle.lazy_binding.specs.declared.parts.Walked.{Walked}
 use Rattle.lazy_binding.specs.Bench.{IsBench, HasMembers, HasReached}
 use Rattle.lazy_binding.specs.World.{World, world, docs_of, buffer_at, seen_at, seen_values, IsPart}
 use Rattle.lazy_binding.specs.Keeping.{GoesOn, Keeps}
@@ -58,13 +58,13 @@ module _ {a b : World} (k : Keeps a b) where
   keys_stay (key ∷ keys) h = (key_stays key h.0, keys_stay keys h.1)
 
   -- groups were walked as far as before
-  pub reached_kept : (ops : List Operator) → IsBench a ops → b.reached ≡ a.reached → HasReached b ops
+  pub reached_kept : (ops : List Operator) → IsBench a ops → b.walked ≡ a.walked → HasReached b ops
   reached_kept ops h same n r e q =
-      (cursors_kept a b k ops h n (Seen' q r.below.value r.seen) (h.reached n r (ap (λ (z : List (Option Reached)). slice_index_or z n None) (sym same) ∙ e) q)).cursor
+      (cursors_kept a b k ops h n (Seen' q r.below.value r.seen) (h.reached n r (ap (λ (z : Walked). slice_index_or z.reached.items n None) (sym same) ∙ e) q)).cursor
 
   -- where no key was seen anew, no group was walked on, and the memos have members of their sides, what is left is the bench of the later sources
-  pub bench_stays : (ops : List Operator) → IsBench a ops → b.seen ≡ a.seen → HasMembers b ops → b.reached ≡ a.reached → ((s : ℕ) (x : Buffer) → buffer_at b s ≡ Some x → (number_of x ≡ s) × IsSourcesOf b.view x) → IsBench b ops
-  bench_stays ops h same members reached sources = record {
+  pub bench_stays : (ops : List Operator) → IsBench a ops → b.seen ≡ a.seen → HasMembers b ops → b.walked ≡ a.walked → ((s : ℕ) (x : Buffer) → buffer_at b s ≡ Some x → (number_of x ≡ s) × IsSourcesOf b.view x) → IsBench b ops
+  bench_stays ops h same members walked sources = record {
     roots = λ s l. k.view.knows s (b.view.root s) (subst (λ (r : _). a.view.knows s r ≡ true) (sym (k.view.root s)) (h.roots s (subst (λ (n : ℕ). s < n) k.view.count l)));
     few = subst (λ (n : ℕ). n ≤ b.view.count) (sym k.buffers) (subst (λ (n : ℕ). length a.buffers ≤ n) (sym k.view.count) h.few);
     sources = sources;
@@ -79,18 +79,18 @@ module _ {a b : World} (k : Keeps a b) where
         ∙ ap (λ (z : Documents). take (length (seen_at a n)) (keys_seen z keys [] (events z ops i))) (sym (docs_kept k ops h))
         ∙ ap (λ (z : List (List KeyPart)). take (length z) (keys_seen (docs_of b) keys [] (events (docs_of b) ops i))) (sym (at n));
     members = members;
-    marks = ap length reached ∙ h.marks;
-    reached = reached_kept ops h reached;
+    marks = ap (λ (z : Walked). length z.reached.items) walked ∙ h.marks;
+    reached = reached_kept ops h walked;
   }
     where
       at : (n : ℕ) → seen_at b n ≡ seen_at a n
-      at n = ap (λ (z : List (List (List KeyPart))). seen_at (record { view = a.view; buffers = a.buffers; seen = z; memos = a.memos; reached = a.reached }) n) same
+      at n = ap (λ (z : List (List (List KeyPart))). seen_at (record { view = a.view; buffers = a.buffers; seen = z; memos = a.memos; walked = a.walked }) n) same
 
 -- a call on the buffer of one source
-module _ (v v' : View) (bs : List Buffer) (seen : List (List (List KeyPart))) (memos : List (Kept (Rc Position Global))) (reached : List (Option Reached)) (ops : List Operator) (bench : IsBench (world v bs seen memos reached) ops) (keeps : KeepsView v' v)
+module _ (v v' : View) (bs : List Buffer) (seen : List (List (List KeyPart))) (memos : List (Kept (Rc Position Global))) (walked : Walked) (ops : List Operator) (bench : IsBench (world v bs seen memos walked) ops) (keeps : KeepsView v' v)
     (s : ℕ) (x y : Buffer) (there : slice_get bs s ≡ Some x) (goes : Goes v x v' y) (sources : IsSourcesOf v' y) (others : (c : Buffer) → IsSourcesOf v c → IsKept v v' c) where
   -- keeps what every call keeps
-  pub buffer_keeps : Keeps (world v bs seen memos reached) (world v' (set bs s y) seen memos reached)
+  pub buffer_keeps : Keeps (world v bs seen memos walked) (world v' (set bs s y) seen memos walked)
   buffer_keeps = record {
     view = keeps;
     buffers = length-set bs s y;
@@ -103,7 +103,7 @@ module _ (v v' : View) (bs : List Buffer) (seen : List (List (List KeyPart))) (m
     members = λ n k l. refl;
   }
     where
-      at : (t : ℕ) (z : Buffer) → slice_get bs t ≡ Some z → (t ≡ s) ⊎ (t ≡ s → ⊥) → GoesOn (world v bs seen memos reached) (world v' (set bs s y) seen memos reached) t z
+      at : (t : ℕ) (z : Buffer) → slice_get bs t ≡ Some z → (t ≡ s) ⊎ (t ≡ s → ⊥) → GoesOn (world v bs seen memos walked) (world v' (set bs s y) seen memos walked) t z
       at t z h (inl e) =
           let same : x ≡ z = (let f : Some x ≡ Some z = sym there ∙ ap (slice_get bs) (sym e) ∙ h in cc) in
           record {
@@ -114,7 +114,7 @@ module _ (v v' : View) (bs : List Buffer) (seen : List (List (List KeyPart))) (m
       at t z h (inr ne) = record { later = z; there = get_other bs s t y ne ∙ h; goes = (others z (bench.sources t z h).1).goes }
 
   -- and leaves a bench of the later sources
-  pub buffer_bench : IsBench (world v' (set bs s y) seen memos reached) ops
+  pub buffer_bench : IsBench (world v' (set bs s y) seen memos walked) ops
   buffer_bench = bench_stays buffer_keeps ops bench refl (same_members buffer_keeps ops bench refl) refl (λ t z h. at t z h (cases_eq t s))
     where
       at : (t : ℕ) (z : Buffer) → slice_get (set bs s y) t ≡ Some z → (t ≡ s) ⊎ (t ≡ s → ⊥) → (number_of z ≡ t) × IsSourcesOf v' z

@@ -1,5 +1,5 @@
 -- What is kept over calls: documents, told sources, places, bounds and keys that were seen.
-use Rattle.std.proofs.Common.{◌≡◌, ◌<◌, ◌+◌, ℕ, zero, suc, Bool, true, false, Option, List, [], length, refl, ◌∙◌, sym, ap, arith}
+use Rattle.std.proofs.Common.{◌≡◌, ◌<◌, ◌+◌, ℕ, zero, suc, Bool, true, false, List, [], length, refl, ◌∙◌, sym, ap, arith}
 use Rattle.std.specs.Prelude.{nat_lt, cond}
 use Rattle.std.proofs.lemmas.Bool.Decides.{nat_tests}
 use Rattle.mix_tree.specs.Forest.{none}
@@ -13,7 +13,7 @@ use Rattle.plan_core.specs.Plans.{Operator}
 use Rattle.lazy_binding.specs.Bench.{IsBench}
 use Rattle.lazy_binding.specs.World.{World, world, docs_of, reads, is_told, is_forward, of_buffer, place_in, spot_node, IsSpotIn, roots_weight, bound_of}
 use Rattle.lazy_binding.specs.Keeping.{Keeps}
-use Rattle.lazy_binding.specs.declared.position.Reached.{Reached}
+use Rattle.lazy_binding.specs.declared.parts.Walked.{Walked}
 
 -- a list of tests that agree has one answer
 reads-same : (f g : ℕ → Bool) → ((s : ℕ) → f s ≡ g s) → (ops : List Operator) → list_all (reads f) ops ≡ list_all (reads g) ops
@@ -103,8 +103,8 @@ goes_twice g h = record {
 }
 
 -- how far groups were walked is no part of what is kept
-pub keeps_walked : (w : World) (reached : List (Option Reached)) → Keeps w (world w.view w.buffers w.seen w.memos reached)
-keeps_walked w reached = record {
+pub keeps_walked : (w : World) (walked : Walked) → Keeps w (world w.view w.buffers w.seen w.memos walked)
+keeps_walked w walked = record {
   view = keeps_view_same w.view;
   buffers = refl;
   goes = λ s b there. record { later = b; there = there; goes = goes_idle w.view b };
@@ -118,7 +118,7 @@ keeps_walked w reached = record {
 
 -- nothing happened
 pub keeps_same : (w : World) (ops : List Operator) → IsBench w ops → Keeps w w
-keeps_same w ops h = keeps_walked w w.reached
+keeps_same w ops h = keeps_walked w w.walked
 
 -- one call after another
 pub keeps_then : {a b c : World} → Keeps a b → Keeps b c → Keeps a c

@@ -3,6 +3,9 @@ pub mod Bound
 pub mod Buffers
 pub mod FirstLists
 pub mod FirstMembers
+pub mod Gathering
+pub mod Gathers
+pub mod GroupLists
 pub mod Keep
 pub mod KeyParts
 pub mod Labels

@@ -60,5 +60,5 @@ module _ {a b : World} (k : Keeps a b) (ops : List Operator) (bench : IsBench a 
   -- so do all memos, where they are the same
   pub same_members : b.memos ≡ a.memos → HasMembers b ops
   same_members same n l r tests e =
-      subst (AreMembers b ops r (link_at ops n)) (sym (ap (λ (z : List (Kept (Rc Position Global))). memo_at (record { view = a.view; buffers = a.buffers; seen = a.seen; memos = z; reached = a.reached }) n) same))
+      subst (AreMembers b ops r (link_at ops n)) (sym (ap (λ (z : List (Kept (Rc Position Global))). memo_at (record { view = a.view; buffers = a.buffers; seen = a.seen; memos = z; walked = a.walked }) n) same))
       (members_kept r (link_at ops n) (memo_at a n) (bench.members n l r tests e))

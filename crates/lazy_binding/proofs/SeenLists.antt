@@ -1,6 +1,6 @@
 -- Keys that were seen, among the keys of a set.
 use Rattle.std.proofs.Common.{◌≡◌, ◌<◌, ◌≤◌, ◌+◌, ℕ, zero, suc, Bool, true, false, ◌||◌, List, [], ◌∷◌, ◌++◌, Some, None, length, get_or, take, map, position, refl, ◌∙◌, sym, ap, arith}
-use Rattle.std.specs.Prelude.{nat_lt, not, slice_get, if◌then◌else◌}
+use Rattle.std.specs.Prelude.{nat_lt, not, slice_get, slice_index_or, if◌then◌else◌}
 use Rattle.std.proofs.lemmas.Bool.Decides.{nat_tests}
 use Rattle.std.specs.List.{list_any, position_or_len, AllByRecursion, IsDistinct}
 use Rattle.std.specs.Cmp.{IsEquivalence}
@@ -138,3 +138,14 @@ module _ (key : List KeyPart) (k : SmallVec KeyPart) (same : same_parts k.items 
     -- and one of those up to it
     pub seen_up_to : was_seen key (take (suc i) (map (λ j. j.items) ks)) ≡ true
     seen_up_to = few_is key ks (suc i) ∙ one_there ks i there
+
+-- what stands at a place of the keys
+key_at : (ks : List (SmallVec KeyPart)) (j : ℕ) → j < length (map (λ k. k.items) ks) → (k : SmallVec KeyPart) × (slice_get ks j ≡ Some k) × (slice_index_or (map (λ k. k.items) ks) j [] ≡ k.items)
+key_at [] j l = absurd (omega (arith, l))
+key_at (k ∷ ks) zero l = (k, refl, refl)
+key_at (k ∷ ks) (suc j) l = key_at ks j (omega (arith, l))
+
+-- a key stands at one place alone
+pub seen_alone : (key : List KeyPart) (ks : List (SmallVec KeyPart)) → IsDistinct same_key ks → (j : ℕ) → j < length (map (λ k. k.items) ks)
+    → same_parts (slice_index_or (map (λ k. k.items) ks) j []) key ≡ true → was_seen key (take j (map (λ k. k.items) ks)) ≡ false
+seen_alone key ks d j l same = (let k = key_at ks j l in unseen_before key k.0 (ap (λ (z : List KeyPart). same_parts z key) (sym k.2) ∙ same) ks j k.1 d)

@@ -41,5 +41,5 @@ pub record IsBench (w : World) (ops : List Operator) : Type 0 where
   pub seen : (n i : ℕ) (keys : List Key) → drops_by (shape_at ops n) ≡ Some (i, keys) → IsTrue (is_told w ops)
       → seen_values w (seen_at w n) ≡ take (length (seen_at w n)) (keys_seen (docs_of w) keys [] (events (docs_of w) ops i))
   pub members : HasMembers w ops
-  pub marks : length w.reached ≡ length ops
+  pub marks : length w.walked.reached.items ≡ length ops
   pub reached : HasReached w ops

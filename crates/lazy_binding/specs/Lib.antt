@@ -1,6 +1,8 @@
 pub mod Bench
 pub mod Cursors
 pub mod Forms
+pub mod Gathered
+pub mod Gathering
 pub mod Growth
 pub mod Keeping
 pub mod KeyLaws

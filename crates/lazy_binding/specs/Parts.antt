@@ -22,7 +22,7 @@ operators f = map op_of f.plan.ops.items
 
 -- what a view and what has grown are together
 abbrev pub world_of : View → Growing → World
-world_of v g = world v g.buffers.items g.seen.items g.memos.items g.reached.items
+world_of v g = world v g.buffers.items g.seen.items g.memos.items g.walked
 
 -- the plan is valid, each path has its automaton, and of each operator it is told whether its groups end at the first other key, whether it passes on bindings that are all different by its keys, by
 -- which variables members are looked up, and which are those of its right side alone

@@ -1,5 +1,5 @@
--- What a bench stands on: what its sources mean, a buffer for each of them, and for each operator the keys that were seen, the memo of its right side, and how far its
--- group at hand was walked.
+-- What a bench stands on: what its sources mean, a buffer for each of them, and for each operator the keys that were seen, and the memo of its right side; and how far
+-- groups were walked.
 use Rattle.std.specs.Prelude.{◌≡◌, ◌+◌, nat_lt, cond, ℕ, zero, suc, Bool, true, false, Option, Some, None, List, [], ◌∷◌, map, take, length, slice_get, slice_index_or}
 use Rattle.std.specs.List.{list_all}
 use Rattle.std.specs.declared.alloc.Global.{Global}
@@ -19,6 +19,7 @@ use Rattle.plan_core.specs.TolledRows.{KeyValue, by_node, by_label}
 use Rattle.lazy_descend.specs.declared.cursor.DescCursor.{DescCursor}
 use Rattle.lazy_descend.specs.Cursors.{IsCursor, place_at, ahead, number}
 use Rattle.lazy_binding.specs.declared.key.KeyPart.{KeyPart}
+use Rattle.lazy_binding.specs.declared.parts.Walked.{Walked}
 use Rattle.lazy_binding.specs.declared.position.Reached.{Reached}
 use Rattle.lazy_binding.specs.declared.key.KeyPart.TheVariants.{Node as node_part, Label as label_part, Free as free_part}
 use Rattle.lazy_binding.specs.declared.position.Position.{Position, Start}
@@ -29,11 +30,11 @@ pub record World : Type 0 where
   pub buffers : List Buffer
   pub seen : List (List (List KeyPart))
   pub memos : List (Kept (Rc Position Global))
-  pub reached : List (Option Reached)
+  pub walked : Walked
 
 -- these together
-abbrev pub world : View → List Buffer → List (List (List KeyPart)) → List (Kept (Rc Position Global)) → List (Option Reached) → World
-world view buffers seen memos reached = record { view = view; buffers = buffers; seen = seen; memos = memos; reached = reached }
+abbrev pub world : View → List Buffer → List (List (List KeyPart)) → List (Kept (Rc Position Global)) → Walked → World
+world view buffers seen memos walked = record { view = view; buffers = buffers; seen = seen; memos = memos; walked = walked }
 
 -- the documents of the sources; a number that no source has stands for no trees
 abbrev pub docs_of : World → Documents
@@ -124,7 +125,7 @@ memo_at w n = slice_index_or w.memos n no_pairs
 
 -- how far the group at hand of an operator was walked
 abbrev pub reached_at : World → ℕ → Option Reached
-reached_at w n = slice_index_or w.reached n None
+reached_at w n = slice_index_or w.walked.reached.items n None
 
 -- the last of these positions, or the one before them
 abbrev pub last_of : Position → List Member → Position

@@ -7,7 +7,7 @@ ghost use Rattle.lazy_binding.specs.World.{last_of, no_pairs};
 ghost use Rattle.lazy_binding.specs.declared.position.Position.{Start};
 
 use crate::key::{KeyTuple, SeenKeys};
-use crate::parts::Growing;
+use crate::parts::{Growing, Walked};
 use crate::position::{Position, Reached, put, share};
 use join_memo::Memo;
 use lxp_core::WalkFault;
@@ -77,24 +77,24 @@ pub fn is_first(list: &mut SeenKeys, key: KeyTuple, count: usize) -> Result<bool
 }
 
 /// A group was walked to a binding of its operator's input.
-pub fn reach(reached: &mut Vec<Option<Reached>>, op: usize, to: Reached)
-    requires { op < length reached.old.items }
-    ensures { IsReached reached.old.items reached.new.items op to }
+pub fn reach(walked: &mut Walked, op: usize, to: Reached)
+    requires { op < length walked.old.reached.items }
+    ensures { IsReached walked.old.reached.items walked.new.reached.items op to }
 {
-    reached[op] = Some(to);
+    walked.reached[op] = Some(to);
 }
 
 /// Where the group at a position was walked, the last member that was found; `None` exactly where it isn't known.
 pub fn resume(growing: &Growing, op: usize, at: &Position) -> Result<Option<Position>, WalkFault>
-    requires op { op < length growing.now.reached.items }
+    requires op { op < length growing.now.walked.reached.items }
     ensures err { IfErr result (λ e. e ≡ OutOfMemory) }
-    ensures later { let reached = growing.now.reached.items in
+    ensures later { let reached = growing.now.walked.reached.items in
         IfOk result (λ r. MatchOption r (IsUnknown reached op at.now) (Resumes reached op at.now)) }
 {
     let Position::First(_, seen) = at else {
         return Ok(None);
     };
-    match &growing.reached[op] {
+    match &growing.walked.reached[op] {
         Some(reached) if reached.seen == *seen => {
             let below = share(&reached.below)?;
             Ok(Some(Position::Seen(below, *seen)))

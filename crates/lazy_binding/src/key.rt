@@ -1,5 +1,5 @@
 // Keys that an operator has seen.
-ghost use Rattle.std.specs.Prelude.{◌≡◌, ◌<◌, ◌++◌, ◌∷◌, [], OnErr, IfOk, IfErr, IsTrue, if◌then◌else◌, true, false, not, suc, length, slice_index_or, take};
+ghost use Rattle.std.specs.Prelude.{◌≡◌, ◌<◌, ◌++◌, ◌∷◌, [], OnErr, IfOk, IfErr, IfSome, IsTrue, ℕ, nat_lt, is_none, if◌then◌else◌, true, false, not, suc, length, slice_index_or, take};
 ghost use Rattle.lazy_binding.specs.Keys.{same_part, same_parts, part_fed, was_seen};
 ghost use Rattle.lazy_binding.specs.KeyLaws.{part_partial_equivalence, part_equivalence, part_alike};
 ghost use Rattle.lxp_core.specs.declared.fault.WalkFault.TheVariants.{OutOfMemory};
@@ -132,6 +132,19 @@ impl SeenKeys {
             Some(place) => place < few,
             None => false,
         }
+    }
+
+    /// The number of a key among those that were seen; `None` exactly where it was not seen.
+    pub fn number_of(&self, key: &KeyTuple) -> Option<usize>
+        ensures within { IfSome result (λ m. m < length self.now) }
+        ensures none { is_none result ≡ true → (few : ℕ) → was_seen key.now.items (take few self.now) ≡ false }
+        ensures some { IfSome result (λ m. (few : ℕ) → nat_lt m few ≡ was_seen key.now.items (take few self.now)) }
+        ensures alone { (j : ℕ) → j < length self.now → same_parts (slice_index_or self.now j []) key.now.items ≡ true → was_seen key.now.items (take j self.now) ≡ false }
+    {
+        if self.keys.len() == 0 {
+            return None;
+        }
+        self.keys.get_index_of(key)
     }
 
     /// A key that was not seen stands behind the others; whether it is one. No key is hashed where it is the last of them.

@@ -3,6 +3,7 @@
 #![tactic(auto)]
 
 pub mod forms;
+mod gathered;
 pub mod growth;
 mod key;
 mod labelled;
@@ -18,11 +19,12 @@ mod under;
 mod variable_spots;
 mod variables;
 
+pub use gathered::Gathered;
 pub use key::{KeyPart, KeyTuple, SeenKeys};
 pub use labelled::{Labelled, places, sort_labelled};
 pub use law::cursors_stay;
 pub use link::{Link, links};
-pub use parts::{Fixed, Growing, Walk};
+pub use parts::{Fixed, Growing, Walk, Walked};
 pub use position::{Position, Reached, inside, put, seen_up_to, share};
 pub use sides::rights;
 pub use variables::{binds, names_var, var_of};

@@ -28,15 +28,20 @@ pub struct Fixed {
     pub rights: Vec<Vec<Var>>,
 }
 
+/// How far groups were walked: for each operator its group at hand, where its groups end at the first other key.
+#[derive(Drop)]
+pub struct Walked {
+    pub reached: Vec<Option<Reached>>,
+}
+
 /// What grows while a plan is walked: for each source the nodes that were handed out, and for each operator the keys that it has seen, the
-/// bindings of its right side as far as they were asked for, where it is a join, and how far its group at hand was walked, where its groups
-/// end at the first other key.
+/// bindings of its right side as far as they were asked for, where it is a join, and how far its groups were walked.
 #[derive(Drop)]
 pub struct Growing {
     pub buffers: Vec<Buffer>,
     pub seen: Vec<SeenKeys>,
     pub memos: Vec<Memo<Rc<Position>>>,
-    pub reached: Vec<Option<Reached>>,
+    pub walked: Walked,
 }
 
 /// An operator of a plan: the plan, and the operator's number.

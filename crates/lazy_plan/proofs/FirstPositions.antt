@@ -1,5 +1,5 @@
 -- The positions of an operator that drops bindings by keys that it has seen: each stands over one of the input.
-use Rattle.std.proofs.Common.{◌≡◌, ◌<◌, ◌≤◌, ◌+◌, ◌-◌, ◌*◌, ℕ, suc, true, false, List, [], ◌∷◌, Option, Some, None, length, drop, refl, ◌∙◌, sym, ap, arith}
+use Rattle.std.proofs.Common.{◌≡◌, ◌<◌, ◌≤◌, ◌+◌, ◌-◌, ◌*◌, ℕ, suc, true, false, List, [], ◌∷◌, Option, Some, None, length, refl, ◌∙◌, sym, ap, arith}
 use Rattle.std.specs.Prelude.{IsTrue}
 use Rattle.mix_base.specs.Events.{nothing, found, cost}
 use Rattle.lazy_descend.specs.Searches.{FindsNone}
@@ -12,11 +12,12 @@ use Rattle.plan_core.specs.Shapes.{Shape, first_by_keys, shape_of, shape_at, pas
 use Rattle.plan_core.specs.Fronts.{stops_over, shape_apart}
 use Rattle.plan_core.specs.Events.{kept_row}
 use Rattle.plan_core.specs.Typed.{IsTyped}
-use Rattle.plan_core.specs.Events.{events, distinct, keys_seen}
+use Rattle.plan_core.specs.Events.{distinct}
 use Rattle.plan_core.proofs.Distinct.{found-distinct_none, cost-distinct_le}
 use Rattle.lazy_binding.specs.declared.position.Position.{Position, Start, Pass', First', Seen'}
 use Rattle.lazy_binding.specs.World.{World, docs_of, is_told, seen_at}
-use Rattle.lazy_binding.specs.Cursors.{NoneBefore, IsPast, behind_first, up_to, ahead, number, size, stands, weighs, IsIn, IsOf}
+use Rattle.lazy_binding.specs.Cursors.{up_to, ahead, number, size, stands, weighs, IsIn, IsOf}
+use Rattle.lazy_binding.specs.Gathering.{IsPassed}
 use Rattle.lazy_binding.specs.Reading.{below, count_of}
 use Rattle.lxp_core.specs.View.{View}
 use Rattle.lazy_binding.specs.declared.parts.Growing.{Growing}
@@ -24,6 +25,7 @@ use Rattle.lazy_binding.specs.declared.parts.Fixed.{Fixed}
 use Rattle.lazy_binding.specs.Parts.{operators, world_of}
 use Rattle.lazy_plan.specs.Steps.{single, CanStep, telling}
 use Rattle.lazy_binding.proofs.Bound.{inputs_at}
+use Rattle.lazy_binding.proofs.Gathering.{passed_there, passed_first}
 use Rattle.lazy_plan.proofs.Goes.{in_shape, less_times, IsOver}
 use Rattle.lazy_plan.proofs.Shapes.{events_at, size_at, single_at}
 
@@ -65,30 +67,20 @@ module _ (ops : List Operator) (n i : ℕ) (keys : List Key) (group : Option (Pi
     firsts_ahead_is w (Pass' q c) h = absurd (not_passed w q c h)
     firsts_ahead_is w c h = absurd h
 
-    -- the keys that it sees there are those behind the ones that were seen
-    pub firsts_keys : (w : World) (c : Position) → IsIn w ops n F c → IsTrue (is_told w ops)
-        → keys_seen (docs_of w) keys (up_to w n (count_of c)) (ahead w ops i (below c)) ≡ drop (count_of c) (keys_seen (docs_of w) keys [] (events (docs_of w) ops i))
-    firsts_keys w Start h t = refl
-    firsts_keys w (First' q c k) h t = h.3 t
-    firsts_keys w (Seen' q c k) h t = h.3 t
-    firsts_keys w (Pass' q c) h t = absurd (not_passed w q c h)
-    firsts_keys w c h t = absurd h
-
-    -- no event before it has other keys than those that were seen up to it
-    pub firsts_before : (w : World) (c : Position) → IsIn w ops n F c → IsTrue (is_told w ops) → NoneBefore (docs_of w) keys (events (docs_of w) ops i) (up_to w n (count_of c)) (ahead w ops i (below c))
-    firsts_before w Start h t = λ row e. refl
-    firsts_before w (First' q c k) h t = h.4 t
-    firsts_before w (Seen' q c k) h t = h.4 t
-    firsts_before w (Pass' q c) h t = absurd (not_passed w q c h)
-    firsts_before w c h t = absurd h
-
-    -- no more keys were seen than there are bindings up to it
-    pub firsts_few : (w : World) (c : Position) → IsIn w ops n F c → number w ops i (below c) + count_of c ≤ size w ops i
-    firsts_few w Start h = omega arith
-    firsts_few w (First' q c k) h = h.7
-    firsts_few w (Seen' q c k) h = h.5
-    firsts_few w (Pass' q c) h = absurd (not_passed w q c h)
-    firsts_few w c h = absurd h
+    -- the walk over the input has passed what is up to it
+    pub firsts_passed : (w : World) (c : Position) → IsIn w ops n F c → IsPassed w ops n i keys group (below c) (count_of c)
+    firsts_passed w Start h = record {
+      cursor = tt;
+      few = omega arith;
+      within = omega arith;
+      seen = λ t. refl;
+      before = λ t row e. refl;
+      past = λ t. (let e = events_at ops typed n within F is (docs_of w) in let l = ap cost e in record { found = ap found e; costs = omega (arith, l) });
+    }
+    firsts_passed w (First' q c k) h = passed_first w ops n i keys group c k q h
+    firsts_passed w (Seen' q c k) h = passed_there w ops n i keys group c k q h
+    firsts_passed w (Pass' q c) h = absurd (not_passed w q c h)
+    firsts_passed w c h = absurd h
 
     -- its number is above that of a later position with as many keys
     pub firsts_above : (w : World) (c : Position) → IsIn w ops n F c → (m : ℕ) → m < number w ops i (below c) → (size w ops i - count_of c) * suc (size w ops i) + m < weighs w ops n F c
@@ -116,14 +108,6 @@ module _ (ops : List Operator) (n i : ℕ) (keys : List Key) (group : Option (Pi
         omega (arith, m)
     firsts_over_next w (Pass' q c) h l = absurd (not_passed w q c h)
     firsts_over_next w c h l = absurd h
-
-    -- the bindings ahead are those behind as many of the operator's as keys were seen
-    pub firsts_past : (w : World) (c : Position) → IsIn w ops n F c → IsTrue (is_told w ops) → IsPast (behind_first (count_of c) (events (docs_of w) ops n)) (stands w ops n F c).ahead
-    firsts_past w Start h t = record { found = refl; costs = omega arith }
-    firsts_past w (First' q c k) h t = record { found = ap found (sym (h.9 t)); costs = (let e = ap cost (h.9 t) in omega (arith, e)) }
-    firsts_past w (Seen' q c k) h t = h.6 t
-    firsts_past w (Pass' q c) h t = absurd (not_passed w q c h)
-    firsts_past w c h t = absurd h
 
     -- a single one is over a single one
     pub firsts_single : IsTrue (single ops n) → IsTrue (single ops i)

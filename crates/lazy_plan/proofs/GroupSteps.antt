@@ -4,7 +4,6 @@ use Rattle.std.specs.Prelude.{IsTrue, slice_index_or}
 use Rattle.std.specs.List.{AllByRecursion, last_or}
 use Rattle.std.specs.declared.alloc.Global.{Global}
 use Rattle.std.specs.declared.rc.Rc.{Rc}
-use Rattle.std.specs.declared.vec.Vec.{Vec}
 use Rattle.std.proofs.lemmas.Bool.{cases_eq}
 use Rattle.std.proofs.lemmas.List.{get_or_default}
 use Rattle.mix_base.proofs.Choices.{some_is}
@@ -30,6 +29,7 @@ use Rattle.lazy_descend.proofs.Searches.{still_told}
 use Rattle.lazy_binding.specs.declared.key.KeyPart.{KeyPart}
 use Rattle.lazy_binding.specs.declared.parts.Growing.{Growing}
 use Rattle.lazy_binding.specs.declared.position.Position.{Position, Start, First', Seen'}
+use Rattle.lazy_binding.specs.declared.parts.Walked.{Walked}
 use Rattle.lazy_binding.specs.declared.position.Reached.{Reached}
 use Rattle.lazy_binding.specs.Bench.{IsBench}
 use Rattle.lazy_binding.specs.World.{World, world, docs_of, is_told, seen_at, part_value, IsPart}
@@ -96,42 +96,42 @@ group_begins w p n c d m f k e g =
 -- HOW FAR A GROUP WAS WALKED
 
 -- that a group was walked on leaves a bench
-pub reached_bench : (b : World) (ops : List Operator) → IsBench b ops → (reached : List (Option Reached)) (n : ℕ) (to : Reached) → IsReached b.reached reached n to → HasSeen b ops n to.below.value to.seen
-    → IsBench (world b.view b.buffers b.seen b.memos reached) ops
-reached_bench b ops late reached n to r seen = record {
+pub reached_bench : (b : World) (ops : List Operator) → IsBench b ops → (walked : Walked) (n : ℕ) (to : Reached) → IsReached b.walked.reached.items walked.reached.items n to → HasSeen b ops n to.below.value to.seen
+    → IsBench (world b.view b.buffers b.seen b.memos walked) ops
+reached_bench b ops late walked n to r seen = record {
   roots = late.roots;
   few = late.few;
   sources = late.sources;
   enough = late.enough;
   lists = late.lists;
   memos = late.memos;
-  parts = λ j. keys_stay (keeps_walked b reached) (seen_at b j) (late.parts j);
+  parts = λ j. keys_stay (keeps_walked b walked) (seen_at b j) (late.parts j);
   seen = late.seen;
-  members = same_members (keeps_walked b reached) ops late refl;
+  members = same_members (keeps_walked b walked) ops late refl;
   marks = r.lists ∙ late.marks;
   reached = λ j x e q. reached_at_one j x e q (cases_eq j n);
 }
   where
     here : World
-    here = world b.view b.buffers b.seen b.memos reached
+    here = world b.view b.buffers b.seen b.memos walked
 
-    reached_at_one : (j : ℕ) (x : Reached) → slice_index_or reached j None ≡ Some x → (q : _) → (j ≡ n) ⊎ (j ≡ n → ⊥) → IsOf here ops j (Seen' q x.below.value x.seen)
+    reached_at_one : (j : ℕ) (x : Reached) → slice_index_or walked.reached.items j None ≡ Some x → (q : _) → (j ≡ n) ⊎ (j ≡ n → ⊥) → IsOf here ops j (Seen' q x.below.value x.seen)
     reached_at_one j x e q (inl z) =
-        let same : to ≡ x = some_is to x (sym r.here ∙ ap (λ (m : ℕ). slice_index_or reached m None) (sym z) ∙ e) in
+        let same : to ≡ x = some_is to x (sym r.here ∙ ap (λ (m : ℕ). slice_index_or walked.reached.items m None) (sym z) ∙ e) in
         subst (λ (m : ℕ). IsOf here ops m (Seen' q x.below.value x.seen)) (sym z)
-        (subst (λ (y : Reached). IsOf here ops n (Seen' q y.below.value y.seen)) same (cursors_kept b here (keeps_walked b reached) ops late n (Seen' q to.below.value to.seen) (seen q)).cursor)
+        (subst (λ (y : Reached). IsOf here ops n (Seen' q y.below.value y.seen)) same (cursors_kept b here (keeps_walked b walked) ops late n (Seen' q to.below.value to.seen) (seen q)).cursor)
     reached_at_one j x e q (inr ne) =
-        (cursors_kept b here (keeps_walked b reached) ops late j (Seen' q x.below.value x.seen) (late.reached j x (sym (r.others j ne) ∙ e) q)).cursor
+        (cursors_kept b here (keeps_walked b walked) ops late j (Seen' q x.below.value x.seen) (late.reached j x (sym (r.others j ne) ∙ e) q)).cursor
 
 -- a call, and then a group that was walked on
-pub ran_reached : {S : Type 0} {view : S → View} {came_from : S → S → Type 0} {ops : List Operator} {n : ℕ} {es : RowEvents} {s t : S} {g h : Growing} (reached : Vec (Option Reached) Global)
-    → IsBench (world (view t) h.buffers.items h.seen.items h.memos.items reached.items) ops
-    → Ran view came_from ops n es s g t h → Ran view came_from ops n es s g t (record { buffers = h.buffers; seen = h.seen; memos = h.memos; reached = reached })
-ran_reached {view} {t} {h} reached bench ran = record {
+pub ran_reached : {S : Type 0} {view : S → View} {came_from : S → S → Type 0} {ops : List Operator} {n : ℕ} {es : RowEvents} {s t : S} {g h : Growing} (walked : Walked)
+    → IsBench (world (view t) h.buffers.items h.seen.items h.memos.items walked) ops
+    → Ran view came_from ops n es s g t h → Ran view came_from ops n es s g t (record { buffers = h.buffers; seen = h.seen; memos = h.memos; walked = walked })
+ran_reached {view} {t} {h} walked bench ran = record {
   came = ran.came;
   bench = bench;
   asks = record {
-    kept = keeps_then ran.asks.kept (keeps_walked (world_of (view t) h) reached.items);
+    kept = keeps_then ran.asks.kept (keeps_walked (world_of (view t) h) walked);
     above = ran.asks.above;
     lazy = ran.asks.lazy;
     none = ran.asks.none;
@@ -268,10 +268,10 @@ module _ (a b : World) (p : Plan) (op m : ℕ) (first at : Position) (q : Rc (Un
           (ap (λ (z : ℕ). was_seen key (take z (seen_at b op))) (sym one) ∙ seen) u).cursor
 
       -- it is the next member
-      pub member_found : (reached : List (Option Reached)) → same_parts (slice_index_or (seen_at b op) (m - 1) []) key ≡ true
-          → Searches.Finds (told_by (record { world = a; plan = p })) (members_of (record { world = world b.view b.buffers b.seen b.memos reached; plan = p }) op m first)
+      pub member_found : (walked : Walked) → same_parts (slice_index_or (seen_at b op) (m - 1) []) key ≡ true
+          → Searches.Finds (told_by (record { world = a; plan = p })) (members_of (record { world = world b.view b.buffers b.seen b.memos walked; plan = p }) op m first)
           (group_ahead (record { world = a; plan = p }) op first at) (number a ops i at) d
-      member_found reached e = record {
+      member_found walked e = record {
         cursor = (record { of = stay.cursor; row = f.row }, λ s u. (cursors_kept b here keeps ops late op (Seen' u d m) (member_seen u)).cursor);
         row = tt;
         falls = (let x = f.falls in let y = stay.number_is in omega (arith, x, y));
@@ -284,10 +284,10 @@ module _ (a b : World) (p : Plan) (op m : ℕ) (first at : Position) (q : Rc (Un
       }
         where
           here : World
-          here = world b.view b.buffers b.seen b.memos reached
+          here = world b.view b.buffers b.seen b.memos walked
 
           keeps : Keeps b here
-          keeps = keeps_walked b reached
+          keeps = keeps_walked b walked
 
           stay : Stays b here ops i d
           stay = cursors_kept b here keeps ops late i d f.cursor

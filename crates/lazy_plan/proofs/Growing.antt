@@ -128,7 +128,7 @@ module _ (b : World) (memos : List (Kept (Rc Position Global))) (n : ℕ) (stay 
     (more : length (memo_at b n).pairs ≤ length (slice_index_or memos n no_pairs).pairs)
     (front : (k : ℕ) → k ≤ length (memo_at b n).pairs → take k (slice_index_or memos n no_pairs).pairs ≡ take k (memo_at b n).pairs) where
   -- one memo grows
-  pub memo_keeps : Keeps b (world b.view b.buffers b.seen memos b.reached)
+  pub memo_keeps : Keeps b (world b.view b.buffers b.seen memos b.walked)
   memo_keeps = record {
     view = keeps_view_same b.view;
     buffers = refl;
@@ -153,21 +153,21 @@ module _ (b : World) (memos : List (Kept (Rc Position Global))) (n : ℕ) (stay 
   module _ (ops : List Operator) (l r : ℕ) (tests : List Test) (is : shape_at ops n ≡ pairs_up l r tests) (bench : IsBench b ops) (m : Kept (Rc Position Global))
       (here : slice_index_or memos n no_pairs ≡ m) (good : AreMembers b ops r (link_at ops n) m) where
     -- what is left is a bench
-    pub memo_bench : IsBench (world b.view b.buffers b.seen memos b.reached) ops
+    pub memo_bench : IsBench (world b.view b.buffers b.seen memos b.walked) ops
     memo_bench = bench_stays memo_keeps ops bench refl (λ j x y ts e. at j x y ts e (cases_eq j n)) refl bench.sources
       where
         right : (x y : ℕ) (ts : List Test) → pairs_up l r tests ≡ pairs_up x y ts → r ≡ y
         right x y ts e = cc
 
         at : (j x y : ℕ) (ts : List Test) → shape_at ops j ≡ pairs_up x y ts → (j ≡ n) ⊎ (j ≡ n → ⊥)
-            → AreMembers (world b.view b.buffers b.seen memos b.reached) ops y (link_at ops j) (slice_index_or memos j no_pairs)
+            → AreMembers (world b.view b.buffers b.seen memos b.walked) ops y (link_at ops j) (slice_index_or memos j no_pairs)
         at j x y ts e (inl z) =
             let same : r ≡ y = right x y ts (sym is ∙ ap (shape_at ops) (sym z) ∙ e) in
-            subst (λ (u : ℕ). AreMembers (world b.view b.buffers b.seen memos b.reached) ops y (link_at ops u) (slice_index_or memos u no_pairs)) (sym z)
-            (subst (λ (u : ℕ). AreMembers (world b.view b.buffers b.seen memos b.reached) ops u (link_at ops n) (slice_index_or memos n no_pairs)) same
-            (subst (AreMembers (world b.view b.buffers b.seen memos b.reached) ops r (link_at ops n)) (sym here) (members_kept memo_keeps ops bench r (link_at ops n) m good)))
+            subst (λ (u : ℕ). AreMembers (world b.view b.buffers b.seen memos b.walked) ops y (link_at ops u) (slice_index_or memos u no_pairs)) (sym z)
+            (subst (λ (u : ℕ). AreMembers (world b.view b.buffers b.seen memos b.walked) ops u (link_at ops n) (slice_index_or memos n no_pairs)) same
+            (subst (AreMembers (world b.view b.buffers b.seen memos b.walked) ops r (link_at ops n)) (sym here) (members_kept memo_keeps ops bench r (link_at ops n) m good)))
         at j x y ts e (inr ne) =
-            subst (AreMembers (world b.view b.buffers b.seen memos b.reached) ops y (link_at ops j)) (sym (stay.others j ne))
+            subst (AreMembers (world b.view b.buffers b.seen memos b.walked) ops y (link_at ops j)) (sym (stay.others j ne))
             (members_kept memo_keeps ops bench y (link_at ops j) (memo_at b j) (bench.members j x y ts e))
 
 -- a search that found a position has found it afterwards
@@ -183,8 +183,8 @@ finds_then a b c {ops} {i} {es} {top} {d} k bench f =
 
 -- a call, and then one memo that grows
 pub ran_memo : {S : Type 0} {view : S → View} {came_from : S → S → Type 0} {ops : List Operator} {n : ℕ} {es : RowEvents} {s t : S} {g h : Growing} (memos : Vec (Kept (Rc Position Global)) Global)
-    → OthersStay h.memos.items memos.items n → Keeps (world_of (view t) h) (world (view t) h.buffers.items h.seen.items memos.items h.reached.items) → IsBench (world (view t) h.buffers.items h.seen.items memos.items h.reached.items) ops
-    → Ran view came_from ops n es s g t h → Ran view came_from ops n es s g t (record { buffers = h.buffers; seen = h.seen; memos = memos; reached = h.reached })
+    → OthersStay h.memos.items memos.items n → Keeps (world_of (view t) h) (world (view t) h.buffers.items h.seen.items memos.items h.walked) → IsBench (world (view t) h.buffers.items h.seen.items memos.items h.walked) ops
+    → Ran view came_from ops n es s g t h → Ran view came_from ops n es s g t (record { buffers = h.buffers; seen = h.seen; memos = memos; walked = h.walked })
 ran_memo {S} {view} {came_from} {ops} {n} {es} {s} {t} {g} {h} memos stay keeps bench ran = record {
   came = ran.came;
   bench = bench;

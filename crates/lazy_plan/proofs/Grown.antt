@@ -66,13 +66,13 @@ module _ {S : Type 0} {view : S → View} {came_from : S → S → Type 0} {s t 
   module _ (memos : Vec (Kept (Rc Position Global)) Global) (stay : OthersStay h.memos.items memos.items n) (m : Kept (Rc Position Global)) (here : slice_index_or memos.items n no_pairs ≡ m)
       (more : length (memo_at b n).pairs ≤ length m.pairs) (front : (k : ℕ) → k ≤ length (memo_at b n).pairs → take k m.pairs ≡ take k (memo_at b n).pairs)
       (good : AreMembers b (operators p) r (link_at (operators p) n) m) where
-    keeps : Keeps b (world (view t) h.buffers.items h.seen.items memos.items h.reached.items)
+    keeps : Keeps b (world (view t) h.buffers.items h.seen.items memos.items h.walked)
     keeps =
         memo_keeps b memos.items n stay (subst (λ (z : Kept (Rc Position Global)). length (memo_at b n).pairs ≤ length z.pairs) (sym here) more)
         (λ k l. ap (λ (z : Kept (Rc Position Global)). take k z.pairs) here ∙ front k l)
 
     -- a bench
-    memos_ran : Ran view came_from (operators p) n (ahead a (operators p) r (last_at a n)) s g t (record { buffers = h.buffers; seen = h.seen; memos = memos; reached = h.reached })
+    memos_ran : Ran view came_from (operators p) n (ahead a (operators p) r (last_at a n)) s g t (record { buffers = h.buffers; seen = h.seen; memos = memos; walked = h.walked })
     memos_ran =
         ran_memo memos stay keeps
         (memo_bench b memos.items n stay (subst (λ (z : Kept (Rc Position Global)). length (memo_at b n).pairs ≤ length z.pairs) (sym here) more)
@@ -80,19 +80,19 @@ module _ {S : Type 0} {view : S → View} {came_from : S → S → Type 0} {s t 
 
   -- refused memory leaves the memo as it was
   pub refused_ran : (memos : Vec (Kept (Rc Position Global)) Global) → OthersStay h.memos.items memos.items n → slice_index_or memos.items n no_pairs ≡ memo_at b n
-      → Ran view came_from (operators p) n (ahead a (operators p) r (last_at a n)) s g t (record { buffers = h.buffers; seen = h.seen; memos = memos; reached = h.reached })
+      → Ran view came_from (operators p) n (ahead a (operators p) r (last_at a n)) s g t (record { buffers = h.buffers; seen = h.seen; memos = memos; walked = h.walked })
   refused_ran memos stay here = memos_ran memos stay (memo_at b n) here (omega arith) (λ k l. refl) (ran.bench.members n l r tests is)
 
   -- without a further binding it has ended
   module _ (memos : Vec (Kept (Rc Position Global)) Global) (stay : OthersStay h.memos.items memos.items n)
       (here : slice_index_or memos.items n no_pairs ≡ record { pairs = (memo_at b n).pairs; ended = true }) (none : FindsNone (telling a (operators p)) (ahead a (operators p) r (last_at a n))) where
-    pub ended_ran : Ran view came_from (operators p) n (ahead a (operators p) r (last_at a n)) s g t (record { buffers = h.buffers; seen = h.seen; memos = memos; reached = h.reached })
+    pub ended_ran : Ran view came_from (operators p) n (ahead a (operators p) r (last_at a n)) s g t (record { buffers = h.buffers; seen = h.seen; memos = memos; walked = h.walked })
     ended_ran =
         memos_ran memos stay (record { pairs = (memo_at b n).pairs; ended = true }) here (omega arith) (λ k l. refl)
         (subst (λ (z : Kept (Rc Position Global)). AreMembers b (operators p) r (link_at (operators p) n) (record { pairs = z.pairs; ended = true })) (sym same_memo)
         (members_end ran.asks.kept (operators p) bench r (link_at (operators p) n) (memo_at a n) old_good none))
 
-    pub ended_grown : IsGrown a (world (view t) h.buffers.items h.seen.items memos.items h.reached.items) (operators p) n r false
+    pub ended_grown : IsGrown a (world (view t) h.buffers.items h.seen.items memos.items h.walked) (operators p) n r false
     ended_grown = (here ∙ ap (λ (z : Kept (Rc Position Global)). record { pairs = z.pairs; ended = true }) same_memo, none)
 
   -- the next binding is one more member
@@ -111,13 +111,13 @@ module _ {S : Type 0} {view : S → View} {came_from : S → S → Type 0} {s t 
         subst (λ (z : Kept (Rc Position Global)). AreMembers b (operators p) r (link_at (operators p) n) (record { pairs = z.pairs ++ (label, d) ∷ []; ended = false })) (sym same_memo)
         (members_push ran.asks.kept (operators p) bench r (link_at (operators p) n) (memo_at a n) old_good label d f label_is)
 
-    pub pushed_ran : Ran view came_from (operators p) n (ahead a (operators p) r (last_at a n)) s g t (record { buffers = h.buffers; seen = h.seen; memos = memos; reached = h.reached })
+    pub pushed_ran : Ran view came_from (operators p) n (ahead a (operators p) r (last_at a n)) s g t (record { buffers = h.buffers; seen = h.seen; memos = memos; walked = h.walked })
     pushed_ran = memos_ran memos stay (record { pairs = (memo_at b n).pairs ++ (label, d) ∷ []; ended = false }) here longer fronts good
 
-    pub pushed_grown : IsGrown a (world (view t) h.buffers.items h.seen.items memos.items h.reached.items) (operators p) n r true
+    pub pushed_grown : IsGrown a (world (view t) h.buffers.items h.seen.items memos.items h.walked) (operators p) n r true
     pushed_grown = (
       (label, d),
       here ∙ ap (λ (z : Kept (Rc Position Global)). record { pairs = z.pairs ++ (label, d) ∷ []; ended = false }) same_memo,
-      finds_then a b (world (view t) h.buffers.items h.seen.items memos.items h.reached.items)
+      finds_then a b (world (view t) h.buffers.items h.seen.items memos.items h.walked)
           (keeps memos stay (record { pairs = (memo_at b n).pairs ++ (label, d) ∷ []; ended = false }) here longer fronts good) ran.bench f,
     )

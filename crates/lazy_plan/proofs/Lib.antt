@@ -15,6 +15,7 @@ pub mod Openings
 pub mod OrderSteps
 pub mod PairSteps
 pub mod PassSteps
+pub mod PassedSteps
 pub mod Passing
 pub mod Resuming
 pub mod Shapes

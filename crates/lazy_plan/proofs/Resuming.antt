@@ -19,7 +19,7 @@ module _ (ops : List Operator) (n i : ℕ) (keys : List Key) (group : Option (Pi
   F = passes_on i (first_by_keys keys group)
 
   -- from the last member that was found of the group at a position the walk goes on
-  pub firsts_resume : (a : World) (bench : IsBench a ops) (c : Position) → IsIn a ops n F c → (d : Position) → Resumes a.reached n c d
+  pub firsts_resume : (a : World) (bench : IsBench a ops) (c : Position) → IsIn a ops n F c → (d : Position) → Resumes a.walked.reached.items n c d
       → Steps a a ops n F (stands a ops n F c).ahead (weighs a ops n F c) (On d)
   firsts_resume a bench c h d (r, q, x, u, there, at, to) =
       subst (λ (z : Position). Moves a a ops n F (stands a ops n F c).ahead (weighs a ops n F c) z) (sym to)

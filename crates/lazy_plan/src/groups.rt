@@ -84,7 +84,7 @@ impl Bench {
                 }
                 let below = share(&position)?;
                 let seen = group.number;
-                reach(&mut self.growing.reached, op, Reached { below, seen });
+                reach(&mut self.growing.walked, op, Reached { below, seen });
                 Ok(Some(Cursor { position }))
             }
         }

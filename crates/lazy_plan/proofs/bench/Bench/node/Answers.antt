@@ -8,6 +8,11 @@ use Rattle.lazy_plan.specs.Bench.{state_of}
 use Rattle.lazy_plan.proofs.Benches.{spot_of_is}
 use Rattle.lazy_plan.proofs.bench.Bench.node.Goals as goal
 
+pub node_of-requires-clause-cursor : goal.node_of-requires-clause-cursor
+node_of-requires-clause-cursor c =
+    let w = world_of c.requires.cursor.0 c.args.self.now.growing in
+    (w, subst (IsOf w (operators c.args.self.now.fixed) c.args.op) (sym (c.deref.ensures ∙ c.c.view_is)) c.requires.cursor.2.of)
+
 pub returns-clause-source : goal.returns-clause-source
 returns-clause-source c = λ view k.
     let at = c.deref.ensures ∙ c.c.view_is in
