@@ -19,6 +19,7 @@ use Rattle.plan_core.specs.TolledRows.{KeyValue, by_node, by_label}
 use Rattle.lazy_descend.specs.declared.cursor.DescCursor.{DescCursor}
 use Rattle.lazy_descend.specs.Cursors.{IsCursor, place_at, ahead, number}
 use Rattle.lazy_binding.specs.declared.key.KeyPart.{KeyPart}
+use Rattle.lazy_binding.specs.Gathered.{Gathered, no_groups}
 use Rattle.lazy_binding.specs.declared.parts.Walked.{Walked}
 use Rattle.lazy_binding.specs.declared.position.Reached.{Reached}
 use Rattle.lazy_binding.specs.declared.key.KeyPart.TheVariants.{Node as node_part, Label as label_part, Free as free_part}
@@ -126,6 +127,10 @@ memo_at w n = slice_index_or w.memos n no_pairs
 -- how far the group at hand of an operator was walked
 abbrev pub reached_at : World → ℕ → Option Reached
 reached_at w n = slice_index_or w.walked.reached.items n None
+
+-- the members of the groups of an operator that were found
+abbrev pub gathered_at : World → ℕ → Gathered
+gathered_at w n = slice_index_or w.walked.gathered.items n no_groups
 
 -- the last of these positions, or the one before them
 abbrev pub last_of : Position → List Member → Position

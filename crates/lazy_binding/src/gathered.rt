@@ -86,6 +86,13 @@ impl Gathered {
         }
     }
 
+    /// How many groups have a member that was found.
+    pub fn len(&self) -> usize
+        ensures { result ≡ length self.now.groups }
+    {
+        self.groups.len()
+    }
+
     /// The member at a place of a group, both counted from 0; `None` exactly where none was found there yet.
     pub fn member(&self, group: usize, place: usize) -> Option<&Rc<Position>>
         ensures { option_copied result ≡ slice_get (slice_index_or self.now.groups group []) place }

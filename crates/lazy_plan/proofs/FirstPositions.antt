@@ -1,6 +1,6 @@
 -- The positions of an operator that drops bindings by keys that it has seen: each stands over one of the input.
-use Rattle.std.proofs.Common.{◌≡◌, ◌<◌, ◌≤◌, ◌+◌, ◌-◌, ◌*◌, ℕ, suc, true, false, List, [], ◌∷◌, Option, Some, None, length, refl, ◌∙◌, sym, ap, arith}
-use Rattle.std.specs.Prelude.{IsTrue}
+use Rattle.std.proofs.Common.{◌≡◌, ◌<◌, ◌≤◌, ◌+◌, ◌-◌, ◌*◌, ℕ, zero, suc, true, false, List, [], ◌∷◌, Option, Some, None, length, drop, refl, ◌∙◌, sym, ap, arith}
+use Rattle.std.specs.Prelude.{IsTrue, not}
 use Rattle.mix_base.specs.Events.{nothing, found, cost}
 use Rattle.lazy_descend.specs.Searches.{FindsNone}
 use Rattle.mix_tree.specs.declared.var.Key.{Key}
@@ -8,15 +8,15 @@ use Rattle.plan_core.specs.declared.plan.Piece.{Piece}
 use Rattle.plan_core.specs.Plans.{Operator, over}
 use Rattle.plan_core.specs.Unary.{group_by}
 use Rattle.plan_core.specs.Valid.{shape_single}
-use Rattle.plan_core.specs.Shapes.{Shape, first_by_keys, shape_of, shape_at, passes_on}
-use Rattle.plan_core.specs.Fronts.{stops_over, shape_apart}
+use Rattle.plan_core.specs.Shapes.{Stage, Shape, first_by_keys, shape_of, shape_at, passes_on}
+use Rattle.plan_core.specs.Fronts.{stops_over, op_stops, shape_apart}
 use Rattle.plan_core.specs.Events.{kept_row}
 use Rattle.plan_core.specs.Typed.{IsTyped}
 use Rattle.plan_core.specs.Events.{distinct}
 use Rattle.plan_core.proofs.Distinct.{found-distinct_none, cost-distinct_le}
 use Rattle.lazy_binding.specs.declared.position.Position.{Position, Start, Pass', First', Seen'}
 use Rattle.lazy_binding.specs.World.{World, docs_of, is_told, seen_at}
-use Rattle.lazy_binding.specs.Cursors.{up_to, ahead, number, size, stands, weighs, IsIn, IsOf}
+use Rattle.lazy_binding.specs.Cursors.{gathers_by, up_to, ahead, number, size, stands, weighs, IsIn, IsOf}
 use Rattle.lazy_binding.specs.Gathering.{IsPassed}
 use Rattle.lazy_binding.specs.Reading.{below, count_of}
 use Rattle.lxp_core.specs.View.{View}
@@ -28,6 +28,27 @@ use Rattle.lazy_binding.proofs.Bound.{inputs_at}
 use Rattle.lazy_binding.proofs.Gathering.{passed_there, passed_first}
 use Rattle.lazy_plan.proofs.Goes.{in_shape, less_times, IsOver}
 use Rattle.lazy_plan.proofs.Shapes.{events_at, size_at, single_at}
+
+-- an operator that passes on bindings of its input is one of the plan's
+is_within : (ops : List Operator) (n i : ℕ) (stage : Stage) → shape_at ops n ≡ passes_on i stage → n < length ops
+is_within [] n i stage e = cc
+is_within (o ∷ ops) zero i stage e = omega arith
+is_within (o ∷ ops) (suc n) i stage e = (let l = is_within ops n i stage e in omega (arith, l))
+
+-- before all events nothing is passed
+pub passed_start : (w : World) (ops : List Operator) → IsTyped ops → (n i : ℕ) (keys : List Key) (group : Option (Piece × ℕ)) → shape_at ops n ≡ passes_on i (first_by_keys keys group)
+    → IsPassed w ops n i keys group Start 0
+passed_start w ops typed n i keys group is = record {
+  cursor = tt;
+  few = omega arith;
+  within = omega arith;
+  seen = λ t. refl;
+  before = λ t row e. refl;
+  past = λ t.
+      let e = events_at ops typed n (is_within ops n i (first_by_keys keys group) is) (passes_on i (first_by_keys keys group)) is (docs_of w) in
+      let l = ap cost e in
+      record { found = ap found e; costs = omega (arith, l) };
+}
 
 module _ (ops : List Operator) (n i : ℕ) (keys : List Key) (group : Option (Piece × ℕ)) (some : shape_apart ops (passes_on i (first_by_keys keys group)) ≡ false) where
   -- the shape of the operator
@@ -69,14 +90,7 @@ module _ (ops : List Operator) (n i : ℕ) (keys : List Key) (group : Option (Pi
 
     -- the walk over the input has passed what is up to it
     pub firsts_passed : (w : World) (c : Position) → IsIn w ops n F c → IsPassed w ops n i keys group (below c) (count_of c)
-    firsts_passed w Start h = record {
-      cursor = tt;
-      few = omega arith;
-      within = omega arith;
-      seen = λ t. refl;
-      before = λ t row e. refl;
-      past = λ t. (let e = events_at ops typed n within F is (docs_of w) in let l = ap cost e in record { found = ap found e; costs = omega (arith, l) });
-    }
+    firsts_passed w Start h = passed_start w ops typed n i keys group is
     firsts_passed w (First' q c k) h = passed_first w ops n i keys group c k q h
     firsts_passed w (Seen' q c k) h = passed_there w ops n i keys group c k q h
     firsts_passed w (Pass' q c) h = absurd (not_passed w q c h)
@@ -137,6 +151,18 @@ pub group_some : (ops : List Operator) (i j : ℕ) (keys others : List Key) (pie
 group_some ops i j keys others piece out (Some g) e = refl
 group_some ops i j [] others piece out None e = cc
 group_some ops i j (k ∷ keys) others piece out None e = cc
+
+-- it makes something of each group
+pub group_made : (i j : ℕ) (keys others : List Key) (piece : Piece) (out : ℕ) (group : Option (Piece × ℕ)) → shape_of (over i (group_by keys piece out)) ≡ passes_on j (first_by_keys others group)
+    → (made : Piece × ℕ) × (group ≡ Some made)
+group_made i j [] others piece out group e = cc
+group_made i j (k ∷ keys) others piece out group e = ((piece, out), cc)
+
+-- a groupBy by keys gathers the members of its groups where they end with its input
+pub group_gathers : (ops : List Operator) (i j : ℕ) (keys others : List Key) (piece : Piece) (out : ℕ) (group : Option (Piece × ℕ)) → shape_of (over i (group_by keys piece out)) ≡ passes_on j (first_by_keys others group)
+    → gathers_by ops (passes_on j (first_by_keys others group)) ≡ not (op_stops ops (over i (group_by keys piece out)))
+group_gathers ops i j [] others piece out group e = cc
+group_gathers ops i j (k ∷ keys) others piece out group e = sym (ap (gathers_by ops) e)
 
 -- a position of first bindings stands over one of its input
 pub firsts_over : {v : View} {g : Growing} {p : Fixed} {n : ℕ} {c : Position} → CanStep v g p n c → (i : ℕ) (keys : List Key) (group : Option (Piece × ℕ))

@@ -1,6 +1,6 @@
 -- Groups whose members stand side by side: where one begins, and how it is walked.
 use Rattle.std.proofs.Common.{◌≡◌, ◌⊎◌, inl, inr, ◌<◌, ◌≤◌, ◌-◌, ℕ, zero, suc, Bool, true, false, List, [], ◌∷◌, Option, Some, None, length, map, take, get_or, refl, ◌∙◌, sym, ap, subst, arith}
-use Rattle.std.specs.Prelude.{IsTrue, slice_index_or}
+use Rattle.std.specs.Prelude.{IsTrue, not, slice_index_or}
 use Rattle.std.specs.List.{AllByRecursion, last_or}
 use Rattle.std.specs.declared.alloc.Global.{Global}
 use Rattle.std.specs.declared.rc.Rc.{Rc}
@@ -29,11 +29,14 @@ use Rattle.lazy_descend.proofs.Searches.{still_told}
 use Rattle.lazy_binding.specs.declared.key.KeyPart.{KeyPart}
 use Rattle.lazy_binding.specs.declared.parts.Growing.{Growing}
 use Rattle.lazy_binding.specs.declared.position.Position.{Position, Start, First', Seen'}
+use Rattle.std.proofs.Common.{Vec}
+use Rattle.lazy_binding.specs.Gathered.{Gathered, no_groups}
 use Rattle.lazy_binding.specs.declared.parts.Walked.{Walked}
 use Rattle.lazy_binding.specs.declared.position.Reached.{Reached}
 use Rattle.lazy_binding.specs.Bench.{IsBench}
 use Rattle.lazy_binding.specs.World.{World, world, docs_of, is_told, seen_at, part_value, IsPart}
-use Rattle.lazy_binding.specs.Cursors.{binding, ahead, number, has_row, up_to, IsIn, IsOf, HasSeen}
+use Rattle.plan_core.specs.Fronts.{op_stops, stops_over}
+use Rattle.lazy_binding.specs.Cursors.{gathers_by, binding, ahead, number, has_row, up_to, IsIn, IsOf, HasSeen}
 use Rattle.lazy_binding.specs.Forms.{form, gathers_groups, input_of, input_at, keys_of}
 use Rattle.lazy_binding.specs.Keeping.{Keeps, Stays}
 use Rattle.lazy_binding.specs.Keys.{same_parts, was_seen}
@@ -41,7 +44,7 @@ use Rattle.lazy_binding.specs.Parts.{operators, world_of}
 use Rattle.lazy_binding.specs.Reading.{below, count_of}
 use Rattle.lazy_binding.specs.Unders.{part_in, part_at}
 use Rattle.lazy_binding.proofs.Bound.{inputs_at}
-use Rattle.lazy_binding.proofs.Buffers.{keys_stay}
+use Rattle.lazy_binding.proofs.Buffers.{keys_stay, gathered_there}
 use Rattle.lazy_binding.proofs.Keep.{docs_kept, told-kept, keeps_walked, keeps_then}
 use Rattle.lazy_binding.proofs.Members.{same_members}
 use Rattle.lazy_binding.proofs.SameKeys.{same_parts-is}
@@ -62,6 +65,12 @@ group_shape (over i (group_by [] piece out)) h = cc
 group_shape (over i (group_by (k ∷ keys) piece out)) h = ((piece, out), refl)
 group_shape o h = cc
 
+-- its groups end at the first other key, or with its input
+group_stops : (ops : List Operator) (o : Operator) → form o ≡ gathers_groups → op_stops ops o ≡ stops_over ops (input_of o) (keys_of o)
+group_stops ops (over i (group_by [] piece out)) h = cc
+group_stops ops (over i (group_by (k ∷ keys) piece out)) h = refl
+group_stops ops o h = cc
+
 module _ (w : World) (ops : List Operator) (n i : ℕ) (keys : List Key) (group : Piece × ℕ) (is : shape_at ops n ≡ passes_on i (first_by_keys keys (Some group))) where
   -- the shape of the operator
   abbrev F : Shape
@@ -73,11 +82,11 @@ module _ (w : World) (ops : List Operator) (n i : ℕ) (keys : List Key) (group 
 
   -- a position at a binding stands at the first member of a group
   begins_in : (c : Position) → IsIn w ops n F c → IsTrue (has_row c)
-      → ((q : _) → IsOf w ops n (First' q (below c) (count_of c))) × HasSeen w ops n (below c) (count_of c)
+      → ((q : _) → IsOf w ops n (First' q (below c) (count_of c))) × (gathers_by ops F ≡ false → HasSeen w ops n (below c) (count_of c))
   begins_in Start h row = cc
   begins_in (First' q x k) h row = (
     λ u. shaped (First' u x k) h,
-    λ u. shaped (Seen' u x k) (h.0, h.1, h.2, h.3, h.4, h.7, λ t. record { found = ap found (sym (h.9 t)); costs = (let e = ap cost (h.9 t) in omega (arith, e)) }, h.10),
+    λ no u. shaped (Seen' u x k) (h.0, h.1, h.2, h.3, h.4, h.7, λ t. record { found = ap found (sym (h.9 t)); costs = (let e = ap cost (h.9 t) in omega (arith, e)) }, h.10, no),
   )
   begins_in (Seen' q x k) h row = cc
   begins_in c h row = absurd h
@@ -91,12 +100,12 @@ group_begins w p n c d m f k e g =
     let b = begins_in w (plan_value p).ops n (input_at (plan_value p).ops n) (keys_of (op_at (plan_value p).ops n)) sh.0 sh.1 c
     (subst (λ (z : Shape). IsIn w (plan_value p).ops n z c) sh.1 k.of) k.row in
     subst (λ (x : Position). IsGroup (record { world = w; plan = p }) n m x x) (sym (e ∙ ap (λ (z : Shape). part_in z c (input_at (plan_value p).ops n)) sh.1))
-    (subst (λ (x : ℕ). IsGroup (record { world = w; plan = p }) n x (below c) (below c)) (sym g) (record { begins = b.0; member = λ s. b.1 }))
+    (subst (λ (x : ℕ). IsGroup (record { world = w; plan = p }) n x (below c) (below c)) (sym g) (record { begins = b.0; member = λ s. b.1 (ap not (sym (group_stops (plan_value p).ops (op_at (plan_value p).ops n) f) ∙ s)) }))
 
 -- HOW FAR A GROUP WAS WALKED
 
 -- that a group was walked on leaves a bench
-pub reached_bench : (b : World) (ops : List Operator) → IsBench b ops → (walked : Walked) (n : ℕ) (to : Reached) → IsReached b.walked.reached.items walked.reached.items n to → HasSeen b ops n to.below.value to.seen
+pub reached_bench : (b : World) (ops : List Operator) → IsBench b ops → (walked : Walked) (n : ℕ) (to : Reached) → IsReached b.walked walked n to → HasSeen b ops n to.below.value to.seen
     → IsBench (world b.view b.buffers b.seen b.memos walked) ops
 reached_bench b ops late walked n to r seen = record {
   roots = late.roots;
@@ -110,6 +119,9 @@ reached_bench b ops late walked n to r seen = record {
   members = same_members (keeps_walked b walked) ops late refl;
   marks = r.lists ∙ late.marks;
   reached = λ j x e q. reached_at_one j x e q (cases_eq j n);
+  walks = ap (λ (z : Vec Gathered Global). length z.items) r.gathered ∙ late.walks;
+  gathered = λ j i keys group is by.
+      gathered_there (keeps_walked b walked) ops late j i keys group is by refl (ap (λ (z : Vec Gathered Global). slice_index_or z.items j no_groups) r.gathered);
 }
   where
     here : World
@@ -125,14 +137,14 @@ reached_bench b ops late walked n to r seen = record {
 
 -- a call, and then a group that was walked on
 pub ran_reached : {S : Type 0} {view : S → View} {came_from : S → S → Type 0} {ops : List Operator} {n : ℕ} {es : RowEvents} {s t : S} {g h : Growing} (walked : Walked)
-    → IsBench (world (view t) h.buffers.items h.seen.items h.memos.items walked) ops
+    → walked.gathered ≡ h.walked.gathered → IsBench (world (view t) h.buffers.items h.seen.items h.memos.items walked) ops
     → Ran view came_from ops n es s g t h → Ran view came_from ops n es s g t (record { buffers = h.buffers; seen = h.seen; memos = h.memos; walked = walked })
-ran_reached {view} {t} {h} walked bench ran = record {
+ran_reached {view} {t} {h} walked same bench ran = record {
   came = ran.came;
   bench = bench;
   asks = record {
     kept = keeps_then ran.asks.kept (keeps_walked (world_of (view t) h) walked);
-    above = ran.asks.above;
+    above = λ j l. (let x = ran.asks.above j l in (x.0, x.1, ap (λ (z : Vec Gathered Global). slice_index_or z.items j no_groups) same ∙ x.2));
     lazy = ran.asks.lazy;
     none = ran.asks.none;
   };
@@ -159,14 +171,14 @@ group_can v b op m first at q bench within is stops g =
     }
 
 -- the last of the first few
-last_taken : {X Y : Type 0} (f : X → Y) (xs : List X) (m : ℕ) (d : X) → suc m ≤ length xs → last_or None (map f (take (suc m) xs)) ≡ Some (f (slice_index_or xs m d))
+pub last_taken : {X Y : Type 0} (f : X → Y) (xs : List X) (m : ℕ) (d : X) → suc m ≤ length xs → last_or None (map f (take (suc m) xs)) ≡ Some (f (slice_index_or xs m d))
 last_taken f [] m d l = absurd (omega (arith, l))
 last_taken f (x ∷ xs) zero d l = refl
 last_taken f (x ∷ []) (suc m) d l = absurd (omega (arith, l))
 last_taken f (x ∷ y ∷ xs) (suc m) d l = last_taken f (y ∷ xs) m d (omega (arith, l))
 
 -- one of a list that all have a property
-each_one : {X : Type 0} (P : X → Type 0) (xs : List X) (m : ℕ) (d : X) → m < length xs → AllByRecursion P xs → P (slice_index_or xs m d)
+pub each_one : {X : Type 0} (P : X → Type 0) (xs : List X) (m : ℕ) (d : X) → m < length xs → AllByRecursion P xs → P (slice_index_or xs m d)
 each_one P [] m d l h = absurd (omega (arith, l))
 each_one P (x ∷ xs) zero d l h = h.0
 each_one P (x ∷ xs) (suc m) d l h = each_one P xs m d (omega (arith, l)) h.1
@@ -198,6 +210,10 @@ module _ (a b : World) (p : Plan) (op m : ℕ) (first at : Position) (q : Rc (Un
   -- the group begins at its first member
   begun : IsIn a ops op (passes_on i (first_by_keys keys made)) (First' q first m)
   begun = subst (λ (z : Shape). IsIn a ops op z (First' q first m)) at_shape (g.begins q)
+
+  -- its members aren't gathered, since it ends at the first other key
+  walked_on : gathers_by ops (passes_on i (first_by_keys keys made)) ≡ false
+  walked_on = ap not (sym (group_stops ops (op_at ops op) is) ∙ stops)
 
   -- it was walked to one of them
   member : IsIn a ops op (passes_on i (first_by_keys keys made)) (Seen' q at m)
@@ -264,7 +280,7 @@ module _ (a b : World) (p : Plan) (op m : ℕ) (first at : Position) (q : Rc (Un
           let some = begun.6 in
           let one : suc (m - 1) ≡ m = omega (arith, some) in
           subst (λ (z : Shape). IsIn b ops op z (Seen' u d m)) (sym at_shape)
-          (goes_past ops op i keys made refl typed within at_shape a (Seen' q at m) member b bench k d f late key parts val ones
+          (goes_past ops op i keys made refl walked_on typed within at_shape a (Seen' q at m) member b bench k d f late key parts val ones
           (ap (λ (z : ℕ). was_seen key (take z (seen_at b op))) (sym one) ∙ seen) u).cursor
 
       -- it is the next member

@@ -190,7 +190,7 @@ ran_memo {S} {view} {came_from} {ops} {n} {es} {s} {t} {g} {h} memos stay keeps 
   bench = bench;
   asks = record {
     kept = keeps_then ran.asks.kept keeps;
-    above = λ j l. stay.others j (λ e. omega (arith, e, l)) ∙ ran.asks.above j l;
+    above = λ j l. (let x = ran.asks.above j l in (stay.others j (λ e. omega (arith, e, l)) ∙ x.0, x.1, x.2));
     lazy = ran.asks.lazy;
     none = ran.asks.none;
   };

@@ -56,7 +56,7 @@ module _ {S : Type 0} {view : S → View} {came_from : S → S → Type 0} {s t 
 
   -- the memo as it was
   same_memo : memo_at b n ≡ memo_at a n
-  same_memo = ran.asks.above n right_below
+  same_memo = (ran.asks.above n right_below).0
 
   -- the members as they were
   old_good : AreMembers a (operators p) r (link_at (operators p) n) (memo_at a n)

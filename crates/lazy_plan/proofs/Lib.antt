@@ -1,8 +1,10 @@
 pub mod Benches
 pub mod FirstPositions
 pub mod FirstSteps
+pub mod GatherSteps
 pub mod Goes
 pub mod GroupSteps
+pub mod GroupWalks
 pub mod Growing
 pub mod Grown
 pub mod GrowingKeys
@@ -18,6 +20,7 @@ pub mod PassSteps
 pub mod PassedSteps
 pub mod Passing
 pub mod Resuming
+pub mod SeenPlaces
 pub mod Shapes
 pub mod Singles
 pub mod Unders

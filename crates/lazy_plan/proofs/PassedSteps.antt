@@ -20,9 +20,12 @@ use Rattle.plan_core.specs.Events.{RowEvents, events, distinct, keys_seen, kept_
 use Rattle.plan_core.proofs.Distinct.{IsNew, distinct_new, IsOld, distinct_old}
 use Rattle.plan_core.proofs.Found.{found-only_yes, found-only_no}
 use Rattle.tree_buffer.specs.Law.{SpotsAreOne}
+use Rattle.std.specs.declared.vec.Vec.{Vec}
 use Rattle.lazy_binding.specs.declared.key.KeyPart.{KeyPart}
+use Rattle.lazy_binding.specs.declared.parts.Walked.{Walked}
+use Rattle.lazy_binding.specs.declared.position.Reached.{Reached}
 use Rattle.lazy_binding.specs.declared.position.Position.{Position, First'}
-use Rattle.lazy_binding.specs.Bench.{drops_by, IsBench}
+use Rattle.lazy_binding.specs.Bench.{drops_by, IsBench, HasGathered}
 use Rattle.lazy_binding.specs.Gathering.{IsPassed}
 use Rattle.lazy_binding.specs.World.{World, world, docs_of, is_told, seen_at, part_value, seen_values, IsPart}
 use Rattle.lazy_binding.specs.Cursors.{NoneBefore, IsFirstBy, up_to, binding, ahead, number, size, stands, IsIn, IsPast, behind_first, behind_found}
@@ -182,15 +185,16 @@ module _ (ops : List Operator) (n i : ℕ) (keys : List Key) (group : Option (Pi
       first_seen : IsTrue (is_told b ops) → seen_values b (seen_at b n) ≡ take (length (seen_at b n)) (next_keys (docs_of b) [] (events (docs_of b) ops i))
       first_seen t = late.seen n i keys drops_is t
 
-      module _ (seen : List (List (List KeyPart))) (g : GrowsAt b.seen seen n key)
-          (pushed : length (slice_index_or seen n []) ≡ length (seen_at b n) + 1 → (few ≡ length (seen_at b n)) × (was_seen key (take few (seen_at b n)) ≡ false)) where
-        -- what is left where the keys that were seen may have grown
+      module _ (seen : List (List (List KeyPart))) (walked : Walked) (g : GrowsAt b.seen seen n key)
+          (pushed : length (slice_index_or seen n []) ≡ length (seen_at b n) + 1 → (few ≡ length (seen_at b n)) × (was_seen key (take few (seen_at b n)) ≡ false))
+          (reached : walked.reached ≡ b.walked.reached) where
+        -- what is left where the keys that were seen may have grown, and groups were walked on
         abbrev here : World
-        here = world b.view b.buffers seen b.memos b.walked
+        here = world b.view b.buffers seen b.memos walked
 
         -- what the growing list keeps
         pub kept_here : Keeps b here
-        kept_here = grows_keeps b seen n key g
+        kept_here = grows_keeps b seen walked n key g
 
         -- where the list grew, it did so by a new key at the end of those seen up to the position
         at_end : slice_index_or seen n [] ≡ seen_at b n ++ key ∷ [] → (few ≡ length (seen_at b n)) × (was_seen key (take few (seen_at b n)) ≡ false)
@@ -219,8 +223,8 @@ module _ (ops : List Operator) (n i : ℕ) (keys : List Key) (group : Option (Pi
         ]
 
         -- what is left is a bench
-        pub passed_bench : IsBench here ops
-        passed_bench = record {
+        pub passed_bench : length walked.gathered.items ≡ length ops → HasGathered here ops → IsBench here ops
+        passed_bench walks gathered = record {
           roots = late.roots;
           few = late.few;
           sources = late.sources;
@@ -230,8 +234,10 @@ module _ (ops : List Operator) (n i : ℕ) (keys : List Key) (group : Option (Pi
           parts = λ j. keys_stay kept_here (slice_index_or seen j []) (parts_at j (cases_eq j n));
           seen = λ j m ks by t. seen_there j m ks by t (cases_eq j n);
           members = same_members kept_here ops late refl;
-          marks = late.marks;
-          reached = reached_kept kept_here ops late refl;
+          marks = ap (λ (z : Vec (Option Reached) Global). length z.items) reached ∙ late.marks;
+          reached = reached_kept kept_here ops late reached;
+          walks = walks;
+          gathered = gathered;
         }
           where
             parts_at : (j : ℕ) → (j ≡ n) ⊎ (j ≡ n → ⊥) → AllByRecursion (AllByRecursion (IsPart b)) (slice_index_or seen j [])

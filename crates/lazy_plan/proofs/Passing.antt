@@ -118,7 +118,7 @@ module _ (ops : List Operator) (n l r : ℕ) (tests : List Test) (typed : IsType
       → Goes w w ops n (beside_events w ops l r tests x (passed ms k)) (beside_events w ops l r tests x (passed ms p)) (beside_number w ops l r x k) (beside_number w ops l r x p)
   pass_known k p le low other = record {
     kept = keeps_same w ops bench;
-    above = λ j z. refl;
+    above = λ j z. (refl, refl, refl);
     comes = record {
       tells = tells_on (keeps_same w ops bench) ops;
       falls = omega (arith, le);

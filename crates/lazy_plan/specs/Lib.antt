@@ -1,5 +1,6 @@
 pub mod Bench
 pub mod Beside
+pub mod Gathers
 pub mod Groups
 pub mod Orders
 pub mod Steps
