@@ -1,4 +1,3 @@
-pub mod Binding
 pub mod Bound
 pub mod Buffers
 pub mod FirstLists
@@ -9,7 +8,6 @@ pub mod GroupLists
 pub mod Keep
 pub mod KeyParts
 pub mod Labels
-pub mod Lasts
 pub mod MemberItems
 pub mod Members
 pub mod RightSides

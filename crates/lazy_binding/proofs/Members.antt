@@ -7,13 +7,13 @@ use Rattle.mix_base.specs.Events.{finds, found}
 use Rattle.mix_tree.specs.Nodes.{Documents}
 use Rattle.plan_core.specs.Plans.{Operator}
 use Rattle.plan_core.specs.TolledRows.{TolledRow}
-use Rattle.lazy_binding.specs.declared.link.Link.{Link}
+use Rattle.plan_forms.specs.declared.link.Link.{Link}
 use Rattle.lazy_binding.specs.declared.position.Position.{Position, Start}
 use Rattle.lazy_binding.specs.Bench.{IsBench, HasMembers}
 use Rattle.lazy_binding.specs.World.{World, docs_of, Member, memo_at, last_of}
 use Rattle.lazy_binding.specs.Cursors.{binding, ahead, IsOf}
 use Rattle.lazy_binding.specs.Keeping.{Keeps, Stays}
-use Rattle.lazy_binding.specs.Links.{link_at}
+use Rattle.plan_forms.specs.Links.{link_at}
 use Rattle.lazy_binding.specs.Members.{member_label, IsMember, AreNext, AreMembers}
 use Rattle.lazy_binding.proofs.Keep.{docs_kept, told-kept}
 use Rattle.lazy_binding.proofs.Stay.{cursors_kept, size_kept}

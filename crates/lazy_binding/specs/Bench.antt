@@ -9,7 +9,7 @@ use Rattle.plan_core.specs.Plans.{Operator}
 use Rattle.plan_core.specs.Shapes.{Shape, pairs_up, first_by_keys, shape_at, passes_on}
 use Rattle.plan_core.specs.Events.{events, keys_seen}
 use Rattle.plan_core.specs.Valid.{HasSource}
-use Rattle.lazy_binding.specs.Links.{link_at}
+use Rattle.plan_forms.specs.Links.{link_at}
 use Rattle.lazy_binding.specs.Members.{AreMembers}
 use Rattle.lazy_binding.specs.declared.position.Reached.{Reached}
 use Rattle.lazy_binding.specs.Cursors.{HasSeen}

@@ -1,13 +1,11 @@
 pub mod Bench
 pub mod Cursors
-pub mod Forms
 pub mod Gathered
 pub mod Gathering
 pub mod Growth
 pub mod Keeping
 pub mod KeyLaws
 pub mod Keys
-pub mod Links
 pub mod Members
 pub mod Opening
 pub mod Parts

@@ -7,7 +7,7 @@ use Rattle.mix_base.specs.Events.{nothing, finds, found}
 use Rattle.mix_tree.specs.Nodes.{Documents, label_at}
 use Rattle.plan_core.specs.Plans.{Operator}
 use Rattle.plan_core.specs.TolledRows.{TolledRow, row_node}
-use Rattle.lazy_binding.specs.declared.link.Link.{Link}
+use Rattle.plan_forms.specs.declared.link.Link.{Link}
 use Rattle.lazy_binding.specs.declared.position.Position.{Position, Start}
 use Rattle.lazy_binding.specs.World.{World, docs_of, is_told, Member, last_of}
 use Rattle.lazy_binding.specs.Cursors.{binding, ahead, number, size, IsOf, has_row}

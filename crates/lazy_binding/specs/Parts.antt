@@ -9,7 +9,7 @@ use Rattle.plan_core.specs.Shapes.{Shape, visits_below, shape_at}
 use Rattle.plan_core.specs.PlanMade.{op_of, plan_value}
 use Rattle.plan_core.specs.Typed.{IsTyped}
 use Rattle.plan_core.specs.Valid.{IsValid}
-use Rattle.lazy_binding.specs.Links.{op_link}
+use Rattle.plan_forms.specs.Links.{op_link}
 use Rattle.lazy_binding.specs.Sides.{AreRights}
 use Rattle.lazy_binding.specs.World.{World, world}
 use Rattle.lazy_binding.specs.declared.parts.Fixed.{Fixed}

@@ -2,13 +2,11 @@
 //! read off the operators themselves, before any binding.
 #![tactic(auto)]
 
-pub mod forms;
 mod gathered;
 pub mod growth;
 mod key;
 mod labelled;
 mod law;
-mod link;
 pub mod opening;
 mod parts;
 mod position;
@@ -17,14 +15,11 @@ mod sides;
 mod tuple;
 mod under;
 mod variable_spots;
-mod variables;
 
 pub use gathered::Gathered;
 pub use key::{KeyPart, KeyTuple, SeenKeys};
 pub use labelled::{Labelled, places, sort_labelled};
 pub use law::cursors_stay;
-pub use link::{Link, links};
 pub use parts::{Fixed, Growing, Walk, Walked};
 pub use position::{Position, Reached, inside, put, seen_up_to, share};
 pub use sides::rights;
-pub use variables::{binds, names_var, var_of};

@@ -6,12 +6,12 @@ ghost use Rattle.plan_core.specs.PlanMade.{op_of};
 ghost use Rattle.lazy_binding.specs.Parts.{operators, IsFixed};
 
 use crate::key::SeenKeys;
-use crate::link::Link;
 use crate::position::{Position, Reached};
 use join_memo::Memo;
 use mix_tree::Var;
 use path_auto::Auto;
 use plan_core::{Op, Plan};
+use plan_forms::Link;
 use std::rc::Rc;
 use tree_buffer::Buffer;
 

@@ -7,9 +7,9 @@ ghost use Rattle.plan_core.specs.Valid.{kinds};
 ghost use Rattle.lazy_binding.specs.Sides as sides;
 ghost use Rattle.lazy_binding.specs.Sides.{AreRights};
 
-use crate::variables::binds;
 use mix_tree::Var;
 use plan_core::Op;
+use plan_forms::binds;
 use std::alloc::{AllocError, Global};
 
 /// The variable of nodes that an operator binds itself.

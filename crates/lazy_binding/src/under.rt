@@ -5,9 +5,9 @@ ghost use Rattle.lazy_binding.specs.Unders.{part_at, source_var};
 
 use crate::parts::{Fixed, Walk};
 use crate::position::{Position, input_part};
-use crate::variables::names_var;
 use mix_tree::Var;
 use plan_core::Op;
+use plan_forms::names_var;
 use std::alloc::{AllocError, Global};
 use std::rc::Rc;
 

@@ -6,9 +6,9 @@ ghost use Rattle.lazy_binding.specs.Parts.{operators, IsFixed};
 
 use crate::parts::Fixed;
 use crate::position::Position;
-use crate::variables::names_var;
 use mix_tree::Var;
 use plan_core::Op;
+use plan_forms::names_var;
 use tree_buffer::Spot;
 
 /// Whether a variable is one of these.

@@ -34,7 +34,7 @@ use Rattle.lazy_binding.specs.declared.position.Reached.{Reached}
 use Rattle.lazy_binding.specs.Bench.{IsBench}
 use Rattle.lazy_binding.specs.World.{World, world, docs_of, is_told, seen_at, part_value, IsPart}
 use Rattle.lazy_binding.specs.Cursors.{binding, ahead, number, has_row, up_to, IsIn, IsOf, HasSeen}
-use Rattle.lazy_binding.specs.Forms.{form, gathers_groups, input_of, input_at, keys_of}
+use Rattle.plan_forms.specs.Forms.{form, gathers_groups, input_of, input_at, keys_of}
 use Rattle.lazy_binding.specs.Keeping.{Keeps, Stays}
 use Rattle.lazy_binding.specs.Keys.{same_parts, was_seen}
 use Rattle.lazy_binding.specs.Parts.{operators, world_of}

@@ -15,14 +15,14 @@ use Rattle.plan_core.specs.Plans.{Operator}
 use Rattle.plan_core.specs.Shapes.{pairs_up, shape_at}
 use Rattle.plan_core.specs.TolledRows.{TolledRow}
 use Rattle.plan_core.specs.Events.{RowEvents}
-use Rattle.lazy_binding.specs.declared.link.Link.{Link}
+use Rattle.plan_forms.specs.declared.link.Link.{Link}
 use Rattle.lazy_binding.specs.declared.parts.Growing.{Growing}
 use Rattle.lazy_binding.specs.declared.position.Position.{Position, Start}
 use Rattle.lazy_binding.specs.Bench.{IsBench}
 use Rattle.lazy_binding.specs.World.{World, world, docs_of, is_told, Member, no_pairs, memo_at, last_of, passed}
 use Rattle.lazy_binding.specs.Cursors.{binding, ahead, number, size, IsOf}
 use Rattle.lazy_binding.specs.Keeping.{Keeps, Stays}
-use Rattle.lazy_binding.specs.Links.{link_at}
+use Rattle.plan_forms.specs.Links.{link_at}
 use Rattle.lazy_binding.specs.Members.{member_label, IsMember, AreNext, AreMembers}
 use Rattle.lazy_binding.specs.Parts.{world_of}
 use Rattle.lazy_binding.proofs.Buffers.{bench_stays}

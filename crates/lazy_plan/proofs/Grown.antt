@@ -16,7 +16,7 @@ use Rattle.lazy_binding.specs.Bench.{IsBench}
 use Rattle.lazy_binding.specs.World.{World, world, docs_of, is_told, no_pairs, memo_at}
 use Rattle.lazy_binding.specs.Cursors.{binding, ahead, number, IsOf}
 use Rattle.lazy_binding.specs.Keeping.{Keeps}
-use Rattle.lazy_binding.specs.Links.{link_at}
+use Rattle.plan_forms.specs.Links.{link_at}
 use Rattle.lazy_binding.specs.Members.{member_label, AreMembers}
 use Rattle.lazy_binding.specs.Parts.{operators, world_of, IsFixed}
 use Rattle.lazy_binding.proofs.Bound.{inputs_at}

@@ -22,10 +22,10 @@ use Rattle.plan_core.specs.Typed.{IsTyped}
 use Rattle.plan_core.specs.TolledRows.{TolledRow, row_node}
 use Rattle.plan_core.specs.Events.{passes_all}
 use Rattle.plan_core.specs.Valid.{Kind, Kinds, kinds, a_node, either_kind, IsTest, IsOperand}
-use Rattle.lazy_binding.specs.declared.link.Link.{Link}
+use Rattle.plan_forms.specs.declared.link.Link.{Link}
 use Rattle.lazy_binding.specs.declared.parts.Fixed.{Fixed}
 use Rattle.lazy_binding.specs.declared.position.Position.{Position}
-use Rattle.lazy_binding.specs.Links.{is_equality, on_sides, operand_link, test_link, link_or, first_link, shape_link, op_link, link_at}
+use Rattle.plan_forms.specs.Links.{is_equality, on_sides, operand_link, test_link, link_or, first_link, shape_link, op_link, link_at}
 use Rattle.lazy_binding.specs.Parts.{operators, IsFixed}
 use Rattle.lazy_binding.specs.World.{Member}
 use Rattle.lazy_binding.proofs.Bound.{fit_at}

@@ -18,14 +18,14 @@ use Rattle.plan_core.specs.TolledRows.{TolledValue, row_node, source_node}
 use Rattle.plan_core.specs.Events.{RowEvents, pairs, passes_all}
 use Rattle.plan_core.specs.Valid.{kinds, a_node}
 use Rattle.plan_core.proofs.Found.{found-pairs_no, cost-pairs_no}
-use Rattle.lazy_binding.specs.declared.link.Link.{Link}
+use Rattle.plan_forms.specs.declared.link.Link.{Link}
 use Rattle.lazy_binding.specs.declared.parts.Growing.{Growing}
 use Rattle.lazy_binding.specs.declared.parts.Fixed.{Fixed}
 use Rattle.lazy_binding.specs.declared.position.Position.{Position, Start, Pair'}
 use Rattle.lazy_binding.specs.Bench.{IsBench}
 use Rattle.lazy_binding.specs.World.{World, docs_of, is_told, Member, memo_at, passed, last_of}
 use Rattle.lazy_binding.specs.Cursors.{binding, ahead, size, stands, weighs, IsIn, IsOf, has_row}
-use Rattle.lazy_binding.specs.Links.{shape_link, first_link, link_at}
+use Rattle.plan_forms.specs.Links.{shape_link, first_link, link_at}
 use Rattle.lazy_binding.specs.Members.{member_label, AreMembers}
 use Rattle.lazy_binding.specs.Parts.{operators, world_of}
 use Rattle.lazy_binding.proofs.Bound.{inputs_at, fit_at}

@@ -12,7 +12,7 @@ use Rattle.plan_core.specs.Plans.{Operator}
 use Rattle.plan_core.specs.Shapes.{pairs_up, shape_at}
 use Rattle.plan_core.specs.TolledRows.{TolledRow, row_node}
 use Rattle.plan_core.specs.Events.{RowEvents, pairs, passes_all}
-use Rattle.lazy_binding.specs.declared.link.Link.{Link}
+use Rattle.plan_forms.specs.declared.link.Link.{Link}
 use Rattle.lazy_binding.specs.declared.parts.Growing.{Growing}
 use Rattle.lazy_binding.specs.declared.parts.Walk.{Walk}
 use Rattle.lazy_binding.specs.declared.position.Position.{Position, Start, Pair'}

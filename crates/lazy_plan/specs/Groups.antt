@@ -12,7 +12,7 @@ use Rattle.plan_core.specs.Events.{RowEvents, group_behind}
 use Rattle.plan_core.specs.TolledRows.{TolledRow}
 use Rattle.lazy_binding.specs.declared.position.Position.{Position, First'}
 use Rattle.lazy_binding.specs.Cursors.{IsOf, HasSeen}
-use Rattle.lazy_binding.specs.Forms.{input_at, keys_of}
+use Rattle.plan_forms.specs.Forms.{input_at, keys_of}
 use Rattle.lazy_binding.specs.Parts.{operators}
 use Rattle.lazy_plan.specs.declared.bench.Bench.{Bench}
 use Rattle.lazy_plan.specs.declared.groups.GroupFrom.{GroupFrom}

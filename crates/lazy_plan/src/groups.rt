@@ -3,10 +3,10 @@
 use crate::bench::Bench;
 use crate::cursor::Cursor;
 use crate::steps::advance;
-use lazy_binding::forms::{group_keys, input_of};
 use lazy_binding::growth::reach;
 use lazy_binding::{Reached, Walk, seen_up_to, share};
 use lxp_core::{Sources, WalkFault};
+use plan_forms::{group_keys, input_of};
 use std::alloc::{AllocError, Global};
 use tree_buffer::spots_are_one;
 
@@ -25,7 +25,7 @@ impl Bench {
     ghost use Rattle.lxp_core.specs.View.{View};
     ghost use Rattle.plan_core.specs.PlanMade.{plan_value};
     ghost use Rattle.plan_core.specs.ByNumber.{op_at};
-    ghost use Rattle.lazy_binding.specs.Forms.{form, gathers_groups, input_at};
+    ghost use Rattle.plan_forms.specs.Forms.{form, gathers_groups, input_at};
     ghost use Rattle.lazy_plan.specs.Bench.{state_of, plan_of, IsBenchOf, IsCursor, IsUnder};
     ghost use Rattle.lazy_plan.specs.Groups.{stops_at, IsGroup, MemberWalked};
 

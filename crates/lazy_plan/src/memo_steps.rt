@@ -5,7 +5,7 @@ ghost use Rattle.lxp_core.specs.View.{View};
 ghost use Rattle.lxp_core.specs.declared.fault.WalkFault.TheVariants.{OutOfMemory};
 ghost use Rattle.lazy_binding.specs.Bench.{IsBench};
 ghost use Rattle.lazy_binding.specs.Cursors.{has_row};
-ghost use Rattle.lazy_binding.specs.Links.{link_at};
+ghost use Rattle.plan_forms.specs.Links.{link_at};
 ghost use Rattle.lazy_binding.specs.Members.{member_label};
 ghost use Rattle.lazy_binding.specs.Parts.{operators, shape_walked, world_of, IsFixed};
 ghost use Rattle.lazy_binding.specs.Reading.{HasStand, Tells};

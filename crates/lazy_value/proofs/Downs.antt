@@ -15,7 +15,7 @@ use Rattle.lazy_plan.specs.declared.bench.Bench.{Bench}
 use Rattle.lazy_plan.specs.Bench.{BenchState, state_of, ops_of, documents, events_of, size_of, binding_at, AsksNoneOnSingle, IsFirstOf, BenchRan}
 use Rattle.lazy_binding.specs.declared.position.Position.{Position}
 use Rattle.lazy_plan.proofs.Benches.{keeps_on}
-use Rattle.lazy_binding.specs.Forms.{input_at, pieces_of, IsLast}
+use Rattle.plan_forms.specs.Forms.{input_at, pieces_of, IsLast}
 use Rattle.lazy_value.specs.Ids.{element_trees, value_of, IsRest, rest_trees}
 use Rattle.lazy_value.specs.Origins.{IsOriginOf}
 use Rattle.lazy_value.specs.Steps.{Walked, Reaches, GoesOn}

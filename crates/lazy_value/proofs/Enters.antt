@@ -6,7 +6,7 @@ use Rattle.plan_core.specs.TolledRows.{value_trees, all_items, collected}
 use Rattle.lazy_plan.specs.Bench.{BenchState, ops_of, documents, binding_at, events_of}
 use Rattle.lazy_plan.specs.Groups.{IsGroup, group_ahead}
 use Rattle.lazy_binding.specs.declared.position.Position.{Position}
-use Rattle.lazy_binding.specs.Forms.{input_at, pieces_of, piece_of, makes_list, gathers_groups}
+use Rattle.plan_forms.specs.Forms.{input_at, pieces_of, piece_of, makes_list, gathers_groups}
 use Rattle.lazy_value.specs.Ids.{group_trees, member_trees, Stands, GathersAll, IsOrigin, value_of, IsRest, rest_trees, weight}
 use Rattle.lazy_value.specs.Origins.{origin_size}
 use Rattle.lazy_value.specs.Steps.{StandsFor, GoesOn}

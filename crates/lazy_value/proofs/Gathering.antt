@@ -12,7 +12,7 @@ use Rattle.lazy_plan.specs.declared.bench.Bench.{Bench}
 use Rattle.lazy_plan.specs.Bench.{BenchState, state_of, told_by, ops_of, documents, number_at, KeepsBench, AsksAtMost, IsFirstOf}
 use Rattle.lazy_plan.specs.Groups.{group_ahead, IsGroup}
 use Rattle.lazy_binding.specs.declared.position.Position.{Position}
-use Rattle.lazy_binding.specs.Forms.{input_at, piece_of, gathers_all, gathers_groups}
+use Rattle.plan_forms.specs.Forms.{input_at, piece_of, gathers_all, gathers_groups}
 use Rattle.lazy_value.specs.Ids.{ahead_from, number_from, members_trees, group_trees, member_trees, Stands, GathersAll, IsRest, rest_trees, weight, left}
 use Rattle.lazy_value.specs.Steps.{Walked, StandsFor, GoesOn, IsMember}
 use Rattle.lazy_value.specs.declared.ids.Rest.{Rest}

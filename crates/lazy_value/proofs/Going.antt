@@ -17,7 +17,7 @@ use Rattle.lazy_plan.specs.Bench.{BenchState, state_of, told_by, told, ops_of, d
 use Rattle.lazy_plan.specs.Groups.{stops_at, group_ahead, InGroup, members_of}
 use Rattle.lazy_binding.specs.declared.position.Position.{Position}
 use Rattle.lazy_plan.proofs.Benches.{keeps_on}
-use Rattle.lazy_binding.specs.Forms.{input_at, keys_of}
+use Rattle.plan_forms.specs.Forms.{input_at, keys_of}
 use Rattle.lazy_value.specs.Steps.{Walked, IsMember}
 use Rattle.lazy_value.proofs.Keep.{ops_kept, input_kept, binding_kept}
 use Rattle.lazy_value.proofs.Sames.{same_by}

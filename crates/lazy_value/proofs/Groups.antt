@@ -6,7 +6,7 @@ use Rattle.plan_core.specs.Shapes.{shape_of}
 use Rattle.plan_core.specs.Typed.{IsTyped}
 use Rattle.plan_core.specs.Unary.{select, order_by, project, group_by, concatenate, create_element}
 use Rattle.plan_core.specs.Valid.{Kinds, kinds, AreNodes, IsShapeFit}
-use Rattle.lazy_binding.specs.Forms.{form, gathers_groups, input_of, input_at, keys_of}
+use Rattle.plan_forms.specs.Forms.{form, gathers_groups, input_of, input_at, keys_of}
 
 -- those of one operator, where it fits its input
 keys_fit : (o : Operator) (of : ℕ → Kinds) → form o ≡ gathers_groups → IsShapeFit (shape_of o) of → AreNodes (keys_of o) (of (input_of o))

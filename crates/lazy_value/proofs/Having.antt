@@ -25,12 +25,12 @@ use Rattle.lazy_plan.specs.Steps.{single}
 use Rattle.plan_core.specs.Shapes.{shape_at}
 use Rattle.lazy_plan.proofs.Shapes.{single_at}
 use Rattle.lazy_value.specs.Labels.{Labels, op_labels, labels, stands_in}
-use Rattle.lazy_binding.specs.Forms.{form, makes_element, label_in, IsLast}
+use Rattle.plan_forms.specs.Forms.{form, makes_element, label_in, IsLast}
 use Rattle.lazy_value.specs.Origins.{makes, IsMadeHere}
 use Rattle.lazy_value.proofs.Numbering.{FitsKind, labels_fit, kind_of, labels_of}
 use Rattle.lazy_value.proofs.Making.{cond_true}
 use Rattle.lazy_value.proofs.RowLabels.{Holds, Fits, each_first, rows_fit}
-use Rattle.lazy_binding.proofs.Lasts.{valid_ends, last_is}
+use Rattle.plan_forms.proofs.Lasts.{valid_ends, last_is}
 
 -- there is a binding
 abbrev HasRow : RowEvents → Type 0

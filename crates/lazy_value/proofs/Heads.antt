@@ -9,7 +9,7 @@ use Rattle.plan_core.specs.Tolled.{Tolled, ends, item}
 use Rattle.plan_core.specs.TolledRows.{TolledValue, source_node, value_trees, piece_items}
 use Rattle.lazy_plan.specs.Bench.{BenchState, ops_of, documents, binding_at}
 use Rattle.lazy_binding.specs.declared.position.Position.{Position}
-use Rattle.lazy_binding.specs.Forms.{input_at, piece_at}
+use Rattle.plan_forms.specs.Forms.{input_at, piece_at}
 use Rattle.lazy_value.specs.Origins.{IsOriginOf, IsTreeOf, IsHeadOf}
 use Rattle.lazy_value.specs.declared.ids.Head.{Head}
 use Rattle.lazy_value.specs.declared.ids.Head.TheVariants.{Whole, Built, Leaf, Text}

@@ -13,7 +13,7 @@ use Rattle.plan_core.specs.Events.{RowEvents, events, group_behind, tolled_docum
 use Rattle.lazy_plan.specs.Bench.{BenchState, ops_of, documents, events_of, size_of, IsCursor, CursorStays, binding_at, ahead_at, number_at, IsSpotAt, node_at, KeepsBench}
 use Rattle.lazy_plan.specs.Groups.{stops_at, group_ahead, IsGroup}
 use Rattle.lazy_binding.specs.declared.position.Position.{Position, First', Seen'}
-use Rattle.lazy_binding.specs.Forms.{Form, makes_list, makes_element, gathers_groups, form, input_at, pieces_of, keys_of, label_in, piece_at, piece_of, text_of, is_text}
+use Rattle.plan_forms.specs.Forms.{Form, makes_list, makes_element, gathers_groups, form, input_at, pieces_of, keys_of, label_in, piece_at, piece_of, text_of, is_text}
 use Rattle.lazy_value.specs.Sizes.{pieces_count, size, extent}
 use Rattle.lazy_value.specs.Ids.{element_trees, pieces_trees, ahead_from, members_trees, group_trees, Stands, GathersAll, IsHead, head_label, head_trees, IsRest, rest_trees, here, IsSite, weight, number_from, left, site_left}
 use Rattle.lazy_value.specs.Steps.{KeepsSites}

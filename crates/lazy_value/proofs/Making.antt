@@ -25,7 +25,7 @@ use Rattle.lazy_plan.specs.Bench.{BenchState, ops_of, documents, events_of, size
 use Rattle.lazy_plan.specs.Groups.{IsGroup}
 use Rattle.lazy_binding.specs.declared.position.Position.{Position}
 use Rattle.lazy_plan.proofs.Benches.{all_groups}
-use Rattle.lazy_binding.specs.Forms.{Form, form, input_of, pieces_of, keys_of, label_in, input_at, makes_list, makes_element, gathers_groups}
+use Rattle.plan_forms.specs.Forms.{Form, form, input_of, pieces_of, keys_of, label_in, input_at, makes_list, makes_element, gathers_groups}
 use Rattle.lazy_value.specs.Sizes.{pieces_count, size, extent, op_extent}
 use Rattle.lazy_value.specs.Ids.{Stands}
 use Rattle.lazy_value.specs.Origins.{IsOriginOf, IsMadeHere, makes}

@@ -9,7 +9,7 @@ use Rattle.plan_core.specs.Tolled.{Tolled, item, is_item, paid}
 use Rattle.plan_core.specs.TolledRows.{TolledValue, tolled_value, value_trees, piece_items, all_items}
 use Rattle.lazy_plan.specs.Bench.{BenchState, ops_of, documents, binding_at, size_of}
 use Rattle.lazy_binding.specs.declared.position.Position.{Position}
-use Rattle.lazy_binding.specs.Forms.{input_at, pieces_of, piece_at, makes_list}
+use Rattle.plan_forms.specs.Forms.{input_at, pieces_of, piece_at, makes_list}
 use Rattle.lazy_value.specs.Sizes.{piece_count, pieces_count, size, extent}
 use Rattle.lazy_value.specs.Ids.{pieces_trees, Stands, IsOrigin, value_of, head_label, head_trees, IsRest, rest_trees, weight, left, pieces_size, pieces_extent}
 use Rattle.lazy_value.specs.Origins.{origin_size, origin_extent, IsOriginOf, IsHeadOf}

@@ -13,7 +13,7 @@ use Rattle.lazy_plan.specs.declared.groups.GroupFrom.{GroupFrom}
 use Rattle.lazy_plan.specs.Groups.{IsGroup}
 use Rattle.lazy_binding.specs.declared.position.Position.{Position}
 use Rattle.lazy_plan.specs.Bench.{BenchState, state_of, IsBenchOf, ops_of, documents, binding_at, number_at, trees_at_spot, GivesFirst}
-use Rattle.lazy_binding.specs.Forms.{makes_list, gathers_all, gathers_groups, input_at, pieces_of}
+use Rattle.plan_forms.specs.Forms.{makes_list, gathers_all, gathers_groups, input_at, pieces_of}
 use Rattle.lazy_value.specs.Ids.{Stands, IsOrigin, value_of, IsRest, rest_trees, weight, left, site_left, pieces_size, pieces_extent, pieces_trees, member_trees, members_trees, group_trees, ahead_from, number_from}
 use Rattle.lazy_value.specs.Origins.{origin_size, origin_extent}
 use Rattle.lazy_value.specs.Steps.{Walked, StandsFor, Turns, Falls}

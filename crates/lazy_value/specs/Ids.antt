@@ -9,7 +9,7 @@ use Rattle.plan_core.specs.Events.{RowEvents, tolled_document}
 use Rattle.lazy_plan.specs.Bench.{BenchState, ops_of, documents, events_of, size_of, IsCursor, binding_at, ahead_at, number_at, IsSpotAt, node_at, trees_at_spot, after_at}
 use Rattle.lazy_plan.specs.Groups.{IsGroup, group_ahead}
 use Rattle.lazy_binding.specs.declared.position.Position.{Position}
-use Rattle.lazy_binding.specs.Forms.{Form, makes_list, makes_element, gathers_all, gathers_groups, form, input_at, pieces_of, label_in, piece_at, piece_of, text_of, is_text}
+use Rattle.plan_forms.specs.Forms.{Form, makes_list, makes_element, gathers_all, gathers_groups, form, input_at, pieces_of, label_in, piece_at, piece_of, text_of, is_text}
 use Rattle.lazy_value.specs.Sizes.{pieces_count, size, extent}
 use Rattle.lazy_value.specs.Ways.{IsWays}
 use Rattle.lazy_value.specs.declared.ids.Origin.{Origin}

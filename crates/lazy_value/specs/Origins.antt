@@ -13,7 +13,7 @@ use Rattle.plan_core.specs.Events.{RowEvents}
 use Rattle.lazy_binding.specs.World.{World}
 use Rattle.lazy_plan.specs.Bench.{BenchState, ops_of, size_of, documents, IsCursor, binding_at, IsMadeOf, HasUnder, AmongInputs}
 use Rattle.lazy_binding.specs.declared.position.Position.{Position}
-use Rattle.lazy_binding.specs.Forms.{makes_element, form, pieces_of, input_at, piece_at}
+use Rattle.plan_forms.specs.Forms.{makes_element, form, pieces_of, input_at, piece_at}
 use Rattle.lazy_value.specs.Labels as of
 use Rattle.lazy_value.specs.Sizes.{pieces_count, size, extent}
 use Rattle.lazy_value.specs.Ids.{IsOrigin, value_of, IsHead, head_label, head_trees}

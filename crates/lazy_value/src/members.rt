@@ -8,7 +8,7 @@ ghost use Rattle.plan_core.specs.Valid.{a_node, AreNodes};
 ghost use Rattle.plan_core.specs.TolledRows.{row_node};
 ghost use Rattle.lazy_plan.specs.Bench.{state_of, plan_of, IsBenchOf, ops_of, told, documents, IsCursor, binding_at};
 ghost use Rattle.lazy_plan.specs.Steps.{HasCause};
-ghost use Rattle.lazy_binding.specs.Forms.{gathers_groups, input_at};
+ghost use Rattle.plan_forms.specs.Forms.{gathers_groups, input_at};
 ghost use Rattle.lazy_value.specs.Ids.{Stands, GathersAll, IsRest, left, ahead_from};
 ghost use Rattle.lazy_value.specs.Steps.{Falls};
 ghost use Rattle.lazy_value.specs.Heights.{KeepsRank};
@@ -17,10 +17,10 @@ ghost use Rattle.lazy_value.specs.Calls.{Between, GivesFrom, InEach, InSome, Tur
 
 use crate::entering::{group_member, list_member};
 use crate::ids::{MembersFrom, Rest, Turn, share};
-use lazy_binding::forms::{group_keys, input_of};
 use lazy_plan::{Bench, Cursor, GroupFrom, WalkFault};
 use lxp_core::Sources;
 use mix_tree::{Key, Label, Var, same_label};
+use plan_forms::{group_keys, input_of};
 use std::alloc::Global;
 use std::rc::Rc;
 use tree_buffer::Buffer;

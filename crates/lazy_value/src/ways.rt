@@ -12,11 +12,10 @@ ghost use Rattle.lazy_value.specs.declared.ways.Way.{Top};
 
 use crate::ids::Origin;
 use crate::origin::{made_here, passed_on};
-use lazy_binding::binds;
-use lazy_binding::forms::operator;
 use lazy_plan::{Bench, Cursor};
 use mix_tree::Var;
 use plan_core::{Op, Plan};
+use plan_forms::{binds, operator};
 use std::alloc::{AllocError, Global};
 use std::rc::Rc;
 

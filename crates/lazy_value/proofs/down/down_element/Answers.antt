@@ -4,7 +4,7 @@ use Rattle.plan_core.specs.PlanMade.{plan_value}
 use Rattle.plan_core.specs.ByNumber.{op_at}
 use Rattle.plan_core.specs.Tolled.{Tolled}
 use Rattle.lazy_plan.specs.Bench.{state_of, IsCursor}
-use Rattle.lazy_binding.specs.Forms.{input_at, pieces_of}
+use Rattle.plan_forms.specs.Forms.{input_at, pieces_of}
 use Rattle.lazy_value.specs.Ids.{element_trees, rest_trees}
 use Rattle.lazy_value.specs.Steps.{StandsFor, Reaches}
 use Rattle.lazy_value.proofs.Heads.{if_ok}

@@ -1,7 +1,7 @@
 use Rattle.std.proofs.Common.{subst}
 use Rattle.plan_core.specs.declared.plan.Plan.{Plan}
 use Rattle.plan_core.specs.PlanMade.{plan_value}
-use Rattle.lazy_binding.specs.Forms.{IsLast}
+use Rattle.plan_forms.specs.Forms.{IsLast}
 use Rattle.lazy_value.proofs.Downs.{root_walked}
 use Rattle.std.proofs.Common.{◌+◌, suc, length, ap, arith}
 use Rattle.lazy_plan.specs.Bench.{state_of, ops_of}

@@ -2,7 +2,7 @@ use Rattle.std.proofs.Common.{◌∙◌, ap}
 use Rattle.plan_core.specs.declared.plan.Plan.{Plan}
 use Rattle.plan_core.specs.PlanMade.{plan_value}
 use Rattle.lazy_plan.specs.Bench.{state_of}
-use Rattle.lazy_binding.specs.Forms.{input_at}
+use Rattle.plan_forms.specs.Forms.{input_at}
 use Rattle.lazy_value.proofs.Enters.{joined_goes, all_goes, group_stands}
 use Rattle.lazy_value.proofs.entering.enter.Goals as goal
 

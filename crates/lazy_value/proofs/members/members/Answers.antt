@@ -1,7 +1,7 @@
 use Rattle.std.proofs.Common.{◌∙◌, ap}
 use Rattle.plan_core.specs.declared.plan.Plan.{Plan}
 use Rattle.plan_core.specs.PlanMade.{plan_value}
-use Rattle.lazy_binding.specs.Forms.{input_at}
+use Rattle.plan_forms.specs.Forms.{input_at}
 use Rattle.lazy_value.proofs.Gathering.{members_walked, rest_after, members_over, members_left, member_there, members_stand, members_fall}
 use Rattle.lazy_value.proofs.members.members.Goals as goal
 

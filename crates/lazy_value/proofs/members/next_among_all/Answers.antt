@@ -5,7 +5,7 @@ use Rattle.plan_core.specs.ByNumber.{op_at}
 use Rattle.plan_core.specs.Valid.{kinds, AreNodes}
 use Rattle.mix_tree.specs.declared.var.Key.{Key}
 use Rattle.lazy_plan.specs.Bench.{state_of, ops_of, IsCursor}
-use Rattle.lazy_binding.specs.Forms.{input_at, keys_of, gathers_groups}
+use Rattle.plan_forms.specs.Forms.{input_at, keys_of, gathers_groups}
 use Rattle.lazy_plan.specs.Groups.{group_ahead}
 use Rattle.lazy_value.proofs.Keep.{input_kept, Stands-kept}
 use Rattle.lazy_value.proofs.Groups.{group_nodes}

@@ -1,6 +1,6 @@
 use Rattle.std.proofs.Common.{◌≡◌, false}
 use Rattle.lazy_plan.specs.Bench.{state_of, IsBenchOf, ops_of, number_at}
-use Rattle.lazy_binding.specs.Forms.{input_at, gathers_groups}
+use Rattle.plan_forms.specs.Forms.{input_at, gathers_groups}
 use Rattle.lazy_plan.specs.Groups.{stops_at, group_ahead}
 use Rattle.lazy_value.specs.Ids.{Stands}
 use Rattle.lazy_value.proofs.Going.{Goes}

@@ -5,7 +5,7 @@ use Rattle.plan_core.specs.PlanMade.{op_of, plan_value}
 use Rattle.plan_core.specs.Plans.{Operator}
 use Rattle.plan_core.specs.ByNumber.{op_at}
 use Rattle.lazy_plan.specs.Bench.{state_of}
-use Rattle.lazy_binding.specs.Forms.{form}
+use Rattle.plan_forms.specs.Forms.{form}
 use Rattle.lazy_value.specs.Origins.{makes}
 use Rattle.lazy_value.proofs.Making.{not_other, is_other, no_items, some_items, all_made, groups_form, group_made, list_made}
 use Rattle.lazy_value.proofs.origin.made.Goals as goal

@@ -3,7 +3,7 @@ use Rattle.plan_core.specs.declared.plan.Plan.{Plan}
 use Rattle.plan_core.specs.PlanMade.{plan_value}
 use Rattle.plan_core.specs.ByNumber.{op_at}
 use Rattle.lazy_plan.specs.Bench.{state_of, ops_of, IsCursor}
-use Rattle.lazy_binding.specs.Forms.{input_at, pieces_of, piece_at, makes_list, makes_element}
+use Rattle.plan_forms.specs.Forms.{input_at, pieces_of, piece_at, makes_list, makes_element}
 use Rattle.lazy_value.specs.Ids.{IsRest}
 use Rattle.lazy_value.specs.declared.ids.Rest.{Rest}
 use Rattle.lazy_value.proofs.Heads.{if_ok}

@@ -2,7 +2,7 @@ use Rattle.std.proofs.Common.{◌∙◌, sym, ap}
 use Rattle.std.specs.Prelude.{◌==◌}
 use Rattle.plan_core.specs.PlanMade.{op_of, plan_value}
 use Rattle.plan_core.specs.Valid.{kinds, a_node, an_element, a_list}
-use Rattle.lazy_binding.proofs.Binding.{bound_at, bound_out}
+use Rattle.plan_forms.proofs.Binding.{bound_at, bound_out}
 use Rattle.lazy_value.proofs.Passing.{bound_either}
 use Rattle.lazy_value.proofs.ways.brings.Goals as goal
 

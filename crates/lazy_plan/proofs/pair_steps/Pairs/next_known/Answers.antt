@@ -1,7 +1,7 @@
 use Rattle.std.proofs.Common.{◌≡◌, Option, Some, sym, ap, ◌∙◌}
-use Rattle.lazy_binding.specs.declared.link.Link.{Link}
+use Rattle.plan_forms.specs.declared.link.Link.{Link}
 use Rattle.lazy_binding.specs.Cursors.{binding}
-use Rattle.lazy_binding.specs.Links.{link_at}
+use Rattle.plan_forms.specs.Links.{link_at}
 use Rattle.lazy_binding.specs.Parts.{operators, world_of}
 use Rattle.lazy_binding.specs.World.{docs_of}
 use Rattle.lazy_plan.specs.Beside.{memo_in, sought_label}

@@ -1,8 +1,8 @@
 use Rattle.std.proofs.Common.{length, ◌∙◌, ap, arith}
 use Rattle.plan_core.specs.PlanMade.{op_of, plan_value}
-use Rattle.lazy_binding.specs.Forms.{shown_by}
-use Rattle.lazy_binding.proofs.Lasts.{valid_ends, valid_some, last_at, last_is, last_shown}
-use Rattle.lazy_binding.proofs.forms.last.Goals as goal
+use Rattle.plan_forms.specs.Forms.{shown_by}
+use Rattle.plan_forms.proofs.Lasts.{valid_ends, valid_some, last_at, last_is, last_shown}
+use Rattle.plan_forms.proofs.forms.last.Goals as goal
 
 pub ending-op-requires : goal.ending-op-requires
 ending-op-requires c = valid_some (plan_value c.args.plan.now) c.requires

@@ -4,8 +4,8 @@ use Rattle.mix_tree.specs.Keys.{has_var}
 use Rattle.plan_core.specs.PlanMade.{op_of}
 use Rattle.plan_core.specs.Valid.{Kinds, kinds, a_node, an_element, a_list, kept}
 use Rattle.plan_core.proofs.Groups.{group_kinds}
-use Rattle.lazy_binding.proofs.Binding.{bound_at, bound_out, bound_other, bound_only, bound_key, bound_no_key, bound_left, bound_right}
-use Rattle.lazy_binding.proofs.variables.+binds.Goals as goal
+use Rattle.plan_forms.proofs.Binding.{bound_at, bound_out, bound_other, bound_only, bound_key, bound_no_key, bound_left, bound_right}
+use Rattle.plan_forms.proofs.variables.+binds.Goals as goal
 
 pub returns-in-Source : goal.returns-in-Source
 returns-in-Source t c =

@@ -5,7 +5,7 @@ use Rattle.plan_core.specs.Plans.{Operator, source, get_descendants, join, over,
 use Rattle.plan_core.specs.ByNumber.{op_at}
 use Rattle.plan_core.specs.Typed.{IsTyped}
 use Rattle.plan_core.specs.Valid.{kinds, an_element, IsFit, EndsSingle, is_single_at, IsValid, inputs_of}
-use Rattle.lazy_binding.specs.Forms.{input_of, shown_by, IsLast}
+use Rattle.plan_forms.specs.Forms.{input_of, shown_by, IsLast}
 
 -- how operators end
 pub record Ends (of : ℕ → Bool) (ops : List Operator) (d : Option Operator) : Type 0 where

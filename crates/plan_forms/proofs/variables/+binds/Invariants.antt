@@ -1,4 +1,4 @@
-use Rattle.lazy_binding.proofs.variables.+binds.Given as goal
+use Rattle.plan_forms.proofs.variables.+binds.Given as goal
 
 abbrev pub decreases-binds : goal.decreases-binds
 decreases-binds l = l.n

@@ -4,8 +4,8 @@ ghost use Rattle.plan_core.specs.declared.plan.Piece.TheVariants.{Var as var_pie
 ghost use Rattle.plan_core.specs.ByNumber.{op_at};
 ghost use Rattle.plan_core.specs.PlanMade.{op_of, plan_value};
 ghost use Rattle.plan_core.specs.Valid.{IsValid};
-ghost use Rattle.lazy_binding.specs.Forms as forms;
-ghost use Rattle.lazy_binding.specs.Forms.{pieces_of, piece_at, keys_of, input_at, form, makes_list, makes_element, label_in, labels_written, shown_by, texts_written, is_text, text_of, IsLast, IsWritten};
+ghost use Rattle.plan_forms.specs.Forms as forms;
+ghost use Rattle.plan_forms.specs.Forms.{pieces_of, piece_at, keys_of, input_at, form, makes_list, makes_element, label_in, labels_written, shown_by, texts_written, is_text, text_of, IsLast, IsWritten};
 
 use mix_tree::{Key, Label, Var};
 use plan_core::{Op, Piece, Plan, valid_plans_are_typed};

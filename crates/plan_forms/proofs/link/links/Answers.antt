@@ -6,7 +6,7 @@ use Rattle.plan_core.specs.Plans.{Operator}
 use Rattle.plan_core.specs.PlanMade.{op_of}
 use Rattle.plan_core.specs.Valid.{inputs_of}
 use Rattle.plan_core.proofs.Numbers.{op_read}
-use Rattle.lazy_binding.proofs.link.links.Goals as goal
+use Rattle.plan_forms.proofs.link.links.Goals as goal
 
 pub join_link-requires-clause-left : goal.join_link-requires-clause-left
 join_link-requires-clause-left c =

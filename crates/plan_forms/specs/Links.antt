@@ -8,7 +8,7 @@ use Rattle.mix_tree.specs.declared.comparing.TestOp.TheVariants.{Eq}
 use Rattle.plan_core.specs.Plans.{Operator}
 use Rattle.plan_core.specs.Shapes.{Shape, pairs_up, shape_of, shape_at}
 use Rattle.plan_core.specs.Valid.{Kinds, kinds}
-use Rattle.lazy_binding.specs.declared.link.Link.{Link}
+use Rattle.plan_forms.specs.declared.link.Link.{Link}
 
 -- the comparison is that of equal labels
 abbrev pub is_equality : TestOp → Bool

@@ -4,7 +4,7 @@ ghost use Rattle.std.specs.List.{AllByRecursion};
 ghost use Rattle.plan_core.specs.PlanMade.{op_of};
 ghost use Rattle.plan_core.specs.Typed.{IsTyped};
 ghost use Rattle.plan_core.specs.Valid.{kinds, inputs_of};
-ghost use Rattle.lazy_binding.specs.Links.{test_link, first_link, op_link};
+ghost use Rattle.plan_forms.specs.Links.{test_link, first_link, op_link};
 
 use crate::variables::binds;
 use mix_tree::{Operand, Test, TestOp, Var};
