@@ -1,4 +1,4 @@
-//! Tests of calls that no case of text reaches: places and keys, automata, the text of a plan that no view has, and walks over a buffer by its contract alone.
+//! Tests of calls that no case of text reaches: places and keys, automata, the text and the fronts of plans that no view has, and walks over a buffer by its contract alone.
 #![tactic(auto)]
 
 #[cfg(test)]
@@ -7,6 +7,8 @@ mod automata;
 mod buffers;
 #[cfg(test)]
 mod documents;
+#[cfg(test)]
+mod fronts;
 #[cfg(test)]
 mod places;
 #[cfg(test)]

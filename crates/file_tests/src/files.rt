@@ -4,10 +4,10 @@ use mix_io::{
     read_whole,
 };
 use std::alloc::{AllocError, Global};
-use std::io;
 use std::io::Write;
 use std::os::fd::AsRawFd;
 use std::test::Fail;
+use std::{fs, io};
 
 fn file(alloc: Global, path: &str, text: &str) -> Result<MemFile, AllocError> {
     Ok(MemFile {
@@ -117,5 +117,30 @@ fn a_pipe_is_read_from_its_front_on(rt: HostRuntime) -> Result<(), Fail> {
         let read = read_four(alloc, &mut files, &path, from);
         assert!(rt; read.as_deref() == want, "from {from}");
     }
+    Ok(())
+}
+
+#[test]
+fn two_files_that_are_read_in_turn_go_on_each_where_it_was(rt: HostRuntime) -> Result<(), Fail> {
+    let alloc = rt.alloc();
+    fs::write(&rt, "read_in_turn_a", b"abcdefg".as_slice())?;
+    fs::write(&rt, "read_in_turn_b", b"1234567".as_slice())?;
+    let mut files = OsFiles::new(rt);
+    for (path, from, want) in [
+        ("read_in_turn_a", 0, "abcd"),
+        ("read_in_turn_b", 0, "1234"),
+        ("read_in_turn_a", 4, "efg"),
+        ("read_in_turn_b", 4, "567"),
+        ("read_in_turn_a", 7, ""),
+        ("read_in_turn_b", 7, ""),
+    ] {
+        let read = read_four(alloc, &mut files, path, from);
+        assert!(rt;
+            read.as_deref() == Some(want.as_bytes()),
+            "{path} from {from}"
+        );
+    }
+    fs::remove_file(&rt, "read_in_turn_a")?;
+    fs::remove_file(&rt, "read_in_turn_b")?;
     Ok(())
 }
