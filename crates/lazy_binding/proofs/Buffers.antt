@@ -1,9 +1,10 @@
 -- What a call on one buffer leaves of a bench.
-use Rattle.std.proofs.Common.{◌≡◌, ◌<◌, ◌≤◌, ◌⊎◌, inl, inr, ℕ, zero, suc, true, List, [], ◌∷◌, Some, None, length, take, set, refl, ◌∙◌, sym, ap, subst, arith}
+use Rattle.std.proofs.Common.{◌≡◌, ◌<◌, ◌≤◌, ◌⊎◌, inl, inr, ℕ, zero, suc, true, List, [], ◌∷◌, Option, Some, None, length, take, set, refl, ◌∙◌, sym, ap, subst, arith}
 use Rattle.std.specs.Prelude.{IsTrue, slice_get, slice_index_or}
 use Rattle.std.specs.List.{AllByRecursion}
 use Rattle.std.specs.declared.alloc.Global.{Global}
 use Rattle.std.specs.declared.rc.Rc.{Rc}
+use Rattle.std.specs.declared.vec.Vec.{Vec}
 use Rattle.join_memo.specs.Kept.{Kept}
 use Rattle.std.proofs.lemmas.Option.{slice_get_within}
 use Rattle.std.proofs.lemmas.Bool.{cases_eq}
@@ -12,16 +13,24 @@ use Rattle.mix_tree.specs.Nodes.{Documents}
 use Rattle.lxp_core.specs.View.{View, Keeps as KeepsView}
 use Rattle.tree_buffer.specs.declared.buffer.Buffer.{Buffer}
 use Rattle.tree_buffer.specs.Buffer.{IsSourcesOf, IsKept, Goes, number_of}
+use Rattle.mix_tree.specs.declared.var.Key.{Key}
+use Rattle.plan_core.specs.declared.plan.Piece.{Piece}
 use Rattle.plan_core.specs.Plans.{Operator}
+use Rattle.plan_core.specs.Shapes.{first_by_keys, shape_at, passes_on}
 use Rattle.plan_core.specs.Valid.{HasSource}
 use Rattle.plan_core.specs.Events.{events, keys_seen}
 use Rattle.lazy_binding.specs.declared.key.KeyPart.{KeyPart}
 use Rattle.lazy_binding.specs.declared.key.KeyPart.TheVariants.{Node as node_part, Label as label_part, Free as free_part}
 use Rattle.lazy_binding.specs.declared.position.Position.{Position, Seen'}
 use Rattle.lazy_binding.specs.declared.parts.Walked.{Walked}
+use Rattle.lazy_binding.specs.declared.position.Reached.{Reached}
 use Rattle.lazy_binding.specs.Bench.{IsBench, HasMembers, HasReached}
-use Rattle.lazy_binding.specs.World.{World, world, docs_of, buffer_at, seen_at, seen_values, IsPart}
+use Rattle.lazy_binding.specs.Cursors.{gathers_by}
+use Rattle.lazy_binding.specs.Gathered.{no_groups}
+use Rattle.lazy_binding.specs.Gathering.{AreGathered}
+use Rattle.lazy_binding.specs.World.{World, world, docs_of, buffer_at, seen_at, seen_values, gathered_at, IsPart}
 use Rattle.lazy_binding.specs.Keeping.{GoesOn, Keeps}
+use Rattle.lazy_binding.proofs.Gathering.{gathered_kept}
 use Rattle.lazy_binding.proofs.Keep.{told-kept, docs_kept, spot_kept}
 use Rattle.lazy_binding.proofs.Stay.{values_kept, cursors_kept}
 use Rattle.lazy_binding.proofs.Members.{same_members}
@@ -48,7 +57,7 @@ module _ {a b : World} (k : Keeps a b) where
   part_stays free_part h = absurd h
 
   -- so are keys
-  key_stays : (key : List KeyPart) → AllByRecursion (IsPart a) key → AllByRecursion (IsPart b) key
+  pub key_stays : (key : List KeyPart) → AllByRecursion (IsPart a) key → AllByRecursion (IsPart b) key
   key_stays [] h = tt
   key_stays (p ∷ key) h = (part_stays p h.0, key_stays key h.1)
 
@@ -58,9 +67,16 @@ module _ {a b : World} (k : Keeps a b) where
   keys_stay (key ∷ keys) h = (key_stays key h.0, keys_stay keys h.1)
 
   -- groups were walked as far as before
-  pub reached_kept : (ops : List Operator) → IsBench a ops → b.walked ≡ a.walked → HasReached b ops
+  pub reached_kept : (ops : List Operator) → IsBench a ops → b.walked.reached ≡ a.walked.reached → HasReached b ops
   reached_kept ops h same n r e q =
-      (cursors_kept a b k ops h n (Seen' q r.below.value r.seen) (h.reached n r (ap (λ (z : Walked). slice_index_or z.reached.items n None) (sym same) ∙ e) q)).cursor
+      (cursors_kept a b k ops h n (Seen' q r.below.value r.seen) (h.reached n r (ap (λ (z : Vec (Option Reached) Global). slice_index_or z.items n None) (sym same) ∙ e) q)).cursor
+
+  -- the members that were found of the groups of an operator stay, where it saw no key anew
+  pub gathered_there : (ops : List Operator) → IsBench a ops → (n i : ℕ) (keys : List Key) (group : Option (Piece × ℕ)) → shape_at ops n ≡ passes_on i (first_by_keys keys group)
+      → gathers_by ops (passes_on i (first_by_keys keys group)) ≡ true → length (seen_at b n) ≡ length (seen_at a n) → gathered_at b n ≡ gathered_at a n
+      → AreGathered b ops n i keys group (gathered_at b n)
+  gathered_there ops h n i keys group is by seen same =
+      subst (AreGathered b ops n i keys group) (sym same) (gathered_kept a b ops h k n i keys group seen (gathered_at a n) (h.gathered n i keys group is by))
 
   -- where no key was seen anew, no group was walked on, and the memos have members of their sides, what is left is the bench of the later sources
   pub bench_stays : (ops : List Operator) → IsBench a ops → b.seen ≡ a.seen → HasMembers b ops → b.walked ≡ a.walked → ((s : ℕ) (x : Buffer) → buffer_at b s ≡ Some x → (number_of x ≡ s) × IsSourcesOf b.view x) → IsBench b ops
@@ -80,7 +96,10 @@ module _ {a b : World} (k : Keeps a b) where
         ∙ ap (λ (z : List (List KeyPart)). take (length z) (keys_seen (docs_of b) keys [] (events (docs_of b) ops i))) (sym (at n));
     members = members;
     marks = ap (λ (z : Walked). length z.reached.items) walked ∙ h.marks;
-    reached = reached_kept ops h walked;
+    reached = reached_kept ops h (ap (λ (z : Walked). z.reached) walked);
+    walks = ap (λ (z : Walked). length z.gathered.items) walked ∙ h.walks;
+    gathered = λ n i keys group is by.
+        gathered_there ops h n i keys group is by (ap length (at n)) (ap (λ (z : Walked). slice_index_or z.gathered.items n no_groups) walked);
   }
     where
       at : (n : ℕ) → seen_at b n ≡ seen_at a n
@@ -101,6 +120,7 @@ module _ (v v' : View) (bs : List Buffer) (seen : List (List (List KeyPart))) (m
     memos = refl;
     more = λ n. omega arith;
     members = λ n k l. refl;
+    found = λ n number place c f. f;
   }
     where
       at : (t : ℕ) (z : Buffer) → slice_get bs t ≡ Some z → (t ≡ s) ⊎ (t ≡ s → ⊥) → GoesOn (world v bs seen memos walked) (world v' (set bs s y) seen memos walked) t z

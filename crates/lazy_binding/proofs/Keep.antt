@@ -12,7 +12,7 @@ use Rattle.lxp_core.proofs.Views.{keeps_same as keeps_view_same, keeps_twice}
 use Rattle.plan_core.specs.Plans.{Operator}
 use Rattle.lazy_binding.specs.Bench.{IsBench}
 use Rattle.lazy_binding.specs.World.{World, world, docs_of, reads, is_told, is_forward, of_buffer, place_in, spot_node, IsSpotIn, roots_weight, bound_of}
-use Rattle.lazy_binding.specs.Keeping.{Keeps}
+use Rattle.lazy_binding.specs.Keeping.{Keeps, FoundStay}
 use Rattle.lazy_binding.specs.declared.parts.Walked.{Walked}
 
 -- a list of tests that agree has one answer
@@ -102,9 +102,9 @@ goes_twice g h = record {
   siblings = λ x i c. h.siblings x (g.spot x i) (g.siblings x i c);
 }
 
--- how far groups were walked is no part of what is kept
-pub keeps_walked : (w : World) (walked : Walked) → Keeps w (world w.view w.buffers w.seen w.memos walked)
-keeps_walked w walked = record {
+-- where groups were walked on, all else is as it was
+pub keeps_walked : (w : World) (walked : Walked) → FoundStay w (world w.view w.buffers w.seen w.memos walked) → Keeps w (world w.view w.buffers w.seen w.memos walked)
+keeps_walked w walked stay = record {
   view = keeps_view_same w.view;
   buffers = refl;
   goes = λ s b there. record { later = b; there = there; goes = goes_idle w.view b };
@@ -114,11 +114,12 @@ keeps_walked w walked = record {
   memos = refl;
   more = λ n. omega arith;
   members = λ n k l. refl;
+  found = stay;
 }
 
 -- nothing happened
 pub keeps_same : (w : World) (ops : List Operator) → IsBench w ops → Keeps w w
-keeps_same w ops h = keeps_walked w w.walked
+keeps_same w ops h = keeps_walked w w.walked (λ n number place c f. f)
 
 -- one call after another
 pub keeps_then : {a b c : World} → Keeps a b → Keeps b c → Keeps a c
@@ -135,4 +136,5 @@ keeps_then {a} {b} {c} k l = record {
   memos = l.memos ∙ k.memos;
   more = λ n. omega (arith, k.more n, l.more n);
   members = λ n j h. l.members n j (omega (arith, h, k.more n)) ∙ k.members n j h;
+  found = λ n number place c f. l.found n number place c (k.found n number place c f);
 }

@@ -2,6 +2,7 @@ pub mod Bound
 pub mod Buffers
 pub mod FirstLists
 pub mod FirstMembers
+pub mod FoundMembers
 pub mod Gathering
 pub mod Gathers
 pub mod GroupLists

@@ -79,7 +79,7 @@ module _ (a b : World) (k : Keeps a b) (ops : List Operator) (bench : IsBench a 
   part_kept free_part h = absurd h
 
   -- so do the parts of a key
-  parts_kept : (key : List KeyPart) → AllByRecursion (IsPart a) key → map (part_value b) key ≡ map (part_value a) key
+  pub parts_kept : (key : List KeyPart) → AllByRecursion (IsPart a) key → map (part_value b) key ≡ map (part_value a) key
   parts_kept [] h = refl
   parts_kept (p ∷ key) h = ap (λ (x : KeyValue). x ∷ map (part_value b) key) (part_kept p h.0) ∙ ap (λ (xs : List KeyValue). part_value a p ∷ xs) (parts_kept key h.1)
 
@@ -234,6 +234,7 @@ module _ (a b : World) (k : Keeps a b) (ops : List Operator) (bench : IsBench a 
           ∙ h.9 (subst IsTrue (told-kept k ops) t)
           ∙ ap (λ (z : Documents). behind_first m (events z ops n)) (sym (docs_kept k ops bench)),
       h.10,
+      λ e. k.found n m 0 c (h.11 e),
     )
     cursor_kept n (passes_on i (first_by_keys keys group)) (Seen' q c m) h = (
       cursor_kept i (shape_at ops i) c h.0,
@@ -250,6 +251,7 @@ module _ (a b : World) (k : Keeps a b) (ops : List Operator) (bench : IsBench a 
       λ t. past_kept (ap (λ (z : Documents). behind_first m (events z ops n)) (docs_kept k ops bench))
           (ap (λ (z : Standing). z.ahead) (standing_kept n (passes_on i (first_by_keys keys group)) (Seen' q c m) h)) (h.6 (subst IsTrue (told-kept k ops) t)),
       h.7,
+      h.8,
     )
     cursor_kept n (pairs_up l r tests) (Pair' q x q' y m) h =
         (cursor_kept l (shape_at ops l) x h.0, h.1, cursor_kept r (shape_at ops r) y h.2, omega (arith, h.3, k.more n), ap (last_of Start) (k.members n m h.3) ∙ h.4)

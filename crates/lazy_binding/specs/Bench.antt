@@ -5,6 +5,7 @@ use Rattle.mix_tree.specs.declared.comparing.Test.{Test}
 use Rattle.mix_tree.specs.declared.var.Key.{Key}
 use Rattle.tree_buffer.specs.declared.buffer.Buffer.{Buffer}
 use Rattle.tree_buffer.specs.Buffer.{IsSourcesOf, number_of}
+use Rattle.plan_core.specs.declared.plan.Piece.{Piece}
 use Rattle.plan_core.specs.Plans.{Operator}
 use Rattle.plan_core.specs.Shapes.{Shape, pairs_up, first_by_keys, shape_at, passes_on}
 use Rattle.plan_core.specs.Events.{events, keys_seen}
@@ -12,8 +13,9 @@ use Rattle.plan_core.specs.Valid.{HasSource}
 use Rattle.plan_forms.specs.Links.{link_at}
 use Rattle.lazy_binding.specs.Members.{AreMembers}
 use Rattle.lazy_binding.specs.declared.position.Reached.{Reached}
-use Rattle.lazy_binding.specs.Cursors.{HasSeen}
-use Rattle.lazy_binding.specs.World.{World, docs_of, is_told, buffer_at, seen_at, seen_values, memo_at, reached_at, IsPart}
+use Rattle.lazy_binding.specs.Cursors.{HasSeen, gathers_by}
+use Rattle.lazy_binding.specs.Gathering.{AreGathered}
+use Rattle.lazy_binding.specs.World.{World, docs_of, is_told, buffer_at, seen_at, seen_values, memo_at, reached_at, gathered_at, IsPart}
 
 -- the input of a shape that drops bindings whose keys were seen, and these keys
 abbrev pub drops_by : Shape → Option (ℕ × List Key)
@@ -28,8 +30,14 @@ HasMembers w ops = (n l r : ℕ) (tests : List Test) → shape_at ops n ≡ pair
 abbrev pub HasReached : World → List Operator → Type 0
 HasReached w ops = (n : ℕ) (r : Reached) → reached_at w n ≡ Some r → HasSeen w ops n r.below.value r.seen
 
+-- of each operator whose groups end with its input the members of its groups were found in one walk
+abbrev pub HasGathered : World → List Operator → Type 0
+HasGathered w ops = (n i : ℕ) (keys : List Key) (group : Option (Piece × ℕ)) → shape_at ops n ≡ passes_on i (first_by_keys keys group)
+    → gathers_by ops (passes_on i (first_by_keys keys group)) ≡ true → AreGathered w ops n i keys group (gathered_at w n)
+
 -- the root hole of each source is known, the buffers are those of the sources of these operators, where the sources are told, the keys that an operator has seen are the first
--- ones of those that its input has, the members of a join's memo are the first bindings of its right side, and groups were walked to bindings of theirs
+-- ones of those that its input has, the members of a join's memo are the first bindings of its right side, groups were walked to bindings of theirs, and the members that were found of groups
+-- come one behind another
 pub record IsBench (w : World) (ops : List Operator) : Type 0 where
   pub roots : (s : ℕ) → s < w.view.count → w.view.knows s (w.view.root s) ≡ true
   pub few : length w.buffers ≤ w.view.count
@@ -43,3 +51,5 @@ pub record IsBench (w : World) (ops : List Operator) : Type 0 where
   pub members : HasMembers w ops
   pub marks : length w.walked.reached.items ≡ length ops
   pub reached : HasReached w ops
+  pub walks : length w.walked.gathered.items ≡ length ops
+  pub gathered : HasGathered w ops

@@ -1,5 +1,5 @@
 -- What a cursor of an operator stands for.
-use Rattle.std.specs.Prelude.{◌≡◌, ◌<◌, ◌≤◌, ◌+◌, ◌-◌, ◌*◌, ℕ, zero, suc, Bool, true, false, IsTrue, Option, Some, None, List, [], ◌∷◌, ◌++◌, take, drop, length, map}
+use Rattle.std.specs.Prelude.{◌≡◌, ◌<◌, ◌≤◌, ◌+◌, ◌-◌, ◌*◌, ℕ, zero, suc, Bool, true, false, not, IsTrue, Option, Some, None, List, [], ◌∷◌, ◌++◌, take, drop, length, map}
 use Rattle.std.proofs.Common.{get_or}
 use Rattle.std.specs.List.{last_or}
 use Rattle.mix_base.specs.Events.{bind, Find, nothing, finds, found, cost}
@@ -18,7 +18,7 @@ use Rattle.plan_core.specs.TolledRows.{of_source, TolledRow, row_node, tolled_re
 use Rattle.plan_core.specs.Events.{RowEvents, events, expand, each_row, only, with_node, nodes_found, descendants, pairs, distinct, keys_seen, same_group}
 use Rattle.lazy_descend.specs.declared.cursor.DescCursor.{DescCursor}
 use Rattle.lazy_binding.specs.declared.position.Position.{Position, Start, Top, Whole, Found', Pass', First', Seen', Pair', Sorted', Row_of-Position-Sorted-0-1 as Row, end_of-Position-Sorted-0-1 as no_more, more_of-Position-Sorted-0-1 as one_more}
-use Rattle.lazy_binding.specs.World.{World, docs_of, is_told, spot_node, IsSpotIn, IsMatchIn, match_place, match_ahead, match_number, bound_of, seen_at, seen_values, memo_at, passed, place_in}
+use Rattle.lazy_binding.specs.World.{World, docs_of, is_told, spot_node, IsSpotIn, IsMatchIn, match_place, match_ahead, match_number, bound_of, seen_at, seen_values, memo_at, passed, place_in, IsFound}
 
 -- the binding and the events ahead, together
 pub record Standing : Type 0 where
@@ -43,6 +43,11 @@ IsBindingOf es row later = (k : ℕ) × (found (behind_first k es) ≡ finds row
 pub record IsPast (es later : RowEvents) : Type 0 where
   pub found : found es ≡ found later
   pub costs : cost later ≤ cost es
+
+-- the groups of a shape end with its input, so that their members are gathered in one walk
+abbrev pub gathers_by : List Operator → Shape → Bool
+gathers_by ops (passes_on i (first_by_keys keys (Some made))) = not (stops_over ops i keys)
+gathers_by ops f = false
 
 -- THE PARTS OF EACH SHAPE
 
@@ -185,8 +190,8 @@ IsFirstBy docs keys es row later = found (same_group docs keys row es) ≡ finds
 abbrev mutual
   -- a position of operator n in this shape. A pair stands at the last of the members that were passed. Of first bindings by keys it is also known that the keys ahead of it are those that the input has behind the ones
   -- seen up to it, that no event before it has other keys, that no more keys were seen than there are bindings, and which of the operator's bindings are ahead: where it stands at a binding, those behind as many as keys
-  -- were seen, and this is the first one with its keys, which were seen last; else the same up to events without a binding. A project over bindings that are all different by its keys
-  -- has positions that stand at a binding of the input, and no others
+  -- were seen, and this is the first one with its keys, which were seen last, and where members are gathered the first of its group; else the same up to events without a binding. A project over bindings that are all different by its keys
+  -- has positions that stand at a binding of the input, and no others; a groupBy whose groups end with its input has none but at first bindings
   pub IsIn : World → List Operator → ℕ → Shape → Position → Type 0
   IsIn w ops n f Start = Unit {0}
   IsIn w ops n (one_source s out) (Top t x) = (t ≡ s) × IsSpotIn w t x × (place_in w t x ≡ [])
@@ -205,12 +210,13 @@ abbrev mutual
       × (IsTrue (is_told w ops) → last_or None (up_to w n k) ≡ Some (key_values (docs_of w) keys (binding w ops i c)))
       × (IsTrue (is_told w ops) → (stands w ops n (passes_on i (first_by_keys keys group)) (First' q c k)).ahead ≡ behind_first k (events (docs_of w) ops n))
       × (shape_apart ops (passes_on i (first_by_keys keys group)) ≡ false)
+      × (gathers_by ops (passes_on i (first_by_keys keys group)) ≡ true → IsFound w n k 0 c)
   IsIn w ops n (passes_on i (first_by_keys keys group)) (Seen' q c k) = IsIn w ops i (shape_at ops i) c × IsTrue (has_row c) × (k ≤ length (seen_at w n))
       × (IsTrue (is_told w ops) → keys_seen (docs_of w) keys (up_to w n k) (ahead w ops i c) ≡ drop k (keys_seen (docs_of w) keys [] (events (docs_of w) ops i)))
       × (IsTrue (is_told w ops) → NoneBefore (docs_of w) keys (events (docs_of w) ops i) (up_to w n k) (ahead w ops i c))
       × (number w ops i c + k ≤ size w ops i)
       × (IsTrue (is_told w ops) → IsPast (behind_first k (events (docs_of w) ops n)) (stands w ops n (passes_on i (first_by_keys keys group)) (Seen' q c k)).ahead)
-      × (shape_apart ops (passes_on i (first_by_keys keys group)) ≡ false)
+      × (shape_apart ops (passes_on i (first_by_keys keys group)) ≡ false) × (gathers_by ops (passes_on i (first_by_keys keys group)) ≡ false)
   IsIn w ops n (pairs_up l r tests) (Pair' q x q' y k) = IsIn w ops l (shape_at ops l) x × IsTrue (has_row x) × IsIn w ops r (shape_at ops r) y
       × (k ≤ length (memo_at w n).pairs) × (passed (memo_at w n).pairs k ≡ y)
   IsIn w ops n (passes_on i (in_order v desc)) (Sorted' q m row k) = AreIn w ops i row × (k < count row) × (count row ≤ size w ops n)

@@ -1,5 +1,5 @@
 -- The members of the groups of an operator, as far as they were found, and how their lists grow.
-use Rattle.std.specs.Prelude.{◌≡◌, ◌<◌, ◌⊎◌, ℕ, zero, suc, Bool, true, false, Option, None, Some, List, [], ◌∷◌, ◌++◌, length, take, nat_lt, slice_index_or}
+use Rattle.std.specs.Prelude.{◌≡◌, ◌<◌, ◌⊎◌, ℕ, zero, suc, Bool, true, false, Option, None, Some, List, [], ◌∷◌, ◌++◌, length, take, nat_lt, slice_get, slice_index_or}
 use Rattle.std.specs.declared.alloc.Global.{Global}
 use Rattle.std.specs.declared.rc.Rc.{Rc}
 use Rattle.lazy_binding.specs.declared.key.KeyPart.{KeyPart}
@@ -26,6 +26,10 @@ abbrev pub at_place : Position → List (Rc Position Global) → ℕ → Positio
 at_place at ms zero = at
 at_place at [] (suc p) = at
 at_place at (m ∷ ms) (suc p) = at_place m.value ms p
+
+-- each member that was found stays at its place in its group
+abbrev pub MembersStay : Gathered → Gathered → Type 0
+MembersStay old new = (j place : ℕ) (m : Rc Position Global) → slice_get (slice_index_or old.groups j []) place ≡ Some m → slice_get (slice_index_or new.groups j []) place ≡ Some m
 
 -- the group of number k has one more member, and the others are as they were
 pub record IsJoined (old new : List (List (Rc Position Global))) (k : ℕ) (r : Rc Position Global) : Type 0 where

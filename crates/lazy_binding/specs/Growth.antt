@@ -5,6 +5,8 @@ use Rattle.std.specs.declared.rc.Rc.{Rc}
 use Rattle.join_memo.specs.Kept.{Kept}
 use Rattle.lazy_binding.specs.declared.key.KeyPart.{KeyPart}
 use Rattle.lazy_binding.specs.declared.position.Position.{Position, First', Seen'}
+use Rattle.lazy_binding.specs.Gathered.{Gathered, no_groups}
+use Rattle.lazy_binding.specs.declared.parts.Walked.{Walked}
 use Rattle.lazy_binding.specs.declared.position.Reached.{Reached}
 use Rattle.lazy_binding.specs.Keys.{was_seen}
 use Rattle.lazy_binding.specs.World.{no_pairs}
@@ -14,15 +16,26 @@ pub record OthersStay (old new : List (Kept (Rc Position Global))) (n : ℕ) : T
   pub lists : length new ≡ length old
   pub others : (j : ℕ) → (j ≡ n → ⊥) → slice_index_or new j no_pairs ≡ slice_index_or old j no_pairs
 
+-- the members of the groups of an operator that were found, in what was walked
+abbrev pub groups_in : Walked → ℕ → Gathered
+groups_in walked n = slice_index_or walked.gathered.items n no_groups
+
+-- of all that was walked, the groups of operator n alone may have changed
+pub record OthersGathered (old new : Walked) (n : ℕ) : Type 0 where
+  pub reached : new.reached ≡ old.reached
+  pub lists : length new.gathered.items ≡ length old.gathered.items
+  pub others : (j : ℕ) → (j ≡ n → ⊥) → groups_in new j ≡ groups_in old j
+
 -- where one key more is seen, that key stands behind all others, and was not seen so far
 abbrev pub IsPushed : List (List KeyPart) → List (List KeyPart) → List KeyPart → ℕ → Type 0
 IsPushed old new key k = length new ≡ length old + 1 → (k ≡ length old) × (was_seen key (take k old) ≡ false)
 
--- a group of operator n was walked to this binding, and those of the others as far as before
-pub record IsReached (old new : List (Option Reached)) (n : ℕ) (to : Reached) : Type 0 where
-  pub lists : length new ≡ length old
-  pub others : (j : ℕ) → (j ≡ n → ⊥) → slice_index_or new j None ≡ slice_index_or old j None
-  pub here : slice_index_or new n None ≡ Some to
+-- a group of operator n was walked to this binding, those of the others as far as before, and no members were gathered
+pub record IsReached (old new : Walked) (n : ℕ) (to : Reached) : Type 0 where
+  pub lists : length new.reached.items ≡ length old.reached.items
+  pub others : (j : ℕ) → (j ≡ n → ⊥) → slice_index_or new.reached.items j None ≡ slice_index_or old.reached.items j None
+  pub here : slice_index_or new.reached.items n None ≡ Some to
+  pub gathered : new.gathered ≡ old.gathered
 
 -- where the group at a position of operator n was walked, a later position is the binding that it was walked to
 abbrev pub Resumes : List (Option Reached) → ℕ → Position → Position → Type 0

@@ -5,7 +5,7 @@ use Rattle.tree_buffer.specs.declared.buffer.Buffer.{Buffer}
 use Rattle.tree_buffer.specs.Buffer.{Goes}
 use Rattle.plan_core.specs.Plans.{Operator}
 use Rattle.lazy_binding.specs.declared.position.Position.{Position}
-use Rattle.lazy_binding.specs.World.{World, buffer_at, seen_at, memo_at}
+use Rattle.lazy_binding.specs.World.{World, buffer_at, seen_at, memo_at, IsFound}
 use Rattle.plan_core.specs.Shapes.{Shape, shape_at}
 use Rattle.lazy_binding.specs.Bench.{IsBench}
 use Rattle.lazy_binding.specs.Cursors.{stands, weighs, IsIn, IsOf}
@@ -16,7 +16,11 @@ pub record GoesOn (old new : World) (s : ℕ) (b : Buffer) : Type 0 where
   pub there : buffer_at new s ≡ Some later
   pub goes : Goes old.view b new.view later
 
--- the sources keep what every call of theirs keeps, each buffer goes on, and the lists of keys that were seen and the memos only grow
+-- the members of groups that were found stay at their places
+abbrev pub FoundStay : World → World → Type 0
+FoundStay old new = (n number place : ℕ) (c : Position) → IsFound old n number place c → IsFound new n number place c
+
+-- the sources keep what every call of theirs keeps, each buffer goes on, the lists of keys that were seen and the memos only grow, and so do the members of groups that were found
 pub record Keeps (old new : World) : Type 0 where
   pub view : KeepsView new.view old.view
   pub buffers : length new.buffers ≡ length old.buffers
@@ -27,6 +31,7 @@ pub record Keeps (old new : World) : Type 0 where
   pub memos : length new.memos ≡ length old.memos
   pub more : (n : ℕ) → length (memo_at old n).pairs ≤ length (memo_at new n).pairs
   pub members : (n k : ℕ) → k ≤ length (memo_at old n).pairs → take k (memo_at new n).pairs ≡ take k (memo_at old n).pairs
+  pub found : FoundStay old new
 
 -- an earlier position of operator n, in this shape, stands for the same binding, with the same events behind it, and its number did not rise
 pub record StaysIn (old new : World) (ops : List Operator) (n : ℕ) (f : Shape) (c : Position) : Type 0 where

@@ -1,6 +1,6 @@
 -- What a bench stands on: what its sources mean, a buffer for each of them, and for each operator the keys that were seen, and the memo of its right side; and how far
 -- groups were walked.
-use Rattle.std.specs.Prelude.{◌≡◌, ◌+◌, nat_lt, cond, ℕ, zero, suc, Bool, true, false, Option, Some, None, List, [], ◌∷◌, map, take, length, slice_get, slice_index_or}
+use Rattle.std.specs.Prelude.{◌≡◌, ◌+◌, ◌-◌, nat_lt, cond, ℕ, zero, suc, Bool, true, false, Option, Some, None, List, [], ◌∷◌, map, take, length, slice_get, slice_index_or}
 use Rattle.std.specs.List.{list_all}
 use Rattle.std.specs.declared.alloc.Global.{Global}
 use Rattle.std.specs.declared.rc.Rc.{Rc}
@@ -19,6 +19,7 @@ use Rattle.plan_core.specs.TolledRows.{KeyValue, by_node, by_label}
 use Rattle.lazy_descend.specs.declared.cursor.DescCursor.{DescCursor}
 use Rattle.lazy_descend.specs.Cursors.{IsCursor, place_at, ahead, number}
 use Rattle.lazy_binding.specs.declared.key.KeyPart.{KeyPart}
+use Rattle.lazy_binding.specs.Gathered.{Gathered, no_groups}
 use Rattle.lazy_binding.specs.declared.parts.Walked.{Walked}
 use Rattle.lazy_binding.specs.declared.position.Reached.{Reached}
 use Rattle.lazy_binding.specs.declared.key.KeyPart.TheVariants.{Node as node_part, Label as label_part, Free as free_part}
@@ -126,6 +127,18 @@ memo_at w n = slice_index_or w.memos n no_pairs
 -- how far the group at hand of an operator was walked
 abbrev pub reached_at : World → ℕ → Option Reached
 reached_at w n = slice_index_or w.walked.reached.items n None
+
+-- the members of the groups of an operator that were found
+abbrev pub gathered_at : World → ℕ → Gathered
+gathered_at w n = slice_index_or w.walked.gathered.items n no_groups
+
+-- the member at a place of the group of this number, which counts from 1, as far as members were found
+abbrev pub member_at : World → ℕ → ℕ → ℕ → Option (Rc Position Global)
+member_at w n number place = slice_get (slice_index_or (gathered_at w n).groups (number - 1) []) place
+
+-- the member at a place of the group of this number, counted from 1, was found, and it is this position
+abbrev pub IsFound : World → ℕ → ℕ → ℕ → Position → Type 0
+IsFound w n number place c = (m : Rc Position Global) × (member_at w n number place ≡ Some m) × (m.value ≡ c)
 
 -- the last of these positions, or the one before them
 abbrev pub last_of : Position → List Member → Position

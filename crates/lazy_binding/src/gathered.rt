@@ -1,5 +1,5 @@
 // The members of groups whose members don't stand side by side, as far as they were found.
-ghost use Rattle.std.specs.Prelude.{◌≡◌, ◌<◌, ◌++◌, ◌∷◌, [], false, true, IfOk, IfErr, OnOk, OnErr, length, map, option_copied, slice_get, slice_index_or};
+ghost use Rattle.std.specs.Prelude.{◌≡◌, ◌<◌, ◌++◌, ◌∷◌, [], false, true, IfOk, IfErr, OnOk, OnErr, length, map, option_copied, slice_get, slice_index_or, suc};
 ghost use Rattle.lazy_binding.specs.Gathered.{no_groups, IsGatheredBy, IsJoined, IsBegun};
 ghost use Rattle.lazy_binding.specs.Keys.{was_seen};
 ghost use Rattle.lxp_core.specs.declared.fault.WalkFault.TheVariants.{OutOfMemory};
@@ -86,6 +86,13 @@ impl Gathered {
         }
     }
 
+    /// How many groups have a member that was found.
+    pub fn len(&self) -> usize
+        ensures { result ≡ length self.now.groups }
+    {
+        self.groups.len()
+    }
+
     /// The member at a place of a group, both counted from 0; `None` exactly where none was found there yet.
     pub fn member(&self, group: usize, place: usize) -> Option<&Rc<Position>>
         ensures { option_copied result ≡ slice_get (slice_index_or self.now.groups group []) place }
@@ -93,6 +100,21 @@ impl Gathered {
         match self.groups.get(group) {
             None => None,
             Some(members) => members.get(place),
+        }
+    }
+
+    /// The member at the place behind one of a group, both counted from 0; `None` exactly where none was found there yet.
+    pub fn behind(&self, group: usize, place: usize) -> Option<&Rc<Position>>
+        ensures { option_copied result ≡ slice_get (slice_index_or self.now.groups group []) (suc place) }
+    {
+        match self.groups.get(group) {
+            None => None,
+            Some(members) => {
+                if place >= members.len() {
+                    return None;
+                }
+                members.get(place + 1)
+            }
         }
     }
 

@@ -1,7 +1,7 @@
 // What is remembered while a plan is walked: members of a join's right side, keys that were seen, and how far a group was walked.
 ghost use Rattle.std.specs.Prelude.{◌≡◌, ◌<◌, ◌≤◌, ◌⊎◌, ◌++◌, ◌∷◌, [], true, false, not, IfOk, IfErr, MatchOption, OnOk, OnErr, length, slice_index_or, take};
 ghost use Rattle.lxp_core.specs.declared.fault.WalkFault.TheVariants.{OutOfMemory};
-ghost use Rattle.lazy_binding.specs.Growth.{OthersStay, IsPushed, IsReached, IsUnknown, Resumes};
+ghost use Rattle.lazy_binding.specs.Growth.{OthersStay, OthersGathered, IsPushed, IsReached, IsUnknown, Resumes, groups_in};
 ghost use Rattle.lazy_binding.specs.Keys.{was_seen};
 ghost use Rattle.lazy_binding.specs.World.{last_of, no_pairs};
 ghost use Rattle.lazy_binding.specs.declared.position.Position.{Start};
@@ -76,10 +76,21 @@ pub fn is_first(list: &mut SeenKeys, key: KeyTuple, count: usize) -> Result<bool
     list.push(key)
 }
 
+/// No more members will come to the groups of an operator.
+pub fn end_groups(walked: &mut Walked, op: usize)
+    requires { op < length walked.old.gathered.items }
+    ensures others { OthersGathered walked.old walked.new op }
+    ensures ended { let old = groups_in walked.old op in
+        groups_in walked.new op ≡ record { groups = old.groups; last = old.last; ended = true } }
+{
+    let gathered = &mut walked.gathered[op];
+    gathered.end();
+}
+
 /// A group was walked to a binding of its operator's input.
 pub fn reach(walked: &mut Walked, op: usize, to: Reached)
     requires { op < length walked.old.reached.items }
-    ensures { IsReached walked.old.reached.items walked.new.reached.items op to }
+    ensures { IsReached walked.old walked.new op to }
 {
     walked.reached[op] = Some(to);
 }

@@ -3,8 +3,10 @@ ghost use Rattle.std.specs.Prelude.{◌≡◌, ◌<◌, ◌≤◌, ◌⊎◌, []
 ghost use Rattle.plan_core.specs.ByNumber.{op_at};
 ghost use Rattle.plan_core.specs.PlanMade.{op_of};
 ghost use Rattle.lazy_binding.specs.Opening.{AreBuffers, table_in, HasShortPath};
+ghost use Rattle.lazy_binding.specs.Gathered.{no_groups};
 ghost use Rattle.lazy_binding.specs.World.{no_pairs};
 
+use crate::gathered::Gathered;
 use crate::key::SeenKeys;
 use crate::position::{Position, Reached};
 use join_memo::Memo;
@@ -98,4 +100,16 @@ pub fn none_reached(alloc: Global, count: usize) -> Result<Vec<Option<Reached>>,
         reached.push(None)?;
     }
     Ok(reached)
+}
+
+/// For each operator that no members of its groups were found.
+pub fn none_gathered(alloc: Global, count: usize) -> Result<Vec<Gathered>, AllocError>
+    ensures length { IfOk result (λ gathered. length gathered.items ≡ count) }
+    ensures none { IfOk result (λ gathered. (n : ℕ) → slice_index_or gathered.items n no_groups ≡ no_groups) }
+{
+    let mut gathered = Vec::new(alloc);
+    for _ in 0..count {
+        gathered.push(Gathered::new(alloc))?;
+    }
+    Ok(gathered)
 }

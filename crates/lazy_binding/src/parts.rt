@@ -1,10 +1,11 @@
 // What a bench is made of: the plan with the automata of its paths, and what grows while it is walked; and an operator of such a plan.
 ghost use Rattle.std.specs.Prelude.{◌≡◌, ◌<◌, length};
 ghost use Rattle.plan_core.specs.ByNumber.{op_at};
-ghost use Rattle.plan_core.specs.Fronts.{op_apart};
+ghost use Rattle.plan_core.specs.Fronts.{op_apart, op_stops};
 ghost use Rattle.plan_core.specs.PlanMade.{op_of};
 ghost use Rattle.lazy_binding.specs.Parts.{operators, IsFixed};
 
+use crate::gathered::Gathered;
 use crate::key::SeenKeys;
 use crate::position::{Position, Reached};
 use join_memo::Memo;
@@ -28,10 +29,12 @@ pub struct Fixed {
     pub rights: Vec<Vec<Var>>,
 }
 
-/// How far groups were walked: for each operator its group at hand, where its groups end at the first other key.
+/// How far groups were walked: for each operator its group at hand, where its groups end at the first other key, and the members of all its
+/// groups, where they end with its input.
 #[derive(Drop)]
 pub struct Walked {
     pub reached: Vec<Option<Reached>>,
+    pub gathered: Vec<Gathered>,
 }
 
 /// What grows while a plan is walked: for each source the nodes that were handed out, and for each operator the keys that it has seen, the
@@ -58,6 +61,15 @@ impl Fixed {
         ensures { op_of result.now ≡ op_at (operators self.now) n }
     {
         &self.plan.ops[n]
+    }
+
+    /// Whether the groups of an operator end at the first other key of its input.
+    pub fn stops_at(&self, n: usize) -> bool
+        requires fixed { IsFixed self.now }
+        requires op { n < length (operators self.now) }
+        ensures { result ≡ op_stops (operators self.now) (op_at (operators self.now) n) }
+    {
+        self.stops[n]
     }
 
     /// Whether an operator is a `project` that passes on each binding of its input, since no two of them agree by its keys.

@@ -1,6 +1,6 @@
 -- Groups whose members stand side by side: where one begins, and how it is walked.
-use Rattle.std.proofs.Common.{◌≡◌, ◌⊎◌, inl, inr, ◌<◌, ◌≤◌, ◌-◌, ℕ, zero, suc, Bool, true, false, List, [], ◌∷◌, Option, Some, None, length, map, take, get_or, refl, ◌∙◌, sym, ap, subst, arith}
-use Rattle.std.specs.Prelude.{IsTrue, slice_index_or}
+use Rattle.std.proofs.Common.{◌≡◌, ◌⊎◌, inl, inr, ◌<◌, ◌≤◌, ◌-◌, ℕ, suc, Bool, true, false, List, [], ◌∷◌, Option, Some, None, length, map, take, get_or, refl, ◌∙◌, sym, ap, subst, arith}
+use Rattle.std.specs.Prelude.{IsTrue, not, slice_index_or}
 use Rattle.std.specs.List.{AllByRecursion, last_or}
 use Rattle.std.specs.declared.alloc.Global.{Global}
 use Rattle.std.specs.declared.rc.Rc.{Rc}
@@ -29,11 +29,14 @@ use Rattle.lazy_descend.proofs.Searches.{still_told}
 use Rattle.lazy_binding.specs.declared.key.KeyPart.{KeyPart}
 use Rattle.lazy_binding.specs.declared.parts.Growing.{Growing}
 use Rattle.lazy_binding.specs.declared.position.Position.{Position, Start, First', Seen'}
+use Rattle.std.proofs.Common.{Vec}
+use Rattle.lazy_binding.specs.Gathered.{Gathered, no_groups}
 use Rattle.lazy_binding.specs.declared.parts.Walked.{Walked}
 use Rattle.lazy_binding.specs.declared.position.Reached.{Reached}
 use Rattle.lazy_binding.specs.Bench.{IsBench}
-use Rattle.lazy_binding.specs.World.{World, world, docs_of, is_told, seen_at, part_value, IsPart}
-use Rattle.lazy_binding.specs.Cursors.{binding, ahead, number, has_row, up_to, IsIn, IsOf, HasSeen}
+use Rattle.lazy_binding.specs.World.{World, world, docs_of, is_told, seen_at, part_value, IsPart, IsFound}
+use Rattle.plan_core.specs.Fronts.{op_stops, stops_over}
+use Rattle.lazy_binding.specs.Cursors.{gathers_by, binding, ahead, number, size, has_row, up_to, IsIn, IsOf, HasSeen}
 use Rattle.plan_forms.specs.Forms.{form, gathers_groups, input_of, input_at, keys_of}
 use Rattle.lazy_binding.specs.Keeping.{Keeps, Stays}
 use Rattle.lazy_binding.specs.Keys.{same_parts, was_seen}
@@ -41,18 +44,20 @@ use Rattle.lazy_binding.specs.Parts.{operators, world_of}
 use Rattle.lazy_binding.specs.Reading.{below, count_of}
 use Rattle.lazy_binding.specs.Unders.{part_in, part_at}
 use Rattle.lazy_binding.proofs.Bound.{inputs_at}
-use Rattle.lazy_binding.proofs.Buffers.{keys_stay}
+use Rattle.lazy_binding.proofs.Buffers.{keys_stay, gathered_there}
+use Rattle.lazy_binding.proofs.FoundMembers.{found_same}
 use Rattle.lazy_binding.proofs.Keep.{docs_kept, told-kept, keeps_walked, keeps_then}
 use Rattle.lazy_binding.proofs.Members.{same_members}
 use Rattle.lazy_binding.proofs.SameKeys.{same_parts-is}
-use Rattle.lazy_binding.proofs.Stay.{seen_kept, cursors_kept}
+use Rattle.lazy_binding.proofs.Stay.{seen_kept, cursors_kept, size_kept}
 use Rattle.lazy_plan.specs.declared.bench.Bench.{Bench}
 use Rattle.lazy_plan.specs.Bench.{state_of, told_by, IsBenchOf, IsCursor, AsksAtMost}
 use Rattle.lazy_plan.specs.Groups.{stops_at, group_ahead, IsGroup, members_of}
 use Rattle.lazy_binding.specs.Growth.{IsReached}
-use Rattle.lazy_plan.specs.Steps.{Asks, CanStep, Finds, Ran, telling}
-use Rattle.lazy_plan.proofs.FirstSteps.{goes_past}
-use Rattle.lazy_plan.proofs.Goes.{tells_on}
+use Rattle.lazy_steps.specs.Steps.{Asks, CanStep, Finds, Ran, telling}
+use Rattle.lazy_steps.proofs.FirstSteps.{goes_past}
+use Rattle.lazy_steps.proofs.Goes.{tells_on}
+use Rattle.lazy_steps.proofs.SeenPlaces.{last_taken, each_one}
 
 -- WHERE A GROUP BEGINS
 
@@ -61,6 +66,12 @@ pub group_shape : (o : Operator) → form o ≡ gathers_groups → (group : Piec
 group_shape (over i (group_by [] piece out)) h = cc
 group_shape (over i (group_by (k ∷ keys) piece out)) h = ((piece, out), refl)
 group_shape o h = cc
+
+-- its groups end at the first other key, or with its input
+pub group_stops : (ops : List Operator) (o : Operator) → form o ≡ gathers_groups → op_stops ops o ≡ stops_over ops (input_of o) (keys_of o)
+group_stops ops (over i (group_by [] piece out)) h = cc
+group_stops ops (over i (group_by (k ∷ keys) piece out)) h = refl
+group_stops ops o h = cc
 
 module _ (w : World) (ops : List Operator) (n i : ℕ) (keys : List Key) (group : Piece × ℕ) (is : shape_at ops n ≡ passes_on i (first_by_keys keys (Some group))) where
   -- the shape of the operator
@@ -73,11 +84,14 @@ module _ (w : World) (ops : List Operator) (n i : ℕ) (keys : List Key) (group 
 
   -- a position at a binding stands at the first member of a group
   begins_in : (c : Position) → IsIn w ops n F c → IsTrue (has_row c)
-      → ((q : _) → IsOf w ops n (First' q (below c) (count_of c))) × HasSeen w ops n (below c) (count_of c)
+      → ((q : _) → IsOf w ops n (First' q (below c) (count_of c))) × (gathers_by ops F ≡ false → HasSeen w ops n (below c) (count_of c))
+      × (number w ops i (below c) ≤ size w ops i) × (gathers_by ops F ≡ true → IsFound w n (count_of c) 0 (below c))
   begins_in Start h row = cc
   begins_in (First' q x k) h row = (
     λ u. shaped (First' u x k) h,
-    λ u. shaped (Seen' u x k) (h.0, h.1, h.2, h.3, h.4, h.7, λ t. record { found = ap found (sym (h.9 t)); costs = (let e = ap cost (h.9 t) in omega (arith, e)) }, h.10),
+    λ no u. shaped (Seen' u x k) (h.0, h.1, h.2, h.3, h.4, h.7, λ t. record { found = ap found (sym (h.9 t)); costs = (let e = ap cost (h.9 t) in omega (arith, e)) }, h.10, no),
+    (let l = h.7 in omega (arith, l)),
+    h.11,
   )
   begins_in (Seen' q x k) h row = cc
   begins_in c h row = absurd h
@@ -85,18 +99,27 @@ module _ (w : World) (ops : List Operator) (n i : ℕ) (keys : List Key) (group 
 -- the group at a cursor
 pub group_begins : (w : World) (p : Plan) (n : ℕ) (c d : Position) (m : ℕ) → form (op_at (plan_value p).ops n) ≡ gathers_groups → IsCursor (record { world = w; plan = p }) n c
     → d ≡ part_at (plan_value p).ops n c (input_at (plan_value p).ops n) → m ≡ count_of c
-    → IsGroup (record { world = w; plan = p }) n m d d
+    → IsGroup (record { world = w; plan = p }) n m d d 0
 group_begins w p n c d m f k e g =
     let sh = group_shape (op_at (plan_value p).ops n) f in
     let b = begins_in w (plan_value p).ops n (input_at (plan_value p).ops n) (keys_of (op_at (plan_value p).ops n)) sh.0 sh.1 c
     (subst (λ (z : Shape). IsIn w (plan_value p).ops n z c) sh.1 k.of) k.row in
-    subst (λ (x : Position). IsGroup (record { world = w; plan = p }) n m x x) (sym (e ∙ ap (λ (z : Shape). part_in z c (input_at (plan_value p).ops n)) sh.1))
-    (subst (λ (x : ℕ). IsGroup (record { world = w; plan = p }) n x (below c) (below c)) (sym g) (record { begins = b.0; member = λ s. b.1 }))
+    subst (λ (x : Position). IsGroup (record { world = w; plan = p }) n m x x 0) (sym (e ∙ ap (λ (z : Shape). part_in z c (input_at (plan_value p).ops n)) sh.1))
+    (subst (λ (x : ℕ). IsGroup (record { world = w; plan = p }) n x (below c) (below c) 0) (sym g) (record {
+      begins = b.0;
+      member = λ s. b.1 (ap not (sym (group_stops (plan_value p).ops (op_at (plan_value p).ops n) f) ∙ s));
+      few = (let l = b.2 in omega (arith, l));
+      placed = λ s. b.3 (ap not (sym (group_stops (plan_value p).ops (op_at (plan_value p).ops n) f) ∙ s));
+    }))
 
 -- HOW FAR A GROUP WAS WALKED
 
+-- where no members were gathered, a group that was walked on leaves what every call keeps
+keeps_reached : (b : World) (walked : Walked) → walked.gathered ≡ b.walked.gathered → Keeps b (world b.view b.buffers b.seen b.memos walked)
+keeps_reached b walked same = keeps_walked b walked (found_same b b.seen walked (λ n. ap (λ (z : Vec Gathered Global). slice_index_or z.items n no_groups) same))
+
 -- that a group was walked on leaves a bench
-pub reached_bench : (b : World) (ops : List Operator) → IsBench b ops → (walked : Walked) (n : ℕ) (to : Reached) → IsReached b.walked.reached.items walked.reached.items n to → HasSeen b ops n to.below.value to.seen
+pub reached_bench : (b : World) (ops : List Operator) → IsBench b ops → (walked : Walked) (n : ℕ) (to : Reached) → IsReached b.walked walked n to → HasSeen b ops n to.below.value to.seen
     → IsBench (world b.view b.buffers b.seen b.memos walked) ops
 reached_bench b ops late walked n to r seen = record {
   roots = late.roots;
@@ -105,34 +128,40 @@ reached_bench b ops late walked n to r seen = record {
   enough = late.enough;
   lists = late.lists;
   memos = late.memos;
-  parts = λ j. keys_stay (keeps_walked b walked) (seen_at b j) (late.parts j);
+  parts = λ j. keys_stay keeps (seen_at b j) (late.parts j);
   seen = late.seen;
-  members = same_members (keeps_walked b walked) ops late refl;
+  members = same_members keeps ops late refl;
   marks = r.lists ∙ late.marks;
   reached = λ j x e q. reached_at_one j x e q (cases_eq j n);
+  walks = ap (λ (z : Vec Gathered Global). length z.items) r.gathered ∙ late.walks;
+  gathered = λ j i keys group is by.
+      gathered_there keeps ops late j i keys group is by refl (ap (λ (z : Vec Gathered Global). slice_index_or z.items j no_groups) r.gathered);
 }
   where
     here : World
     here = world b.view b.buffers b.seen b.memos walked
 
+    keeps : Keeps b here
+    keeps = keeps_reached b walked r.gathered
+
     reached_at_one : (j : ℕ) (x : Reached) → slice_index_or walked.reached.items j None ≡ Some x → (q : _) → (j ≡ n) ⊎ (j ≡ n → ⊥) → IsOf here ops j (Seen' q x.below.value x.seen)
     reached_at_one j x e q (inl z) =
         let same : to ≡ x = some_is to x (sym r.here ∙ ap (λ (m : ℕ). slice_index_or walked.reached.items m None) (sym z) ∙ e) in
         subst (λ (m : ℕ). IsOf here ops m (Seen' q x.below.value x.seen)) (sym z)
-        (subst (λ (y : Reached). IsOf here ops n (Seen' q y.below.value y.seen)) same (cursors_kept b here (keeps_walked b walked) ops late n (Seen' q to.below.value to.seen) (seen q)).cursor)
+        (subst (λ (y : Reached). IsOf here ops n (Seen' q y.below.value y.seen)) same (cursors_kept b here keeps ops late n (Seen' q to.below.value to.seen) (seen q)).cursor)
     reached_at_one j x e q (inr ne) =
-        (cursors_kept b here (keeps_walked b walked) ops late j (Seen' q x.below.value x.seen) (late.reached j x (sym (r.others j ne) ∙ e) q)).cursor
+        (cursors_kept b here keeps ops late j (Seen' q x.below.value x.seen) (late.reached j x (sym (r.others j ne) ∙ e) q)).cursor
 
 -- a call, and then a group that was walked on
 pub ran_reached : {S : Type 0} {view : S → View} {came_from : S → S → Type 0} {ops : List Operator} {n : ℕ} {es : RowEvents} {s t : S} {g h : Growing} (walked : Walked)
-    → IsBench (world (view t) h.buffers.items h.seen.items h.memos.items walked) ops
+    → walked.gathered ≡ h.walked.gathered → IsBench (world (view t) h.buffers.items h.seen.items h.memos.items walked) ops
     → Ran view came_from ops n es s g t h → Ran view came_from ops n es s g t (record { buffers = h.buffers; seen = h.seen; memos = h.memos; walked = walked })
-ran_reached {view} {t} {h} walked bench ran = record {
+ran_reached {view} {t} {h} walked same bench ran = record {
   came = ran.came;
   bench = bench;
   asks = record {
-    kept = keeps_then ran.asks.kept (keeps_walked (world_of (view t) h) walked);
-    above = ran.asks.above;
+    kept = keeps_then ran.asks.kept (keeps_reached (world_of (view t) h) walked same);
+    above = λ j l. (let x = ran.asks.above j l in (x.0, x.1, ap (λ (z : Vec Gathered Global). slice_index_or z.items j no_groups) same ∙ x.2));
     lazy = ran.asks.lazy;
     none = ran.asks.none;
   };
@@ -146,9 +175,9 @@ pub seen_read : (v : View) (g : Growing) (ops : List Operator) → IsBench (worl
 seen_read v g ops bench n within keys e = e ∙ get_or_default g.seen.items n keys [] (let l = bench.lists in omega (arith, l, within))
 
 -- from a member the walk of the input may go on
-pub group_can : (v : View) (b : Bench) (op m : ℕ) (first at : Position) (q : Rc (Unit {0}) Global) → IsBenchOf v b → op < length (operators b.fixed) → form (op_at (operators b.fixed) op) ≡ gathers_groups
-    → IsTrue (stops_at (operators b.fixed) op) → IsGroup (state_of v b) op m first at → CanStep v b.growing b.fixed (input_at (operators b.fixed) op) at
-group_can v b op m first at q bench within is stops g =
+pub group_can : {place : ℕ} (v : View) (b : Bench) (op m : ℕ) (first at : Position) (q : Rc (Unit {0}) Global) → IsBenchOf v b → op < length (operators b.fixed) → form (op_at (operators b.fixed) op) ≡ gathers_groups
+    → IsTrue (stops_at (operators b.fixed) op) → IsGroup (state_of v b) op m first at place → CanStep v b.growing b.fixed (input_at (operators b.fixed) op) at
+group_can {place} v b op m first at q bench within is stops g =
     let sh = group_shape (op_at (operators b.fixed) op) is in
     let less = (inputs_at (operators b.fixed) bench.fixed.typed op within (passes_on (input_at (operators b.fixed) op) (first_by_keys (keys_of (op_at (operators b.fixed) op)) (Some sh.0))) sh.1).0 in
     record {
@@ -158,22 +187,9 @@ group_can v b op m first at q bench within is stops g =
       cursor = (subst (λ (z : Shape). IsIn (world_of v b.growing) (operators b.fixed) op z (Seen' q at m)) sh.1 (g.member stops q)).0;
     }
 
--- the last of the first few
-last_taken : {X Y : Type 0} (f : X → Y) (xs : List X) (m : ℕ) (d : X) → suc m ≤ length xs → last_or None (map f (take (suc m) xs)) ≡ Some (f (slice_index_or xs m d))
-last_taken f [] m d l = absurd (omega (arith, l))
-last_taken f (x ∷ xs) zero d l = refl
-last_taken f (x ∷ []) (suc m) d l = absurd (omega (arith, l))
-last_taken f (x ∷ y ∷ xs) (suc m) d l = last_taken f (y ∷ xs) m d (omega (arith, l))
-
--- one of a list that all have a property
-each_one : {X : Type 0} (P : X → Type 0) (xs : List X) (m : ℕ) (d : X) → m < length xs → AllByRecursion P xs → P (slice_index_or xs m d)
-each_one P [] m d l h = absurd (omega (arith, l))
-each_one P (x ∷ xs) zero d l h = h.0
-each_one P (x ∷ xs) (suc m) d l h = each_one P xs m d (omega (arith, l)) h.1
-
-module _ (a b : World) (p : Plan) (op m : ℕ) (first at : Position) (q : Rc (Unit {0}) Global) (typed : IsTyped (plan_value p).ops) (within : op < length (plan_value p).ops)
+module _ {place : ℕ} (a b : World) (p : Plan) (op m : ℕ) (first at : Position) (q : Rc (Unit {0}) Global) (typed : IsTyped (plan_value p).ops) (within : op < length (plan_value p).ops)
     (is : form (op_at (plan_value p).ops op) ≡ gathers_groups) (stops : IsTrue (stops_at (plan_value p).ops op)) (bench : IsBench a (plan_value p).ops)
-    (g : IsGroup (record { world = a; plan = p }) op m first at) (k : Asks a b (plan_value p).ops (input_at (plan_value p).ops op) (ahead a (plan_value p).ops (input_at (plan_value p).ops op) at))
+    (g : IsGroup (record { world = a; plan = p }) op m first at place) (k : Asks a b (plan_value p).ops (input_at (plan_value p).ops op) (ahead a (plan_value p).ops (input_at (plan_value p).ops op) at))
     (late : IsBench b (plan_value p).ops) where
   -- the operators
   abbrev ops : List Operator
@@ -198,6 +214,10 @@ module _ (a b : World) (p : Plan) (op m : ℕ) (first at : Position) (q : Rc (Un
   -- the group begins at its first member
   begun : IsIn a ops op (passes_on i (first_by_keys keys made)) (First' q first m)
   begun = subst (λ (z : Shape). IsIn a ops op z (First' q first m)) at_shape (g.begins q)
+
+  -- its members aren't gathered, since it ends at the first other key
+  walked_on : gathers_by ops (passes_on i (first_by_keys keys made)) ≡ false
+  walked_on = ap not (sym (group_stops ops (op_at ops op) is) ∙ stops)
 
   -- it was walked to one of them
   member : IsIn a ops op (passes_on i (first_by_keys keys made)) (Seen' q at m)
@@ -264,17 +284,25 @@ module _ (a b : World) (p : Plan) (op m : ℕ) (first at : Position) (q : Rc (Un
           let some = begun.6 in
           let one : suc (m - 1) ≡ m = omega (arith, some) in
           subst (λ (z : Shape). IsIn b ops op z (Seen' u d m)) (sym at_shape)
-          (goes_past ops op i keys made refl typed within at_shape a (Seen' q at m) member b bench k d f late key parts val ones
+          (goes_past ops op i keys made refl walked_on typed within at_shape a (Seen' q at m) member b bench k d f late key parts val ones
           (ap (λ (z : ℕ). was_seen key (take z (seen_at b op))) (sym one) ∙ seen) u).cursor
 
       -- it is the next member
-      pub member_found : (walked : Walked) → same_parts (slice_index_or (seen_at b op) (m - 1) []) key ≡ true
-          → Searches.Finds (told_by (record { world = a; plan = p })) (members_of (record { world = world b.view b.buffers b.seen b.memos walked; plan = p }) op m first)
-          (group_ahead (record { world = a; plan = p }) op first at) (number a ops i at) d
-      member_found walked e = record {
-        cursor = (record { of = stay.cursor; row = f.row }, λ s u. (cursors_kept b here keeps ops late op (Seen' u d m) (member_seen u)).cursor);
+      pub member_found : (walked : Walked) → walked.gathered ≡ b.walked.gathered → same_parts (slice_index_or (seen_at b op) (m - 1) []) key ≡ true
+          → Searches.Finds (told_by (record { world = a; plan = p })) (members_of (record { world = world b.view b.buffers b.seen b.memos walked; plan = p }) op m first (suc place))
+          (group_ahead (record { world = a; plan = p }) op first at) (size a ops i - place) d
+      member_found walked same e = record {
+        cursor = (
+          record { of = stay.cursor; row = f.row },
+          record {
+            begins = λ u. (cursors_kept a here all_keeps ops bench op (First' u first m) (g.begins u)).cursor;
+            member = λ s u. (cursors_kept b here keeps ops late op (Seen' u d m) (member_seen u)).cursor;
+            few = (let x = f.falls in let y = stay.number_is in let z = g.few in let s = same_size in omega (arith, x, y, z, s));
+            placed = λ s. (let x : true ≡ false = sym stops ∙ s in cc);
+          },
+        );
         row = tt;
-        falls = (let x = f.falls in let y = stay.number_is in omega (arith, x, y));
+        falls = (let x = f.falls in let z = g.few in let s = same_size in omega (arith, x, z, s));
         found = λ t.
             found-passing_yes (stops_at ops op) (of_group (docs_of a) (binding a ops i first)) (ahead a ops i at) (binding b ops i d) (ahead b ops i d) (f.found t) (tests true e t)
             ∙ ap (λ (z : TolledRow). finds z (events_left (docs_of a) (binding a ops i first) (ahead b ops i d))) (sym stay.binding_is)
@@ -287,7 +315,10 @@ module _ (a b : World) (p : Plan) (op m : ℕ) (first at : Position) (q : Rc (Un
           here = world b.view b.buffers b.seen b.memos walked
 
           keeps : Keeps b here
-          keeps = keeps_walked b walked
+          keeps = keeps_reached b walked same
+
+          all_keeps : Keeps a here
+          all_keeps = keeps_then k.kept keeps
 
           stay : Stays b here ops i d
           stay = cursors_kept b here keeps ops late i d f.cursor
@@ -296,4 +327,7 @@ module _ (a b : World) (p : Plan) (op m : ℕ) (first at : Position) (q : Rc (Un
           events_left docs r es = passing (stops_at ops op) (of_group docs r) es
 
           same_first : binding here ops i first ≡ binding a ops i first
-          same_first = (cursors_kept a here (keeps_then k.kept keeps) ops bench i first begun.0).binding_is
+          same_first = (cursors_kept a here all_keeps ops bench i first begun.0).binding_is
+
+          same_size : size here ops i ≡ size a ops i
+          same_size = size_kept a here all_keeps ops bench i

@@ -1,5 +1,5 @@
 -- Groups, from one of their members on.
-use Rattle.std.specs.Prelude.{ℕ, Bool, IsTrue, List, Option, Result, IfOk}
+use Rattle.std.specs.Prelude.{◌≡◌, ◌≤◌, ◌+◌, ◌-◌, ℕ, suc, Bool, false, IsTrue, List, Option, Result, IfOk}
 use Rattle.mix_base.specs.Events.{cost}
 use Rattle.lazy_descend.specs.Searches as Searches
 use Rattle.lazy_descend.specs.Searches.{Cursors}
@@ -14,10 +14,11 @@ use Rattle.lazy_binding.specs.declared.position.Position.{Position, First'}
 use Rattle.lazy_binding.specs.Cursors.{IsOf, HasSeen}
 use Rattle.plan_forms.specs.Forms.{input_at, keys_of}
 use Rattle.lazy_binding.specs.Parts.{operators}
+use Rattle.lazy_binding.specs.World.{IsFound}
 use Rattle.lazy_plan.specs.declared.bench.Bench.{Bench}
 use Rattle.lazy_plan.specs.declared.groups.GroupFrom.{GroupFrom}
-use Rattle.lazy_plan.specs.Bench.{BenchState, state_of, ops_of, told_by, documents, IsCursor, binding_at, ahead_at, number_at, BenchRan, AsksAtMost}
-use Rattle.lazy_plan.specs.Steps.{HasCause}
+use Rattle.lazy_plan.specs.Bench.{BenchState, state_of, ops_of, told_by, documents, size_of, IsCursor, binding_at, ahead_at, number_at, BenchRan, AsksAtMost}
+use Rattle.lazy_steps.specs.Steps.{HasCause}
 
 -- the groups of an operator end at the first other key of its input
 abbrev pub stops_at : List Operator → ℕ → Bool
@@ -37,29 +38,35 @@ BeginsGroup st op number first = (q : _) → IsOf st.world (ops_of st) op (First
 abbrev pub InGroup : BenchState → ℕ → ℕ → Position → Type 0
 InGroup st op number at = IsTrue (stops_at (ops_of st) op) → HasSeen st.world (ops_of st) op at number
 
--- a group, and one of its members
-pub record IsGroup (st : BenchState) (op number : ℕ) (first at : Position) : Type 0 where
+-- where groups end with the input, the member at a place of the group of this number was found at a cursor of the input
+abbrev pub IsPlaced : BenchState → ℕ → ℕ → ℕ → Position → Type 0
+IsPlaced st op number place at = stops_at (ops_of st) op ≡ false → IsFound st.world op number place at
+
+-- a group, and the member at a place of it, counted from 0; with those before it and those that may be behind it there are no more members than bindings
+pub record IsGroup (st : BenchState) (op number : ℕ) (first at : Position) (place : ℕ) : Type 0 where
   pub begins : BeginsGroup st op number first
   pub member : InGroup st op number at
+  pub few : place + number_at st (input_at (ops_of st) op) at ≤ size_of st (input_at (ops_of st) op)
+  pub placed : IsPlaced st op number place at
 
--- the cursors of the members of a group, among its events
-abbrev pub members_of : BenchState → ℕ → ℕ → Position → Cursors Position TolledRow
-members_of st op number first = record {
-  IsCursor = λ c. IsCursor st (input_at (ops_of st) op) c × InGroup st op number c;
+-- the cursors of the members of a group at one place, among its events
+abbrev pub members_of : BenchState → ℕ → ℕ → Position → ℕ → Cursors Position TolledRow
+members_of st op number first place = record {
+  IsCursor = λ c. IsCursor st (input_at (ops_of st) op) c × IsGroup st op number first c place;
   HasRow = λ c. Unit {0};
   binding = binding_at st (input_at (ops_of st) op);
   ahead = group_ahead st op first;
-  number = number_at st (input_at (ops_of st) op);
+  number = λ c. size_of st (input_at (ops_of st) op) - place;
 }
 
 -- the events of a group behind the member from which it is walked
 abbrev pub group_events : BenchState → GroupFrom → RowEvents
 group_events st g = group_ahead st g.op g.first.now g.at.now
 
--- the next member, or there is none
+-- the member at the next place, or there is none
 abbrev pub GivesMember : BenchState → BenchState → GroupFrom → Option Position → Type 0
 GivesMember old new g r =
-    Searches.GivesFirst (told_by old) (members_of new g.op g.number g.first.now) (group_events old g) (number_at old (input_at (ops_of old) g.op) g.at.now) r
+    Searches.GivesFirst (told_by old) (members_of new g.op g.number g.first.now (suc g.place)) (group_events old g) (size_of old (input_at (ops_of old) g.op) - g.place) r
 
 -- what a call for the next member leaves and answers
 pub record MemberWalked {S : Type 0} (view : S → View) (came_from : S → S → Type 0) (g : GroupFrom) (s : S) (b : Bench) (s' : S) (b' : Bench) (result : Result (Option Position) WalkFault) : Type 0 where

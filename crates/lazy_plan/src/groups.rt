@@ -1,23 +1,25 @@
-// The groups of a groupBy by keys: where one begins, and the members of one whose members stand side by side.
+// The groups of a groupBy by keys: where one begins, and the members of one that ends at the first other key.
 
 use crate::bench::Bench;
 use crate::cursor::Cursor;
-use crate::steps::advance;
 use lazy_binding::growth::reach;
 use lazy_binding::{Reached, Walk, seen_up_to, share};
+use lazy_steps::advance;
 use lxp_core::{Sources, WalkFault};
 use plan_forms::{group_keys, input_of};
 use std::alloc::{AllocError, Global};
 use tree_buffer::spots_are_one;
 
 /// A group from a member of it on: the operator that makes it, its number among those of the operator, its first member, and the one from which
-/// it is walked.
+/// it is walked, with its place.
 #[derive(Clone, Copy)]
 pub struct GroupFrom<'a> {
     pub op: u32,
     pub number: usize,
     pub first: &'a Cursor,
     pub at: &'a Cursor,
+    /// The place of the member from which it is walked, counted from 0.
+    pub place: usize,
 }
 
 impl Bench {
@@ -42,7 +44,7 @@ impl Bench {
         ensures under { IfOk result (λ r. (view : View) → let st = state_of view self.now in
             IsBenchOf view self.now → IsCursor st op c.now → IsUnder st op c.now (input_at (plan_value (plan_of self.now)).ops op) r.0) }
         ensures group { IfOk result (λ r. (view : View) → let st = state_of view self.now in
-            IsBenchOf view self.now → IsCursor st op c.now → IsGroup st op r.1 r.0 r.0) }
+            IsBenchOf view self.now → IsCursor st op c.now → IsGroup st op r.1 r.0 r.0 0) }
     {
         let input = input_of(&self.fixed.plan, op);
         let first = self.under(alloc, op, c, input)?;
@@ -62,7 +64,7 @@ impl Bench {
         requires bench { IsBenchOf (S.view s.old) self.old }
         requires is { form (op_at (plan_value (plan_of self.old)).ops group.now.op) ≡ gathers_groups }
         requires stops { IsTrue (stops_at (plan_value (plan_of self.old)).ops group.now.op) }
-        requires group { let g = group.now in IsGroup (state_of (S.view s.old) self.old) g.op g.number g.first.now g.at.now }
+        requires group { let g = group.now in IsGroup (state_of (S.view s.old) self.old) g.op g.number g.first.now g.at.now g.place }
         ensures { MemberWalked S.view S.came_from group.now s.old self.old s.new self.new result }
     {
         let below = input_of(&self.fixed.plan, group.op);

@@ -1,22 +1,26 @@
 -- Values and what is behind them.
+use Rattle.std.specs.declared.alloc.Global.{Global}
+use Rattle.std.specs.declared.rc.Rc.{Rc}
 use Rattle.std.proofs.Common.{refl, ◌≡◌, ◌+◌, ℕ, suc, None, ◌∙◌, sym, ap, subst, arith}
 use Rattle.plan_core.specs.ByNumber.{op_at}
-use Rattle.plan_core.specs.Tolled.{Tolled, ends, tolled_followed}
+use Rattle.plan_core.specs.Tolled.{Tolled, ends, item, paid, is_item, tolled_followed}
 use Rattle.plan_core.specs.TolledRows.{value_trees, all_items, collected}
 use Rattle.lazy_plan.specs.Bench.{BenchState, ops_of, documents, binding_at, events_of}
 use Rattle.lazy_plan.specs.Groups.{IsGroup, group_ahead}
 use Rattle.lazy_binding.specs.declared.position.Position.{Position}
 use Rattle.plan_forms.specs.Forms.{input_at, pieces_of, piece_of, makes_list, gathers_groups}
-use Rattle.lazy_value.specs.Ids.{group_trees, member_trees, Stands, GathersAll, IsOrigin, value_of, IsRest, rest_trees, weight}
-use Rattle.lazy_value.specs.Origins.{origin_size}
+use Rattle.lazy_value.specs.Ids.{head_label, head_trees, group_trees, member_trees, Stands, GathersAll, IsOrigin, value_of, IsRest, rest_trees, weight}
+use Rattle.lazy_value.specs.Origins.{origin_size, IsHeadOf}
 use Rattle.lazy_value.specs.Steps.{StandsFor, GoesOn}
 use Rattle.lazy_value.specs.Ways.{IsWay, IsWays}
 use Rattle.lazy_value.specs.declared.ways.Way.{Way, Top}
 use Rattle.lazy_value.specs.declared.ways.Ways.{Ways}
 use Rattle.lazy_value.specs.declared.ids.Origin.{Origin}
 use Rattle.lazy_value.specs.declared.ids.Origin.TheVariants.{Joined, All, Group as Same}
-use Rattle.lazy_value.specs.declared.ids.Rest.{Rest, Pieces', Members'}
+use Rattle.lazy_value.specs.declared.ids.Head.{Head}
+use Rattle.lazy_value.specs.declared.ids.Rest.{Rest, Pieces', Members', Group'}
 use Rattle.lazy_value.specs.declared.ids.Site.{Site}
+use Rattle.lazy_value.specs.declared.ids.Site.TheVariants.{Item}
 use Rattle.lazy_value.proofs.Laws.{dearer_zero, all_followed, piece_followed, collected_followed}
 use Rattle.lazy_value.proofs.Turns.{on_same}
 
@@ -70,9 +74,20 @@ module _ (st : BenchState) (origin : Origin) (behind x : Rest) (o : IsOrigin st 
 
   -- a group, and what is behind it
   pub group_stands : (op : ℕ) (c : Position) (number : ℕ) (n : Site) → origin ≡ Same op c number
-      → (Stands st op gathers_groups c → Stands st op gathers_groups c → IsGroup st op number c c → IsRest st behind → StandsFor st st (member_trees st op c (group_trees st op c c (rest_trees st behind))) n)
+      → (Stands st op gathers_groups c → Stands st op gathers_groups c → IsGroup st op number c c 0 → IsRest st behind → StandsFor st st (member_trees st op c (group_trees st op c c (rest_trees st behind))) n)
       → StandsFor st st (value_trees (documents st) (value_of st origin) (rest_trees st behind)) n
   group_stands op c number n e k =
       let s = subst (λ (w : Origin). IsOrigin st w) e o in
       subst (λ (w : Origin). StandsFor st st (value_trees (documents st) (value_of st w) (rest_trees st behind)) n) (sym e)
-      (subst (λ (f : Tolled). StandsFor st st f n) (sym (group_before st behind h op c number)) (k s.0 s.0 s.2 h))
+      (subst (λ (f : Tolled). StandsFor st st f n) (sym (group_before st behind h op c number)) (k s.0 s.0 s.1 h))
+
+-- a member of a group, and what is behind it
+pub member_stands : (st : BenchState) (op number : ℕ) (first at : Position) (place : ℕ) (q : _) (up : Rest) (x : Head) → IsHeadOf st op 0 at x → IsRest st (Group' op first number at place q up)
+    → (r : Rc Rest Global) → r.value ≡ Group' op first number at place q up → StandsFor st st (member_trees st op at (group_trees st op first at (rest_trees st up))) (Item x r)
+member_stands st op number first at place q up x h rest r e =
+    let z = h.trees (group_trees st op first at (rest_trees st up)) in
+    record {
+      node = (h.head, subst (λ (w : Rest). IsRest st w) (sym e) rest);
+      here = λ y. ap (λ (w : Rest). item 0 (head_label st x) (head_trees st x) (rest_trees st w)) e ∙ sym (ap paid z);
+      tree = λ y. ap is_item z;
+    }

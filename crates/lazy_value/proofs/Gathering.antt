@@ -1,5 +1,5 @@
 -- Lists that are gathered from the events of an operator's input.
-use Rattle.std.proofs.Common.{◌≡◌, ◌<◌, ◌≤◌, ◌+◌, ℕ, suc, List, Option, Some, ◌∙◌, sym, ap, subst, arith}
+use Rattle.std.proofs.Common.{◌≡◌, ◌<◌, ◌≤◌, ◌+◌, ◌-◌, ℕ, suc, List, Option, Some, ◌∙◌, sym, ap, subst, arith}
 use Rattle.lazy_descend.specs.Searches.{FindsNone}
 use Rattle.mix_base.specs.Events.{finds, found, cost}
 use Rattle.mix_tree.specs.Nodes.{Documents}
@@ -9,7 +9,7 @@ use Rattle.plan_core.specs.Tolled.{Tolled, toll, dearer}
 use Rattle.plan_core.specs.TolledRows.{TolledRow, piece_items, collected}
 use Rattle.plan_core.specs.Events.{RowEvents}
 use Rattle.lazy_plan.specs.declared.bench.Bench.{Bench}
-use Rattle.lazy_plan.specs.Bench.{BenchState, state_of, told_by, ops_of, documents, number_at, KeepsBench, AsksAtMost, IsFirstOf}
+use Rattle.lazy_plan.specs.Bench.{BenchState, state_of, told_by, ops_of, documents, size_of, number_at, KeepsBench, AsksAtMost, IsFirstOf}
 use Rattle.lazy_plan.specs.Groups.{group_ahead, IsGroup}
 use Rattle.lazy_binding.specs.declared.position.Position.{Position}
 use Rattle.plan_forms.specs.Forms.{input_at, piece_of, gathers_all, gathers_groups}
@@ -17,7 +17,7 @@ use Rattle.lazy_value.specs.Ids.{ahead_from, number_from, members_trees, group_t
 use Rattle.lazy_value.specs.Steps.{Walked, StandsFor, GoesOn, IsMember}
 use Rattle.lazy_value.specs.declared.ids.Rest.{Rest}
 use Rattle.lazy_value.specs.declared.ids.Site.{Site}
-use Rattle.lazy_value.proofs.Keep.{ops_kept, input_kept, rest_trees-kept, IsRest-kept, left-kept, GathersAll-kept, Stands-kept, IsGroup-kept}
+use Rattle.lazy_value.proofs.Keep.{ops_kept, input_kept, rest_trees-kept, IsRest-kept, left-kept, GathersAll-kept, Stands-kept}
 use Rattle.lazy_value.proofs.Laws.{collected_nothing, collected_finds, toll_collected}
 use Rattle.lazy_value.proofs.Turns.{on_end, at_behind}
 
@@ -97,7 +97,7 @@ module _ {S : Type 0} {view : S → View} {came_from : S → S → Type 0} (s t 
           → m < number_from (state_of (view s) b) (input_at (ops_of (state_of (view s) b)) op) at + left (state_of (view s) b) up
       members_fall m e = let l = left-kept (state_of (view s) b) (state_of (view t) d) walked.kept up h in let z = first_there.falls in omega (arith, e, l, z)
 
-module _ {S : Type 0} {view : S → View} {came_from : S → S → Type 0} (s t : S) (b d : Bench) (op : ℕ) (first at : Position) (up : Rest)
+module _ {S : Type 0} {view : S → View} {came_from : S → S → Type 0} (s t : S) (b d : Bench) (op : ℕ) (first at : Position) (place : ℕ) (up : Rest)
     (walked : Walked view came_from s b t d (cost (group_ahead (state_of (view s) b) op first at))) where
   -- of a group
   pub group_walked : Walked view came_from s b t d (toll (group_trees (state_of (view s) b) op first at (rest_trees (state_of (view s) b) up)))
@@ -114,10 +114,11 @@ module _ {S : Type 0} {view : S → View} {came_from : S → S → Type 0} (s t 
         → GoesOn (state_of (view s) b) (state_of (view t) d) (group_trees (state_of (view s) b) op first at (rest_trees (state_of (view s) b) up)) (suc (weight (state_of (view s) b) up)) x
     group_over e x z = gathers_over (state_of (view s) b) (state_of (view t) d) walked.kept op up h (group_ahead (state_of (view s) b) op first at) walked.asks e x z
 
-    pub group_left : (x : Rest) → x ≡ up → left (state_of (view t) d) x ≤ number_at (state_of (view s) b) (input_at (ops_of (state_of (view s) b)) op) at + left (state_of (view s) b) up
+    pub group_left : (x : Rest) → x ≡ up → left (state_of (view t) d) x ≤ (size_of (state_of (view s) b) (input_at (ops_of (state_of (view s) b)) op) - place) + left (state_of (view s) b) up
     group_left x z = left_over (state_of (view s) b) (state_of (view t) d) walked.kept op up h _ x z
 
-    module _ (number : ℕ) (p : Position) (f : IsMember (state_of (view s) b) (state_of (view t) d) op number first (group_ahead (state_of (view s) b) op first at) (number_at (state_of (view s) b) (input_at (ops_of (state_of (view s) b)) op) at) p) where
+    module _ (number : ℕ) (p : Position) (f : IsMember (state_of (view s) b) (state_of (view t) d) op number first (suc place) (group_ahead (state_of (view s) b) op first at)
+        (size_of (state_of (view s) b) (input_at (ops_of (state_of (view s) b)) op) - place) p) where
       -- its trees are the first of the list
       pub group_stand : (n : Site) → StandsFor (state_of (view t) d) (state_of (view t) d) (member_trees (state_of (view t) d) op p (group_trees (state_of (view t) d) op first p (rest_trees (state_of (view t) d) up))) n
           → StandsFor (state_of (view s) b) (state_of (view t) d) (group_trees (state_of (view s) b) op first at (rest_trees (state_of (view s) b) up)) n
@@ -126,13 +127,12 @@ module _ {S : Type 0} {view : S → View} {came_from : S → S → Type 0} (s t 
           (λ y. gathers_some (state_of (view s) b) (state_of (view t) d) walked.kept op up h (group_ahead (state_of (view s) b) op first at) _ _ (f.found y)) n w
 
       -- it is in the group, before what is behind the list
-      pub group_in : Stands (state_of (view s) b) op gathers_groups first → IsGroup (state_of (view s) b) op number first at
-          → Stands (state_of (view t) d) op gathers_groups first × Stands (state_of (view t) d) op gathers_groups p × IsGroup (state_of (view t) d) op number first p × IsRest (state_of (view t) d) up
-      group_in i j =
+      pub group_in : (next : ℕ) → next ≡ suc place → Stands (state_of (view s) b) op gathers_groups first
+          → Stands (state_of (view t) d) op gathers_groups first × Stands (state_of (view t) d) op gathers_groups p × IsGroup (state_of (view t) d) op number first p next × IsRest (state_of (view t) d) up
+      group_in next e i =
           let k = Stands-kept (state_of (view s) b) (state_of (view t) d) walked.kept op gathers_groups first i in
-          let l = IsGroup-kept (state_of (view s) b) (state_of (view t) d) walked.kept op number first at j in
-          (k, record { within = k.within; is = k.is; cursor = f.cursor.0 }, record { begins = l.begins; member = f.cursor.1 }, group_rest)
+          (k, record { within = k.within; is = k.is; cursor = f.cursor.0 }, subst (λ (n : ℕ). IsGroup (state_of (view t) d) op number first p n) (sym e) f.cursor.1, group_rest)
 
-      pub group_fall : (m : ℕ) → m ≡ number_at (state_of (view t) d) (input_at (ops_of (state_of (view t) d)) op) p + left (state_of (view t) d) up
-          → m < number_at (state_of (view s) b) (input_at (ops_of (state_of (view s) b)) op) at + left (state_of (view s) b) up
-      group_fall m e = let l = left-kept (state_of (view s) b) (state_of (view t) d) walked.kept up h in let z = f.falls in omega (arith, e, l, z)
+      pub group_fall : (next : ℕ) → next ≡ suc place → (m : ℕ) → m ≡ (size_of (state_of (view t) d) (input_at (ops_of (state_of (view t) d)) op) - next) + left (state_of (view t) d) up
+          → m < (size_of (state_of (view s) b) (input_at (ops_of (state_of (view s) b)) op) - place) + left (state_of (view s) b) up
+      group_fall next e m i = let l = left-kept (state_of (view s) b) (state_of (view t) d) walked.kept up h in let z = f.falls in omega (arith, e, i, l, z)

@@ -21,9 +21,9 @@ use Rattle.plan_core.specs.Events.{RowEvents, expand, pairs, projected, concaten
 use Rattle.plan_core.proofs.Distinct.{distinct_new}
 use Rattle.plan_core.proofs.Found.{found-expand_some, found-pairs_yes, found-each_row_some}
 use Rattle.plan_core.proofs.Numbers.{events-of}
-use Rattle.lazy_plan.specs.Steps.{single}
+use Rattle.lazy_steps.specs.Steps.{single}
 use Rattle.plan_core.specs.Shapes.{shape_at}
-use Rattle.lazy_plan.proofs.Shapes.{single_at}
+use Rattle.lazy_steps.proofs.Shapes.{single_at}
 use Rattle.lazy_value.specs.Labels.{Labels, op_labels, labels, stands_in}
 use Rattle.plan_forms.specs.Forms.{form, makes_element, label_in, IsLast}
 use Rattle.lazy_value.specs.Origins.{makes, IsMadeHere}

@@ -18,7 +18,7 @@ use Rattle.plan_core.specs.Valid.{inputs_of}
 use Rattle.lazy_plan.specs.declared.bench.Bench.{Bench}
 use Rattle.lazy_binding.specs.World.{of_buffer, roots_weight}
 use Rattle.lazy_plan.specs.Bench.{BenchState, state_of, IsBenchOf, IsSpotAt, IsSpotFor, below_at, KeepsBench}
-use Rattle.lazy_plan.proofs.Matches.{root_light}
+use Rattle.lazy_steps.proofs.Matches.{root_light}
 use Rattle.plan_forms.specs.Forms.{input_of, input_at, pieces_of}
 use Rattle.lazy_value.specs.Ids.{IsSite}
 use Rattle.lazy_value.specs.Heights.{origin_rank, head_rank, rest_rank, GivesRanked, TurnsRanked, KeepsRank, roots_of, site_height, IsLower, IsNoHigher}

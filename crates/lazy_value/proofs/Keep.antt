@@ -108,10 +108,16 @@ module _ (a b : BenchState) (k : KeepsBench a b) where
       behind : Documents → List Operator → TolledRow → RowEvents → RowEvents
       behind d ops row es = group_behind d (keys_of (op_at ops op)) (stops_at ops op) row es
 
-  pub IsGroup-kept : (op number : ℕ) (first at : Position) → IsGroup a op number first at → IsGroup b op number first at
-  IsGroup-kept op number first at h = record {
+  -- whole numbers of inputs are the same
+  size_same : (op : ℕ) → size_of b (input_at (ops_of b) op) ≡ size_of a (input_at (ops_of a) op)
+  size_same op = ap (λ (n : ℕ). size_of b n) (input_kept op) ∙ k.size (input_at (ops_of a) op)
+
+  pub IsGroup-kept : (op number : ℕ) (first at : Position) (place : ℕ) → IsCursor a (input_at (ops_of a) op) at → IsGroup a op number first at place → IsGroup b op number first at place
+  IsGroup-kept op number first at place c h = record {
     begins = λ q. k.positions op (First' q first number) (h.begins q);
     member = λ t q. k.positions op (Seen' q at number) (h.member (subst (λ (ops : List Operator). IsTrue (stops_at ops op)) ops_kept t) q);
+    few = (let s = size_same op in let n = number_kept op at c in let l = h.few in omega (arith, s, n, l));
+    placed = λ s. k.found op number place at (h.placed (ap (λ (ops : List Operator). stops_at ops op) (sym ops_kept) ∙ s));
   }
 
   pub IsRest-kept : (r : Rest) → IsRest a r → IsRest b r
@@ -123,15 +129,15 @@ module _ (a b : BenchState) (k : KeepsBench a b) where
     IsRest-kept up h.3,
   )
   IsRest-kept (Members' op at q up) h = (GathersAll-kept op h.0, at-kept op at h.1, IsRest-kept up h.2)
-  IsRest-kept (Group' op first number at q up) h =
-      (Stands-kept op gathers_groups first h.0, Stands-kept op gathers_groups at h.1, IsGroup-kept op number first at h.2, IsRest-kept up h.3)
+  IsRest-kept (Group' op first number at place q up) h =
+      (Stands-kept op gathers_groups first h.0, Stands-kept op gathers_groups at h.1, IsGroup-kept op number first at place h.1.cursor h.2, IsRest-kept up h.3)
 
   pub rest_trees-kept : (r : Rest) → IsRest a r → rest_trees b r ≡ rest_trees a r
   rest_trees-kept End h = refl
   rest_trees-kept (Pieces' op at next ways q up) h = ap (pieces_trees b op at next) (rest_trees-kept up h.3) ∙ pieces-kept op at next (rest_trees a up) h.0
   rest_trees-kept (Members' op at q up) h =
       ap (members_trees b op at) (rest_trees-kept up h.2) ∙ collected-kept op (ahead_from b (input_at (ops_of b) op) at) (ahead_from a (input_at (ops_of a) op) at) (rest_trees a up) (ahead_from-kept op at h.1)
-  rest_trees-kept (Group' op first number at q up) h =
+  rest_trees-kept (Group' op first number at place q up) h =
       ap (group_trees b op first at) (rest_trees-kept up h.3) ∙ collected-kept op (group_ahead b op first at) (group_ahead a op first at) (rest_trees a up) (group_ahead-kept op first at h.0 h.1)
 
   pub weight-kept : (r : Rest) → IsRest a r → weight b r ≡ weight a r
@@ -140,7 +146,7 @@ module _ (a b : BenchState) (k : KeepsBench a b) where
       ap (λ (ops : List Operator). suc (pieces_count (λ v. suc (size ops (input_at ops op) v)) (drop next (pieces_of (op_at ops op))) + weight b up)) ops_kept
       ∙ ap (λ (n : ℕ). suc (pieces_count (λ v. suc (size (ops_of a) (input_at (ops_of a) op) v)) (drop next (pieces_of (op_at (ops_of a) op))) + n)) (weight-kept up h.3)
   weight-kept (Members' op at q up) h = ap suc (weight-kept up h.2)
-  weight-kept (Group' op first number at q up) h = ap suc (weight-kept up h.3)
+  weight-kept (Group' op first number at place q up) h = ap suc (weight-kept up h.3)
 
   IsHead-kept : (x : Head) → IsHead a x → IsHead b x
   IsHead-kept (Whole s p) h = (k.spots s p h).spot
@@ -186,7 +192,7 @@ module _ (a b : BenchState) (k : KeepsBench a b) where
       ∙ ap (item 0 (head_label a x) (head_trees a x)) (rest_trees-kept r.value h.1)
 
   number_from-kept : (op : ℕ) (at : Option Position) → MatchOption at (Unit {0}) (λ c. IsCursor a (input_at (ops_of a) op) c) → number_from b (input_at (ops_of b) op) at ≤ number_from a (input_at (ops_of a) op) at
-  number_from-kept op None h = let e : size_of b (input_at (ops_of b) op) ≡ size_of a (input_at (ops_of a) op) = ap (λ (n : ℕ). size_of b n) (input_kept op) ∙ k.size (input_at (ops_of a) op) in omega (arith, e)
+  number_from-kept op None h = let e = size_same op in omega (arith, e)
   number_from-kept op (Some c) h = number_kept op c h
 
   -- whole numbers are the same
@@ -201,7 +207,7 @@ module _ (a b : BenchState) (k : KeepsBench a b) where
       ∙ ap (λ (ops : List Operator). pieces_count (extent (size_of a) ops (input_at ops op)) (drop next (pieces_of (op_at ops op)))) ops_kept in
       let i = left-kept up h.3 in omega (arith, e, i)
   left-kept (Members' op at q up) h = let i = left-kept up h.2 in let j = number_from-kept op at h.1 in omega (arith, i, j)
-  left-kept (Group' op first number at q up) h = let i = left-kept up h.3 in let j = number_kept op at h.1.cursor in omega (arith, i, j)
+  left-kept (Group' op first number at place q up) h = let i = left-kept up h.3 in let j = size_same op in omega (arith, i, j)
 
   site_left-kept : (n : Site) → IsSite a n → site_left b n ≤ site_left a n
   site_left-kept Root h = omega arith

@@ -1,8 +1,6 @@
 pub mod Downs
 pub mod Enters
 pub mod Gathering
-pub mod Going
-pub mod Groups
 pub mod Having
 pub mod Heads
 pub mod Heights
@@ -15,6 +13,5 @@ pub mod PieceTurns
 pub mod Placing
 pub mod Reaching
 pub mod RowLabels
-pub mod Sames
 pub mod Turns
 pub mod Along

@@ -161,7 +161,7 @@ module _ (st : BenchState) (typed : IsTyped (ops_of st)) (n : ℕ) (within : n <
 
   -- a group
   pub group_made : (i : ℕ) (keys : List Key) (piece : Piece) (out : ℕ) (d : Position) (number : ℕ) → over i (group_by keys piece out) ≡ op_at (ops_of st) n → (keys ≡ [] → ⊥) → (out == v) ≡ true
-      → IsUnder st n c (input_at (ops_of st) n) d → IsGroup st n number d d → IsOriginOf st n c v (Same n d number)
+      → IsUnder st n c (input_at (ops_of st) n) d → IsGroup st n number d d 0 → IsOriginOf st n c v (Same n d number)
   group_made i keys piece out d number e some t under group =
       let o : Operator = over i (group_by keys piece out) in
       let u = subst (λ (p : Operator). IsUnder st n c (input_of p) d) (sym e) under in
@@ -169,7 +169,7 @@ module _ (st : BenchState) (typed : IsTyped (ops_of st)) (n : ℕ) (within : n <
       let s = numbering.size_of (ops_of st) typed n within o e v ∙ cond_true (out == v) 3 _ t in
       let x = numbering.extent_of (ops_of st) typed n within o e (size_of st) v ∙ cond_true (out == v) (suc (size_of st i)) _ t in
       record {
-        origin = (stands_over o gathers_groups d e (groups_form i keys piece out some) u.cursor, under.low, group);
+        origin = (stands_over o gathers_groups d e (groups_form i keys piece out some) u.cursor, group);
         value = ap (λ (r : TolledRow). tolled_value r v) (by_keys (binding_at st n c) (binding_at st i d) (ahead_at st i d) i keys piece out some (made_by o d e u)) ∙ cond_true (out == v) _ _ t
             ∙ ap (λ (p : Operator). trees (piece_items (documents st) (slice_index_or (pieces_of p) 0 (text_piece [])) (binding_at st (input_of p) d)
             (collected (documents st) (slice_index_or (pieces_of p) 0 (text_piece [])) (group_behind (documents st) (keys_of p) (op_stops (ops_of st) p) (binding_at st (input_of p) d) (ahead_at st (input_of p) d)) (ends 0)))) e;

@@ -1,18 +1,17 @@
 -- What contracts say of the states of a bench, each state named once.
-use Rattle.std.specs.Prelude.{◌≡◌, ℕ, suc, Bool, ◌+◌, ◌<◌, ◌≤◌, length, Option, Some, MatchOption, List}
+use Rattle.std.specs.Prelude.{◌≡◌, ℕ, suc, ◌+◌, ◌-◌, ◌<◌, ◌≤◌, length, Option, Some, MatchOption}
 use Rattle.mix_base.specs.Events.{cost}
 use Rattle.mix_tree.specs.Forest.{first_kids, behind}
-use Rattle.mix_tree.specs.declared.var.Key.{Key}
 use Rattle.lxp_core.specs.View.{View}
 use Rattle.plan_core.specs.ByNumber.{op_at}
 use Rattle.plan_core.specs.Events.{RowEvents}
 use Rattle.plan_core.specs.Tolled.{Tolled, toll, charged}
-use Rattle.plan_core.specs.TolledRows.{key_value, key_values, same_value, same_values, row_node, value_trees}
+use Rattle.plan_core.specs.TolledRows.{value_trees}
 use Rattle.lazy_plan.specs.declared.bench.Bench.{Bench}
 use Rattle.lazy_plan.specs.declared.groups.GroupFrom.{GroupFrom}
 use Rattle.lazy_plan.specs.Groups.{IsGroup}
 use Rattle.lazy_binding.specs.declared.position.Position.{Position}
-use Rattle.lazy_plan.specs.Bench.{BenchState, state_of, IsBenchOf, ops_of, documents, binding_at, number_at, trees_at_spot, GivesFirst}
+use Rattle.lazy_plan.specs.Bench.{BenchState, state_of, IsBenchOf, ops_of, documents, size_of, number_at, trees_at_spot, GivesFirst}
 use Rattle.plan_forms.specs.Forms.{makes_list, gathers_all, gathers_groups, input_at, pieces_of}
 use Rattle.lazy_value.specs.Ids.{Stands, IsOrigin, value_of, IsRest, rest_trees, weight, left, site_left, pieces_size, pieces_extent, pieces_trees, member_trees, members_trees, group_trees, ahead_from, number_from}
 use Rattle.lazy_value.specs.Origins.{origin_size, origin_extent}
@@ -101,24 +100,15 @@ TurnsRest old new r t = Turns old new (rest_trees old r) (weight old r) t
 
 -- MEMBERS
 
--- whether the bindings at two cursors are the same by a key
-abbrev pub same_key_at : BenchState → ℕ → Position → Position → Key → Bool
-same_key_at st op first c key =
-    same_value (key_value (documents st) (row_node (binding_at st op first)) key) (key_value (documents st) (row_node (binding_at st op c)) key)
-
--- by all keys
-abbrev pub same_keys_at : BenchState → ℕ → Position → Position → List Key → Bool
-same_keys_at st op first c keys = same_values (key_values (documents st) keys (binding_at st op first)) (key_values (documents st) keys (binding_at st op c))
-
 -- a group from a member of it on, with this behind it
 abbrev pub InGroup : BenchState → GroupFrom → Rest → Type 0
 InGroup st g up =
-    Stands st g.op gathers_groups g.first.now × Stands st g.op gathers_groups g.at.now × IsGroup st g.op g.number g.first.now g.at.now × IsRest st up
+    Stands st g.op gathers_groups g.first.now × Stands st g.op gathers_groups g.at.now × IsGroup st g.op g.number g.first.now g.at.now g.place × IsRest st up
 
 -- the identifier stands for the member at which it begins, with those behind it
 abbrev pub IsGroupMember : BenchState → GroupFrom → Rest → Site → Type 0
 IsGroupMember st g up n =
-    Stands st g.op gathers_groups g.first.now → Stands st g.op gathers_groups g.at.now → IsGroup st g.op g.number g.first.now g.at.now → IsRest st up
+    Stands st g.op gathers_groups g.first.now → Stands st g.op gathers_groups g.at.now → IsGroup st g.op g.number g.first.now g.at.now g.place → IsRest st up
     → StandsFor st st (member_trees st g.op g.at.now (group_trees st g.op g.first.now g.at.now (rest_trees st up))) n
 
 -- the same of a list of all bindings
@@ -154,6 +144,6 @@ TurnsMembers old new l up t = Turns old new (trees_of_members old l up) (suc (we
 abbrev pub TurnsGroup : BenchState → BenchState → GroupFrom → Rest → Turn → Type 0
 TurnsGroup old new g up t = Turns old new (trees_of_group old g up) (suc (weight old up)) t
 
--- how many trees are behind the member at which a group begins at most, with this behind it
+-- how many trees are behind the member from which a group is walked at most, with this behind it
 abbrev pub behind_group : BenchState → GroupFrom → Rest → ℕ
-behind_group st g up = behind_member st g.op g.at.now up
+behind_group st g up = (size_of st (input_at (ops_of st) g.op) - g.place) + left st up

@@ -34,7 +34,7 @@ abbrev pub rest_rank : Rest → ℕ
 rest_rank End = 0
 rest_rank (Pieces' op at next ways q up) = max op (rest_rank up)
 rest_rank (Members' op at q up) = max op (rest_rank up)
-rest_rank (Group' op first number at q up) = max op (rest_rank up)
+rest_rank (Group' op first number at place q up) = max op (rest_rank up)
 
 -- a member of a list that the plan makes, in which no rank is greater
 abbrev pub IsRanked : ℕ → Site → Type 0

@@ -1,5 +1,5 @@
 -- What an identifier stands for.
-use Rattle.std.specs.Prelude.{◌≡◌, ℕ, suc, ◌+◌, ◌<◌, ◌≤◌, IsTrue, Option, Some, None, List, length, drop, MatchOption}
+use Rattle.std.specs.Prelude.{◌≡◌, ℕ, suc, ◌+◌, ◌-◌, ◌<◌, ◌≤◌, IsTrue, Option, Some, None, List, length, drop, MatchOption}
 use Rattle.mix_tree.specs.Forest.{first_kids, behind}
 use Rattle.mix_tree.specs.Nodes.{label_at, kids_at, label_of_first}
 use Rattle.plan_core.specs.ByNumber.{op_at}
@@ -74,7 +74,7 @@ IsOrigin st (Node s p) = IsSpotAt st s p
 IsOrigin st (Element op at) = Stands st op makes_element at
 IsOrigin st (Joined op at) = Stands st op makes_list at
 IsOrigin st (All op) = GathersAll st op
-IsOrigin st (Same op c number) = Stands st op gathers_groups c × (number_at st (input_at (ops_of st) op) c ≤ size_of st (input_at (ops_of st) op)) × IsGroup st op number c c
+IsOrigin st (Same op c number) = Stands st op gathers_groups c × IsGroup st op number c c 0
 
 -- IDENTIFIERS
 
@@ -110,7 +110,7 @@ abbrev pub rest_trees : BenchState → Rest → Tolled
 rest_trees st End = ends 0
 rest_trees st (Pieces' op at next ways q up) = pieces_trees st op at next (rest_trees st up)
 rest_trees st (Members' op at q up) = members_trees st op at (rest_trees st up)
-rest_trees st (Group' op first number at q up) = group_trees st op first at (rest_trees st up)
+rest_trees st (Group' op first number at place q up) = group_trees st op first at (rest_trees st up)
 
 -- it is one of the bench's
 abbrev pub IsRest : BenchState → Rest → Type 0
@@ -118,8 +118,8 @@ IsRest st End = Unit {0}
 IsRest st (Pieces' op at next ways q up) =
     Stands st op makes_list at × (next ≤ length (pieces_of (op_at (ops_of st) op))) × IsWays st (input_at (ops_of st) op) at ways × IsRest st up
 IsRest st (Members' op at q up) = GathersAll st op × MatchOption at (Unit {0}) (λ c. IsCursor st (input_at (ops_of st) op) c) × IsRest st up
-IsRest st (Group' op first number at q up) =
-    Stands st op gathers_groups first × Stands st op gathers_groups at × IsGroup st op number first at × IsRest st up
+IsRest st (Group' op first number at place q up) =
+    Stands st op gathers_groups first × Stands st op gathers_groups at × IsGroup st op number first at place × IsRest st up
 
 -- where an identifier stands: its tree, reached already, and those behind it
 abbrev pub here : BenchState → Site → Tolled
@@ -146,7 +146,7 @@ abbrev pub weight : BenchState → Rest → ℕ
 weight st End = 0
 weight st (Pieces' op at next ways q up) = suc (pieces_size st op next + weight st up)
 weight st (Members' op at q up) = suc (weight st up)
-weight st (Group' op first number at q up) = suc (weight st up)
+weight st (Group' op first number at place q up) = suc (weight st up)
 
 -- how many bindings are behind a cursor, or in all, at most
 abbrev pub number_from : BenchState → ℕ → Option Position → ℕ
@@ -158,7 +158,7 @@ abbrev pub left : BenchState → Rest → ℕ
 left st End = 0
 left st (Pieces' op at next ways q up) = pieces_extent st op next + left st up
 left st (Members' op at q up) = number_from st (input_at (ops_of st) op) at + left st up
-left st (Group' op first number at q up) = number_at st (input_at (ops_of st) op) at + left st up
+left st (Group' op first number at place q up) = (size_of st (input_at (ops_of st) op) - place) + left st up
 
 -- a number of an identifier that no call raises, and that falls with each step to the right
 abbrev pub site_left : BenchState → Site → ℕ

@@ -59,6 +59,6 @@ Falls st w Over = Unit {0}
 Falls st w (At n) = site_left st n < w
 Falls st w (On r) = left st r.value ≤ w
 
--- the cursor stands at the first binding of these events of a group
-abbrev pub IsMember : BenchState → BenchState → ℕ → ℕ → Position → RowEvents → ℕ → Position → Type 0
-IsMember old new op number first es top c = Finds (told_by old) (members_of new op number first) es top c
+-- the cursor stands at the first binding of these events of a group, at this place
+abbrev pub IsMember : BenchState → BenchState → ℕ → ℕ → Position → ℕ → RowEvents → ℕ → Position → Type 0
+IsMember old new op number first place es top c = Finds (told_by old) (members_of new op number first place) es top c

@@ -15,8 +15,8 @@ use Rattle.lazy_plan.specs.declared.bench.Bench.{Bench}
 use Rattle.lazy_plan.specs.Bench.{BenchState, KeepsBench, IsBenchOf, ops_of, told, documents}
 use Rattle.lazy_plan.specs.Bench as bench
 use Rattle.lazy_binding.specs.Cursors.{IsRead}
-use Rattle.lazy_plan.specs.Steps as steps
-use Rattle.lazy_plan.proofs.Singles.{read_within}
+use Rattle.lazy_steps.specs.Steps as steps
+use Rattle.lazy_steps.proofs.Singles.{read_within}
 use Rattle.lazy_value.specs.declared.ids.NodeId.{NodeId}
 use Rattle.lazy_value.specs.declared.mediator.Mediator.{Mediator}
 use Rattle.lazy_value.specs.Places.{IsNode, IsAt, GivesNode, GivesPlace}

@@ -1,8 +1,10 @@
-use Rattle.std.proofs.Common.{◌∙◌, ap}
+use Rattle.std.proofs.Common.{◌≤◌, ◌∙◌, ap, subst}
 use Rattle.plan_core.specs.declared.plan.Plan.{Plan}
 use Rattle.plan_core.specs.PlanMade.{plan_value}
 use Rattle.lazy_plan.specs.Bench.{state_of}
 use Rattle.plan_forms.specs.Forms.{input_at}
+use Rattle.lazy_value.specs.Heights.{origin_rank}
+use Rattle.lazy_value.specs.declared.ids.Origin.{Origin}
 use Rattle.lazy_value.proofs.Enters.{joined_goes, all_goes, group_stands}
 use Rattle.lazy_value.proofs.entering.enter.Goals as goal
 
@@ -23,3 +25,6 @@ pub returns-in_ok-group_member-in-Group-clause-answer : goal.returns-in_ok-group
 returns-in_ok-group_member-in-Group-clause-answer c = λ view h o r.
     group_stands (state_of view c.args.bench.now) c.args.origin.now c.args.behind.now.value c.args.behind.now.value o r
     c.in-Group.op c.in-Group.first c.in-Group.number c.in_ok-group_member-in-Group.field-0 c.in-Group.is (c.in_ok-group_member-in-Group.ensures.answer view h)
+
+pub returns-in_ok-group_member-in-Group-clause-rank : goal.returns-in_ok-group_member-in-Group-clause-rank
+returns-in_ok-group_member-in-Group-clause-rank c = λ k l m. c.in_ok-group_member-in-Group.ensures.rank k (subst (λ (o : Origin). origin_rank o ≤ k) c.in-Group.is l) m

@@ -91,8 +91,8 @@ returns-in_ok-below-in-Some g c =
     let bench = reached_bench (world_of (g.S.Sources.view c.advance.new.s) c.advance.new.growing) (operators c.args.self.now.fixed) adv.ran.bench c.reach.new.walked c.args.group.now.op _ c.reach.ensures
     (rw c.in_ok-below-in-Some.ensures.ok stands) in
     record {
-      ran = walk_ran c.args.self.now _ _ _ c.requires.bench (ran_reached c.reach.new.walked bench adv.ran);
+      ran = walk_ran c.args.self.now _ _ _ c.requires.bench (ran_reached c.reach.new.walked c.reach.ensures.gathered bench adv.ran);
       lazy = member_lazy (world_of (g.S.Sources.view c.args.s.now) c.args.self.now.growing) (world_of (g.S.Sources.view c.advance.new.s) c.advance.new.growing) c.args.self.now.fixed.plan c.args.group.now.op c.args.group.now.number c.args.group.now.first.now c.args.group.now.at.now (record { ptr = c.at.inside.position.ptr; value = tt }) c.requires.bench.fixed.typed c.requires.op c.requires.is c.requires.stops c.requires.bench.bench c.requires.group adv.ran.asks adv.ran.bench;
       cause = tt;
-      answer = member_found (world_of (g.S.Sources.view c.args.s.now) c.args.self.now.growing) (world_of (g.S.Sources.view c.advance.new.s) c.advance.new.growing) c.args.self.now.fixed.plan c.args.group.now.op c.args.group.now.number c.args.group.now.first.now c.args.group.now.at.now (record { ptr = c.at.inside.position.ptr; value = tt }) c.requires.bench.fixed.typed c.requires.op c.requires.is c.requires.stops c.requires.bench.bench c.requires.group adv.ran.asks adv.ran.bench _ f c.in_ok-key-in-Some.key.items parts value c.spots_are_one.ensures seen c.reach.new.walked (sym compared ∙ c.if-not-stands_at.false);
+      answer = member_found (world_of (g.S.Sources.view c.args.s.now) c.args.self.now.growing) (world_of (g.S.Sources.view c.advance.new.s) c.advance.new.growing) c.args.self.now.fixed.plan c.args.group.now.op c.args.group.now.number c.args.group.now.first.now c.args.group.now.at.now (record { ptr = c.at.inside.position.ptr; value = tt }) c.requires.bench.fixed.typed c.requires.op c.requires.is c.requires.stops c.requires.bench.bench c.requires.group adv.ran.asks adv.ran.bench _ f c.in_ok-key-in-Some.key.items parts value c.spots_are_one.ensures seen c.reach.new.walked c.reach.ensures.gathered (sym compared ∙ c.if-not-stands_at.false);
     }

@@ -1,0 +1,881 @@
+use Rattle.std.proofs.lemmas.Result.{IfOk-weaker}
+use Rattle.std.proofs.Common.{◌≡◌, ℕ, suc, Option, arith, rules, refl, ap, sym, subst, ◌∙◌}
+use Rattle.std.specs.declared.alloc.Global.{Global}
+use Rattle.std.specs.declared.rc.Rc.{Rc}
+use Rattle.std.specs.declared.vec.Vec.{Vec}
+use Rattle.std.specs.Prelude.{not, true}
+use Rattle.plan_core.specs.Fronts.{shape_apart, op_stops}
+use Rattle.lazy_steps.specs.Gathers.{GathersGroups}
+use Rattle.plan_core.specs.PlanMade.{op_of, plan_value}
+use Rattle.plan_core.specs.Shapes.{visits_below, shape_at, shape_of, filters, first_by_keys, pairs_up, passes_on}
+use Rattle.lazy_binding.specs.declared.position.Position.{Position, Start, Found'}
+use Rattle.lazy_binding.specs.Cursors.{ahead, gathers_by, IsRead}
+use Rattle.plan_core.specs.declared.plan.Piece.{Piece}
+use Rattle.lazy_binding.specs.Parts.{operators, shape_walked, world_of}
+use Rattle.lazy_binding.proofs.Keep.{keeps_same}
+use Rattle.lazy_binding.proofs.Stay.{cursors_kept}
+use Rattle.lazy_binding.proofs.KeyParts.{keys_fit}
+use Rattle.lazy_descend.proofs.Searches.{comes_none, comes_at}
+use Rattle.lazy_steps.proofs.Goes.{goes_same, goes_on, goes_then, goes_result, goes_given, ran_then, ran_over, ran_nothing, shaped, in_shape, placed, in_place}
+use Rattle.lazy_steps.proofs.Singles.{end_over}
+use Rattle.std.proofs.Common.{length}
+use Rattle.join_memo.specs.Kept.{Kept}
+use Rattle.lazy_binding.specs.World.{last_of, bound_of}
+use Rattle.lazy_binding.proofs.Bound.{inputs_at}
+use Rattle.lazy_steps.specs.Steps.{CanStep, PassesOn, KeepsFirsts}
+use Rattle.std.proofs.Common.{option_map, Some, None}
+use Rattle.lazy_steps.proofs.Growing.{memo_read}
+use Rattle.lazy_steps.proofs.Grown.{last_can, grow_ran, refused_ran, ended_ran, ended_grown, pushed_ran, pushed_grown}
+use Rattle.lazy_steps.proofs.PairSteps.{sides, pairs_begin, pair_or_start, left_ran, left_done, left_on, left_can, can_then, beside_ran, none_grown}
+use Rattle.lazy_steps.proofs.Passing.{in_pair, at_known, at_none, ended_goes, more_goes, more_falls, more_steps}
+use Rattle.lazy_steps.proofs.FirstPositions.{group_some, group_made, group_gathers, firsts_over, firsts_count}
+use Rattle.lazy_steps.proofs.FirstSteps.{firsts_bench, firsts_asks, firsts_result}
+use Rattle.lazy_steps.proofs.GatherSteps.{gathers_ran}
+use Rattle.lazy_steps.proofs.GroupWalks.{further_falls}
+use Rattle.lazy_steps.proofs.GroupCalls.{group_shape, read_last, groups_can, input_less, none_unwalked, as_many, grow_ended, grow_refused, grow_more, step_begins, step_found, step_asks, step_none, step_goes_on}
+use Rattle.lazy_steps.proofs.Inputs.{over_can}
+use Rattle.lazy_steps.proofs.Resuming.{firsts_resume}
+use Rattle.lazy_steps.proofs.PassSteps.{filter_over, filter_at, filter_on, each_over, each_at}
+use Rattle.mix_tree.specs.Nodes.{Node}
+use Rattle.lazy_binding.proofs.Bound.{fit_at}
+use Rattle.path_auto.specs.Automaton.{machine_of, table_of}
+use Rattle.lxp_core.specs.View.{Keeps}
+use Rattle.lxp_core.proofs.Causes.{rose_since}
+use Rattle.lazy_steps.proofs.VisitSteps.{input_before, found_or_start, visits_begin, visits_done, start_ran, start_at, start_goes, first_sought, none_of, input_below, start_can, in_visit, input_can, next_sought, match_ran, match_then, match_found, visit_ran, visit_then, visit_found}
+use Rattle.std.proofs.Common.{List}
+use Rattle.lazy_binding.specs.SortedLists.{sorts}
+use Rattle.lazy_binding.specs.declared.labelled.Labelled.{Labelled}
+use Rattle.lazy_steps.proofs.OrderSteps.{Gathered, gathered_start, gathered_more, gathered_all, through, through_nothing, order_ran, order_next, order_first, order_over}
+use Rattle.lazy_binding.proofs.SortedRows.{list_count}
+use Rattle.lazy_steps.specs.declared.pass_steps.Firsts.{Firsts}
+use Rattle.lazy_steps.proofs.+walk.Goals as goal
+
+pub steps::advance-returns-in_err-next_event : goal.steps::advance-returns-in_err-next_event
+steps::advance-returns-in_err-next_event g t c = let step = rw c.deref.ensures at c.next_event.ensures in record { ran = step.ran; cause = search rules; answer = search rules }
+
+pub steps::advance-returns-in-Done : goal.steps::advance-returns-in-Done
+steps::advance-returns-in-Done g t c = let step = rw c.deref.ensures at c.next_event.ensures in record { ran = step.ran; cause = tt; answer = rw (c.in-Done.is, c.deref.ensures) at c.in_ok-next_event.ensures.answer }
+
+pub steps::advance-returns-in_err-put-in-At : goal.steps::advance-returns-in_err-put-in-At
+steps::advance-returns-in_err-put-in-At g t c = let step = rw c.deref.ensures at c.next_event.ensures in record { ran = step.ran; cause = search rules; answer = search rules }
+
+pub steps::advance-returns-in_ok-put-in-At : goal.steps::advance-returns-in_ok-put-in-At
+steps::advance-returns-in_ok-put-in-At g t c =
+    let step = rw c.deref.ensures at c.next_event.ensures in
+    record { ran = step.ran; cause = tt; answer = rw c.in_ok-put-in-At.ensures.ok (rw (c.in-At.is, c.deref.ensures) at c.in_ok-next_event.ensures.answer) }
+
+pub steps::advance-advance_behind-requires : goal.steps::advance-advance_behind-requires
+steps::advance-advance_behind-requires g t c κs within =
+    let can : CanStep (g.S.Sources.view c.next_event.new.s) c.next_event.new.growing c.args.walk.fixed.now c.args.walk.op c.in-On.later =
+    (let step = rw c.deref.ensures at c.next_event.ensures in
+    record { fixed = c.requires.fixed; op = c.requires.op; bench = step.ran.bench; cursor = (rw (c.in-On.is, c.deref.ensures) at c.in_ok-next_event.ensures.answer).cursor }) in
+    search rules
+
+pub steps::advance-returns-in-On : goal.steps::advance-returns-in-On
+steps::advance-returns-in-On g t c =
+    let step = rw c.deref.ensures at c.next_event.ensures in
+    let move = rw (c.in-On.is, c.deref.ensures) at c.in_ok-next_event.ensures.answer in
+    let begins = goes_same (keeps_same (world_of (g.S.Sources.view c.args.s.now) c.args.growing.now) (operators c.args.walk.fixed.now) c.requires.bench) refl refl in
+    let goes = goes_on begins (shape_at (operators c.args.walk.fixed.now) c.args.walk.op) c.in-On.later step.ran.asks move in
+    record {
+      ran = ran_then g.met.S.Sources.after step.ran.came goes c.advance_behind.ensures.ran;
+      cause = search rules;
+      answer = IfOk-weaker c.advance_behind.result _ _ (λ r h. goes_given _ goes (shape_at (operators c.args.walk.fixed.now) c.args.walk.op) (option_map (λ (d : Rc Position Global). d.value) r) h) c.advance_behind.ensures.answer;
+    }
+
+pub steps::advance_behind-events-init : goal.steps::advance_behind-events-init
+steps::advance_behind-events-init g t c = record { came = g.met.S.Sources.same c.args.s.now; goes = goes_same (keeps_same (world_of (g.S.Sources.view c.args.s.now) c.args.growing.now) (operators c.args.walk.fixed.now) c.requires.bench) refl refl; can = c.requires }
+
+pub steps::advance_behind-events-preserved : goal.steps::advance_behind-events-preserved
+steps::advance_behind-events-preserved g t c =
+    let move = rw c.in-On.is at c.in_ok-event_behind.ensures.answer in
+    let can = c.events.invariant.can in
+    record {
+      came = g.met.S.Sources.after _ _ _ c.events.invariant.came c.event_behind.ensures.ran.came;
+      goes = goes_on c.events.invariant.goes (shape_at (operators c.args.walk.fixed.now) c.args.walk.op) c.in-On.later c.event_behind.ensures.ran.asks move;
+      can = record { fixed = can.fixed; op = can.op; bench = c.event_behind.ensures.ran.bench; cursor = move.cursor };
+    }
+
+pub steps::advance_behind-returns-in-At : goal.steps::advance_behind-returns-in-At
+steps::advance_behind-returns-in-At g t c = record {
+  ran = ran_then g.met.S.Sources.after c.events.invariant.came c.events.invariant.goes c.event_behind.ensures.ran;
+  cause = tt;
+  answer = rw c.in_ok-put-in-At.ensures.ok (comes_at c.events.invariant.goes.comes (rw c.in-At.is at c.in_ok-event_behind.ensures.answer));
+}
+
+pub steps::advance_behind-returns-in_err-put-in-At : goal.steps::advance_behind-returns-in_err-put-in-At
+steps::advance_behind-returns-in_err-put-in-At g t c = record { ran = ran_then g.met.S.Sources.after c.events.invariant.came c.events.invariant.goes c.event_behind.ensures.ran; cause = search rules; answer = search rules }
+
+pub steps::advance_behind-returns-in-Done : goal.steps::advance_behind-returns-in-Done
+steps::advance_behind-returns-in-Done g t c = record { ran = ran_then g.met.S.Sources.after c.events.invariant.came c.events.invariant.goes c.event_behind.ensures.ran; cause = tt; answer = comes_none c.events.invariant.goes.comes (rw c.in-Done.is at c.in_ok-event_behind.ensures.answer) }
+
+pub steps::advance_behind-returns-in_err-event_behind : goal.steps::advance_behind-returns-in_err-event_behind
+steps::advance_behind-returns-in_err-event_behind g t c = record { ran = ran_then g.met.S.Sources.after c.events.invariant.came c.events.invariant.goes c.event_behind.ensures.ran; cause = search rules; answer = search rules }
+
+pub steps::next_event-returns-in-TupleDestroy : goal.steps::next_event-returns-in-TupleDestroy
+steps::next_event-returns-in-TupleDestroy g t c =
+    let is = ap shape_of (sym c.operator.ensures ∙ ap op_of c.in-TupleDestroy.is) in
+    shaped c.args.at.now _ is (record {
+      ran = ran_nothing g.met.S.Sources.same c.args.walk.op _ c.args.s.now c.args.growing.now c.requires.bench;
+      cause = tt;
+      answer = λ u. end_over (operators c.args.walk.fixed.now) c.requires.fixed.typed c.args.walk.op c.requires.op _ _ is (world_of (g.S.Sources.view c.args.s.now) c.args.growing.now) c.args.at.now (in_shape c.requires _ is);
+    })
+
+pub pass_steps::Filters::step-returns-in_err-before : goal.pass_steps::Filters::step-returns-in_err-before
+pass_steps::Filters::step-returns-in_err-before g t c = record { ran = ran_nothing g.met.S.Sources.same c.args.self.now.walk.op (ahead (world_of (g.S.Sources.view c.args.s.now) c.args.growing.now) (operators c.args.self.now.walk.fixed.now) c.args.self.now.walk.op c.args.at.now) c.args.s.now c.args.growing.now c.requires.can.bench; cause = search rules; answer = search rules }
+
+pub pass_steps::Filters::step-advance-requires : goal.pass_steps::Filters::step-advance-requires
+pass_steps::Filters::step-advance-requires g t c κs within =
+    let over = filter_over c.requires.can c.args.self.now.input c.args.self.now.test.now c.requires.is in
+    let can = over_can c.requires.can over c.in_ok-before.before.value c.in_ok-before.ensures.ok in
+    let small = over.less in
+    search rules
+
+pub pass_steps::Filters::step-returns-in_err-advance : goal.pass_steps::Filters::step-returns-in_err-advance
+pass_steps::Filters::step-returns-in_err-advance g t c =
+    let over = filter_over c.requires.can c.args.self.now.input c.args.self.now.test.now c.requires.is in
+    let adv = rw c.in_ok-before.ensures.ok at c.advance.ensures in
+    shaped c.args.at.now (passes_on c.args.self.now.input (filters c.args.self.now.test.now)) c.requires.is (record { ran = ran_over adv.ran over.costs over.less over.alone; cause = search rules; answer = search rules })
+
+pub pass_steps::Filters::step-returns-in-None : goal.pass_steps::Filters::step-returns-in-None
+pass_steps::Filters::step-returns-in-None g t c =
+    let over = filter_over c.requires.can c.args.self.now.input c.args.self.now.test.now c.requires.is in
+    let adv = rw c.in_ok-before.ensures.ok at c.advance.ensures in
+    shaped c.args.at.now (passes_on c.args.self.now.input (filters c.args.self.now.test.now)) c.requires.is (record { ran = ran_over adv.ran over.costs over.less over.alone; cause = tt; answer = over.over (rw (c.in-None.is, c.in_ok-before.ensures.ok) at c.in_ok-advance.ensures.answer) })
+
+pub pass_steps::Filters::step-returns-then-holds : goal.pass_steps::Filters::step-returns-then-holds
+pass_steps::Filters::step-returns-then-holds g t c =
+    let over = filter_over c.requires.can c.args.self.now.input c.args.self.now.test.now c.requires.is in
+    let adv = rw c.in_ok-before.ensures.ok at c.advance.ensures in
+    let f = rw (c.in-Some.is, c.in_ok-before.ensures.ok) at c.in_ok-advance.ensures.answer in
+    let holds = (rw c.deref.ensures at c.passes-holds.ensures) _ adv.ran.bench f.cursor in
+    shaped c.args.at.now (passes_on c.args.self.now.input (filters c.args.self.now.test.now)) c.requires.is (record {
+      ran = ran_over adv.ran over.costs over.less over.alone;
+      cause = tt;
+      answer = (filter_at (operators c.args.self.now.walk.fixed.now) c.requires.can.fixed.typed c.args.self.now.walk.op c.requires.can.op c.args.self.now.input c.args.self.now.test.now c.requires.is (world_of (g.S.Sources.view c.args.s.now) c.args.growing.now) _ c.args.at.now
+          (in_shape c.requires.can (passes_on c.args.self.now.input (filters c.args.self.now.test.now)) c.requires.is) c.requires.can.bench adv.ran.asks _ f _ (λ u. sym (holds u) ∙ c.if-holds.true));
+    })
+
+pub pass_steps::Filters::step-returns : goal.pass_steps::Filters::step-returns
+pass_steps::Filters::step-returns g t c =
+    let over = filter_over c.requires.can c.args.self.now.input c.args.self.now.test.now c.requires.is in
+    let adv = rw c.in_ok-before.ensures.ok at c.advance.ensures in
+    let f = rw (c.in-Some.is, c.in_ok-before.ensures.ok) at c.in_ok-advance.ensures.answer in
+    let holds = (rw c.deref.ensures at c.passes-holds.ensures) _ adv.ran.bench f.cursor in
+    shaped c.args.at.now (passes_on c.args.self.now.input (filters c.args.self.now.test.now)) c.requires.is (record {
+      ran = ran_over adv.ran over.costs over.less over.alone;
+      cause = tt;
+      answer = (filter_on (operators c.args.self.now.walk.fixed.now) c.requires.can.fixed.typed c.args.self.now.walk.op c.requires.can.op c.args.self.now.input c.args.self.now.test.now c.requires.is (world_of (g.S.Sources.view c.args.s.now) c.args.growing.now) _ c.args.at.now
+          (in_shape c.requires.can (passes_on c.args.self.now.input (filters c.args.self.now.test.now)) c.requires.is) c.requires.can.bench adv.ran.asks _ f _ (λ u. sym (holds u) ∙ c.if-holds.false));
+    })
+
+pub pass_steps::Passes::step-returns-in_err-before : goal.pass_steps::Passes::step-returns-in_err-before
+pass_steps::Passes::step-returns-in_err-before g t c = record { ran = ran_nothing g.met.S.Sources.same c.args.self.now.walk.op (ahead (world_of (g.S.Sources.view c.args.s.now) c.args.growing.now) (operators c.args.self.now.walk.fixed.now) c.args.self.now.walk.op c.args.at.now) c.args.s.now c.args.growing.now c.requires.can.bench; cause = search rules; answer = search rules }
+
+pub pass_steps::Passes::step-advance-requires : goal.pass_steps::Passes::step-advance-requires
+pass_steps::Passes::step-advance-requires g t c κs within =
+    let over = each_over c.requires.can c.args.self.now.input c.requires.is.0 c.requires.is.1 c.requires.is.2 in
+    let can = over_can c.requires.can over c.in_ok-before.before.value c.in_ok-before.ensures.ok in
+    let small = over.less in
+    search rules
+
+pub pass_steps::Passes::step-returns-in_err-advance : goal.pass_steps::Passes::step-returns-in_err-advance
+pass_steps::Passes::step-returns-in_err-advance g t c =
+    let over = each_over c.requires.can c.args.self.now.input c.requires.is.0 c.requires.is.1 c.requires.is.2 in
+    let adv = rw c.in_ok-before.ensures.ok at c.advance.ensures in
+    shaped c.args.at.now (passes_on c.args.self.now.input c.requires.is.0) c.requires.is.1 (record { ran = ran_over adv.ran over.costs over.less over.alone; cause = search rules; answer = search rules })
+
+pub pass_steps::Passes::step-returns-in-None : goal.pass_steps::Passes::step-returns-in-None
+pass_steps::Passes::step-returns-in-None g t c =
+    let over = each_over c.requires.can c.args.self.now.input c.requires.is.0 c.requires.is.1 c.requires.is.2 in
+    let adv = rw c.in_ok-before.ensures.ok at c.advance.ensures in
+    shaped c.args.at.now (passes_on c.args.self.now.input c.requires.is.0) c.requires.is.1 (record { ran = ran_over adv.ran over.costs over.less over.alone; cause = tt; answer = over.over (rw (c.in-None.is, c.in_ok-before.ensures.ok) at c.in_ok-advance.ensures.answer) })
+
+pub pass_steps::Passes::step-returns : goal.pass_steps::Passes::step-returns
+pass_steps::Passes::step-returns g t c =
+    let over = each_over c.requires.can c.args.self.now.input c.requires.is.0 c.requires.is.1 c.requires.is.2 in
+    let adv = rw c.in_ok-before.ensures.ok at c.advance.ensures in
+    let f = rw (c.in-Some.is, c.in_ok-before.ensures.ok) at c.in_ok-advance.ensures.answer in
+    shaped c.args.at.now (passes_on c.args.self.now.input c.requires.is.0) c.requires.is.1 (record {
+      ran = ran_over adv.ran over.costs over.less over.alone;
+      cause = tt;
+      answer = each_at (plan_value c.args.self.now.walk.fixed.now.plan) c.requires.can.fixed.valid c.args.self.now.walk.op c.requires.can.op c.args.self.now.input (world_of (g.S.Sources.view c.args.s.now) c.args.growing.now) _ c.requires.can.bench c.args.at.now adv.ran.asks _ f
+          c.requires.is.0 c.requires.is.1 c.requires.is.2 (in_shape c.requires.can (passes_on c.args.self.now.input c.requires.is.0) c.requires.is.1) _;
+    })
+
+pub pass_steps::Firsts::step-returns-in_err-later : goal.pass_steps::Firsts::step-returns-in_err-later
+pass_steps::Firsts::step-returns-in_err-later g t c = record { ran = ran_nothing g.met.S.Sources.same c.args.self.now.walk.op (ahead (world_of (g.S.Sources.view c.args.s.now) c.args.growing.now) (operators c.args.self.now.walk.fixed.now) c.args.self.now.walk.op c.args.at.now) c.args.s.now c.args.growing.now c.requires.can.bench; cause = search rules; answer = search rules }
+
+pub pass_steps::Firsts::step-returns-in-Some : goal.pass_steps::Firsts::step-returns-in-Some
+pass_steps::Firsts::step-returns-in-Some g t c =
+    let later = rw c.in-Some.is at c.in_ok-later.ensures.later in
+    shaped c.args.at.now (passes_on c.args.self.now.input (first_by_keys c.args.self.now.keys.now c.requires.is.0)) c.requires.is.1 (record {
+      ran = ran_nothing g.met.S.Sources.same c.args.self.now.walk.op _ c.args.s.now c.args.growing.now c.requires.can.bench;
+      cause = tt;
+      answer = firsts_resume (operators c.args.self.now.walk.fixed.now) c.args.self.now.walk.op c.args.self.now.input c.args.self.now.keys.now c.requires.is.0 c.requires.is.1 (world_of (g.S.Sources.view c.args.s.now) c.args.growing.now) c.requires.can.bench c.args.at.now (in_shape c.requires.can (passes_on c.args.self.now.input (first_by_keys c.args.self.now.keys.now c.requires.is.0)) c.requires.is.1) c.in-Some.later later;
+    })
+
+pub pass_steps::Firsts::next_key-returns-in_err-before : goal.pass_steps::Firsts::next_key-returns-in_err-before
+pass_steps::Firsts::next_key-returns-in_err-before g t c = record { ran = ran_nothing g.met.S.Sources.same c.args.self.now.walk.op (ahead (world_of (g.S.Sources.view c.args.s.now) c.args.growing.now) (operators c.args.self.now.walk.fixed.now) c.args.self.now.walk.op c.args.at.now) c.args.s.now c.args.growing.now c.requires.can.bench; cause = search rules; answer = search rules }
+
+pub pass_steps::Firsts::next_key-advance-requires : goal.pass_steps::Firsts::next_key-advance-requires
+pass_steps::Firsts::next_key-advance-requires g t c κs within =
+    let over = firsts_over c.requires.can c.args.self.now.input c.args.self.now.keys.now c.requires.is.0 c.requires.is.1 c.requires.is.2 in
+    let can = over_can c.requires.can over c.in_ok-before.before.value c.in_ok-before.ensures.ok in
+    let small = over.less in
+    search rules
+
+pub pass_steps::Firsts::next_key-returns-in_err-advance : goal.pass_steps::Firsts::next_key-returns-in_err-advance
+pass_steps::Firsts::next_key-returns-in_err-advance g t c =
+    let over = firsts_over c.requires.can c.args.self.now.input c.args.self.now.keys.now c.requires.is.0 c.requires.is.1 c.requires.is.2 in
+    let adv = rw c.in_ok-before.ensures.ok at c.advance.ensures in
+    shaped c.args.at.now (passes_on c.args.self.now.input (first_by_keys c.args.self.now.keys.now c.requires.is.0)) c.requires.is.1 (record { ran = ran_over adv.ran over.costs over.less over.alone; cause = search rules; answer = search rules })
+
+pub pass_steps::Firsts::next_key-returns-in-None : goal.pass_steps::Firsts::next_key-returns-in-None
+pass_steps::Firsts::next_key-returns-in-None g t c =
+    let over = firsts_over c.requires.can c.args.self.now.input c.args.self.now.keys.now c.requires.is.0 c.requires.is.1 c.requires.is.2 in
+    let adv = rw c.in_ok-before.ensures.ok at c.advance.ensures in
+    shaped c.args.at.now (passes_on c.args.self.now.input (first_by_keys c.args.self.now.keys.now c.requires.is.0)) c.requires.is.1 (record { ran = ran_over adv.ran over.costs over.less over.alone; cause = tt; answer = over.over (rw (c.in-None.is, c.in_ok-before.ensures.ok) at c.in_ok-advance.ensures.answer) })
+
+pub pass_steps::Firsts::next_key-returns-in_err-key-in-Some : goal.pass_steps::Firsts::next_key-returns-in_err-key-in-Some
+pass_steps::Firsts::next_key-returns-in_err-key-in-Some g t c =
+    let over = firsts_over c.requires.can c.args.self.now.input c.args.self.now.keys.now c.requires.is.0 c.requires.is.1 c.requires.is.2 in
+    let adv = rw c.in_ok-before.ensures.ok at c.advance.ensures in
+    shaped c.args.at.now (passes_on c.args.self.now.input (first_by_keys c.args.self.now.keys.now c.requires.is.0)) c.requires.is.1 (record { ran = ran_over adv.ran over.costs over.less over.alone; cause = search rules; answer = search rules })
+
+pub pass_steps::Firsts::next_key-key_of-requires-clause-keys : goal.pass_steps::Firsts::next_key-key_of-requires-clause-keys
+pass_steps::Firsts::next_key-key_of-requires-clause-keys g t c = keys_fit (operators c.args.self.now.walk.fixed.now) c.requires.can.fixed.typed c.args.self.now.walk.op c.requires.can.op c.args.self.now.input c.args.self.now.keys.now c.requires.is.0 c.requires.is.1
+
+pub pass_steps::Firsts::next_key-first_of_key-requires-clause-count : goal.pass_steps::Firsts::next_key-first_of_key-requires-clause-count
+pass_steps::Firsts::next_key-first_of_key-requires-clause-count g t c =
+    let adv = rw c.in_ok-before.ensures.ok at c.advance.ensures in
+    let within = in_shape c.requires.can (passes_on c.args.self.now.input (first_by_keys c.args.self.now.keys.now c.requires.is.0)) c.requires.is.1 in
+    let few = firsts_count (operators c.args.self.now.walk.fixed.now) c.args.self.now.walk.op c.args.self.now.input c.args.self.now.keys.now c.requires.is.0 c.requires.is.2 (world_of (g.S.Sources.view c.args.s.now) c.args.growing.now) c.args.at.now within in
+    let more = adv.ran.asks.kept.longer c.args.self.now.walk.op in
+    omega (arith, few, more, c.seen_up_to-count.ensures)
+
+pub pass_steps::Firsts::next_key-returns : goal.pass_steps::Firsts::next_key-returns
+pass_steps::Firsts::next_key-returns g t c =
+    let adv = rw c.in_ok-before.ensures.ok at c.advance.ensures in
+    let h = rw c.in-Some.is at c.in_ok-advance.ensures.answer in
+    let f = rw (c.in-Some.is, c.in_ok-before.ensures.ok) at c.in_ok-advance.ensures.answer in
+    let parts = (rw c.deref.ensures at c.in_ok-key-in-Some.ensures.parts) _ adv.ran.bench h.cursor in
+    let value = (rw c.deref.ensures at c.in_ok-key-in-Some.ensures.value) _ adv.ran.bench h.cursor in
+    shaped c.args.at.now (passes_on c.args.self.now.input (first_by_keys c.args.self.now.keys.now c.requires.is.0)) c.requires.is.1 (record {
+      ran = record { came = adv.ran.came; bench = firsts_bench (operators c.args.self.now.walk.fixed.now) c.args.self.now.walk.op c.args.self.now.input c.args.self.now.keys.now c.requires.is.0 c.requires.is.2 c.requires.is.3 c.requires.can.fixed.typed c.requires.can.op c.requires.is.1 (world_of (g.S.Sources.view c.args.s.now) c.args.growing.now) c.args.at.now (in_shape c.requires.can (passes_on c.args.self.now.input (first_by_keys c.args.self.now.keys.now c.requires.is.0)) c.requires.is.1) _ c.requires.can.bench adv.ran.asks _ f adv.ran.bench c.in_ok-key-in-Some.key.items parts value c.spots_are_one.ensures c.first_of_key.new.seen.items c.first_of_key.ensures.grows (rw c.seen_up_to-count.ensures at c.first_of_key.ensures.pushed); asks = firsts_asks (operators c.args.self.now.walk.fixed.now) c.args.self.now.walk.op c.args.self.now.input c.args.self.now.keys.now c.requires.is.0 c.requires.is.2 c.requires.is.3 c.requires.can.fixed.typed c.requires.can.op c.requires.is.1 (world_of (g.S.Sources.view c.args.s.now) c.args.growing.now) c.args.at.now (in_shape c.requires.can (passes_on c.args.self.now.input (first_by_keys c.args.self.now.keys.now c.requires.is.0)) c.requires.is.1) _ c.requires.can.bench adv.ran.asks _ f adv.ran.bench c.in_ok-key-in-Some.key.items parts value c.spots_are_one.ensures c.first_of_key.new.seen.items c.first_of_key.ensures.grows (rw c.seen_up_to-count.ensures at c.first_of_key.ensures.pushed) };
+      cause = search rules;
+      answer = firsts_result (operators c.args.self.now.walk.fixed.now) c.args.self.now.walk.op c.args.self.now.input c.args.self.now.keys.now c.requires.is.0 c.requires.is.2 c.requires.is.3 c.requires.can.fixed.typed c.requires.can.op c.requires.is.1 (world_of (g.S.Sources.view c.args.s.now) c.args.growing.now) c.args.at.now (in_shape c.requires.can (passes_on c.args.self.now.input (first_by_keys c.args.self.now.keys.now c.requires.is.0)) c.requires.is.1) _ c.requires.can.bench adv.ran.asks _ f adv.ran.bench c.in_ok-key-in-Some.key.items parts value c.spots_are_one.ensures c.first_of_key.new.seen.items c.first_of_key.ensures.grows (rw c.seen_up_to-count.ensures at c.first_of_key.ensures.pushed) c.first_of_key.result (rw c.seen_up_to-count.ensures at c.first_of_key.ensures.answer);
+    })
+
+pub pair_steps::Pairs::next_left-returns-in_err-advance : goal.pair_steps::Pairs::next_left-returns-in_err-advance
+pair_steps::Pairs::next_left-returns-in_err-advance g t c = record { ran = left_ran c.args.self.now.left c.args.self.now.right c.args.self.now.walk.op c.args.self.now.tests.now c.requires.can c.requires.op c.requires.is c.advance.ensures.ran; cause = search rules; answer = search rules }
+
+pub pair_steps::Pairs::next_left-returns-in_err-start-in-Some : goal.pair_steps::Pairs::next_left-returns-in_err-start-in-Some
+pair_steps::Pairs::next_left-returns-in_err-start-in-Some g t c = record { ran = left_ran c.args.self.now.left c.args.self.now.right c.args.self.now.walk.op c.args.self.now.tests.now c.requires.can c.requires.op c.requires.is c.advance.ensures.ran; cause = search rules; answer = search rules }
+
+pub pair_steps::Pairs::next_left-returns-in-None : goal.pair_steps::Pairs::next_left-returns-in-None
+pair_steps::Pairs::next_left-returns-in-None g t c = record { ran = left_ran c.args.self.now.left c.args.self.now.right c.args.self.now.walk.op c.args.self.now.tests.now c.requires.can c.requires.op c.requires.is c.advance.ensures.ran; cause = tt; answer = left_done (operators c.args.self.now.walk.fixed.now) c.args.self.now.walk.op c.args.self.now.left c.args.self.now.right c.args.self.now.tests.now c.requires.can.fixed.typed c.requires.op c.requires.is (world_of (g.S.Sources.view c.args.s.now) c.args.growing.now) (world_of (g.S.Sources.view c.args.s.now) c.args.growing.now) c.requires.can.bench c.args.l.now.value (rw c.in-None.is at c.in_ok-advance.ensures.answer) }
+
+pub pair_steps::Pairs::next_left-returns-in_ok-start-in-Some : goal.pair_steps::Pairs::next_left-returns-in_ok-start-in-Some
+pair_steps::Pairs::next_left-returns-in_ok-start-in-Some g t c = record {
+  ran = left_ran c.args.self.now.left c.args.self.now.right c.args.self.now.walk.op c.args.self.now.tests.now c.requires.can c.requires.op c.requires.is c.advance.ensures.ran;
+  cause = tt;
+  answer = rw c.in_ok-start-in-Some.ensures.ok
+      (left_on (operators c.args.self.now.walk.fixed.now) c.args.self.now.walk.op c.args.self.now.left c.args.self.now.right c.args.self.now.tests.now c.requires.can.fixed.typed c.requires.op c.requires.is (world_of (g.S.Sources.view c.args.s.now) c.args.growing.now) _ c.requires.can.bench c.args.l.now.value c.advance.ensures.ran.asks _ (rw c.in-Some.is at c.in_ok-advance.ensures.answer) _ _);
+}
+
+pub pair_steps::Pairs::step-next_left-requires : goal.pair_steps::Pairs::step-next_left-requires
+pair_steps::Pairs::step-next_left-requires g t c κs within =
+    let begins = pair_or_start (operators c.args.self.now.walk.fixed.now) c.args.self.now.walk.op c.args.self.now.left c.args.self.now.right c.args.self.now.tests.now (world_of (g.S.Sources.view c.args.s.now) c.args.growing.now) c.args.at.now (in_shape c.requires.can (pairs_up c.args.self.now.left c.args.self.now.right c.args.self.now.tests.now) c.requires.is) (λ q x q' y m e. c.in_default.not-Pair (record { ptr = q.ptr; value = x }) (record { ptr = q'.ptr; value = y }) m e) in
+    let same : c.in_ok-start-in_default.start.value ≡ c.args.at.now = c.in_ok-start-in_default.ensures.ok ∙ sym begins in
+    let can : CanStep (g.S.Sources.view c.args.s.now) c.args.growing.now c.args.self.now.walk.fixed.now c.args.self.now.left c.in_ok-start-in_default.start.value = rw same (left_can c.requires.can c.args.self.now.left c.args.self.now.right c.args.self.now.tests.now c.requires.is begins) in
+    let small = (sides c.requires.can c.args.self.now.left c.args.self.now.right c.args.self.now.tests.now c.requires.is).0 in
+    search rules
+
+pub pair_steps::Pairs::step-returns-in_err-start-in_default : goal.pair_steps::Pairs::step-returns-in_err-start-in_default
+pair_steps::Pairs::step-returns-in_err-start-in_default g t c = shaped c.args.at.now (pairs_up c.args.self.now.left c.args.self.now.right c.args.self.now.tests.now) c.requires.is (record { ran = ran_nothing g.met.S.Sources.same c.args.self.now.walk.op _ c.args.s.now c.args.growing.now c.requires.can.bench; cause = search rules; answer = search rules })
+
+pub pair_steps::Pairs::step-returns-in_ok-start-in_default : goal.pair_steps::Pairs::step-returns-in_ok-start-in_default
+pair_steps::Pairs::step-returns-in_ok-start-in_default g t c =
+    let begins = pair_or_start (operators c.args.self.now.walk.fixed.now) c.args.self.now.walk.op c.args.self.now.left c.args.self.now.right c.args.self.now.tests.now (world_of (g.S.Sources.view c.args.s.now) c.args.growing.now) c.args.at.now (in_shape c.requires.can (pairs_up c.args.self.now.left c.args.self.now.right c.args.self.now.tests.now) c.requires.is) (λ q x q' y m e. c.in_default.not-Pair (record { ptr = q.ptr; value = x }) (record { ptr = q'.ptr; value = y }) m e) in
+    let goes = pairs_begin (operators c.args.self.now.walk.fixed.now) c.args.self.now.walk.op c.args.self.now.left c.args.self.now.right c.args.self.now.tests.now c.requires.can.fixed.typed c.requires.can.op c.requires.is (world_of (g.S.Sources.view c.args.s.now) c.args.growing.now) c.requires.can.bench c.args.at.now begins in
+    let same : c.in_ok-start-in_default.start.value ≡ c.args.at.now = c.in_ok-start-in_default.ensures.ok ∙ sym begins in
+    let left = rw same at c.next_left.ensures in
+    shaped c.args.at.now (pairs_up c.args.self.now.left c.args.self.now.right c.args.self.now.tests.now) c.requires.is (record {
+      ran = ran_then g.met.S.Sources.after (g.met.S.Sources.same c.args.s.now) goes left.ran;
+      cause = left.cause;
+      answer = goes_result _ goes (pairs_up c.args.self.now.left c.args.self.now.right c.args.self.now.tests.now) c.next_left.result left.answer;
+    })
+
+pub visit_steps::Visits::step-next-requires-clause-bench : goal.visit_steps::Visits::step-next-requires-clause-bench
+visit_steps::Visits::step-next-requires-clause-bench g t c = rw c.visit.ensures.is c.requires.can.bench
+
+pub visit_steps::Visits::step-next-requires-clause-read : goal.visit_steps::Visits::step-next-requires-clause-read
+visit_steps::Visits::step-next-requires-clause-read g t c = rw c.visit.ensures.is (in_visit c.requires.can c.args.self.now.input c.args.self.now.start c.args.self.now.path.now c.args.self.now.out c.requires.is (record { ptr = c.in-Found.below.ptr; value = tt }) _ _ _ c.in-Found.is).3
+
+pub visit_steps::Visits::step-next-requires-clause-at : goal.visit_steps::Visits::step-next-requires-clause-at
+visit_steps::Visits::step-next-requires-clause-at g t c = rw c.visit.ensures.is (in_visit c.requires.can c.args.self.now.input c.args.self.now.start c.args.self.now.path.now c.args.self.now.out c.requires.is (record { ptr = c.in-Found.below.ptr; value = tt }) _ _ _ c.in-Found.is).4
+
+pub visit_steps::Visits::step-returns-in_err-next-in-Found : goal.visit_steps::Visits::step-returns-in_err-next-in-Found
+visit_steps::Visits::step-returns-in_err-next-in-Found g t c =
+    let asked = (next_sought (machine_of c.visit.result.auto.now) (machine_of (table_of c.args.self.now.path.now)) c.visit.ensures.auto c.in-Found.source c.in-Found.found _ _ (rw c.visit.ensures.is at c.next.ensures)).asked in
+    placed c.args.at.now _ c.in-Found.is (visits_below c.args.self.now.input c.args.self.now.start c.args.self.now.path.now c.args.self.now.out) c.requires.is (record { ran = match_ran c.requires.can c.args.self.now.input c.args.self.now.start c.args.self.now.path.now c.args.self.now.out c.requires.is (record { ptr = c.in-Found.below.ptr; value = tt }) _ _ _ c.in-Found.is asked; cause = search rules; answer = search rules })
+
+pub visit_steps::Visits::step-returns-in_err-share-in-Some : goal.visit_steps::Visits::step-returns-in_err-share-in-Some
+visit_steps::Visits::step-returns-in_err-share-in-Some g t c =
+    let asked = (next_sought (machine_of c.visit.result.auto.now) (machine_of (table_of c.args.self.now.path.now)) c.visit.ensures.auto c.in-Found.source c.in-Found.found _ _ (rw c.visit.ensures.is at c.next.ensures)).asked in
+    placed c.args.at.now _ c.in-Found.is (visits_below c.args.self.now.input c.args.self.now.start c.args.self.now.path.now c.args.self.now.out) c.requires.is (record { ran = match_ran c.requires.can c.args.self.now.input c.args.self.now.start c.args.self.now.path.now c.args.self.now.out c.requires.is (record { ptr = c.in-Found.below.ptr; value = tt }) _ _ _ c.in-Found.is asked; cause = search rules; answer = search rules })
+
+pub visit_steps::Visits::step-next_start-requires : goal.visit_steps::Visits::step-next_start-requires
+visit_steps::Visits::step-next_start-requires g t c κs within =
+    let can = can_then (input_can c.requires.can c.args.self.now.input c.args.self.now.start c.args.self.now.path.now c.args.self.now.out c.requires.is (record { ptr = c.in-Found.below.ptr; value = tt }) _ _ _ c.in-Found.is) (g.S.Sources.view c.next.new.s) c.next.new.growing (rw c.visit.ensures.is at c.next.ensures).asked.bench (rw c.visit.ensures.is at c.next.ensures).asked.kept in
+    let small = input_below c.requires.can c.args.self.now.input c.args.self.now.start c.args.self.now.path.now c.args.self.now.out c.requires.is in
+    search rules
+
+pub visit_steps::Visits::step-returns-in-None : goal.visit_steps::Visits::step-returns-in-None
+visit_steps::Visits::step-returns-in-None g t c =
+    let asked = (next_sought (machine_of c.visit.result.auto.now) (machine_of (table_of c.args.self.now.path.now)) c.visit.ensures.auto c.in-Found.source c.in-Found.found _ _ (rw c.visit.ensures.is at c.next.ensures)).asked in
+    let none = (next_sought (machine_of c.visit.result.auto.now) (machine_of (table_of c.args.self.now.path.now)) c.visit.ensures.auto c.in-Found.source c.in-Found.found _ _ (rw c.visit.ensures.is at c.in_ok-next-in-Found.ensures)).answer in
+    let goes = match_then c.requires.can c.args.self.now.input c.args.self.now.start c.args.self.now.path.now c.args.self.now.out c.requires.is (record { ptr = c.in-Found.below.ptr; value = tt }) _ _ _ c.in-Found.is asked (rw c.in-None.is at none) in
+    placed c.args.at.now _ c.in-Found.is (visits_below c.args.self.now.input c.args.self.now.start c.args.self.now.path.now c.args.self.now.out) c.requires.is (record {
+      ran = ran_then g.met.S.Sources.after asked.came goes c.next_start.ensures.ran;
+      cause = search rules;
+      answer = goes_result _ goes (visits_below c.args.self.now.input c.args.self.now.start c.args.self.now.path.now c.args.self.now.out) c.next_start.result c.next_start.ensures.answer;
+    })
+
+pub visit_steps::Visits::step-returns-in_ok-share-in-Some : goal.visit_steps::Visits::step-returns-in_ok-share-in-Some
+visit_steps::Visits::step-returns-in_ok-share-in-Some g t c =
+    let asked = (next_sought (machine_of c.visit.result.auto.now) (machine_of (table_of c.args.self.now.path.now)) c.visit.ensures.auto c.in-Found.source c.in-Found.found _ _ (rw c.visit.ensures.is at c.next.ensures)).asked in
+    let found = (next_sought (machine_of c.visit.result.auto.now) (machine_of (table_of c.args.self.now.path.now)) c.visit.ensures.auto c.in-Found.source c.in-Found.found _ _ (rw c.visit.ensures.is at c.in_ok-next-in-Found.ensures)).answer in
+    placed c.args.at.now _ c.in-Found.is (visits_below c.args.self.now.input c.args.self.now.start c.args.self.now.path.now c.args.self.now.out) c.requires.is (record {
+      ran = match_ran c.requires.can c.args.self.now.input c.args.self.now.start c.args.self.now.path.now c.args.self.now.out c.requires.is (record { ptr = c.in-Found.below.ptr; value = tt }) _ _ _ c.in-Found.is asked;
+      cause = tt;
+      answer = match_found c.requires.can c.args.self.now.input c.args.self.now.start c.args.self.now.path.now c.args.self.now.out c.requires.is (record { ptr = c.in-Found.below.ptr; value = tt }) _ _ _ c.in-Found.is asked _ (rw c.in-Some.is at found) _
+          (ap (λ (y : Position). Found' c.in-Found.source (record { ptr = c.in_ok-share-in-Some.field-0.ptr; value = tt }) y c.in-Some.found) c.in_ok-share-in-Some.ensures.ok);
+    })
+
+pub visit_steps::Visits::step-next_start-requires-in_default : goal.visit_steps::Visits::step-next_start-requires-in_default
+visit_steps::Visits::step-next_start-requires-in_default g t c κs within =
+    let begins = found_or_start (operators c.args.self.now.walk.fixed.now) c.args.self.now.walk.op c.args.self.now.input c.args.self.now.start c.args.self.now.path.now c.args.self.now.out (world_of (g.S.Sources.view c.args.s.now) c.args.growing.now) c.args.at.now (in_shape c.requires.can (visits_below c.args.self.now.input c.args.self.now.start c.args.self.now.path.now c.args.self.now.out) c.requires.is) (λ q x s d e. c.in_default.not-Found s (record { ptr = q.ptr; value = x }) d e) in
+    let same : c.in_ok-start-in_default.start.value ≡ c.args.at.now = c.in_ok-start-in_default.ensures.ok ∙ sym begins in
+    let can : CanStep (g.S.Sources.view c.args.s.now) c.args.growing.now c.args.self.now.walk.fixed.now c.args.self.now.input c.in_ok-start-in_default.start.value = rw same (start_can c.requires.can c.args.self.now.input c.args.self.now.start c.args.self.now.path.now c.args.self.now.out c.requires.is begins) in
+    let small = input_below c.requires.can c.args.self.now.input c.args.self.now.start c.args.self.now.path.now c.args.self.now.out c.requires.is in
+    search rules
+
+pub visit_steps::Visits::step-returns-in_err-start-in_default : goal.visit_steps::Visits::step-returns-in_err-start-in_default
+visit_steps::Visits::step-returns-in_err-start-in_default g t c = shaped c.args.at.now (visits_below c.args.self.now.input c.args.self.now.start c.args.self.now.path.now c.args.self.now.out) c.requires.is (record { ran = ran_nothing g.met.S.Sources.same c.args.self.now.walk.op _ c.args.s.now c.args.growing.now c.requires.can.bench; cause = search rules; answer = search rules })
+
+pub visit_steps::Visits::step-returns-in_ok-start-in_default : goal.visit_steps::Visits::step-returns-in_ok-start-in_default
+visit_steps::Visits::step-returns-in_ok-start-in_default g t c =
+    let begins = found_or_start (operators c.args.self.now.walk.fixed.now) c.args.self.now.walk.op c.args.self.now.input c.args.self.now.start c.args.self.now.path.now c.args.self.now.out (world_of (g.S.Sources.view c.args.s.now) c.args.growing.now) c.args.at.now (in_shape c.requires.can (visits_below c.args.self.now.input c.args.self.now.start c.args.self.now.path.now c.args.self.now.out) c.requires.is) (λ q x s d e. c.in_default.not-Found s (record { ptr = q.ptr; value = x }) d e) in
+    let goes = visits_begin (operators c.args.self.now.walk.fixed.now) c.args.self.now.walk.op c.args.self.now.input c.args.self.now.start c.args.self.now.path.now c.args.self.now.out c.requires.can.fixed.typed c.requires.can.op c.requires.is (world_of (g.S.Sources.view c.args.s.now) c.args.growing.now) c.requires.can.bench c.args.at.now begins in
+    let same : c.in_ok-start-in_default.start.value ≡ c.args.at.now = c.in_ok-start-in_default.ensures.ok ∙ sym begins in
+    let next = rw same at c.next_start-in_default.ensures in
+    shaped c.args.at.now (visits_below c.args.self.now.input c.args.self.now.start c.args.self.now.path.now c.args.self.now.out) c.requires.is (record {
+      ran = ran_then g.met.S.Sources.after (g.met.S.Sources.same c.args.s.now) goes next.ran;
+      cause = next.cause;
+      answer = goes_result _ goes (visits_below c.args.self.now.input c.args.self.now.start c.args.self.now.path.now c.args.self.now.out) c.next_start-in_default.result next.answer;
+    })
+
+pub visit_steps::Visits::next_start-starts-init : goal.visit_steps::Visits::next_start-starts-init
+visit_steps::Visits::next_start-starts-init g t c =
+    rw c.in_ok-at.ensures.ok record {
+      came = g.met.S.Sources.same c.args.s.now;
+      goes = goes_same (keeps_same (world_of (g.S.Sources.view c.args.s.now) c.args.growing.now) (operators c.args.self.now.walk.fixed.now) c.requires.can.bench) refl refl;
+      can = c.requires.can;
+    }
+
+pub visit_steps::Visits::next_start-returns-in_err-at : goal.visit_steps::Visits::next_start-returns-in_err-at
+visit_steps::Visits::next_start-returns-in_err-at g t c = record { ran = ran_nothing g.met.S.Sources.same c.args.self.now.walk.op _ c.args.s.now c.args.growing.now c.requires.can.bench; cause = search rules; answer = search rules }
+
+pub visit_steps::Visits::next_start-returns-in_err-next : goal.visit_steps::Visits::next_start-returns-in_err-next
+visit_steps::Visits::next_start-returns-in_err-next g t c =
+    let i = c.starts.invariant in
+    record { ran = ran_then g.met.S.Sources.after i.came i.goes (start_ran c.args.self.now.input c.args.self.now.start c.args.self.now.path.now c.args.self.now.out c.requires.op c.requires.is c.starts.at.value i.can c.advance.ensures.ran); cause = search rules; answer = search rules }
+
+pub visit_steps::Visits::next_start-returns-in_default : goal.visit_steps::Visits::next_start-returns-in_default
+visit_steps::Visits::next_start-returns-in_default g t c =
+    let i = c.starts.invariant in
+    record {
+      ran = ran_then g.met.S.Sources.after i.came i.goes (start_ran c.args.self.now.input c.args.self.now.start c.args.self.now.path.now c.args.self.now.out c.requires.op c.requires.is c.starts.at.value i.can c.advance.ensures.ran);
+      cause = tt;
+      answer = comes_none i.goes.comes (visits_done (operators c.args.self.now.walk.fixed.now) c.args.self.now.walk.op c.args.self.now.input c.args.self.now.start c.args.self.now.path.now c.args.self.now.out i.can.fixed.typed c.requires.op c.requires.is (world_of (g.S.Sources.view c.starts.s) c.starts.growing) (world_of (g.S.Sources.view c.starts.s) c.starts.growing) i.can.bench c.starts.at.value (rw (none_of _ c.in_default.not-Some) at c.in_ok-next.ensures.answer));
+    }
+
+pub visit_steps::Visits::next_start-advance-requires : goal.visit_steps::Visits::next_start-advance-requires
+visit_steps::Visits::next_start-advance-requires g t c κs within =
+    let can = c.starts.invariant.can in
+    let small = input_before (operators c.args.self.now.walk.fixed.now) can.fixed.typed c.args.self.now.walk.op c.requires.op c.args.self.now.input c.args.self.now.start c.args.self.now.path.now c.args.self.now.out c.requires.is in
+    search rules
+
+pub visit_steps::Visits::next_start-node_of-source-requires-clause-cursor : goal.visit_steps::Visits::next_start-node_of-source-requires-clause-cursor
+visit_steps::Visits::next_start-node_of-source-requires-clause-cursor g t c =
+    let f = rw c.in-Some.is at c.in_ok-next.ensures.answer in
+    rw c.deref.ensures (world_of (g.S.Sources.view c.advance.new.s) c.advance.new.growing, f.cursor)
+
+pub visit_steps::Visits::next_start-node_of-source-requires-clause-node : goal.visit_steps::Visits::next_start-node_of-source-requires-clause-node
+visit_steps::Visits::next_start-node_of-source-requires-clause-node g t c = (fit_at (operators c.args.self.now.walk.fixed.now) c.requires.can.fixed.typed c.args.self.now.walk.op c.requires.op (visits_below c.args.self.now.input c.args.self.now.start c.args.self.now.path.now c.args.self.now.out) c.requires.is).0
+
+pub visit_steps::Visits::next_start-first-requires-clause-bench : goal.visit_steps::Visits::next_start-first-requires-clause-bench
+visit_steps::Visits::next_start-first-requires-clause-bench g t c = rw c.visit.ensures.is c.advance.ensures.ran.bench
+
+pub visit_steps::Visits::next_start-first-requires-clause-read : goal.visit_steps::Visits::next_start-first-requires-clause-read
+visit_steps::Visits::next_start-first-requires-clause-read g t c =
+    let f = rw c.in-Some.is at c.in_ok-next.ensures.answer in
+    let node = (rw c.deref.ensures at c.node_of-source.ensures) _ f.cursor in
+    rw c.visit.ensures.is node.read
+
+pub visit_steps::Visits::next_start-first-requires-clause-start : goal.visit_steps::Visits::next_start-first-requires-clause-start
+visit_steps::Visits::next_start-first-requires-clause-start g t c =
+    let f = rw c.in-Some.is at c.in_ok-next.ensures.answer in
+    let node = (rw c.deref.ensures at c.node_of-source.ensures) _ f.cursor in
+    rw c.visit.ensures.is node.known
+
+pub visit_steps::Visits::next_start-returns-in_err-found : goal.visit_steps::Visits::next_start-returns-in_err-found
+visit_steps::Visits::next_start-returns-in_err-found g t c =
+    record {
+      ran = (let i = c.starts.invariant in let f = rw c.in-Some.is at c.in_ok-next.ensures.answer in let node = (rw c.deref.ensures at c.node_of-source.ensures) _ f.cursor in let at = start_at c.args.self.now.input c.args.self.now.start c.args.self.now.path.now c.args.self.now.out c.requires.op c.requires.is c.starts.at.value i.can c.advance.ensures.ran _ f in let goes = start_goes c.args.self.now.input c.args.self.now.start c.args.self.now.path.now c.args.self.now.out c.requires.op c.requires.is c.starts.at.value i.can c.advance.ensures.ran _ f i.goes in let visit = rw c.visit.ensures.is at c.first.ensures in let sought = first_sought c.args.self.now.path.now (machine_of c.visit.result.auto.now) c.visit.ensures.auto _ c.node_of-source.result.0 c.node_of-source.result.1 node.node c.first.result visit in let came = g.met.S.Sources.after _ _ _ i.came c.advance.ensures.ran.came in ran_then g.met.S.Sources.after came goes (visit_ran c.args.self.now.input c.args.self.now.start c.args.self.now.path.now c.args.self.now.out c.requires.op c.requires.is c.in-Some.next.value at f.row c.node_of-source.result.0 (ap (λ (z : Node). z.source) node.node) node.read _ sought.asked));
+      cause =
+          (let keeps : Keeps (g.S.Sources.view c.advance.new.s) (g.S.Sources.view c.args.s.now) = g.met.S.Sources.keeps _ _ (g.met.S.Sources.after _ _ _ c.starts.invariant.came c.advance.ensures.ran.came) in
+          let since = rose_since (IsRead (operators c.args.self.now.walk.fixed.now)) (IsRead (operators c.args.self.now.walk.fixed.now)) (g.S.Sources.view c.args.s.now) (g.S.Sources.view c.advance.new.s) (g.S.Sources.view c.first.new.s) (λ n r. r) keeps.faults _ (rw c.visit.ensures.is at c.in_err-found.ensures.cause) in
+          search rules);
+      answer = search rules;
+    }
+
+pub visit_steps::Visits::next_start-returns-in-Some-2 : goal.visit_steps::Visits::next_start-returns-in-Some-2
+visit_steps::Visits::next_start-returns-in-Some-2 g t c =
+    let i = c.starts.invariant in
+    let f = rw c.in-Some.is at c.in_ok-next.ensures.answer in
+    let node = (rw c.deref.ensures at c.node_of-source.ensures) _ f.cursor in
+    let at = start_at c.args.self.now.input c.args.self.now.start c.args.self.now.path.now c.args.self.now.out c.requires.op c.requires.is c.starts.at.value i.can c.advance.ensures.ran _ f in
+    let goes = start_goes c.args.self.now.input c.args.self.now.start c.args.self.now.path.now c.args.self.now.out c.requires.op c.requires.is c.starts.at.value i.can c.advance.ensures.ran _ f i.goes in
+    let visit = rw c.visit.ensures.is at c.in_ok-found.ensures in
+    let sought = first_sought c.args.self.now.path.now (machine_of c.visit.result.auto.now) c.visit.ensures.auto _ c.node_of-source.result.0 c.node_of-source.result.1 node.node _ visit in
+    record {
+      ran = ran_then g.met.S.Sources.after (g.met.S.Sources.after _ _ _ i.came c.advance.ensures.ran.came) goes (visit_ran c.args.self.now.input c.args.self.now.start c.args.self.now.path.now c.args.self.now.out c.requires.op c.requires.is c.in-Some.next.value at f.row c.node_of-source.result.0 (ap (λ (z : Node). z.source) node.node) node.read _ sought.asked);
+      cause = tt;
+      answer = comes_at goes.comes (visit_found c.args.self.now.input c.args.self.now.start c.args.self.now.path.now c.args.self.now.out c.requires.op c.requires.is c.in-Some.next.value at f.row c.node_of-source.result.0 (ap (λ (z : Node). z.source) node.node) node.read _ sought.asked _ _ (rw c.in-Some-2.is at sought.answer) _ refl);
+    }
+
+pub visit_steps::Visits::next_start-starts-preserved : goal.visit_steps::Visits::next_start-starts-preserved
+visit_steps::Visits::next_start-starts-preserved g t c =
+    let i = c.starts.invariant in
+    let f = rw c.in-Some.is at c.in_ok-next.ensures.answer in
+    let node = (rw c.deref.ensures at c.node_of-source.ensures) _ f.cursor in
+    let at = start_at c.args.self.now.input c.args.self.now.start c.args.self.now.path.now c.args.self.now.out c.requires.op c.requires.is c.starts.at.value i.can c.advance.ensures.ran _ f in
+    let goes = start_goes c.args.self.now.input c.args.self.now.start c.args.self.now.path.now c.args.self.now.out c.requires.op c.requires.is c.starts.at.value i.can c.advance.ensures.ran _ f i.goes in
+    let visit = rw c.visit.ensures.is at c.in_ok-found.ensures in
+    let sought = first_sought c.args.self.now.path.now (machine_of c.visit.result.auto.now) c.visit.ensures.auto _ c.node_of-source.result.0 c.node_of-source.result.1 node.node _ visit in
+    record {
+      came = g.met.S.Sources.after _ _ _ (g.met.S.Sources.after _ _ _ i.came c.advance.ensures.ran.came) sought.asked.came;
+      goes = goes_then goes (visit_then c.args.self.now.input c.args.self.now.start c.args.self.now.path.now c.args.self.now.out c.requires.op c.requires.is c.in-Some.next.value at f.row c.node_of-source.result.0 (ap (λ (z : Node). z.source) node.node) node.read _ sought.asked (suc (bound_of (world_of (g.S.Sources.view c.advance.new.s) c.advance.new.growing))) (rw (none_of _ c.in_default-2.not-Some) at sought.answer));
+      can = can_then at (g.S.Sources.view c.first.new.s) c.first.new.growing sought.asked.bench sought.asked.kept;
+    }
+
+pub visit_steps::Visits::next_start-starts-smaller : goal.visit_steps::Visits::next_start-starts-smaller
+visit_steps::Visits::next_start-starts-smaller g t c =
+    let f = rw c.in-Some.is at c.in_ok-next.ensures.answer in
+    let node = (rw c.deref.ensures at c.node_of-source.ensures) _ f.cursor in
+    let visit = rw c.visit.ensures.is at c.first.ensures in
+    let sought = first_sought c.args.self.now.path.now (machine_of c.visit.result.auto.now) c.visit.ensures.auto _ c.node_of-source.result.0 c.node_of-source.result.1 node.node c.first.result visit in
+    let stays = cursors_kept _ _ sought.asked.kept (operators c.args.self.now.walk.fixed.now) c.advance.ensures.ran.bench c.args.self.now.input c.in-Some.next.value f.cursor in
+    omega (arith, f.falls, stays.number_is)
+
+pub order_steps::Sorts::first-returns-in_err-rows : goal.order_steps::Sorts::first-returns-in_err-rows
+order_steps::Sorts::first-returns-in_err-rows g t c = shaped Start (sorts c.args.self.now.input c.args.self.now.var c.args.self.now.desc) c.requires.is (record { ran = order_ran (operators c.args.self.now.walk.fixed.now) c.requires.can.fixed.typed c.args.self.now.walk.op c.requires.can.op c.args.self.now.input c.args.self.now.var c.args.self.now.desc c.requires.is c.labelled.ensures.ran; cause = search rules; answer = search rules })
+
+pub order_steps::Sorts::first-returns-in_err-sort_labelled : goal.order_steps::Sorts::first-returns-in_err-sort_labelled
+order_steps::Sorts::first-returns-in_err-sort_labelled g t c = shaped Start (sorts c.args.self.now.input c.args.self.now.var c.args.self.now.desc) c.requires.is (record { ran = order_ran (operators c.args.self.now.walk.fixed.now) c.requires.can.fixed.typed c.args.self.now.walk.op c.requires.can.op c.args.self.now.input c.args.self.now.var c.args.self.now.desc c.requires.is c.labelled.ensures.ran; cause = search rules; answer = search rules })
+
+pub order_steps::labelled-returns-in_err-at-clause-ran : goal.order_steps::labelled-returns-in_err-at-clause-ran
+order_steps::labelled-returns-in_err-at-clause-ran g t c = through_nothing g.met.S.Sources.same c.args.walk.op c.args.s.now c.args.growing.now c.requires.can.bench
+
+pub order_steps::labelled-events-init : goal.order_steps::labelled-events-init
+order_steps::labelled-events-init g t c =
+    rw (c.new-rows.ensures.items, c.in_ok-at.ensures.ok) record {
+      came = g.met.S.Sources.same c.args.s.now;
+      gathered = gathered_start (world_of (g.S.Sources.view c.args.s.now) c.args.growing.now) (operators c.args.walk.fixed.now) c.args.walk.op c.args.v (keeps_same (world_of (g.S.Sources.view c.args.s.now) c.args.growing.now) (operators c.args.walk.fixed.now) c.requires.can.bench) Start refl;
+      can = c.requires.can;
+    }
+
+pub order_steps::labelled-events-preserved : goal.order_steps::labelled-events-preserved
+order_steps::labelled-events-preserved g t c =
+    let finds = rw c.in-Some.is at c.in_ok-advance.ensures.answer in
+    let place_is = c.in_ok-share-in-Some.ensures.ok in
+    record {
+      came = g.met.S.Sources.after _ _ _ c.events.invariant.came c.advance.ensures.ran.came;
+      gathered = subst (λ (rows : List Labelled). Gathered (world_of (g.S.Sources.view c.args.s.now) c.args.growing.now) (world_of (g.S.Sources.view c.advance.new.s) c.advance.new.growing) (operators c.args.walk.fixed.now) c.args.walk.op c.args.v rows c.in-Some.found.value) (sym c.in_ok-push-in-Some.ensures.items)
+          (gathered_more (world_of (g.S.Sources.view c.advance.new.s) c.advance.new.growing) c.events.invariant.gathered c.events.invariant.can.bench c.advance.ensures.ran.asks c.in-Some.found.value finds (record { label = c.in_ok-label-in-Some.label; place = c.in_ok-share-in-Some.field-0 }) place_is (λ u. c.in_ok-label-in-Some.ensures ∙ (rw c.deref.ensures at c.label_of.ensures) (g.S.Sources.view c.advance.new.s) c.advance.ensures.ran.bench finds.cursor u));
+      can = record { fixed = c.requires.can.fixed; op = c.requires.can.op; bench = c.advance.ensures.ran.bench; cursor = finds.cursor };
+    }
+
+pub order_steps::labelled-returns-in_err-advance-clause-ran : goal.order_steps::labelled-returns-in_err-advance-clause-ran
+order_steps::labelled-returns-in_err-advance-clause-ran g t c = through g.met.S.Sources.after c.events.invariant.came c.events.invariant.gathered c.events.invariant.can.bench c.advance.ensures.ran
+
+pub order_steps::labelled-returns-in-None-clause-ran : goal.order_steps::labelled-returns-in-None-clause-ran
+order_steps::labelled-returns-in-None-clause-ran g t c = through g.met.S.Sources.after c.events.invariant.came c.events.invariant.gathered c.events.invariant.can.bench c.advance.ensures.ran
+
+pub order_steps::labelled-returns-in_err-label-in-Some-clause-ran : goal.order_steps::labelled-returns-in_err-label-in-Some-clause-ran
+order_steps::labelled-returns-in_err-label-in-Some-clause-ran g t c = through g.met.S.Sources.after c.events.invariant.came c.events.invariant.gathered c.events.invariant.can.bench c.advance.ensures.ran
+
+pub order_steps::labelled-returns-in_err-share-in-Some-clause-ran : goal.order_steps::labelled-returns-in_err-share-in-Some-clause-ran
+order_steps::labelled-returns-in_err-share-in-Some-clause-ran g t c = through g.met.S.Sources.after c.events.invariant.came c.events.invariant.gathered c.events.invariant.can.bench c.advance.ensures.ran
+
+pub order_steps::labelled-returns-in_err-push-in-Some-clause-ran : goal.order_steps::labelled-returns-in_err-push-in-Some-clause-ran
+order_steps::labelled-returns-in_err-push-in-Some-clause-ran g t c = through g.met.S.Sources.after c.events.invariant.came c.events.invariant.gathered c.events.invariant.can.bench c.advance.ensures.ran
+
+pub order_steps::labelled-returns-in-None-clause-rows : goal.order_steps::labelled-returns-in-None-clause-rows
+order_steps::labelled-returns-in-None-clause-rows g t c =
+    gathered_all (world_of (g.S.Sources.view c.advance.new.s) c.advance.new.growing) c.events.invariant.gathered c.events.invariant.can.bench c.advance.ensures.ran.asks c.requires.can.bench (rw c.in-None.is at c.in_ok-advance.ensures.answer)
+
+pub order_steps::Sorts::first-returns-in_err-places : goal.order_steps::Sorts::first-returns-in_err-places
+order_steps::Sorts::first-returns-in_err-places g t c = shaped Start (sorts c.args.self.now.input c.args.self.now.var c.args.self.now.desc) c.requires.is (record { ran = order_ran (operators c.args.self.now.walk.fixed.now) c.requires.can.fixed.typed c.args.self.now.walk.op c.requires.can.op c.args.self.now.input c.args.self.now.var c.args.self.now.desc c.requires.is c.labelled.ensures.ran; cause = search rules; answer = search rules })
+
+pub order_steps::Sorts::first-returns-in_err-list : goal.order_steps::Sorts::first-returns-in_err-list
+order_steps::Sorts::first-returns-in_err-list g t c = shaped Start (sorts c.args.self.now.input c.args.self.now.var c.args.self.now.desc) c.requires.is (record { ran = order_ran (operators c.args.self.now.walk.fixed.now) c.requires.can.fixed.typed c.args.self.now.walk.op c.requires.can.op c.args.self.now.input c.args.self.now.var c.args.self.now.desc c.requires.is c.labelled.ensures.ran; cause = search rules; answer = search rules })
+
+pub order_steps::Sorts::first-returns : goal.order_steps::Sorts::first-returns
+order_steps::Sorts::first-returns g t c =
+    shaped Start (sorts c.args.self.now.input c.args.self.now.var c.args.self.now.desc) c.requires.is (record {
+      ran = order_ran (operators c.args.self.now.walk.fixed.now) c.requires.can.fixed.typed c.args.self.now.walk.op c.requires.can.op c.args.self.now.input c.args.self.now.var c.args.self.now.desc c.requires.is c.labelled.ensures.ran;
+      cause = search rules;
+      answer = IfOk-weaker c.sorted_at.result _ _ (λ r ok. order_first (operators c.args.self.now.walk.fixed.now) c.requires.can.fixed.typed c.args.self.now.walk.op c.requires.can.op c.args.self.now.input c.args.self.now.var c.args.self.now.desc c.requires.is (world_of (g.S.Sources.view c.args.s.now) c.args.growing.now) (world_of (g.S.Sources.view c.labelled.new.s) c.labelled.new.growing) c.labelled.ensures.ran.kept c.requires.can.bench c.in_ok-rows.rows.items c.sort_labelled.new.rows.items c.in_ok-rows.ensures.rows c.in_ok-sort_labelled.ensures c.in_ok-list.list.value (ap (λ (v : Vec (Rc Position Global) Global). v.items) c.in_ok-list.ensures.ok ∙ c.in_ok-places.ensures) r ok) c.sorted_at.ensures.ok;
+    })
+
+pub order_steps::Sorts::step-overflow_add-index : goal.order_steps::Sorts::step-overflow_add-index
+order_steps::Sorts::step-overflow_add-index g t c =
+    let of = in_place c.requires.can (sorts c.args.self.now.input c.args.self.now.var c.args.self.now.desc) c.requires.is _ c.in-Sorted.is in
+    let count = list_count c.in-Sorted.list c.in-Sorted.index in
+    omega (arith, count, of.1, c.in-Sorted.list.value.ok, c.in-Sorted.list.value.small)
+
+pub order_steps::Sorts::step-returns-in-Sorted : goal.order_steps::Sorts::step-returns-in-Sorted
+order_steps::Sorts::step-returns-in-Sorted g t c =
+    placed c.args.at.now _ c.in-Sorted.is (sorts c.args.self.now.input c.args.self.now.var c.args.self.now.desc) c.requires.is (record {
+      ran = ran_nothing g.met.S.Sources.same c.args.self.now.walk.op _ c.args.s.now c.args.growing.now c.requires.can.bench;
+      cause = search rules;
+      answer = IfOk-weaker c.sorted_at.result _ _ (λ r ok. order_next (world_of (g.S.Sources.view c.args.s.now) c.args.growing.now) (operators c.args.self.now.walk.fixed.now) c.args.self.now.walk.op c.args.self.now.input c.args.self.now.var c.args.self.now.desc c.in-Sorted.list c.in-Sorted.index (in_place c.requires.can (sorts c.args.self.now.input c.args.self.now.var c.args.self.now.desc) c.requires.is _ c.in-Sorted.is) r ok) c.sorted_at.ensures.ok;
+    })
+
+pub order_steps::Sorts::step-returns-in_default : goal.order_steps::Sorts::step-returns-in_default
+order_steps::Sorts::step-returns-in_default g t c =
+    shaped c.args.at.now (sorts c.args.self.now.input c.args.self.now.var c.args.self.now.desc) c.requires.is (record {
+      ran = ran_nothing g.met.S.Sources.same c.args.self.now.walk.op _ c.args.s.now c.args.growing.now c.requires.can.bench;
+      cause = tt;
+      answer = λ u. order_over (operators c.args.self.now.walk.fixed.now) c.requires.can.fixed.typed c.args.self.now.walk.op c.requires.can.op c.args.self.now.input c.args.self.now.var c.args.self.now.desc c.requires.is (world_of (g.S.Sources.view c.args.s.now) c.args.growing.now) c.args.at.now (in_shape c.requires.can (sorts c.args.self.now.input c.args.self.now.var c.args.self.now.desc) c.requires.is) (λ e. c.in_default.not-Start e) (λ list k e. c.in_default.not-Sorted list k e);
+    })
+
+pub steps::next_event-step-requires-in-Concatenate : goal.steps::next_event-step-requires-in-Concatenate
+steps::next_event-step-requires-in-Concatenate g t c κs within =
+    let one = c.new-in-Concatenate.result in
+    let is : PassesOn one.walk one.input = rw c.new-in-Concatenate.ensures (_, ap shape_of (sym c.operator.ensures ∙ ap op_of c.in-Concatenate.is), tt) in
+    search rules
+
+pub steps::next_event-step-requires-in-CreateElement : goal.steps::next_event-step-requires-in-CreateElement
+steps::next_event-step-requires-in-CreateElement g t c κs within =
+    let one = c.new-in-CreateElement.result in
+    let is : PassesOn one.walk one.input = rw c.new-in-CreateElement.ensures (_, ap shape_of (sym c.operator.ensures ∙ ap op_of c.in-CreateElement.is), tt) in
+    search rules
+
+pub steps::next_event-step-requires-in-Project : goal.steps::next_event-step-requires-in-Project
+steps::next_event-step-requires-in-Project g t c κs within =
+    let one = c.new-in-Project.result in
+    let shape = ap shape_of (sym c.operator.ensures ∙ ap op_of c.in-Project.is) in
+    let is : PassesOn one.walk one.input =
+    rw c.new-in-Project.ensures (first_by_keys c.in-Project.keys.items None, shape, ap (shape_apart (operators c.args.walk.fixed.now)) (sym shape) ∙ sym c.is_apart.ensures ∙ c.if-is_apart.true) in
+    search rules
+
+pub steps::next_event-step-requires-in-Project-2 : goal.steps::next_event-step-requires-in-Project-2
+steps::next_event-step-requires-in-Project-2 g t c κs within =
+    let one = c.new-in-Project-2.result in
+    let shape = ap shape_of (sym c.operator.ensures ∙ ap op_of c.in-Project-2.is) in
+    let given : KeepsFirsts c.args.walk c.in-Project-2.input c.in-Project-2.keys.items = (None, shape, ap (shape_apart (operators c.args.walk.fixed.now)) (sym shape) ∙ sym c.is_apart.ensures ∙ c.if-is_apart.false, refl) in
+    let is : KeepsFirsts one.walk one.input one.keys.now =
+    subst (λ (z : Firsts). KeepsFirsts z.walk z.input z.keys.now) (sym c.new-in-Project-2.ensures) (subst (KeepsFirsts c.args.walk c.in-Project-2.input) (sym c.deref-in-Project-2.ensures.value) given) in
+    search rules
+
+pub steps::next_event-step-requires-in-GroupBy-2 : goal.steps::next_event-step-requires-in-GroupBy-2
+steps::next_event-step-requires-in-GroupBy-2 g t c κs within =
+    let one = c.new-in-GroupBy-2.result in
+    let op = sym c.operator.ensures ∙ ap op_of c.in-GroupBy-2.is in
+    let given : (group : Option (Piece × ℕ)) × (shape_walked c.args.walk ≡ passes_on c.in-GroupBy-2.input (first_by_keys c.deref-in-GroupBy-2.result.now group)) = search rules in
+    let shape = sym (ap shape_of op) ∙ given.1 in
+    let made = group_made _ _ _ _ _ _ given.0 shape in
+    let gathers = group_gathers (operators c.args.walk.fixed.now) _ _ _ _ _ _ given.0 shape ∙ ap not (ap (op_stops (operators c.args.walk.fixed.now)) (sym op) ∙ sym c.stops_at.ensures ∙ c.if-not-stops_at.true) in
+    let is : GathersGroups one =
+    subst GathersGroups (sym c.new-in-GroupBy-2.ensures) (
+      made.0,
+      given.1 ∙ ap (λ (z : Option (Piece × ℕ)). passes_on c.in-GroupBy-2.input (first_by_keys c.deref-in-GroupBy-2.result.now z)) made.1,
+      subst (λ (z : Option (Piece × ℕ)). gathers_by (operators c.args.walk.fixed.now) (passes_on c.in-GroupBy-2.input (first_by_keys c.deref-in-GroupBy-2.result.now z)) ≡ true) made.1 gathers,
+    ) in
+    search rules
+
+pub steps::next_event-step-requires-in-GroupBy-3 : goal.steps::next_event-step-requires-in-GroupBy-3
+steps::next_event-step-requires-in-GroupBy-3 g t c κs within =
+    let one = c.new-in-GroupBy-3.result in
+    let op = sym c.operator.ensures ∙ ap op_of c.in-GroupBy-3.is in
+    let given : (group : Option (Piece × ℕ)) × (shape_walked c.args.walk ≡ passes_on c.in-GroupBy-3.input (first_by_keys c.deref-in-GroupBy-3.result.now group)) = search rules in
+    let shape = sym (ap shape_of op) ∙ given.1 in
+    let some = group_some (operators c.args.walk.fixed.now) _ _ _ _ _ _ given.0 shape in
+    let no = group_gathers (operators c.args.walk.fixed.now) _ _ _ _ _ _ given.0 shape ∙ ap not (ap (op_stops (operators c.args.walk.fixed.now)) (sym op) ∙ sym c.stops_at.ensures ∙ c.if-not-stops_at.false) in
+    let is : KeepsFirsts one.walk one.input one.keys.now = subst (λ (z : Firsts). KeepsFirsts z.walk z.input z.keys.now) (sym c.new-in-GroupBy-3.ensures) (given.0, given.1, some, no) in
+    search rules
+
+pub pair_steps::Pairs::grow-returns-in_err-last : goal.pair_steps::Pairs::grow-returns-in_err-last
+pair_steps::Pairs::grow-returns-in_err-last g t c = record { ran = ran_nothing g.met.S.Sources.same c.args.self.now.walk.op _ c.args.s.now c.args.growing.now c.requires.bench; cause = search rules; answer = search rules }
+
+pub pair_steps::Pairs::grow-advance-requires : goal.pair_steps::Pairs::grow-advance-requires
+pair_steps::Pairs::grow-advance-requires g t c κs within =
+    let can = last_can {v = g.S.Sources.view c.args.s.now} {g = c.args.growing.now} c.args.self.now.left c.args.self.now.right c.args.self.now.walk.op c.args.self.now.tests.now c.requires.fixed c.requires.op c.requires.is c.requires.bench c.in_ok-last.last.value (c.in_ok-last.ensures.ok ∙ ap (λ (m : Kept (Rc Position Global)). last_of Start m.pairs) (memo_read (g.S.Sources.view c.args.s.now) c.args.growing.now (operators c.args.self.now.walk.fixed.now) c.requires.bench c.args.self.now.walk.op c.requires.op c.index.result.now c.index.ensures)) in
+    search rules
+
+pub pair_steps::Pairs::grow-returns-in_err-advance : goal.pair_steps::Pairs::grow-returns-in_err-advance
+pair_steps::Pairs::grow-returns-in_err-advance g t c =
+    let last = (c.in_ok-last.ensures.ok ∙ ap (λ (m : Kept (Rc Position Global)). last_of Start m.pairs) (memo_read (g.S.Sources.view c.args.s.now) c.args.growing.now (operators c.args.self.now.walk.fixed.now) c.requires.bench c.args.self.now.walk.op c.requires.op c.index.result.now c.index.ensures)) in
+    let adv = rw last at c.advance.ensures in
+    record { ran = grow_ran c.args.self.now.left c.args.self.now.right c.args.self.now.walk.op c.args.self.now.tests.now c.requires.fixed c.requires.op c.requires.is c.requires.bench adv.ran; cause = search rules; answer = search rules }
+
+pub pair_steps::Pairs::grow-returns-in-None : goal.pair_steps::Pairs::grow-returns-in-None
+pair_steps::Pairs::grow-returns-in-None g t c =
+    let last = (c.in_ok-last.ensures.ok ∙ ap (λ (m : Kept (Rc Position Global)). last_of Start m.pairs) (memo_read (g.S.Sources.view c.args.s.now) c.args.growing.now (operators c.args.self.now.walk.fixed.now) c.requires.bench c.args.self.now.walk.op c.requires.op c.index.result.now c.index.ensures)) in
+    let adv = rw last at c.advance.ensures in
+    let none = rw (c.in-None.is, last) at c.in_ok-advance.ensures.answer in
+    record {
+      ran = ended_ran c.args.self.now.left c.args.self.now.right c.args.self.now.walk.op c.args.self.now.tests.now c.requires.fixed c.requires.op c.requires.is c.requires.bench adv.ran c.end_members.new.memos c.end_members.ensures.others c.end_members.ensures.ended none;
+      cause = tt;
+      answer = ended_grown c.args.self.now.left c.args.self.now.right c.args.self.now.walk.op c.args.self.now.tests.now c.requires.fixed c.requires.op c.requires.is c.requires.bench adv.ran c.end_members.new.memos c.end_members.ensures.others c.end_members.ensures.ended none;
+    }
+
+pub pair_steps::Pairs::grow-returns-in_err-label-in-Some : goal.pair_steps::Pairs::grow-returns-in_err-label-in-Some
+pair_steps::Pairs::grow-returns-in_err-label-in-Some g t c =
+    let last = (c.in_ok-last.ensures.ok ∙ ap (λ (m : Kept (Rc Position Global)). last_of Start m.pairs) (memo_read (g.S.Sources.view c.args.s.now) c.args.growing.now (operators c.args.self.now.walk.fixed.now) c.requires.bench c.args.self.now.walk.op c.requires.op c.index.result.now c.index.ensures)) in
+    let adv = rw last at c.advance.ensures in
+    record { ran = grow_ran c.args.self.now.left c.args.self.now.right c.args.self.now.walk.op c.args.self.now.tests.now c.requires.fixed c.requires.op c.requires.is c.requires.bench adv.ran; cause = search rules; answer = search rules }
+
+pub pair_steps::Pairs::grow-returns-in_err-push_member-in-Some : goal.pair_steps::Pairs::grow-returns-in_err-push_member-in-Some
+pair_steps::Pairs::grow-returns-in_err-push_member-in-Some g t c =
+    let last = (c.in_ok-last.ensures.ok ∙ ap (λ (m : Kept (Rc Position Global)). last_of Start m.pairs) (memo_read (g.S.Sources.view c.args.s.now) c.args.growing.now (operators c.args.self.now.walk.fixed.now) c.requires.bench c.args.self.now.walk.op c.requires.op c.index.result.now c.index.ensures)) in
+    let adv = rw last at c.advance.ensures in
+    record { ran = refused_ran c.args.self.now.left c.args.self.now.right c.args.self.now.walk.op c.args.self.now.tests.now c.requires.fixed c.requires.op c.requires.is c.requires.bench adv.ran c.push_member.new.memos c.push_member.ensures.others c.in_err-push_member-in-Some.ensures.err; cause = search rules; answer = search rules }
+
+pub pair_steps::Pairs::grow-returns : goal.pair_steps::Pairs::grow-returns
+pair_steps::Pairs::grow-returns g t c =
+    let last = (c.in_ok-last.ensures.ok ∙ ap (λ (m : Kept (Rc Position Global)). last_of Start m.pairs) (memo_read (g.S.Sources.view c.args.s.now) c.args.growing.now (operators c.args.self.now.walk.fixed.now) c.requires.bench c.args.self.now.walk.op c.requires.op c.index.result.now c.index.ensures)) in
+    let adv = rw last at c.advance.ensures in
+    let f = rw (c.in-Some.is, last) at c.in_ok-advance.ensures.answer in
+    let label = c.in_ok-label-in-Some.ensures (g.S.Sources.view c.advance.new.s) adv.ran.bench f.cursor in
+    record {
+      ran = pushed_ran c.args.self.now.left c.args.self.now.right c.args.self.now.walk.op c.args.self.now.tests.now c.requires.fixed c.requires.op c.requires.is c.requires.bench adv.ran c.push_member.new.memos c.push_member.ensures.others c.in_ok-label-in-Some.label c.in-Some.found c.in_ok-push_member-in-Some.ensures.ok f label;
+      cause = tt;
+      answer = pushed_grown c.args.self.now.left c.args.self.now.right c.args.self.now.walk.op c.args.self.now.tests.now c.requires.fixed c.requires.op c.requires.is c.requires.bench adv.ran c.push_member.new.memos c.push_member.ensures.others c.in_ok-label-in-Some.label c.in-Some.found c.in_ok-push_member-in-Some.ensures.ok f label;
+    }
+
+pub pair_steps::Pairs::next_new-members-init : goal.pair_steps::Pairs::next_new-members-init
+pair_steps::Pairs::next_new-members-init g t c = record {
+  came = g.met.S.Sources.same c.args.s.now;
+  goes = goes_same (keeps_same (world_of (g.S.Sources.view c.args.s.now) c.args.growing.now) (operators c.args.self.now.walk.fixed.now) c.requires.can.bench) refl refl;
+  can = c.requires.can;
+}
+
+pub pair_steps::Pairs::next_new-returns-then-ended : goal.pair_steps::Pairs::next_new-returns-then-ended
+pair_steps::Pairs::next_new-returns-then-ended g t c =
+    let i = c.members.invariant in
+    let ended = ap (λ (m : Kept (Rc Position Global)). m.ended) (sym (memo_read (g.S.Sources.view c.members.s) c.members.growing (operators c.args.self.now.walk.fixed.now) i.can.bench c.args.self.now.walk.op c.requires.op c.index-memo.result.now c.index-memo.ensures)) ∙ sym c.ended.ensures ∙ c.if-ended.true in
+    let goes = goes_then i.goes (ended_goes (operators c.args.self.now.walk.fixed.now) c.args.self.now.walk.op c.args.self.now.left c.args.self.now.right c.args.self.now.tests.now i.can.fixed.typed c.requires.op c.requires.is (world_of (g.S.Sources.view c.members.s) c.members.growing) i.can.bench c.args.l.now.value i.can.cursor c.requires.row ended) in
+    record {
+      ran = ran_then g.met.S.Sources.after i.came goes c.next_left.ensures.ran;
+      cause = search rules;
+      answer = goes_result _ goes (pairs_up c.args.self.now.left c.args.self.now.right c.args.self.now.tests.now) c.next_left.result c.next_left.ensures.answer;
+    }
+
+pub pair_steps::Pairs::next_new-returns-in_err-grow : goal.pair_steps::Pairs::next_new-returns-in_err-grow
+pair_steps::Pairs::next_new-returns-in_err-grow g t c = (let i = c.members.invariant in record { ran = ran_then g.met.S.Sources.after i.came i.goes (beside_ran c.args.self.now.left c.args.self.now.right c.args.self.now.walk.op c.args.self.now.tests.now i.can c.requires.row c.requires.op c.requires.is c.grow.ensures.ran); cause = search rules; answer = search rules })
+
+pub pair_steps::Pairs::next_new-next_left-requires-then-not-branch : goal.pair_steps::Pairs::next_new-next_left-requires-then-not-branch
+pair_steps::Pairs::next_new-next_left-requires-then-not-branch g t c κs within =
+    let can = can_then c.members.invariant.can (g.S.Sources.view c.grow.new.s) c.grow.new.growing c.grow.ensures.ran.bench c.grow.ensures.ran.asks.kept in
+    let small = (inputs_at (operators c.args.self.now.walk.fixed.now) c.requires.can.fixed.typed c.args.self.now.walk.op c.requires.op (pairs_up c.args.self.now.left c.args.self.now.right c.args.self.now.tests.now) c.requires.is).0 in
+    search rules
+
+pub pair_steps::Pairs::next_new-returns-then-not-branch : goal.pair_steps::Pairs::next_new-returns-then-not-branch
+pair_steps::Pairs::next_new-returns-then-not-branch g t c =
+    let i = c.members.invariant in
+    let none = rw c.if-not-branch.true at c.in_ok-grow.ensures.answer in
+    let goes = goes_then i.goes (none_grown c.args.self.now.left c.args.self.now.right c.args.self.now.walk.op c.args.self.now.tests.now i.can c.requires.row c.requires.op c.requires.is c.grow.ensures.ran none.1) in
+    record {
+      ran = ran_then g.met.S.Sources.after (g.met.S.Sources.after _ _ _ i.came c.grow.ensures.ran.came) goes c.next_left-then-not-branch.ensures.ran;
+      cause = search rules;
+      answer = goes_result _ goes (pairs_up c.args.self.now.left c.args.self.now.right c.args.self.now.tests.now) c.next_left-then-not-branch.result c.next_left-then-not-branch.ensures.answer;
+    }
+
+pub pair_steps::Pairs::next_new-next_known-requires-clause-cursor : goal.pair_steps::Pairs::next_new-next_known-requires-clause-cursor
+pair_steps::Pairs::next_new-next_known-requires-clause-cursor g t c = (_, c.grow.ensures.ran.bench, (can_then c.members.invariant.can (g.S.Sources.view c.grow.new.s) c.grow.new.growing c.grow.ensures.ran.bench c.grow.ensures.ran.asks.kept).cursor)
+
+pub pair_steps::Pairs::next_new-at_found-requires-clause-can : goal.pair_steps::Pairs::next_new-at_found-requires-clause-can
+pair_steps::Pairs::next_new-at_found-requires-clause-can g t c = record {
+  fixed = c.requires.can.fixed;
+  op = c.requires.op;
+  is = c.requires.is;
+  place = c.in-Some.ensures.place.1;
+  cursor = (_, c.grow.ensures.ran.bench, (can_then c.members.invariant.can (g.S.Sources.view c.grow.new.s) c.grow.new.growing c.grow.ensures.ran.bench c.grow.ensures.ran.asks.kept).cursor);
+  row = c.requires.row;
+}
+
+pub pair_steps::Pairs::next_new-returns-in-Some : goal.pair_steps::Pairs::next_new-returns-in-Some
+pair_steps::Pairs::next_new-returns-in-Some g t c =
+    let i = c.members.invariant in
+    let grown = rw c.if-not-branch.false at c.in_ok-grow.ensures.answer in
+    let behind = c.len-place.ensures ∙ ap (λ (m : Kept (Rc Position Global)). length m.pairs) (memo_read (g.S.Sources.view c.members.s) c.members.growing (operators c.args.self.now.walk.fixed.now) i.can.bench c.args.self.now.walk.op c.requires.op c.index-memo.result.now c.index-memo.ensures) in
+    let pair = IfOk-weaker c.at_found.result _ _ (λ z h. h (g.S.Sources.view c.grow.new.s) c.grow.ensures.ran.bench (can_then c.members.invariant.can (g.S.Sources.view c.grow.new.s) c.grow.new.growing c.grow.ensures.ran.bench c.grow.ensures.ran.asks.kept).cursor) c.at_found.ensures.answer in
+    record {
+      ran = ran_then g.met.S.Sources.after i.came i.goes (beside_ran c.args.self.now.left c.args.self.now.right c.args.self.now.walk.op c.args.self.now.tests.now i.can c.requires.row c.requires.op c.requires.is c.grow.ensures.ran);
+      cause = search rules;
+      answer = goes_result _ i.goes (pairs_up c.args.self.now.left c.args.self.now.right c.args.self.now.tests.now) c.at_found.result (more_steps c.args.self.now.left c.args.self.now.right c.args.self.now.walk.op c.args.self.now.tests.now i.can c.requires.row c.requires.op c.requires.is c.grow.ensures.ran grown c.len-place.result behind c.in-Some.found c.in-Some.ensures.place c.at_found.result pair);
+    }
+
+pub pair_steps::Pairs::next_new-members-preserved : goal.pair_steps::Pairs::next_new-members-preserved
+pair_steps::Pairs::next_new-members-preserved g t c =
+    let i = c.members.invariant in
+    let grown = rw c.if-not-branch.false at c.in_ok-grow.ensures.answer in
+    let can = can_then i.can (g.S.Sources.view c.grow.new.s) c.grow.new.growing c.grow.ensures.ran.bench c.grow.ensures.ran.asks.kept in
+    record {
+      came = g.met.S.Sources.after _ _ _ i.came c.grow.ensures.ran.came;
+      goes = goes_then i.goes (more_goes c.args.self.now.left c.args.self.now.right c.args.self.now.walk.op c.args.self.now.tests.now i.can c.requires.row c.requires.op c.requires.is c.grow.ensures.ran grown c.len-place.result (c.len-place.ensures ∙ ap (λ (m : Kept (Rc Position Global)). length m.pairs) (memo_read (g.S.Sources.view c.members.s) c.members.growing (operators c.args.self.now.walk.fixed.now) i.can.bench c.args.self.now.walk.op c.requires.op c.index-memo.result.now c.index-memo.ensures)) c.next_known.result c.in_default.not-Some (c.next_known.ensures.next (g.S.Sources.view c.grow.new.s) c.grow.ensures.ran.bench can.cursor));
+      can = can;
+    }
+
+pub pair_steps::Pairs::next_new-members-smaller : goal.pair_steps::Pairs::next_new-members-smaller
+pair_steps::Pairs::next_new-members-smaller g t c =
+    let i = c.members.invariant in
+    let grown = rw c.if-not-branch.false at c.in_ok-grow.ensures.answer in
+    more_falls c.args.self.now.left c.args.self.now.right c.args.self.now.walk.op c.args.self.now.tests.now i.can c.requires.row c.requires.op c.requires.is c.grow.ensures.ran grown c.len-place.result (c.len-place.ensures ∙ ap (λ (m : Kept (Rc Position Global)). length m.pairs) (memo_read (g.S.Sources.view c.members.s) c.members.growing (operators c.args.self.now.walk.fixed.now) i.can.bench c.args.self.now.walk.op c.requires.op c.index-memo.result.now c.index-memo.ensures))
+
+pub pair_steps::Pairs::step-returns-in-Some : goal.pair_steps::Pairs::step-returns-in-Some
+pair_steps::Pairs::step-returns-in-Some g t c =
+    let here = in_pair c.requires.can c.args.self.now.left c.args.self.now.right c.args.self.now.tests.now c.requires.is _ _ _ _ _ c.in-Pair.is in
+    placed c.args.at.now _ c.in-Pair.is (pairs_up c.args.self.now.left c.args.self.now.right c.args.self.now.tests.now) c.requires.is (record {
+      ran = ran_nothing g.met.S.Sources.same c.args.self.now.walk.op _ c.args.s.now c.args.growing.now c.requires.can.bench;
+      cause = search rules;
+      answer = at_known c.requires.can c.args.self.now.left c.args.self.now.right c.args.self.now.tests.now c.requires.is _ _ _ _ _ c.in-Pair.is c.in-Some.place c.in-Some.ensures.place
+          (c.in-Some.ensures.next (g.S.Sources.view c.args.s.now) c.requires.can.bench here.0) c.at_found.result
+          (IfOk-weaker c.at_found.result _ _ (λ z h. h (g.S.Sources.view c.args.s.now) c.requires.can.bench here.0) c.at_found.ensures.answer);
+    })
+
+pub pair_steps::Pairs::step-returns-in-None : goal.pair_steps::Pairs::step-returns-in-None
+pair_steps::Pairs::step-returns-in-None g t c =
+    let here = in_pair c.requires.can c.args.self.now.left c.args.self.now.right c.args.self.now.tests.now c.requires.is _ _ _ _ _ c.in-Pair.is in
+    let goes = at_none c.requires.can c.args.self.now.left c.args.self.now.right c.args.self.now.tests.now c.requires.is _ _ _ _ _ c.in-Pair.is (c.in-None.ensures.next (g.S.Sources.view c.args.s.now) c.requires.can.bench here.0) in
+    placed c.args.at.now _ c.in-Pair.is (pairs_up c.args.self.now.left c.args.self.now.right c.args.self.now.tests.now) c.requires.is (record {
+      ran = ran_then g.met.S.Sources.after (g.met.S.Sources.same c.args.s.now) goes c.next_new.ensures.ran;
+      cause = c.next_new.ensures.cause;
+      answer = goes_result _ goes (pairs_up c.args.self.now.left c.args.self.now.right c.args.self.now.tests.now) c.next_new.result c.next_new.ensures.answer;
+    })
+
+pub gather_steps::Gathers::grow-returns-then-ended : goal.gather_steps::Gathers::grow-returns-then-ended
+gather_steps::Gathers::grow-returns-then-ended g t c = record { ran = ran_nothing g.met.S.Sources.same c.args.self.now.walk.op _ c.args.s.now c.args.growing.now c.requires.bench; cause = tt; answer = none_unwalked (g.S.Sources.view c.args.s.now) c.args.growing.now c.args.self.now c.requires.is c.requires.fixed c.requires.op c.requires.bench c.index-gathered.result.now c.index-gathered.ensures (sym c.ended.ensures ∙ c.if-ended.true) }
+
+pub gather_steps::Gathers::grow-returns-in_err-last : goal.gather_steps::Gathers::grow-returns-in_err-last
+gather_steps::Gathers::grow-returns-in_err-last g t c = record { ran = ran_nothing g.met.S.Sources.same c.args.self.now.walk.op _ c.args.s.now c.args.growing.now c.requires.bench; cause = search rules; answer = search rules }
+
+pub gather_steps::Gathers::grow-advance-requires : goal.gather_steps::Gathers::grow-advance-requires
+gather_steps::Gathers::grow-advance-requires g t c κs within =
+    let can = groups_can (g.S.Sources.view c.args.s.now) c.args.growing.now c.args.self.now c.requires.is c.requires.fixed c.requires.op c.requires.bench c.in_ok-last.last.value (read_last (g.S.Sources.view c.args.s.now) c.args.growing.now c.args.self.now c.requires.is c.requires.fixed c.requires.op c.requires.bench c.index-gathered.result.now c.index-gathered.ensures c.in_ok-last.last.value c.in_ok-last.ensures.ok) in
+    let small = input_less (g.S.Sources.view c.args.s.now) c.args.growing.now c.args.self.now c.requires.is c.requires.fixed c.requires.op c.requires.bench in
+    search rules
+
+pub gather_steps::Gathers::grow-returns-in_err-advance : goal.gather_steps::Gathers::grow-returns-in_err-advance
+gather_steps::Gathers::grow-returns-in_err-advance g t c =
+    let last = read_last (g.S.Sources.view c.args.s.now) c.args.growing.now c.args.self.now c.requires.is c.requires.fixed c.requires.op c.requires.bench c.index-gathered.result.now c.index-gathered.ensures c.in_ok-last.last.value c.in_ok-last.ensures.ok in
+    let adv = rw last at c.advance.ensures in
+    record { ran = gathers_ran c.args.self.now.walk.op c.args.self.now.input c.args.self.now.keys.now c.requires.is.0 c.requires.fixed c.requires.op c.requires.is.1 adv.ran; cause = search rules; answer = search rules }
+
+pub gather_steps::Gathers::grow-returns-in_err-key-in-Some : goal.gather_steps::Gathers::grow-returns-in_err-key-in-Some
+gather_steps::Gathers::grow-returns-in_err-key-in-Some g t c =
+    let last = read_last (g.S.Sources.view c.args.s.now) c.args.growing.now c.args.self.now c.requires.is c.requires.fixed c.requires.op c.requires.bench c.index-gathered.result.now c.index-gathered.ensures c.in_ok-last.last.value c.in_ok-last.ensures.ok in
+    let adv = rw last at c.advance.ensures in
+    record { ran = gathers_ran c.args.self.now.walk.op c.args.self.now.input c.args.self.now.keys.now c.requires.is.0 c.requires.fixed c.requires.op c.requires.is.1 adv.ran; cause = search rules; answer = search rules }
+
+pub gather_steps::Gathers::grow-returns-in-None : goal.gather_steps::Gathers::grow-returns-in-None
+gather_steps::Gathers::grow-returns-in-None g t c =
+    let last = read_last (g.S.Sources.view c.args.s.now) c.args.growing.now c.args.self.now c.requires.is c.requires.fixed c.requires.op c.requires.bench c.index-gathered.result.now c.index-gathered.ensures c.in_ok-last.last.value c.in_ok-last.ensures.ok in
+    let adv = rw last at c.advance.ensures in
+    let none = rw (c.in-None.is, last) at c.in_ok-advance.ensures.answer in
+    let leaves = grow_ended (g.S.Sources.view c.args.s.now) c.args.growing.now c.args.self.now c.requires.is c.requires.fixed c.requires.op c.requires.bench (world_of (g.S.Sources.view c.advance.new.s) c.advance.new.growing) adv.ran.asks adv.ran.bench c.end_groups.new.walked c.end_groups.ensures.others c.end_groups.ensures.ended none in
+    record { ran = record { came = adv.ran.came; bench = leaves.0; asks = leaves.1 }; cause = tt; answer = none }
+
+pub gather_steps::Gathers::grow-key_of-requires-clause-keys : goal.gather_steps::Gathers::grow-key_of-requires-clause-keys
+gather_steps::Gathers::grow-key_of-requires-clause-keys g t c = keys_fit (operators c.args.self.now.walk.fixed.now) c.requires.fixed.typed c.args.self.now.walk.op c.requires.op c.args.self.now.input c.args.self.now.keys.now (Some c.requires.is.0) c.requires.is.1
+
+pub gather_steps::Gathers::grow-gather-requires-clause-count : goal.gather_steps::Gathers::grow-gather-requires-clause-count
+gather_steps::Gathers::grow-gather-requires-clause-count g t c =
+    let last = read_last (g.S.Sources.view c.args.s.now) c.args.growing.now c.args.self.now c.requires.is c.requires.fixed c.requires.op c.requires.bench c.index-gathered.result.now c.index-gathered.ensures c.in_ok-last.last.value c.in_ok-last.ensures.ok in
+    let adv = rw last at c.advance.ensures in
+    as_many (g.S.Sources.view c.args.s.now) c.args.growing.now c.args.self.now c.requires.is c.requires.fixed c.requires.op c.requires.bench (world_of (g.S.Sources.view c.advance.new.s) c.advance.new.growing) adv.ran.asks adv.ran.bench
+
+pub gather_steps::Gathers::grow-returns-in_err-gather-in-Some : goal.gather_steps::Gathers::grow-returns-in_err-gather-in-Some
+gather_steps::Gathers::grow-returns-in_err-gather-in-Some g t c =
+    let last = read_last (g.S.Sources.view c.args.s.now) c.args.growing.now c.args.self.now c.requires.is c.requires.fixed c.requires.op c.requires.bench c.index-gathered.result.now c.index-gathered.ensures c.in_ok-last.last.value c.in_ok-last.ensures.ok in
+    let adv = rw last at c.advance.ensures in
+    let h = rw c.in-Some.is at c.in_ok-advance.ensures.answer in
+    let f = rw (c.in-Some.is, last) at c.in_ok-advance.ensures.answer in
+    let parts = (rw c.deref.ensures at c.in_ok-key-in-Some.ensures.parts) _ adv.ran.bench h.cursor in
+    let value = (rw c.deref.ensures at c.in_ok-key-in-Some.ensures.value) _ adv.ran.bench h.cursor in
+    let leaves = grow_refused (g.S.Sources.view c.args.s.now) c.args.growing.now c.args.self.now c.requires.is c.requires.fixed c.requires.op c.requires.bench (world_of (g.S.Sources.view c.advance.new.s) c.advance.new.growing) adv.ran.asks adv.ran.bench _ f c.in_ok-key-in-Some.key.items parts value c.spots_are_one.ensures c.gather.new.seen.items c.gather.new.walked c.gather.ensures.grows c.gather.ensures.others c.in_err-gather-in-Some.ensures.err c.in_err-gather-in-Some.ensures.kept in
+    record { ran = record { came = adv.ran.came; bench = leaves.0; asks = leaves.1 }; cause = search rules; answer = search rules }
+
+pub gather_steps::Gathers::grow-returns : goal.gather_steps::Gathers::grow-returns
+gather_steps::Gathers::grow-returns g t c =
+    let last = read_last (g.S.Sources.view c.args.s.now) c.args.growing.now c.args.self.now c.requires.is c.requires.fixed c.requires.op c.requires.bench c.index-gathered.result.now c.index-gathered.ensures c.in_ok-last.last.value c.in_ok-last.ensures.ok in
+    let adv = rw last at c.advance.ensures in
+    let h = rw c.in-Some.is at c.in_ok-advance.ensures.answer in
+    let f = rw (c.in-Some.is, last) at c.in_ok-advance.ensures.answer in
+    let parts = (rw c.deref.ensures at c.in_ok-key-in-Some.ensures.parts) _ adv.ran.bench h.cursor in
+    let value = (rw c.deref.ensures at c.in_ok-key-in-Some.ensures.value) _ adv.ran.bench h.cursor in
+    let more = grow_more (g.S.Sources.view c.args.s.now) c.args.growing.now c.args.self.now c.requires.is c.requires.fixed c.requires.op c.requires.bench (world_of (g.S.Sources.view c.advance.new.s) c.advance.new.growing) adv.ran.asks adv.ran.bench _ f c.in_ok-key-in-Some.key.items parts value c.spots_are_one.ensures c.gather.new.seen.items c.gather.new.walked c.gather.ensures.grows c.gather.ensures.others c.in_ok-gather-in-Some.ensures.ok c.index-gathered.result.now c.index-gathered.ensures (sym c.ended.ensures ∙ c.if-ended.false) in
+    record { ran = record { came = adv.ran.came; bench = more.0.0; asks = more.0.1 }; cause = tt; answer = more.1 }
+
+pub gather_steps::Gathers::step-bindings-init : goal.gather_steps::Gathers::step-bindings-init
+gather_steps::Gathers::step-bindings-init g t c = record {
+  came = g.met.S.Sources.same c.args.s.now;
+  bench = c.requires.can.bench;
+  comes = step_begins c.args.self.now c.args.at.now c.requires.can c.requires.is;
+}
+
+pub gather_steps::Gathers::step-returns-in_err-group : goal.gather_steps::Gathers::step-returns-in_err-group
+gather_steps::Gathers::step-returns-in_err-group g t c =
+    let i = c.bindings.invariant in
+    shaped c.args.at.now (group_shape c.args.self.now i.comes.0) i.comes.0.1 (record { ran = record { came = i.came; bench = i.bench; asks = i.comes.1.asks }; cause = search rules; answer = search rules })
+
+pub gather_steps::Gathers::step-returns-in-Some : goal.gather_steps::Gathers::step-returns-in-Some
+gather_steps::Gathers::step-returns-in-Some g t c =
+    let i = c.bindings.invariant in
+    let next = rw (c.in-Some.is, c.seen_up_to-count.ensures) at c.in_ok-group.ensures.group in
+    shaped c.args.at.now (group_shape c.args.self.now i.comes.0) i.comes.0.1 (record { ran = record { came = i.came; bench = i.bench; asks = i.comes.1.asks }; cause = tt; answer = step_found c.args.self.now c.args.at.now c.requires.can (world_of (g.S.Sources.view c.bindings.s) c.bindings.growing) i.bench i.comes c.in-Some.group next })
+
+pub gather_steps::Gathers::step-returns-in_err-grow-in-None : goal.gather_steps::Gathers::step-returns-in_err-grow-in-None
+gather_steps::Gathers::step-returns-in_err-grow-in-None g t c =
+    let i = c.bindings.invariant in
+    let none = rw (c.in-None.is, c.seen_up_to-count.ensures) at c.in_ok-group.ensures.group in
+    shaped c.args.at.now (group_shape c.args.self.now i.comes.0) i.comes.0.1 (record { ran = record { came = g.met.S.Sources.after _ _ _ i.came c.grow.ensures.ran.came; bench = c.grow.ensures.ran.bench; asks = step_asks c.args.self.now c.args.at.now c.requires.can (world_of (g.S.Sources.view c.bindings.s) c.bindings.growing) i.bench i.comes none (world_of (g.S.Sources.view c.grow.new.s) c.grow.new.growing) c.grow.ensures.ran.asks }; cause = search rules; answer = search rules })
+
+pub gather_steps::Gathers::step-returns-then-not-branch : goal.gather_steps::Gathers::step-returns-then-not-branch
+gather_steps::Gathers::step-returns-then-not-branch g t c =
+    let i = c.bindings.invariant in
+    let none = rw (c.in-None.is, c.seen_up_to-count.ensures) at c.in_ok-group.ensures.group in
+    let over = rw c.if-not-branch.true at c.in_ok-grow-in-None.ensures.answer in
+    shaped c.args.at.now (group_shape c.args.self.now i.comes.0) i.comes.0.1 (record { ran = record { came = g.met.S.Sources.after _ _ _ i.came c.grow.ensures.ran.came; bench = c.grow.ensures.ran.bench; asks = step_asks c.args.self.now c.args.at.now c.requires.can (world_of (g.S.Sources.view c.bindings.s) c.bindings.growing) i.bench i.comes none (world_of (g.S.Sources.view c.grow.new.s) c.grow.new.growing) c.grow.ensures.ran.asks }; cause = tt; answer = step_none c.args.self.now c.args.at.now c.requires.can (world_of (g.S.Sources.view c.bindings.s) c.bindings.growing) i.bench i.comes none (world_of (g.S.Sources.view c.grow.new.s) c.grow.new.growing) c.grow.ensures.ran.asks over })
+
+pub gather_steps::Gathers::step-bindings-preserved : goal.gather_steps::Gathers::step-bindings-preserved
+gather_steps::Gathers::step-bindings-preserved g t c =
+    let i = c.bindings.invariant in
+    let none = rw (c.in-None.is, c.seen_up_to-count.ensures) at c.in_ok-group.ensures.group in
+    let further = rw c.if-not-branch.false at c.in_ok-grow-in-None.ensures.answer in
+    record {
+      came = g.met.S.Sources.after _ _ _ i.came c.grow.ensures.ran.came;
+      bench = c.grow.ensures.ran.bench;
+      comes = step_goes_on c.args.self.now c.args.at.now c.requires.can (world_of (g.S.Sources.view c.bindings.s) c.bindings.growing) i.bench i.comes none (world_of (g.S.Sources.view c.grow.new.s) c.grow.new.growing) c.grow.ensures.ran.asks c.grow.ensures.ran.bench further c.spots_are_one.ensures;
+    }
+
+pub gather_steps::Gathers::step-bindings-smaller : goal.gather_steps::Gathers::step-bindings-smaller
+gather_steps::Gathers::step-bindings-smaller g t c =
+    let further = rw c.if-not-branch.false at c.in_ok-grow-in-None.ensures.answer in
+    further_falls (world_of (g.S.Sources.view c.bindings.s) c.bindings.growing) (world_of (g.S.Sources.view c.grow.new.s) c.grow.new.growing) (operators c.args.self.now.walk.fixed.now) c.args.self.now.walk.op c.args.self.now.input c.args.self.now.keys.now further

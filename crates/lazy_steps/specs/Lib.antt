@@ -1,0 +1,5 @@
+pub mod Beside
+pub mod Gathers
+pub mod Orders
+pub mod Steps
+pub mod Visits

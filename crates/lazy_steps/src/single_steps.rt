@@ -1,0 +1,63 @@
+// One step over the events of an operator with a single binding.
+ghost use Rattle.std.specs.Prelude.{◌≡◌, ℕ};
+ghost use Rattle.plan_core.specs.declared.plan.Piece.{Piece};
+ghost use Rattle.plan_core.specs.Shapes.{one_source, one_group, passes_on};
+ghost use Rattle.lazy_binding.specs.Parts.{shape_walked};
+ghost use Rattle.lazy_steps.specs.Steps.{CanWalk, StepsOn};
+
+use crate::step::Step;
+use lazy_binding::{Growing, Position, Walk};
+use lxp_core::{Sources, WalkFault};
+
+/// A source operator: the number of its source.
+#[derive(Clone, Copy)]
+pub(crate) struct OneSource<'a> {
+    pub(crate) walk: Walk<'a>,
+    pub(crate) source: u32,
+}
+
+impl<'a> OneSource<'a> {
+    /// The operator of this source.
+    pub(crate) fn new(walk: Walk<'a>, source: u32) -> OneSource<'a>
+        ensures { result ≡ record { walk = walk.entry; source = source } }
+    {
+        OneSource { walk, source }
+    }
+
+    /// A source has its document node, and nothing behind it.
+    pub(crate) fn step<S: Sources>(
+        &self,
+        growing: &mut Growing,
+        s: &mut S,
+        at: &Position,
+    ) -> Result<Step, WalkFault>
+        requires can { CanWalk (S.view s.old) growing.old self.now.walk at.now }
+        requires is { (out : ℕ) × (shape_walked self.now.walk ≡ one_source self.now.source out) }
+        ensures { StepsOn S.view S.came_from self.now.walk at.now s.old growing.old s.new growing.new result }
+    {
+        match at {
+            Position::Start => {
+                let top = growing.buffers[self.source as usize].top();
+                Ok(Step::At(Position::Top(self.source, top)))
+            }
+            _ => Ok(Step::Done),
+        }
+    }
+}
+
+/// A groupBy by no keys has one binding, which asks nothing.
+pub(crate) fn step_whole<S: Sources>(
+    walk: Walk<'_>,
+    growing: &mut Growing,
+    s: &mut S,
+    at: &Position,
+) -> Result<Step, WalkFault>
+    requires can { CanWalk (S.view s.old) growing.old walk at.now }
+    requires is { (input : ℕ) × (piece : Piece) × (out : ℕ) × (shape_walked walk ≡ passes_on input (one_group piece out)) }
+    ensures { StepsOn S.view S.came_from walk.entry at.now s.old growing.old s.new growing.new result }
+{
+    match at {
+        Position::Start => Ok(Step::At(Position::Whole)),
+        _ => Ok(Step::Done),
+    }
+}
