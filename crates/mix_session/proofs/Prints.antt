@@ -1,21 +1,22 @@
 -- The text of a subtree, one tree after another.
-use Rattle.std.proofs.Common.{◌≡◌, ◌∙◌, ◌+◌, ◌≤◌, ℕ, Bool, true, false, cond, List, [], ◌∷◌, ◌++◌, Option, Some, None, refl, ap, sym, subst, arith, append_assoc, option_map}
-use Rattle.std.specs.Prelude.{is_some}
+use Rattle.std.proofs.Common.{◌≡◌, ◌∙◌, ◌+◌, ◌≤◌, ℕ, Bool, true, false, cond, List, [], ◌∷◌, ◌++◌, Option, Some, None, Result, Ok, Err, refl, ap, sym, subst, arith, append_assoc, option_map}
+use Rattle.std.specs.Prelude.{is_some, IfSome, OnOk}
 use Rattle.mix_base.proofs.Lists.{append_nil}
 use Rattle.mix_tree.specs.Forest.{Forest, none, tree, LabelledTree, alone, first_tree, first_label, first_kids, behind, followed}
 use Rattle.mix_tree.specs.Place.{trees_at, tree_at, has_place, child_place, next_place}
 use Rattle.mix_tree.specs.Spelling.{spelling}
 use Rattle.mix_tree.proofs.Forests.{followed_assoc}
 use Rattle.mix_tree.proofs.Places.{trees_at-child}
+use Rattle.lxp_core.specs.declared.fault.WalkFault.{WalkFault}
 use Rattle.bracket_text.specs.Canonical.{canon, canon_trees}
 use Rattle.mix_script.specs.Transcript.{move_answer}
 use Rattle.mix_script.specs.declared.answer.Answer.TheVariants as answer
 use Rattle.mix_script.specs.declared.step.Way.{Way}
 use Rattle.mix_script.specs.declared.step.Way.TheVariants.{Down, Right}
 use Rattle.mix_session.specs.Meaning.{Meaning, Stays}
-use Rattle.mix_session.specs.Seeking.{ReadsLabel}
-use Rattle.mix_session.specs.Printing.{place_toll, CostsOn, IsThere, IsStepTo, PrintsTree, PrintsTrees}
-use Rattle.mix_session.specs.Tolls.{toll_from, trees_toll, print_toll, siblings_toll}
+use Rattle.mix_session.specs.Seeking.{IsSmaller, ReadsLabel}
+use Rattle.mix_session.specs.Printing.{place_toll, CostsOn, IsThere, IsStepTo, OpensTree, PrintsBelow, PrintsTree, PrintsTrees, closing, opening}
+use Rattle.mix_session.specs.Tolls.{toll_from, one_toll, trees_toll, print_toll, siblings_toll}
 use Rattle.mix_session.proofs.Walking.{stays_twice, place_toll_less, trees_at-next}
 
 -- TREES
@@ -134,6 +135,10 @@ module _ {V W : Type 0} (m : Meaning V W) (n : V) where
         there.1 ∙ ap Some (ap (λ l. record { label = l; kids = there.0.kids }) (sym there.2) ∙ ap (λ k. record { label = label; kids = k }) kids);
   }
 
+  -- a node without children was printed when its label was
+  pub opened_leaf : (m' : Meaning V W) (before after : List ℕ) → OpensTree m m' n before after None → PrintsTree m n before after
+  opened_leaf m' before after o = prints_leaf m' o.label before (before ++ spelling o.label) after o.reads o.step refl (o.text ∙ append_nil (before ++ spelling o.label))
+
   module _ (m' : Meaning V W) (first : V) (stays : Stays m m') (step : IsStepTo m m' Down n (Some first)) where
     -- the place of the first child
     child_at : (p : List ℕ) → m.IsAt n p → (t : LabelledTree) → m.course.IsDocument t → m'.IsAt first (child_place p)
@@ -165,6 +170,15 @@ module _ {V W : Type 0} (m : Meaning V W) (n : V) where
         bracketed : (x y z : List ℕ) → (((x ++ y) ++ 91 ∷ []) ++ z) ++ 93 ∷ [] ≡ x ++ (y ++ ((91 ∷ z) ++ 93 ∷ []))
         bracketed x y z =
             append_assoc ((x ++ y) ++ 91 ∷ []) z (93 ∷ []) ∙ append_assoc (x ++ y) (91 ∷ []) (z ++ 93 ∷ []) ∙ append_assoc x y ((91 ∷ z) ++ 93 ∷ [])
+
+    -- what stands below was printed behind the opening bracket
+    pub opened_node : (before mid after : List ℕ) → OpensTree m m' n before mid (Some first) → PrintsBelow m' first mid after → PrintsTree m n before after
+    opened_node before mid after o below = prints_node o.label before (before ++ spelling o.label) mid below.inner after o.reads refl o.text below.trees below.text
+
+    -- so it was, where the call came to it
+    pub opened_below : (before mid after : List ℕ) (r : Result (Unit {0}) WalkFault) → OpensTree m m' n before mid (Some first) → OnOk r (PrintsBelow m' first mid after) → OnOk r (PrintsTree m n before after)
+    opened_below before mid after (Ok x) o below = opened_node before mid after o below
+    opened_below before mid after (Err e) o below = tt
 
     -- what both cost
     pub node_costs : (fills fills' fills'' : ℕ) → CostsOn m n fills fills' (λ toll t p. toll Down p) → CostsOn m' first fills' fills'' siblings_toll → CostsOn m n fills fills'' print_toll
@@ -211,93 +225,126 @@ trees_behind : (front : Forest) (u : LabelledTree) → (label : List ℕ) × (ki
 trees_behind none u = (u.label, u.kids, none, refl)
 trees_behind (tree label kids rest) u = (label, kids, followed rest (tree u.label u.kids none), refl)
 
-module _ {V W : Type 0} (m m' m'' : Meaning V W) (first node : V) (fills fills' fills'' : ℕ) (before now : List ℕ) (so : ArePrinted m m' fills fills' before now first node) (stays : Stays m' m'') (there : IsThere m' node)
-    (cost : CostsOn m' node fills' fills'' print_toll) where
+-- a way seen from before a call
+pub step_later : {V W : Type 0} (m m' m'' : Meaning V W) (way : Way) (n : V) (r : Option V) → Stays m m' → m.IsNode n → IsStepTo m' m'' way n r → IsStepTo m m'' way n r
+step_later {V} m m' m'' way n r stays node step = record {
+  node = step.node;
+  place = λ p at t one. step.place p (stays.place n p at) t (stays.course.document t one);
+  smaller = of way r step.smaller;
+}
+  where
+    of : (way : Way) (r : Option V) → IfSome r (IsSmaller m' m'' way n) → IfSome r (IsSmaller m m'' way n)
+    of way None h = tt
+    of Down (Some c) h = let a = stays.height n node in omega (arith, a, h)
+    of Right (Some c) h = let a = stays.height n node in let b = stays.left n node in (let x = h.0 in omega (arith, b, x), let y = h.1 in omega (arith, a, y))
+
+-- the way behind a tree costs no less than none
+pub tree_costs : {V W : Type 0} (m : Meaning V W) (n : V) (fills fills' : ℕ) → CostsOn m n fills fills' print_toll → CostsOn m n fills fills' one_toll
+tree_costs m n fills fills' own tolls p at t one = let a = own tolls p at t one in omega (arith, a)
+
+-- what a tree and the way behind it cost together
+pub one_costs : {V W : Type 0} (m m' : Meaning V W) (n : V) (fills fills' fills'' : ℕ) → Stays m m' → CostsOn m n fills fills' print_toll → CostsOn m' n fills' fills'' (λ toll t p. toll Right p) → CostsOn m n fills fills'' one_toll
+one_costs m m' n fills fills' fills'' stays own right tolls p at t one =
+    let a = own tolls p at t one in
+    let b = right (stays.course.tolls tolls) p (stays.place n p at) t (stays.course.document t one) in
+    let less = place_toll_less m.course m'.course stays.course Right p in
+    omega (arith, a, b, less)
+
+module _ {V W : Type 0} (m m' m3 : Meaning V W) (first node : V) (fills fills' fills3 : ℕ) (before now : List ℕ) (so : ArePrinted m m' fills fills' before now first node) (stays : Stays m' m3) (there : IsThere m' node)
+    (cost : CostsOn m' node fills' fills3 one_toll) where
   -- the next one was printed
   module _ (p : List ℕ) (at : m.IsAt first p) (t : LabelledTree) (one : m.course.IsDocument t) where
     on : IsOnWay m m' fills fills' so.front node p t
     on = so.place p at t one
 
     paid : m.course.HasTolls
-        → fills'' + place_toll m.course Right on.here + toll_from (trees_toll (place_toll m.course) (behind (trees_at (alone t) on.here))) (next_place on.here) ≤ fills + siblings_toll (place_toll m.course) t p
+        → fills3 + toll_from (trees_toll (place_toll m.course) (behind (trees_at (alone t) on.here))) (next_place on.here) ≤ fills + siblings_toll (place_toll m.course) t p
     paid tolls =
         let own = cost (so.stays.course.tolls tolls) on.here on.at t (so.stays.course.document t one) in
         let so_far = on.cost tolls in
         let all = siblings_are (place_toll m.course) t on.here (there on.here on.at t (so.stays.course.document t one)) in
         let down = place_toll_less m.course m'.course so.stays.course Down on.here in
+        let right = place_toll_less m.course m'.course so.stays.course Right on.here in
         let below = trees_less (place_toll m.course) (place_toll m'.course) (place_toll_less m.course m'.course so.stays.course) (first_kids (trees_at (alone t) on.here)) (child_place on.here) in
-        omega (arith, own, so_far, all, down, below)
+        omega (arith, own, so_far, all, down, right, below)
 
   -- and costs no more
-  pub printed_costs : CostsOn m first fills fills'' siblings_toll
+  pub printed_costs : CostsOn m first fills fills3 siblings_toll
   printed_costs tolls p at t one = let h = paid p at t one tolls in omega (arith, h)
 
-  module _ (fills3 : ℕ) (m3 : Meaning V W) (stays3 : Stays m'' m3) (right : CostsOn m'' node fills'' fills3 (λ toll t p. toll Right p)) where
-    -- the way to its next sibling was paid for
-    paid_right : (p : List ℕ) (at : m.IsAt first p) (t : LabelledTree) (one : m.course.IsDocument t) → m.course.HasTolls
-        → fills3 + toll_from (trees_toll (place_toll m.course) (behind (trees_at (alone t) (on p at t one).here))) (next_place (on p at t one).here) ≤ fills + siblings_toll (place_toll m.course) t p
-    paid_right p at t one tolls =
-        let h = paid p at t one tolls in
-        let both = stays_twice so.stays stays in
-        let step = right (both.course.tolls tolls) (on p at t one).here (stays.place node (on p at t one).here (on p at t one).at) t (both.course.document t one) in
-        let less = place_toll_less m.course m''.course both.course Right (on p at t one).here in
-        omega (arith, h, step, less)
+  module _ (now' : List ℕ) (tree' : PrintsTree m' node now now') where
+    -- the subtree of the node, and those behind it
+    own_trees : (p : List ℕ) (at : m.IsAt first p) (t : LabelledTree) (one : m.course.IsDocument t)
+        → trees_at (alone t) (on p at t one).here ≡ tree tree'.subtree.label tree'.subtree.kids (behind (trees_at (alone t) (on p at t one).here))
+    own_trees p at t one = trees_of t tree'.subtree (on p at t one).here (tree'.place (on p at t one).here (on p at t one).at t (so.stays.course.document t one))
 
-    pub right_costs : CostsOn m first fills fills3 siblings_toll
-    right_costs tolls p at t one = let h = paid_right p at t one tolls in omega (arith, h)
+    -- there is no next sibling
+    pub printed_all : IsStepTo m' m3 Right node None → PrintsTrees m first before now'
+    printed_all step =
+        let u = tree'.subtree in
+        let all = trees_behind so.front tree'.subtree in record {
+          label = all.0;
+          kids = all.1;
+          rest = all.2;
+          text = tree'.text ∙ ap (λ x. now ++ x) (sym (canon_alone tree'.subtree)) ∙ so.text tree'.subtree.label tree'.subtree.kids none ∙ ap (λ f. before ++ canon_trees f) all.3;
+          place = λ p at t one.
+              let here = (on p at t one).here in
+              let last : behind (trees_at (alone t) (on p at t one).here) ≡ none =
+              behind_none t (on p at t one).here (step.place (on p at t one).here (on p at t one).at t (so.stays.course.document t one)) in
+              (on p at t one).trees ∙ ap (followed so.front) (own_trees p at t one ∙ ap (tree tree'.subtree.label tree'.subtree.kids) last) ∙ all.3;
+        }
 
-    module _ (now' : List ℕ) (tree' : PrintsTree m' node now now') where
-      -- the subtree of the node, and those behind it
-      own_trees : (p : List ℕ) (at : m.IsAt first p) (t : LabelledTree) (one : m.course.IsDocument t)
-          → trees_at (alone t) (on p at t one).here ≡ tree tree'.subtree.label tree'.subtree.kids (behind (trees_at (alone t) (on p at t one).here))
-      own_trees p at t one = trees_of t tree'.subtree (on p at t one).here (tree'.place (on p at t one).here (on p at t one).at t (so.stays.course.document t one))
+    -- there is one, and a comma was put behind the text
+    pub printed_more : (next : V) → IsStepTo m' m3 Right node (Some next) → (now'' : List ℕ) → now'' ≡ now' ++ 44 ∷ [] → ArePrinted m m3 fills fills3 before now'' first next
+    printed_more next step now'' comma =
+        record {
+          stays = stays_twice so.stays stays;
+          is_node = step.node;
+          low = let a = so.low in let c = step.smaller.1 in omega (arith, a, c);
+          front = followed so.front (tree tree'.subtree.label tree'.subtree.kids none);
+          text = λ label kids rest.
+              ap (λ x. x ++ canon_trees (tree label kids rest)) (comma ∙ ap (λ x. x ++ 44 ∷ []) tree'.text)
+              ∙ joined now (canon tree'.subtree) (canon_trees (tree label kids rest))
+              ∙ ap (λ x. now ++ x) (sym (canon_front tree'.subtree label kids rest))
+              ∙ so.text tree'.subtree.label tree'.subtree.kids (tree label kids rest)
+              ∙ ap (λ f. before ++ canon_trees f) (sym (followed_assoc so.front (tree tree'.subtree.label tree'.subtree.kids none) (tree label kids rest)));
+          place = λ p at t one.
+              let moved = (step.place (on p at t one).here (on p at t one).at t (so.stays.course.document t one)).1 in
+              let behind_is : behind (trees_at (alone t) (on p at t one).here) ≡ trees_at (alone t) moved.0 = sym (trees_at-next (alone t) (on p at t one).here moved.0 moved.1) in
+              record {
+                here = moved.0;
+                at = moved.2;
+                trees = (on p at t one).trees ∙ ap (followed so.front) (own_trees p at t one ∙ ap (tree tree'.subtree.label tree'.subtree.kids) behind_is)
+                    ∙ sym (followed_assoc so.front (tree tree'.subtree.label tree'.subtree.kids none) (trees_at (alone t) moved.0));
+                cost = λ tolls.
+                    let h = paid p at t one tolls in
+                    let e = ap (toll_from (trees_toll (place_toll m.course) (behind (trees_at (alone t) (on p at t one).here)))) moved.1 in
+                    let k = ap (λ f. trees_toll (place_toll m.course) f moved.0) behind_is in
+                    omega (arith, h, e, k);
+              };
+        }
+      where
+        joined : (x y z : List ℕ) → ((x ++ y) ++ 44 ∷ []) ++ z ≡ x ++ (y ++ 44 ∷ z)
+        joined x y z = append_assoc (x ++ y) (44 ∷ []) z ∙ append_assoc x y (44 ∷ z)
 
-      -- there is no next sibling
-      pub printed_all : IsStepTo m'' m3 Right node None → PrintsTrees m first before now'
-      printed_all step =
-          let u = tree'.subtree in
-          let all = trees_behind so.front tree'.subtree in record {
-            label = all.0;
-            kids = all.1;
-            rest = all.2;
-            text = tree'.text ∙ ap (λ x. now ++ x) (sym (canon_alone tree'.subtree)) ∙ so.text tree'.subtree.label tree'.subtree.kids none ∙ ap (λ f. before ++ canon_trees f) all.3;
-            place = λ p at t one.
-                let here = (on p at t one).here in
-                let both = stays_twice so.stays stays in
-                let last : behind (trees_at (alone t) (on p at t one).here) ≡ none =
-                behind_none t (on p at t one).here (step.place (on p at t one).here (stays.place node (on p at t one).here (on p at t one).at) t (both.course.document t one)) in
-                (on p at t one).trees ∙ ap (followed so.front) (own_trees p at t one ∙ ap (tree tree'.subtree.label tree'.subtree.kids) last) ∙ all.3;
-          }
+-- MARKS
 
-      -- there is one, and a comma was put behind the text
-      pub printed_more : (next : V) → IsStepTo m'' m3 Right node (Some next) → (now'' : List ℕ) → now'' ≡ now' ++ 44 ∷ [] → ArePrinted m m3 fills fills3 before now'' first next
-      printed_more next step now'' comma =
-          let both = stays_twice so.stays stays in record {
-            stays = stays_twice (stays_twice so.stays stays) stays3;
-            is_node = step.node;
-            low = let a = so.low in let b = stays.height node so.is_node in let c = step.smaller.1 in omega (arith, a, b, c);
-            front = followed so.front (tree tree'.subtree.label tree'.subtree.kids none);
-            text = λ label kids rest.
-                ap (λ x. x ++ canon_trees (tree label kids rest)) (comma ∙ ap (λ x. x ++ 44 ∷ []) tree'.text)
-                ∙ joined now (canon tree'.subtree) (canon_trees (tree label kids rest))
-                ∙ ap (λ x. now ++ x) (sym (canon_front tree'.subtree label kids rest))
-                ∙ so.text tree'.subtree.label tree'.subtree.kids (tree label kids rest)
-                ∙ ap (λ f. before ++ canon_trees f) (sym (followed_assoc so.front (tree tree'.subtree.label tree'.subtree.kids none) (tree label kids rest)));
-            place = λ p at t one.
-                let moved = (step.place (on p at t one).here (stays.place node (on p at t one).here (on p at t one).at) t (both.course.document t one)).1 in
-                let behind_is : behind (trees_at (alone t) (on p at t one).here) ≡ trees_at (alone t) moved.0 = sym (trees_at-next (alone t) (on p at t one).here moved.0 moved.1) in
-                record {
-                  here = moved.0;
-                  at = moved.2;
-                  trees = (on p at t one).trees ∙ ap (followed so.front) (own_trees p at t one ∙ ap (tree tree'.subtree.label tree'.subtree.kids) behind_is)
-                      ∙ sym (followed_assoc so.front (tree tree'.subtree.label tree'.subtree.kids none) (trees_at (alone t) moved.0));
-                  cost = λ tolls.
-                      let h = paid_right p at t one tolls in
-                      let e = ap (toll_from (trees_toll (place_toll m.course) (behind (trees_at (alone t) (on p at t one).here)))) moved.1 in
-                      let k = ap (λ f. trees_toll (place_toll m.course) f moved.0) behind_is in
-                      omega (arith, h, e, k);
-                };
-          }
-        where
-          joined : (x y z : List ℕ) → ((x ++ y) ++ 44 ∷ []) ++ z ≡ x ++ (y ++ 44 ∷ z)
-          joined x y z = append_assoc (x ++ y) (44 ∷ []) z ∙ append_assoc x y (44 ∷ z)
+-- a first child's mark
+pub opening_some : {V : Type 0} (r : Option V) → is_some r ≡ true → opening r ≡ 91 ∷ []
+opening_some None e = cc
+opening_some (Some n) e = refl
+
+-- no first child's
+pub opening_none : {V : Type 0} (r : Option V) → is_some r ≡ false → opening r ≡ []
+opening_none None e = refl
+opening_none (Some n) e = cc
+
+-- a next sibling's mark
+pub closing_some : {V : Type 0} (r : Option V) → is_some r ≡ true → closing r ≡ 44 ∷ []
+closing_some None e = cc
+closing_some (Some n) e = refl
+
+-- no next sibling's
+pub closing_none : {V : Type 0} (r : Option V) → is_some r ≡ false → closing r ≡ 93 ∷ []
+closing_none None e = refl
+closing_none (Some n) e = cc

@@ -1,19 +1,22 @@
 -- What printing comes to.
-use Rattle.std.specs.Prelude.{◌≡◌, ◌≤◌, ◌+◌, ℕ, true, List, [], ◌++◌, Option, Some, None, Result, Ok, Err, IfSome}
+use Rattle.std.specs.Prelude.{◌≡◌, ◌≤◌, ◌+◌, ℕ, true, List, [], ◌∷◌, ◌++◌, Option, Some, None, Result, Ok, Err, IfSome}
 use Rattle.mix_base.specs.Counts.{HasRisen}
 use Rattle.mix_tree.specs.Forest.{Forest, tree, LabelledTree, alone}
 use Rattle.mix_tree.specs.Place.{has_place, tree_at, trees_at}
+use Rattle.mix_tree.specs.Spelling.{spelling}
 use Rattle.bracket_text.specs.Canonical.{canon, canon_trees}
+use Rattle.lxp_core.specs.View.{View}
 use Rattle.lxp_core.specs.declared.fault.WalkFault.{WalkFault}
 use Rattle.lxp_core.specs.declared.fault.WalkFault.TheVariants.{Failed, OutOfMemory}
 use Rattle.mix_script.specs.Trails.{place_to}
 use Rattle.mix_script.specs.declared.step.Way.{Way}
+use Rattle.mix_script.specs.declared.step.Way.TheVariants.{Down, Right}
 use Rattle.mix_script.specs.declared.answer.Answer.{Answer}
 use Rattle.mix_script.specs.declared.answer.Answer.TheVariants as answer
 use Rattle.mix_session.specs.declared.walker.Found.{Found}
 use Rattle.mix_session.specs.declared.walker.Found.TheVariants as found
-use Rattle.mix_session.specs.Meaning.{Course, Meaning}
-use Rattle.mix_session.specs.Seeking.{IsMoved, IsSmaller}
+use Rattle.mix_session.specs.Meaning.{Course, Meaning, Stays}
+use Rattle.mix_session.specs.Seeking.{IsMoved, IsSmaller, ReadsLabel}
 
 -- the toll of a way from a place of the document
 abbrev pub place_toll : {W : Type 0} → Course W → Way → List ℕ → ℕ
@@ -67,3 +70,39 @@ IsPrinted m before after n (answer.Label l) = ⊥
 IsPrinted m before after n (answer.Text x) = PrintsTree m n [] x
 IsPrinted m before after n answer.NoNode = ⊥
 IsPrinted m before after n (answer.Fault s) = m.course.MayFail s × HasRisen (before s) (after s)
+
+-- the mark behind a label: an opening bracket where there is a first child
+abbrev pub opening : {V : Type 0} → Option V → List ℕ
+opening None = []
+opening (Some n) = 91 ∷ []
+
+-- the mark behind a tree: a comma where there is a next sibling, and a closing bracket where there is none
+abbrev pub closing : {V : Type 0} → Option V → List ℕ
+closing None = 93 ∷ []
+closing (Some n) = 44 ∷ []
+
+-- the label of a node was put behind a text, and an opening bracket where it has a first child
+pub record OpensTree {V W : Type 0} (m m' : Meaning V W) (n : V) (before after : List ℕ) (r : Option V) : Type 0 where
+  pub label : List ℕ
+  pub reads : ReadsLabel m n label
+  pub text : after ≡ (before ++ spelling label) ++ opening r
+  pub step : IsStepTo m m' Down n r
+
+-- the text of the subtree of a node was put behind a text, and the mark behind a tree
+pub record PrintsOne {V W : Type 0} (m m' : Meaning V W) (n : V) (before after : List ℕ) (r : Option V) : Type 0 where
+  pub inner : List ℕ
+  pub tree : PrintsTree m n before inner
+  pub text : after ≡ inner ++ closing r
+  pub step : IsStepTo m m' Right n r
+
+-- the texts of the subtrees of a node and of its later siblings were put behind a text, with the closing bracket
+pub record PrintsBelow {V W : Type 0} (m : Meaning V W) (n : V) (before after : List ℕ) : Type 0 where
+  pub inner : List ℕ
+  pub trees : PrintsTrees m n before inner
+  pub text : after ≡ inner ++ 93 ∷ []
+
+-- what a walk from a node leaves, whatever it comes to, and what it cost
+pub record Walked {V W X : Type 0} (m m' : Meaning V W) (v v' : View) (n : V) (toll : (Way → List ℕ → ℕ) → LabelledTree → List ℕ → ℕ) (r : Result X WalkFault) : Type 0 where
+  pub stays : Stays m m'
+  pub cause : FailsBy m.course.MayFail v.faults v'.faults r
+  pub cost : CostsOn m n v.fills v'.fills toll

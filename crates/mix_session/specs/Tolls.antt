@@ -36,3 +36,7 @@ print_toll toll t place = toll Down place + trees_toll toll (first_kids (trees_a
 -- the toll of the texts of the subtrees of a node and its later siblings
 abbrev pub siblings_toll : (Way → List ℕ → ℕ) → LabelledTree → List ℕ → ℕ
 siblings_toll toll t place = trees_toll toll (trees_at (alone t) place) place
+
+-- the toll of the text of the subtree at a place, and of the way to the right from there
+abbrev pub one_toll : (Way → List ℕ → ℕ) → LabelledTree → List ℕ → ℕ
+one_toll toll t place = print_toll toll t place + toll Right place

@@ -2,8 +2,9 @@
 ghost use Rattle.std.specs.Prelude.{◌≡◌, ◌++◌, IfOk, OnOk};
 ghost use Rattle.lxp_core.specs.View.{View};
 ghost use Rattle.mix_session.specs.Meaning.{Meaning, Stays};
-ghost use Rattle.mix_session.specs.Printing.{CostsOn, FailsBy, IsPrinted, IsStepTo, IsThere, PrintsTree, PrintsTrees};
-ghost use Rattle.mix_session.specs.Tolls.{print_toll, siblings_toll};
+ghost use Rattle.mix_session.specs.Printing.{CostsOn, FailsBy, IsPrinted, IsStepTo, IsThere, OpensTree, PrintsBelow, PrintsOne, PrintsTree, Walked, closing, opening};
+ghost use Rattle.mix_session.specs.Tolls.{one_toll, print_toll, siblings_toll};
+ghost use Rattle.mix_script.specs.declared.step.Way.TheVariants.{Down, Right};
 
 use crate::walker::{Found, Walker};
 use lazy_plan::WalkFault;
@@ -37,6 +38,68 @@ fn step<W: Walker, S: Sources>(
     }
 }
 
+// Puts an opening bracket behind a text where there is a first child.
+fn put_opening<N: Drop>(first: Option<N>, text: &mut Vec<u8>) -> Result<Option<N>, AllocError>
+    ensures { IfOk result (λ r. (r ≡ first) × (text.new.items ≡ text.old.items ++ opening first)) }
+{
+    if first.is_some() {
+        text.push(b'[')?;
+    }
+    Ok(first)
+}
+
+// Puts behind a tree's text a comma where there is a next sibling, and a closing bracket where there is none.
+fn put_closing<N: Drop>(next: Option<N>, text: &mut Vec<u8>) -> Result<Option<N>, AllocError>
+    ensures { IfOk result (λ r. (r ≡ next) × (text.new.items ≡ text.old.items ++ closing next)) }
+{
+    text.push(if next.is_some() { b',' } else { b']' })?;
+    Ok(next)
+}
+
+// Puts the label of a node behind a text, and an opening bracket where it has children: the first of these.
+fn open_tree<W: Walker, S: Sources>(
+    alloc: Global,
+    s: &mut S,
+    walker: &mut W,
+    n: &W::Node,
+    text: &mut Vec<u8>,
+) -> Result<Option<W::Node>, WalkFault>
+    requires ready { (W.means (S.view s.old) walker.old).IsReady }
+    requires node { (W.means (S.view s.old) walker.old).IsNode n.now }
+    ensures came { S.came_from s.new s.old }
+    ensures kept { W.keeps (S.view s.old) walker.old (S.view s.new) walker.new }
+    ensures there { IsThere (W.means (S.view s.old) walker.old) n.now }
+    ensures walked { let m = W.means (S.view s.old) walker.old in
+        Walked m (W.means (S.view s.new) walker.new) (S.view s.old) (S.view s.new) n.now (λ toll t p. toll Down p) result }
+    ensures text { let m = W.means (S.view s.old) walker.old in let m' = W.means (S.view s.new) walker.new in
+        IfOk result (OpensTree m m' n.now text.old.items text.new.items) }
+{
+    push_label(text, walker.read_label(n))?;
+    let first = step(alloc, s, walker, Way::Down, n)?;
+    Ok(put_opening(first, text)?)
+}
+
+// The next sibling of a node; a comma was put behind a text where there is one, and a closing bracket where there is none.
+fn next_tree<W: Walker, S: Sources>(
+    alloc: Global,
+    s: &mut S,
+    walker: &mut W,
+    n: &W::Node,
+    text: &mut Vec<u8>,
+) -> Result<Option<W::Node>, WalkFault>
+    requires ready { (W.means (S.view s.old) walker.old).IsReady }
+    requires node { (W.means (S.view s.old) walker.old).IsNode n.now }
+    ensures came { S.came_from s.new s.old }
+    ensures kept { W.keeps (S.view s.old) walker.old (S.view s.new) walker.new }
+    ensures walked { let m = W.means (S.view s.old) walker.old in
+        Walked m (W.means (S.view s.new) walker.new) (S.view s.old) (S.view s.new) n.now (λ toll t p. toll Right p) result }
+    ensures text { let m = W.means (S.view s.old) walker.old in let m' = W.means (S.view s.new) walker.new in
+        IfOk result (λ r. (text.new.items ≡ text.old.items ++ closing r) × IsStepTo m m' Right n.now r) }
+{
+    let next = step(alloc, s, walker, Way::Right, n)?;
+    Ok(put_closing(next, text)?)
+}
+
 // Puts the canonical text of the subtree of a node behind a text.
 #[cycle(printing)]
 fn print_tree<W: Walker, S: Sources>(
@@ -50,23 +113,41 @@ fn print_tree<W: Walker, S: Sources>(
     requires node { (W.means (S.view s.old) walker.old).IsNode n.now }
     ensures came { S.came_from s.new s.old }
     ensures kept { W.keeps (S.view s.old) walker.old (S.view s.new) walker.new }
-    ensures stays { Stays (W.means (S.view s.old) walker.old) (W.means (S.view s.new) walker.new) }
     ensures there { IsThere (W.means (S.view s.old) walker.old) n.now }
-    ensures text { OnOk result (PrintsTree (W.means (S.view s.old) walker.old) n.now text.old.items text.new.items) }
-    ensures cause { let m = W.means (S.view s.old) walker.old in FailsBy m.course.MayFail (S.view s.old).faults (S.view s.new).faults result }
-    ensures cost { CostsOn (W.means (S.view s.old) walker.old) n.now (S.view s.old).fills (S.view s.new).fills print_toll }
+    ensures walked { let m = W.means (S.view s.old) walker.old in
+        Walked m (W.means (S.view s.new) walker.new) (S.view s.old) (S.view s.new) n.now print_toll result }
+    ensures text { let m = W.means (S.view s.old) walker.old in OnOk result (PrintsTree m n.now text.old.items text.new.items) }
 {
-    push_label(text, walker.read_label(n))?;
-    let Some(first) = step(alloc, s, walker, Way::Down, n)? else {
-        return Ok(());
-    };
-    text.push(b'[')?;
-    print_trees(alloc, s, walker, first, text)?;
-    text.push(b']')?;
-    Ok(())
+    match open_tree(alloc, s, walker, n, text)? {
+        Some(first) => print_trees(alloc, s, walker, first, text),
+        None => Ok(()),
+    }
 }
 
-// Puts the texts of the subtrees of a node and of its later siblings behind a text, with commas between them.
+// Puts the text of the subtree of a node behind a text, and what stands behind it: its next sibling.
+#[cycle(printing)]
+fn print_one<W: Walker, S: Sources>(
+    alloc: Global,
+    s: &mut S,
+    walker: &mut W,
+    n: &W::Node,
+    text: &mut Vec<u8>,
+) -> Result<Option<W::Node>, WalkFault>
+    requires ready { (W.means (S.view s.old) walker.old).IsReady }
+    requires node { (W.means (S.view s.old) walker.old).IsNode n.now }
+    ensures came { S.came_from s.new s.old }
+    ensures kept { W.keeps (S.view s.old) walker.old (S.view s.new) walker.new }
+    ensures there { IsThere (W.means (S.view s.old) walker.old) n.now }
+    ensures walked { let m = W.means (S.view s.old) walker.old in
+        Walked m (W.means (S.view s.new) walker.new) (S.view s.old) (S.view s.new) n.now one_toll result }
+    ensures text { let m = W.means (S.view s.old) walker.old in let m' = W.means (S.view s.new) walker.new in
+        IfOk result (PrintsOne m m' n.now text.old.items text.new.items) }
+{
+    print_tree(alloc, s, walker, n, text)?;
+    next_tree(alloc, s, walker, n, text)
+}
+
+// Puts the texts of the subtrees of a node and of its later siblings behind a text, with commas between them and a closing bracket.
 #[cycle(printing)]
 fn print_trees<W: Walker, S: Sources>(
     alloc: Global,
@@ -79,19 +160,16 @@ fn print_trees<W: Walker, S: Sources>(
     requires node { (W.means (S.view s.old) walker.old).IsNode first }
     ensures came { S.came_from s.new s.old }
     ensures kept { W.keeps (S.view s.old) walker.old (S.view s.new) walker.new }
-    ensures stays { Stays (W.means (S.view s.old) walker.old) (W.means (S.view s.new) walker.new) }
-    ensures text { OnOk result (PrintsTrees (W.means (S.view s.old) walker.old) first text.old.items text.new.items) }
-    ensures cause { let m = W.means (S.view s.old) walker.old in FailsBy m.course.MayFail (S.view s.old).faults (S.view s.new).faults result }
-    ensures cost { CostsOn (W.means (S.view s.old) walker.old) first (S.view s.old).fills (S.view s.new).fills siblings_toll }
+    ensures walked { let m = W.means (S.view s.old) walker.old in
+        Walked m (W.means (S.view s.new) walker.new) (S.view s.old) (S.view s.new) first siblings_toll result }
+    ensures text { let m = W.means (S.view s.old) walker.old in OnOk result (PrintsBelow m first text.old.items text.new.items) }
 {
     let mut node = first;
     'trees: loop {
-        print_tree(alloc, s, walker, &node, text)?;
-        let Some(next) = step(alloc, s, walker, Way::Right, &node)? else {
-            return Ok(());
-        };
-        text.push(b',')?;
-        node = next;
+        match print_one(alloc, s, walker, &node, text)? {
+            Some(next) => node = next,
+            None => return Ok(()),
+        }
     }
 }
 

@@ -1,135 +1,219 @@
-use Rattle.std.proofs.Common.{rules, Some, None, refl, subst}
+use Rattle.std.proofs.Common.{rules, Some, None, subst}
+use Rattle.std.proofs.lemmas.Result.{IfOk-weaker}
 use Rattle.lxp_core.specs.View.{Keeps}
-use Rattle.mix_script.specs.declared.step.Way.TheVariants.{Down, Right}
-use Rattle.mix_session.specs.Printing.{IsStepTo}
+use Rattle.mix_script.specs.declared.step.Way.TheVariants.{Right}
+use Rattle.mix_session.specs.Printing.{OpensTree, PrintsOne}
 use Rattle.mix_session.proofs.Walking.{stays_same, stays_twice, fails_before}
-use Rattle.mix_session.proofs.Prints.{prints_leaf, prints_node, node_costs, printed_start, printed_costs, right_costs, printed_all, printed_more}
+use Rattle.mix_session.proofs.Prints.{down_costs, opened_leaf, opened_below, node_costs, tree_costs, one_costs, step_later, printed_start, printed_costs, printed_all, printed_more}
 use Rattle.mix_session.proofs.printing.+printing.Goals as goal
 
-pub print_tree-returns-in_default-clause-text : goal.print_tree-returns-in_default-clause-text
-print_tree-returns-in_default-clause-text g t c =
+pub print_tree-returns-in_err-first-clause-walked : goal.print_tree-returns-in_err-first-clause-walked
+print_tree-returns-in_err-first-clause-walked g t c =
     let view = g.S.Sources.view in
-    let m = g.W.Walker.means (view c.args.s.now) c.args.walker.now in
-    let m' = g.W.Walker.means (view c.step.new.s) c.step.new.walker in
-    let none : IsStepTo m m' Down c.args.n.now None = subst (IsStepTo m m' Down c.args.n.now) c.in_default.is c.in_ok-first.ensures.found in
-    prints_leaf m c.args.n.now m' c.read_label.result.now c.args.text.now.items c.push_label.new.out.items c.push_label.new.out.items (c.read_label.ensures (view c.args.s.now) c.requires.ready) none
-    c.in_ok-push_label.ensures refl
+    let means = g.W.Walker.means in
+    let m = means (view c.args.s.now) c.args.walker.now in
+    let ran = c.open_tree.ensures.walked in
+    let m' = means (view c.open_tree.new.s) c.open_tree.new.walker in
+    record {
+      stays = ran.stays;
+      cause = let here = ran.cause in search rules;
+      cost = down_costs m c.args.n.now (view c.args.s.now).fills (view c.open_tree.new.s).fills ran.cost;
+    }
 
-pub print_tree-returns-in_err-print_trees-clause-cost : goal.print_tree-returns-in_err-print_trees-clause-cost
-print_tree-returns-in_err-print_trees-clause-cost g t c =
+pub print_tree-returns-in-None-clause-walked : goal.print_tree-returns-in-None-clause-walked
+print_tree-returns-in-None-clause-walked g t c =
     let view = g.S.Sources.view in
-    let m = g.W.Walker.means (view c.args.s.now) c.args.walker.now in
-    let m' = g.W.Walker.means (view c.step.new.s) c.step.new.walker in
-    let some : IsStepTo m m' Down c.args.n.now (Some c.in-Some.first) = subst (IsStepTo m m' Down c.args.n.now) c.in-Some.is c.in_ok-first.ensures.found in
-    node_costs m c.args.n.now m' c.in-Some.first c.step.ensures.stays some (view c.args.s.now).fills (view c.step.new.s).fills (view c.print_trees.new.s).fills c.step.ensures.cost c.print_trees.ensures.cost
+    let means = g.W.Walker.means in
+    let m = means (view c.args.s.now) c.args.walker.now in
+    let ran = c.open_tree.ensures.walked in
+    let m' = means (view c.open_tree.new.s) c.open_tree.new.walker in
+    record { stays = ran.stays; cause = tt; cost = down_costs m c.args.n.now (view c.args.s.now).fills (view c.open_tree.new.s).fills ran.cost }
 
-pub print_tree-returns-in_err-push-2-clause-cost : goal.print_tree-returns-in_err-push-2-clause-cost
-print_tree-returns-in_err-push-2-clause-cost g t c =
+pub print_tree-returns-in-None-clause-text : goal.print_tree-returns-in-None-clause-text
+print_tree-returns-in-None-clause-text g t c =
     let view = g.S.Sources.view in
-    let m = g.W.Walker.means (view c.args.s.now) c.args.walker.now in
-    let m' = g.W.Walker.means (view c.step.new.s) c.step.new.walker in
-    let some : IsStepTo m m' Down c.args.n.now (Some c.in-Some.first) = subst (IsStepTo m m' Down c.args.n.now) c.in-Some.is c.in_ok-first.ensures.found in
-    node_costs m c.args.n.now m' c.in-Some.first c.step.ensures.stays some (view c.args.s.now).fills (view c.step.new.s).fills (view c.print_trees.new.s).fills c.step.ensures.cost c.print_trees.ensures.cost
+    let means = g.W.Walker.means in
+    let m = means (view c.args.s.now) c.args.walker.now in
+    let ran = c.open_tree.ensures.walked in
+    let m' = means (view c.open_tree.new.s) c.open_tree.new.walker in
+    opened_leaf m c.args.n.now m' c.args.text.now.items c.open_tree.new.text.items
+    (subst (OpensTree m m' c.args.n.now c.args.text.now.items c.open_tree.new.text.items) c.in-None.is c.in_ok-first.ensures.text)
 
-pub print_tree-returns-clause-cost : goal.print_tree-returns-clause-cost
-print_tree-returns-clause-cost g t c =
+pub print_tree-returns-in-Some-clause-walked : goal.print_tree-returns-in-Some-clause-walked
+print_tree-returns-in-Some-clause-walked g t c =
     let view = g.S.Sources.view in
-    let m = g.W.Walker.means (view c.args.s.now) c.args.walker.now in
-    let m' = g.W.Walker.means (view c.step.new.s) c.step.new.walker in
-    let some : IsStepTo m m' Down c.args.n.now (Some c.in-Some.first) = subst (IsStepTo m m' Down c.args.n.now) c.in-Some.is c.in_ok-first.ensures.found in
-    node_costs m c.args.n.now m' c.in-Some.first c.step.ensures.stays some (view c.args.s.now).fills (view c.step.new.s).fills (view c.print_trees.new.s).fills c.step.ensures.cost c.print_trees.ensures.cost
+    let means = g.W.Walker.means in
+    let m = means (view c.args.s.now) c.args.walker.now in
+    let ran = c.open_tree.ensures.walked in
+    let m' = means (view c.open_tree.new.s) c.open_tree.new.walker in
+    let some : OpensTree m m' c.args.n.now c.args.text.now.items c.open_tree.new.text.items (Some c.in-Some.first) =
+    subst (OpensTree m m' c.args.n.now c.args.text.now.items c.open_tree.new.text.items) c.in-Some.is c.in_ok-first.ensures.text in
+    let below = c.print_trees.ensures.walked in
+    let m'' = means (view c.print_trees.new.s) c.print_trees.new.walker in
+    let keeps : Keeps (view c.open_tree.new.s) (view c.args.s.now) = g.met.S.Sources.keeps _ _ c.open_tree.ensures.came in
+    record {
+      stays = stays_twice {m = m} {m' = m'} {m'' = m''} ran.stays below.stays;
+      cause = fails_before {m = m} {m' = m'} ran.stays (view c.args.s.now).faults (view c.open_tree.new.s).faults (view c.print_trees.new.s).faults keeps.faults c.print_trees.result below.cause;
+      cost = node_costs m c.args.n.now m' c.in-Some.first ran.stays some.step (view c.args.s.now).fills (view c.open_tree.new.s).fills (view c.print_trees.new.s).fills ran.cost below.cost;
+    }
 
-pub print_tree-returns-clause-text : goal.print_tree-returns-clause-text
-print_tree-returns-clause-text g t c =
+pub print_tree-returns-in-Some-clause-text : goal.print_tree-returns-in-Some-clause-text
+print_tree-returns-in-Some-clause-text g t c =
     let view = g.S.Sources.view in
-    let m = g.W.Walker.means (view c.args.s.now) c.args.walker.now in
-    let m' = g.W.Walker.means (view c.step.new.s) c.step.new.walker in
-    let some : IsStepTo m m' Down c.args.n.now (Some c.in-Some.first) = subst (IsStepTo m m' Down c.args.n.now) c.in-Some.is c.in_ok-first.ensures.found in
-    prints_node m c.args.n.now m' c.in-Some.first c.step.ensures.stays some c.read_label.result.now c.args.text.now.items c.push_label.new.out.items c.push.new.self.items c.print_trees.new.text.items c.push-2.new.self.items
-    (c.read_label.ensures (view c.args.s.now) c.requires.ready) c.in_ok-push_label.ensures c.in_ok-push.ensures.items c.in_ok-print_trees.ensures.text c.in_ok-push-2.ensures.items
+    let means = g.W.Walker.means in
+    let m = means (view c.args.s.now) c.args.walker.now in
+    let ran = c.open_tree.ensures.walked in
+    let m' = means (view c.open_tree.new.s) c.open_tree.new.walker in
+    let some : OpensTree m m' c.args.n.now c.args.text.now.items c.open_tree.new.text.items (Some c.in-Some.first) =
+    subst (OpensTree m m' c.args.n.now c.args.text.now.items c.open_tree.new.text.items) c.in-Some.is c.in_ok-first.ensures.text in
+    opened_below m c.args.n.now m' c.in-Some.first ran.stays some.step c.args.text.now.items c.open_tree.new.text.items c.print_trees.new.text.items c.print_trees.result some c.print_trees.ensures.text
+
+pub print_one-returns-in_err-print_tree-clause-walked : goal.print_one-returns-in_err-print_tree-clause-walked
+print_one-returns-in_err-print_tree-clause-walked g t c =
+    let view = g.S.Sources.view in
+    let means = g.W.Walker.means in
+    let m = means (view c.args.s.now) c.args.walker.now in
+    let ran = c.print_tree.ensures.walked in
+    record {
+      stays = ran.stays;
+      cause = let here = ran.cause in search rules;
+      cost = tree_costs m c.args.n.now (view c.args.s.now).fills (view c.print_tree.new.s).fills ran.cost;
+    }
+
+pub print_one-returns-clause-walked : goal.print_one-returns-clause-walked
+print_one-returns-clause-walked g t c =
+    let view = g.S.Sources.view in
+    let means = g.W.Walker.means in
+    let m = means (view c.args.s.now) c.args.walker.now in
+    let ran = c.print_tree.ensures.walked in
+    let next = c.next_tree.ensures.walked in
+    let m' = means (view c.print_tree.new.s) c.print_tree.new.walker in
+    let m'' = means (view c.next_tree.new.s) c.next_tree.new.walker in
+    let keeps : Keeps (view c.print_tree.new.s) (view c.args.s.now) = g.met.S.Sources.keeps _ _ c.print_tree.ensures.came in
+    record {
+      stays = stays_twice {m = m} {m' = m'} {m'' = m''} ran.stays next.stays;
+      cause = fails_before {m = m} {m' = m'} ran.stays (view c.args.s.now).faults (view c.print_tree.new.s).faults (view c.next_tree.new.s).faults keeps.faults c.next_tree.result next.cause;
+      cost = one_costs m m' c.args.n.now (view c.args.s.now).fills (view c.print_tree.new.s).fills (view c.next_tree.new.s).fills ran.stays ran.cost next.cost;
+    }
+
+pub print_one-returns-clause-text : goal.print_one-returns-clause-text
+print_one-returns-clause-text g t c =
+    let view = g.S.Sources.view in
+    let means = g.W.Walker.means in
+    let m = means (view c.args.s.now) c.args.walker.now in
+    let ran = c.print_tree.ensures.walked in
+    let next = c.next_tree.ensures.walked in
+    let m' = means (view c.print_tree.new.s) c.print_tree.new.walker in
+    let m'' = means (view c.next_tree.new.s) c.next_tree.new.walker in
+    IfOk-weaker c.next_tree.result _ _
+    (λ r is. record {
+      inner = c.print_tree.new.text.items;
+      tree = c.in_ok-print_tree.ensures.text;
+      text = is.0;
+      step = step_later m m' m'' Right c.args.n.now r ran.stays c.requires.node is.1;
+    }) c.next_tree.ensures.text
 
 pub print_trees-trees-init : goal.print_trees-trees-init
 print_trees-trees-init g t c =
     let view = g.S.Sources.view in
-    let m = g.W.Walker.means (view c.args.s.now) c.args.walker.now in
+    let means = g.W.Walker.means in
+    let m = means (view c.args.s.now) c.args.walker.now in
     record {
       came = g.met.S.Sources.same _;
       kept = g.met.W.Walker.same _ _;
       printed = printed_start m c.args.first (view c.args.s.now).fills c.args.text.now.items (stays_same m c.requires.ready) c.requires.node;
     }
 
-pub print_trees-returns-in_err-print_tree-clause-cost : goal.print_trees-returns-in_err-print_tree-clause-cost
-print_trees-returns-in_err-print_tree-clause-cost g t c =
+pub print_trees-returns-in_err-next-clause-walked : goal.print_trees-returns-in_err-next-clause-walked
+print_trees-returns-in_err-next-clause-walked g t c =
     let view = g.S.Sources.view in
     let means = g.W.Walker.means in
-    let ran = c.print_tree.ensures in
-    printed_costs (means (view c.args.s.now) c.args.walker.now) (means (view c.trees.s) c.trees.walker) (means (view c.print_tree.new.s) c.print_tree.new.walker) c.args.first c.trees.node
-    (view c.args.s.now).fills (view c.trees.s).fills (view c.print_tree.new.s).fills c.args.text.now.items c.trees.text.items c.trees.invariant.printed ran.stays ran.there ran.cost
+    let m = means (view c.args.s.now) c.args.walker.now in
+    let so = c.trees.invariant.printed in
+    let ran = c.print_one.ensures.walked in
+    let there = c.print_one.ensures.there in
+    let m' = means (view c.trees.s) c.trees.walker in
+    let m3 = means (view c.print_one.new.s) c.print_one.new.walker in
+    let keeps : Keeps (view c.trees.s) (view c.args.s.now) = g.met.S.Sources.keeps _ _ c.trees.invariant.came in
+    let cause = fails_before {m = m} {m' = m'} so.stays (view c.args.s.now).faults (view c.trees.s).faults (view c.print_one.new.s).faults keeps.faults c.print_one.result ran.cause in
+    record {
+      stays = stays_twice {m = m} {m' = m'} {m'' = m3} so.stays ran.stays;
+      cause = search rules;
+      cost = printed_costs m m' m3 c.args.first c.trees.node (view c.args.s.now).fills (view c.trees.s).fills (view c.print_one.new.s).fills c.args.text.now.items c.trees.text.items so ran.stays there ran.cost;
+    }
 
-pub print_trees-returns-in_err-next-clause-cause : goal.print_trees-returns-in_err-next-clause-cause
-print_trees-returns-in_err-next-clause-cause g t c =
-    let view = g.S.Sources.view in
-    let both = stays_twice c.trees.invariant.printed.stays c.print_tree.ensures.stays in
-    let came = g.met.S.Sources.after _ _ _ c.trees.invariant.came c.print_tree.ensures.came in
-    let keeps : Keeps (view c.print_tree.new.s) (view c.args.s.now) = g.met.S.Sources.keeps _ _ came in
-    let here = fails_before both (view c.args.s.now).faults (view c.print_tree.new.s).faults (view c.step.new.s).faults keeps.faults c.step.result c.step.ensures.cause in
-    search rules
-
-pub print_trees-returns-in_err-next-clause-cost : goal.print_trees-returns-in_err-next-clause-cost
-print_trees-returns-in_err-next-clause-cost g t c =
-    let view = g.S.Sources.view in
-    let means = g.W.Walker.means in
-    let ran = c.print_tree.ensures in
-    right_costs (means (view c.args.s.now) c.args.walker.now) (means (view c.trees.s) c.trees.walker) (means (view c.print_tree.new.s) c.print_tree.new.walker) c.args.first c.trees.node
-    (view c.args.s.now).fills (view c.trees.s).fills (view c.print_tree.new.s).fills c.args.text.now.items c.trees.text.items c.trees.invariant.printed ran.stays ran.there ran.cost
-    (view c.step.new.s).fills (means (view c.step.new.s) c.step.new.walker) c.step.ensures.stays c.step.ensures.cost
-
-pub print_trees-returns-in_default-clause-cost : goal.print_trees-returns-in_default-clause-cost
-print_trees-returns-in_default-clause-cost g t c =
+pub print_trees-returns-in-None-clause-walked : goal.print_trees-returns-in-None-clause-walked
+print_trees-returns-in-None-clause-walked g t c =
     let view = g.S.Sources.view in
     let means = g.W.Walker.means in
-    let ran = c.print_tree.ensures in
-    right_costs (means (view c.args.s.now) c.args.walker.now) (means (view c.trees.s) c.trees.walker) (means (view c.print_tree.new.s) c.print_tree.new.walker) c.args.first c.trees.node
-    (view c.args.s.now).fills (view c.trees.s).fills (view c.print_tree.new.s).fills c.args.text.now.items c.trees.text.items c.trees.invariant.printed ran.stays ran.there ran.cost
-    (view c.step.new.s).fills (means (view c.step.new.s) c.step.new.walker) c.step.ensures.stays c.step.ensures.cost
+    let m = means (view c.args.s.now) c.args.walker.now in
+    let so = c.trees.invariant.printed in
+    let ran = c.print_one.ensures.walked in
+    let there = c.print_one.ensures.there in
+    let m' = means (view c.trees.s) c.trees.walker in
+    let m3 = means (view c.print_one.new.s) c.print_one.new.walker in
+    record {
+      stays = stays_twice {m = m} {m' = m'} {m'' = m3} so.stays ran.stays;
+      cause = tt;
+      cost = printed_costs m m' m3 c.args.first c.trees.node (view c.args.s.now).fills (view c.trees.s).fills (view c.print_one.new.s).fills c.args.text.now.items c.trees.text.items so ran.stays there ran.cost;
+    }
 
-pub print_trees-returns-in_err-push-clause-cost : goal.print_trees-returns-in_err-push-clause-cost
-print_trees-returns-in_err-push-clause-cost g t c =
+pub print_trees-returns-in-None-clause-text : goal.print_trees-returns-in-None-clause-text
+print_trees-returns-in-None-clause-text g t c =
     let view = g.S.Sources.view in
     let means = g.W.Walker.means in
-    let ran = c.print_tree.ensures in
-    right_costs (means (view c.args.s.now) c.args.walker.now) (means (view c.trees.s) c.trees.walker) (means (view c.print_tree.new.s) c.print_tree.new.walker) c.args.first c.trees.node
-    (view c.args.s.now).fills (view c.trees.s).fills (view c.print_tree.new.s).fills c.args.text.now.items c.trees.text.items c.trees.invariant.printed ran.stays ran.there ran.cost
-    (view c.step.new.s).fills (means (view c.step.new.s) c.step.new.walker) c.step.ensures.stays c.step.ensures.cost
-
-pub print_trees-returns-in_err-push-clause-kept : goal.print_trees-returns-in_err-push-clause-kept
-print_trees-returns-in_err-push-clause-kept g t c =
-    g.met.W.Walker.twice _ _ _ _ _ _ (g.met.W.Walker.twice _ _ _ _ _ _ c.trees.invariant.kept c.print_tree.ensures.kept) c.step.ensures.kept
-
-pub print_trees-returns-in_default-clause-text : goal.print_trees-returns-in_default-clause-text
-print_trees-returns-in_default-clause-text g t c =
-    let view = g.S.Sources.view in
-    let means = g.W.Walker.means in
-    let ran = c.print_tree.ensures in
-    let m'' = means (view c.print_tree.new.s) c.print_tree.new.walker in
-    let m3 = means (view c.step.new.s) c.step.new.walker in
-    let none : IsStepTo m'' m3 Right c.trees.node None = subst (IsStepTo m'' m3 Right c.trees.node) c.in_default.is c.in_ok-next.ensures.found in
-    printed_all (means (view c.args.s.now) c.args.walker.now) (means (view c.trees.s) c.trees.walker) m'' c.args.first c.trees.node
-    (view c.args.s.now).fills (view c.trees.s).fills (view c.print_tree.new.s).fills c.args.text.now.items c.trees.text.items c.trees.invariant.printed ran.stays ran.there ran.cost
-    (view c.step.new.s).fills m3 c.step.ensures.stays c.step.ensures.cost c.print_tree.new.text.items c.in_ok-print_tree.ensures.text none
+    let m = means (view c.args.s.now) c.args.walker.now in
+    let so = c.trees.invariant.printed in
+    let ran = c.print_one.ensures.walked in
+    let there = c.print_one.ensures.there in
+    let m' = means (view c.trees.s) c.trees.walker in
+    let m3 = means (view c.print_one.new.s) c.print_one.new.walker in
+    let one : PrintsOne m' m3 c.trees.node c.trees.text.items c.print_one.new.text.items None =
+    subst (PrintsOne m' m3 c.trees.node c.trees.text.items c.print_one.new.text.items) c.in-None.is c.in_ok-next.ensures.text in
+    record {
+      inner = one.inner;
+      trees = printed_all m m' m3 c.args.first c.trees.node (view c.args.s.now).fills (view c.trees.s).fills (view c.print_one.new.s).fills c.args.text.now.items c.trees.text.items so ran.stays there ran.cost one.inner one.tree one.step;
+      text = one.text;
+    }
 
 pub print_trees-trees-preserved : goal.print_trees-trees-preserved
 print_trees-trees-preserved g t c =
     let view = g.S.Sources.view in
     let means = g.W.Walker.means in
-    let ran = c.print_tree.ensures in
-    let m'' = means (view c.print_tree.new.s) c.print_tree.new.walker in
-    let m3 = means (view c.step.new.s) c.step.new.walker in
-    let some : IsStepTo m'' m3 Right c.trees.node (Some c.in-Some.next) = subst (IsStepTo m'' m3 Right c.trees.node) c.in-Some.is c.in_ok-next.ensures.found in
+    let m = means (view c.args.s.now) c.args.walker.now in
+    let so = c.trees.invariant.printed in
+    let ran = c.print_one.ensures.walked in
+    let there = c.print_one.ensures.there in
+    let m' = means (view c.trees.s) c.trees.walker in
+    let m3 = means (view c.print_one.new.s) c.print_one.new.walker in
+    let one : PrintsOne m' m3 c.trees.node c.trees.text.items c.print_one.new.text.items (Some c.in-Some.next) =
+    subst (PrintsOne m' m3 c.trees.node c.trees.text.items c.print_one.new.text.items) c.in-Some.is c.in_ok-next.ensures.text in
     record {
-      came = g.met.S.Sources.after _ _ _ (g.met.S.Sources.after _ _ _ c.trees.invariant.came ran.came) c.step.ensures.came;
-      kept = g.met.W.Walker.twice _ _ _ _ _ _ (g.met.W.Walker.twice _ _ _ _ _ _ c.trees.invariant.kept ran.kept) c.step.ensures.kept;
-      printed = printed_more (means (view c.args.s.now) c.args.walker.now) (means (view c.trees.s) c.trees.walker) m'' c.args.first c.trees.node
-          (view c.args.s.now).fills (view c.trees.s).fills (view c.print_tree.new.s).fills c.args.text.now.items c.trees.text.items c.trees.invariant.printed ran.stays ran.there ran.cost
-          (view c.step.new.s).fills m3 c.step.ensures.stays c.step.ensures.cost c.print_tree.new.text.items c.in_ok-print_tree.ensures.text c.in-Some.next some c.push.new.self.items c.in_ok-push.ensures.items;
+      came = g.met.S.Sources.after _ _ _ c.trees.invariant.came c.print_one.ensures.came;
+      kept = g.met.W.Walker.twice _ _ _ _ _ _ c.trees.invariant.kept c.print_one.ensures.kept;
+      printed = printed_more m m' m3 c.args.first c.trees.node (view c.args.s.now).fills (view c.trees.s).fills (view c.print_one.new.s).fills c.args.text.now.items c.trees.text.items so ran.stays there ran.cost one.inner one.tree c.in-Some.next one.step c.print_one.new.text.items one.text;
     }
+
+pub print_tree-returns-in-Some-clause-came : goal.print_tree-returns-in-Some-clause-came
+print_tree-returns-in-Some-clause-came g t c = g.met.S.Sources.after _ _ _ c.open_tree.ensures.came c.print_trees.ensures.came
+
+pub print_tree-returns-in-Some-clause-kept : goal.print_tree-returns-in-Some-clause-kept
+print_tree-returns-in-Some-clause-kept g t c = g.met.W.Walker.twice _ _ _ _ _ _ c.open_tree.ensures.kept c.print_trees.ensures.kept
+
+pub print_one-returns-clause-came : goal.print_one-returns-clause-came
+print_one-returns-clause-came g t c = g.met.S.Sources.after _ _ _ c.print_tree.ensures.came c.next_tree.ensures.came
+
+pub print_one-returns-clause-kept : goal.print_one-returns-clause-kept
+print_one-returns-clause-kept g t c = g.met.W.Walker.twice _ _ _ _ _ _ c.print_tree.ensures.kept c.next_tree.ensures.kept
+
+pub print_trees-returns-in_err-next-clause-came : goal.print_trees-returns-in_err-next-clause-came
+print_trees-returns-in_err-next-clause-came g t c = g.met.S.Sources.after _ _ _ c.trees.invariant.came c.print_one.ensures.came
+
+pub print_trees-returns-in_err-next-clause-kept : goal.print_trees-returns-in_err-next-clause-kept
+print_trees-returns-in_err-next-clause-kept g t c = g.met.W.Walker.twice _ _ _ _ _ _ c.trees.invariant.kept c.print_one.ensures.kept
+
+pub print_trees-returns-in-None-clause-came : goal.print_trees-returns-in-None-clause-came
+print_trees-returns-in-None-clause-came g t c = g.met.S.Sources.after _ _ _ c.trees.invariant.came c.print_one.ensures.came
+
+pub print_trees-returns-in-None-clause-kept : goal.print_trees-returns-in-None-clause-kept
+print_trees-returns-in-None-clause-kept g t c = g.met.W.Walker.twice _ _ _ _ _ _ c.trees.invariant.kept c.print_one.ensures.kept

@@ -3,10 +3,13 @@ use Rattle.mix_session.proofs.Prints.{ArePrinted}
 use Rattle.mix_session.proofs.printing.+printing.Given as goal
 
 abbrev pub decreases-print_tree : goal.decreases-print_tree
-decreases-print_tree g l = 2 * (g.W.Walker.means (g.S.Sources.view l.s.now) l.walker.now).height l.n.now
+decreases-print_tree g l = 3 * (g.W.Walker.means (g.S.Sources.view l.s.now) l.walker.now).height l.n.now
+
+abbrev pub decreases-print_one : goal.decreases-print_one
+decreases-print_one g l = 3 * (g.W.Walker.means (g.S.Sources.view l.s.now) l.walker.now).height l.n.now + 1
 
 abbrev pub decreases-print_trees : goal.decreases-print_trees
-decreases-print_trees g l = 2 * (g.W.Walker.means (g.S.Sources.view l.s.now) l.walker.now).height l.first + 1
+decreases-print_trees g l = 3 * (g.W.Walker.means (g.S.Sources.view l.s.now) l.walker.now).height l.first + 2
 
 abbrev pub invariant-print_trees-trees : goal.invariant-print_trees-trees
 invariant-print_trees-trees g l =

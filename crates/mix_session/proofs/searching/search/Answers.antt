@@ -1,6 +1,7 @@
 use Rattle.std.proofs.Common.{◌≡◌, ◌∙◌, false, sym}
 use Rattle.std.specs.Str.{bytes_eq}
 use Rattle.lxp_core.specs.View.{Keeps}
+use Rattle.mix_session.proofs.Walking.{stays_twice}
 use Rattle.mix_session.proofs.Searches.{sought_found, sought_costs, more_costs, sought_more, sought_none}
 use Rattle.mix_session.proofs.searching.search.Goals as goal
 
@@ -85,3 +86,30 @@ returns-in-None-clause-found g c =
     let keeps : Keeps (view c.siblings.s) (view c.args.s.now) = g.met.S.Sources.keeps _ _ c.siblings.invariant.came in
     sought_none m c.args.label.now c.args.first m' (view c.args.s.now).fills (view c.siblings.s).fills c.siblings.node so c.read_label.result.now reads m'' (view c.seek.new.s).fills other c.seek.ensures.stays
     c.seek.ensures.toll (view c.args.s.now).faults (view c.siblings.s).faults (view c.seek.new.s).faults keeps.faults c.in_ok-next.field-0 c.in_ok-next.ensures.found c.in-None.is
+
+pub returns-in_err-next-clause-came : goal.returns-in_err-next-clause-came
+returns-in_err-next-clause-came g c = g.met.S.Sources.after _ _ _ c.siblings.invariant.came c.seek.ensures.came
+
+pub returns-in_err-next-clause-kept : goal.returns-in_err-next-clause-kept
+returns-in_err-next-clause-kept g c = g.met.W.Walker.twice _ _ _ _ _ _ c.siblings.invariant.kept c.seek.ensures.kept
+
+pub returns-in_err-next-clause-stays : goal.returns-in_err-next-clause-stays
+returns-in_err-next-clause-stays g c = stays_twice c.siblings.invariant.sought.stays c.seek.ensures.stays
+
+pub returns-in-None-clause-came : goal.returns-in-None-clause-came
+returns-in-None-clause-came g c = g.met.S.Sources.after _ _ _ c.siblings.invariant.came c.seek.ensures.came
+
+pub returns-in-None-clause-kept : goal.returns-in-None-clause-kept
+returns-in-None-clause-kept g c = g.met.W.Walker.twice _ _ _ _ _ _ c.siblings.invariant.kept c.seek.ensures.kept
+
+pub returns-in-None-clause-stays : goal.returns-in-None-clause-stays
+returns-in-None-clause-stays g c = stays_twice c.siblings.invariant.sought.stays c.seek.ensures.stays
+
+pub returns-in-Fault-clause-came : goal.returns-in-Fault-clause-came
+returns-in-Fault-clause-came g c = g.met.S.Sources.after _ _ _ c.siblings.invariant.came c.seek.ensures.came
+
+pub returns-in-Fault-clause-kept : goal.returns-in-Fault-clause-kept
+returns-in-Fault-clause-kept g c = g.met.W.Walker.twice _ _ _ _ _ _ c.siblings.invariant.kept c.seek.ensures.kept
+
+pub returns-in-Fault-clause-stays : goal.returns-in-Fault-clause-stays
+returns-in-Fault-clause-stays g c = stays_twice c.siblings.invariant.sought.stays c.seek.ensures.stays

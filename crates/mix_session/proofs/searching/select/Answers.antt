@@ -1,5 +1,6 @@
 use Rattle.std.proofs.lemmas.Result.{IfOk-weaker}
 use Rattle.lxp_core.specs.View.{Keeps}
+use Rattle.mix_session.proofs.Walking.{stays_twice}
 use Rattle.mix_session.proofs.Searches.{start_costs, select_none, select_found, select_costs}
 use Rattle.mix_session.proofs.searching.select.Goals as goal
 
@@ -38,3 +39,12 @@ returns-in-Node-clause-cost g c =
     let view = g.S.Sources.view in
     select_costs (g.W.Walker.means (view c.args.s.now) c.args.walker.now) (g.W.Walker.means (view c.seek.new.s) c.seek.new.self) c.args.label.now c.args.n.now (view c.args.s.now).faults (view c.seek.new.s).faults
     (view c.args.s.now).fills (view c.seek.new.s).fills c.seek.ensures.stays c.seek.ensures.toll c.in_ok-first.field-0 c.in_ok-first.ensures.found c.in-Node.first c.in-Node.is (view c.search.new.s).fills c.search.ensures.cost
+
+pub returns-in-Node-clause-came : goal.returns-in-Node-clause-came
+returns-in-Node-clause-came g c = g.met.S.Sources.after _ _ _ c.seek.ensures.came c.search.ensures.came
+
+pub returns-in-Node-clause-kept : goal.returns-in-Node-clause-kept
+returns-in-Node-clause-kept g c = g.met.W.Walker.twice _ _ _ _ _ _ c.seek.ensures.kept c.search.ensures.kept
+
+pub returns-in-Node-clause-stays : goal.returns-in-Node-clause-stays
+returns-in-Node-clause-stays g c = stays_twice c.seek.ensures.stays c.search.ensures.stays

@@ -1,7 +1,8 @@
-use Rattle.std.proofs.Common.{◌≡◌, Some, sym}
+use Rattle.std.proofs.Common.{◌≡◌, None, Some, sym}
 use Rattle.lxp_core.specs.View.{Keeps}
 use Rattle.mix_script.specs.Names.{held}
-use Rattle.mix_session.proofs.Acts.{root_taken, move_taken, select_taken, printed}
+use Rattle.mix_session.proofs.Acts.{root_taken, move_taken, select_taken, printed, no_move, no_select, no_fetch, no_print}
+use Rattle.mix_session.proofs.Walking.{stays_same}
 use Rattle.mix_session.proofs.session.Session.step.Goals as goal
 
 pub returns-in_ok-found-in-Root-clause-stepped : goal.returns-in_ok-found-in-Root-clause-stepped
@@ -48,3 +49,31 @@ returns-in-Some-get-3-clause-stepped g c =
     let here : held c.args.self.now.names c.args.step.now.client c.in-Print.from ≡ Some c.in-Some-get-3.node.now = sym (rw c.in-Some-get-3.is at c.get-in-Print.ensures) in
     rw c.in-Print.is (printed (means (view c.args.s.now) c.args.self.now.walker) (means (view c.print.new.s) c.print.new.walker) (view c.args.s.now) (view c.print.new.s) keeps.faults ran.stays
     (held c.args.self.now.names) c.requires c.args.step.now.client c.in-Print.from c.in-Some-get-3.node.now here ran.cost c.print.result ran.printed)
+
+pub returns-in_default-clause-stepped : goal.returns-in_default-clause-stepped
+returns-in_default-clause-stepped g c =
+    let v = g.S.Sources.view c.args.s.now in
+    let m = g.W.Walker.means v c.args.self.now.walker in
+    let none : held c.args.self.now.names c.args.step.now.client c.in-Move.from ≡ None = sym (rw c.in_default.is at c.get.ensures) in
+    rw c.in-Move.is (no_move m v (stays_same m c.requires.ready) (held c.args.self.now.names) c.requires c.args.step.now.client c.in-Move.from none c.in-Move.way c.in-Move.name)
+
+pub returns-in_default-get-clause-stepped : goal.returns-in_default-get-clause-stepped
+returns-in_default-get-clause-stepped g c =
+    let v = g.S.Sources.view c.args.s.now in
+    let m = g.W.Walker.means v c.args.self.now.walker in
+    let none : held c.args.self.now.names c.args.step.now.client c.in-Select.from ≡ None = sym (rw c.in_default-get.is at c.get-in-Select.ensures) in
+    rw c.in-Select.is (no_select m v (stays_same m c.requires.ready) (held c.args.self.now.names) c.requires c.args.step.now.client c.in-Select.from none c.in-Select.name c.in-Select.label)
+
+pub returns-in_default-get-2-clause-stepped : goal.returns-in_default-get-2-clause-stepped
+returns-in_default-get-2-clause-stepped g c =
+    let v = g.S.Sources.view c.args.s.now in
+    let m = g.W.Walker.means v c.args.self.now.walker in
+    let none : held c.args.self.now.names c.args.step.now.client c.in-Fetch.from ≡ None = sym (rw c.in_default-get-2.is at c.get-in-Fetch.ensures) in
+    rw c.in-Fetch.is (no_fetch m v (stays_same m c.requires.ready) (held c.args.self.now.names) c.requires c.args.step.now.client c.in-Fetch.from none)
+
+pub returns-in_default-get-3-clause-stepped : goal.returns-in_default-get-3-clause-stepped
+returns-in_default-get-3-clause-stepped g c =
+    let v = g.S.Sources.view c.args.s.now in
+    let m = g.W.Walker.means v c.args.self.now.walker in
+    let none : held c.args.self.now.names c.args.step.now.client c.in-Print.from ≡ None = sym (rw c.in_default-get-3.is at c.get-in-Print.ensures) in
+    rw c.in-Print.is (no_print m v (stays_same m c.requires.ready) (held c.args.self.now.names) c.requires c.args.step.now.client c.in-Print.from none)
