@@ -21,7 +21,8 @@ use Rattle.lazy_binding.specs.declared.position.Position.{Position}
 use Rattle.lazy_binding.specs.Bench.{IsBench}
 use Rattle.lazy_binding.specs.World.{World, docs_of, shape_reads, reads, is_told, is_forward, of_buffer, buffer_at, spot_node, IsSpotIn}
 use Rattle.lazy_binding.specs.Cursors.{IsRead, source_number}
-use Rattle.lazy_binding.specs.Reading.{spot_in, Found}
+use Rattle.lazy_binding.specs.Reading.{Found}
+use Rattle.lazy_binding.specs.Spots.{spot_in}
 use Rattle.lazy_binding.proofs.Spots.{IsSpotOf}
 
 -- what is read at an index is what is there

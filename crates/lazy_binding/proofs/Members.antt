@@ -1,20 +1,22 @@
 -- Members of a join's memo stay, and come one by one.
-use Rattle.std.proofs.Common.{◌≡◌, ℕ, suc, List, [], ◌∷◌, Option, ◌∙◌, sym, ap, subst, arith}
+use Rattle.std.proofs.Common.{◌≡◌, ℕ, suc, List, [], ◌∷◌, Option, None, Some, refl, ◌∙◌, sym, ap, subst, arith}
 use Rattle.std.specs.declared.alloc.Global.{Global}
 use Rattle.std.specs.declared.rc.Rc.{Rc}
 use Rattle.join_memo.specs.Kept.{Kept}
 use Rattle.mix_base.specs.Events.{finds, found}
-use Rattle.mix_tree.specs.Nodes.{Documents}
+use Rattle.mix_tree.specs.Nodes.{Documents, label_at}
 use Rattle.plan_core.specs.Plans.{Operator}
-use Rattle.plan_core.specs.TolledRows.{TolledRow}
+use Rattle.plan_core.specs.TolledRows.{TolledRow, row_node}
 use Rattle.plan_forms.specs.declared.link.Link.{Link}
+use Rattle.plan_forms.specs.declared.link.LinkKind.{LinkKind}
+use Rattle.plan_forms.specs.declared.link.LinkKind.TheVariants.{Label as by_label, Node as by_node}
 use Rattle.lazy_binding.specs.declared.position.Position.{Position, Start}
 use Rattle.lazy_binding.specs.Bench.{IsBench, HasMembers}
 use Rattle.lazy_binding.specs.World.{World, docs_of, Member, memo_at, last_of}
 use Rattle.lazy_binding.specs.Cursors.{binding, ahead, IsOf}
 use Rattle.lazy_binding.specs.Keeping.{Keeps, Stays}
 use Rattle.plan_forms.specs.Links.{link_at}
-use Rattle.lazy_binding.specs.Members.{member_label, IsMember, AreNext, AreMembers}
+use Rattle.lazy_binding.specs.Members.{link_label, member_label, IsMember, AreNext, AreMembers}
 use Rattle.lazy_binding.proofs.Keep.{docs_kept, told-kept}
 use Rattle.lazy_binding.proofs.Stay.{cursors_kept, size_kept}
 
@@ -25,6 +27,18 @@ module _ (w : World) (ops : List Operator) (i : ℕ) (by : Option Link) where
   last_is at n (m ∷ ms) of h = last_is m.1.value (suc n) ms h.0.cursor h.1
 
 module _ {a b : World} (k : Keeps a b) (ops : List Operator) (bench : IsBench a ops) where
+  -- the label by which a variable is looked up at a cursor stays
+  pub link_label-kept : (i : ℕ) (by : LinkKind) (v : ℕ) (m : Position) → binding b ops i m ≡ binding a ops i m → link_label a ops i by v m ≡ link_label b ops i by v m
+  link_label-kept i by_label v m same =
+      ap (λ (z : Documents). label_at z (row_node (binding a ops i m) v)) (sym (docs_kept k ops bench))
+      ∙ ap (λ (z : TolledRow). label_at (docs_of b) (row_node z v)) (sym same)
+  link_label-kept i by_node v m same = refl
+
+  -- so does that by which a binding is found
+  pub member_label-kept : (i : ℕ) (by : Option Link) (m : Position) → binding b ops i m ≡ binding a ops i m → member_label a ops i by m ≡ member_label b ops i by m
+  member_label-kept i None m same = refl
+  member_label-kept i (Some link) m same = link_label-kept i link.by link.right m same
+
   module _ (i : ℕ) (by : Option Link) where
     -- a member is one after every call
     member_kept : (at : Position) (n : ℕ) (label : List ℕ) (m : Position) → IsOf a ops i at → IsMember a ops i by at n label m → IsMember b ops i by at n label m
@@ -38,9 +52,7 @@ module _ {a b : World} (k : Keeps a b) (ops : List Operator) (bench : IsBench a 
           found = λ t.
               ap found before.ahead_is ∙ h.found (sym (told-kept k ops) ∙ t) ∙ ap (λ (z : TolledRow). finds z (ahead a ops i m)) (sym here.binding_is)
               ∙ ap (finds (binding b ops i m)) (sym here.ahead_is);
-          label_is = λ t.
-              h.label_is (sym (told-kept k ops) ∙ t) ∙ ap (λ (z : Documents). member_label z by (binding a ops i m)) (sym (docs_kept k ops bench))
-              ∙ ap (member_label (docs_of b) by) (sym here.binding_is);
+          label_is = λ t. h.label_is (sym (told-kept k ops) ∙ t) ∙ member_label-kept i by m here.binding_is;
         }
 
     -- so are all

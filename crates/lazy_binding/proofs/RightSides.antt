@@ -17,7 +17,7 @@ use Rattle.plan_core.proofs.Numbers.{op_read}
 use Rattle.lazy_descend.specs.Cursors.{spot_of}
 use Rattle.tree_buffer.specs.declared.spot.Spot.{Spot}
 use Rattle.lazy_binding.specs.declared.position.Position.{Position, Top, Found', Pass', First', Pair', Sorted', Row_of-Position-Sorted-0-1 as Row, end_of-Position-Sorted-0-1 as no_more, more_of-Position-Sorted-0-1 as one_more}
-use Rattle.lazy_binding.specs.Reading.{spot_at, spot_in, spot_nth, or_else}
+use Rattle.lazy_binding.specs.Spots.{spot_at, spot_in, spot_nth, or_else}
 use Rattle.lazy_binding.specs.Sides.{with_other, others, node_var, shape_right, right_vars}
 use Rattle.lazy_binding.proofs.Bound.{with_none, either_none, kinds_at, inputs_at}
 use Rattle.lazy_binding.proofs.FirstLists.{take_map}

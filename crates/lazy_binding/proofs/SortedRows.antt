@@ -19,7 +19,8 @@ use Rattle.lazy_binding.specs.declared.position.Position.TheVariants.{Sorted, ro
 use Rattle.lazy_binding.specs.World.{World}
 use Rattle.lazy_binding.specs.Cursors.{binding, count, rows_in, AreIn}
 use Rattle.lazy_binding.specs.SortedLists.{sorts, ArePositions, bindings_at}
-use Rattle.lazy_binding.specs.Reading.{nth, below, spot_at, spot_in, spot_nth}
+use Rattle.lazy_binding.specs.Reading.{nth, below}
+use Rattle.lazy_binding.specs.Spots.{spot_at, spot_in, spot_nth}
 
 -- all of one list and of another are all of both
 pub all_both : {X : Type 0} (P : X → Type 0) (xs ys : List X) → AllByRecursion P xs → AllByRecursion P ys → AllByRecursion P (xs ++ ys)

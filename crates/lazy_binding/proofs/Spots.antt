@@ -15,7 +15,7 @@ use Rattle.lazy_descend.proofs.Stay.{frame_spot}
 use Rattle.lazy_binding.specs.declared.position.Position.{Position, Start, Top, Whole, Found', Pass', First', Seen', Pair', Sorted', Row_of-Position-Sorted-0-1 as Row, end_of-Position-Sorted-0-1 as no_more, more_of-Position-Sorted-0-1 as one_more}
 use Rattle.lazy_binding.specs.World.{World, docs_of, spot_node, match_place, IsSpotIn}
 use Rattle.lazy_binding.specs.Cursors.{binding, ahead, stands, source_number, IsRead, IsIn, AreIn, count, rows_in, has_row}
-use Rattle.lazy_binding.specs.Reading.{spot_at, spot_in, spot_nth, or_else}
+use Rattle.lazy_binding.specs.Spots.{spot_at, spot_in, spot_nth, or_else}
 use Rattle.lazy_binding.proofs.Bound.{Lacks, value_left, value_more, lacks_more, lacks_both, with_none, with_other, no_list, no_node, fit_nodes, either_none, either_some, kinds_at, inputs_at, fit_at, first_lacks, first_node}
 
 -- this is the spot of a variable that holds a node in a binding: it is one of its source, which some operator reads, and the node stands there

@@ -20,7 +20,7 @@ use Rattle.plan_core.proofs.Numbers.{ReadsInputs, by_number-is}
 use Rattle.lazy_binding.specs.declared.position.Position.{Position, Start, Top, Whole, Found', Pass', First', Seen', Pair', Sorted', Row_of-Position-Sorted-0-1 as Row, end_of-Position-Sorted-0-1 as no_more, more_of-Position-Sorted-0-1 as one_more}
 use Rattle.lazy_binding.specs.World.{World}
 use Rattle.lazy_binding.specs.Cursors.{binding, IsIn, AreIn, IsOf, count, has_row}
-use Rattle.lazy_binding.specs.Reading.{spot_at, spot_in, spot_nth, or_else}
+use Rattle.lazy_binding.specs.Spots.{spot_at, spot_in, spot_nth, or_else}
 use Rattle.lazy_binding.specs.Unders.{or_other, stage_source, shape_source, source_var}
 use Rattle.lazy_binding.proofs.Bound.{with_other, no_list, no_node, kinds_at, inputs_at, fit_at}
 use Rattle.lazy_binding.proofs.Spots.{spot_is}

@@ -12,5 +12,6 @@ pub mod Parts
 pub mod Reading
 pub mod Sides
 pub mod SortedLists
+pub mod Spots
 pub mod Unders
 pub mod World

@@ -4,26 +4,34 @@ use Rattle.std.specs.declared.alloc.Global.{Global}
 use Rattle.std.specs.declared.rc.Rc.{Rc}
 use Rattle.join_memo.specs.Kept.{Kept}
 use Rattle.mix_base.specs.Events.{nothing, finds, found}
-use Rattle.mix_tree.specs.Nodes.{Documents, label_at}
+use Rattle.mix_tree.specs.Nodes.{label_at}
 use Rattle.plan_core.specs.Plans.{Operator}
-use Rattle.plan_core.specs.TolledRows.{TolledRow, row_node}
+use Rattle.plan_core.specs.TolledRows.{row_node}
 use Rattle.plan_forms.specs.declared.link.Link.{Link}
+use Rattle.plan_forms.specs.declared.link.LinkKind.{LinkKind}
+use Rattle.plan_forms.specs.declared.link.LinkKind.TheVariants.{Label as by_label, Node as by_node}
 use Rattle.lazy_binding.specs.declared.position.Position.{Position, Start}
 use Rattle.lazy_binding.specs.World.{World, docs_of, is_told, Member, last_of}
 use Rattle.lazy_binding.specs.Cursors.{binding, ahead, number, size, IsOf, has_row}
+use Rattle.lazy_binding.specs.Spots.{spot_in, spot_text}
+
+-- the label by which a variable is looked up in the binding of a cursor of operator n: that of its node, or a text that the node's spot alone makes
+abbrev pub link_label : World → List Operator → ℕ → LinkKind → ℕ → Position → List ℕ
+link_label w ops n by_label v c = label_at (docs_of w) (row_node (binding w ops n c) v)
+link_label w ops n by_node v c = spot_text (spot_in ops n c v)
 
 -- the label by which a binding of the right side is found; where nothing is looked up, no bytes
-abbrev pub member_label : Documents → Option Link → TolledRow → List ℕ
-member_label docs None row = []
-member_label docs (Some link) row = label_at docs (row_node row link.right)
+abbrev pub member_label : World → List Operator → ℕ → Option Link → Position → List ℕ
+member_label w ops i None c = []
+member_label w ops i (Some link) c = link_label w ops i link.by link.right c
 
--- a position of operator i stands at the next binding behind another, behind which k members come first; its label is that of its binding
+-- a position of operator i stands at the next binding behind another, behind which k members come first; its label is that by which its binding is found
 pub record IsMember (w : World) (ops : List Operator) (i : ℕ) (by : Option Link) (at : Position) (k : ℕ) (label : List ℕ) (m : Position) : Type 0 where
   pub cursor : IsOf w ops i m
   pub row : IsTrue (has_row m)
   pub few : suc k + number w ops i m ≤ size w ops i
   pub found : IsTrue (is_told w ops) → found (ahead w ops i at) ≡ finds (binding w ops i m) (ahead w ops i m)
-  pub label_is : IsTrue (is_told w ops) → label ≡ member_label (docs_of w) by (binding w ops i m)
+  pub label_is : IsTrue (is_told w ops) → label ≡ member_label w ops i by m
 
 -- so does each of these, one behind another
 abbrev pub AreNext : World → List Operator → ℕ → Option Link → Position → ℕ → List Member → Type 0

@@ -1,10 +1,8 @@
--- What is read off a position: its spots, its parts, and how many keys were seen up to it.
+-- What is read off a position: its parts, how many keys were seen up to it, and what is so of it in each world.
 use Rattle.std.specs.Borrow.{Bor}
-use Rattle.std.specs.Prelude.{◌≡◌, ℕ, zero, suc, IsTrue, cond, ◌==◌, Option, Some, None, List}
-use Rattle.mix_tree.specs.Keys.{has_var}
+use Rattle.std.specs.Prelude.{◌≡◌, ℕ, zero, suc, IsTrue, Option, Some, None, List}
 use Rattle.tree_buffer.specs.declared.spot.Spot.{Spot}
 use Rattle.plan_core.specs.Plans.{Operator}
-use Rattle.plan_core.specs.Shapes.{Shape, one_source, visits_below, pairs_up, filters, extends, first_by_keys, in_order, shape_at, passes_on}
 use Rattle.mix_tree.specs.Nodes.{Documents}
 use Rattle.lxp_core.specs.View.{View}
 use Rattle.plan_core.specs.TolledRows.{TolledRow, row_node}
@@ -16,34 +14,6 @@ use Rattle.lazy_binding.specs.Cursors.{binding, IsRead, IsOf}
 use Rattle.lazy_binding.specs.Parts.{operators, world_of}
 use Rattle.lazy_descend.specs.Cursors.{spot_of}
 use Rattle.lazy_binding.specs.declared.position.Position.{Position, Start, Top, Found', Pass', First', Seen', Pair', Sorted', Row_of-Position-Sorted-0-1 as Row, end_of-Position-Sorted-0-1 as no_more, more_of-Position-Sorted-0-1 as one_more}
-
--- one spot, or else the other
-abbrev pub or_else : Option (ℕ × Spot) → Option (ℕ × Spot) → Option (ℕ × Spot)
-or_else None p = p
-or_else (Some p) q = Some p
-
-abbrev mutual
-  -- the spot of a variable in the binding of a position in this shape, with its source
-  pub spot_at : List Operator → Shape → Position → ℕ → Option (ℕ × Spot)
-  spot_at ops (one_source s out) (Top t x) v = cond (out == v) (Some (t, x)) None
-  spot_at ops (visits_below i start path out) (Found' s q c d) v = cond (out == v) (Some (s, spot_of d.frame)) (spot_at ops (shape_at ops i) c v)
-  spot_at ops (passes_on i (filters test)) (Pass' q c) v = spot_at ops (shape_at ops i) c v
-  spot_at ops (passes_on i (extends out made)) (Pass' q c) v = spot_at ops (shape_at ops i) c v
-  spot_at ops (passes_on i (first_by_keys keys group)) (Pass' q c) v = cond (has_var keys v) (spot_at ops (shape_at ops i) c v) None
-  spot_at ops (passes_on i (first_by_keys keys group)) (First' q c k) v = cond (has_var keys v) (spot_at ops (shape_at ops i) c v) None
-  spot_at ops (pairs_up l r tests) (Pair' q x q' y k) v = or_else (spot_at ops (shape_at ops l) x v) (spot_at ops (shape_at ops r) y v)
-  spot_at ops (passes_on i (in_order u desc)) (Sorted' q m row k) v = spot_nth ops i row k v
-  spot_at ops f c v = None
-
-  -- that of a position of a sorted list
-  pub spot_nth : List Operator → ℕ → {m : _} → Row m → ℕ → ℕ → Option (ℕ × Spot)
-  spot_nth ops i no_more k v = None
-  spot_nth ops i (one_more q c rest) zero v = spot_at ops (shape_at ops i) c v
-  spot_nth ops i (one_more q c rest) (suc k) v = spot_nth ops i rest k v
-
--- the spot of a variable in a cursor's binding
-abbrev pub spot_in : List Operator → ℕ → Position → ℕ → Option (ℕ × Spot)
-spot_in ops n c v = spot_at ops (shape_at ops n) c v
 
 -- the spot at which a part of a position stands, with its source
 abbrev pub held : Position → Option (ℕ × Spot)

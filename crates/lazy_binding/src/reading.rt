@@ -1,5 +1,5 @@
 // What is read off a position of an operator: its spots, their labels, and whether comparisons hold there.
-ghost use Rattle.std.specs.Prelude.{◌≡◌, ◌<◌, true, IsTrue, Some, length};
+ghost use Rattle.std.specs.Prelude.{◌≡◌, ◌<◌, true, IsTrue, IfOk, Some, length};
 ghost use Rattle.std.specs.List.{AllByRecursion};
 ghost use Rattle.mix_tree.specs.Comparisons.{compares_nodes, passes};
 ghost use Rattle.mix_tree.specs.Nodes.{label_at};
@@ -10,11 +10,27 @@ ghost use Rattle.lazy_binding.specs.World.{World, docs_of};
 ghost use Rattle.lazy_binding.specs.Cursors.{IsOf, has_row};
 ghost use Rattle.lazy_binding.specs.Reading.{Found, HasStand, InEachWorld, Tells};
 ghost use Rattle.lazy_binding.specs.Parts.{operators, IsFixed};
+ghost use Rattle.lazy_binding.specs.Spots.{spot_in, spot_text};
 
 use crate::parts::{Growing, Walk};
 use crate::position::Position;
 use mix_tree::{Label, Operand, Test, TestOp, Var};
+use std::alloc::{AllocError, Global};
+use std::default::Default;
+use std::hash::{FoldHasher, Hash, Hasher};
 use tree_buffer::{Spot, spots_are_one};
+
+/// The text of a spot: what it is hashed to, cut to 32 bits, in decimal digits. Two nodes may have the same.
+#[tactic(auto, unfolding(crate::specs::Spots::spot_text))]
+fn text_of(alloc: Global, source: u32, spot: Spot) -> Result<Label, AllocError>
+    ensures { IfOk result (λ text. text ≡ spot_text (Some (source, spot))) }
+{
+    let mut state = FoldHasher::default();
+    spot.hash(&mut state);
+    let number = state.finish() % 0x1_0000_0000;
+    let digits = format!(in alloc; "{number}")?;
+    Label::of_text(alloc, digits.as_str().as_bytes())
+}
 
 impl Walk<'_> {
     /// The node of a variable in a position's binding: its source and its spot.
@@ -43,6 +59,19 @@ impl Walk<'_> {
     {
         let (source, spot) = self.node_of(at, v);
         growing.buffers[source as usize].label(&spot)
+    }
+
+    /// The text of the spot of a variable's node in a position's binding, by which its node is looked up. It lies in the label itself.
+    #[tactic(auto, unfolding(crate::specs::Spots::spot_text))]
+    pub fn text_of(&self, alloc: Global, at: &Position, v: Var) -> Result<Label, AllocError>
+        requires fixed { IsFixed self.now.fixed.now }
+        requires op { self.now.op < length (operators self.now.fixed.now) }
+        ensures { IfOk result (λ text. text ≡ spot_text (spot_in (operators self.now.fixed.now) self.now.op at.now v)) }
+    {
+        match self.fixed.spot_of(self.op, at, v) {
+            Some((source, spot)) => text_of(alloc, source, spot),
+            None => Label::of_text(alloc, &[]),
+        }
     }
 
     /// Whether the two variables of a comparison of nodes have the same node in a position's binding: the same spot of one source.

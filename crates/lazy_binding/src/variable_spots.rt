@@ -1,7 +1,8 @@
 // The spots of the variables in a position's binding.
 ghost use Rattle.std.specs.Prelude.{◌≡◌, ◌<◌, ◌==◌, IfSome, is_some, true, length};
 ghost use Rattle.std.specs.List.{list_any};
-ghost use Rattle.lazy_binding.specs.Reading.{held, held_in, spot_in};
+ghost use Rattle.lazy_binding.specs.Reading.{held, held_in};
+ghost use Rattle.lazy_binding.specs.Spots.{spot_in};
 ghost use Rattle.lazy_binding.specs.Parts.{operators, IsFixed};
 
 use crate::parts::Fixed;

@@ -19,7 +19,7 @@ use Rattle.plan_forms.specs.declared.link.Link.{Link}
 use Rattle.lazy_binding.specs.declared.parts.Growing.{Growing}
 use Rattle.lazy_binding.specs.declared.position.Position.{Position, Start}
 use Rattle.lazy_binding.specs.Bench.{IsBench}
-use Rattle.lazy_binding.specs.World.{World, world, docs_of, is_told, Member, no_pairs, memo_at, last_of, passed}
+use Rattle.lazy_binding.specs.World.{World, world, is_told, Member, no_pairs, memo_at, last_of, passed}
 use Rattle.lazy_binding.specs.Cursors.{binding, ahead, number, size, IsOf}
 use Rattle.lazy_binding.specs.Keeping.{Keeps, Stays}
 use Rattle.plan_forms.specs.Links.{link_at}
@@ -92,7 +92,7 @@ module _ {a b : World} (k : Keeps a b) (ops : List Operator) (bench : IsBench a 
 
   -- with the next binding behind the last
   pub members_push : (label : List ℕ) (r : Rc Position Global) → Finds a b ops i (shape_at ops i) (ahead a ops i (last_of Start m.pairs)) (number a ops i (last_of Start m.pairs)) r.value
-      → (IsTrue (is_told b ops) → label ≡ member_label (docs_of b) by (binding b ops i r.value)) → AreMembers b ops i by (record { pairs = m.pairs ++ (label, r) ∷ []; ended = false })
+      → (IsTrue (is_told b ops) → label ≡ member_label b ops i by r.value) → AreMembers b ops i by (record { pairs = m.pairs ++ (label, r) ∷ []; ended = false })
   members_push label r f is = record {
     next = next_push b ops i by Start 0 m.pairs (label, r) (members_kept k ops bench i by m h).next new;
     all = λ e t. cc;

@@ -13,8 +13,8 @@ use Rattle.lazy_binding.specs.declared.parts.Fixed.{Fixed}
 use Rattle.lazy_binding.specs.declared.parts.Growing.{Growing}
 use Rattle.lazy_binding.specs.declared.position.Position.{Position}
 use Rattle.lazy_binding.specs.Bench.{IsBench}
-use Rattle.lazy_binding.specs.World.{World, world, docs_of, is_told, no_pairs, memo_at}
-use Rattle.lazy_binding.specs.Cursors.{binding, ahead, number, IsOf}
+use Rattle.lazy_binding.specs.World.{World, world, is_told, no_pairs, memo_at}
+use Rattle.lazy_binding.specs.Cursors.{ahead, number, IsOf}
 use Rattle.lazy_binding.specs.Keeping.{Keeps}
 use Rattle.plan_forms.specs.Links.{link_at}
 use Rattle.lazy_binding.specs.Members.{member_label, AreMembers}
@@ -99,7 +99,7 @@ module _ {S : Type 0} {view : S → View} {came_from : S → S → Type 0} {s t 
   module _ (memos : Vec (Kept (Rc Position Global)) Global) (stay : OthersStay h.memos.items memos.items n) (label : List ℕ) (d : Rc Position Global)
       (here : slice_index_or memos.items n no_pairs ≡ record { pairs = (memo_at b n).pairs ++ (label, d) ∷ []; ended = false })
       (f : Finds a b (operators p) r (shape_at (operators p) r) (ahead a (operators p) r (last_at a n)) (number a (operators p) r (last_at a n)) d.value)
-      (label_is : IsTrue (is_told b (operators p)) → label ≡ member_label (docs_of b) (link_at (operators p) n) (binding b (operators p) r d.value)) where
+      (label_is : IsTrue (is_told b (operators p)) → label ≡ member_label b (operators p) r (link_at (operators p) n) d.value) where
     longer : length (memo_at b n).pairs ≤ length ((memo_at b n).pairs ++ (label, d) ∷ [])
     longer = omega (arith, length-append (memo_at b n).pairs ((label, d) ∷ []))
 

@@ -1,3 +1,4 @@
+pub mod Agreeing
 pub mod FirstPositions
 pub mod FirstSteps
 pub mod GatherSteps

@@ -1,10 +1,8 @@
--- A look-up by labels finds all that the comparisons let through.
+-- A look-up by labels or by nodes finds all that the comparisons let through.
 use Rattle.std.proofs.Common.{◌≡◌, ◌<◌, ◌&&◌, ◌||◌, ℕ, Bool, true, false, cond, List, [], ◌∷◌, Option, Some, None, length, get_or, refl, ◌∙◌, sym, ap, subst, true≢false, arith}
 use Rattle.std.proofs.lemmas.List.{get_or-map, length-map}
 use Rattle.std.specs.Prelude.{is_some, IfSome}
 use Rattle.std.specs.List.{AllByRecursion}
-use Rattle.std.specs.Str.{bytes_eq}
-use Rattle.std.proofs.lemmas.Slice.Eq.{bytes_eq-Decides}
 use Rattle.std.specs.declared.alloc.Global.{Global}
 use Rattle.std.specs.declared.rc.Rc.{Rc}
 use Rattle.join_memo.specs.Kept.{Kept, labels_of, IsFound}
@@ -23,13 +21,19 @@ use Rattle.plan_core.specs.TolledRows.{TolledRow, row_node}
 use Rattle.plan_core.specs.Events.{passes_all}
 use Rattle.plan_core.specs.Valid.{Kind, Kinds, kinds, a_node, either_kind, IsTest, IsOperand}
 use Rattle.plan_forms.specs.declared.link.Link.{Link}
+use Rattle.plan_forms.specs.declared.link.LinkKind.{LinkKind}
+use Rattle.plan_forms.specs.declared.link.LinkKind.TheVariants.{Label as by_label, Node as by_node}
 use Rattle.lazy_binding.specs.declared.parts.Fixed.{Fixed}
 use Rattle.lazy_binding.specs.declared.position.Position.{Position}
-use Rattle.plan_forms.specs.Links.{is_equality, on_sides, operand_link, test_link, link_or, first_link, shape_link, op_link, link_at}
+use Rattle.plan_forms.specs.Links.{link_kind, on_sides, kind_link, test_link, link_or, first_link, shape_link, op_link, link_at}
 use Rattle.lazy_binding.specs.Parts.{operators, IsFixed}
-use Rattle.lazy_binding.specs.World.{Member}
+use Rattle.lazy_binding.specs.Cursors.{binding}
+use Rattle.lazy_binding.specs.Members.{link_label}
+use Rattle.lazy_binding.specs.Spots.{spot_in, spot_text}
+use Rattle.lazy_binding.specs.World.{World, docs_of, Member}
 use Rattle.lazy_binding.proofs.Bound.{fit_at}
-use Rattle.lazy_steps.specs.Beside.{NoneBetween, IsNextPlace, HasSought}
+use Rattle.lazy_steps.proofs.Agreeing.{Agree, agrees}
+use Rattle.lazy_steps.specs.Beside.{sought_label, is_by_label, NoneBetween, IsNextPlace, HasSought}
 
 -- the variables of a link are of nodes, each of its side, and the left side doesn't bind the right one
 pub record LinkFits (left right : Kinds) (link : Link) : Type 0 where
@@ -39,22 +43,22 @@ pub record LinkFits (left right : Kinds) (link : Link) : Type 0 where
 
 module _ (left right : Kinds) (link : Link) where
   -- of two variables of nodes
-  sides_fit : (v u : ℕ) → either_kind (left v) (right v) ≡ Some a_node → either_kind (left u) (right u) ≡ Some a_node → on_sides left v u ≡ Some link → LinkFits left right link
-  sides_fit v u a b h = by_case (left v) (left u) refl refl h
+  sides_fit : (by : LinkKind) (v u : ℕ) → either_kind (left v) (right v) ≡ Some a_node → either_kind (left u) (right u) ≡ Some a_node → on_sides left by v u ≡ Some link → LinkFits left right link
+  sides_fit by v u a b h = by_case (left v) (left u) refl refl h
     where
-      one : (j : Option Kind) (x y : ℕ) (k : Kind) → left x ≡ Some k → left y ≡ None → either_kind (left x) (right x) ≡ Some a_node → either_kind (left y) (right y) ≡ Some a_node
-          → LinkFits left right (record { left = x; right = y })
-      one j x y k e f c d = record {
+      one : (x y : ℕ) (k : Kind) → left x ≡ Some k → left y ≡ None → either_kind (left x) (right x) ≡ Some a_node → either_kind (left y) (right y) ≡ Some a_node
+          → LinkFits left right (record { left = x; right = y; by = by })
+      one x y k e f c d = record {
         left_is = e ∙ sym (ap (λ (z : Option Kind). either_kind z (right x)) e) ∙ c;
         right_is = sym (ap (λ (z : Option Kind). either_kind z (right y)) f) ∙ d;
         apart = f;
       }
 
       by_case : (j i : Option Kind) → left v ≡ j → left u ≡ i
-          → cond (is_some j) (cond (is_some i) None (Some (record { left = v; right = u }))) (cond (is_some i) (Some (record { left = u; right = v })) None) ≡ Some link → LinkFits left right link
+          → cond (is_some j) (cond (is_some i) None (Some (record { left = v; right = u; by = by }))) (cond (is_some i) (Some (record { left = u; right = v; by = by })) None) ≡ Some link → LinkFits left right link
       by_case (Some x) (Some y) e f g = cc
-      by_case (Some x) None e f g = subst (LinkFits left right) (some_is (record { left = v; right = u }) link g) (one None v u x e f a b)
-      by_case None (Some y) e f g = subst (LinkFits left right) (some_is (record { left = u; right = v }) link g) (one None u v y f e b a)
+      by_case (Some x) None e f g = subst (LinkFits left right) (some_is (record { left = v; right = u; by = by }) link g) (one v u x e f a b)
+      by_case None (Some y) e f g = subst (LinkFits left right) (some_is (record { left = u; right = v; by = by }) link g) (one u v y f e b a)
       by_case None None e f g = cc
 
   -- of one comparison
@@ -62,15 +66,16 @@ module _ (left right : Kinds) (link : Link) where
   test_fits t fit h = by_case t.op t.left t.right fit.0 fit.1 h
     where
       by_case : (op : TestOp) (v : ℕ) (o : Operand) → either_kind (left v) (right v) ≡ Some a_node → IsOperand (λ w. either_kind (left w) (right w)) op o
-          → cond (is_equality op) (operand_link left v o) None ≡ Some link → LinkFits left right link
-      by_case Eq v (var_operand u) a b g = sides_fit v u a b g
+          → kind_link left (link_kind op) v o ≡ Some link → LinkFits left right link
+      by_case Eq v (var_operand u) a b g = sides_fit by_label v u a b g
       by_case Eq v (text_operand label) a b g = cc
       by_case Ne v o a b g = cc
       by_case Lt v o a b g = cc
       by_case Le v o a b g = cc
       by_case Gt v o a b g = cc
       by_case Ge v o a b g = cc
-      by_case Same v o a b g = cc
+      by_case Same v (var_operand u) a b g = sides_fit by_node v u a b g
+      by_case Same v (text_operand label) a b g = cc
 
   -- of all
   pub link_fits : (tests : List Test) → AllByRecursion (IsTest (λ v. either_kind (left v) (right v))) tests → first_link left tests ≡ Some link → LinkFits left right link
@@ -86,71 +91,67 @@ or_none : (b c : Bool) → b ≡ c → (b || false) ≡ c
 or_none true c e = e
 or_none false c e = e
 
-module _ (left : Kinds) (link : Link) (docs : Documents) (row : TolledRow) (verdict : Bool)
-    (one : bytes_eq (label_at docs (row_node row link.left)) (label_at docs (row_node row link.right)) ≡ verdict)
-    (other : bytes_eq (label_at docs (row_node row link.right)) (label_at docs (row_node row link.left)) ≡ verdict) where
+module _ (left : Kinds) (link : Link) (docs : Documents) (row : TolledRow) (verdict : Bool) (come : Agree link.by docs (row_node row link.left) (row_node row link.right) verdict) where
   -- what the comparison of the two sides comes to
-  sides_come : (v u : ℕ) → on_sides left v u ≡ Some link → (bytes_eq (label_at docs (row_node row v)) (label_at docs (row_node row u)) || false) ≡ verdict
-  sides_come v u h = by_case (left v) (left u) h
+  sides_come : (by : LinkKind) (v u : ℕ) → on_sides left by v u ≡ Some link → agrees by docs (row_node row v) (row_node row u) ≡ verdict
+  sides_come by v u h = by_case (left v) (left u) h
     where
-      by_case : (j i : Option Kind) → cond (is_some j) (cond (is_some i) None (Some (record { left = v; right = u }))) (cond (is_some i) (Some (record { left = u; right = v })) None) ≡ Some link
-          → (bytes_eq (label_at docs (row_node row v)) (label_at docs (row_node row u)) || false) ≡ verdict
+      by_case : (j i : Option Kind) → cond (is_some j) (cond (is_some i) None (Some (record { left = v; right = u; by = by }))) (cond (is_some i) (Some (record { left = u; right = v; by = by })) None) ≡ Some link
+          → agrees by docs (row_node row v) (row_node row u) ≡ verdict
       by_case (Some x) (Some y) g = cc
       by_case (Some x) None g =
-          let e = some_is (record { left = v; right = u }) link g in
-          or_none _ _ (subst (λ (z : Link). bytes_eq (label_at docs (row_node row z.left)) (label_at docs (row_node row z.right)) ≡ verdict) (sym e) one)
+          let e = some_is (record { left = v; right = u; by = by }) link g in
+          subst (λ (z : Link). agrees z.by docs (row_node row z.left) (row_node row z.right) ≡ verdict) (sym e) come.one
       by_case None (Some y) g =
-          let e = some_is (record { left = u; right = v }) link g in
-          or_none _ _ (subst (λ (z : Link). bytes_eq (label_at docs (row_node row z.right)) (label_at docs (row_node row z.left)) ≡ verdict) (sym e) other)
+          let e = some_is (record { left = u; right = v; by = by }) link g in
+          subst (λ (z : Link). agrees z.by docs (row_node row z.right) (row_node row z.left) ≡ verdict) (sym e) come.other
       by_case None None g = cc
 
   -- so does the comparison that has the link
   test_comes : (t : Test) → test_link left t ≡ Some link → passes docs t (row_node row) ≡ verdict
   test_comes t h = by_case t.op t.left t.right h
     where
-      by_case : (op : TestOp) (v : ℕ) (o : Operand) → cond (is_equality op) (operand_link left v o) None ≡ Some link → passes docs (record { left = v; op = op; right = o }) (row_node row) ≡ verdict
-      by_case Eq v (var_operand u) g = sides_come v u g
+      by_case : (op : TestOp) (v : ℕ) (o : Operand) → kind_link left (link_kind op) v o ≡ Some link → passes docs (record { left = v; op = op; right = o }) (row_node row) ≡ verdict
+      by_case Eq v (var_operand u) g = or_none _ _ (sides_come by_label v u g)
       by_case Eq v (text_operand label) g = cc
       by_case Ne v o g = cc
       by_case Lt v o g = cc
       by_case Le v o g = cc
       by_case Gt v o g = cc
       by_case Ge v o g = cc
-      by_case Same v o g = cc
+      by_case Same v (var_operand u) g = sides_come by_node v u g
+      by_case Same v (text_operand label) g = cc
 
--- two labels that differ
-unequal : (x y : List ℕ) → (x ≡ y → ⊥) → bytes_eq x y ≡ false
-unequal x y h = grind (arith, bytes_eq-Decides x y, h)
-
--- two that don't
-equal : (x y : List ℕ) → x ≡ y → bytes_eq x y ≡ true
-equal x y h = grind (arith, bytes_eq-Decides x y, h)
-
+-- nothing holds together with what doesn't
 and_false : (p : Bool) → p && false ≡ false
 and_false true = refl
 and_false false = refl
 
 module _ (left : Kinds) (link : Link) (docs : Documents) (row : TolledRow) where
-  -- where the labels differ, not all comparisons hold
-  pub tests_fail : (label_at docs (row_node row link.right) ≡ label_at docs (row_node row link.left) → ⊥) → (tests : List Test) → first_link left tests ≡ Some link → passes_all docs tests row ≡ false
+  -- where the two sides don't agree, not all comparisons hold
+  pub tests_fail : Agree link.by docs (row_node row link.left) (row_node row link.right) false → (tests : List Test) → first_link left tests ≡ Some link → passes_all docs tests row ≡ false
   tests_fail differ [] h = cc
   tests_fail differ (t ∷ tests) h = by_case (tests_fail differ tests) (test_link left t) refl h
     where
       by_case : (first_link left tests ≡ Some link → passes_all docs tests row ≡ false) → (o : Option Link) → test_link left t ≡ o → link_or o (first_link left tests) ≡ Some link
           → passes docs t (row_node row) && passes_all docs tests row ≡ false
       by_case more None e g = ap (λ (z : Bool). passes docs t (row_node row) && z) (more g) ∙ and_false (passes docs t (row_node row))
-      by_case more (Some x) e g =
-          ap (λ (z : Bool). z && passes_all docs tests row) (test_comes left link docs row false (unequal _ _ (λ f. differ (sym f))) (unequal _ _ differ) t (e ∙ g))
+      by_case more (Some x) e g = ap (λ (z : Bool). z && passes_all docs tests row) (test_comes left link docs row false differ t (e ∙ g))
 
-  -- where they are the same, the only comparison holds
-  pub test_holds : label_at docs (row_node row link.right) ≡ label_at docs (row_node row link.left) → (tests : List Test) → length tests ≡ 1 → first_link left tests ≡ Some link → passes_all docs tests row ≡ true
+  -- where they agree, the only comparison holds
+  pub test_holds : Agree link.by docs (row_node row link.left) (row_node row link.right) true → (tests : List Test) → length tests ≡ 1 → first_link left tests ≡ Some link → passes_all docs tests row ≡ true
   test_holds same [] one h = cc
   test_holds same (t ∷ u ∷ tests) one h = absurd (omega (arith, one))
   test_holds same (t ∷ []) one h = by_case (test_link left t) refl h
     where
       by_case : (o : Option Link) → test_link left t ≡ o → link_or o None ≡ Some link → passes docs t (row_node row) && true ≡ true
       by_case None e g = cc
-      by_case (Some x) e g = ap (λ (z : Bool). z && true) (test_comes left link docs row true (equal _ _ (sym same)) (equal _ _ same) t (e ∙ g))
+      by_case (Some x) e g = ap (λ (z : Bool). z && true) (test_comes left link docs row true same t (e ∙ g))
+
+-- what is looked up by labels is looked up
+pub label_some : (by : Option Link) → is_by_label by ≡ true → is_some by ≡ true
+label_some None h = cc
+label_some (Some link) h = refl
 
 -- the variables that were read for an operator
 pub link_read : (f : Fixed) → IsFixed f → (n : ℕ) → n < length (operators f) → (o : Option Link) → o ≡ get_or f.links.items n o → o ≡ link_at (operators f) n
@@ -186,3 +187,12 @@ found_label ms key by from (Some p) h = λ some. h.label.is
 pub no_label : (ms : List Member) (key : List ℕ) (by : Option Link) (r : Option ℕ) → by ≡ None → IfSome r (HasSought ms key by)
 no_label ms key by None e = tt
 no_label ms key by (Some p) e = λ some. absurd (true≢false (sym some ∙ ap is_some e))
+
+-- what a link by labels looks up is the label of the left variable's node
+pub sought_by_label : (w : World) (ops : List Operator) (l : ℕ) (by : Option Link) (link : Link) (x : Position) → by ≡ Some link → link.by ≡ by_label
+    → label_at (docs_of w) (row_node (binding w ops l x) link.left) ≡ sought_label w ops l by x
+sought_by_label w ops l by link x e f = sym (ap (λ (z : Option Link). sought_label w ops l z x) e ∙ ap (λ (k : LinkKind). link_label w ops l k link.left x) f)
+
+-- what a link by nodes looks up is the text of that node's spot
+pub sought_by_node : (w : World) (ops : List Operator) (l : ℕ) (by : Option Link) (link : Link) (x : Position) → by ≡ Some link → link.by ≡ by_node → spot_text (spot_in ops l x link.left) ≡ sought_label w ops l by x
+sought_by_node w ops l by link x e f = sym (ap (λ (z : Option Link). sought_label w ops l z x) e ∙ ap (λ (k : LinkKind). link_label w ops l k link.left x) f)

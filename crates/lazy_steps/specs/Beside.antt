@@ -6,13 +6,14 @@ use Rattle.join_memo.specs.Kept.{Kept, labels_of}
 use Rattle.lxp_core.specs.View.{View}
 use Rattle.lxp_core.specs.declared.fault.WalkFault.{WalkFault}
 use Rattle.lazy_descend.specs.Searches.{FindsNone}
-use Rattle.mix_tree.specs.Nodes.{Documents, label_at}
 use Rattle.mix_tree.specs.declared.comparing.Test.{Test}
 use Rattle.plan_core.specs.Plans.{Operator}
 use Rattle.plan_core.specs.Shapes.{pairs_up, shape_at}
-use Rattle.plan_core.specs.TolledRows.{TolledRow, row_node}
 use Rattle.plan_core.specs.Events.{RowEvents, pairs, passes_all}
 use Rattle.plan_forms.specs.declared.link.Link.{Link}
+use Rattle.plan_forms.specs.declared.link.LinkKind.{LinkKind}
+use Rattle.plan_forms.specs.declared.link.LinkKind.TheVariants.{Label as by_label, Node as by_node}
+use Rattle.lazy_binding.specs.Members.{link_label}
 use Rattle.lazy_binding.specs.declared.parts.Growing.{Growing}
 use Rattle.lazy_binding.specs.declared.parts.Walk.{Walk}
 use Rattle.lazy_binding.specs.declared.position.Position.{Position, Start, Pair'}
@@ -37,9 +38,19 @@ abbrev pub memo_in : Growing → ℕ → Kept (Rc Position Global)
 memo_in g n = slice_index_or g.memos.items n no_pairs
 
 -- the label that is looked up beside a left binding; where nothing is looked up, no bytes
-abbrev pub sought_label : Documents → Option Link → TolledRow → List ℕ
-sought_label docs None row = []
-sought_label docs (Some link) row = label_at docs (row_node row link.left)
+abbrev pub sought_label : World → List Operator → ℕ → Option Link → Position → List ℕ
+sought_label w ops l None x = []
+sought_label w ops l (Some link) x = link_label w ops l link.by link.left x
+
+-- a link is by labels
+abbrev pub is_label : LinkKind → Bool
+is_label by_label = true
+is_label by_node = false
+
+-- members are looked up, and by their labels
+abbrev pub is_by_label : Option Link → Bool
+is_by_label None = false
+is_by_label (Some link) = is_label link.by
 
 -- from one place on, and before another, no member has this label
 abbrev pub NoneBetween : List Member → List ℕ → ℕ → ℕ → Type 0

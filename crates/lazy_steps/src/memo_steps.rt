@@ -1,5 +1,5 @@
 // The members of a join's right side: the next one beside a binding of the left, its pair, and one more of them.
-ghost use Rattle.std.specs.Prelude.{◌≡◌, ◌<◌, true, false, IsTrue, IfOk, IfErr, IfSome, is_some, length};
+ghost use Rattle.std.specs.Prelude.{◌≡◌, ◌<◌, true, false, IsTrue, IfOk, IfErr, IfSome, length};
 ghost use Rattle.plan_core.specs.Shapes.{pairs_up};
 ghost use Rattle.lxp_core.specs.View.{View};
 ghost use Rattle.lxp_core.specs.declared.fault.WalkFault.TheVariants.{OutOfMemory};
@@ -9,7 +9,7 @@ ghost use Rattle.plan_forms.specs.Links.{link_at};
 ghost use Rattle.lazy_binding.specs.Members.{member_label};
 ghost use Rattle.lazy_binding.specs.Parts.{operators, shape_walked, world_of, IsFixed};
 ghost use Rattle.lazy_binding.specs.Reading.{HasStand, Tells};
-ghost use Rattle.lazy_steps.specs.Beside.{left_of, right_of, memo_in, sought_label, IsPlaceFrom, IsNextPlace, IsPairAt, HasSought, CanPair, PairSteps, Grew};
+ghost use Rattle.lazy_steps.specs.Beside.{left_of, right_of, memo_in, sought_label, is_by_label, IsPlaceFrom, IsNextPlace, IsPairAt, HasSought, CanPair, PairSteps, Grew};
 
 use crate::pair_steps::Pairs;
 use crate::step::Step;
@@ -18,6 +18,7 @@ use lazy_binding::growth::{end_members, last_member, push_member};
 use lazy_binding::{Growing, Position, Walk, share};
 use lxp_core::{Sources, WalkFault};
 use mix_tree::Label;
+use plan_forms::LinkKind;
 use std::alloc::{AllocError, Global};
 use std::rc::Rc;
 
@@ -26,22 +27,27 @@ impl Pairs<'_> {
     /// is next; `None` where none is known yet. No fill is asked.
     pub(crate) fn next_known(
         &self,
+        alloc: Global,
         growing: &Growing,
         l: &Rc<Position>,
         from: usize,
-    ) -> Option<usize>
+    ) -> Result<Option<usize>, AllocError>
         requires fixed { IsFixed self.now.walk.fixed.now }
         requires op { self.now.walk.op < length (operators self.now.walk.fixed.now) }
         requires is { shape_walked self.now.walk ≡ pairs_up self.now.left self.now.right self.now.tests.now }
         requires cursor { HasStand growing.now (left_of self.now) l.now.value }
         requires row { IsTrue (has_row l.now.value) }
-        ensures place { IsPlaceFrom (memo_in growing.now self.now.walk.op).pairs from result }
-        ensures next { let by = link_at (operators self.now.walk.fixed.now) self.now.walk.op in
+        ensures place { IfOk result (IsPlaceFrom (memo_in growing.now self.now.walk.op).pairs from) }
+        ensures next { let ops = operators self.now.walk.fixed.now in
+            let by = link_at ops self.now.walk.op in
             let ms = (memo_in growing.now self.now.walk.op).pairs in
-            Tells growing.now (left_of self.now) l.now.value (λ w docs row. IsNextPlace ms (sought_label docs by row) from result) }
-        ensures label { let by = link_at (operators self.now.walk.fixed.now) self.now.walk.op in
+            IfOk result (λ r. Tells growing.now (left_of self.now) l.now.value
+            (λ w docs row. IsNextPlace ms (sought_label w ops self.now.left by l.now.value) from r)) }
+        ensures label { let ops = operators self.now.walk.fixed.now in
+            let by = link_at ops self.now.walk.op in
             let ms = (memo_in growing.now self.now.walk.op).pairs in
-            Tells growing.now (left_of self.now) l.now.value (λ w docs row. IfSome result (HasSought ms (sought_label docs by row) by)) }
+            IfOk result (λ r. Tells growing.now (left_of self.now) l.now.value
+            (λ w docs row. IfSome r (HasSought ms (sought_label w ops self.now.left by l.now.value) by))) }
     {
         let left = Walk {
             fixed: self.walk.fixed,
@@ -49,11 +55,17 @@ impl Pairs<'_> {
         };
         let memo = &growing.memos[self.walk.op];
         if memo.len() <= from {
-            return None;
+            return Ok(None);
         }
         match &self.walk.fixed.links[self.walk.op] {
-            Some(link) => memo.find(left.label_of(growing, l, link.left), from),
-            None => Some(from),
+            Some(link) => match link.by {
+                LinkKind::Label => Ok(memo.find(left.label_of(growing, l, link.left), from)),
+                LinkKind::Node => {
+                    let text = left.text_of(alloc, l, link.left)?;
+                    Ok(memo.find(&text, from))
+                }
+            },
+            None => Ok(Some(from)),
         }
     }
 
@@ -102,14 +114,17 @@ impl Pairs<'_> {
         }
     }
 
-    /// Whether the only comparison is that of the labels by which members are looked up.
+    /// Whether the only comparison is that of the labels by which members are looked up. Nodes are compared once more: two may have one text.
     fn label_decides(&self) -> bool
         requires fixed { IsFixed self.now.walk.fixed.now }
         requires op { self.now.walk.op < length (operators self.now.walk.fixed.now) }
         ensures { let by = link_at (operators self.now.walk.fixed.now) self.now.walk.op in
-            IsTrue result → (length self.now.tests.now ≡ 1) × (is_some by ≡ true) }
+            IsTrue result → (length self.now.tests.now ≡ 1) × (is_by_label by ≡ true) }
     {
-        self.tests.len() == 1 && self.walk.fixed.links[self.walk.op].is_some()
+        match &self.walk.fixed.links[self.walk.op] {
+            Some(link) => self.tests.len() == 1 && matches!(link.by, LinkKind::Label),
+            None => false,
+        }
     }
 
     /// The same where the member was looked up by its label: nothing is compared where that decides.
@@ -120,9 +135,11 @@ impl Pairs<'_> {
         place: usize,
     ) -> Result<Step, WalkFault>
         requires can { CanPair growing.now self.now l.now.value place }
-        requires label { let by = link_at (operators self.now.walk.fixed.now) self.now.walk.op in
+        requires label { let ops = operators self.now.walk.fixed.now in
+            let by = link_at ops self.now.walk.op in
             let ms = (memo_in growing.now self.now.walk.op).pairs in
-            Tells growing.now (left_of self.now) l.now.value (λ w docs row. HasSought ms (sought_label docs by row) by place) }
+            Tells growing.now (left_of self.now) l.now.value
+            (λ w docs row. HasSought ms (sought_label w ops self.now.left by l.now.value) by place) }
         ensures err { IfErr result (λ e. e ≡ OutOfMemory) }
         ensures answer { PairSteps growing.now self.now l.now.value place result }
     {
@@ -147,15 +164,20 @@ impl Pairs<'_> {
         requires is { shape_walked self.now.walk ≡ pairs_up self.now.left self.now.right self.now.tests.now }
         requires cursor { HasStand growing.now (right_of self.now) r.now.value }
         requires row { IsTrue (has_row r.now.value) }
-        ensures { let by = link_at (operators self.now.walk.fixed.now) self.now.walk.op in
-            IfOk result (λ label. Tells growing.now (right_of self.now) r.now.value (λ w docs row. label ≡ member_label docs by row)) }
+        ensures { let ops = operators self.now.walk.fixed.now in
+            let by = link_at ops self.now.walk.op in
+            IfOk result (λ label. Tells growing.now (right_of self.now) r.now.value
+            (λ w docs row. label ≡ member_label w ops self.now.right by r.now.value)) }
     {
         let right = Walk {
             fixed: self.walk.fixed,
             op: self.right,
         };
         match &self.walk.fixed.links[self.walk.op] {
-            Some(link) => right.label_of(growing, r, link.right).copy(alloc),
+            Some(link) => match link.by {
+                LinkKind::Label => right.label_of(growing, r, link.right).copy(alloc),
+                LinkKind::Node => right.text_of(alloc, r, link.right),
+            },
             None => Label::of_text(alloc, &[]),
         }
     }

@@ -50,7 +50,7 @@ impl<'a> Pairs<'a> {
         ensures { StepsOn S.view S.came_from self.now.walk at.now s.old growing.old s.new growing.new result }
     {
         match at {
-            Position::Pair(l, _, passed) => match self.next_known(growing, l, *passed) {
+            Position::Pair(l, _, passed) => match self.next_known(alloc, growing, l, *passed)? {
                 Some(place) => self.at_found(growing, l, place),
                 None => self.next_new(alloc, growing, s, l),
             },
@@ -86,7 +86,7 @@ impl<'a> Pairs<'a> {
             if !self.grow(alloc, growing, s)? {
                 return self.next_left(alloc, growing, s, l);
             }
-            if let Some(found) = self.next_known(growing, l, place) {
+            if let Some(found) = self.next_known(alloc, growing, l, place)? {
                 return self.at_found(growing, l, found);
             }
         }

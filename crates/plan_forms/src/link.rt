@@ -4,6 +4,7 @@ ghost use Rattle.std.specs.List.{AllByRecursion};
 ghost use Rattle.plan_core.specs.PlanMade.{op_of};
 ghost use Rattle.plan_core.specs.Typed.{IsTyped};
 ghost use Rattle.plan_core.specs.Valid.{kinds, inputs_of};
+ghost use Rattle.plan_forms.specs.Links as spec;
 ghost use Rattle.plan_forms.specs.Links.{test_link, first_link, op_link};
 
 use crate::variables::binds;
@@ -11,14 +12,33 @@ use mix_tree::{Operand, Test, TestOp, Var};
 use plan_core::Op;
 use std::alloc::{AllocError, Global};
 
-/// A variable of the left side and one of the right side, where a comparison of the join says that they have the same label.
+/// What a comparison says of two variables that are looked up by each other: that they have the same label, or the same node.
+#[derive(Clone, Copy)]
+pub enum LinkKind {
+    Label,
+    Node,
+}
+
+/// A variable of the left side and one of the right side, where a comparison of the join says that they have the same label, or the same node.
 #[derive(Clone, Copy)]
 pub struct Link {
     pub left: Var,
     pub right: Var,
+    pub by: LinkKind,
 }
 
-/// The variables of a comparison of equal labels, where the left side binds one of them alone.
+/// By what a comparison lets members be looked up; only `=` and `is` do.
+fn link_kind(op: TestOp) -> Option<LinkKind>
+    ensures { result ≡ spec.link_kind op }
+{
+    match op {
+        TestOp::Eq => Some(LinkKind::Label),
+        TestOp::Same => Some(LinkKind::Node),
+        _ => None,
+    }
+}
+
+/// The variables of a comparison of equal labels or of nodes, where the left side binds one of them alone.
 fn link_of(ops: &[Op], left: u32, test: &Test) -> Option<Link>
     requires typed { IsTyped (map op_of ops.now) }
     requires op { left < length (map op_of ops.now) }
@@ -27,17 +47,19 @@ fn link_of(ops: &[Op], left: u32, test: &Test) -> Option<Link>
     let Operand::Var(other) = &test.right else {
         return None;
     };
-    if !matches!(test.op, TestOp::Eq) {
+    let Some(by) = link_kind(test.op) else {
         return None;
-    }
+    };
     match (binds(ops, left, test.left), binds(ops, left, *other)) {
         (true, false) => Some(Link {
             left: test.left,
             right: *other,
+            by,
         }),
         (false, true) => Some(Link {
             left: *other,
             right: test.left,
+            by,
         }),
         _ => None,
     }

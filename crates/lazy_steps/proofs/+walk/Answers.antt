@@ -295,6 +295,9 @@ pair_steps::Pairs::step-next_left-requires g t c κs within =
 pub pair_steps::Pairs::step-returns-in_err-start-in_default : goal.pair_steps::Pairs::step-returns-in_err-start-in_default
 pair_steps::Pairs::step-returns-in_err-start-in_default g t c = shaped c.args.at.now (pairs_up c.args.self.now.left c.args.self.now.right c.args.self.now.tests.now) c.requires.is (record { ran = ran_nothing g.met.S.Sources.same c.args.self.now.walk.op _ c.args.s.now c.args.growing.now c.requires.can.bench; cause = search rules; answer = search rules })
 
+pub pair_steps::Pairs::step-returns-in_err-place-in-Pair : goal.pair_steps::Pairs::step-returns-in_err-place-in-Pair
+pair_steps::Pairs::step-returns-in_err-place-in-Pair g t c = shaped c.args.at.now (pairs_up c.args.self.now.left c.args.self.now.right c.args.self.now.tests.now) c.requires.is (record { ran = ran_nothing g.met.S.Sources.same c.args.self.now.walk.op _ c.args.s.now c.args.growing.now c.requires.can.bench; cause = search rules; answer = search rules })
+
 pub pair_steps::Pairs::step-returns-in_ok-start-in_default : goal.pair_steps::Pairs::step-returns-in_ok-start-in_default
 pair_steps::Pairs::step-returns-in_ok-start-in_default g t c =
     let begins = pair_or_start (operators c.args.self.now.walk.fixed.now) c.args.self.now.walk.op c.args.self.now.left c.args.self.now.right c.args.self.now.tests.now (world_of (g.S.Sources.view c.args.s.now) c.args.growing.now) c.args.at.now (in_shape c.requires.can (pairs_up c.args.self.now.left c.args.self.now.right c.args.self.now.tests.now) c.requires.is) (λ q x q' y m e. c.in_default.not-Pair (record { ptr = q.ptr; value = x }) (record { ptr = q'.ptr; value = y }) m e) in
@@ -715,10 +718,13 @@ pair_steps::Pairs::next_new-at_found-requires-clause-can g t c = record {
   fixed = c.requires.can.fixed;
   op = c.requires.op;
   is = c.requires.is;
-  place = c.in-Some.ensures.place.1;
+  place = (rw c.in-Some.is at c.in_ok-found.ensures.place).1;
   cursor = (_, c.grow.ensures.ran.bench, (can_then c.members.invariant.can (g.S.Sources.view c.grow.new.s) c.grow.new.growing c.grow.ensures.ran.bench c.grow.ensures.ran.asks.kept).cursor);
   row = c.requires.row;
 }
+
+pub pair_steps::Pairs::next_new-returns-in_err-found : goal.pair_steps::Pairs::next_new-returns-in_err-found
+pair_steps::Pairs::next_new-returns-in_err-found g t c = (let i = c.members.invariant in record { ran = ran_then g.met.S.Sources.after i.came i.goes (beside_ran c.args.self.now.left c.args.self.now.right c.args.self.now.walk.op c.args.self.now.tests.now i.can c.requires.row c.requires.op c.requires.is c.grow.ensures.ran); cause = search rules; answer = search rules })
 
 pub pair_steps::Pairs::next_new-returns-in-Some : goal.pair_steps::Pairs::next_new-returns-in-Some
 pair_steps::Pairs::next_new-returns-in-Some g t c =
@@ -729,7 +735,7 @@ pair_steps::Pairs::next_new-returns-in-Some g t c =
     record {
       ran = ran_then g.met.S.Sources.after i.came i.goes (beside_ran c.args.self.now.left c.args.self.now.right c.args.self.now.walk.op c.args.self.now.tests.now i.can c.requires.row c.requires.op c.requires.is c.grow.ensures.ran);
       cause = search rules;
-      answer = goes_result _ i.goes (pairs_up c.args.self.now.left c.args.self.now.right c.args.self.now.tests.now) c.at_found.result (more_steps c.args.self.now.left c.args.self.now.right c.args.self.now.walk.op c.args.self.now.tests.now i.can c.requires.row c.requires.op c.requires.is c.grow.ensures.ran grown c.len-place.result behind c.in-Some.found c.in-Some.ensures.place c.at_found.result pair);
+      answer = goes_result _ i.goes (pairs_up c.args.self.now.left c.args.self.now.right c.args.self.now.tests.now) c.at_found.result (more_steps c.args.self.now.left c.args.self.now.right c.args.self.now.walk.op c.args.self.now.tests.now i.can c.requires.row c.requires.op c.requires.is c.grow.ensures.ran grown c.len-place.result behind c.in-Some.found (rw c.in-Some.is at c.in_ok-found.ensures.place) c.at_found.result pair);
     }
 
 pub pair_steps::Pairs::next_new-members-preserved : goal.pair_steps::Pairs::next_new-members-preserved
@@ -739,7 +745,7 @@ pair_steps::Pairs::next_new-members-preserved g t c =
     let can = can_then i.can (g.S.Sources.view c.grow.new.s) c.grow.new.growing c.grow.ensures.ran.bench c.grow.ensures.ran.asks.kept in
     record {
       came = g.met.S.Sources.after _ _ _ i.came c.grow.ensures.ran.came;
-      goes = goes_then i.goes (more_goes c.args.self.now.left c.args.self.now.right c.args.self.now.walk.op c.args.self.now.tests.now i.can c.requires.row c.requires.op c.requires.is c.grow.ensures.ran grown c.len-place.result (c.len-place.ensures ∙ ap (λ (m : Kept (Rc Position Global)). length m.pairs) (memo_read (g.S.Sources.view c.members.s) c.members.growing (operators c.args.self.now.walk.fixed.now) i.can.bench c.args.self.now.walk.op c.requires.op c.index-memo.result.now c.index-memo.ensures)) c.next_known.result c.in_default.not-Some (c.next_known.ensures.next (g.S.Sources.view c.grow.new.s) c.grow.ensures.ran.bench can.cursor));
+      goes = goes_then i.goes (more_goes c.args.self.now.left c.args.self.now.right c.args.self.now.walk.op c.args.self.now.tests.now i.can c.requires.row c.requires.op c.requires.is c.grow.ensures.ran grown c.len-place.result (c.len-place.ensures ∙ ap (λ (m : Kept (Rc Position Global)). length m.pairs) (memo_read (g.S.Sources.view c.members.s) c.members.growing (operators c.args.self.now.walk.fixed.now) i.can.bench c.args.self.now.walk.op c.requires.op c.index-memo.result.now c.index-memo.ensures)) _ c.in_default.not-Some (c.in_ok-found.ensures.next (g.S.Sources.view c.grow.new.s) c.grow.ensures.ran.bench can.cursor));
       can = can;
     }
 
@@ -755,15 +761,15 @@ pair_steps::Pairs::step-returns-in-Some g t c =
     placed c.args.at.now _ c.in-Pair.is (pairs_up c.args.self.now.left c.args.self.now.right c.args.self.now.tests.now) c.requires.is (record {
       ran = ran_nothing g.met.S.Sources.same c.args.self.now.walk.op _ c.args.s.now c.args.growing.now c.requires.can.bench;
       cause = search rules;
-      answer = at_known c.requires.can c.args.self.now.left c.args.self.now.right c.args.self.now.tests.now c.requires.is _ _ _ _ _ c.in-Pair.is c.in-Some.place c.in-Some.ensures.place
-          (c.in-Some.ensures.next (g.S.Sources.view c.args.s.now) c.requires.can.bench here.0) c.at_found.result
+      answer = at_known c.requires.can c.args.self.now.left c.args.self.now.right c.args.self.now.tests.now c.requires.is _ _ _ _ _ c.in-Pair.is c.in-Some.place (rw c.in-Some.is at c.in_ok-place-in-Pair.ensures.place)
+          ((rw c.in-Some.is at c.in_ok-place-in-Pair.ensures.next) (g.S.Sources.view c.args.s.now) c.requires.can.bench here.0) c.at_found.result
           (IfOk-weaker c.at_found.result _ _ (λ z h. h (g.S.Sources.view c.args.s.now) c.requires.can.bench here.0) c.at_found.ensures.answer);
     })
 
 pub pair_steps::Pairs::step-returns-in-None : goal.pair_steps::Pairs::step-returns-in-None
 pair_steps::Pairs::step-returns-in-None g t c =
     let here = in_pair c.requires.can c.args.self.now.left c.args.self.now.right c.args.self.now.tests.now c.requires.is _ _ _ _ _ c.in-Pair.is in
-    let goes = at_none c.requires.can c.args.self.now.left c.args.self.now.right c.args.self.now.tests.now c.requires.is _ _ _ _ _ c.in-Pair.is (c.in-None.ensures.next (g.S.Sources.view c.args.s.now) c.requires.can.bench here.0) in
+    let goes = at_none c.requires.can c.args.self.now.left c.args.self.now.right c.args.self.now.tests.now c.requires.is _ _ _ _ _ c.in-Pair.is ((rw c.in-None.is at c.in_ok-place-in-Pair.ensures.next) (g.S.Sources.view c.args.s.now) c.requires.can.bench here.0) in
     placed c.args.at.now _ c.in-Pair.is (pairs_up c.args.self.now.left c.args.self.now.right c.args.self.now.tests.now) c.requires.is (record {
       ran = ran_then g.met.S.Sources.after (g.met.S.Sources.same c.args.s.now) goes c.next_new.ensures.ran;
       cause = c.next_new.ensures.cause;

@@ -9,7 +9,8 @@ use Rattle.plan_core.specs.PlanMade.{op_of}
 use Rattle.plan_core.specs.Shapes.{shape_of}
 use Rattle.lazy_binding.specs.declared.position.Position.{Position}
 use Rattle.lazy_binding.specs.Parts.{operators}
-use Rattle.lazy_binding.specs.Reading.{held_in, spot_in}
+use Rattle.lazy_binding.specs.Reading.{held_in}
+use Rattle.lazy_binding.specs.Spots.{spot_in}
 use Rattle.lazy_binding.proofs.RightSides.{right_spot}
 use Rattle.lazy_binding.proofs.SortedRows.{list_spots}
 use Rattle.lazy_binding.proofs.parts.Fixed.+holder.Goals as goal
