@@ -16,7 +16,7 @@ impl Sources for Watched {
 
     ghost view = { λ w. memory_view w.sources };
 
-    ghost came_from = { λ new old. CameFrom new.sources old.sources };
+    ghost came_from = { λ old new. CameFrom old.sources new.sources };
 
     fn count(&self) -> u32 {
         self.sources.count()

@@ -106,7 +106,7 @@ module _ {a b : World} (k : Keeps a b) where
       at n = ap (λ (z : List (List (List KeyPart))). seen_at (record { view = a.view; buffers = a.buffers; seen = z; memos = a.memos; walked = a.walked }) n) same
 
 -- a call on the buffer of one source
-module _ (v v' : View) (bs : List Buffer) (seen : List (List (List KeyPart))) (memos : List (Kept (Rc Position Global))) (walked : Walked) (ops : List Operator) (bench : IsBench (world v bs seen memos walked) ops) (keeps : KeepsView v' v)
+module _ (v v' : View) (bs : List Buffer) (seen : List (List (List KeyPart))) (memos : List (Kept (Rc Position Global))) (walked : Walked) (ops : List Operator) (bench : IsBench (world v bs seen memos walked) ops) (keeps : KeepsView v v')
     (s : ℕ) (x y : Buffer) (there : slice_get bs s ≡ Some x) (goes : Goes v x v' y) (sources : IsSourcesOf v' y) (others : (c : Buffer) → IsSourcesOf v c → IsKept v v' c) where
   -- keeps what every call keeps
   pub buffer_keeps : Keeps (world v bs seen memos walked) (world v' (set bs s y) seen memos walked)

@@ -29,7 +29,7 @@ module _ {a b : World} (k : Keeps a b) (ops : List Operator) where
   forward-kept = reads-same b.view.forward a.view.forward k.view.forward ops
 
 -- a bound of the roots' weights below n
-roots_kept : (a b : View) → KeepsView b a → (n : ℕ) → ((s : ℕ) → s < n → a.knows s (a.root s) ≡ true) → roots_weight b n ≡ roots_weight a n
+roots_kept : (a b : View) → KeepsView a b → (n : ℕ) → ((s : ℕ) → s < n → a.knows s (a.root s) ≡ true) → roots_weight b n ≡ roots_weight a n
 roots_kept a b k zero h = refl
 roots_kept a b k (suc n) h =
     let w : b.weight n (b.root n) ≡ a.weight n (a.root n) = ap (b.weight n) (k.root n) ∙ k.weight n (a.root n) (h n (omega arith)) in

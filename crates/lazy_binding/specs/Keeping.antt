@@ -22,7 +22,7 @@ FoundStay old new = (n number place : ℕ) (c : Position) → IsFound old n numb
 
 -- the sources keep what every call of theirs keeps, each buffer goes on, the lists of keys that were seen and the memos only grow, and so do the members of groups that were found
 pub record Keeps (old new : World) : Type 0 where
-  pub view : KeepsView new.view old.view
+  pub view : KeepsView old.view new.view
   pub buffers : length new.buffers ≡ length old.buffers
   pub goes : (s : ℕ) (b : Buffer) → buffer_at old s ≡ Some b → GoesOn old new s b
   pub lists : length new.seen ≡ length old.seen

@@ -96,8 +96,8 @@ less_times x y r s h k = omega (arith, mul-le (suc x) (suc s) y (suc s) h (le_sa
 
 module _ {S : Type 0} {view : S → View} {came_from : S → S → Type 0} {ops : List Operator} where
   -- one call after another, where the first left events ahead
-  pub ran_then : ((x y z : S) → came_from y x → came_from z y → came_from z x) → {n : ℕ} {whole now : RowEvents} {top num : ℕ} {s t u : S} {g h i : Growing}
-      → came_from t s → Goes (world_of (view s) g) (world_of (view t) h) ops n whole now top num → Ran view came_from ops n now t h u i → Ran view came_from ops n whole s g u i
+  pub ran_then : ((x y z : S) → came_from x y → came_from y z → came_from x z) → {n : ℕ} {whole now : RowEvents} {top num : ℕ} {s t u : S} {g h i : Growing}
+      → came_from s t → Goes (world_of (view s) g) (world_of (view t) h) ops n whole now top num → Ran view came_from ops n now t h u i → Ran view came_from ops n whole s g u i
   ran_then after {n} {whole} {now} {top} {num} {s} {t} {u} came goes ran = record {
     came = after s t u came ran.came;
     bench = ran.bench;

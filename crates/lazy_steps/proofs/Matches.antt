@@ -109,7 +109,7 @@ match_read {w} {s} {d} k z e = record { buffer = z; there = k.there ∙ ap Some 
 
 -- what a call on the buffer of one source leaves
 pub call_asked : {S : Type 0} {view : S → View} {came_from : S → S → Type 0} {ops : List Operator} {es : List (Event (List ℕ))} {s t : S} {g h : Growing} (src : ℕ) (x y : Buffer)
-    → IsBench (world_of (view s) g) ops → slice_get g.buffers.items src ≡ Some x → KeepsView (view t) (view s) → Ran view came_from s x t y
+    → IsBench (world_of (view s) g) ops → slice_get g.buffers.items src ≡ Some x → KeepsView (view s) (view t) → Ran view came_from s x t y
     → h.buffers.items ≡ set g.buffers.items src y → h.seen.items ≡ g.seen.items → h.memos.items ≡ g.memos.items → h.walked ≡ g.walked
     → AsksAtMost (telling (world_of (view s) g) ops) (telling (world_of (view t) h) ops) (cost es)
     → Asked view came_from ops es s g t h

@@ -186,8 +186,8 @@ through_nothing {S} {view} {came_from} {ops} same i s g bench = record {
 }
 
 -- what a walk leaves as far as it came
-pub through : {S : Type 0} {view : S → View} {came_from : S → S → Type 0} {ops : List Operator} → ((x y z : S) → came_from y x → came_from z y → came_from z x)
-    → {i v : ℕ} {rows : List Labelled} {c : Position} {s t u : S} {g h j : Growing} → came_from t s → Gathered (world_of (view s) g) (world_of (view t) h) ops i v rows c
+pub through : {S : Type 0} {view : S → View} {came_from : S → S → Type 0} {ops : List Operator} → ((x y z : S) → came_from x y → came_from y z → came_from x z)
+    → {i v : ℕ} {rows : List Labelled} {c : Position} {s t u : S} {g h j : Growing} → came_from s t → Gathered (world_of (view s) g) (world_of (view t) h) ops i v rows c
     → IsBench (world_of (view t) h) ops → Ran view came_from ops i (ahead (world_of (view t) h) ops i c) t h u j → RanThrough view came_from ops i s g u j
 through {S} {view} after {i} {v} {rows} {c} {s} {t} {u} {g} {h} {j} came gathered bench ran = record {
   came = after s t u came ran.came;

@@ -57,7 +57,7 @@ AreAllOf old new k v rows = AreAll old new (operators k.fixed.now) k.op v rows
 
 -- what a walk over all events of an operator leaves, whatever it answers
 pub record RanThrough {S : Type 0} (view : S → View) (came_from : S → S → Type 0) (ops : List Operator) (i : ℕ) (s : S) (g : Growing) (s' : S) (g' : Growing) : Type 0 where
-  pub came : came_from s' s
+  pub came : came_from s s'
   pub bench : IsBench (world_of (view s') g') ops
   pub kept : Keeps (world_of (view s) g) (world_of (view s') g')
   pub above : KeepsAbove (world_of (view s) g) (world_of (view s') g') i

@@ -102,13 +102,13 @@ Steps old new ops n f es top r = Searches.Steps (telling old ops) (telling new o
 
 -- what a call on operator n leaves, whatever it answers
 pub record Ran {S : Type 0} (view : S → View) (came_from : S → S → Type 0) (ops : List Operator) (n : ℕ) (es : RowEvents) (s : S) (g : Growing) (s' : S) (g' : Growing) : Type 0 where
-  pub came : came_from s' s
+  pub came : came_from s s'
   pub bench : IsBench (world_of (view s') g') ops
   pub asks : Asks (world_of (view s) g) (world_of (view s') g') ops n es
 
 -- what a call of one visit over these of its places leaves, whatever it answers; what is remembered of each operator is as it was
 pub record Asked {S : Type 0} (view : S → View) (came_from : S → S → Type 0) (ops : List Operator) (es : List (Event (List ℕ))) (s : S) (g : Growing) (s' : S) (g' : Growing) : Type 0 where
-  pub came : came_from s' s
+  pub came : came_from s s'
   pub bench : IsBench (world_of (view s') g') ops
   pub kept : Keeps (world_of (view s) g) (world_of (view s') g')
   pub untouched : (j : ℕ) → IsUntouched (world_of (view s) g) (world_of (view s') g') j

@@ -60,7 +60,7 @@ root_trees a b input v op c at h later e o =
     ∙ ap (λ (x : TolledValue). trees_below (element_alone x)) o.value
 
 -- the walk to the root's first child
-pub root_walked : {S : Type 0} {view : S → View} {came_from : S → S → Type 0} → ((x y z : S) → came_from y x → came_from z y → came_from z x) → (s t u : S) (b d e : Bench) (input v op : ℕ) (c at : Position) (x : Origin)
+pub root_walked : {S : Type 0} {view : S → View} {came_from : S → S → Type 0} → ((x y z : S) → came_from x y → came_from y z → came_from x z) → (s t u : S) (b d e : Bench) (input v op : ℕ) (c at : Position) (x : Origin)
     → IsLast (ops_of (state_of (view s) b)) input v → BenchRan view came_from s b t d → AsksNoneOnSingle (state_of (view s) b) (state_of (view t) d) input
     → IsFirstOf (state_of (view s) b) (state_of (view t) d) input (events_of (state_of (view s) b) input) (size_of (state_of (view s) b) input) c
     → x ≡ Element op at → IsOriginOf (state_of (view t) d) input c v x

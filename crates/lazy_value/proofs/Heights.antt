@@ -73,7 +73,7 @@ gives_ranked j k l (Some (Item x r)) h = (let a = h.0 in omega (arith, a, l), le
 -- THE WEIGHTS OF THE SOURCES
 
 -- those below n are kept
-roots_kept : (a b : View) → KeepsView b a → (n : ℕ) → ((s : ℕ) → s < n → a.knows s (a.root s) ≡ true) → roots_weight b n ≡ roots_weight a n
+roots_kept : (a b : View) → KeepsView a b → (n : ℕ) → ((s : ℕ) → s < n → a.knows s (a.root s) ≡ true) → roots_weight b n ≡ roots_weight a n
 roots_kept a b k zero h = refl
 roots_kept a b k (suc n) h =
     let w : b.weight n (b.root n) ≡ a.weight n (a.root n) = ap (b.weight n) (k.root n) ∙ k.weight n (a.root n) (h n (omega arith)) in
@@ -81,7 +81,7 @@ roots_kept a b k (suc n) h =
     ap (λ (x : ℕ). x + roots_weight b n) w ∙ ap (λ (x : ℕ). a.weight n (a.root n) + x) rest
 
 -- no call changes what the roots of the sources weigh
-pub roots_same : (v w : View) (b c : Bench) → KeepsView w v → IsBenchOf v b → roots_of (state_of w c) ≡ roots_of (state_of v b)
+pub roots_same : (v w : View) (b c : Bench) → KeepsView v w → IsBenchOf v b → roots_of (state_of w c) ≡ roots_of (state_of v b)
 roots_same v w b c k h = ap (roots_weight w) k.count ∙ roots_kept v w k v.count h.bench.roots
 
 -- what lies below a spot weighs no more
@@ -100,26 +100,26 @@ pub spot_lower : (a b : BenchState) (s : ℕ) (f : Forest) (there : Option (List
 spot_lower a b s f there top q h = h.falls
 
 -- a member of a list of this rank
-pub ranked_lower : (a b : BenchState) (k : ℕ) → roots_of b ≡ roots_of a → (r : Option Site) → GivesRanked k r → IsLower b (roots_of a + suc k) r
+pub ranked_lower : (a b : BenchState) (k : ℕ) → roots_of b ≡ roots_of a → (r : Option Site) → GivesRanked k r → IsLower (roots_of a + suc k) b r
 ranked_lower a b k e None h = tt
 ranked_lower a b k e (Some Root) h = absurd h
 ranked_lower a b k e (Some (Inside s p)) h = absurd h
 ranked_lower a b k e (Some (Item x r)) h = let m = max-le h.0 h.1 in omega (arith, e, m)
 
 -- what is below a smaller number
-pub lower_more : (b : BenchState) (m n : ℕ) → m ≤ n → (r : Option Site) → IsLower b m r → IsLower b n r
+pub lower_more : (b : BenchState) (m n : ℕ) → m ≤ n → (r : Option Site) → IsLower m b r → IsLower n b r
 lower_more b m n l None h = tt
 lower_more b m n l (Some x) h = omega (arith, l, h)
 
 -- the trees behind a member
-pub ranked_behind : (a b : BenchState) (x : Head) (k : ℕ) → roots_of b ≡ roots_of a → (r : Option Site) → GivesRanked k r → IsNoHigher b (roots_of a + max (head_rank x) k) r
+pub ranked_behind : (a b : BenchState) (x : Head) (k : ℕ) → roots_of b ≡ roots_of a → (r : Option Site) → GivesRanked k r → IsNoHigher (roots_of a + max (head_rank x) k) b r
 ranked_behind a b x k e None h = tt
 ranked_behind a b x k e (Some Root) h = absurd h
 ranked_behind a b x k e (Some (Inside s p)) h = absurd h
 ranked_behind a b x k e (Some (Item y r)) h = let m = max-le h.0 h.1 in let n = le-max_right (head_rank x) k in omega (arith, e, m, n)
 
 -- what is lower is no higher
-pub lower_no_higher : (b : BenchState) (m n : ℕ) → m ≤ n → (r : Option Site) → IsLower b m r → IsNoHigher b n r
+pub lower_no_higher : (b : BenchState) (m n : ℕ) → m ≤ n → (r : Option Site) → IsLower m b r → IsNoHigher n b r
 lower_no_higher b m n l None h = tt
 lower_no_higher b m n l (Some x) h = omega (arith, l, h)
 
@@ -130,7 +130,7 @@ heights_kept a b k e (Inside s p) h = let z = k.spots s p h in let x = z.below i
 heights_kept a b k e (Item x r) h = omega (arith, e)
 
 -- what a call leaves of a mediator
-pub mediator_walked : {S : Type 0} {view : S → View} {came_from : S → S → Type 0} → ((a b : S) → came_from b a → KeepsView (view b) (view a)) → (s t : S) (m n : Mediator) (most : ℕ) → IsMediatorOf (view s) m
+pub mediator_walked : {S : Type 0} {view : S → View} {came_from : S → S → Type 0} → ((a b : S) → came_from a b → KeepsView (view a) (view b)) → (s t : S) (m n : Mediator) (most : ℕ) → IsMediatorOf (view s) m
     → Walked view came_from s m.bench t n.bench most → MediatorWalked view came_from s m t n
 mediator_walked {view = view} keeps s t m n most h w =
     let same = roots_same (view s) (view t) m.bench n.bench (keeps s t w.came) h in

@@ -33,7 +33,7 @@ turns_more a b f v w Over l h = h
 turns_more a b f v w (At n) l h = h
 turns_more a b f v w (On r) l h = record { rest = h.rest; falls = (let z = h.falls in omega (arith, z, l)); trees = h.trees }
 
-falls_more : (b : BenchState) (v w : ℕ) (t : Turn) → v ≤ w → Falls b v t → Falls b w t
+falls_more : (b : BenchState) (v w : ℕ) (t : Turn) → v ≤ w → Falls v b t → Falls w b t
 falls_more b v w Over l h = tt
 falls_more b v w (At n) l h = omega (arith, l, h)
 falls_more b v w (On r) l h = omega (arith, l, h)
@@ -84,8 +84,8 @@ module _ (st : BenchState) (op next : ℕ) (at : Position) (up : Rest) (there : 
         var_turns t (subst (λ (r : Rest). Turns st st (value_trees (documents st) (value_of st origin) (rest_trees st r)) (suc (origin_size st origin + weight st r)) t) e
         (f o.origin (subst (λ (r : Rest). IsRest st r) (sym e) rest_on)))
 
-    var_falls : (t : Turn) → Falls st (origin_extent st origin + left st (Pieces' op at (next + 1) ways q up)) t
-        → Falls st (pieces_extent st op next + left st up) t
+    var_falls : (t : Turn) → Falls (origin_extent st origin + left st (Pieces' op at (next + 1) ways q up)) st t
+        → Falls (pieces_extent st op next + left st up) st t
     var_falls t w =
         let c = count_on (extent (size_of st) (ops_of st) (input_at (ops_of st) op)) in
         let d = ap (piece_count (extent (size_of st) (ops_of st) (input_at (ops_of st) op))) p in
@@ -93,10 +93,10 @@ module _ (st : BenchState) (op next : ℕ) (at : Position) (up : Rest) (there : 
         falls_more st _ _ t (omega (arith, c, d, e)) w
 
     -- the same, where the rest is put together apart
-    pub var_fallen : (x : Rest) → x ≡ Pieces' op at (next + 1) ways q up → (t : Turn) → (IsOrigin st origin → IsRest st x → Falls st (origin_extent st origin + left st x) t)
-        → Falls st (pieces_extent st op next + left st up) t
+    pub var_fallen : (x : Rest) → x ≡ Pieces' op at (next + 1) ways q up → (t : Turn) → (IsOrigin st origin → IsRest st x → Falls (origin_extent st origin + left st x) st t)
+        → Falls (pieces_extent st op next + left st up) st t
     var_fallen x e t f =
-        var_falls t (subst (λ (r : Rest). Falls st (origin_extent st origin + left st r) t) e (f o.origin (subst (λ (r : Rest). IsRest st r) (sym e) rest_on)))
+        var_falls t (subst (λ (r : Rest). Falls (origin_extent st origin + left st r) st t) e (f o.origin (subst (λ (r : Rest). IsRest st r) (sym e) rest_on)))
 
   module _ (x : Head) (k : IsHeadOf st op next at x) where
     -- the tree of a piece that is no list is the first of the pieces

@@ -70,8 +70,8 @@ pub walked_ran : {S : Type 0} {view : S → View} {came_from : S → S → Type 
 walked_ran ran most asks = record { came = ran.came; bench = ran.bench; kept = ran.kept; asks = asks }
 
 -- what two calls leave, where the first left later trees
-pub walked_then : {S : Type 0} {view : S → View} {came_from : S → S → Type 0} → ((x y z : S) → came_from y x → came_from z y → came_from z x) → {s t u : S} {b c d : Bench} {f g : Tolled}
-    → came_from t s → Paid (state_of (view s) b) (state_of (view t) c) f g → Walked view came_from t c u d (toll g) → Walked view came_from s b u d (toll f)
+pub walked_then : {S : Type 0} {view : S → View} {came_from : S → S → Type 0} → ((x y z : S) → came_from x y → came_from y z → came_from x z) → {s t u : S} {b c d : Bench} {f g : Tolled}
+    → came_from s t → Paid (state_of (view s) b) (state_of (view t) c) f g → Walked view came_from t c u d (toll g) → Walked view came_from s b u d (toll f)
 walked_then {S} {view} after {s} {t} {u} {b} {c} {d} came paid walked = record {
   came = after s t u came walked.came;
   bench = walked.bench;

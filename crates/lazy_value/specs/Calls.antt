@@ -51,8 +51,8 @@ abbrev pub WalkedOver : {S : Type 0} → (S → View) → (S → S → Type 0) �
 WalkedOver view came_from s b s' b' es = Walked view came_from s b s' b' (cost (es (state_of (view s) b)))
 
 -- fewer trees than this are behind the node that was found
-abbrev pub HasFewer : BenchState → ℕ → Option Site → Type 0
-HasFewer st w r = MatchOption r (Unit {0}) (λ n. site_left st n < w)
+abbrev pub HasFewer : ℕ → BenchState → Option Site → Type 0
+HasFewer w st r = MatchOption r (Unit {0}) (λ n. site_left st n < w)
 
 -- the trees below a source's node, as they are charged
 abbrev pub kids_of_spot : BenchState → ℕ → Spot → Tolled
@@ -71,7 +71,7 @@ Enters st o r t =
 
 -- and how many trees are left then
 abbrev pub EnteringFalls : BenchState → Origin → Rest → Turn → Type 0
-EnteringFalls st o r t = IsOrigin st o → IsRest st r → Falls st (origin_extent st o + left st r) t
+EnteringFalls st o r t = IsOrigin st o → IsRest st r → Falls (origin_extent st o + left st r) st t
 
 -- a concatenation from one of its pieces on, ways from its cursor, and this behind it
 pub record InPieces (st : BenchState) (p : PiecesFrom) (ways : Ways) (up : Rest) : Type 0 where
@@ -87,7 +87,7 @@ TurnsPieces st p ways up t = InPieces st p ways up → Turns st st (pieces_trees
 
 -- and how many trees are left then
 abbrev pub PiecesFall : BenchState → PiecesFrom → Ways → Rest → Turn → Type 0
-PiecesFall st p ways up t = InPieces st p ways up → Falls st (pieces_extent st p.op p.next + left st up) t
+PiecesFall st p ways up t = InPieces st p ways up → Falls (pieces_extent st p.op p.next + left st up) st t
 
 -- a rest is these pieces, with these ways and this behind them
 pub record IsPiecesOf (p : PiecesFrom) (ways : Ways) (up r : Rest) : Type 0 where

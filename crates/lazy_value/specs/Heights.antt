@@ -69,9 +69,9 @@ site_height st (Inside s p) = below_at st s p + after_at st s p
 site_height st (Item head rest) = roots_of st + max (head_rank head) (rest_rank rest.value)
 
 -- the node that was found stands lower than this
-abbrev pub IsLower : BenchState → ℕ → Option Site → Type 0
-IsLower st height r = MatchOption r (Unit {0}) (λ n. site_height st n < height)
+abbrev pub IsLower : ℕ → BenchState → Option Site → Type 0
+IsLower height st r = MatchOption r (Unit {0}) (λ n. site_height st n < height)
 
 -- the node that was found stands no higher than this
-abbrev pub IsNoHigher : BenchState → ℕ → Option Site → Type 0
-IsNoHigher st height r = MatchOption r (Unit {0}) (λ n. site_height st n ≤ height)
+abbrev pub IsNoHigher : ℕ → BenchState → Option Site → Type 0
+IsNoHigher height st r = MatchOption r (Unit {0}) (λ n. site_height st n ≤ height)

@@ -33,20 +33,20 @@ abbrev pub node_left : BenchState → NodeId → ℕ
 node_left st n = ids.site_left st n.site
 
 -- fewer nodes than this are to the right of the node that was found
-abbrev pub HasFewer : BenchState → ℕ → Option NodeId → Type 0
-HasFewer st w r = MatchOption r (Unit {0}) (λ n. node_left st n < w)
+abbrev pub HasFewer : ℕ → BenchState → Option NodeId → Type 0
+HasFewer w st r = MatchOption r (Unit {0}) (λ n. node_left st n < w)
 
 -- a number of an identifier that no call raises, that falls with each step down, and that no step to the right raises
 abbrev pub node_height : BenchState → NodeId → ℕ
 node_height st n = heights.site_height st n.site
 
 -- the node that was found stands lower than this
-abbrev pub HasLower : BenchState → ℕ → Option NodeId → Type 0
-HasLower st height r = MatchOption r (Unit {0}) (λ n. node_height st n < height)
+abbrev pub HasLower : ℕ → BenchState → Option NodeId → Type 0
+HasLower height st r = MatchOption r (Unit {0}) (λ n. node_height st n < height)
 
 -- the node that was found stands no higher than this
-abbrev pub HasNoHigher : BenchState → ℕ → Option NodeId → Type 0
-HasNoHigher st height r = MatchOption r (Unit {0}) (λ n. node_height st n ≤ height)
+abbrev pub HasNoHigher : ℕ → BenchState → Option NodeId → Type 0
+HasNoHigher height st r = MatchOption r (Unit {0}) (λ n. node_height st n ≤ height)
 
 -- no earlier identifier stands higher than it stood
 abbrev pub KeepsHeights : BenchState → BenchState → Type 0
@@ -68,7 +68,7 @@ pub record NodesStay (old new : BenchState) : Type 0 where
 
 -- what a call leaves, whatever it answers: each earlier identifier stays, and stands no higher
 pub record MediatorWalked {S : Type 0} (view : S → View) (came_from : S → S → Type 0) (s : S) (m : Mediator) (s' : S) (m' : Mediator) : Type 0 where
-  pub came : came_from s' s
+  pub came : came_from s s'
   pub mediator : IsMediatorOf (view s') m'
   pub kept : KeepsBench (state_of (view s) m) (state_of (view s') m')
   pub nodes : NodesStay (state_of (view s) m) (state_of (view s') m')

@@ -16,7 +16,7 @@ use Rattle.lazy_value.specs.declared.ids.Turn.TheVariants.{Over, At, On}
 
 -- what a call leaves, whatever it answers: it keeps what every call keeps, and asks at most so many fills
 pub record Walked {S : Type 0} (view : S → View) (came_from : S → S → Type 0) (s : S) (b : Bench) (s' : S) (b' : Bench) (most : ℕ) : Type 0 where
-  pub came : came_from s' s
+  pub came : came_from s s'
   pub bench : IsBenchOf (view s') b'
   pub kept : KeepsBench (state_of (view s) b) (state_of (view s') b')
   pub asks : AsksAtMost (state_of (view s) b) (state_of (view s') b') most
@@ -54,10 +54,10 @@ Turns old new f w (At n) = StandsFor old new f n
 Turns old new f w (On r) = GoesOn old new f w r.value
 
 -- how many trees are left after it
-abbrev pub Falls : BenchState → ℕ → Turn → Type 0
-Falls st w Over = Unit {0}
-Falls st w (At n) = site_left st n < w
-Falls st w (On r) = left st r.value ≤ w
+abbrev pub Falls : ℕ → BenchState → Turn → Type 0
+Falls w st Over = Unit {0}
+Falls w st (At n) = site_left st n < w
+Falls w st (On r) = left st r.value ≤ w
 
 -- the cursor stands at the first binding of these events of a group, at this place
 abbrev pub IsMember : BenchState → BenchState → ℕ → ℕ → Position → ℕ → RowEvents → ℕ → Position → Type 0

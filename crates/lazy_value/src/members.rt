@@ -83,7 +83,7 @@ pub(crate) fn members<S: Sources>(
     ensures walked { WalkedTo S.view S.came_from s.old bench.old s.new bench.new (λ st. trees_of_members st list.now up.now.value) }
     ensures cause { HasCause (ops_of (state_of (S.view s.old) bench.old)) (S.view s.old) (S.view s.new) result }
     ensures answer { Between S.view s.old bench.old s.new bench.new (λ old new. IfOk result (TurnsMembers old new list.now up.now.value)) }
-    ensures left { Between S.view s.old bench.old s.new bench.new (λ old new. IfOk result (Falls new (behind_members old list.now up.now.value))) }
+    ensures left { Between S.view s.old bench.old s.new bench.new (λ old new. IfOk result (Falls (behind_members old list.now up.now.value) new)) }
     ensures rank { IfOk result (KeepsRank list.now.op up.now.value) }
 {
     let input = input_of(bench.plan(), list.op);
@@ -109,7 +109,7 @@ pub(crate) fn group<S: Sources>(
     ensures walked { WalkedTo S.view S.came_from s.old bench.old s.new bench.new (λ st. trees_of_group st group.now up.now.value) }
     ensures cause { HasCause (ops_of (state_of (S.view s.old) bench.old)) (S.view s.old) (S.view s.new) result }
     ensures answer { Between S.view s.old bench.old s.new bench.new (λ old new. IfOk result (TurnsGroup old new group.now up.now.value)) }
-    ensures left { Between S.view s.old bench.old s.new bench.new (λ old new. IfOk result (Falls new (behind_group old group.now up.now.value))) }
+    ensures left { Between S.view s.old bench.old s.new bench.new (λ old new. IfOk result (Falls (behind_group old group.now up.now.value) new)) }
     ensures rank { IfOk result (KeepsRank group.now.op up.now.value) }
 {
     match next_of_group(alloc, bench, s, group)? {

@@ -17,7 +17,7 @@ keeps_same v = record {
 }
 
 -- what is kept twice is kept
-pub keeps_twice : (a b c : View) → Keeps b a → Keeps c b → Keeps c a
+pub keeps_twice : (a b c : View) → Keeps a b → Keeps b c → Keeps a c
 keeps_twice a b c x y = record {
   count = y.count ∙ x.count;
   root = λ s. y.root s ∙ x.root s;
@@ -31,5 +31,5 @@ keeps_twice a b c x y = record {
 }
 
 -- a document whose hole was known stays the same
-pub document_kept : (old new : View) (s : ℕ) → Keeps new old → old.knows s (old.root s) ≡ true → document new s ≡ document old s
+pub document_kept : (old new : View) (s : ℕ) → Keeps old new → old.knows s (old.root s) ≡ true → document new s ≡ document old s
 document_kept old new s keeps known = ap (new.forest s) (keeps.root s) ∙ keeps.forest s (old.root s) known

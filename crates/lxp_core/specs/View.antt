@@ -29,7 +29,7 @@ abbrev pub document : View → ℕ → Forest
 document v s = v.forest s (v.root s)
 
 -- what every call keeps: which sources there are and what they mean, each known hole, and counts that don't fall
-pub record Keeps (new old : View) : Type 0 where
+pub record Keeps (old new : View) : Type 0 where
   pub count : new.count ≡ old.count
   pub root : (s : ℕ) → new.root s ≡ old.root s
   pub told : (s : ℕ) → new.told s ≡ old.told s

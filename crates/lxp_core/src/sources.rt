@@ -14,7 +14,7 @@ pub trait Sources {
     /// What this state means.
     ghost view: { Self → View };
 
-    /// `came_from new old`: the new state came from the old one by calls.
+    /// `came_from old new`: from the old state came the new one, by calls.
     ghost came_from: { Self → Self → Type 0 };
 
     /// How many sources there are. They are numbered from 0.
@@ -31,7 +31,7 @@ pub trait Sources {
     /// known and stands for the same trees.
     fn fill(&mut self, alloc: Global, s: u32, hole: HoleId) -> Result<Vec<OpenTree>, SourceFault>
         requires { s < (view self.old).count }
-        ensures came { came_from self.new self.old }
+        ensures came { came_from self.old self.new }
         // What the answer promises.
         ensures closes { IfOk result (λ list. (view self.old).told s ≡ true
             → closed ((view self.new).forest s) (plain list.items) ≡ (view self.old).forest s hole) }
@@ -57,10 +57,10 @@ pub trait Sources {
     ghost same: { (a : Self) → came_from a a };
 
     /// A state that came from one which came from a third came from that third.
-    ghost after: { (a b c : Self) → came_from b a → came_from c b → came_from c a };
+    ghost after: { (a b c : Self) → came_from a b → came_from b c → came_from a c };
 
     /// A state keeps what every call keeps of each state that it came from.
-    ghost keeps: { (a b : Self) → came_from b a → Keeps (view b) (view a) };
+    ghost keeps: { (a b : Self) → came_from a b → Keeps (view a) (view b) };
 
     /// The hole of a whole document is known.
     ghost root_known: { (a : Self) (s : ℕ) → s < (view a).count → (view a).knows s ((view a).root s) ≡ true };

@@ -51,7 +51,7 @@ next_list m s h = cut (nodes_at m.docs.items s) (choice_of (slice_index (choices
 
 -- a state came from another: it has the same documents and the same settings, its counts did not fall, and no count of
 -- faults rose where no fill in between is named as one that fails
-pub record CameFrom (new old : MemSources) : Type 0 where
+pub record CameFrom (old new : MemSources) : Type 0 where
   pub docs : new.docs.items ≡ old.docs.items
   pub forward : new.forward ≡ old.forward
   pub failing : failing_of new ≡ failing_of old

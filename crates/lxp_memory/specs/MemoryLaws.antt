@@ -24,7 +24,7 @@ came_same a = record {
 }
 
 -- a state that came from one which came from a third came from that third
-pub came_after : (a b c : MemSources) → CameFrom b a → CameFrom c b → CameFrom c a
+pub came_after : (a b c : MemSources) → CameFrom a b → CameFrom b c → CameFrom a c
 came_after a b c x y = record {
   docs = y.docs ∙ x.docs;
   forward = y.forward ∙ x.forward;
@@ -38,7 +38,7 @@ came_after a b c x y = record {
 }
 
 -- a state keeps what every call keeps of each state that it came from
-pub came_keeps : (a b : MemSources) → CameFrom b a → Keeps (memory_view b) (memory_view a)
+pub came_keeps : (a b : MemSources) → CameFrom a b → Keeps (memory_view a) (memory_view b)
 came_keeps a b x = record {
   count = ap length x.docs;
   root = λ s. refl;

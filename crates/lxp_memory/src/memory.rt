@@ -98,7 +98,7 @@ impl MemSources {
     fn fail(&mut self, s: usize)
         requires within { s < length self.old.docs.items }
         requires next { fails_next self.old ≡ true }
-        ensures came { CameFrom self.new self.old }
+        ensures came { CameFrom self.old self.new }
         ensures fills { self.new.fills ≡ self.old.fills + 1 }
         ensures faults { HasRisen (slice_index self.old.faults.items s) (slice_index self.new.faults.items s) }
         ensures others { (r : ℕ) → r ≢ s → slice_index self.new.faults.items r ≡ slice_index self.old.faults.items r }
@@ -132,7 +132,7 @@ impl Sources for MemSources {
 
     fn fill(&mut self, alloc: Global, s: u32, hole: HoleId) -> Result<Vec<OpenTree>, SourceFault>
         requires { s < (memory_view self.old).count }
-        ensures came { CameFrom self.new self.old }
+        ensures came { CameFrom self.old self.new }
         // What the answer promises.
         ensures closes { let old = memory_view self.old in let new = memory_view self.new in
             IfOk result (λ list. old.told s ≡ true → closed (new.forest s) (plain list.items) ≡ old.forest s hole) }

@@ -25,7 +25,7 @@ sources_unready old mid new view catalog sources v OutOfMemory steady cat rule h
 
 -- the catalog was read, then the view, and then the files of the sources
 pub sources_read : (old mid late new : FilesView) (view catalog : List ℕ) (sources : List SourceSpec) (v : RuleValue) → IsCatalogFile old catalog sources → IsRuleFile mid view (names_of_sources sources) v
-    → KeepsFiles mid old → KeepsFiles late mid → ReadsOnly catalog mid old → ReadsOnly view late mid → ReadsAmong (SourceMayRead late v sources) new late → ReadsAmong (TalkMayRead old view catalog) new old
+    → KeepsFiles old mid → KeepsFiles mid late → ReadsOnly catalog old mid → ReadsOnly view mid late → ReadsAmong (SourceMayRead late v sources) late new → ReadsAmong (TalkMayRead old view catalog) old new
 sources_read old mid late new view catalog sources v cat rule keeps later first second reads =
     let Sources : List SourceSpec → RuleValue → List ℕ → Type 0 = λ sources v. SourceMayRead old v sources in
     let one = reads_catalog Sources old view catalog mid first in

@@ -47,7 +47,7 @@ in_talk_is_manner asked q = record {
   more = λ answers more. spoken_more (names_of_sources q.sources) asked answers more;
 }
 
-module _ (files : FilesView) (a b : Mounting) (came : CameFrom b a) (basis : Basis) (mounted : AreMounted files (rule_of basis.rule) basis.catalog a.docs)
+module _ (files : FilesView) (a b : Mounting) (came : CameFrom a b) (basis : Basis) (mounted : AreMounted files (rule_of basis.rule) basis.catalog a.docs)
     (accepted : IsAccepted (length (names_of_sources basis.catalog)) (rule_of basis.rule)) (st : BenchState) (same : ops_of st ≡ operators_for (rule_of basis.rule))
     (docs_are : documents st ≡ documents_of a.tables a.docs) (ahead : IsTrue (forward st)) (t : LabelledTree)
     (document_is : all_told a.tables (rule_of basis.rule) basis.catalog ≡ true → IsDocument st t) (unasked : a.fills ≡ 0) (few : b.tables.pages ≤ a.tables.pages + b.fills)

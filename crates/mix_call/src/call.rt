@@ -50,11 +50,11 @@ pub fn mixq<F: Files, T: Tables, I: Input, K: Sink>(
 
     // Which files it may have read: none behind one that is refused.
     ensures reads { let old = F.view files.old in let words = map string_bytes words.now in
-        ReadsAmong (WordsMayRead old (talk_of words) (command_of words)) (F.view files.new) old }
+        ReadsAmong (WordsMayRead old (talk_of words) (command_of words)) old (F.view files.new) }
 
     // The contents of all files and the rows of all tables stay, and no count falls.
-    ensures keeps { KeepsFiles (F.view files.new) (F.view files.old) }
-    ensures keeps_tables { KeepsTables (T.view result.1) (T.view tables) }
+    ensures keeps { KeepsFiles (F.view files.old) (F.view files.new) }
+    ensures keeps_tables { KeepsTables (T.view tables) (T.view result.1) }
     ensures untouched { let words = map string_bytes words.now in
         talk_of words ≡ None → asks_tables (command_of words) ≡ false → result.1 ≡ tables }
     ensures input { (I.view streams.old.input).faults ≤ (I.view streams.new.input).faults }

@@ -50,9 +50,9 @@ pub struct Ready {
 // Reads the files of a talk, each accepted before the next is read: the catalog, the view, and then those of the sources that the view
 // names, in the order of the catalog.
 fn make_ready<F: Files>(alloc: Global, talking: &Talking<'_>, files: &mut F) -> Result<Ready, Stop>
-    ensures keeps { KeepsFiles (F.view files.new) (F.view files.old) }
+    ensures keeps { KeepsFiles (F.view files.old) (F.view files.new) }
     ensures reads { let old = F.view files.old in
-        ReadsAmong (TalkMayRead old talking.now.view.now talking.now.catalog.now) (F.view files.new) old }
+        ReadsAmong (TalkMayRead old talking.now.view.now talking.now.catalog.now) old (F.view files.new) }
     ensures ok { let t = talking.now in IfOk result (IsReady (F.view files.old) t.view.now t.catalog.now) }
     ensures err { let t = talking.now in IfErr result (IsReadyStop (F.view files.old) (F.view files.new) t.view.now t.catalog.now) }
 {
@@ -75,7 +75,7 @@ fn talk_over<T: Tables, I: Input, K: Sink>(
     requires accepted { IsAccepted (length (names_of_sources basis.now.catalog)) (rule_of basis.now.rule) }
     requires mounted { (files : FilesView) × AreMounted files (rule_of basis.now.rule) basis.now.catalog (docs_of sources.old) }
     requires unasked { fills_of sources.old ≡ 0 }
-    ensures came { CameFrom (mounted_in T.view sources.new) (mounted_in T.view sources.old) }
+    ensures came { CameFrom (mounted_in T.view sources.old) (mounted_in T.view sources.new) }
     ensures end { IsMountedEnd (mounted_in T.view sources.old) (mounted_in T.view sources.new) basis.now
         (I.view streams.old.input) (I.view streams.new.input) (K.view streams.old.out) (K.view streams.new.out) result }
     ensures input { (I.view streams.old.input).faults ≤ (I.view streams.new.input).faults }
@@ -99,7 +99,7 @@ fn talk_ready<T: Tables, I: Input, K: Sink>(
     requires accepted { IsAccepted (length (names_of_sources ready.basis.catalog)) (rule_of ready.basis.rule) }
     requires mounted { (files : FilesView) × AreMounted files (rule_of ready.basis.rule) ready.basis.catalog ready.docs.items }
     requires few { length ready.docs.items ≤ 32 }
-    ensures keeps { KeepsTables (T.view result.1) (T.view tables) }
+    ensures keeps { KeepsTables (T.view tables) (T.view result.1) }
     ensures end { (fills : ℕ) × TalkedAlong (TalkOver fills (T.view tables) (T.view result.1) ready.docs.items ready.basis)
         (I.view streams.old.input) (I.view streams.new.input) (K.view streams.old.out) (K.view streams.new.out) result.0 }
     ensures input { (I.view streams.old.input).faults ≤ (I.view streams.new.input).faults }
@@ -141,9 +141,9 @@ pub fn talk<F: Files, T: Tables, I: Input, K: Sink>(
         TalkEnds (outside (F.view files.old) (T.view tables)) (outside (F.view files.new) (T.view result.1)) t.view.now t.catalog.now
         (I.view streams.old.input) (I.view streams.new.input) (K.view streams.old.out) (K.view streams.new.out) result.0 }
     ensures reads { let old = F.view files.old in
-        ReadsAmong (TalkMayRead old talking.now.view.now talking.now.catalog.now) (F.view files.new) old }
-    ensures keeps { KeepsFiles (F.view files.new) (F.view files.old) }
-    ensures keeps_tables { KeepsTables (T.view result.1) (T.view tables) }
+        ReadsAmong (TalkMayRead old talking.now.view.now talking.now.catalog.now) old (F.view files.new) }
+    ensures keeps { KeepsFiles (F.view files.old) (F.view files.new) }
+    ensures keeps_tables { KeepsTables (T.view tables) (T.view result.1) }
     ensures input { (I.view streams.old.input).faults ≤ (I.view streams.new.input).faults }
     ensures count { (K.view streams.old.out).faults ≤ (K.view streams.new.out).faults }
 {

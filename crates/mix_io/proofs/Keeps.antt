@@ -7,7 +7,7 @@ pub keeps_files_same : (view : FilesView) → KeepsFiles view view
 keeps_files_same view = record { told = λ _. refl; faults = λ _. omega arith; furthest = λ _. omega arith }
 
 -- what two calls keep, both together keep
-pub keeps_files_twice : (old between new : FilesView) → KeepsFiles between old → KeepsFiles new between → KeepsFiles new old
+pub keeps_files_twice : (old between new : FilesView) → KeepsFiles old between → KeepsFiles between new → KeepsFiles old new
 keeps_files_twice old between new first second =
     record {
       told = λ path. second.told path ∙ first.told path;

@@ -11,14 +11,14 @@ pub record FilesView : Type 0 where
   pub furthest : List ℕ → ℕ
 
 -- what every call keeps of files: their contents, and no count and no end falls
-pub record KeepsFiles (new old : FilesView) : Type 0 where
+pub record KeepsFiles (old new : FilesView) : Type 0 where
   pub told : (path : List ℕ) → new.told path ≡ old.told path
   pub faults : (path : List ℕ) → old.faults path ≤ new.faults path
   pub furthest : (path : List ℕ) → old.furthest path ≤ new.furthest path
 
 -- of no path but this one was more read than before
 abbrev pub ReadsOnly : List ℕ → FilesView → FilesView → Type 0
-ReadsOnly path new old = (other : List ℕ) → ¬ (other ≡ path) → new.furthest other ≡ old.furthest other
+ReadsOnly path old new = (other : List ℕ) → ¬ (other ≡ path) → new.furthest other ≡ old.furthest other
 
 -- files that tell these contents, of which nothing was read yet
 abbrev pub unread : (List ℕ → Option (List ℕ)) → FilesView

@@ -49,14 +49,14 @@ pub trait Files {
         from: u64,
         room: &mut [u8],
     ) -> Result<usize, ReadAtFault>
-        ensures keeps { KeepsFiles (view self.new) (view self.old) }
+        ensures keeps { KeepsFiles (view self.old) (view self.new) }
         ensures bound { IfOk result (λ count. count ≤ length room.new) }
         ensures bytes { IfOk result (λ count. IfSome ((view self.old).told path.now) (λ contents. GivesFrom contents from count room.new)) }
         ensures failed { IsErrOf result ReadAtFault.Failed → HasRisen ((view self.old).faults path.now) ((view self.new).faults path.now) }
         ensures steady { OnOk result ((p : List ℕ) → (view self.new).faults p ≡ (view self.old).faults p) }
         ensures end { IfOk result (λ count. (view self.new).furthest path.now ≡ end_after ((view self.old).furthest path.now) from count) }
         ensures end_err { OnErr result ((view self.new).furthest path.now ≡ (view self.old).furthest path.now) }
-        ensures others { ReadsOnly path.now (view self.new) (view self.old) };
+        ensures others { ReadsOnly path.now (view self.old) (view self.new) };
 }
 
 /// The furthest end after a read of `count` bytes at an offset.

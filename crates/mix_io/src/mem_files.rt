@@ -99,14 +99,14 @@ impl Files for MemFiles {
         from: u64,
         room: &mut [u8],
     ) -> Result<usize, ReadAtFault>
-        ensures keeps { KeepsFiles (mem_files_view self.new) (mem_files_view self.old) }
+        ensures keeps { KeepsFiles (mem_files_view self.old) (mem_files_view self.new) }
         ensures bound { IfOk result (λ count. count ≤ length room.new) }
         ensures bytes { IfOk result (λ count. IfSome ((mem_files_view self.old).told path.now) (λ contents. GivesFrom contents from count room.new)) }
         ensures failed { IsErrOf result ReadAtFault.Failed → HasRisen ((mem_files_view self.old).faults path.now) ((mem_files_view self.new).faults path.now) }
         ensures steady { OnOk result ((p : List ℕ) → (mem_files_view self.new).faults p ≡ (mem_files_view self.old).faults p) }
         ensures end { IfOk result (λ count. (mem_files_view self.new).furthest path.now ≡ end_after ((mem_files_view self.old).furthest path.now) from count) }
         ensures end_err { OnErr result ((mem_files_view self.new).furthest path.now ≡ (mem_files_view self.old).furthest path.now) }
-        ensures others { ReadsOnly path.now (mem_files_view self.new) (mem_files_view self.old) }
+        ensures others { ReadsOnly path.now (mem_files_view self.old) (mem_files_view self.new) }
         // Which reads fail: those that the list names, and those of a path without a file.
         ensures named { OnErr result (next_contents self.old path.now ≡ None) }
         ensures fails { next_contents self.old path.now ≡ None → IsErrOf result ReadAtFault.Failed }

@@ -147,7 +147,7 @@ impl OsFiles {
         ensures err { OnErr result (os_files_view self.new ≡ os_files_view self.old) }
         ensures memory { OnErr result (result ≡ Err OutOfMemory) }
         ensures faults { self.new.faults ≡ self.old.faults }
-        ensures others { ReadsOnly path.now (os_files_view self.new) (os_files_view self.old) }
+        ensures others { ReadsOnly path.now (os_files_view self.old) (os_files_view self.new) }
     {
         let path = String::from_str(alloc, path)?;
         self.ends.insert(path, end)?;

@@ -57,8 +57,8 @@ fn zeros(alloc: Global, count: usize) -> Result<Vec<u8>, AllocError>
 
 /// All bytes of a file. After an error nothing of them is handed out.
 pub fn read_whole<F: Files>(alloc: Global, files: &mut F, path: &str) -> Result<Vec<u8>, ReadWhole>
-    ensures keeps { KeepsFiles (F.view files.new) (F.view files.old) }
-    ensures others { ReadsOnly path.now (F.view files.new) (F.view files.old) }
+    ensures keeps { KeepsFiles (F.view files.old) (F.view files.new) }
+    ensures others { ReadsOnly path.now (F.view files.old) (F.view files.new) }
     ensures ok { IfOk result (λ bytes. IfSome ((F.view files.old).told path.now) (λ contents. bytes.items ≡ contents)) }
     ensures short { IfOk result (λ bytes. vec_len bytes ≤ WHOLE_LIMIT) }
     ensures steady { OnOk result ((p : List ℕ) → (F.view files.new).faults p ≡ (F.view files.old).faults p) }

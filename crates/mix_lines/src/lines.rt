@@ -34,7 +34,7 @@ pub fn write_lines<W: Walker + Drop, S: Sources, K: Sink>(
 ) -> Result<bool, LinesFault>
     requires ready { (W.means (S.view s.old) walker).IsReady }
     requires names { (n : ℕ) → (W.means (S.view s.old) walker).course.MayFail n → n < length script.names.now }
-    ensures came { S.came_from s.new s.old }
+    ensures came { S.came_from s.old s.new }
     ensures ends { let c = (W.means (S.view s.old) walker).course in
         Ends c (S.view s.old) (S.view s.new) script.entry.names.now script.entry.steps.now (K.view out.old) (K.view out.new) result }
     ensures told { let c = (W.means (S.view s.old) walker).course in (t : LabelledTree) → c.IsDocument t

@@ -32,7 +32,7 @@ pub fn run_lines<S: Sources, K: Sink>(
 ) -> Result<bool, LinesFault>
     requires mediator { mediator.IsMediatorOf (S.view s.old) m }
     requires names { length names.now ≡ (S.view s.old).count }
-    ensures came { S.came_from s.new s.old }
+    ensures came { S.came_from s.old s.new }
     ensures ends { let c = plan_course (mediator.state_of (S.view s.old) m) in
         Ends c (S.view s.old) (S.view s.new) names.now steps.now (K.view out.old) (K.view out.new) result }
     ensures told { (t : LabelledTree) → IsDocument (mediator.state_of (S.view s.old) m) t

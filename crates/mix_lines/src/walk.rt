@@ -30,7 +30,7 @@ pub fn walk_lines<S: Sources, K: Sink>(
 ) -> Result<bool, LinesFault>
     requires source { number < (S.view s.old).count }
     requires names { length names.now ≡ (S.view s.old).count }
-    ensures came { S.came_from s.new s.old }
+    ensures came { S.came_from s.old s.new }
     ensures ends { let c = source_course (S.view s.old) number in
         Ends c (S.view s.old) (S.view s.new) names.now steps.now (K.view out.old) (K.view out.new) result }
     ensures told { (t : LabelledTree) → (S.view s.old).told number ≡ true → document (S.view s.old) number ≡ alone t

@@ -47,7 +47,7 @@ begun t visitor session none document alone = record {
 }
 
 -- a command of the client without a name was answered as on the tree
-pub taken : (old new : Visitor) (client : List ℕ) (act : Act) (a : Answer) → client ≡ [] → CameFrom (mounted_in no_tables_view new.sources) (mounted_in no_tables_view old.sources)
+pub taken : (old new : Visitor) (client : List ℕ) (act : Act) (a : Answer) → client ≡ [] → CameFrom (mounted_in no_tables_view old.sources) (mounted_in no_tables_view new.sources)
     → Stepped (meaning_of old) (meaning_of new) (view_of (mounted_in no_tables_view old.sources)) (view_of (mounted_in no_tables_view new.sources)) (held old.session.names) (held new.session.names) client act (Ok a)
     → (t : LabelledTree) (places : Names) → IsOn t places old → (a ≡ answer_of t places None [] act) × IsOn t (names_after t places [] act a) new
 taken old new client act a none came step t places on =

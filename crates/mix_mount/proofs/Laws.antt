@@ -42,11 +42,11 @@ module _ (a : Mounting) (t : LabelledTree) (one : IsAlone a t) where
   alone_unfailed (suc s) = ap (λ (docs : List Mount). faults a.tables (mount_at docs (suc s))) one.only
 
   -- it stays alone
-  pub alone_kept : (b : Mounting) → CameFrom b a → IsAlone b t
+  pub alone_kept : (b : Mounting) → CameFrom a b → IsAlone b t
   alone_kept b came = record {
     mount = one.mount;
     only = came.docs ∙ one.only;
     in_memory = one.in_memory;
-    told = told_kept b.tables a.tables came.tables one.mount ∙ one.told;
-    given = ap (λ (f : HoleId → Forest). f (root_hole one.mount)) (forest_kept b.tables a.tables came.tables one.mount) ∙ one.given;
+    told = told_kept a.tables b.tables came.tables one.mount ∙ one.told;
+    given = ap (λ (f : HoleId → Forest). f (root_hole one.mount)) (forest_kept a.tables b.tables came.tables one.mount) ∙ one.given;
   }

@@ -139,15 +139,15 @@ asked old new goal (Ok (Some n)) one h = let there = h one in (there.place, ther
 asked old new goal (Err fault) one h = tt
 
 -- the number of a child that was found
-pub lower_down : (v v' : View) (m m' : Mediator) (n : NodeId) (o : Result (Option NodeId) WalkFault) → IfOk o (HasLower (state_of v' m') (node_height (state_of v m) n))
+pub lower_down : (v v' : View) (m m' : Mediator) (n : NodeId) (o : Result (Option NodeId) WalkFault) → IfOk o (HasLower (node_height (state_of v m) n) (state_of v' m'))
     → Lifts (IfNode (IsSmaller (plan_meaning v m) (plan_meaning v' m') Down n)) o
 lower_down v v' m m' n (Ok None) h = tt
 lower_down v v' m m' n (Ok (Some c)) h = h
 lower_down v v' m m' n (Err fault) h = tt
 
 -- the numbers of a next sibling that was found
-pub fewer_right : (v v' : View) (m m' : Mediator) (n : NodeId) (o : Result (Option NodeId) WalkFault) → IfOk o (HasFewer (state_of v' m') (node_left (state_of v m) n))
-    → IfOk o (HasNoHigher (state_of v' m') (node_height (state_of v m) n)) → Lifts (IfNode (IsSmaller (plan_meaning v m) (plan_meaning v' m') Right n)) o
+pub fewer_right : (v v' : View) (m m' : Mediator) (n : NodeId) (o : Result (Option NodeId) WalkFault) → IfOk o (HasFewer (node_left (state_of v m) n) (state_of v' m'))
+    → IfOk o (HasNoHigher (node_height (state_of v m) n) (state_of v' m')) → Lifts (IfNode (IsSmaller (plan_meaning v m) (plan_meaning v' m') Right n)) o
 fewer_right v v' m m' n (Ok None) h k = tt
 fewer_right v v' m m' n (Ok (Some c)) h k = (h, k)
 fewer_right v v' m m' n (Err fault) h k = tt

@@ -23,7 +23,7 @@ fn step<W: Walker, S: Sources>(
 ) -> Result<Option<W::Node>, WalkFault>
     requires ready { (W.means (S.view s.old) walker.old).IsReady }
     requires node { (W.means (S.view s.old) walker.old).IsNode n.now }
-    ensures came { S.came_from s.new s.old }
+    ensures came { S.came_from s.old s.new }
     ensures kept { W.keeps (S.view s.old) walker.old (S.view s.new) walker.new }
     ensures stays { Stays (W.means (S.view s.old) walker.old) (W.means (S.view s.new) walker.new) }
     ensures found { let m = W.means (S.view s.old) walker.old in let m' = W.means (S.view s.new) walker.new in
@@ -66,7 +66,7 @@ fn open_tree<W: Walker, S: Sources>(
 ) -> Result<Option<W::Node>, WalkFault>
     requires ready { (W.means (S.view s.old) walker.old).IsReady }
     requires node { (W.means (S.view s.old) walker.old).IsNode n.now }
-    ensures came { S.came_from s.new s.old }
+    ensures came { S.came_from s.old s.new }
     ensures kept { W.keeps (S.view s.old) walker.old (S.view s.new) walker.new }
     ensures there { IsThere (W.means (S.view s.old) walker.old) n.now }
     ensures walked { let m = W.means (S.view s.old) walker.old in
@@ -89,7 +89,7 @@ fn next_tree<W: Walker, S: Sources>(
 ) -> Result<Option<W::Node>, WalkFault>
     requires ready { (W.means (S.view s.old) walker.old).IsReady }
     requires node { (W.means (S.view s.old) walker.old).IsNode n.now }
-    ensures came { S.came_from s.new s.old }
+    ensures came { S.came_from s.old s.new }
     ensures kept { W.keeps (S.view s.old) walker.old (S.view s.new) walker.new }
     ensures walked { let m = W.means (S.view s.old) walker.old in
         Walked m (W.means (S.view s.new) walker.new) (S.view s.old) (S.view s.new) n.now (λ toll t p. toll Right p) result }
@@ -111,7 +111,7 @@ fn print_tree<W: Walker, S: Sources>(
 ) -> Result<(), WalkFault>
     requires ready { (W.means (S.view s.old) walker.old).IsReady }
     requires node { (W.means (S.view s.old) walker.old).IsNode n.now }
-    ensures came { S.came_from s.new s.old }
+    ensures came { S.came_from s.old s.new }
     ensures kept { W.keeps (S.view s.old) walker.old (S.view s.new) walker.new }
     ensures there { IsThere (W.means (S.view s.old) walker.old) n.now }
     ensures walked { let m = W.means (S.view s.old) walker.old in
@@ -135,7 +135,7 @@ fn print_one<W: Walker, S: Sources>(
 ) -> Result<Option<W::Node>, WalkFault>
     requires ready { (W.means (S.view s.old) walker.old).IsReady }
     requires node { (W.means (S.view s.old) walker.old).IsNode n.now }
-    ensures came { S.came_from s.new s.old }
+    ensures came { S.came_from s.old s.new }
     ensures kept { W.keeps (S.view s.old) walker.old (S.view s.new) walker.new }
     ensures there { IsThere (W.means (S.view s.old) walker.old) n.now }
     ensures walked { let m = W.means (S.view s.old) walker.old in
@@ -158,7 +158,7 @@ fn print_trees<W: Walker, S: Sources>(
 ) -> Result<(), WalkFault>
     requires ready { (W.means (S.view s.old) walker.old).IsReady }
     requires node { (W.means (S.view s.old) walker.old).IsNode first }
-    ensures came { S.came_from s.new s.old }
+    ensures came { S.came_from s.old s.new }
     ensures kept { W.keeps (S.view s.old) walker.old (S.view s.new) walker.new }
     ensures walked { let m = W.means (S.view s.old) walker.old in
         Walked m (W.means (S.view s.new) walker.new) (S.view s.old) (S.view s.new) first siblings_toll result }
@@ -183,7 +183,7 @@ pub fn print<W: Walker, S: Sources>(
 ) -> Result<Answer, AllocError>
     requires ready { (W.means (S.view s.old) walker.old).IsReady }
     requires node { (W.means (S.view s.old) walker.old).IsNode n.now }
-    ensures came { S.came_from s.new s.old }
+    ensures came { S.came_from s.old s.new }
     ensures kept { W.keeps (S.view s.old) walker.old (S.view s.new) walker.new }
     ensures stays { Stays (W.means (S.view s.old) walker.old) (W.means (S.view s.new) walker.new) }
     ensures printed { let m = W.means (S.view s.old) walker.old in IfOk result (IsPrinted m (S.view s.old).faults (S.view s.new).faults n.now) }

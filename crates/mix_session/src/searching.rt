@@ -23,7 +23,7 @@ fn search<W: Walker, S: Sources>(
 ) -> Result<Found<W::Node>, AllocError>
     requires ready { (W.means (S.view s.old) walker.old).IsReady }
     requires node { (W.means (S.view s.old) walker.old).IsNode first }
-    ensures came { S.came_from s.new s.old }
+    ensures came { S.came_from s.old s.new }
     ensures kept { W.keeps (S.view s.old) walker.old (S.view s.new) walker.new }
     ensures stays { Stays (W.means (S.view s.old) walker.old) (W.means (S.view s.new) walker.new) }
     ensures found { let m = W.means (S.view s.old) walker.old in let m' = W.means (S.view s.new) walker.new in
@@ -55,7 +55,7 @@ pub fn select<W: Walker, S: Sources>(
 ) -> Result<Found<W::Node>, AllocError>
     requires ready { (W.means (S.view s.old) walker.old).IsReady }
     requires node { (W.means (S.view s.old) walker.old).IsNode n.now }
-    ensures came { S.came_from s.new s.old }
+    ensures came { S.came_from s.old s.new }
     ensures kept { W.keeps (S.view s.old) walker.old (S.view s.new) walker.new }
     ensures stays { Stays (W.means (S.view s.old) walker.old) (W.means (S.view s.new) walker.new) }
     ensures found { let m = W.means (S.view s.old) walker.old in let m' = W.means (S.view s.new) walker.new in

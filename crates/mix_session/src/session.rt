@@ -71,7 +71,7 @@ impl<W: Walker + Drop> Session<W> {
         step: &Step,
     ) -> Result<Answer, AllocError>
         requires { IsSession (W.means (S.view s.old) self.old.walker) (held self.old.names) }
-        ensures came { S.came_from s.new s.old }
+        ensures came { S.came_from s.old s.new }
         ensures kept { W.keeps (S.view s.old) self.old.walker (S.view s.new) self.new.walker }
         ensures stepped { let m = W.means (S.view s.old) self.old.walker in let m' = W.means (S.view s.new) self.new.walker in
             Stepped m m' (S.view s.old) (S.view s.new) (held self.old.names) (held self.new.names) step.now.client step.now.act result }

@@ -51,7 +51,7 @@ pub trait Walker {
         s: &mut S,
     ) -> Result<Found<Self::Node>, AllocError>
         requires { (means (S.view s.old) self.old).IsReady }
-        ensures came { S.came_from s.new s.old }
+        ensures came { S.came_from s.old s.new }
         ensures kept { keeps (S.view s.old) self.old (S.view s.new) self.new }
         ensures stays { Stays (means (S.view s.old) self.old) (means (S.view s.new) self.new) }
         ensures found { let m = means (S.view s.old) self.old in
@@ -70,7 +70,7 @@ pub trait Walker {
     ) -> Result<Found<Self::Node>, AllocError>
         requires ready { (means (S.view s.old) self.old).IsReady }
         requires node { (means (S.view s.old) self.old).IsNode n.now }
-        ensures came { S.came_from s.new s.old }
+        ensures came { S.came_from s.old s.new }
         ensures kept { keeps (S.view s.old) self.old (S.view s.new) self.new }
         ensures stays { Stays (means (S.view s.old) self.old) (means (S.view s.new) self.new) }
         ensures found { let m = means (S.view s.old) self.old in

@@ -39,7 +39,7 @@ fn answer_read<W: Walker + Drop, S: Sources, K: Sink>(
 ) -> Result<bool, LinesFault>
     requires session { IsSession (W.means (S.view s.old) session.old.walker) (held session.old.names) }
     requires names { (n : ℕ) → (W.means (S.view s.old) session.old.walker).course.MayFail n → n < length asked.now.names.now }
-    ensures came { S.came_from s.new s.old }
+    ensures came { S.came_from s.old s.new }
     ensures answered { IsReadAnswered s.old s.new session.old session.new S.view (λ s session. W.means (S.view s) session.walker)
         (λ session. held session.names) asked.now.names.now asked.now.read (K.view out.old) (K.view out.new) result }
     ensures count { (K.view out.old).faults ≤ (K.view out.new).faults }
@@ -67,7 +67,7 @@ fn talk<W: Walker + Drop, S: Sources, I: Input, K: Sink>(
 ) -> Result<bool, TalkFault>
     requires ready { (W.means (S.view s.old) walker).IsReady }
     requires names { (n : ℕ) → (W.means (S.view s.old) walker).course.MayFail n → n < length names.now }
-    ensures came { S.came_from s.new s.old }
+    ensures came { S.came_from s.old s.new }
     ensures ends { let c = (W.means (S.view s.old) walker).course in
         TalkEnds c (S.view s.old) (S.view s.new) names.now (I.view streams.old.input) (I.view streams.new.input)
         (K.view streams.old.out) (K.view streams.new.out) result }
@@ -103,7 +103,7 @@ pub fn talk_lines<S: Sources, I: Input, K: Sink>(
 ) -> Result<bool, TalkFault>
     requires mediator { mediator.IsMediatorOf (S.view s.old) m }
     requires names { length names.now ≡ (S.view s.old).count }
-    ensures came { S.came_from s.new s.old }
+    ensures came { S.came_from s.old s.new }
     ensures ends { let c = plan_course (mediator.state_of (S.view s.old) m) in
         TalkEnds c (S.view s.old) (S.view s.new) names.now (I.view streams.old.input) (I.view streams.new.input)
         (K.view streams.old.out) (K.view streams.new.out) result }

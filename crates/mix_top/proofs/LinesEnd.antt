@@ -59,7 +59,7 @@ in_order_is_manner q = record {
   more = λ answers more. lines_more (names_of_sources q.sources) answers more q.steps;
 }
 
-module _ (files : FilesView) (a b : Mounting) (came : CameFrom b a) (asked : Asked) (mounted : AreMounted files (rule_of asked.rule) asked.catalog a.docs)
+module _ (files : FilesView) (a b : Mounting) (came : CameFrom a b) (asked : Asked) (mounted : AreMounted files (rule_of asked.rule) asked.catalog a.docs)
     (accepted : IsAccepted (length (names_of_sources asked.catalog)) (rule_of asked.rule)) (st : BenchState) (same : ops_of st ≡ operators_for (rule_of asked.rule))
     (docs_are : documents st ≡ documents_of a.tables a.docs) (ahead : IsTrue (forward st)) (t : LabelledTree)
     (document_is : all_told a.tables (rule_of asked.rule) asked.catalog ≡ true → IsDocument st t) (unasked : a.fills ≡ 0) (few : b.tables.pages ≤ a.tables.pages + b.fills) (before after : SinkView)

@@ -15,7 +15,7 @@ use Rattle.mix_top.specs.Documents.{SpellsTree, IsDocument}
 
 -- of no path but those that may be read was more read than before
 abbrev pub ReadsAmong : (List ℕ → Type 0) → FilesView → FilesView → Type 0
-ReadsAmong May new old = (path : List ℕ) → ¬ May path → new.furthest path ≡ old.furthest path
+ReadsAmong May old new = (path : List ℕ) → ¬ May path → new.furthest path ≡ old.furthest path
 
 -- a walk may read its document, and behind one that is accepted its script
 abbrev pub WalkMayRead : FilesView → List ℕ → List ℕ → List ℕ → Type 0

@@ -86,7 +86,7 @@ fn answer_over<T: Tables, K: Sink>(
     requires accepted { IsAccepted (length (names_of_sources asked.now.catalog)) (rule_of asked.now.rule) }
     requires mounted { (files : FilesView) × AreMounted files (rule_of asked.now.rule) asked.now.catalog (docs_of sources.old) }
     requires unasked { fills_of sources.old ≡ 0 }
-    ensures came { CameFrom (mounted_in T.view sources.new) (mounted_in T.view sources.old) }
+    ensures came { CameFrom (mounted_in T.view sources.old) (mounted_in T.view sources.new) }
     ensures end { IsMountedEnd (mounted_in T.view sources.old) (mounted_in T.view sources.new) asked.now
         (K.view out.old) (K.view out.new) result }
     ensures count { (K.view out.old).faults ≤ (K.view out.new).faults }
@@ -111,7 +111,7 @@ pub fn answer<T: Tables, K: Sink>(
     requires accepted { IsAccepted (length (names_of_sources asked.now.catalog)) (rule_of asked.now.rule) }
     requires mounted { (files : FilesView) × AreMounted files (rule_of asked.now.rule) asked.now.catalog docs.items }
     requires few { length docs.items ≤ 32 }
-    ensures keeps { KeepsTables (T.view result.tables) (T.view tables) }
+    ensures keeps { KeepsTables (T.view tables) (T.view result.tables) }
     ensures end { IsLinesEnd (LinesOver (by_fills result.spent.fills) (T.view tables) (T.view result.tables) docs.items asked.now)
         (K.view out.old) (K.view out.new) result.end }
     ensures pages { result.spent.pages ≡ (T.view result.tables).pages - (T.view tables).pages }

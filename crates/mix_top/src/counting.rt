@@ -87,7 +87,7 @@ pub fn count_ready<T: Tables, K: Sink>(
     requires accepted { IsAccepted (length (names_of_sources ready.asked.catalog)) (rule_of ready.asked.rule) }
     requires mounted { (files : FilesView) × AreMounted files (rule_of ready.asked.rule) ready.asked.catalog ready.docs.items }
     requires few { length ready.docs.items ≤ 32 }
-    ensures keeps { KeepsTables (T.view result.1) (T.view tables) }
+    ensures keeps { KeepsTables (T.view tables) (T.view result.1) }
     ensures done { IfOk result.0 (IsDoneAlong (LinesOver lines_of_count (T.view tables) (T.view result.1) ready.docs.items ready.asked)
         (K.view out.old) (K.view out.new)) }
     ensures stop { IfErr result.0 (IsStopAlong (LinesOver lines_of_count (T.view tables) (T.view result.1) ready.docs.items ready.asked)

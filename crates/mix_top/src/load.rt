@@ -28,8 +28,8 @@ use xmas_rule::Rule;
 
 // The bytes of a file.
 fn load<F: Files>(alloc: Global, files: &mut F, path: &str) -> Result<Vec<u8>, Stop>
-    ensures keeps { KeepsFiles (F.view files.new) (F.view files.old) }
-    ensures others { ReadsOnly path.now (F.view files.new) (F.view files.old) }
+    ensures keeps { KeepsFiles (F.view files.old) (F.view files.new) }
+    ensures others { ReadsOnly path.now (F.view files.old) (F.view files.new) }
     ensures steady { OnOk result ((p : List ℕ) → (F.view files.new).faults p ≡ (F.view files.old).faults p) }
     ensures ok { IfOk result (λ bytes. IsRead (F.view files.old) path.now bytes.items) }
     ensures err { IfErr result (IsLoadStop IsNoBytes (F.view files.old) (F.view files.new) path.now) }
@@ -52,8 +52,8 @@ pub fn mount_tree<F: Files>(
     deep: bool,
 ) -> Result<Mount, Stop>
     requires { IsChunk chunk }
-    ensures keeps { KeepsFiles (F.view files.new) (F.view files.old) }
-    ensures others { ReadsOnly path.now (F.view files.new) (F.view files.old) }
+    ensures keeps { KeepsFiles (F.view files.old) (F.view files.new) }
+    ensures others { ReadsOnly path.now (F.view files.old) (F.view files.new) }
     ensures steady { OnOk result ((p : List ℕ) → (F.view files.new).faults p ≡ (F.view files.old).faults p) }
     ensures ok { IfOk result (IsMountedFile SpellsTree (F.view files.old) path.now chunk deep) }
     ensures err { IfErr result (IsLoadStop IsNoTree (F.view files.old) (F.view files.new) path.now) }
@@ -74,8 +74,8 @@ pub fn mount_table<F: Files>(
     columns: &[Label],
 ) -> Result<Mount, Stop>
     requires { IsChunk source.now.chunk }
-    ensures keeps { KeepsFiles (F.view files.new) (F.view files.old) }
-    ensures others { ReadsOnly path.now (F.view files.new) (F.view files.old) }
+    ensures keeps { KeepsFiles (F.view files.old) (F.view files.new) }
+    ensures others { ReadsOnly path.now (F.view files.old) (F.view files.new) }
     ensures steady { OnOk result ((p : List ℕ) → (F.view files.new).faults p ≡ (F.view files.old).faults p) }
     ensures ok { IfOk result (IsMountedFile (HoldsRows source.now.name columns.now) (F.view files.old) path.now source.now.chunk true) }
     ensures err { IfErr result (IsLoadStop (IsNoTable columns.now) (F.view files.old) (F.view files.new) path.now) }
@@ -93,8 +93,8 @@ pub fn mount_alone<F: Files>(
     files: &mut F,
     path: &str,
 ) -> Result<Mounted<NoTables>, Stop>
-    ensures keeps { KeepsFiles (F.view files.new) (F.view files.old) }
-    ensures others { ReadsOnly path.now (F.view files.new) (F.view files.old) }
+    ensures keeps { KeepsFiles (F.view files.old) (F.view files.new) }
+    ensures others { ReadsOnly path.now (F.view files.old) (F.view files.new) }
     ensures steady { OnOk result ((p : List ℕ) → (F.view files.new).faults p ≡ (F.view files.old).faults p) }
     ensures ok { IfOk result (IsMounted (F.view files.old) path.now) }
     ensures err { IfErr result (IsLoadStop IsNoTree (F.view files.old) (F.view files.new) path.now) }
@@ -105,8 +105,8 @@ pub fn mount_alone<F: Files>(
 
 /// The steps of a file that is a script. An error is as with a tree.
 pub fn load_script<F: Files>(alloc: Global, files: &mut F, path: &str) -> Result<Vec<Step>, Stop>
-    ensures keeps { KeepsFiles (F.view files.new) (F.view files.old) }
-    ensures others { ReadsOnly path.now (F.view files.new) (F.view files.old) }
+    ensures keeps { KeepsFiles (F.view files.old) (F.view files.new) }
+    ensures others { ReadsOnly path.now (F.view files.old) (F.view files.new) }
     ensures steady { OnOk result ((p : List ℕ) → (F.view files.new).faults p ≡ (F.view files.old).faults p) }
     ensures ok { IfOk result (λ steps. IsScript (F.view files.old) path.now steps.items) }
     ensures err { IfErr result (IsLoadStop IsNoScript (F.view files.old) (F.view files.new) path.now) }
@@ -120,8 +120,8 @@ pub fn load_script<F: Files>(alloc: Global, files: &mut F, path: &str) -> Result
 
 /// The catalog that a file spells. An error is as with a tree.
 pub fn load_catalog<F: Files>(alloc: Global, files: &mut F, path: &str) -> Result<Catalog, Stop>
-    ensures keeps { KeepsFiles (F.view files.new) (F.view files.old) }
-    ensures others { ReadsOnly path.now (F.view files.new) (F.view files.old) }
+    ensures keeps { KeepsFiles (F.view files.old) (F.view files.new) }
+    ensures others { ReadsOnly path.now (F.view files.old) (F.view files.new) }
     ensures steady { OnOk result ((p : List ℕ) → (F.view files.new).faults p ≡ (F.view files.old).faults p) }
     ensures ok { IfOk result (IsCatalogFile (F.view files.old) path.now) }
     ensures err { IfErr result (IsLoadStop IsNoCatalog (F.view files.old) (F.view files.new) path.now) }
@@ -140,8 +140,8 @@ pub fn load_rule<F: Files>(
     path: &str,
     catalog: &Catalog,
 ) -> Result<Rule, Stop>
-    ensures keeps { KeepsFiles (F.view files.new) (F.view files.old) }
-    ensures others { ReadsOnly path.now (F.view files.new) (F.view files.old) }
+    ensures keeps { KeepsFiles (F.view files.old) (F.view files.new) }
+    ensures others { ReadsOnly path.now (F.view files.old) (F.view files.new) }
     ensures steady { OnOk result ((p : List ℕ) → (F.view files.new).faults p ≡ (F.view files.old).faults p) }
     ensures ok { IfOk result (λ rule. IsRuleFile (F.view files.old) path.now (names_of_sources catalog.now) (rule_of rule)) }
     ensures accepted { IfOk result (λ rule. IsAccepted (length (names_of_sources catalog.now)) (rule_of rule)) }

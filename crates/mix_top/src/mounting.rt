@@ -32,8 +32,8 @@ fn path_of(file: &Label) -> &str
 // The document of a source, given as the catalog says. That of a table asks for no page yet. An error is as with `mount_tree`.
 fn mount_spec<F: Files>(alloc: Global, files: &mut F, spec: &SourceSpec) -> Result<Mount, Stop>
     requires { IsChunk spec.now.chunk }
-    ensures keeps { KeepsFiles (F.view files.new) (F.view files.old) }
-    ensures reads { ReadsAmong (IsWholeFile spec.now) (F.view files.new) (F.view files.old) }
+    ensures keeps { KeepsFiles (F.view files.old) (F.view files.new) }
+    ensures reads { ReadsAmong (IsWholeFile spec.now) (F.view files.old) (F.view files.new) }
     ensures steady { OnOk result ((p : List ℕ) → (F.view files.new).faults p ≡ (F.view files.old).faults p) }
     ensures ok { IfOk result (IsMountedSpec (F.view files.old) spec.now) }
     ensures err { IfErr result (IsSpecStop (F.view files.old) (F.view files.new) spec.now) }
@@ -58,8 +58,8 @@ fn mount_source<F: Files>(
     spec: &SourceSpec,
 ) -> Result<Mount, Stop>
     requires { IsChunk spec.now.chunk }
-    ensures keeps { KeepsFiles (F.view files.new) (F.view files.old) }
-    ensures reads { ReadsAmong (IsFileFor (rule_of rule.now) s spec.now) (F.view files.new) (F.view files.old) }
+    ensures keeps { KeepsFiles (F.view files.old) (F.view files.new) }
+    ensures reads { ReadsAmong (IsFileFor (rule_of rule.now) s spec.now) (F.view files.old) (F.view files.new) }
     ensures steady { OnOk result ((p : List ℕ) → (F.view files.new).faults p ≡ (F.view files.old).faults p) }
     ensures ok { IfOk result (IsMountFor (F.view files.old) (rule_of rule.now) s spec.now) }
     ensures err { IfErr result (IsSourceStop (F.view files.old) (F.view files.new) (rule_of rule.now) s spec.now) }
@@ -80,9 +80,9 @@ pub fn mount_sources<F: Files>(
     rule: &Rule,
 ) -> Result<Vec<Mount>, Stop>
     requires { (text : List ℕ) × IsCatalog text catalog.now }
-    ensures keeps { KeepsFiles (F.view files.new) (F.view files.old) }
+    ensures keeps { KeepsFiles (F.view files.old) (F.view files.new) }
     ensures reads { let old = F.view files.old in
-        ReadsAmong (SourceMayRead old (rule_of rule.now) catalog.now) (F.view files.new) old }
+        ReadsAmong (SourceMayRead old (rule_of rule.now) catalog.now) old (F.view files.new) }
     ensures steady { OnOk result ((p : List ℕ) → (F.view files.new).faults p ≡ (F.view files.old).faults p) }
     ensures ok { IfOk result (λ docs. AreMounted (F.view files.old) (rule_of rule.now) catalog.now docs.items) }
     ensures few { IfOk result (λ docs. length docs.items ≤ 32) }

@@ -25,7 +25,7 @@ pub record TablesView : Type 0 where
   pub faults : Declared → ℕ
 
 -- what every call keeps of tables: their rows, and no count falls
-pub record KeepsTables (new old : TablesView) : Type 0 where
+pub record KeepsTables (old new : TablesView) : Type 0 where
   pub told : (d : Declared) → new.told d ≡ old.told d
   pub pages : old.pages ≤ new.pages
   pub faults : (d : Declared) → old.faults d ≤ new.faults d

@@ -101,7 +101,7 @@ impl Tables for MemTables {
     ghost view = { mem_tables_view };
 
     fn page(&mut self, alloc: Global, ask: &PageAsk<'_>) -> Result<Vec<TableRow>, PageFault>
-        ensures keeps { KeepsTables (mem_tables_view self.new) (mem_tables_view self.old) }
+        ensures keeps { KeepsTables (mem_tables_view self.old) (mem_tables_view self.new) }
         // What the answer promises.
         ensures page { IfOk result (λ rows. IsPage ask.now (rows_of rows.items)) }
         ensures first { IfOk result (λ rows. IfSome ((mem_tables_view self.old).told (declared_by ask.now))

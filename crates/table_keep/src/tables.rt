@@ -16,7 +16,7 @@ pub trait Tables {
     /// The first rows of a declared table above a key (docs/FORMATS.md, "Tables"). `Failed`: the table could not be read, and its
     /// count of faults rose. After an error the tables have the rows that they had.
     fn page(&mut self, alloc: Global, ask: &PageAsk<'_>) -> Result<Vec<TableRow>, PageFault>
-        ensures keeps { KeepsTables (view self.new) (view self.old) }
+        ensures keeps { KeepsTables (view self.old) (view self.new) }
         // What the answer promises.
         ensures page { IfOk result (λ rows. IsPage ask.now (rows_of rows.items)) }
         ensures first { IfOk result (λ rows. IfSome ((view self.old).told (declared_by ask.now))

@@ -90,7 +90,7 @@ impl TableDoc {
         t: &mut T,
         after: Option<i64>,
     ) -> Result<Vec<TableRow>, SourceFault>
-        ensures keeps { KeepsTables (T.view t.new) (T.view t.old) }
+        ensures keeps { KeepsTables (T.view t.old) (T.view t.new) }
         ensures page { IfOk result (λ rows. IsPageOf after (chunk_of self.now) (columns_of self.now) (plain_rows rows.items)) }
         ensures first { IfOk result (λ rows. AreFirst (T.view t.old) self.now after (plain_rows rows.items)) }
         ensures at_most_one { (T.view t.new).pages ≤ (T.view t.old).pages + 1 }
@@ -121,7 +121,7 @@ impl TableDoc {
         t: &mut T,
         after: Option<i64>,
     ) -> Result<Vec<OpenTree>, SourceFault>
-        ensures keeps { KeepsTables (T.view t.new) (T.view t.old) }
+        ensures keeps { KeepsTables (T.view t.old) (T.view t.new) }
         ensures answer { IfOk result (λ list. IsAnswer (T.view t.old) self.now (Some (Rows after)) (plain list.items)) }
         ensures at_most_one { (T.view t.new).pages ≤ (T.view t.old).pages + 1 }
         ensures counted { OnOk result (HasRisen (T.view t.old).pages (T.view t.new).pages) }
@@ -141,7 +141,7 @@ impl TableDoc {
         t: &mut T,
         part: Part,
     ) -> Result<Vec<OpenTree>, SourceFault>
-        ensures keeps { KeepsTables (T.view t.new) (T.view t.old) }
+        ensures keeps { KeepsTables (T.view t.old) (T.view t.new) }
         ensures answer { IfOk result (λ list. IsAnswer (T.view t.old) self.now (Some part) (plain list.items)) }
         ensures untouched { asks (Some part) ≡ false → t.new ≡ t.old }
         ensures at_most_one { (T.view t.new).pages ≤ (T.view t.old).pages + 1 }
@@ -165,7 +165,7 @@ impl TableDoc {
         t: &mut T,
         hole: HoleId,
     ) -> Result<Vec<OpenTree>, SourceFault>
-        ensures keeps { KeepsTables (T.view t.new) (T.view t.old) }
+        ensures keeps { KeepsTables (T.view t.old) (T.view t.new) }
         ensures list { IfOk result (λ list. IsGiven (T.view t.old) self.now (part_of hole) (plain list.items)) }
         // What the answer promises.
         ensures closes { IfOk result (λ list. told (T.view t.old) self.now ≡ true

@@ -46,7 +46,7 @@ module _ (v : View) (b : Buffer) (s : Sourced v (number_of b) (nodes_of b)) wher
   sources_from = record { sourced = s; count = s.number; label = λ told x spot. s.stands told x.number spot; light = below_root; lighter = child_weight }
 
 -- a buffer that goes on
-module _ {v v' : View} {b b' : Buffer} (s : IsSourcesOf v b) (keeps : Keeps v' v) (goes : Advances v b v' b') where
+module _ {v v' : View} {b b' : Buffer} (s : IsSourcesOf v b) (keeps : Keeps v v') (goes : Advances v b v' b') where
   -- a source that tells its document still does
   pub still_told : v'.told (number_of b') ≡ v.told (number_of b)
   still_told = ap v'.told goes.number ∙ keeps.told (number_of b)
@@ -86,7 +86,7 @@ module _ {v v' : View} {b b' : Buffer} (s : IsSourcesOf v b) (keeps : Keeps v' v
   }
 
 -- a buffer that calls don't take
-pub kept : {v v' : View} {b : Buffer} → IsSourcesOf v b → Keeps v' v → IsKept v v' b
+pub kept : {v v' : View} {b : Buffer} → IsSourcesOf v b → Keeps v v' → IsKept v v' b
 kept {v} {v'} {b} s keeps =
     let stay = all_stay v v' b.number (nodes_of b) s.sourced keeps in
     record {
@@ -94,7 +94,7 @@ kept {v} {v'} {b} s keeps =
       goes = goes_from s keeps (record { number = refl; moved = moved_again v v' b.number (nodes_of b) (nodes_of b).rests s.sourced keeps refl stay });
     }
 
-module _ {S : Type 0} {view : S → View} {came_from : S → S → Type 0} (keeps : (a b : S) → came_from b a → Keeps (view b) (view a)) where
+module _ {S : Type 0} {view : S → View} {came_from : S → S → Type 0} (keeps : (a b : S) → came_from a b → Keeps (view a) (view b)) where
   -- the parts of a call are the call
   pub ran_from : {s t : S} {b c : Buffer} → IsSourcesOf (view s) b → Advanced view came_from s b t c → Ran view came_from s b t c
   ran_from {s} {t} {b} {c} sources part = record {

@@ -8,7 +8,7 @@ use Rattle.lxp_core.proofs.Opens.{closed-open_followed, weight_of-open_followed,
 use Rattle.tree_buffer.specs.Fills.{hole_first, holes_weight, fills_left, IsRefined, IsLazy}
 
 -- a list that no fill touched
-pub stays : (old new : View) (n : ℕ) (o : Open) → Keeps new old → AllHoles (old.knows n) o → IsApart o → IsRefined old new n o o
+pub stays : (old new : View) (n : ℕ) (o : Open) → Keeps old new → AllHoles (old.knows n) o → IsApart o → IsRefined old new n o o
 stays old new n o keeps known apart = record {
   known = AllHoles-weaker (old.knows n) (new.knows n) (keeps.knows n) o known;
   apart = apart;
@@ -18,7 +18,7 @@ stays old new n o keeps known apart = record {
 }
 
 -- one step after the other
-pub refined_again : (a b c : View) (n : ℕ) (o p q : Open) → Keeps b a → IsRefined a b n o p → IsRefined b c n p q → IsRefined a c n o q
+pub refined_again : (a b c : View) (n : ℕ) (o p q : Open) → Keeps a b → IsRefined a b n o p → IsRefined b c n p q → IsRefined a c n o q
 refined_again a b c n o p q keeps first second = record {
   known = second.known;
   apart = second.apart;
@@ -61,7 +61,7 @@ hole_first-le (hole h rest) = omega arith
 pub hole_first-zero : (o : Open) → begins_with_hole o ≡ false → hole_first o ≡ 0
 hole_first-zero o e = rw e refl
 
-module _ (old new : View) (n : ℕ) (h : HoleId) (tail list : Open) (keeps : Keeps new old)
+module _ (old new : View) (n : ℕ) (h : HoleId) (tail list : Open) (keeps : Keeps old new)
     (known : AllHoles (old.knows n) (hole h tail)) (apart : IsApart (hole h tail)) (progress : IsProgress list)
     (list_known : AllHoles (new.knows n) list) (lighter : weight_of (new.weight n) list ≤ old.weight n h) where
   -- the list in which the first hole is replaced by an answer

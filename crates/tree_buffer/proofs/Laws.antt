@@ -51,7 +51,7 @@ module _ {S : Type 0} {view : S → View} {came_from : S → S → Type 0} where
   }
 
   -- what two calls leave
-  pub ran_twice : ((a b c : S) → came_from b a → came_from c b → came_from c a) → {s t u : S} {a b c : Buffer}
+  pub ran_twice : ((a b c : S) → came_from a b → came_from b c → came_from a c) → {s t u : S} {a b c : Buffer}
       → Ran view came_from s a t b → Ran view came_from t b u c → Ran view came_from s a u c
   ran_twice after {s} {t} {u} first second = record {
     came = after s t u first.came second.came;
@@ -64,7 +64,7 @@ module _ {S : Type 0} {view : S → View} {came_from : S → S → Type 0} where
   }
 
 -- what calls of the sources leave of a buffer
-pub keeps_buffers : {v v' : View} {b : Buffer} → IsSourcesOf v b → Keeps v' v → IsKept v v' b
+pub keeps_buffers : {v v' : View} {b : Buffer} → IsSourcesOf v b → Keeps v v' → IsKept v v' b
 keeps_buffers = kept
 
 -- two spots of a buffer that stand for one place are one

@@ -18,7 +18,7 @@ set_relates R (x ∷ os) zero o at all (suc i) = all (suc i)
 set_relates R (x ∷ os) (suc q) o at all zero = all zero
 set_relates R (x ∷ os) (suc q) o at all (suc i) = set_relates R os q o at (λ j. all (suc j)) i
 
-module _ (v v' : View) (n : ℕ) (m : Nodes) (os : List Open) (s : Sourced v n m) (keeps : Keeps v' v)
+module _ (v v' : View) (n : ℕ) (m : Nodes) (os : List Open) (s : Sourced v n m) (keeps : Keeps v v')
     (e : length os ≡ length m.rests) (refined : (i : ℕ) → IsRefined v v' n (get_or m.rests i nil) (get_or os i nil)) where
   -- the nodes go on
   pub moved_again : Moved (weight_of (v.weight n)) m (weight_of (v'.weight n)) (record m { rests = os })
@@ -64,11 +64,11 @@ module _ (v v' : View) (n : ℕ) (m : Nodes) (os : List Open) (s : Sourced v n m
   }
 
 -- the nodes that no fill touched
-pub all_stay : (v v' : View) (n : ℕ) (m : Nodes) → Sourced v n m → Keeps v' v → (i : ℕ) → IsRefined v v' n (get_or m.rests i nil) (get_or m.rests i nil)
+pub all_stay : (v v' : View) (n : ℕ) (m : Nodes) → Sourced v n m → Keeps v v' → (i : ℕ) → IsRefined v v' n (get_or m.rests i nil) (get_or m.rests i nil)
 all_stay v v' n m s keeps i = stays v v' n (get_or m.rests i nil) keeps (s.known i) (s.apart i)
 
 -- one list after fills
-pub one_refined : (v v' : View) (n : ℕ) (m : Nodes) (q : ℕ) (o : Open) → Sourced v n m → Keeps v' v → IsRefined v v' n (get_or m.rests q nil) o → (i : ℕ) → IsRefined v v' n (get_or m.rests i nil) (get_or (set m.rests q o) i nil)
+pub one_refined : (v v' : View) (n : ℕ) (m : Nodes) (q : ℕ) (o : Open) → Sourced v n m → Keeps v v' → IsRefined v v' n (get_or m.rests q nil) o → (i : ℕ) → IsRefined v v' n (get_or m.rests i nil) (get_or (set m.rests q o) i nil)
 one_refined v v' n m q o s keeps at = set_relates (IsRefined v v' n) m.rests q o at (all_stay v v' n m s keeps)
 
 -- nodes that nothing touched

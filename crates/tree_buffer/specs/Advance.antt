@@ -12,6 +12,6 @@ pub record Advances (v : View) (b : Buffer) (v' : View) (b' : Buffer) : Type 0 w
 
 -- what a part of a call leaves of sources and a buffer of theirs
 pub record Advanced {S : Type 0} (view : S → View) (came_from : S → S → Type 0) (s : S) (b : Buffer) (s' : S) (b' : Buffer) : Type 0 where
-  pub came : came_from s' s
+  pub came : came_from s s'
   pub sources : IsSourcesOf (view s') b'
   pub advances : Advances (view s) b (view s') b'

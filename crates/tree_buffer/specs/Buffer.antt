@@ -124,7 +124,7 @@ pub record IsKept (v v' : View) (b : Buffer) : Type 0 where
 
 -- what each call that takes sources and a buffer of theirs leaves, whatever it answers, of that buffer and of others
 pub record Ran {S : Type 0} (view : S → View) (came_from : S → S → Type 0) (s : S) (b : Buffer) (s' : S) (b' : Buffer) : Type 0 where
-  pub came : came_from s' s
+  pub came : came_from s s'
   pub sources : IsSourcesOf (view s') b'
   pub goes : Goes (view s) b (view s') b'
   pub others : (c : Buffer) → IsSourcesOf (view s) c → IsKept (view s) (view s') c

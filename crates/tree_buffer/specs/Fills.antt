@@ -39,6 +39,6 @@ IsLazy old new n was now = old.forward n ≡ true → new.fills + hole_first now
 
 -- what fills of holes at the front come to
 pub record IsSettling (old new : View) (n : ℕ) (was now : Open) : Type 0 where
-  pub keeps : Keeps new old
+  pub keeps : Keeps old new
   pub refined : IsRefined old new n was now
   pub lazy : IsLazy old new n was now

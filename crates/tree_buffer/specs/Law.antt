@@ -15,7 +15,7 @@ RanTwice {S} view came_from = (s t u : S) (a b c : Buffer) → Ran view came_fro
 
 -- whatever keeps what every call keeps, keeps each buffer of the sources
 abbrev pub KeepsBuffers : Type 0
-KeepsBuffers = (v v' : View) (b : Buffer) → IsSourcesOf v b → Keeps v' v → IsKept v v' b
+KeepsBuffers = (v v' : View) (b : Buffer) → IsSourcesOf v b → Keeps v v' → IsKept v v' b
 
 -- two spots of a buffer that stand for one place are one
 abbrev pub SpotsAreOne : Type 0

@@ -78,8 +78,8 @@ fn refill<S: Sources>(
     requires top { (front : List OpenTree) × (stack.old.items ≡ front ++ Hole hole ∷ []) }
     requires known { AllHoles ((S.view s.old).knows number) (stacked stack.old.items nil) }
     requires apart { IsApart (stacked stack.old.items nil) }
-    ensures came { S.came_from s.new s.old }
-    ensures keeps { Keeps (S.view s.new) (S.view s.old) }
+    ensures came { S.came_from s.old s.new }
+    ensures keeps { Keeps (S.view s.old) (S.view s.new) }
     ensures refined { IsRefined (S.view s.old) (S.view s.new) number (stacked stack.old.items nil) (stacked stack.new.items nil) }
     ensures lazy { OnOk result (IsLazy (S.view s.old) (S.view s.new) number (stacked stack.old.items nil) (stacked stack.new.items nil)) }
     ensures at_most_one { (S.view s.new).fills ≤ (S.view s.old).fills + 1 }
@@ -106,8 +106,8 @@ pub(crate) fn settle<S: Sources>(
     requires number { number < (S.view s.old).count }
     requires known { AllHoles ((S.view s.old).knows number) (stacked stack.old.items nil) }
     requires apart { IsApart (stacked stack.old.items nil) }
-    ensures came { S.came_from s.new s.old }
-    ensures keeps { Keeps (S.view s.new) (S.view s.old) }
+    ensures came { S.came_from s.old s.new }
+    ensures keeps { Keeps (S.view s.old) (S.view s.new) }
     ensures refined { IsRefined (S.view s.old) (S.view s.new) number (stacked stack.old.items nil) (stacked stack.new.items nil) }
     ensures settled { OnOk result (begins_with_hole (stacked stack.new.items nil) ≡ false) }
     ensures lazy { (S.view s.old).forward number ≡ true → (S.view s.new).fills ≤ (S.view s.old).fills + 1 }

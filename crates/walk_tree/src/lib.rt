@@ -73,7 +73,7 @@ fn walk_from<S: Sources>(
 /// The labels of a whole document in document order, that of the document node before the others.
 pub fn walk_all<S: Sources>(alloc: Global, s: &mut S, number: u32) -> Result<Vec<Label>, WalkFault>
     requires { number < (S.view s.old).count }
-    ensures came { S.came_from s.new s.old }
+    ensures came { S.came_from s.old s.new }
     ensures labels { IfOk result (λ labels. (S.view s.old).told number ≡ true
         → labels.items ≡ [] ∷ labels_of (document (S.view s.old) number)) }
     ensures few { IfOk result (λ labels. length labels.items ≤ 1 + (S.view s.old).weight number ((S.view s.old).root number)) }

@@ -439,7 +439,7 @@ visit_steps::Visits::next_start-returns-in_err-found g t c =
     record {
       ran = (let i = c.starts.invariant in let f = rw c.in-Some.is at c.in_ok-next.ensures.answer in let node = (rw c.deref.ensures at c.node_of-source.ensures) _ f.cursor in let at = start_at c.args.self.now.input c.args.self.now.start c.args.self.now.path.now c.args.self.now.out c.requires.op c.requires.is c.starts.at.value i.can c.advance.ensures.ran _ f in let goes = start_goes c.args.self.now.input c.args.self.now.start c.args.self.now.path.now c.args.self.now.out c.requires.op c.requires.is c.starts.at.value i.can c.advance.ensures.ran _ f i.goes in let visit = rw c.visit.ensures.is at c.first.ensures in let sought = first_sought c.args.self.now.path.now (machine_of c.visit.result.auto.now) c.visit.ensures.auto _ c.node_of-source.result.0 c.node_of-source.result.1 node.node c.first.result visit in let came = g.met.S.Sources.after _ _ _ i.came c.advance.ensures.ran.came in ran_then g.met.S.Sources.after came goes (visit_ran c.args.self.now.input c.args.self.now.start c.args.self.now.path.now c.args.self.now.out c.requires.op c.requires.is c.in-Some.next.value at f.row c.node_of-source.result.0 (ap (λ (z : Node). z.source) node.node) node.read _ sought.asked));
       cause =
-          (let keeps : Keeps (g.S.Sources.view c.advance.new.s) (g.S.Sources.view c.args.s.now) = g.met.S.Sources.keeps _ _ (g.met.S.Sources.after _ _ _ c.starts.invariant.came c.advance.ensures.ran.came) in
+          (let keeps : Keeps (g.S.Sources.view c.args.s.now) (g.S.Sources.view c.advance.new.s) = g.met.S.Sources.keeps _ _ (g.met.S.Sources.after _ _ _ c.starts.invariant.came c.advance.ensures.ran.came) in
           let since = rose_since (IsRead (operators c.args.self.now.walk.fixed.now)) (IsRead (operators c.args.self.now.walk.fixed.now)) (g.S.Sources.view c.args.s.now) (g.S.Sources.view c.advance.new.s) (g.S.Sources.view c.first.new.s) (λ n r. r) keeps.faults _ (rw c.visit.ensures.is at c.in_err-found.ensures.cause) in
           search rules);
       answer = search rules;

@@ -43,7 +43,7 @@ decreases-pair_steps::Pairs::next_new g l = 7 * l.self.now.walk.op
 -- the members so far were passed: what is still ahead, and what it has cost
 abbrev pub invariant-pair_steps::Pairs::next_new-members : goal.invariant-pair_steps::Pairs::next_new-members
 invariant-pair_steps::Pairs::next_new-members g l = record {
-  came : g.S.Sources.came_from l.s l.initial.s;
+  came : g.S.Sources.came_from l.initial.s l.s;
   goes : Goes (world_of (g.S.Sources.view l.initial.s) l.initial.growing) (world_of (g.S.Sources.view l.s) l.growing) (operators l.self.walk.fixed.now) l.self.walk.op
       (beside_events (world_of (g.S.Sources.view l.initial.s) l.initial.growing) (operators l.self.walk.fixed.now) l.self.left l.self.right l.self.tests.now l.l.value (last_at (world_of (g.S.Sources.view l.initial.s) l.initial.growing) l.self.walk.op))
       (beside_events (world_of (g.S.Sources.view l.s) l.growing) (operators l.self.walk.fixed.now) l.self.left l.self.right l.self.tests.now l.l.value (last_at (world_of (g.S.Sources.view l.s) l.growing) l.self.walk.op))
@@ -72,7 +72,7 @@ decreases-visit_steps::Visits::next_start g l = 7 * l.self.now.input + 6
 -- the visits so far had no match: what is still ahead, and what it has cost
 abbrev pub invariant-visit_steps::Visits::next_start-starts : goal.invariant-visit_steps::Visits::next_start-starts
 invariant-visit_steps::Visits::next_start-starts g l = record {
-  came : g.S.Sources.came_from l.s l.initial.s;
+  came : g.S.Sources.came_from l.initial.s l.s;
   goes : Goes (world_of (g.S.Sources.view l.initial.s) l.initial.growing) (world_of (g.S.Sources.view l.s) l.growing) (operators l.self.walk.fixed.now) l.self.walk.op
       (visit_events (world_of (g.S.Sources.view l.initial.s) l.initial.growing) (operators l.self.walk.fixed.now) l.self.input l.self.start l.self.path.now l.self.out l.below.value) (visit_events (world_of (g.S.Sources.view l.s) l.growing) (operators l.self.walk.fixed.now) l.self.input l.self.start l.self.path.now l.self.out l.at.value)
       (visit_number (world_of (g.S.Sources.view l.initial.s) l.initial.growing) (operators l.self.walk.fixed.now) l.self.input l.below.value) (visit_number (world_of (g.S.Sources.view l.s) l.growing) (operators l.self.walk.fixed.now) l.self.input l.at.value);
@@ -85,7 +85,7 @@ decreases-visit_steps::Visits::next_start-starts g l = number (world_of (g.S.Sou
 -- what is still ahead, and what it has cost
 abbrev pub invariant-steps::advance_behind-events : goal.invariant-steps::advance_behind-events
 invariant-steps::advance_behind-events g l = record {
-  came : g.S.Sources.came_from l.s l.initial.s;
+  came : g.S.Sources.came_from l.initial.s l.s;
   goes : Goes (world_of (g.S.Sources.view l.initial.s) l.initial.growing) (world_of (g.S.Sources.view l.s) l.growing) (operators l.walk.fixed.now) l.walk.op
       (ahead (world_of (g.S.Sources.view l.initial.s) l.initial.growing) (operators l.walk.fixed.now) l.walk.op l.fn.from) (ahead (world_of (g.S.Sources.view l.s) l.growing) (operators l.walk.fixed.now) l.walk.op l.at)
       (number (world_of (g.S.Sources.view l.initial.s) l.initial.growing) (operators l.walk.fixed.now) l.walk.op l.fn.from) (number (world_of (g.S.Sources.view l.s) l.growing) (operators l.walk.fixed.now) l.walk.op l.at);
@@ -107,7 +107,7 @@ decreases-order_steps::labelled g l = 7 * l.walk.op + 6
 -- the bindings so far, and what they have cost
 abbrev pub invariant-order_steps::labelled-events : goal.invariant-order_steps::labelled-events
 invariant-order_steps::labelled-events g l = record {
-  came : g.S.Sources.came_from l.s l.initial.s;
+  came : g.S.Sources.came_from l.initial.s l.s;
   gathered : Gathered (world_of (g.S.Sources.view l.initial.s) l.initial.growing) (world_of (g.S.Sources.view l.s) l.growing) (operators l.walk.fixed.now) l.walk.op l.v l.rows.items l.at.value;
   can : CanStep (g.S.Sources.view l.s) l.growing l.walk.fixed.now l.walk.op l.at.value;
 }
@@ -124,7 +124,7 @@ decreases-gather_steps::Gathers::grow g l = 7 * l.self.now.input + 6
 -- how far the walk has come
 abbrev pub invariant-gather_steps::Gathers::step-bindings : goal.invariant-gather_steps::Gathers::step-bindings
 invariant-gather_steps::Gathers::step-bindings g l = record {
-  came : g.S.Sources.came_from l.s l.initial.s;
+  came : g.S.Sources.came_from l.initial.s l.s;
   bench : IsBench (world_of (g.S.Sources.view l.s) l.growing) (operators l.self.walk.fixed.now);
   comes : StepCame l.self (world_of (g.S.Sources.view l.initial.s) l.initial.growing) (world_of (g.S.Sources.view l.s) l.growing) l.fn.at;
 }

@@ -46,7 +46,7 @@ walk-returns-clause-lazy g t c = λ forward.
 pub walk-returns-clause-cause : goal.walk-returns-clause-cause
 walk-returns-clause-cause g t c =
     let goes = c.down.ensures.ran.goes in
-    let keeps : Keeps (g.S.Sources.view c.down.new.s) (g.S.Sources.view c.args.s.now) = g.met.S.Sources.keeps _ _ c.down.ensures.ran.came in
+    let keeps : Keeps (g.S.Sources.view c.args.s.now) (g.S.Sources.view c.down.new.s) = g.met.S.Sources.keeps _ _ c.down.ensures.ran.came in
     cause_since (IsSourceOf c.down.new.self) (IsSourceOf c.args.b.now) (g.S.Sources.view c.args.s.now) (g.S.Sources.view c.down.new.s) (g.S.Sources.view c.walk_from.new.s)
     (λ n e. e ∙ goes.number) keeps.faults c.walk_from.result c.walk_from.ensures.cause
 
@@ -71,7 +71,7 @@ walk_from-returns-in_err-at-clause-lazy g t c = λ forward.
 pub walk_from-returns-in_err-walk-clause-cause : goal.walk_from-returns-in_err-walk-clause-cause
 walk_from-returns-in_err-walk-clause-cause g t c =
     let so_far = c.loop-at.invariant.ran in
-    let keeps : Keeps (g.S.Sources.view c.loop-at.s) (g.S.Sources.view c.args.s.now) = g.met.S.Sources.keeps _ _ so_far.came in
+    let keeps : Keeps (g.S.Sources.view c.args.s.now) (g.S.Sources.view c.loop-at.s) = g.met.S.Sources.keeps _ _ so_far.came in
     let cause : HasCause (IsSourceOf c.loop-at.b) (g.S.Sources.view c.loop-at.s) (g.S.Sources.view c.walk.new.s) c.from_residual.result = search rules in
     cause_since (IsSourceOf c.loop-at.b) (IsSourceOf c.args.b.now) (g.S.Sources.view c.args.s.now) (g.S.Sources.view c.loop-at.s) (g.S.Sources.view c.walk.new.s)
     (λ n e. e ∙ so_far.goes.number) keeps.faults c.from_residual.result cause
@@ -79,7 +79,7 @@ walk_from-returns-in_err-walk-clause-cause g t c =
 pub walk_from-returns-in_err-at-clause-cause : goal.walk_from-returns-in_err-at-clause-cause
 walk_from-returns-in_err-at-clause-cause g t c =
     let both = c.two_calls_run.ensures _ _ _ _ _ _ c.loop-at.invariant.ran c.walk.ensures.ran in
-    let keeps : Keeps (g.S.Sources.view c.walk.new.s) (g.S.Sources.view c.args.s.now) = g.met.S.Sources.keeps _ _ both.came in
+    let keeps : Keeps (g.S.Sources.view c.args.s.now) (g.S.Sources.view c.walk.new.s) = g.met.S.Sources.keeps _ _ both.came in
     let cause : HasCause (IsSourceOf c.walk.new.b) (g.S.Sources.view c.walk.new.s) (g.S.Sources.view c.right.new.s) c.from_residual-in_err-at.result = search rules in
     cause_since (IsSourceOf c.walk.new.b) (IsSourceOf c.args.b.now) (g.S.Sources.view c.args.s.now) (g.S.Sources.view c.walk.new.s) (g.S.Sources.view c.right.new.s)
     (λ n e. e ∙ both.goes.number) keeps.faults c.from_residual-in_err-at.result cause

@@ -7,7 +7,7 @@ use Rattle.lazy_plan.proofs.gathered_members.next_found.Given as goal
 
 abbrev pub invariant-members : goal.invariant-members
 invariant-members g l = record {
-  came : g.S.Sources.came_from l.s l.fn.s;
+  came : g.S.Sources.came_from l.fn.s l.s;
   bench : IsBench (world_of (g.S.Sources.view l.s) l.growing) (operators l.gathers.walk.fixed.now);
   comes : ComesBehind (operators l.gathers.walk.fixed.now) l.gathers.walk.op l.gathers.input l.gathers.keys.now l.group.number l.group.place l.group.first.now l.group.at.now
       (world_of (g.S.Sources.view l.fn.s) l.fn.growing) (world_of (g.S.Sources.view l.s) l.growing);

@@ -15,5 +15,5 @@ returns-in-Whole-clause-height g c =
 pub returns-in-Built-clause-height : goal.returns-in-Built-clause-height
 returns-in-Built-clause-height g c =
     let e = ap head_rank c.in-Built.is in
-    if_ok c.down_element.result _ (IsLower (state_of (g.S.Sources.view c.down_element.new.s) c.down_element.new.bench) (roots_of (state_of (g.S.Sources.view c.args.s.now) c.args.bench.now) + head_rank c.args.head.now))
+    if_ok c.down_element.result _ (IsLower (roots_of (state_of (g.S.Sources.view c.args.s.now) c.args.bench.now) + head_rank c.args.head.now) (state_of (g.S.Sources.view c.down_element.new.s) c.down_element.new.bench))
     (λ r h. lower_more (state_of (g.S.Sources.view c.down_element.new.s) c.down_element.new.bench) _ _ (omega (arith, e)) r (ranked_lower (state_of (g.S.Sources.view c.args.s.now) c.args.bench.now) (state_of (g.S.Sources.view c.down_element.new.s) c.down_element.new.bench) c.in-Built.op (roots_same (g.S.Sources.view c.args.s.now) (g.S.Sources.view c.down_element.new.s) c.args.bench.now c.down_element.new.bench (g.met.S.Sources.keeps c.args.s.now c.down_element.new.s c.down_element.ensures.walked.came) c.requires.bench) r h)) c.down_element.ensures.rank

@@ -29,5 +29,5 @@ returns-in-Element-clause-height g c =
     let within = last.within in
     let came = g.met.S.Sources.after c.args.s.now c.first.new.s c.down_element.new.s c.first.ensures.ran.came c.down_element.ensures.walked.came in
     let same = roots_same (g.S.Sources.view c.args.s.now) (g.S.Sources.view c.down_element.new.s) c.args.bench.now c.down_element.new.bench (g.met.S.Sources.keeps c.args.s.now c.down_element.new.s came) c.requires.bench in
-    if_ok c.down_element.result _ (IsLower (state_of (g.S.Sources.view c.down_element.new.s) c.down_element.new.bench) (site_height (state_of (g.S.Sources.view c.args.s.now) c.args.bench.now) Root))
+    if_ok c.down_element.result _ (IsLower (site_height (state_of (g.S.Sources.view c.args.s.now) c.args.bench.now) Root) (state_of (g.S.Sources.view c.down_element.new.s) c.down_element.new.bench))
     (λ r h. lower_more (state_of (g.S.Sources.view c.down_element.new.s) c.down_element.new.bench) (roots_of (state_of (g.S.Sources.view c.args.s.now) c.args.bench.now) + suc c.in-Element.op) (roots_of (state_of (g.S.Sources.view c.args.s.now) c.args.bench.now) + length (ops_of (state_of (g.S.Sources.view c.args.s.now) c.args.bench.now))) (omega (arith, rank, e, within)) r (ranked_lower (state_of (g.S.Sources.view c.args.s.now) c.args.bench.now) (state_of (g.S.Sources.view c.down_element.new.s) c.down_element.new.bench) c.in-Element.op same r h)) c.down_element.ensures.rank

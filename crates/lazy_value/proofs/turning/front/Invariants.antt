@@ -7,7 +7,7 @@ use Rattle.lazy_value.proofs.turning.front.Given as goal
 
 abbrev pub invariant-turns : goal.invariant-turns
 invariant-turns g l = record {
-  came : g.S.Sources.came_from l.s l.fn.s;
+  came : g.S.Sources.came_from l.fn.s l.s;
   bench : IsBenchOf (g.S.Sources.view l.s) l.bench;
   rest : IsRest (state_of (g.S.Sources.view l.s) l.bench) l.now.value;
   paid : Paid (state_of (g.S.Sources.view l.fn.s) l.fn.bench) (state_of (g.S.Sources.view l.s) l.bench)

@@ -7,8 +7,8 @@ abbrev pub invariant-reads : goal.invariant-reads
 invariant-reads g l =
     let view = g.F.Files.view in
     record {
-      keeps : KeepsFiles (view l.files) (view l.fn.files);
-      others : ReadsOnly l.fn.path (view l.files) (view l.fn.files);
+      keeps : KeepsFiles (view l.fn.files) (view l.files);
+      others : ReadsOnly l.fn.path (view l.fn.files) (view l.files);
       steady : (p : List ℕ) → (view l.files).faults p ≡ (view l.fn.files).faults p;
       front : IfSome ((view l.fn.files).told l.fn.path) (IsFront l.bytes.items (vec_len l.bytes));
       short : vec_len l.bytes ≤ 67108864;

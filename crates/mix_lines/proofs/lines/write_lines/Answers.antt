@@ -31,7 +31,7 @@ write_line-requires g c =
 
 pub loop-step-preserved : goal.loop-step-preserved
 loop-step-preserved g c =
-    let keeps : Keeps (g.S.Sources.view c.step.new.s) (g.S.Sources.view c.loop-step.s) = g.met.S.Sources.keeps _ _ c.step.ensures.came in
+    let keeps : Keeps (g.S.Sources.view c.loop-step.s) (g.S.Sources.view c.step.new.s) = g.met.S.Sources.keeps _ _ c.step.ensures.came in
     let line = c.in_ok-fault.ensures.line in
     let same : line.a ≡ c.in_ok-answer.answer = line.answer in
     let more = far_step _ _ _ _ _ _ _ _ _ _ _ _ _ _ _ c.loop-step-test.true c.step-item.is c.loop-step.invariant.far keeps.faults (Ok c.in_ok-answer.answer) c.in_ok-answer.ensures.stepped
@@ -46,7 +46,7 @@ pub returns-in_err-answer-clause-ends : goal.returns-in_err-answer-clause-ends
 returns-in_err-answer-clause-ends g c =
     let view = g.S.Sources.view in
     let sink = g.K.Sink.view in
-    let keeps : Keeps (view c.step.new.s) (view c.loop-step.s) = g.met.S.Sources.keeps _ _ c.step.ensures.came in
+    let keeps : Keeps (view c.loop-step.s) (view c.step.new.s) = g.met.S.Sources.keeps _ _ c.step.ensures.came in
     let p = err_from_is_err_and c.from_residual.result c.from_residual.ensures.1 in
     let short = far_short _ _ _ _ _ _ _ _ _ _ _ _ _ _ _ c.loop-step-test.true c.step-item.is c.loop-step.invariant.far keeps.faults c.step.result c.step.ensures.stepped (sink c.args.out.now) (sink c.loop-step.out) refl refl in
     rw (p.1, p.2)
@@ -62,7 +62,7 @@ pub returns-in_err-fault-clause-ends : goal.returns-in_err-fault-clause-ends
 returns-in_err-fault-clause-ends g c =
     let view = g.S.Sources.view in
     let sink = g.K.Sink.view in
-    let keeps : Keeps (view c.step.new.s) (view c.loop-step.s) = g.met.S.Sources.keeps _ _ c.step.ensures.came in
+    let keeps : Keeps (view c.loop-step.s) (view c.step.new.s) = g.met.S.Sources.keeps _ _ c.step.ensures.came in
     let p = err_from_is_err_and c.from_residual-in_err-fault.result c.from_residual-in_err-fault.ensures.1 in
     let cut = far_cut _ _ _ _ _ _ _ _ _ _ _ _ _ _ _ c.loop-step-test.true c.step-item.is c.loop-step.invariant.far keeps.faults (Ok c.in_ok-answer.answer) c.in_ok-answer.ensures.stepped c.in_ok-answer.answer
     c.in_ok-answer.ensures.stepped.answer (sink c.args.out.now) (sink c.loop-step.out) (sink c.write_line.new.out) c.in_err-fault.field-0.0 refl refl c.loop-step.invariant.count c.in_err-fault.ensures.cut in

@@ -50,7 +50,7 @@ print_tree-returns-in-Some-clause-walked g t c =
     subst (OpensTree m m' c.args.n.now c.args.text.now.items c.open_tree.new.text.items) c.in-Some.is c.in_ok-first.ensures.text in
     let below = c.print_trees.ensures.walked in
     let m'' = means (view c.print_trees.new.s) c.print_trees.new.walker in
-    let keeps : Keeps (view c.open_tree.new.s) (view c.args.s.now) = g.met.S.Sources.keeps _ _ c.open_tree.ensures.came in
+    let keeps : Keeps (view c.args.s.now) (view c.open_tree.new.s) = g.met.S.Sources.keeps _ _ c.open_tree.ensures.came in
     record {
       stays = stays_twice {m = m} {m' = m'} {m'' = m''} ran.stays below.stays;
       cause = fails_before {m = m} {m' = m'} ran.stays (view c.args.s.now).faults (view c.open_tree.new.s).faults (view c.print_trees.new.s).faults keeps.faults c.print_trees.result below.cause;
@@ -89,7 +89,7 @@ print_one-returns-clause-walked g t c =
     let next = c.next_tree.ensures.walked in
     let m' = means (view c.print_tree.new.s) c.print_tree.new.walker in
     let m'' = means (view c.next_tree.new.s) c.next_tree.new.walker in
-    let keeps : Keeps (view c.print_tree.new.s) (view c.args.s.now) = g.met.S.Sources.keeps _ _ c.print_tree.ensures.came in
+    let keeps : Keeps (view c.args.s.now) (view c.print_tree.new.s) = g.met.S.Sources.keeps _ _ c.print_tree.ensures.came in
     record {
       stays = stays_twice {m = m} {m' = m'} {m'' = m''} ran.stays next.stays;
       cause = fails_before {m = m} {m' = m'} ran.stays (view c.args.s.now).faults (view c.print_tree.new.s).faults (view c.next_tree.new.s).faults keeps.faults c.next_tree.result next.cause;
@@ -134,7 +134,7 @@ print_trees-returns-in_err-next-clause-walked g t c =
     let there = c.print_one.ensures.there in
     let m' = means (view c.trees.s) c.trees.walker in
     let m3 = means (view c.print_one.new.s) c.print_one.new.walker in
-    let keeps : Keeps (view c.trees.s) (view c.args.s.now) = g.met.S.Sources.keeps _ _ c.trees.invariant.came in
+    let keeps : Keeps (view c.args.s.now) (view c.trees.s) = g.met.S.Sources.keeps _ _ c.trees.invariant.came in
     let cause = fails_before {m = m} {m' = m'} so.stays (view c.args.s.now).faults (view c.trees.s).faults (view c.print_one.new.s).faults keeps.faults c.print_one.result ran.cause in
     record {
       stays = stays_twice {m = m} {m' = m'} {m'' = m3} so.stays ran.stays;

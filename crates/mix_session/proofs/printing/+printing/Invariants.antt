@@ -16,7 +16,7 @@ invariant-print_trees-trees g l =
     let view = g.S.Sources.view in
     let m = g.W.Walker.means (view l.initial.s) l.initial.walker in
     record {
-      came : g.S.Sources.came_from l.s l.initial.s;
+      came : g.S.Sources.came_from l.initial.s l.s;
       kept : g.W.Walker.keeps (view l.initial.s) l.initial.walker (view l.s) l.walker;
       printed : ArePrinted m (g.W.Walker.means (view l.s) l.walker) (view l.initial.s).fills (view l.s).fills l.initial.text.items l.text.items l.initial.node l.node;
     }

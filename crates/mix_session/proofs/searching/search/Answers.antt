@@ -66,7 +66,7 @@ siblings-preserved g c =
     let so = c.siblings.invariant.sought in
     let reads = c.read_label.ensures (view c.siblings.s) so.stays.ready in
     let other : bytes_eq c.read_label.result.now c.args.label.now ≡ false = sym c.same_label.ensures ∙ c.if-same_label.false in
-    let keeps : Keeps (view c.siblings.s) (view c.args.s.now) = g.met.S.Sources.keeps _ _ c.siblings.invariant.came in
+    let keeps : Keeps (view c.args.s.now) (view c.siblings.s) = g.met.S.Sources.keeps _ _ c.siblings.invariant.came in
     record {
       came = g.met.S.Sources.after _ _ _ c.siblings.invariant.came c.seek.ensures.came;
       kept = g.met.W.Walker.twice _ _ _ _ _ _ c.siblings.invariant.kept c.seek.ensures.kept;
@@ -83,7 +83,7 @@ returns-in-None-clause-found g c =
     let so = c.siblings.invariant.sought in
     let reads = c.read_label.ensures (view c.siblings.s) so.stays.ready in
     let other : bytes_eq c.read_label.result.now c.args.label.now ≡ false = sym c.same_label.ensures ∙ c.if-same_label.false in
-    let keeps : Keeps (view c.siblings.s) (view c.args.s.now) = g.met.S.Sources.keeps _ _ c.siblings.invariant.came in
+    let keeps : Keeps (view c.args.s.now) (view c.siblings.s) = g.met.S.Sources.keeps _ _ c.siblings.invariant.came in
     sought_none m c.args.label.now c.args.first m' (view c.args.s.now).fills (view c.siblings.s).fills c.siblings.node so c.read_label.result.now reads m'' (view c.seek.new.s).fills other c.seek.ensures.stays
     c.seek.ensures.toll (view c.args.s.now).faults (view c.siblings.s).faults (view c.seek.new.s).faults keeps.faults c.in_ok-next.field-0 c.in_ok-next.ensures.found c.in-None.is
 

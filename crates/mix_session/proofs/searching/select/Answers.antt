@@ -28,7 +28,7 @@ returns-in-None-clause-found g c =
 pub returns-in-Node-clause-found : goal.returns-in-Node-clause-found
 returns-in-Node-clause-found g c =
     let view = g.S.Sources.view in
-    let keeps : Keeps (view c.seek.new.s) (view c.args.s.now) = g.met.S.Sources.keeps _ _ c.seek.ensures.came in
+    let keeps : Keeps (view c.args.s.now) (view c.seek.new.s) = g.met.S.Sources.keeps _ _ c.seek.ensures.came in
     IfOk-weaker c.search.result _ _
     (λ r is. select_found (g.W.Walker.means (view c.args.s.now) c.args.walker.now) (g.W.Walker.means (view c.seek.new.s) c.seek.new.self) c.args.label.now c.args.n.now (view c.args.s.now).faults (view c.seek.new.s).faults
     (view c.args.s.now).fills (view c.seek.new.s).fills c.seek.ensures.stays c.seek.ensures.toll c.in_ok-first.field-0 c.in_ok-first.ensures.found c.in-Node.first c.in-Node.is

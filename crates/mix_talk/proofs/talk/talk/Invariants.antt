@@ -11,7 +11,7 @@ invariant-lines g l =
     let sink = g.K.Sink.view in
     let input = g.I.Input.view in
     record {
-      came : g.S.Sources.came_from l.s l.initial.s;
+      came : g.S.Sources.came_from l.initial.s l.s;
       count : (sink l.initial.streams.out).faults ≤ (sink l.streams.out).faults;
       inputs : (input l.initial.streams.input).faults ≤ (input l.streams.input).faults;
       far : IsTalking (means (view l.initial.s) l.initial.session.walker).course (means (view l.s) l.session.walker) (view l.initial.s) (view l.s) (held l.session.names) l.names

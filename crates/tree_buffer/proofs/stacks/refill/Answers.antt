@@ -45,7 +45,7 @@ module _ (g : _) (c : goal.In_ok-replace_top g) where
   apart : IsApart (hole c.args.hole tail)
   apart = subst IsApart was c.requires.apart
 
-  keeps : Keeps (g.S.Sources.view c.fill.new.self) (g.S.Sources.view c.args.s.now)
+  keeps : Keeps (g.S.Sources.view c.args.s.now) (g.S.Sources.view c.fill.new.self)
   keeps = g.met.S.Sources.keeps _ _ c.fill.ensures.came
 
 pub returns-clause-refined : goal.returns-clause-refined

@@ -8,7 +8,7 @@ use Rattle.mix_io.proofs.os_files.OsFilesFiles.read_at.Goals as goal
 pub returns-in_err-set_end-in-Ok-clause-keeps : goal.returns-in_err-set_end-in-Ok-clause-keeps
 returns-in_err-set_end-in-Ok-clause-keeps c =
     let old = os_files_view c.args.self.now in
-    subst (λ new. KeepsFiles new old) (sym c.in_err-set_end-in-Ok.ensures.err) (keeps_files_same old)
+    subst (λ new. KeepsFiles old new) (sym c.in_err-set_end-in-Ok.ensures.err) (keeps_files_same old)
 
 pub returns-in_err-set_end-in-Ok-clause-end_err : goal.returns-in_err-set_end-in-Ok-clause-end_err
 returns-in_err-set_end-in-Ok-clause-end_err c =

@@ -17,5 +17,5 @@ returns-clause-closes g c =
     let m = mount_at (docs_of c.args.self.now) c.args.s in
     let is : c.index.result.now ≡ m = c.index.ensures ∙ get_or_default (docs_of c.args.self.now) c.args.s c.index.result.now Absent c.requires in
     IfOk-weaker c.give-answer.result _ _
-    (λ list h told. ap (λ (f : HoleId → Forest). closed f (plain list.items)) (forest_kept (view c.give-answer.new.tables) old c.give-answer.ensures.keeps m) ∙ h told)
+    (λ list h told. ap (λ (f : HoleId → Forest). closed f (plain list.items)) (forest_kept old (view c.give-answer.new.tables) c.give-answer.ensures.keeps m) ∙ h told)
     (rw is at c.give-answer.ensures.closes)

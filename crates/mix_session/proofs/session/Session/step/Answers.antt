@@ -10,7 +10,7 @@ returns-in_ok-found-in-Root-clause-stepped g c =
     let view = g.S.Sources.view in
     let means = g.W.Walker.means in
     let ran = c.seek_root.ensures in
-    let keeps : Keeps (view c.seek_root.new.s) (view c.args.s.now) = g.met.S.Sources.keeps _ _ ran.came in
+    let keeps : Keeps (view c.args.s.now) (view c.seek_root.new.s) = g.met.S.Sources.keeps _ _ ran.came in
     let taken = c.take_found.ensures in
     rw c.in-Root.is (root_taken (means (view c.args.s.now) c.args.self.now.walker) (means (view c.seek_root.new.s) c.seek_root.new.self) (view c.args.s.now) (view c.seek_root.new.s) keeps.faults ran.stays
     (held c.args.self.now.names) c.requires c.args.step.now.client c.in-Root.name ran.toll c.in_ok-found-in-Root.found c.in_ok-found-in-Root.ensures.found (held c.take_found.new.names) c.take_found.result
@@ -21,7 +21,7 @@ returns-in_ok-found-in-Move-clause-stepped g c =
     let view = g.S.Sources.view in
     let means = g.W.Walker.means in
     let ran = c.seek.ensures in
-    let keeps : Keeps (view c.seek.new.s) (view c.args.s.now) = g.met.S.Sources.keeps _ _ ran.came in
+    let keeps : Keeps (view c.args.s.now) (view c.seek.new.s) = g.met.S.Sources.keeps _ _ ran.came in
     let taken = c.take_found-in-Move.ensures in
     let here : held c.args.self.now.names c.args.step.now.client c.in-Move.from ≡ Some c.in-Some.node.now = sym (rw c.in-Some.is at c.get.ensures) in
     rw c.in-Move.is (move_taken (means (view c.args.s.now) c.args.self.now.walker) (means (view c.seek.new.s) c.seek.new.self) (view c.args.s.now) (view c.seek.new.s) keeps.faults ran.stays
@@ -33,7 +33,7 @@ returns-in_ok-found-in-Select-clause-stepped g c =
     let view = g.S.Sources.view in
     let means = g.W.Walker.means in
     let ran = c.select.ensures in
-    let keeps : Keeps (view c.select.new.s) (view c.args.s.now) = g.met.S.Sources.keeps _ _ ran.came in
+    let keeps : Keeps (view c.args.s.now) (view c.select.new.s) = g.met.S.Sources.keeps _ _ ran.came in
     let taken = c.take_found-in-Select.ensures in
     let here : held c.args.self.now.names c.args.step.now.client c.in-Select.from ≡ Some c.in-Some-get.node.now = sym (rw c.in-Some-get.is at c.get-in-Select.ensures) in
     rw c.in-Select.is (select_taken (means (view c.args.s.now) c.args.self.now.walker) (means (view c.select.new.s) c.select.new.walker) (view c.args.s.now) (view c.select.new.s) keeps.faults ran.stays
@@ -45,7 +45,7 @@ returns-in-Some-get-3-clause-stepped g c =
     let view = g.S.Sources.view in
     let means = g.W.Walker.means in
     let ran = c.print.ensures in
-    let keeps : Keeps (view c.print.new.s) (view c.args.s.now) = g.met.S.Sources.keeps _ _ ran.came in
+    let keeps : Keeps (view c.args.s.now) (view c.print.new.s) = g.met.S.Sources.keeps _ _ ran.came in
     let here : held c.args.self.now.names c.args.step.now.client c.in-Print.from ≡ Some c.in-Some-get-3.node.now = sym (rw c.in-Some-get-3.is at c.get-in-Print.ensures) in
     rw c.in-Print.is (printed (means (view c.args.s.now) c.args.self.now.walker) (means (view c.print.new.s) c.print.new.walker) (view c.args.s.now) (view c.print.new.s) keeps.faults ran.stays
     (held c.args.self.now.names) c.requires c.args.step.now.client c.in-Print.from c.in-Some-get-3.node.now here ran.cost c.print.result ran.printed)

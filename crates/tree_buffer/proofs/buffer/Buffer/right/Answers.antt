@@ -89,7 +89,7 @@ pub returns-in_err-settle_at-clause-ran : goal.returns-in_err-settle_at-clause-r
 returns-in_err-settle_at-clause-ran g c = ran_from g.met.S.Sources.keeps c.requires.sources c.settle_at.ensures.advanced
 
 module _ (g : _) (c : In_ok-hand_out g) where
-  came : Keeps (g.S.Sources.view c.settle_at.new.s) (g.S.Sources.view c.args.s.now)
+  came : Keeps (g.S.Sources.view c.args.s.now) (g.S.Sources.view c.settle_at.new.s)
   came = g.met.S.Sources.keeps _ _ c.settle_at.ensures.advanced.came
 
   parent_in : c.index-entry.result.now.parent < length (nodes_of c.args.self.now).links
