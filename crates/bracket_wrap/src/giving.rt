@@ -27,7 +27,7 @@ fn make_room(list: &mut Vec<OpenTree>) -> Result<(), AllocError>
 }
 
 impl BracketDoc {
-    // Puts a node behind a list, above a list of its own.
+    // Puts a node at the end of a list of trees, above a list of its own.
     #[inline(always)]
     fn push_node(
         &self,
@@ -86,7 +86,7 @@ impl BracketDoc {
         Ok(list)
     }
 
-    // Puts a hole for some last children of a node behind a list, where there are any.
+    // Puts a hole for some last children of a node at the end of a list, where there are any.
     fn push_rest(&self, list: &mut Vec<OpenTree>, rest: Rest) -> Result<(), AllocError>
         requires { is_there self.now.nodes rest ≡ true }
         ensures { OnOk result (plain list.new.items ≡ put_all list.old.items (rest_given self.now.nodes rest)) }

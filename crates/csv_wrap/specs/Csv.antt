@@ -10,11 +10,11 @@ use Rattle.csv.specs.declared.reader.Reader.{Reader}
 use Rattle.csv.specs.declared.reader.Trim.TheVariants as trim
 use Rattle.csv.specs.Records.{AllText}
 
--- a byte order mark stands in front
+-- whether a text begins with a byte order mark
 abbrev pub begins_with_mark : List ℕ → Bool
 begins_with_mark xs = is_bom (get_or xs 0 0) (get_or xs 1 0) (get_or xs 2 0)
 
--- a text with no byte order mark in front, however many stood there
+-- a text without the byte order marks at its beginning, however many these are
 unfoldable pub without_marks : List ℕ → List ℕ
 without_marks [] = []
 without_marks (a ∷ []) = a ∷ []
@@ -29,25 +29,25 @@ file_records bytes = records default_config (without_marks bytes)
 abbrev pub DiffersFirstAt : List (List ℕ) → List (List ℕ) → ℕ → Type 0
 DiffersFirstAt xs ys k = (take k xs ≡ take k ys) × (slice_get xs k ≢ slice_get ys k)
 
--- a row has as many fields as the header, each of them text
+-- the fields of a row are as many as wanted, and each of them is text
 abbrev pub IsRow : ℕ → List (List ℕ) → Type 0
 IsRow wanted fields = (length fields ≡ wanted) × AllText fields
 
--- a reader of this text has read these records, and stands before the next one
+-- a reader of a given text has read given records, and stands before the next one
 abbrev pub IsAt : List ℕ → List (List (List ℕ)) → Reader (Bor (List ℕ)) → Type 0
 IsAt text rows r = (reader_trim r ≡ trim.None) × Ready r × (reader_config r ≡ default_config)
     × (rest : List ℕ) × (source_of (λ s. Some s.now) r ≡ Some rest) × Reached default_config st.StartRecord text rows (reader_state r) rest
 
--- the row of this number, counted from 1 after the header, has these fields, and each row before it is a row
+-- the row of a number, counted from 1 after the header, has given fields, and all rows before it are good
 abbrev pub IsFirstFaulty : List ℕ → List (List ℕ) → ℕ → List (List ℕ) → Type 0
 IsFirstFaulty bytes columns row fields = (before : List (List (List ℕ))) × (after : List (List (List ℕ)))
     × (file_records bytes ≡ columns ∷ (before ++ (fields ∷ after))) × All (IsRow (length columns)) before × (row ≡ length before + 1)
 
--- the file is its header and these rows, each of them a row
+-- a file's records are its columns as a header and given rows, all of them good
 abbrev pub IsFile : List ℕ → List (List ℕ) → List (List (List ℕ)) → Type 0
 IsFile bytes columns rows = (file_records bytes ≡ columns ∷ rows) × All (IsRow (length columns)) rows
 
--- why a file is refused
+-- a fault explains why the text of a CSV file with given columns is refused
 abbrev pub Explains : List ℕ → List (List ℕ) → CsvFault → Type 0
 Explains bytes columns NoHeader = file_records bytes ≡ []
 Explains bytes columns (HeaderDiffers column) = (header : List (List ℕ)) × (rows : List (List (List ℕ))) × (file_records bytes ≡ header ∷ rows) × DiffersFirstAt header columns column

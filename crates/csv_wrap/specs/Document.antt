@@ -11,66 +11,65 @@ use Rattle.csv_wrap.specs.Parts.{hole_of, part_of}
 use Rattle.csv_wrap.specs.Rows.{row_forest, file_tree}
 use Rattle.csv_wrap.specs.Table.{rows_in}
 
--- how many rows a list has at most
+-- how many rows a list that a CSV document gives has at most
 abbrev pub chunk_of : CsvDoc → ℕ
 chunk_of d = d.chunk
 
--- the columns of a document
+-- the columns of a CSV document
 abbrev pub columns_of : CsvDoc → List (List ℕ)
 columns_of d = d.columns.items
 
--- the rows of a document
+-- the rows of a CSV document
 abbrev pub rows_of : CsvDoc → List (List (List ℕ))
 rows_of d = rows_in (length d.columns.items) d.table
 
--- whether a document has a part: the name, and the rows from one on, or none behind the last
+-- whether a CSV document has a part: its name, or its rows from an index on that is at most their number
 abbrev pub has_part : CsvDoc → Option Part → Bool
 has_part d None = false
 has_part d (Some Name) = true
 has_part d (Some (RowsFrom first)) = nat_le first (length (rows_of d))
 
--- the trees of a part
+-- the trees of a part of a CSV document: all of it, or the rows from one on
 abbrev pub part_forest : CsvDoc → Option Part → Forest
 part_forest d None = none
 part_forest d (Some Name) = alone (file_tree d.name (columns_of d) (rows_of d))
 part_forest d (Some (RowsFrom first)) = row_forest (columns_of d) (drop first (rows_of d))
 
--- a hole for the rows from one on, where there are any
+-- a hole for the rows of a CSV document from one on, where there are any
 abbrev pub rest_given : CsvDoc → ℕ → Open
 rest_given d first = cond (nat_lt first (length (rows_of d))) (hole (hole_of (RowsFrom first)) nil) nil
 
--- the list of a part: the name with the hole of all rows below it; of rows the next, at most a chunk, each whole, and a hole
--- behind them exactly where more remain
+-- the list that answers a part's fill: the name, above a hole for all rows; or the next rows, at most a chunk, and a hole after them where more remain
 abbrev pub part_given : CsvDoc → Option Part → Open
 part_given d None = nil
 part_given d (Some Name) = node d.name (hole (hole_of (RowsFrom 0)) nil) nil
 part_given d (Some (RowsFrom first)) =
     open_followed (without_holes (row_forest (columns_of d) (take d.chunk (drop first (rows_of d))))) (rest_given d (first + d.chunk))
 
--- whether a document knows a hole
+-- whether a CSV document knows a hole
 abbrev pub knows : CsvDoc → HoleId → Bool
 knows d h = has_part d (part_of h)
 
--- the trees that a hole stands for
+-- the trees that a hole of a CSV document stands for
 abbrev pub forest : CsvDoc → HoleId → Forest
 forest d h = part_forest d (part_of h)
 
--- the weight of a hole: the number of nodes that it stands for
+-- the weight of a hole of a CSV document: the number of nodes that it stands for
 abbrev pub weight : CsvDoc → HoleId → ℕ
 weight d h = nodes_of (forest d h)
 
--- the hole of the root
+-- the hole of the root of a CSV document
 abbrev pub root_hole : CsvDoc → HoleId
 root_hole d = hole_of Name
 
--- the whole document
+-- the whole document of a CSV file
 abbrev pub document : CsvDoc → Forest
 document d = forest d (root_hole d)
 
--- the list of a hole
+-- the list that answers a fill of a hole of a CSV document
 abbrev pub given : CsvDoc → HoleId → Open
 given d h = part_given d (part_of h)
 
--- the hole of the root is known
+-- a CSV document knows the hole of its root
 pub root_known : (d : CsvDoc) → knows d (root_hole d) ≡ true
 root_known d = refl

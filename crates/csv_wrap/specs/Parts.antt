@@ -9,7 +9,7 @@ abbrev pub hole_of : Part → HoleId
 hole_of Name = record { words = 0 ∷ 0 ∷ 0 ∷ [] }
 hole_of (RowsFrom first) = record { words = 1 ∷ first ∷ 0 ∷ [] }
 
--- the part whose hole this is, where it is one's
+-- the part of a CSV document that a hole stands for, where there is one
 abbrev pub part_of : HoleId → Option Part
 part_of h =
     if (slice_index h.words 0 == 0) && ((slice_index h.words 1 == 0) && (slice_index h.words 2 == 0)) then Some Name

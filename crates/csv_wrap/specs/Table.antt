@@ -2,15 +2,15 @@
 use Rattle.std.specs.Prelude.{◌≡◌, ℕ, zero, suc, ◌*◌, List, [], ◌∷◌, take, drop, length}
 use Rattle.csv_wrap.specs.declared.table.Table.{Table}
 
--- fields cut into so many rows of so many each
+-- fields cut into a number of rows of a given width
 abbrev pub cut_rows : ℕ → ℕ → List (List ℕ) → List (List (List ℕ))
 cut_rows width zero fields = []
 cut_rows width (suc count) fields = take width fields ∷ cut_rows width count (drop width fields)
 
--- the rows of a table of so many columns
+-- the rows of a table of a given number of columns
 abbrev pub rows_in : ℕ → Table → List (List (List ℕ))
 rows_in width t = cut_rows width t.rows t.fields
 
--- a table has as many fields as its rows have
+-- a table has exactly as many fields as its rows have columns in all
 abbrev pub IsFull : ℕ → Table → Type 0
 IsFull width t = length t.fields ≡ t.rows * width

@@ -14,7 +14,7 @@ use lxp_core::{HoleId, OpenTree};
 use mix_tree::Label;
 use std::alloc::{AllocError, Global};
 
-// Puts a node behind a list, above a list of its own.
+// Puts a node at the end of a list of trees, above a list of its own.
 fn push_node(list: &mut Vec<OpenTree>, label: Label, kids: Vec<OpenTree>) -> Result<(), AllocError>
     ensures { OnOk result ((rest : Open) → put_all list.new.items rest
         ≡ put_all list.old.items (node label (plain kids.items) rest)) }
@@ -23,7 +23,7 @@ fn push_node(list: &mut Vec<OpenTree>, label: Label, kids: Vec<OpenTree>) -> Res
     Ok(())
 }
 
-// Puts a column of a row behind a list, with its field below it.
+// Puts a column of a row at the end of a list of trees, with its field below it.
 fn push_cell(
     alloc: Global,
     list: &mut Vec<OpenTree>,
@@ -72,7 +72,7 @@ impl CsvDoc {
         Ok(list)
     }
 
-    // The name, with the hole of all rows below it.
+    // The list of the whole document: the source's name, above a hole for all rows.
     fn give_name(&self, alloc: Global) -> Result<Vec<OpenTree>, AllocError>
         ensures { IfOk result (λ list. plain list.items ≡ part_given self.now (Some Part.Name)) }
     {
@@ -83,7 +83,7 @@ impl CsvDoc {
         Ok(list)
     }
 
-    // Where a chunk of rows ends that begins with this one.
+    // The index where a chunk of rows ends that begins with a given one.
     fn chunk_end(&self, first: usize) -> usize
         requires { first ≤ self.now.table.rows }
         ensures { result ≡ min (first + self.now.chunk) self.now.table.rows }
@@ -97,7 +97,7 @@ impl CsvDoc {
         }
     }
 
-    // Puts a hole for the rows from one on behind a list, where there are any.
+    // Puts a hole for the rows from one on at the end of a list, where there are any.
     fn push_rest(&self, list: &mut Vec<OpenTree>, first: usize) -> Result<(), AllocError>
         ensures { OnOk result (plain list.new.items ≡ put_all list.old.items (rest_given self.now first)) }
     {
@@ -108,7 +108,7 @@ impl CsvDoc {
         Ok(())
     }
 
-    // The rows from one on, at most a chunk, and a hole behind them where more remain.
+    // The list of the rows from one on: at most a chunk of them, each whole, and a hole after them where more remain.
     fn give_rows(&self, alloc: Global, first: usize) -> Result<Vec<OpenTree>, AllocError>
         requires { first ≤ self.now.table.rows }
         ensures { IfOk result (λ list. plain list.items ≡ part_given self.now (Some (Part.RowsFrom first))) }
@@ -145,7 +145,7 @@ impl CsvDoc {
         if self.has(part) { Some(part) } else { None }
     }
 
-    /// The list of a part.
+    /// The list that answers a fill of a part of the document.
     pub fn give(&self, alloc: Global, part: Part) -> Result<Vec<OpenTree>, AllocError>
         requires { has_part self.now (Some part) ≡ true }
         ensures { IfOk result (λ list. plain list.items ≡ part_given self.now (Some part)) }

@@ -26,7 +26,7 @@ impl Part {
         }
     }
 
-    /// The part whose hole this is; `None` where it is the hole of no part.
+    /// The part that a hole stands for; `None` where it is the hole of no part.
     pub fn of_hole(hole: HoleId) -> Option<Part>
         ensures { result ≡ part_of hole }
     {

@@ -12,7 +12,7 @@ use document_store::Texts;
 use mix_tree::Label;
 use std::alloc::Global;
 
-// Reads the header, which has to be the columns.
+// Reads the header of a CSV file, which has to be the declared columns.
 fn read_header(
     reader: &mut Reader<&[u8]>,
     found: &mut ByteRecord,
@@ -32,7 +32,7 @@ fn read_header(
     }
 }
 
-// So many rows of these fields, whose room is given back where it is not used.
+// A table of a number of rows and their fields, whose unused room is given back.
 fn full_table(mut fields: Texts, rows: usize) -> Table
     ensures fields { result.fields ≡ fields }
     ensures rows { result.rows ≡ rows }
@@ -71,7 +71,7 @@ fn rows_of(
     Err(CsvFault::OutOfMemory)
 }
 
-/// The rows of a CSV file with these columns (docs/FORMATS.md, "CSV files").
+/// The rows of a CSV file with given columns (docs/FORMATS.md, "CSV files").
 pub fn read_rows(alloc: Global, bytes: &[u8], columns: &[Label]) -> Result<Table, CsvFault>
     ensures accepted { IfOk result (λ table. IsFile bytes.now columns.now (rows_in (length columns.now) table)) }
     ensures full { IfOk result (IsFull (length columns.now)) }

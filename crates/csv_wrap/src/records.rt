@@ -8,7 +8,7 @@ use csv::{ByteRecord, Reader, ReaderBuilder};
 use mix_tree::Label;
 use std::alloc::{AllocError, Global};
 
-/// The first column at which a record is not the columns.
+/// The first index at which a record and the columns differ, where one of them may have ended.
 pub fn difference(found: &ByteRecord, columns: &[Label]) -> Option<usize>
     ensures { MatchOption result (fields_of found.now ≡ columns.now) (λ k. DiffersFirstAt (fields_of found.now) columns.now k) }
 {
@@ -27,7 +27,7 @@ pub fn difference(found: &ByteRecord, columns: &[Label]) -> Option<usize>
     }
 }
 
-/// A reader at the start of a text with no byte order mark in front.
+/// A reader at the start of a text that begins with no byte order mark.
 pub fn reader_of(alloc: Global, text: &[u8]) -> Reader<&[u8]>
     ensures { strip_bom text.now ≡ text.now → IsAt text.now [] result }
 {

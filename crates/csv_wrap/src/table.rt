@@ -15,7 +15,7 @@ pub struct Table {
     pub rows: usize,
 }
 
-/// Puts the fields of a record behind others, and answers whether each is text. Where one isn't, the fields are no rows.
+/// Puts the fields of a record after other fields, and answers whether each is text. Where one isn't, the fields are no rows.
 pub fn put_fields(fields: &mut Texts, found: &ByteRecord) -> Result<bool, AllocError>
     ensures { IfOk result (λ text. MatchBool text
         (AllText (fields_of found.now) × (fields.new ≡ fields.old ++ fields_of found.now))
@@ -33,7 +33,7 @@ pub fn put_fields(fields: &mut Texts, found: &ByteRecord) -> Result<bool, AllocE
     Ok(true)
 }
 
-/// The names of columns, once more.
+/// A copy of the names of columns.
 pub fn copy_columns(alloc: Global, columns: &[Label]) -> Result<Vec<Label>, AllocError>
     ensures { IfOk result (λ copies. copies.items ≡ columns.now) }
 {

@@ -24,11 +24,11 @@ pub record View : Type 0 where
   -- how often a source failed
   pub faults : ℕ → ℕ
 
--- the document of a told source, as a list of trees
+-- the document of a source that tells it, as a list of trees
 abbrev pub document : View → ℕ → Forest
 document v s = v.forest s (v.root s)
 
--- what every call keeps: which sources there are and what they mean, each known hole, and counts that don't fall
+-- what every call keeps of sources: how many there are, what each means, each known hole and its meaning; no count of fills or faults falls
 pub record Keeps (old new : View) : Type 0 where
   pub count : new.count ≡ old.count
   pub root : (s : ℕ) → new.root s ≡ old.root s

@@ -11,10 +11,10 @@ use std::alloc::Global;
 /// Documents that are given piece by piece: a fill asks for the trees that a hole stands for, and is answered with
 /// trees that may have holes again.
 pub trait Sources {
-    /// What this state means.
+    /// What a state of the sources means.
     ghost view: { Self → View };
 
-    /// `came_from old new`: from the old state came the new one, by calls.
+    /// `came_from old new` is read "from old came new": calls led from the old state to the new one.
     ghost came_from: { Self → Self → Type 0 };
 
     /// How many sources there are. They are numbered from 0.
@@ -62,6 +62,6 @@ pub trait Sources {
     /// A state keeps what every call keeps of each state that it came from.
     ghost keeps: { (a b : Self) → came_from a b → Keeps (view a) (view b) };
 
-    /// The hole of a whole document is known.
+    /// A source knows the hole of its whole document.
     ghost root_known: { (a : Self) (s : ℕ) → s < (view a).count → (view a).knows s ((view a).root s) ≡ true };
 }

@@ -15,28 +15,27 @@ use Rattle.mix_top.specs.Outside.{Outside}
 use Rattle.mix_top.specs.Stops.{IsDoneAlong, IsDoneWith, outcome_of, outcome_status}
 use Rattle.mix_call.specs.Talks.{IsTalkRefused, Talks}
 
--- how lines end that are of such a course: all of them were written, and the input is at its end or failed; or the sink failed or memory ran
--- out, and a front of them was written
+-- how lines of a given course end: all were written, the input at its end or failed; or the sink failed or memory ran out, after a prefix of them
 abbrev pub EndsSo : (SinkView → SinkView → ℕ → List ℕ → Type 0) → InputView → InputView → SinkView → SinkView → Result Bool TalkFault → Type 0
 EndsSo Course input input' sink sink' (Ok marked) = IsAtEnd input' × IsDoneAlong Course sink sink' (outcome_of marked)
 EndsSo Course input input' sink sink' (Err InputFailed) = HasRisen input.faults input'.faults × (status : ℕ) × IsDoneWith (Course sink sink') status sink sink'
 EndsSo Course input input' sink sink' (Err SinkFailed) = HasRisen sink.faults sink'.faults × TookFront (Course sink sink') sink sink'
 EndsSo Course input input' sink sink' (Err OutOfMemory) = TookAtMost (Course sink sink') sink sink'
 
--- bytes were taken of an input, and lines end so whose course is told of what was heard by them
+-- bytes were taken of an input, and the lines end whose course is given by what these bytes ask for
 pub record TalkedAlong (Course : List Heard → SinkView → SinkView → ℕ → List ℕ → Type 0) (input input' : InputView) (sink sink' : SinkView) (end : Result Bool TalkFault) : Type 0 where
   pub bytes : List ℕ
   pub took : Took input input' bytes
   pub ends : EndsSo (Course (heard_by bytes end)) input input' sink sink' end
 
--- the status of a talk that ended so
+-- the status of a talk, by how it ended
 abbrev pub talk_status : Result Bool TalkFault → ℕ
 talk_status (Ok marked) = outcome_status (outcome_of marked)
 talk_status (Err SinkFailed) = 5
 talk_status (Err OutOfMemory) = 6
 talk_status (Err InputFailed) = 10
 
--- a talk was held, and its status says how it ended
+-- a talk whose files were all accepted was held, and its status says how it ended
 abbrev pub IsHeld : Outside → Outside → List ℕ → List ℕ → InputView → InputView → SinkView → SinkView → ℕ → Type 0
 IsHeld before after view catalog input input' sink sink' status =
     (end : Result Bool TalkFault) × (status ≡ talk_status end) × TalkedAlong (Talks before after view catalog) input input' sink sink' end
@@ -46,7 +45,7 @@ abbrev pub TalkEnds : Outside → Outside → List ℕ → List ℕ → InputVie
 TalkEnds before after view catalog input input' sink sink' status =
     ((input' ≡ input) × Ends (IsTalkRefused before.files after.files view catalog) sink sink' status) ⊎ IsHeld before after view catalog input input' sink sink' status
 
--- the view and the catalog of a talk, where words are one
+-- the view and the catalog of a talk, where command words are those of a talk
 abbrev pub talk_of : List (List ℕ) → Option (List ℕ × List ℕ)
 talk_of [] = None
 talk_of (word ∷ []) = None
@@ -54,7 +53,7 @@ talk_of (word ∷ a ∷ []) = None
 talk_of (word ∷ a ∷ b ∷ []) = cond (bytes_eq word (codes "talk")) (Some (a, b)) None
 talk_of (word ∷ a ∷ b ∷ c ∷ words) = None
 
--- so words end: a talk as talks do, every other command as its course says, and that takes nothing of the input
+-- how the call of given words ends: a talk as talks do, any other command as its course says, and it takes nothing of the input
 abbrev pub WordsEnd : Option (List ℕ × List ℕ) → List (List ℕ) → Outside → Outside → InputView → InputView → SinkView → SinkView → ℕ → Type 0
 WordsEnd (Some talk) words before after input input' sink sink' status = TalkEnds before after talk.0 talk.1 input input' sink sink' status
 WordsEnd None words before after input input' sink sink' status = (input' ≡ input) × EndsAlong (IsCourse before after (command_of words)) sink sink' status

@@ -22,7 +22,7 @@ use Rattle.mix_call.specs.Talks.{in_talk}
 use Rattle.mix_call.specs.declared.talking.Basis.{Basis}
 use Rattle.mix_call.specs.declared.talking.Ready.{Ready}
 
--- all files of a talk were accepted, and this is what they say
+-- all files of a talk were accepted: what was read of them is the catalog, the rule and the mounted sources
 pub record IsReady (files : FilesView) (view catalog : List ℕ) (r : Ready) : Type 0 where
   pub catalog_is : IsCatalogFile files catalog r.basis.catalog
   pub rule_is : IsRuleFile files view (names_of_sources r.basis.catalog) (rule_of r.basis.rule)
@@ -34,13 +34,13 @@ pub record IsReady (files : FilesView) (view catalog : List ℕ) (r : Ready) : T
 abbrev pub IsReadyStop : FilesView → FilesView → List ℕ → List ℕ → Stop → Type 0
 IsReadyStop old new view catalog = IsStopBehind (λ sources v. IsSourceRefused old new v sources) old new view catalog
 
--- the lines answer what was heard, by so many fills over what is mounted
+-- given lines answer what was heard on the rule's finished document over what is mounted, by a number of fills
 abbrev pub TalkOver : ℕ → TablesView → TablesView → List Mount → Basis → List Heard → SinkView → SinkView → ℕ → List ℕ → Type 0
 TalkOver fills before after docs basis asked sink sink' status lines =
     (t : LabelledTree) × IsFinished (documents_of before docs) (rule_of basis.rule) t
     × (let q = question_of before docs basis.catalog (rule_of basis.rule) (steps_in asked) t in IsAnsweredIn (in_talk asked q) before after q fills sink sink' status lines)
 
--- so a talk ends over what is mounted, by all its fills, where each page was asked for a fill
+-- how a talk ends over what is mounted, by all its fills, where no more pages were asked than fills
 abbrev pub IsMountedEnd : Mounting → Mounting → Basis → InputView → InputView → SinkView → SinkView → Result Bool TalkFault → Type 0
 IsMountedEnd old new basis input input' sink sink' end =
     new.tables.pages ≤ old.tables.pages + new.fills → TalkedAlong (TalkOver new.fills old.tables new.tables old.docs basis) input input' sink sink' end

@@ -5,7 +5,7 @@ use Rattle.mix_top.specs.Commands.{Command}
 use Rattle.mix_top.specs.FilesRead.{MayRead}
 use Rattle.mix_call.specs.Talks.{TalkMayRead}
 
--- those of a talk, or those of another command
+-- the files that a call of given words may read: those of a talk, or those of another command
 abbrev pub WordsMayRead : FilesView → Option (List ℕ × List ℕ) → Command → List ℕ → Type 0
 WordsMayRead files (Some talk) command = TalkMayRead files talk.0 talk.1
 WordsMayRead files None command = MayRead files command

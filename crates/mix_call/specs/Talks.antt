@@ -19,7 +19,7 @@ IsTalkRefused old new view catalog = IsRefusedBehind (λ sources v. IsSourceRefu
 abbrev pub TalkMayRead : FilesView → List ℕ → List ℕ → List ℕ → Type 0
 TalkMayRead files view catalog = MayReadBehind (λ sources v. SourceMayRead files v sources) files view catalog
 
--- a talk whose files were all accepted, and what the steps ask that were heard
+-- what a talk asks whose files were all accepted: its catalog, rule, documents and tree, and the steps that were heard
 pub record IsTalk (before : Outside) (view catalog : List ℕ) (asked : List Heard) (q : Question) : Type 0 where
   pub catalog_is : IsCatalogFile before.files catalog q.sources
   pub rule_is : IsRuleFile before.files view (names_of_sources q.sources) q.rule
@@ -27,7 +27,7 @@ pub record IsTalk (before : Outside) (view catalog : List ℕ) (asked : List Hea
   pub documents : AreDocuments before q.rule q.sources q.docs
   pub finished : IsFinished q.docs q.rule q.tree
 
--- the answers to the steps that were heard are written with the lines that answer lines of no form between them
+-- how the answers of a talk are written: in order, with the lines that answer lines of no form between them
 abbrev pub in_talk : List Heard → Question → Manner
 in_talk asked q = record {
   lines_of = λ answers. spoken (names_of_sources q.sources) asked answers;
@@ -36,7 +36,7 @@ in_talk asked q = record {
       × (rest : List ℕ) × (lines ≡ spoken (names_of_sources q.sources) done whole ++ rest);
 }
 
--- the lines of a talk that has heard so much answer it on the rule's finished document
+-- given lines answer, on the rule's finished document, all that a talk has heard
 abbrev pub Talks : Outside → Outside → List ℕ → List ℕ → List Heard → SinkView → SinkView → ℕ → List ℕ → Type 0
 Talks before after view catalog asked sink sink' status lines =
     (q : Question) × IsTalk before view catalog asked q

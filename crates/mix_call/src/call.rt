@@ -15,7 +15,7 @@ use mix_top::run_words;
 use std::alloc::Global;
 use table_keep::Tables;
 
-// The talk that words are, where they are one.
+// The talk that command words ask for, where they are those of a talk.
 fn read_talk(words: &[String]) -> Option<Talking<'_>>
     ensures none { result ≡ None → talk_of (map string_bytes words.now) ≡ None }
     ensures some { IfSome result (λ talking. talk_of (map string_bytes words.now) ≡ Some (talking.view.now, talking.catalog.now)) }

@@ -114,7 +114,7 @@ fn talk_ready<T: Tables, I: Input, K: Sink>(
     (end, tables)
 }
 
-// The status of a talk that ended so.
+// The exit status of a talk, by how it ended.
 fn status_of(end: Result<bool, TalkFault>) -> u8
     ensures { result ≡ talk_status end }
 {

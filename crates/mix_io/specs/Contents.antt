@@ -13,12 +13,12 @@ abbrev pub end_after : ℕ → ℕ → ℕ → ℕ
 end_after end from zero = end
 end_after end from (suc count) = max end (from + suc count)
 
--- the whole piece was added behind what stood there
+-- what was written rose by a whole piece at its end, where it is told
 abbrev pub Appends : Option (List ℕ) → Option (List ℕ) → List ℕ → Type 0
 Appends None after piece = after ≡ None
 Appends (Some before) after piece = after ≡ Some (before ++ piece)
 
--- a front of the piece was added behind what stood there
+-- what was written rose by a prefix of a piece at its end, where it is told
 abbrev pub AppendsFront : Option (List ℕ) → Option (List ℕ) → List ℕ → Type 0
 AppendsFront None after piece = after ≡ None
 AppendsFront (Some before) after piece = (count : ℕ) × (after ≡ Some (before ++ take count piece))

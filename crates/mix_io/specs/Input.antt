@@ -10,21 +10,21 @@ pub record InputView : Type 0 where
   -- how often a take has failed
   pub faults : ℕ
 
--- these bytes were the first of those that were left, and the others are left now
+-- given bytes were the first of those that were left of an input, and the others are left now
 abbrev pub Gone : Option (List ℕ) → Option (List ℕ) → List ℕ → Type 0
 Gone None after bytes = after ≡ None
 Gone (Some left) after bytes = (rest : List ℕ) × (left ≡ bytes ++ rest) × (after ≡ Some rest)
 
--- these bytes were taken, and all of them are counted
+-- given bytes were taken of an input, and all of them are counted
 pub record Took (old new : InputView) (bytes : List ℕ) : Type 0 where
   pub gone : Gone old.left new.left bytes
   pub counted : new.taken ≡ old.taken + length bytes
 
--- nothing is left, where that is told
+-- nothing is left of an input, where what is left is told
 abbrev pub IsAtEnd : InputView → Type 0
 IsAtEnd input = IfSome input.left (λ left. left ≡ [])
 
--- one call gave so many bytes into the front of room, few enough that they can be counted; there are none only into no room, or at the end
+-- one call put bytes of an input into the first places of room, and their count still fits; there are none only into no room, or at the end
 pub record Gives (old new : InputView) (count : ℕ) (room : List ℕ) : Type 0 where
   pub within : count ≤ length room
   pub took : Took old new (take count room)

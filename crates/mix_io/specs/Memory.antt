@@ -35,38 +35,38 @@ index_at_call m call path = if fails_at m call then None else position (is_at pa
 abbrev pub contents_at_call : MemFiles → ℕ → List ℕ → Option (List ℕ)
 contents_at_call m call path = if fails_at m call then None else contents_at m.files.items path
 
--- how many reads there were
+-- how many reads of files in memory there were
 abbrev pub reads_of : MemFiles → ℕ
 reads_of m = m.calls
 
--- the number of the next read, counted from 1; behind the last number no other comes
+-- the number of the next read of files in memory, counted from 1; the last number of 64 bits has none after it
 abbrev pub next_read : MemFiles → ℕ
 next_read m = min (reads_of m + 1) (2 ^ 64 - 1)
 
--- what the next read reads
+-- the contents of a path that the next read of files in memory reads; none where it is to fail
 abbrev pub next_contents : MemFiles → List ℕ → Option (List ℕ)
 next_contents m path = contents_at_call m (next_read m) path
 
--- they tell their contents, count faults for all paths together, and know the furthest end of each path
+-- what files in memory mean: they tell their contents, count faults for all paths together, and know the furthest end of each path
 abbrev pub mem_files_view : MemFiles → FilesView
 mem_files_view m = record { told = contents_at m.files.items; faults = λ _. m.faults; furthest = end_at m.files.items m.ends.items }
 
--- it tells what was written
+-- what a sink in memory means: it tells what was written
 abbrev pub mem_sink_view : MemSink → SinkView
 mem_sink_view s = record { written = Some s.bytes.items; faults = s.faults }
 
--- the numbers of the writes, counted from 1, that are to fail
+-- the numbers of the writes, counted from 1, that are to fail of a sink in memory
 abbrev pub failing_writes : MemSink → List ℕ
 failing_writes s = s.failing.items
 
--- how many writes there were
+-- how many writes to a sink in memory there were
 abbrev pub writes_of : MemSink → ℕ
 writes_of s = s.writes
 
--- the number of the next write, counted from 1; behind the last number no other comes
+-- the number of the next write to a sink in memory, counted from 1; the last number of 64 bits has none after it
 abbrev pub next_write : MemSink → ℕ
 next_write s = min (writes_of s + 1) (2 ^ 64 - 1)
 
--- whether the next write is to fail
+-- whether the next write to a sink in memory is to fail
 abbrev pub next_fails : MemSink → Bool
 next_fails s = list_any (λ k. k == next_write s) (failing_writes s)

@@ -3,6 +3,6 @@ use Rattle.std.specs.Prelude.{None}
 use Rattle.mix_io.specs.declared.std_input.StdInput.{StdInput}
 use Rattle.mix_io.specs.Input.{InputView}
 
--- it doesn't tell what is left
+-- what standard input means: it doesn't tell what is left
 abbrev pub std_input_view : StdInput → InputView
 std_input_view i = record { left = None; taken = i.taken; faults = i.faults }

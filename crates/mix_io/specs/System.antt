@@ -5,10 +5,10 @@ use Rattle.mix_io.specs.declared.os_files.OsFiles.{OsFiles}
 use Rattle.mix_io.specs.declared.std_sink.StdSink.{StdSink}
 use Rattle.mix_io.specs.Views.{FilesView, SinkView}
 
--- they tell no contents, count faults for all paths together, and know the furthest end of each path
+-- what the files of the system mean: they tell no contents, count faults for all paths together, and know the furthest end of each path
 abbrev pub os_files_view : OsFiles → FilesView
 os_files_view f = record { told = λ _. None; faults = λ _. f.faults; furthest = λ path. unwrap_or (get_by_text f.ends path) 0 }
 
--- it does not tell what was written
+-- what standard output means: it does not tell what was written
 abbrev pub std_sink_view : StdSink → SinkView
 std_sink_view s = record { written = None; faults = s.faults }

@@ -10,17 +10,17 @@ pub record FilesView : Type 0 where
   -- the furthest end of what was read of a path
   pub furthest : List ℕ → ℕ
 
--- what every call keeps of files: their contents, and no count and no end falls
+-- what every call keeps of files: their contents; no count of faults falls, and no furthest end
 pub record KeepsFiles (old new : FilesView) : Type 0 where
   pub told : (path : List ℕ) → new.told path ≡ old.told path
   pub faults : (path : List ℕ) → old.faults path ≤ new.faults path
   pub furthest : (path : List ℕ) → old.furthest path ≤ new.furthest path
 
--- of no path but this one was more read than before
+-- of no path but a given one was more read than before
 abbrev pub ReadsOnly : List ℕ → FilesView → FilesView → Type 0
 ReadsOnly path old new = (other : List ℕ) → ¬ (other ≡ path) → new.furthest other ≡ old.furthest other
 
--- files that tell these contents, of which nothing was read yet
+-- what files mean that tell given contents and of which nothing was read yet
 abbrev pub unread : (List ℕ → Option (List ℕ)) → FilesView
 unread told = record { told = told; faults = λ _. 0; furthest = λ _. 0 }
 

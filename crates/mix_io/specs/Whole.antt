@@ -4,7 +4,7 @@ use Rattle.mix_io.specs.declared.files.ReadAtFault.TheVariants as at
 use Rattle.mix_io.specs.declared.whole.ReadWhole.{ReadWhole}
 use Rattle.mix_io.specs.declared.whole.ReadWhole.TheVariants as whole
 
--- a failed read, and want of memory, stay what they are
+-- the refusal of a whole file that a fault of one read becomes: a failed read, or want of memory
 abbrev pub fault_of : ReadAtFault → ReadWhole
 fault_of at.Failed = whole.Failed
 fault_of at.OutOfMemory = whole.OutOfMemory

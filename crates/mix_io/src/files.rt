@@ -36,10 +36,10 @@ impl From<AllocError> for ReadAtFault {
 
 /// Files by their paths. No call changes what they contain.
 pub trait Files {
-    /// What this state means.
+    /// What a state of the files means.
     ghost view: { Self → FilesView };
 
-    /// Reads bytes from an offset on into the front of `room`, and answers how many.
+    /// Reads bytes from an offset on into the first places of `room`, and answers how many.
     /// Into room that is not empty, 0 bytes mean that the file ends at the offset or before it.
     /// After an error `room` may hold anything.
     fn read_at(

@@ -27,10 +27,10 @@ impl From<AllocError> for TakeFault {
 
 /// Where bytes come from, piece by piece.
 pub trait Input {
-    /// What this state means.
+    /// What a state of the input means.
     ghost view: { Self → InputView };
 
-    /// Takes bytes into the front of `room`, as soon as there are some, and answers how many.
+    /// Takes bytes into the first places of `room`, as soon as there are some, and answers how many.
     /// Into room that is not empty, 0 bytes mean that the input has ended.
     /// After an error nothing was taken, and `room` may hold anything.
     fn take(&mut self, alloc: Global, room: &mut [u8]) -> Result<usize, TakeFault>

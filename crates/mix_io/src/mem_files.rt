@@ -32,7 +32,7 @@ impl MemFiles {
     ghost use Rattle.std.specs.List.{position};
     ghost use Rattle.mix_io.specs.Views.{unread};
 
-    /// Files that fail at the reads of these numbers, counted from 1.
+    /// Files in memory that fail at the reads whose numbers `failing` names, counted from 1.
     pub fn new(
         alloc: Global,
         files: Vec<MemFile>,
@@ -61,7 +61,7 @@ impl MemFiles {
         MemFiles::index_of(&self.files, path)
     }
 
-    // The first file of a path.
+    // The index of the first file of a path, where there is one.
     fn index_of(files: &[MemFile], path: &str) -> Option<usize>
         ensures { result ≡ position (is_at path.now) files.now }
     {

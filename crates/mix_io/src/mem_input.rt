@@ -8,9 +8,9 @@ use std::alloc::Global;
 #[derive(Debug, Drop)]
 pub struct MemInput {
     bytes: Vec<u8>,
-    // How many were taken.
+    // How many bytes were taken.
     from: usize,
-    // The most that one take gives.
+    // The most bytes that one take gives.
     most: usize,
     failing: Vec<u64>,
     takes: u64,

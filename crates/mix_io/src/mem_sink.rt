@@ -15,7 +15,7 @@ pub struct MemSink {
 }
 
 impl MemSink {
-    /// A sink that fails at the writes of these numbers, counted from 1.
+    /// A sink in memory that fails at the writes whose numbers `failing` names, counted from 1.
     pub fn new(alloc: Global, failing: Vec<u64>) -> MemSink
         ensures view { mem_sink_view result ≡ record { written = Some []; faults = 0 } }
         ensures failing { failing_writes result ≡ failing.items }

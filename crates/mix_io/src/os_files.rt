@@ -31,7 +31,7 @@ struct OpenFile {
 }
 
 impl OpenFile {
-    // Opens a file at an offset. A pipe has its front alone.
+    // Opens a file at an offset. A pipe can be read from its beginning alone.
     fn open_at(
         alloc: Global,
         rt: &HostRuntime,
@@ -49,7 +49,7 @@ impl OpenFile {
         Ok(OpenFile { path, file, next })
     }
 
-    // Reads on.
+    // Reads bytes from where the open file stands.
     fn read(&mut self, room: &mut [u8]) -> Result<usize, ReadAtFault>
         requires { self.old.next + length room.old < 2 ^ 64 }
         ensures bound { IfOk result (λ count. count ≤ length room.new) }
@@ -84,7 +84,7 @@ impl LastFile {
         OpenFile::open_at(alloc, &self.rt, path, from)
     }
 
-    // Reads once. The file stays open where a byte was read.
+    // Reads bytes of a path at an offset, once. The file stays open where a byte was read.
     fn read_at(
         &mut self,
         alloc: Global,
@@ -110,7 +110,7 @@ impl LastFile {
 /// The files of the system. They tell nothing of what they contain.
 ///
 /// The file that was read last stays open for the next read of its path, where that begins at the end of the last. So a file that is read from
-/// its front to its end may be a pipe, and one that is replaced meanwhile is read to the end as it was. It is closed where a read answers
+/// its beginning to its end may be a pipe, and one that is replaced meanwhile is read to the end as it was. It is closed where a read answers
 /// 0 bytes, as at its end, fails, or is of another path or offset. A file is opened anew for each read that doesn't go on so, and
 /// there a pipe can be read from offset 0 alone, and gives what it has left.
 #[derive(Drop)]
@@ -122,7 +122,7 @@ pub struct OsFiles {
 }
 
 impl OsFiles {
-    /// The files that the runtime reaches.
+    /// The files of the system, as the runtime reaches them.
     pub fn new(rt: HostRuntime) -> OsFiles
         ensures { os_files_view result ≡ unread (λ _. None) }
     {

@@ -28,7 +28,7 @@ impl From<AllocError> for SinkFault {
 
 /// Where bytes are written, each piece behind those before.
 pub trait Sink {
-    /// What this state means.
+    /// What a state of the sink means.
     ghost view: { Self → SinkView };
 
     /// Writes a piece. After an error a front of it was written, perhaps the empty one.

@@ -36,7 +36,7 @@ fn take_fault(error: &io::Error) -> TakeFault {
     }
 }
 
-// Reads once.
+// Reads standard input once.
 fn read_once(rt: &HostRuntime, room: &mut [u8]) -> Result<usize, TakeFault>
     ensures { IfOk result (λ count. count ≤ length room.new) }
 {

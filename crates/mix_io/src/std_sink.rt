@@ -24,7 +24,7 @@ impl StdSink {
     }
 }
 
-// Writes once: at least a byte of a piece that is not empty.
+// Writes to standard output once: at least a byte of a piece that is not empty.
 fn write_once<W: Write>(out: &mut W, piece: &[u8]) -> Result<usize, SinkFault>
     ensures some { IfOk result (λ count. (0 < count) × (count ≤ length piece.now)) }
     ensures ok { IfOk result (λ count. Appends (W.contents out.old) (W.contents out.new) (take count piece.now)) }
@@ -37,7 +37,7 @@ fn write_once<W: Write>(out: &mut W, piece: &[u8]) -> Result<usize, SinkFault>
     }
 }
 
-// Writes a piece by as many writes as it takes.
+// Writes a piece to standard output, by as many writes as it takes.
 pub fn write_whole<W: Write>(out: &mut W, piece: &[u8]) -> Result<(), SinkFault>
     ensures ok { OnOk result (Appends (W.contents out.old) (W.contents out.new) piece.now) }
     ensures err { OnErr result ((count : ℕ) × Appends (W.contents out.old) (W.contents out.new) (take count piece.now)) }

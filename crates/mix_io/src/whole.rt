@@ -48,7 +48,7 @@ impl From<ReadAtFault> for ReadWhole {
     }
 }
 
-// So many bytes, all zero.
+// A list of `count` bytes, all zero.
 fn zeros(alloc: Global, count: usize) -> Result<Vec<u8>, AllocError>
     ensures { IfOk result (λ bytes. vec_len bytes ≡ count) }
 {

@@ -11,25 +11,25 @@ use Rattle.mix_lines.specs.declared.fault.LinesFault.{LinesFault}
 use Rattle.mix_lines.specs.declared.fault.LinesFault.TheVariants.{SinkFailed, OutOfMemory}
 use Rattle.mix_script.specs.Allowed.{is_fault}
 
--- the cause of a cut that a fault of the sink is
+-- the fault of lines that a fault of the sink becomes
 abbrev pub fault_of : SinkFault → LinesFault
 fault_of sink.Failed = SinkFailed
 fault_of sink.OutOfMemory = OutOfMemory
 
--- an answer's line was written; it is marked where the answer is a fault
+-- the whole line of an answer with a given property was written; the mark says whether the answer is a fault
 pub record WroteLine (IsAnswer : Answer → Type 0) (names : List (List ℕ)) (client : List ℕ) (before after : SinkView) (marked : Bool) : Type 0 where
   pub a : Answer
   pub answer : IsAnswer a
   pub marks : marked ≡ is_fault a
   pub written : Appends before.written after.written (line_of names client a)
 
--- a front of an answer's line was written
+-- a prefix of the line of an answer with a given property was written
 pub record WroteFront (IsAnswer : Answer → Type 0) (names : List (List ℕ)) (client : List ℕ) (before after : SinkView) : Type 0 where
   pub a : Answer
   pub answer : IsAnswer a
   pub written : AppendsFront before.written after.written (line_of names client a)
 
--- a step was cut short: the sink failed in its line, or memory ran out before the line or in it
+-- a step's line was cut short: the sink failed in the line, or memory ran out before the line or in it
 abbrev pub IsStepCut : (Answer → Type 0) → List (List ℕ) → List ℕ → SinkView → SinkView → LinesFault → Type 0
 IsStepCut IsAnswer names client before after SinkFailed = HasRisen before.faults after.faults × WroteFront IsAnswer names client before after
 IsStepCut IsAnswer names client before after OutOfMemory = (after ≡ before) ⊎ WroteFront IsAnswer names client before after

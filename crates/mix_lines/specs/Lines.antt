@@ -40,14 +40,14 @@ pub record IsWhole (Are Cost : List Answer → Type 0) (names : List (List ℕ))
   pub cost : Cost answers
   pub marks : marked ≡ has_fault answers
 
--- the lines of the first answers were written, and no more than the step behind them was begun
+-- the lines of the answers to the first steps were written whole, and at most the next step was begun
 pub record EndsBetween (Are Cost : List Answer → Type 0) (names : List (List ℕ)) (steps : List Step) (before after : SinkView) : Type 0 where
   pub answers : List Answer
   pub are : Are answers
   pub written : Appends before.written after.written (answer_lines names answers steps)
   pub cost : Cost answers
 
--- the lines of the first answers were written, and of the line of the one behind them a front
+-- the lines of the answers to the first steps were written whole, and a prefix of the line of the next answer
 pub record EndsWithin (Are Cost : List Answer → Type 0) (names : List (List ℕ)) (steps : List Step) (before after : SinkView) : Type 0 where
   pub answers : List Answer
   pub last : Answer
@@ -56,12 +56,12 @@ pub record EndsWithin (Are Cost : List Answer → Type 0) (names : List (List �
   pub written : Appends before.written after.written (take (length (answer_lines names answers steps) + count) (answer_lines names (answers ++ last ∷ []) steps))
   pub cost : Cost answers
 
--- how lines end: whole; or the sink failed in a line; or memory ran out, between two lines or in one
+-- how the lines of answers end: all were written; or the sink failed in a line; or memory ran out, between two lines or in one
 abbrev pub EndsBy : (List Answer → Type 0) → (List Answer → Type 0) → List (List ℕ) → List Step → SinkView → SinkView → Result Bool LinesFault → Type 0
 EndsBy Are Cost names steps before after (Ok marked) = IsWhole Are Cost names steps before after marked
 EndsBy Are Cost names steps before after (Err SinkFailed) = HasRisen before.faults after.faults × EndsWithin Are Cost names steps before after
 EndsBy Are Cost names steps before after (Err OutOfMemory) = EndsBetween Are Cost names steps before after ⊎ EndsWithin Are Cost names steps before after
 
--- how the lines on a course end, over sources that meant the first view before and mean the second after
+-- how the lines of answers on a course end, over sources that meant the first view before and mean the second after
 abbrev pub Ends : {W : Type 0} → Course W → View → View → List (List ℕ) → List Step → SinkView → SinkView → Result Bool LinesFault → Type 0
 Ends c old new names steps before after r = EndsBy (IsRun c old.faults new.faults steps) (IsLazy c old.fills new.fills steps) names steps before after r

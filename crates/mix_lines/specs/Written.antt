@@ -24,21 +24,20 @@ pub record AreWritten (names : List (List ℕ)) (steps later : List Step) (befor
   pub written : Appends before after (answer_lines names answers steps)
   pub marks : marked ≡ has_fault answers
 
--- what the names hold goes together with places of a tree; and answers to the later steps that are the tree's from there on,
--- behind those so far, are the tree's
+-- the names hold nodes at places of a tree, from which the tree's answers to the later steps, put after those so far, are its answers to all steps
 pub record IsOnTree {V : Type 0} (At : V → List ℕ → Type 0) (t : LabelledTree) (values : NamesOf V) (steps later : List Step) (answers : List Answer) : Type 0 where
   pub places : Names
   pub hold : HoldBoth At values places
   pub then : (more : List Answer) → AreOf t places more later → AreOf t no_names (answers ++ more) steps
 
--- what was asked so far, and what the later steps may cost, is no more than the steps may cost; the names hold this
+-- what was asked so far, with what the later steps may cost from what names hold now, is no more than what all steps may cost
 pub record IsSpent {V W : Type 0} (With : V → W → Type 0) (cost : NamesOf W → List ℕ → Act → ℕ) (after : NamesOf W → List ℕ → Act → Answer → NamesOf W) (asked asked' : ℕ)
     (values : NamesOf V) (steps later : List Step) (answers : List Answer) : Type 0 where
   pub names : NamesOf W
   pub hold : HoldBoth With values names
   pub spent : (more : List Answer) → asked' + begun cost after names more later ≤ asked + begun cost after no_names (answers ++ more) steps
 
--- the walk of a course has come to this meaning; the answers so far are those of a run, and the names hold what they should
+-- a walk of a course has come to a given meaning: the answers so far are those of a run, and the names hold what they should after them
 pub record IsSoFar {V W : Type 0} (c : Course W) (m : Meaning V W) (old now : View) (values : NamesOf V) (steps later : List Step) (answers : List Answer) : Type 0 where
   pub course : GoesOn c m.course
   pub nodes : Nodes
@@ -50,7 +49,7 @@ pub record IsSoFar {V W : Type 0} (c : Course W) (m : Meaning V W) (old now : Vi
   pub spent : TakeOneWay steps → c.HasTolls → IsSpent m.IsTold (act_toll c) (names_on c.trail) old.fills now.fills values steps later answers
   pub spent_on : c.HasTolls → (t : LabelledTree) → c.IsDocument t → IsSpent m.IsAt (tree_toll c t) (names_after t) old.fills now.fills values steps later answers
 
--- the steps before the later ones were answered by a session, and their lines written
+-- a session has answered all steps but the later ones, and the lines of its answers were written
 pub record IsFar {V W : Type 0} (c : Course W) (m : Meaning V W) (old now : View) (values : NamesOf V) (names : List (List ℕ)) (steps : List Step) (before after : Option (List ℕ)) (marked : Bool) (later : List Step) : Type 0 where
   pub session : IsSession m values
   pub answers : List Answer

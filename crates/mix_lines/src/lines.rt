@@ -24,7 +24,7 @@ pub struct Script<'a> {
 }
 
 /// Answers steps on the document of a walker, each by a line in one write. True: a fault line was written. What the walk
-/// holds at its end is not given back piece by piece: the program ends behind the lines, and the system takes it all at once.
+/// holds at its end is not given back piece by piece: the program ends after the lines, and the system takes it all at once.
 pub fn write_lines<W: Walker + Drop, S: Sources, K: Sink>(
     alloc: Global,
     s: &mut S,

@@ -12,11 +12,11 @@ use Rattle.mix_load.specs.View.{names_rule}
 abbrev pub people_rows : Layout
 people_rows = rows_layout (codes "people") (map field_column people_columns)
 
--- it is that of the only source
+-- the layouts of the sources of `load`: that of people for the only source
 abbrev pub people_layout : ℕ → Layout
 people_layout zero = people_rows
 people_layout (suc s) = any_trees
 
--- the class of the view of their names
+-- the class of the view of people's names
 abbrev pub names_class : Class
 names_class = class_in people_layout (operators_for names_rule)

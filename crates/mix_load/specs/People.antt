@@ -5,7 +5,7 @@ use Rattle.std.specs.List.{concat, join_with_byte}
 use Rattle.mix_tree.specs.Forest.{LabelledTree}
 use Rattle.csv_wrap.specs.Rows.{file_tree}
 
--- the columns
+-- the columns of the file of people
 abbrev pub people_columns : List (List ℕ)
 people_columns = codes "id" ∷ codes "name" ∷ codes "zip" ∷ []
 
@@ -22,10 +22,10 @@ people (suc n) = people n ++ person n ∷ []
 abbrev pub record_line : List (List ℕ) → List ℕ
 record_line fields = join_with_byte 44 fields ++ 10 ∷ []
 
--- the text of so many people, below the line of the columns
+-- the CSV text of a number of people, below the line of the columns
 abbrev pub people_text : ℕ → List ℕ
 people_text count = concat (map record_line (people_columns ∷ people count))
 
--- their document: the rows below the source's name
+-- the document of a number of people: their rows below the source's name
 abbrev pub people_tree : ℕ → LabelledTree
 people_tree count = file_tree (codes "people") people_columns (people count)

@@ -20,12 +20,12 @@ use Rattle.mix_load.specs.View.{names_rule}
 use Rattle.mix_load.specs.declared.visit.Visit.{Visit}
 use Rattle.mix_load.specs.declared.visit.Visitor.{Visitor}
 
--- the documents: that of so many people is the only one
+-- the documents of `load`: that of a number of people is the only one
 abbrev pub people_documents : ℕ → Documents
 people_documents count zero = alone (people_tree count)
 people_documents count (suc s) = none
 
--- a tree is the finished document of the view of their names
+-- a tree is the finished document of the view of the names of a number of people
 abbrev pub AreNames : ℕ → LabelledTree → Type 0
 AreNames count t = IsFinished (people_documents count) names_rule t
 
@@ -38,23 +38,23 @@ pub record IsVisit (count : ℕ) (visit : Visit) : Type 0 where
   pub nodes : visit.nodes ≡ tree_nodes tree
   pub bytes : visit.bytes ≡ length (canon tree)
 
--- what the visitor's session walks
+-- the meaning of the walker of a visitor's session
 abbrev pub meaning_of : Visitor → Meaning NodeId (List ℕ)
 meaning_of visitor = plan_meaning (view_of (mounted_in no_tables_view visitor.sources)) visitor.session.walker
 
--- the visitor walks this tree, the names hold these places, and a document in memory is the only source
+-- a visitor walks a given tree, its names hold given places, and a document in memory is the only source
 pub record IsOn (t : LabelledTree) (places : Names) (visitor : Visitor) : Type 0 where
   pub session : IsSession (meaning_of visitor) (held visitor.session.names)
   pub document : (meaning_of visitor).course.IsDocument t
   pub hold : HoldPlaces (meaning_of visitor) (held visitor.session.names) places
   pub alone : (people : LabelledTree) × IsAlone (mounted_in no_tables_view visitor.sources) people
 
--- what a visitor who took a command answers, and what the names hold then, is as in the transcript of that tree
+-- a visitor's answer to a command, and what its names hold after it, are those of the transcript on the tree that it walks
 abbrev pub Answers : Visitor → Visitor → Act → Answer → Type 0
 Answers old new act a =
     (t : LabelledTree) (places : Names) → IsOn t places old → (a ≡ answer_of t places None [] act) × IsOn t (names_after t places [] act a) new
 
--- the visitor walks this tree, and the name r holds its root
+-- a visitor walks a given tree, and the name r holds its root
 pub record HoldsRoot (t : LabelledTree) (visitor : Visitor) : Type 0 where
   pub places : Names
   pub on : IsOn t places visitor

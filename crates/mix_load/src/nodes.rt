@@ -5,7 +5,7 @@ ghost use Rattle.mix_tree.specs.Weight.{tree_nodes};
 ghost use Rattle.bracket_text.specs.Canonical.{canon};
 ghost use Rattle.mix_load.specs.Parts.{after, parts_at};
 
-/// Where a byte of bracket text stands: outside of quotes, between them, or there behind a backslash.
+/// Where a byte of bracket text stands: outside of quotes, in them, or in them after a backslash.
 #[derive(Clone, Copy, PartialEq, Eq)]
 pub enum Stand {
     Outside,
@@ -13,7 +13,7 @@ pub enum Stand {
     Escaped,
 }
 
-// Where the byte behind a byte stands.
+// Where the byte after a given byte stands.
 fn after(stand: Stand, byte: u8) -> Stand
     ensures { result ≡ after stand byte }
 {
@@ -36,7 +36,7 @@ fn parts_at(stand: Stand, byte: u8) -> bool
     }
 }
 
-/// How many nodes the tree has whose canonical text this is: one more than there are opening brackets and commas outside of quotes.
+/// How many nodes the tree of a canonical text has: one more than the text has opening brackets and commas outside of quotes.
 pub fn count_nodes(text: &[u8]) -> usize
     ensures { (t : LabelledTree) → text.now ≡ canon t → result ≡ tree_nodes t }
 {

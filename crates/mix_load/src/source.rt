@@ -11,7 +11,7 @@ use csv_wrap::{CsvDoc, CsvFault};
 use mix_tree::Label;
 use std::alloc::{AllocError, Global};
 
-// The columns of the people.
+// The columns of the file of people.
 fn people_columns(alloc: Global) -> Result<Vec<Label>, AllocError>
     ensures { IfOk result (λ columns. columns.items ≡ people_columns) }
 {

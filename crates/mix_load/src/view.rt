@@ -24,7 +24,7 @@ fn step(alloc: Global, text: &str) -> Result<Path, AllocError>
     Ok(Path::new(Node::Name(label(alloc, text)?)))
 }
 
-// The rows of the people are found: `people people.row $R`.
+// The condition that finds the rows of people: `people people.row $R`.
 fn rows_condition(alloc: Global) -> Result<Cond, AllocError>
     ensures { IfOk result (λ cond. cond ≡ rows_condition) }
 {
@@ -37,7 +37,7 @@ fn rows_condition(alloc: Global) -> Result<Cond, AllocError>
     })
 }
 
-// Their names are found: `$R name._ $N`.
+// The condition that finds the names of people: `$R name._ $N`.
 fn names_condition(alloc: Global) -> Result<Cond, AllocError>
     ensures { IfOk result (λ cond. cond ≡ names_condition) }
 {
@@ -66,7 +66,7 @@ fn person_element(alloc: Global) -> Result<Template, AllocError>
     })
 }
 
-// The element in which those of all people are: `<names> .. </names> {}`.
+// The outer element, in which the elements of all people are: `<names> .. </names> {}`.
 fn names_element(alloc: Global) -> Result<Template, AllocError>
     ensures { IfOk result (λ t. t ≡ names_element) }
 {
@@ -78,7 +78,7 @@ fn names_element(alloc: Global) -> Result<Template, AllocError>
     })
 }
 
-// Both conditions.
+// The conditions of the view of people's names.
 fn conditions(alloc: Global) -> Result<Vec<Cond>, AllocError>
     ensures { IfOk result (λ conds. conds.items ≡ rows_condition ∷ names_condition ∷ []) }
 {
@@ -87,7 +87,7 @@ fn conditions(alloc: Global) -> Result<Vec<Cond>, AllocError>
     Ok(vec![in alloc; rows, names]?)
 }
 
-// The names of the variables.
+// The names of the variables of the view of people's names.
 fn var_names(alloc: Global) -> Result<Vec<Label>, AllocError>
     ensures { IfOk result (λ names. names.items ≡ codes "R" ∷ codes "N" ∷ []) }
 {

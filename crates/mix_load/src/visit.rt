@@ -21,11 +21,11 @@ use table_keep::NoTables;
 /// What a visit of many people comes to.
 #[derive(Clone, Copy, Debug)]
 pub struct Visit {
-    /// How many commands it took.
+    /// How many commands the visit took.
     pub commands: u64,
     /// How many nodes the printed tree has.
     pub nodes: usize,
-    /// How many bytes its text has.
+    /// How many bytes the text of the printed tree has.
     pub bytes: usize,
 }
 
@@ -37,7 +37,7 @@ pub struct Visitor {
     commands: u64,
 }
 
-// The document of so many people as the only source.
+// The document of `count` people, mounted as the only source.
 fn mount_people(alloc: Global, count: u32) -> Result<Mounted<NoTables>, AllocError>
     ensures { IfOk result (λ sources. IsAlone (mounted_in no_tables_view sources) (people_tree count)) }
 {
@@ -65,7 +65,7 @@ impl Visitor {
     ghost use Rattle.mix_script.specs.Transcript.{Names};
     ghost use Rattle.mix_load.specs.Visit.{Answers, AreNames, IsOn, HoldsRoot};
 
-    // A visitor to the names of so many people, who has taken no command yet.
+    // A visitor to the names of `count` people, who has taken no command yet.
     fn open(alloc: Global, count: u32) -> Result<Visitor, AllocError>
         ensures on { IfOk result (λ visitor. (t : LabelledTree) × AreNames count t × IsOn t no_names visitor) }
         ensures commands { IfOk result (λ visitor. visitor.commands ≡ 0) }
@@ -127,7 +127,7 @@ impl Visitor {
         Ok(())
     }
 
-    // Prints the root.
+    // Prints the subtree of the root.
     fn print(&mut self, alloc: Global) -> Result<Text, AllocError>
         requires root { (t : LabelledTree) × HoldsRoot t self.old }
         requires room { self.old.commands + 1 < 2 ^ 64 }

@@ -7,7 +7,7 @@ use Rattle.lazy_value.specs.declared.mediator.Mediator.{Mediator}
 use Rattle.lazy_value.specs.Mediators.{state_of}
 use Rattle.mix_session.specs.Walks.{SourceKept, PlanKept}
 
--- where there is no call, a buffer goes on
+-- a buffer goes on from a state to that same state
 pub source_kept_same : (v : View) (b : Buffer) → SourceKept v b v b
 source_kept_same v b = record {
   number = refl;
@@ -24,7 +24,7 @@ source_kept_same v b = record {
   siblings = λ x h k. k;
 }
 
--- a buffer goes on, and on
+-- a buffer that goes on to a second state and from there to a third goes on from the first to the third
 pub source_kept_twice : (v : View) (b : Buffer) (v' : View) (b' : Buffer) (v'' : View) (b'' : Buffer) → SourceKept v b v' b' → SourceKept v' b' v'' b'' → SourceKept v b v'' b''
 source_kept_twice v b v' b' v'' b'' first second = record {
   number = second.number ∙ first.number;
@@ -41,7 +41,7 @@ source_kept_twice v b v' b' v'' b'' first second = record {
   siblings = λ x h all. second.siblings x (first.spot x h) (first.siblings x h all);
 }
 
--- where there is no call, all is as it was
+-- a mediator keeps from a state to that same state all that its calls keep
 pub plan_kept_same : (v : View) (m : Mediator) → PlanKept v m v m
 plan_kept_same v m = record {
   kept = keeps_on.same (state_of v m);
@@ -49,7 +49,7 @@ plan_kept_same v m = record {
   heights = λ n h. omega arith;
 }
 
--- what two calls of a mediator keep
+-- what a mediator keeps to a second state and from there to a third it keeps from the first to the third
 pub plan_kept_twice : (v : View) (m : Mediator) (v' : View) (m' : Mediator) (v'' : View) (m'' : Mediator) → PlanKept v m v' m' → PlanKept v' m' v'' m'' → PlanKept v m v'' m''
 plan_kept_twice v m v' m' v'' m'' first second = record {
   kept = keeps_on.twice (state_of v m) (state_of v' m') (state_of v'' m'') first.kept second.kept;

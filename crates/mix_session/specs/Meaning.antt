@@ -23,25 +23,25 @@ pub record Course (W : Type 0) : Type 1 where
   -- the toll of a way from a node
   pub toll : Way → W → ℕ
 
--- what is walked, and what stands for its nodes
+-- what a walker means: the course that it walks, which values stand for nodes, at which places, and their numbers
 pub record Meaning (V W : Type 0) : Type 1 where
   -- the sources are the walker's own
   pub IsReady : Type 0
   pub course : Course W
   -- a value stands for a node
   pub IsNode : V → Type 0
-  -- it stands at a place of the document
+  -- the node that a value stands for is at a place of the document
   pub IsAt : V → List ℕ → Type 0
-  -- this is told of it
+  -- the node that a value stands for has given data told of it
   pub IsTold : V → W → Type 0
-  -- what its place tells is told of it
+  -- of the node that a value stands for, what its place tells is told
   pub told_at : (n : V) (p : List ℕ) → IsAt n p → IsTold n (course.at p)
   -- a number that falls with each step to the right
   pub left : V → ℕ
   -- a number that falls with each step down, and does not rise with a step to the right
   pub height : V → ℕ
 
--- the walk of a course goes on: the document is the same, no other source may fail, and no toll rose
+-- from one course to another a walk goes on: the document is the same, no other source may fail, and no toll rose
 pub record GoesOn {W : Type 0} (old new : Course W) : Type 0 where
   pub roots : new.roots ≡ old.roots
   pub may : (s : ℕ) → new.MayFail s → old.MayFail s
@@ -52,7 +52,7 @@ pub record GoesOn {W : Type 0} (old new : Course W) : Type 0 where
   pub root_toll : new.root_toll ≤ old.root_toll
   pub toll : (way : Way) (x : W) → new.toll way x ≤ old.toll way x
 
--- what a call leaves: the course goes on, and each earlier node stays one, where it stood; its numbers did not rise
+-- what a call leaves of a walker's meaning: the course goes on, each earlier node stays at its place, and its numbers did not rise
 pub record Stays {V W : Type 0} (old new : Meaning V W) : Type 0 where
   pub ready : new.IsReady
   pub course : GoesOn old.course new.course

@@ -22,7 +22,7 @@ use Rattle.mix_session.specs.Seeking.{IsMoved, IsSmaller, ReadsLabel}
 abbrev pub place_toll : {W : Type 0} → Course W → Way → List ℕ → ℕ
 place_toll c way p = c.toll way (c.at p)
 
--- a source that is said to have failed is one that may, and its count of faults rose
+-- a walk answers, or is refused for want of memory or by a source that may fail and whose count of faults rose
 abbrev pub FailsBy : {X : Type 0} → (ℕ → Type 0) → (ℕ → ℕ) → (ℕ → ℕ) → Result X WalkFault → Type 0
 FailsBy MayFail before after (Ok x) = Unit {0}
 FailsBy MayFail before after (Err (Failed s)) = MayFail s × HasRisen (before s) (after s)
@@ -34,7 +34,7 @@ pub record PrintsTree {V W : Type 0} (m : Meaning V W) (n : V) (before after : L
   pub text : after ≡ before ++ canon subtree
   pub place : (p : List ℕ) → m.IsAt n p → (t : LabelledTree) → m.course.IsDocument t → tree_at t p ≡ Some subtree
 
--- so was that of one or more trees, with commas between them: the subtree of a node, and those of its later siblings
+-- the canonical texts of the subtrees of a node and of its later siblings were put after a text, with commas between them
 pub record PrintsTrees {V W : Type 0} (m : Meaning V W) (n : V) (before after : List ℕ) : Type 0 where
   pub label : List ℕ
   pub kids : Forest
@@ -42,7 +42,7 @@ pub record PrintsTrees {V W : Type 0} (m : Meaning V W) (n : V) (before after : 
   pub text : after ≡ before ++ canon_trees (tree label kids rest)
   pub place : (p : List ℕ) → m.IsAt n p → (t : LabelledTree) → m.course.IsDocument t → trees_at (alone t) p ≡ tree label kids rest
 
--- from a node at a place of the document at most so many fills were asked as a toll of that place says
+-- where calls have tolls, a call from a node at a place of the document asked at most as many fills as a given toll of that place says
 abbrev pub CostsOn : {V W : Type 0} → Meaning V W → V → ℕ → ℕ → ((Way → List ℕ → ℕ) → LabelledTree → List ℕ → ℕ) → Type 0
 CostsOn m n fills fills' toll =
     m.course.HasTolls → (p : List ℕ) → m.IsAt n p → (t : LabelledTree) → m.course.IsDocument t → fills' ≤ fills + toll (place_toll m.course) t p
@@ -51,12 +51,12 @@ CostsOn m n fills fills' toll =
 abbrev pub IsThere : {V W : Type 0} → Meaning V W → V → Type 0
 IsThere m n = (p : List ℕ) → m.IsAt n p → (t : LabelledTree) → m.course.IsDocument t → has_place (alone t) p ≡ true
 
--- a node or none, as what a search comes to
+-- what a search comes to that found a given node, or none
 abbrev pub found_as : {V : Type 0} → Option V → Found V
 found_as None = found.None
 found_as (Some n) = found.Node n
 
--- a way from a node leads to a node, or to none where there is none
+-- a step from a node led to the node that the document has there, or to none where it has none; a found node has smaller numbers
 pub record IsStepTo {V W : Type 0} (m m' : Meaning V W) (way : Way) (n : V) (r : Option V) : Type 0 where
   pub node : IfSome r m'.IsNode
   pub place : (p : List ℕ) → m.IsAt n p → (t : LabelledTree) → m.course.IsDocument t → IsMoved m'.IsAt t (place_to way p) (found_as r)

@@ -15,7 +15,7 @@ abbrev pub labelled_from : List ℕ → Forest → List ℕ → Option (List ℕ
 labelled_from label none place = None
 labelled_from label (tree other kids rest) place = cond (bytes_eq other label) (Some place) (first_labelled label rest place)
 
--- the place of the first with a label, of the node at a place of a tree and its later siblings
+-- the place of the first node with a label among the node at a place of a tree and its later siblings
 abbrev pub labelled_at : LabelledTree → List ℕ → List ℕ → Option (List ℕ)
 labelled_at t label place = labelled_from label (trees_at (alone t) place) place
 
@@ -28,7 +28,7 @@ ahead_from toll label (tree other kids rest) place = cond (bytes_eq other label)
 abbrev pub ahead_at : (Way → List ℕ → ℕ) → LabelledTree → List ℕ → List ℕ → ℕ
 ahead_at toll t label place = ahead_from toll label (trees_at (alone t) place) place
 
--- what a search from a node on comes to
+-- a search from a node on for a label finds the first such node among it and its later siblings, or none, or a source fails
 pub record IsFirst {V W : Type 0} (m m' : Meaning V W) (before after : ℕ → ℕ) (label : List ℕ) (first : V) (r : Found V) : Type 0 where
   pub cause : HasCause m.course.MayFail before after r
   pub node : IfNode m'.IsNode r

@@ -14,19 +14,19 @@ use Rattle.mix_session.specs.declared.walker.Found.{Found}
 use Rattle.mix_session.specs.declared.walker.Found.TheVariants as found
 use Rattle.mix_session.specs.Meaning.{Meaning}
 
--- this is said of the node that was found, if one was
+-- a property holds of the node that a search found, if it found one
 abbrev pub IfNode : {V : Type 0} → (V → Type 0) → Found V → Type 0
 IfNode Is (found.Node n) = Is n
 IfNode Is found.None = Unit {0}
 IfNode Is (found.Fault s) = Unit {0}
 
--- a source that is said to have failed is one that may, and its count of faults rose
+-- a search found a node or none, or names as failed a source that may fail and whose count of faults rose
 abbrev pub HasCause : {V : Type 0} → (ℕ → Type 0) → (ℕ → ℕ) → (ℕ → ℕ) → Found V → Type 0
 HasCause MayFail before after (found.Node n) = Unit {0}
 HasCause MayFail before after found.None = Unit {0}
 HasCause MayFail before after (found.Fault s) = MayFail s × HasRisen (before s) (after s)
 
--- what was asked for goes together with the node
+-- what was asked for exists and a given relation holds between it and the node that was found
 abbrev pub IsAsked : {V W : Type 0} → (V → W → Type 0) → Option W → V → Type 0
 IsAsked {V} {W} With goal n = (x : W) × (goal ≡ Some x) × With n x
 
@@ -36,13 +36,13 @@ answer_found (found.Node n) = answer.Node
 answer_found found.None = answer.None
 answer_found (found.Fault s) = answer.Fault s
 
--- a search for a place of a tree: a node was found exactly where the tree has the place, and it stands there
+-- a search for a place of a tree that no source failed found a node exactly where the tree has the place, and the node stands there
 abbrev pub IsMoved : {V : Type 0} → (V → List ℕ → Type 0) → LabelledTree → Option (List ℕ) → Found V → Type 0
 IsMoved IsAt t goal (found.Node n) = (move_answer t goal ≡ answer.Node) × IsAsked IsAt goal n
 IsMoved IsAt t goal found.None = move_answer t goal ≡ answer.None
 IsMoved IsAt t goal (found.Fault s) = Unit {0}
 
--- a search for the root; sources are counted before and after
+-- what a search for the root comes to, with the counts of the sources' faults before and after it
 pub record IsRoot {V W : Type 0} (m m' : Meaning V W) (before after : ℕ → ℕ) (r : Found V) : Type 0 where
   pub cause : HasCause m.course.MayFail before after r
   pub node : IfNode m'.IsNode r
@@ -50,12 +50,12 @@ pub record IsRoot {V W : Type 0} (m m' : Meaning V W) (before after : ℕ → �
   pub place : (t : LabelledTree) → m.course.IsDocument t → IsMoved m'.IsAt t (Some []) r
   pub told : m.course.HasTolls → IfNode (IsAsked m'.IsTold (Some m.course.trail.first)) r
 
--- the numbers of a node to which a way leads from another
+-- the numbers of a node fall with a step: a child's height is smaller; a next sibling's number `left` is smaller, and its height no greater
 abbrev pub IsSmaller : {V W : Type 0} → Meaning V W → Meaning V W → Way → V → V → Type 0
 IsSmaller m m' Down n c = m'.height c < m.height n
 IsSmaller m m' Right n c = (m'.left c < m.left n) × (m'.height c ≤ m.height n)
 
--- a search for the node to which a way leads
+-- what a search for the first child or the next sibling of a node comes to, with the counts of the sources' faults before and after it
 pub record IsNext {V W : Type 0} (m m' : Meaning V W) (before after : ℕ → ℕ) (way : Way) (n : V) (r : Found V) : Type 0 where
   pub cause : HasCause m.course.MayFail before after r
   pub node : IfNode m'.IsNode r
@@ -63,7 +63,7 @@ pub record IsNext {V W : Type 0} (m m' : Meaning V W) (before after : ℕ → �
   pub told : (x : W) → m.IsTold n x → m.course.HasTolls → IfNode (IsAsked m'.IsTold (m.course.trail.to way x)) r
   pub smaller : IfNode (IsSmaller m m' way n) r
 
--- a search among the later siblings of a node for the first one with a label
+-- what a search among the later siblings of a node for the first one with a label comes to
 pub record IsSelected {V W : Type 0} (m m' : Meaning V W) (before after : ℕ → ℕ) (label : List ℕ) (n : V) (r : Found V) : Type 0 where
   pub cause : HasCause m.course.MayFail before after r
   pub node : IfNode m'.IsNode r
@@ -73,7 +73,7 @@ pub record IsSelected {V W : Type 0} (m m' : Meaning V W) (before after : ℕ �
 abbrev pub ReadsLabel : {V W : Type 0} → Meaning V W → V → List ℕ → Type 0
 ReadsLabel m n label = (p : List ℕ) → m.IsAt n p → (t : LabelledTree) → m.course.IsDocument t → (u : LabelledTree) × (tree_at t p ≡ Some u) × (label ≡ u.label)
 
--- what names hold after it: the name holds what was found, or nothing; after a fault all hold what they held
+-- what names hold after a search: the given name holds what was found, or nothing; after a fault all hold what they held
 abbrev pub names_found : {V : Type 0} → NamesOf V → List ℕ → List ℕ → Found V → NamesOf V
 names_found names client name (found.Node n) = with_name names client name (Some n)
 names_found names client name found.None = with_name names client name None

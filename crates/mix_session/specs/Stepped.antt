@@ -39,7 +39,7 @@ NamesGiven values values' client act (answer.Text x) = values' ≡ values
 NamesGiven values values' client act answer.NoNode = values' ≡ values
 NamesGiven values values' client act (answer.Fault s) = values' ≡ values
 
--- the toll of a client's act of at most one way, where this is told of what names hold
+-- the toll of a client's act that takes at most one way, computed from what is told of the nodes that names hold
 abbrev pub act_toll : {W : Type 0} → Course W → NamesOf W → List ℕ → Act → ℕ
 act_toll c xs client (Root name) = c.root_toll
 act_toll c xs client (Move way name from) = toll_from (c.toll way) (xs client from)
@@ -55,21 +55,21 @@ act_toll_by root toll t places client (Select name from label) = toll_from (sele
 act_toll_by root toll t places client (Fetch from) = 0
 act_toll_by root toll t places client (Print from) = toll_from (print_toll toll t) (places client from)
 
--- so on a tree that is the document
+-- the toll of a client's act on a tree that is the document, where names hold given places
 abbrev pub tree_toll : {W : Type 0} → Course W → LabelledTree → Names → List ℕ → Act → ℕ
 tree_toll c = act_toll_by c.root_toll (place_toll c)
 
--- an act of at most one way asked at most its toll
+-- an act that takes at most one way asked at most as many fills as its toll says
 abbrev pub IsTolled : {V W : Type 0} → Meaning V W → ℕ → ℕ → NamesOf V → List ℕ → Act → Type 0
 IsTolled {V} {W} m fills fills' values client act =
     IsTrue (takes_one_way act) → m.course.HasTolls → (xs : NamesOf W) → HoldTold m values xs → fills' ≤ fills + act_toll m.course xs client act
 
--- an act on a tree that is the document asked at most its toll there
+-- an act on a tree that is the document asked at most as many fills as its toll on that tree says
 abbrev pub IsTolledOn : {V W : Type 0} → Meaning V W → ℕ → ℕ → NamesOf V → List ℕ → Act → Type 0
 IsTolledOn m fills fills' values client act =
     m.course.HasTolls → (t : LabelledTree) → m.course.IsDocument t → (places : Names) → HoldPlaces m values places → fills' ≤ fills + tree_toll m.course t places client act
 
--- what a step leaves, whatever it answers; want of memory leaves the names
+-- what one step of a session leaves, whatever it answers, and what it cost; where memory ran out the names hold what they held
 pub record Stepped {V W : Type 0} (m m' : Meaning V W) (v v' : View) (values values' : NamesOf V) (client : List ℕ) (act : Act) (r : Result Answer AllocError) : Type 0 where
   pub session : IsSession m' values'
   pub stays : Stays m m'

@@ -20,7 +20,7 @@ use Rattle.mix_session.specs.Meaning.{Course, Meaning}
 
 -- ONE SOURCE
 
--- the source tells that its document is this tree alone
+-- a source tells its document, which is a given tree alone
 abbrev pub IsSourceDocument : View → ℕ → LabelledTree → Type 0
 IsSourceDocument v source t = (v.told source ≡ true) × (document v source ≡ alone t)
 
@@ -41,7 +41,7 @@ source_course v source = record {
 abbrev pub IsPlace : Buffer → Spot → List ℕ → Type 0
 IsPlace b x place = IsSpot b x × (place_of b x ≡ 0 ∷ place)
 
--- spots of a buffer stand for nodes
+-- the meaning of a buffer as a walker: its spots stand for nodes of its source's document
 abbrev pub source_meaning : View → Buffer → Meaning Spot (Unit {0})
 source_meaning v b = record {
   IsReady = IsSourcesOf v b;
@@ -54,13 +54,13 @@ source_meaning v b = record {
   height = λ x. below v b x + after v b x;
 }
 
--- a buffer goes on
+-- what calls keep of a buffer as a walker: its spots, their places and labels, and its source's document
 abbrev pub SourceKept : View → Buffer → View → Buffer → Type 0
 SourceKept v b v' b' = Goes v b v' b'
 
 -- THE DOCUMENT OF A PLAN
 
--- the sources tell their documents, and this is the plan's document over them
+-- the sources tell their documents, and a given tree is the plan's document over them
 abbrev pub IsDocument : BenchState → LabelledTree → Type 0
 IsDocument st t = IsTrue (told st) × (plan_document st ≡ Some t)
 
@@ -83,7 +83,7 @@ plan_course st = record {
   toll = place_toll (documents st) (ops_of st);
 }
 
--- identifiers of a mediator stand for nodes
+-- the meaning of a mediator as a walker: its identifiers stand for nodes of its plan's document
 abbrev pub plan_meaning : View → Mediator → Meaning NodeId (List ℕ)
 plan_meaning v m = record {
   IsReady = IsMediatorOf v m;
@@ -96,7 +96,7 @@ plan_meaning v m = record {
   height = node_height (state_of v m);
 }
 
--- the plan and the documents are the same, and each earlier identifier stays where it stood, and no higher
+-- what calls keep of a mediator as a walker: its plan and the documents, and each earlier identifier at its place and no higher
 pub record PlanKept (v : View) (m : Mediator) (v' : View) (m' : Mediator) : Type 0 where
   pub kept : KeepsBench (state_of v m) (state_of v' m')
   pub stay : NodesStay (state_of v m) (state_of v' m')

@@ -13,7 +13,7 @@ use mix_script::Way;
 use mix_tree::{Label, same_label};
 use std::alloc::{AllocError, Global};
 
-// The first with a label, of a node and its later siblings.
+// The first node with a label among a node and its later siblings.
 fn search<W: Walker, S: Sources>(
     alloc: Global,
     s: &mut S,

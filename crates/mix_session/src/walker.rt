@@ -10,7 +10,7 @@ use mix_script::Way;
 use mix_tree::Label;
 use std::alloc::{AllocError, Global};
 
-/// What a search comes to: a node; or there is none; or the source of this number failed.
+/// What a search comes to: a node was found, there is none, or the source of a number failed.
 #[derive(Drop)]
 pub enum Found<N> {
     Node(N),
@@ -18,7 +18,7 @@ pub enum Found<N> {
     Fault(u32),
 }
 
-// What a buffer or a mediator found.
+// What a search comes to, by what a buffer or a mediator found.
 pub(crate) fn found_in<N: Drop>(found: Result<Option<N>, WalkFault>) -> Result<Found<N>, AllocError>
     ensures { IfOk result (of_walk found) }
 {
@@ -38,7 +38,7 @@ pub trait Walker {
     /// What is told of a node for the tolls of the ways from it.
     ghost Told: { Type 0 };
 
-    /// What a state means, over sources that mean this.
+    /// What a state of the walker means, over sources with a given meaning.
     ghost means: { View → Self → Meaning Self.Node Told };
 
     /// `keeps v w v' w'`: what a call has kept which found the state w over sources that mean v and left w' and v'.
@@ -83,10 +83,10 @@ pub trait Walker {
         requires { (v : View) × (means v self.now).IsReady × (means v self.now).IsNode n.now }
         ensures { (v : View) → (means v self.now).IsReady → ReadsLabel (means v self.now) n.now result.now };
 
-    /// What two calls have kept, one after the other.
+    /// What a call keeps to a second state and another one from there to a third is kept from the first to the third.
     ghost twice: { (v : View) (w : Self) (v' : View) (w' : Self) (v'' : View) (w'' : Self)
         → keeps v w v' w' → keeps v' w' v'' w'' → keeps v w v'' w'' };
 
-    /// Where there is no call, all is kept.
+    /// All that a call keeps is kept from a state to that same state.
     ghost same: { (v : View) (w : Self) → keeps v w v w };
 }

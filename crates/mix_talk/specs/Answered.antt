@@ -30,7 +30,7 @@ pub record IsAnswered {V W : Type 0} (m m' : Meaning V W) (v v' : View) (values 
   pub stepped : Stepped m m' v v' values values' s.client s.act answer
   pub said : IsSaid names s.client before after answer r
 
--- the line that answers a line of no form was written, or it was cut short
+-- the line that answers a line of no form was written whole, or it was cut short
 abbrev pub SaidNoForm : SinkView → SinkView → Result Bool LinesFault → Type 0
 SaidNoForm before after (Ok marked) = (marked ≡ false) × Appends before.written after.written no_form_line
 SaidNoForm before after (Err fault) = IsNoFormCut before after fault

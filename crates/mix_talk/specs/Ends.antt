@@ -26,7 +26,7 @@ pub record IsWhole (Are Cost : List Answer → Type 0) (names : List (List ℕ))
   pub cost : Cost answers
   pub marks : marked ≡ has_fault answers
 
--- the lines of the first of what was heard were written, and no more than what comes next was begun
+-- the lines that answer the first part of what was heard were written whole, and at most what comes next was begun
 pub record StopsBetween (Are Cost : List Answer → Type 0) (names : List (List ℕ)) (heard : List Heard) (before after : SinkView) : Type 0 where
   pub done : List Heard
   pub later : List Heard
@@ -37,7 +37,7 @@ pub record StopsBetween (Are Cost : List Answer → Type 0) (names : List (List 
   pub written : Appends before.written after.written (spoken names done answers)
   pub cost : Cost answers
 
--- the lines of the first of what was heard were written, and of the line of what comes next a front
+-- the lines that answer the first part of what was heard were written whole, and a prefix of the line of what comes next
 pub record StopsWithin (Are Cost : List Answer → Type 0) (names : List (List ℕ)) (heard : List Heard) (before after : SinkView) : Type 0 where
   pub done : List Heard
   pub next : Heard

@@ -10,17 +10,17 @@ use Rattle.mix_talk.specs.Lines.{no_form_line}
 use Rattle.mix_talk.specs.declared.fault.TalkFault.{TalkFault}
 use Rattle.mix_talk.specs.declared.fault.TalkFault.TheVariants.{InputFailed, SinkFailed, OutOfMemory}
 
--- the end that a fault of lines is
+-- the end of a talk that a fault of lines is
 abbrev pub of_lines : LinesFault → TalkFault
 of_lines lines.SinkFailed = SinkFailed
 of_lines lines.OutOfMemory = OutOfMemory
 
--- the end that a fault of the input is
+-- the end of a talk that a fault of the input is
 abbrev pub of_take : TakeFault → TalkFault
 of_take take.Failed = InputFailed
 of_take take.OutOfMemory = OutOfMemory
 
--- the line that answers a line of no form was cut short: a front of it was written, and the sink failed or memory ran out
+-- the line that answers a line of no form was cut short: a prefix of it was written, and the sink failed or memory ran out
 abbrev pub IsNoFormCut : SinkView → SinkView → LinesFault → Type 0
 IsNoFormCut before after lines.SinkFailed = HasRisen before.faults after.faults × AppendsFront before.written after.written no_form_line
 IsNoFormCut before after lines.OutOfMemory = AppendsFront before.written after.written no_form_line

@@ -10,7 +10,7 @@ pub data Heard : Type 0 where
   step : Step → Heard
   no_form : Heard
 
--- what the steps of a line ask for; where it has none since it is of no form, that
+-- what a line asks for, given its steps: each of them; where the line is of no form, `no_form` alone
 abbrev pub asked : Option (List Step) → List Heard
 asked None = no_form ∷ []
 asked (Some steps) = map step steps
@@ -19,7 +19,7 @@ asked (Some steps) = map step steps
 abbrev pub line_asks : List ℕ → List Heard
 line_asks line = asked (cond (nat_lt 1048576 (length line)) None (line_steps line))
 
--- what lines ask for, one after another
+-- what several lines ask for, one after another
 abbrev pub lines_ask : List (List ℕ) → List Heard
 lines_ask [] = []
 lines_ask (line ∷ lines) = line_asks line ++ lines_ask lines
@@ -28,7 +28,7 @@ lines_ask (line ∷ lines) = line_asks line ++ lines_ask lines
 abbrev pub heard : List ℕ → List Heard
 heard text = lines_ask (lines_of text)
 
--- what the next line asks for, where there is one
+-- what the next line of a talk asks for; nothing at the end of the input
 abbrev pub next_asks : Option LineRead → List Heard
 next_asks None = []
 next_asks (Some read) = asked (steps_read read)
@@ -39,7 +39,7 @@ steps_in [] = []
 steps_in (step s ∷ heard) = s ∷ steps_in heard
 steps_in (no_form ∷ heard) = steps_in heard
 
--- whether a byte of a text is LF
+-- whether a text has the byte LF
 abbrev pub has_lf : List ℕ → Bool
 has_lf [] = false
 has_lf (b ∷ bs) = b == 10 || has_lf bs

@@ -18,7 +18,7 @@ spoken names (no_form ∷ heard) answers = no_form_line ++ spoken names heard an
 spoken names (step s ∷ heard) [] = []
 spoken names (step s ∷ heard) (a ∷ answers) = line_of names s.client a ++ spoken names heard answers
 
--- the lines that answer what was heard, where names hold this before
+-- the lines that answer what was heard on a tree, where names hold given places before it
 abbrev pub spoken_from : LabelledTree → List (List ℕ) → Names → List (Option ℕ) → List Heard → List ℕ
 spoken_from t sources names marks [] = []
 spoken_from t sources names marks (no_form ∷ heard) = no_form_line ++ spoken_from t sources names marks heard

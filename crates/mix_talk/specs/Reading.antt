@@ -17,19 +17,19 @@ HasNoLf (b ∷ bs) = (b == 10 ≡ false) × HasNoLf bs
 abbrev pub EndsInLf : List ℕ → Type 0
 EndsInLf text = (body : List ℕ) × (text ≡ body ++ 10 ∷ [])
 
--- a part of a text ends with the first LF; or there is no LF in it, and nothing behind it
+-- a text is cut after its first LF; or it has no LF, and the first part is all of it
 abbrev pub IsPart : List ℕ → List ℕ → Bool → Type 0
 IsPart part rest true = (body : List ℕ) × HasNoLf body × (part ≡ body ++ 10 ∷ [])
 IsPart part rest false = HasNoLf part × (rest ≡ [])
 
--- such a part of a page was moved behind the bytes of a line, of which no more are kept than a line may have with its end
+-- a page's bytes up to the first LF and with it were moved after those of a line, of which no more are kept than a line may have with its end
 pub record Moved (page page' line line' : List ℕ) (whole : Bool) : Type 0 where
   pub part : List ℕ
   pub cut : page ≡ part ++ page'
   pub is : IsPart part page' whole
   pub kept : line' ≡ take 1048578 (line ++ part)
 
--- no bytes, or those of one line
+-- a text is empty, or has exactly one line
 abbrev pub IsLine : List ℕ → Type 0
 IsLine text = (text ≡ []) ⊎ (length (lines_of text) ≡ 1)
 

@@ -41,14 +41,14 @@ impl Page {
         })
     }
 
-    /// The bytes.
+    /// The bytes of a page that are still to be cut into lines.
     pub fn bytes(&self) -> &[u8]
         ensures { result.now ≡ self.now }
     {
         &self.room[self.from..self.to]
     }
 
-    /// Drops the first bytes, so many.
+    /// Drops the first `count` bytes of a page.
     pub fn drop_front(&mut self, count: usize)
         requires { count ≤ length self.old }
         ensures { self.new ≡ drop count self.old }
@@ -56,7 +56,8 @@ impl Page {
         self.from += count;
     }
 
-    /// Takes the next bytes in place of those that it has. It has none then where the input has ended, and after an error.
+    /// Takes the next bytes of an input in place of those of the page. The page has none then where the input has ended, and after an
+    /// error.
     pub fn refill<I: Input>(&mut self, alloc: Global, input: &mut I) -> Result<(), TakeFault>
         ensures ok { OnOk result (Refilled (I.view input.old) (I.view input.new) self.new) }
         ensures err { OnErr result (Took (I.view input.old) (I.view input.new) []) }

@@ -51,7 +51,7 @@ fn move_line(page: &mut Page, line: &mut Vec<u8>) -> Result<bool, AllocError>
     Ok(whole)
 }
 
-// What a line with its end comes to; `None` where there are no bytes.
+// What a line of an input with its end comes to; `None` where it has no bytes, so that there is no line.
 fn read_whole_line(alloc: Global, line: &[u8]) -> Result<Option<LineRead>, AllocError>
     requires { IsLine line.now }
     ensures asks { IfOk result (λ read. heard line.now ≡ next_asks read) }
@@ -78,8 +78,8 @@ impl LineReader {
         })
     }
 
-    /// What the next line comes to; `None` where the input has ended. No more is taken than the line needs. A line of more than
-    /// `LINE_LIMIT` bytes is of no form.
+    /// What the next line of the input comes to; `None` where the input has ended. No more is taken than the line needs. A line of more
+    /// than `LINE_LIMIT` bytes is of no form.
     pub fn next<I: Input>(
         &mut self,
         alloc: Global,

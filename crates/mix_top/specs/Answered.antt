@@ -29,32 +29,31 @@ pub record IsTable (v : RuleValue) (sources : List SourceSpec) (s : ℕ) (d : De
 abbrev pub IsTableOf : RuleValue → List SourceSpec → ℕ → Type 0
 IsTableOf v sources s = (d : Declared) × IsTable v sources s d
 
--- whether the rows of a declared table are told; where there is no table, nothing else is to be told
+-- whether the rows of a declared table are told; true where no table is declared
 abbrev pub is_table_told : TablesView → Option Declared → Bool
 is_table_told tables None = true
 is_table_told tables (Some d) = is_some (tables.told d)
 
--- whether each of these sources, of which the first has this number, is told, where it is a table that the rule names
+-- whether the rows are told of each table that a rule names among given sources, which are numbered from a given number on
 abbrev pub told_from : TablesView → RuleValue → ℕ → List SourceSpec → Bool
 told_from tables v n [] = true
 told_from tables v n (spec ∷ sources) = (not (names_source v n) || is_table_told tables (declared_in spec.kind)) && told_from tables v (n + 1) sources
 
--- whether each table that the rule names is told
+-- whether the rows of each table that a rule names are told
 abbrev pub all_told : TablesView → RuleValue → List SourceSpec → Bool
 all_told tables v sources = told_from tables v 0 sources
 
--- the tolls of the steps that were answered so, and of the next one, where there is one, on the document of the rule's plan
+-- the tolls on the document of a rule's plan of the steps with given answers, and of the next step where there is one
 abbrev pub steps_toll : Question → List Answer → ℕ
 steps_toll q answers = begun (act_toll_by 0 (place_toll q.docs (operators_for q.rule)) q.tree) (names_after q.tree) no_names answers q.steps
 
--- how the answers to steps are written: the lines of the first answers, all lines under marks, and whether bytes begin with the whole lines of
--- so many answers
+-- how answers to steps are written: the lines of the first answers, all lines under marks, and when a text begins with the whole lines of given answers
 pub record Manner : Type 1 where
   pub lines_of : List Answer → List ℕ
   pub under : List (Option ℕ) → List ℕ
   pub Begin : List Answer → List ℕ → Type 0
 
--- the answers to the steps of a script are written one behind another
+-- how the answers to the steps of a script are written: a line each, one after another
 abbrev pub in_order : Question → Manner
 in_order q = record {
   lines_of = λ answers. answer_lines (names_of_sources q.sources) answers q.steps;
@@ -62,7 +61,7 @@ in_order q = record {
   Begin = λ whole lines. (rest : List ℕ) × (lines ≡ answer_lines (names_of_sources q.sources) whole q.steps ++ rest);
 }
 
--- no more fills were asked than the tolls of the steps come to that were begun: those whose lines were written whole, and the next one
+-- at most as many fills were asked as the tolls of the steps say that were begun: those whose lines were written whole, and the next one
 pub record IsFrugal (w : Manner) (before after : Option (List ℕ)) (q : Question) (fills : ℕ) (answers : List Answer) : Type 0 where
   pub whole : List Answer
   pub later : List Answer
@@ -91,7 +90,7 @@ pub record IsAnsweredIn (w : Manner) (before after : TablesView) (q : Question) 
   -- else they are those of answers to all steps
   pub untold : all_told before q.rule q.sources ≡ false → (length answers ≡ length q.steps) × (lines ≡ w.lines_of answers)
 
--- so a run is answered
+-- the answers to the steps of a run, its status and lines, over tables that meant the first before and mean the second after
 abbrev pub IsAnswered : TablesView → TablesView → Question → ℕ → SinkView → SinkView → ℕ → List ℕ → Type 0
 IsAnswered before after q = IsAnsweredIn (in_order q) before after q
 

@@ -15,7 +15,7 @@ use Rattle.mix_top.specs.Course.{AreDocuments}
 use Rattle.mix_top.specs.Outside.{Outside}
 use Rattle.mix_top.specs.Question.{Question}
 
--- the told rows of each table that a rule names have values as the catalog declares them
+-- the values in the told rows of each table that a rule names are as the catalog declares its columns
 abbrev pub AreDeclared : TablesView → RuleValue → List SourceSpec → Type 0
 AreDeclared tables v sources = (s : ℕ) (d : Declared) → IsTable v sources s d → IfSome (tables.told d) (AreRows d.columns)
 

@@ -8,15 +8,15 @@ use Rattle.mix_top.specs.declared.refusal.Stop.{Stop}
 use Rattle.mix_top.specs.Counts.{count_lines}
 use Rattle.mix_top.specs.Stops.{IsCut, Wrote, stop_for}
 
--- the lines that tell counts
+-- the lines that tell the counts of a run, and the class of its view
 abbrev pub lines_of_counts : Counts → List ℕ
 lines_of_counts counts = count_lines counts.commands counts.spent.fills counts.spent.pages counts.class
 
--- the run came to its end so, and these lines were written
+-- a run came to its end with a given outcome, and the lines of its counts were written
 abbrev pub IsCounted : Result Outcome LinesFault → SinkView → SinkView → List ℕ → Outcome → Type 0
 IsCounted end before after lines outcome = (end ≡ Ok outcome) × Wrote before after lines
 
--- the run was cut short, and nothing more was written; or it came to its end, and these lines were cut short
+-- a run was cut short and no counts were written, or it came to its end and the lines of its counts were cut short
 abbrev pub IsCountStop : Result Outcome LinesFault → SinkView → SinkView → List ℕ → Stop → Type 0
 IsCountStop end before after lines stop =
     ((fault : LinesFault) × (end ≡ Err fault) × (stop ≡ stop_for fault) × (after ≡ before))

@@ -13,10 +13,10 @@ use Rattle.xmas_rule.specs.Rules.{RuleValue}
 abbrev pub view_class : RuleValue → List SourceSpec → Class
 view_class v sources = class_in (layout_in v sources) (operators_for v)
 
--- the lines of so many commands, fills and pages
+-- the lines that tell the numbers of commands, fills and pages
 abbrev pub number_lines : (commands fills pages : ℕ) → List ℕ
 number_lines commands fills pages = codes "commands " ++ decimal commands ++ codes "\nfills " ++ decimal fills ++ codes "\npages " ++ decimal pages ++ codes "\n"
 
--- these, and that of a class
+-- the lines that tell the numbers of commands, fills and pages, and the line of a class
 abbrev pub count_lines : (commands fills pages : ℕ) → Class → List ℕ
 count_lines commands fills pages class = number_lines commands fills pages ++ class_line class

@@ -17,7 +17,7 @@ use Rattle.mix_top.specs.Causes.{IsRead, IsNoTree, IsNoTable}
 abbrev pub SpellsTree : List ℕ → LabelledTree → Type 0
 SpellsTree text t = IsUtf8 text × SpellsShallow text t
 
--- a text is a CSV file with these columns, and the tree is that of its rows, as a source of this name
+-- a text is a CSV file with given columns, and a tree is that of its rows as a source of a given name
 abbrev pub HoldsRows : List ℕ → List (List ℕ) → List ℕ → LabelledTree → Type 0
 HoldsRows name columns text t = (rows : List (List (List ℕ))) × IsFile text columns rows × (t ≡ file_tree name columns rows)
 
@@ -27,24 +27,24 @@ StandsFor name (Bracket file deep) = SpellsTree
 StandsFor name (Csv file columns) = HoldsRows name columns
 StandsFor name (Table file table key columns) = λ text t. ⊥
 
--- why it stands for none
+-- a fault says why a text stands for no tree as the file of a source of a given kind
 abbrev pub StandsForNone : SourceKind → List ℕ → FileFault → Type 0
 StandsForNone (Bracket file deep) = IsNoTree
 StandsForNone (Csv file columns) = IsNoTable columns
 StandsForNone (Table file table key columns) = λ text fault. ⊥
 
--- whether the children of a source's nodes are given whole: rows are
+-- whether a source of a kind gives the children of a node as whole subtrees: rows are given so
 abbrev pub is_deep : SourceKind → Bool
 is_deep (Bracket file deep) = deep
 is_deep (Csv file columns) = true
 is_deep (Table file table key columns) = true
 
--- the text of a file stands for a tree, by what texts of its kind stand for
+-- a file was read whole, and its text stands for a tree by what texts of its kind stand for
 pub record IsDocument (Stands : List ℕ → LabelledTree → Type 0) (files : FilesView) (path : List ℕ) (t : LabelledTree) : Type 0 where
   pub text : List ℕ
   pub read : IsRead files path text
   pub stands : Stands text t
 
--- the file of a source gives its document
+-- the file of a source was read whole and stands for the source's document
 abbrev pub IsSourceDocument : FilesView → SourceSpec → LabelledTree → Type 0
 IsSourceDocument files spec t = IsDocument (StandsFor spec.name spec.kind) files (file_of spec.kind) t

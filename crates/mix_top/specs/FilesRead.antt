@@ -13,46 +13,46 @@ use Rattle.mix_top.specs.Course.{AreAccepted, IsCatalogFile, IsRuleFile, IsScrip
 use Rattle.view_class.specs.Named.{names_source}
 use Rattle.mix_top.specs.Documents.{SpellsTree, IsDocument}
 
--- of no path but those that may be read was more read than before
+-- of no path but those that a given property lets be read was more read than before
 abbrev pub ReadsAmong : (List ℕ → Type 0) → FilesView → FilesView → Type 0
 ReadsAmong May old new = (path : List ℕ) → ¬ May path → new.furthest path ≡ old.furthest path
 
--- a walk may read its document, and behind one that is accepted its script
+-- the files that a walk may read: its document, and after an accepted one its script
 abbrev pub WalkMayRead : FilesView → List ℕ → List ℕ → List ℕ → Type 0
 WalkMayRead files file script path = (path ≡ file) ⊎ ((path ≡ script) × (t : LabelledTree) × IsDocument SpellsTree files file t)
 
--- a view's reading may read the catalog, and behind one that is accepted the view
+-- the files that reading a view may read: the catalog, and after an accepted one the view
 abbrev pub ViewMayRead : FilesView → List ℕ → List ℕ → List ℕ → Type 0
 ViewMayRead files view catalog path = (path ≡ catalog) ⊎ ((path ≡ view) × (sources : List SourceSpec) × IsCatalogFile files catalog sources)
 
--- the file of a source that is read whole: that of a table is not
+-- a path is that of a source's file, which is read whole: that of a table is not
 abbrev pub IsWholeFile : SourceSpec → List ℕ → Type 0
 IsWholeFile spec path = (is_table_of spec.kind ≡ false) × (path ≡ file_of spec.kind)
 
--- such a file of a source that a rule names
+-- a path is that of the file of a source that a rule names, where the source is no table
 abbrev pub IsFileFor : RuleValue → ℕ → SourceSpec → List ℕ → Type 0
 IsFileFor v s spec path = IsTrue (names_source v s) × IsWholeFile spec path
 
--- such a file may be read where those of all sources before it are accepted
+-- the files of sources that a rule may read: each where those of all sources before it that the rule names are accepted
 abbrev pub SourceMayRead : FilesView → RuleValue → List SourceSpec → List ℕ → Type 0
 SourceMayRead files v sources path =
     (s : ℕ) × (spec : SourceSpec) × (slice_get sources s ≡ Some spec) × IsFileFor v s spec path × AreAccepted files v sources s
 
--- a command may read the catalog, the view, and then as it is told of the files behind them
+-- the files that a command may read: the catalog, after it the view, and after that those that a given relation says
 abbrev pub MayReadBehind : (List SourceSpec → RuleValue → List ℕ → Type 0) → FilesView → List ℕ → List ℕ → List ℕ → Type 0
 MayReadBehind Then files view catalog path =
     (path ≡ catalog) ⊎ ((sources : List SourceSpec) × IsCatalogFile files catalog sources
     × ((path ≡ view) ⊎ ((v : RuleValue) × IsRuleFile files view (names_of_sources sources) v × Then sources v path)))
 
--- the script, and behind it the files of the sources that the view names
+-- after its catalog and view, the files that a run may read: the script, and after it the files of the sources that the view names
 abbrev pub ScriptMayRead : FilesView → List ℕ → List SourceSpec → RuleValue → List ℕ → Type 0
 ScriptMayRead files script sources v path = (path ≡ script) ⊎ ((steps : List Step) × IsScript files script steps × SourceMayRead files v sources path)
 
--- a run may read the catalog, the view, the script, and then the files of the sources that the view names
+-- the files that a run may read: the catalog, the view, the script, and then the files of the sources that the view names
 abbrev pub RunMayRead : FilesView → List ℕ → List ℕ → List ℕ → List ℕ → Type 0
 RunMayRead files view catalog script = MayReadBehind (ScriptMayRead files script) files view catalog
 
--- what a command may read
+-- the files that a command may read
 abbrev pub MayRead : FilesView → Command → List ℕ → Type 0
 MayRead files help path = ⊥
 MayRead files version path = ⊥

@@ -6,7 +6,7 @@ use Rattle.mix_catalog.specs.declared.source.SourceSpec.{SourceSpec}
 use Rattle.mix_script.specs.declared.step.Step.{Step}
 use Rattle.xmas_rule.specs.Rules.{RuleValue}
 
--- the sources of its catalog, its rule, its steps, the documents of the sources, and a tree, which is to be the rule's finished document over them
+-- what is asked of a run: sources, a rule, steps, the documents of the sources, and a tree that is to be the rule's finished document over them
 pub record Question : Type 0 where
   pub sources : List SourceSpec
   pub rule : RuleValue

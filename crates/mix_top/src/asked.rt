@@ -54,7 +54,7 @@ pub struct Answered<T> {
     pub tables: T,
 }
 
-/// What a run comes to whose lines came to their end: true where one of them is a fault line.
+/// The outcome of a run whose lines came to their end, by whether one of them is a fault line.
 pub fn outcome_of(marked: bool) -> Outcome
     ensures { result ≡ outcome_of marked }
 {
@@ -65,7 +65,7 @@ pub fn outcome_of(marked: bool) -> Outcome
     }
 }
 
-// What the end of a run's lines comes to.
+// The outcome that the end of a run's lines is, or the fault that cut them short.
 fn end_of(end: Result<bool, LinesFault>) -> Result<Outcome, LinesFault>
     ensures { result ≡ end_of end }
 {

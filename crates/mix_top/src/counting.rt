@@ -32,7 +32,7 @@ pub struct Counts {
     pub class: Class,
 }
 
-// The class of what is asked.
+// The class of the view of a run.
 fn class_asked(alloc: Global, asked: &Asked) -> Result<Class, AllocError>
     requires { IsAccepted (length (names_of_sources asked.now.catalog)) (rule_of asked.now.rule) }
     ensures { IfOk result (λ class. class ≡ view_class (rule_of asked.now.rule) asked.now.catalog) }
@@ -50,7 +50,7 @@ fn numbers_text(alloc: Global, commands: u64, spent: Spent) -> Result<String, Al
     format!(in alloc; "commands {commands}\nfills {fills}\npages {pages}\n")
 }
 
-// The lines that tell counts.
+// The lines that tell the counts of a run, and the class of its view.
 fn counts_text(alloc: Global, counts: &Counts) -> Result<String, AllocError>
     ensures { IfOk result (λ text. string_bytes text ≡ lines_of_counts counts.now) }
 {

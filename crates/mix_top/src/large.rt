@@ -12,7 +12,7 @@ use mix_load::{Visit, names_class, visit_people};
 use std::alloc::{AllocError, Global};
 use view_class::class_line;
 
-// The lines on a visit of so many people.
+// The lines that tell the number of people and the numbers of a visit of them.
 fn visit_numbers(alloc: Global, rows: u32, visit: &Visit) -> Result<String, AllocError>
     ensures { let v = visit.now in
         IfOk result (λ text. string_bytes text ≡ visit_lines rows v.commands v.nodes v.bytes) }
@@ -25,7 +25,7 @@ fn visit_numbers(alloc: Global, rows: u32, visit: &Visit) -> Result<String, Allo
     format!(in alloc; "rows {rows}\ncommands {commands}\nnodes {nodes}\nbytes {bytes}\n")
 }
 
-// These, and the line on the class of their view.
+// The lines that tell the number of people and the numbers of a visit of them, and the line of the class of their view.
 fn visit_text(alloc: Global, rows: u32, visit: &Visit, class: Class) -> Result<String, AllocError>
     ensures { let v = visit.now in
         IfOk result (λ text. string_bytes text ≡ load_lines rows v.commands v.nodes v.bytes class) }

@@ -26,7 +26,7 @@ use table_keep::NoTables;
 use xmas_read::read_rule;
 use xmas_rule::Rule;
 
-// The bytes of a file.
+// The bytes of a file that is read whole. An error names the file and why it is refused; only want of memory has no cause.
 fn load<F: Files>(alloc: Global, files: &mut F, path: &str) -> Result<Vec<u8>, Stop>
     ensures keeps { KeepsFiles (F.view files.old) (F.view files.new) }
     ensures others { ReadsOnly path.now (F.view files.old) (F.view files.new) }

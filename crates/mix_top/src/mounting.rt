@@ -49,7 +49,7 @@ fn mount_spec<F: Files>(alloc: Global, files: &mut F, spec: &SourceSpec) -> Resu
     }
 }
 
-// What stands behind the number of a source for a rule.
+// The mount of a source's number for a rule: the source's document where the rule names the source, else `Absent`.
 fn mount_source<F: Files>(
     alloc: Global,
     files: &mut F,
@@ -71,8 +71,8 @@ fn mount_source<F: Files>(
     }
 }
 
-/// What stands behind the numbers of a catalog's sources for a rule: the documents of those that the rule names, read in the order of
-/// the catalog, each accepted before the next is read. An error names the first file that is refused.
+/// The mounts of a catalog's sources for a rule, by their numbers: the documents of those that the rule names, read in the order of the
+/// catalog, each accepted before the next is read, and `Absent` for all others. An error names the first file that is refused.
 pub fn mount_sources<F: Files>(
     alloc: Global,
     files: &mut F,

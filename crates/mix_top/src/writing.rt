@@ -8,7 +8,7 @@ use crate::refusal::Stop;
 use mix_io::Sink;
 use std::alloc::Global;
 
-/// Writes a line.
+/// Writes a line, by one write.
 pub fn write_line<K: Sink>(alloc: Global, line: &[u8], out: &mut K) -> Result<(), Stop>
     ensures ok { OnOk result (Appends (K.view out.old).written (K.view out.new).written line.now) }
     ensures err { IfErr result (IsCut (K.view out.old) (K.view out.new) line.now) }
@@ -18,7 +18,7 @@ pub fn write_line<K: Sink>(alloc: Global, line: &[u8], out: &mut K) -> Result<()
     Ok(())
 }
 
-// The place behind the first line of a text.
+// The index after the first line of a text and its LF.
 fn line_end(text: &[u8]) -> usize
     requires { 0 < length text.now }
     ensures some { 0 < result }

@@ -20,14 +20,14 @@ page_at_call m call ask =
     if fails_at m call then None
     else option_and_then (λ rows. unless_null ask.columns.now (first_above ask.after ask.limit rows)) (rows_told m.tables.items (declared_by ask))
 
--- the number of the next call, counted from 1; behind the last number no other comes
+-- the number of the next call of tables in memory, counted from 1; the last number of 64 bits has none after it
 abbrev pub next_call : MemTables → ℕ
 next_call m = min (m.calls + 1) (2 ^ 64 - 1)
 
--- the page that the next call gives
+-- the page that the next call of tables in memory gives, where it gives one
 abbrev pub next_page : MemTables → PageAsk → Option (List Row)
 next_page m ask = page_at_call m (next_call m) ask
 
--- they tell their rows, and count faults for all declared tables together
+-- what tables in memory mean: they tell their rows, and count faults for all declared tables together
 abbrev pub mem_tables_view : MemTables → TablesView
 mem_tables_view m = record { told = rows_told m.tables.items; pages = m.calls; faults = λ _. m.faults }

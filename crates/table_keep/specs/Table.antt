@@ -8,22 +8,22 @@ use Rattle.table_keep.specs.Page.{keys_rise}
 use Rattle.table_keep.specs.Rows.{Value, null, int, text, bytes, Row, rows_of}
 use Rattle.table_keep.specs.Views.{Declared}
 
--- a value of fewer than 2^31 bytes
+-- whether a value has fewer than 2^31 bytes
 abbrev pub is_short : Value → Bool
 is_short null = true
 is_short (int n) = true
 is_short (text t) = nat_lt (length t) (2 ^ 31)
 is_short (bytes b) = nat_lt (length b) (2 ^ 31)
 
--- a row has so many values, none of them too long
+-- whether a row has a given number of values, each of fewer than 2^31 bytes
 abbrev pub is_row : ℕ → Row → Bool
 is_row width r = (length r.values == width) && list_all is_short r.values
 
--- the keys of a table rise, and each row has a value for each column, none of them too long
+-- whether the keys of a table in memory rise, and each row has one value for each column, each of fewer than 2^31 bytes
 abbrev pub is_sound : MemTable → Bool
 is_sound t = keys_rise None (rows_of t.rows.items) && list_all (is_row (length t.columns.items)) (rows_of t.rows.items)
 
--- a table stands in a file under a name
+-- whether a table in memory stands in a given file under a given name
 abbrev pub is_at : List ℕ → List ℕ → MemTable → Bool
 is_at file table t = bytes_eq t.file file && bytes_eq t.table table
 
@@ -45,11 +45,11 @@ abbrev pub rows_by : MemTable → List ℕ → List Column → Option (List Row)
 rows_by t key columns =
     if bytes_eq t.key key then option_map (λ places. map (projected places) (rows_of t.rows.items)) (places_of t.columns.items columns) else None
 
--- the rows of a declared table: those of the first table of its file and name
+-- the rows of a declared table that tables in memory tell: those of the first table of its file and name
 abbrev pub rows_told : List MemTable → Declared → Option (List Row)
 rows_told tables d = option_and_then (λ t. rows_by t d.key d.columns) (find (is_at d.file d.table) tables)
 
--- no value is NULL in a column that never is
+-- whether no value of a row is NULL in a column that is never NULL
 abbrev pub keeps_null : List Column → List Value → Bool
 keeps_null [] vs = true
 keeps_null (c ∷ cs) [] = true
@@ -58,6 +58,6 @@ keeps_null (c ∷ cs) (int n ∷ vs) = keeps_null cs vs
 keeps_null (c ∷ cs) (text t ∷ vs) = keeps_null cs vs
 keeps_null (c ∷ cs) (bytes b ∷ vs) = keeps_null cs vs
 
--- rows, unless one of them has NULL in a column that never is
+-- given rows, unless one of them has NULL in a column that is never NULL
 abbrev pub unless_null : List Column → List Row → Option (List Row)
 unless_null columns rows = if list_all (λ r. keeps_null columns r.values) rows then Some rows else None

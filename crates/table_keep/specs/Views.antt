@@ -11,7 +11,7 @@ pub record Declared : Type 0 where
   pub key : List ℕ
   pub columns : List Column
 
--- the declared table of which rows are asked
+-- the declared table of which a page is asked
 abbrev pub declared_by : PageAsk → Declared
 declared_by ask = record { file = ask.file.now; table = ask.table.now; key = ask.key.now; columns = ask.columns.now }
 
@@ -24,12 +24,12 @@ pub record TablesView : Type 0 where
   -- how often a page of a declared table has failed
   pub faults : Declared → ℕ
 
--- what every call keeps of tables: their rows, and no count falls
+-- what every call keeps of tables: their rows; no count of pages or faults falls
 pub record KeepsTables (old new : TablesView) : Type 0 where
   pub told : (d : Declared) → new.told d ≡ old.told d
   pub pages : old.pages ≤ new.pages
   pub faults : (d : Declared) → old.faults d ≤ new.faults d
 
--- tables that tell these rows, of which no page was asked yet
+-- what tables mean that tell given rows and of which no page was asked yet
 abbrev pub unasked : (Declared → Option (List Row)) → TablesView
 unasked told = record { told = told; pages = 0; faults = λ _. 0 }

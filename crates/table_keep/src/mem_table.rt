@@ -32,7 +32,7 @@ fn is_short(cell: &Cell) -> bool
     }
 }
 
-// Whether no cell is too long.
+// Whether each cell has fewer than 2^31 bytes.
 fn are_short(cells: &[Cell]) -> bool
     ensures { result ≡ list_all is_short (map value_of cells.now) }
 {
@@ -44,7 +44,7 @@ fn are_short(cells: &[Cell]) -> bool
     true
 }
 
-// Whether each row has so many cells, none of them too long.
+// Whether each row has `width` cells, each of fewer than 2^31 bytes.
 fn are_rows(width: usize, rows: &[TableRow]) -> bool
     ensures { result ≡ list_all (is_row width) (rows_of rows.now) }
 {
@@ -63,7 +63,7 @@ fn place_of(names: &[Label], column: &Column) -> Option<usize>
     names.iter().position(|name| same_label(&column.name, name))
 }
 
-// A cell once more.
+// A copy of a cell.
 fn copy_cell(alloc: Global, cell: &Cell) -> Result<Cell, AllocError>
     ensures { IfOk result (λ copy. value_of copy ≡ value_of cell.now) }
 {
@@ -75,7 +75,7 @@ fn copy_cell(alloc: Global, cell: &Cell) -> Result<Cell, AllocError>
     }
 }
 
-// The cell at a place once more, or NULL behind the last.
+// A copy of the cell at a place of a row, or NULL after the last one.
 fn cell_at(alloc: Global, cells: &[Cell], place: usize) -> Result<Cell, AllocError>
     ensures { IfOk result (λ copy. value_of copy ≡ slice_index_or (map value_of cells.now) place null) }
 {
@@ -85,7 +85,7 @@ fn cell_at(alloc: Global, cells: &[Cell], place: usize) -> Result<Cell, AllocErr
     }
 }
 
-// The cells at these places once more.
+// A copy of the cells at given places of a row.
 fn cells_at(alloc: Global, cells: &[Cell], places: &[usize]) -> Result<Vec<Cell>, AllocError>
     ensures { IfOk result (λ copies. map value_of copies.items
         ≡ map (λ p. slice_index_or (map value_of cells.now) p null) places.now) }
@@ -97,7 +97,7 @@ fn cells_at(alloc: Global, cells: &[Cell], places: &[usize]) -> Result<Vec<Cell>
     Ok(copies)
 }
 
-// A row once more, with its cells at these places alone.
+// A copy of a row, with its cells at given places alone.
 fn copy_row(alloc: Global, row: &TableRow, places: &[usize]) -> Result<TableRow, AllocError>
     ensures { IfOk result (λ copy. row_of copy ≡ projected places.now (row_of row.now)) }
 {
@@ -106,7 +106,7 @@ fn copy_row(alloc: Global, row: &TableRow, places: &[usize]) -> Result<TableRow,
     Ok(TableRow { key, cells })
 }
 
-// Rows once more, with their cells at these places alone.
+// A copy of rows, with their cells at given places alone.
 fn copy_rows(
     alloc: Global,
     rows: &[TableRow],
@@ -121,7 +121,7 @@ fn copy_rows(
     Ok(copies)
 }
 
-// Whether a row stands above a key, where there is one.
+// Whether the key of a row is greater than a given key, where there is one.
 fn is_row_above(after: Option<i64>, row: &TableRow) -> bool
     ensures { result ≡ is_above after row.now.key }
 {
@@ -143,7 +143,7 @@ impl MemTable {
         same_label(&self.file, file) && same_label(&self.table, table)
     }
 
-    // The places of columns; `None` where the table doesn't have each of them.
+    // The places of columns among those of the table; `None` where the table doesn't have each of them.
     fn places(&self, alloc: Global, columns: &[Column]) -> Result<Option<Vec<usize>>, AllocError>
         ensures { IfOk result (λ found. option_map (λ places. places.items) found
             ≡ places_of self.now.columns.items columns.now) }
@@ -169,7 +169,7 @@ impl MemTable {
         rows.partition_point(|row| !is_row_above(after, row))
     }
 
-    // The first rows above a key, at most so many, with their cells at these places alone.
+    // The first rows above a key, at most `limit`, with their cells at given places alone.
     fn first_rows(
         &self,
         alloc: Global,

@@ -48,7 +48,7 @@ impl MemTables {
         })
     }
 
-    // The first table of the file and the name that are asked for.
+    // The first table of the file and the name that are asked for, where there is one.
     fn find<'a>(tables: &'a [MemTable], ask: &PageAsk<'_>) -> Option<&'a MemTable>
         ensures { option_map (λ table. table.now) result ≡ find (is_at ask.now.file.now ask.now.table.now) tables.now }
     {

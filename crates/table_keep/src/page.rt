@@ -19,7 +19,7 @@ pub struct PageAsk<'a> {
     pub limit: u32,
 }
 
-/// So many bytes a cell never has.
+/// The least number of bytes that a cell never has.
 pub(crate) const TOO_LONG: usize = 1 << 31;
 
 // Whether a cell may stand in a column.
@@ -34,7 +34,7 @@ fn fits(column: &Column, cell: &Cell) -> bool
     }
 }
 
-// Whether there is a cell for each column, which may stand there.
+// Whether there is exactly one cell for each column, which may stand there.
 fn cells_fit(columns: &[Column], cells: &[Cell]) -> bool
     ensures { result ≡ cells_fit columns.now (map value_of cells.now) }
 {
@@ -47,7 +47,7 @@ fn cells_fit(columns: &[Column], cells: &[Cell]) -> bool
     }
 }
 
-/// Whether a key stands above another, where there is one.
+/// Whether a key is greater than another, where another is given.
 pub(crate) fn is_above(after: Option<i64>, key: i64) -> bool
     ensures { result ≡ is_above after key }
 {
@@ -57,7 +57,7 @@ pub(crate) fn is_above(after: Option<i64>, key: i64) -> bool
     }
 }
 
-/// Whether the keys of rows rise, from above one on.
+/// Whether the keys of rows rise, the first of them above a given key.
 pub(crate) fn keys_rise(after: Option<i64>, rows: &[TableRow]) -> bool
     ensures { result ≡ keys_rise after (rows_of rows.now) }
 {
@@ -90,7 +90,7 @@ fn all_fit(columns: &[Column], rows: &[TableRow]) -> bool
     true
 }
 
-/// Whether rows are a page of what is asked.
+/// Whether rows are a page as it was asked for.
 pub fn is_page(ask: &PageAsk<'_>, rows: &[TableRow]) -> bool
     ensures { MatchBool result (IsPage ask.now (rows_of rows.now)) (¬ IsPage ask.now (rows_of rows.now)) }
 {

@@ -1,7 +1,7 @@
 // The rows of tables.
 use mix_tree::Label;
 
-/// What a row has in a column.
+/// The value that a row has in a column.
 #[derive(Drop)]
 pub enum Cell {
     Null,

@@ -10,7 +10,7 @@ use std::alloc::Global;
 
 /// Tables that are asked page by page. No call changes their rows.
 pub trait Tables {
-    /// What this state means.
+    /// What a state of the tables means.
     ghost view: { Self → TablesView };
 
     /// The first rows of a declared table above a key (docs/FORMATS.md, "Tables"). `Failed`: the table could not be read, and its

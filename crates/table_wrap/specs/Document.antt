@@ -16,11 +16,11 @@ use Rattle.table_wrap.specs.declared.parts.Part.TheVariants.{Name, Rows}
 use Rattle.table_wrap.specs.Parts.{hole_of, part_of}
 use Rattle.table_wrap.specs.Rows.{row_forest, table_tree}
 
--- how many rows a page has at most
+-- how many rows a page of a table's document has at most
 abbrev pub chunk_of : TableDoc → ℕ
 chunk_of d = d.chunk
 
--- the name of the source
+-- the name of the source whose document a table's rows are
 abbrev pub name_of : TableDoc → List ℕ
 name_of d = d.name
 
@@ -36,91 +36,90 @@ declared_of d = record { file = d.file; table = d.table; key = d.key; columns = 
 abbrev pub told : TablesView → TableDoc → Bool
 told v d = is_some (v.told (declared_of d))
 
--- these rows, and none where they are not told
+-- the rows of a table's document, as tables tell them, and none where they do not
 abbrev pub rows_of : TablesView → TableDoc → List Row
 rows_of v d = unwrap_or (v.told (declared_of d)) []
 
--- the trees of a part
+-- the trees of a part of a table's document: all of it, or the rows above a key
 abbrev pub part_forest : List Row → TableDoc → Option Part → Forest
 part_forest rows d None = none
 part_forest rows d (Some Name) = alone (table_tree (name_of d) (columns_of d) rows)
 part_forest rows d (Some (Rows after)) = row_forest (columns_of d) (filter (λ r. is_above after r.key) rows)
 
--- how many keys of 64 bits there are above one, where the least stands above one more
+-- how many keys of 64 bits are above a given one; all 2^64 where none is given
 abbrev pub room : Option ℤ → ℕ
 room None = 2 ^ 64
 room (Some (pos n)) = 2 ^ 63 - 1 - n
 room (Some (negsuc n)) = 2 ^ 63 + n
 
--- the most nodes that a row has
+-- the most nodes that the tree of a row of a table's document has
 abbrev pub row_weight : TableDoc → ℕ
 row_weight d = 1 + 2 * length (columns_of d)
 
--- the weight of a part: of rows as many rows as there are keys, and the name one more than all rows
+-- the weight of a part of a table's document: as many rows as there are keys above its key; the name weighs one more than all rows
 abbrev pub part_weight : TableDoc → Option Part → ℕ
 part_weight d None = 0
 part_weight d (Some Name) = 1 + room None * row_weight d
 part_weight d (Some (Rows after)) = room after * row_weight d
 
--- the key of the last row, or the one before the first
+-- the key of the last of some rows, or where there is none the key that they were to be above
 abbrev pub last_key : Option ℤ → List Row → Option ℤ
 last_key after [] = after
 last_key after (r ∷ rows) = last_key (Some r.key) rows
 
--- the hole behind the rows of a page, where these are as many as they may be
+-- the hole after the rows of a page, where these are as many as a page may have
 abbrev pub rest_given : TableDoc → Option ℤ → List Row → Open
 rest_given d after rows = cond (length rows == chunk_of d) (hole (hole_of (Rows (last_key after rows))) nil) nil
 
--- the rows of a page behind a key, each whole, and the hole behind them
+-- the list that a page of rows above a key gives: each row whole, and the hole after them
 abbrev pub rows_given : TableDoc → Option ℤ → List Row → Open
 rows_given d after rows = open_followed (without_holes (row_forest (columns_of d) rows)) (rest_given d after rows)
 
--- the rows are the first above a key, where they are told
+-- rows are the first ones of a document above a key, at most a page of them, where the rows are told
 abbrev pub AreFirst : TablesView → TableDoc → Option ℤ → List Row → Type 0
 AreFirst v d after rows = IfSome (v.told (declared_of d)) (λ all. rows ≡ first_above after (chunk_of d) all)
 
--- a list that a part may be answered with: the name with the hole of all rows below it; of rows a page of them, and a hole behind them
--- exactly where it has as many as it may
+-- a list that may answer a part's fill: the name, above a hole for all rows; or a page of rows, and a hole after them exactly where the page is full
 abbrev pub IsGiven : TablesView → TableDoc → Option Part → Open → Type 0
 IsGiven v d None o = ⊥
 IsGiven v d (Some Name) o = o ≡ node (name_of d) (hole (hole_of (Rows None)) nil) nil
 IsGiven v d (Some (Rows after)) o = (rows : List Row) × IsPageOf after (chunk_of d) (columns_of d) rows × AreFirst v d after rows × (o ≡ rows_given d after rows)
 
--- whether a part's fill asks for a page
+-- whether a fill of a part of a table's document asks for a page
 abbrev pub asks : Option Part → Bool
 asks None = false
 asks (Some Name) = false
 asks (Some (Rows after)) = true
 
--- whether a document knows a hole
+-- whether a table's document knows a hole
 abbrev pub knows : TableDoc → HoleId → Bool
 knows d h = is_some (part_of h)
 
--- the trees that a hole stands for
+-- the trees that a hole of a table's document stands for
 abbrev pub forest : TablesView → TableDoc → HoleId → Forest
 forest v d h = part_forest (rows_of v d) d (part_of h)
 
--- the weight of a hole
+-- the weight of a hole of a table's document
 abbrev pub weight : TableDoc → HoleId → ℕ
 weight d h = part_weight d (part_of h)
 
--- the hole of the root
+-- the hole of the root of a table's document
 abbrev pub root_hole : TableDoc → HoleId
 root_hole d = hole_of Name
 
--- the whole document
+-- the whole document of a table
 abbrev pub document : TablesView → TableDoc → Forest
 document v d = forest v d (root_hole d)
 
--- the hole of the root is known
+-- a table's document knows the hole of its root
 pub root_known : (d : TableDoc) → knows d (root_hole d) ≡ true
 root_known d = refl
 
--- the document is the table's: the name, and below it its rows
+-- the document of a table is the source's name with the table's rows below it
 pub document_is_table : (v : TablesView) (d : TableDoc) → document v d ≡ alone (table_tree (name_of d) (columns_of d) (rows_of v d))
 document_is_table v d = refl
 
--- what the list promises with which a part is answered
+-- what a list promises that answers a fill of a part: it closes to the part, keeps progress, has known holes, and weighs no more
 pub record IsAnswer (v : TablesView) (d : TableDoc) (p : Option Part) (o : Open) : Type 0 where
   pub list : IsGiven v d p o
   pub closes : told v d ≡ true → closed (forest v d) o ≡ part_forest (rows_of v d) d p
@@ -129,7 +128,7 @@ pub record IsAnswer (v : TablesView) (d : TableDoc) (p : Option Part) (o : Open)
   pub lighter : weight_of (weight d) o ≤ part_weight d p
   pub forward : begins_with_hole o ≡ false
 
--- a source is a table
+-- whether a source is a table
 abbrev pub is_table_of : SourceKind → Bool
 is_table_of (Bracket file deep) = false
 is_table_of (Csv file columns) = false

@@ -11,7 +11,7 @@ hole_of Name = record { words = 0 ∷ 0 ∷ 0 ∷ [] }
 hole_of (Rows None) = record { words = 1 ∷ 0 ∷ 0 ∷ [] }
 hole_of (Rows (Some key)) = record { words = 2 ∷ cast_unsigned w64 key ∷ 0 ∷ [] }
 
--- the part whose hole this is, where it is one's
+-- the part of a table's document that a hole stands for, where there is one
 abbrev pub part_of : HoleId → Option Part
 part_of h =
     if slice_index h.words 2 == 0 then

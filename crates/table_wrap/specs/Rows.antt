@@ -6,36 +6,36 @@ use Rattle.mix_tree.specs.Forest.{Forest, none, tree, LabelledTree, forest_of}
 use Rattle.mix_catalog.specs.declared.column.Column.{Column}
 use Rattle.table_keep.specs.Rows.{Value, null, int, text, bytes, Row}
 
--- the label of a value: a number in decimal digits, a text itself, two digits a byte, and none of NULL
+-- the label of a value: a number in decimal digits, a text itself, bytes with two digits each, and none of NULL
 abbrev pub label_of : Value → Option (List ℕ)
 label_of null = None
 label_of (int n) = Some (signed_decimal n)
 label_of (text t) = Some t
 label_of (bytes b) = Some (encode_lower b)
 
--- the label alone, where there is one
+-- a leaf with a label, where there is one
 abbrev pub leaf : Option (List ℕ) → Forest
 leaf None = none
 leaf (Some label) = tree label none none
 
--- a column of a row: its name, and the label of its value below it
+-- the tree of a column of a row: its name, and the label of its value below it
 abbrev pub cell : Column → Value → LabelledTree
 cell column v = record { label = column.name; kids = leaf (label_of v) }
 
--- the columns of a row
+-- the trees of the columns of a table's row
 abbrev pub cells : List Column → List Value → List LabelledTree
 cells [] values = []
 cells (c ∷ cs) [] = []
 cells (c ∷ cs) (v ∷ vs) = cell c v ∷ cells cs vs
 
--- a row, which is called "row"
+-- the tree of a table's row, which is called "row"
 abbrev pub row_tree : List Column → Row → LabelledTree
 row_tree columns r = record { label = 114 ∷ 111 ∷ 119 ∷ []; kids = forest_of (cells columns r.values) }
 
--- rows, one after another
+-- the trees of a table's rows, one after another
 abbrev pub row_forest : List Column → List Row → Forest
 row_forest columns rows = forest_of (map (row_tree columns) rows)
 
--- a table of these rows under these columns, as a source of this name
+-- the tree of a table: the source's name, and the rows under given columns below it
 abbrev pub table_tree : List ℕ → List Column → List Row → LabelledTree
 table_tree name columns rows = record { label = name; kids = row_forest columns rows }

@@ -13,7 +13,7 @@ use mix_tree::Label;
 use std::alloc::{AllocError, Global};
 use table_keep::Cell;
 
-// The label of a number.
+// The label of a number: its decimal digits.
 fn decimal_label(alloc: Global, number: i64) -> Result<Label, AllocError>
     ensures { IfOk result (λ label. label ≡ signed_decimal number) }
 {
@@ -21,7 +21,7 @@ fn decimal_label(alloc: Global, number: i64) -> Result<Label, AllocError>
     Label::of_text(alloc, digits.as_str().as_bytes())
 }
 
-// The label of bytes.
+// The label of bytes: two hexadecimal digits for each.
 fn hex_label(alloc: Global, bytes: Vec<u8>) -> Result<Label, AllocError>
     ensures { IfOk result (λ label. label ≡ encode_lower bytes.items) }
 {
@@ -41,7 +41,7 @@ fn label_of(alloc: Global, cell: Cell) -> Result<Option<Label>, AllocError>
     }
 }
 
-/// Puts a node behind a list, above a list of its own.
+/// Puts a node at the end of a list of trees, above a list of its own.
 pub fn push_node(
     list: &mut Vec<OpenTree>,
     label: Label,
@@ -54,7 +54,7 @@ pub fn push_node(
     Ok(())
 }
 
-// The label of a cell alone, where it has one.
+// The list of a leaf with the label of a cell, where it has one.
 fn leaf(alloc: Global, cell: Cell) -> Result<Vec<OpenTree>, AllocError>
     ensures { IfOk result (λ list. plain list.items ≡ without_holes (leaf (label_of (value_of cell)))) }
 {
@@ -69,7 +69,7 @@ fn leaf(alloc: Global, cell: Cell) -> Result<Vec<OpenTree>, AllocError>
     }
 }
 
-/// Puts a column of a row behind a list, with the label of its cell below it.
+/// Puts a column of a row at the end of a list of trees, with the label of its cell below it.
 pub fn push_cell(
     alloc: Global,
     list: &mut Vec<OpenTree>,
@@ -83,7 +83,7 @@ pub fn push_cell(
     push_node(list, column.name.copy(alloc)?, below)
 }
 
-/// Columns, once more.
+/// A copy of columns.
 pub fn copy_columns(alloc: Global, columns: &[Column]) -> Result<Vec<Column>, AllocError>
     ensures { IfOk result (λ copies. copies.items ≡ columns.now) }
 {

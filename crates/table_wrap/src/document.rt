@@ -26,7 +26,7 @@ pub struct TableDoc {
     ghost some: { 1 ≤ chunk },
 }
 
-// What a page that is not given means for a source.
+// The fault of a source that a page that is not given becomes.
 fn source_fault(fault: PageFault) -> SourceFault
     ensures { result ≡ fault_of fault }
 {
@@ -114,7 +114,7 @@ impl TableDoc {
         }
     }
 
-    // The list of the rows above a key.
+    // The list that answers a fill of the rows above a key.
     fn give_rows<T: Tables>(
         &self,
         alloc: Global,
@@ -134,7 +134,7 @@ impl TableDoc {
         Ok(self.give_page(alloc, after, rows)?)
     }
 
-    // The list of a part.
+    // The list that answers a fill of a part of the document.
     fn give<T: Tables>(
         &self,
         alloc: Global,

@@ -19,7 +19,7 @@ use mix_tree::Label;
 use std::alloc::{AllocError, Global};
 use table_keep::{Cell, TableRow};
 
-// Puts the hole of the rows above a key behind a list, where it is wanted.
+// Puts the hole of the rows above a key at the end of a list, where it is wanted.
 fn push_rest(list: &mut Vec<OpenTree>, wanted: bool, last: Option<i64>) -> Result<(), AllocError>
     ensures { OnOk result (plain list.new.items
         ≡ put_all list.old.items (cond wanted (hole (hole_of (Rows last)) nil) nil)) }
@@ -47,7 +47,7 @@ impl TableDoc {
         Ok(list)
     }
 
-    // Puts a row of these cells behind a list, with its columns below it.
+    // Puts a row of given cells at the end of a list, with its columns below it.
     fn push_row(
         &self,
         alloc: Global,
@@ -62,7 +62,7 @@ impl TableDoc {
         push_node(list, label, kids)
     }
 
-    /// The name, with the hole of all rows below it.
+    /// The list of the whole document: the source's name, above a hole for all rows.
     pub(crate) fn give_name(&self, alloc: Global) -> Result<Vec<OpenTree>, AllocError>
         ensures { IfOk result (λ list. plain list.items ≡ node (name_of self.now) (hole (hole_of (Rows None)) nil) nil) }
     {
@@ -73,7 +73,7 @@ impl TableDoc {
         Ok(list)
     }
 
-    /// The rows of a page behind a key, each whole, and a hole behind them where there are as many as may be.
+    /// The list of a page of rows above a key: each row whole, and a hole after them where they are as many as a page may have.
     pub(crate) fn give_page(
         &self,
         alloc: Global,

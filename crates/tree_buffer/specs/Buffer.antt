@@ -21,11 +21,11 @@ nodes_of b = nodes b.entries.items
 abbrev pub number_of : Buffer → ℕ
 number_of b = b.number
 
--- the buffer is of the source of this number
+-- a buffer is one of the source of a given number
 abbrev pub IsSourceOf : Buffer → ℕ → Type 0
 IsSourceOf b n = n ≡ number_of b
 
--- the spot is one of the buffer's
+-- a spot is one that the buffer handed out
 abbrev pub IsSpot : Buffer → Spot → Type 0
 IsSpot b x = x.number < length (nodes_of b).links
 
@@ -33,7 +33,7 @@ IsSpot b x = x.number < length (nodes_of b).links
 abbrev pub place_of : Buffer → Spot → List ℕ
 place_of b x = place (nodes_of b).links x.number
 
--- the label there
+-- the label of the node that a spot stands for
 abbrev pub label_of : Buffer → Spot → List ℕ
 label_of b x = get_or (nodes_of b).labels x.number []
 
@@ -45,23 +45,23 @@ rest_of b x = get_or (nodes_of b).rests x.number nil
 abbrev pub weigh : View → Buffer → Open → ℕ
 weigh v b = weight_of (v.weight b.number)
 
--- what lies below a spot weighs so much
+-- the weight of what lies below a spot, handed out or not
 abbrev pub below : View → Buffer → Spot → ℕ
 below v b x = below_node (weigh v b) (nodes_of b) x.number
 
--- what lies at or below the later siblings of a spot weighs so much
+-- the weight of what lies at or below the later siblings of a spot
 abbrev pub after : View → Buffer → Spot → ℕ
 after v b x = after_node (weigh v b) (nodes_of b) x.number
 
--- a spot, what lies below it and what lies at or below its later siblings weigh so much
+-- the weight of a spot, of what lies below it, and of what lies at or below its later siblings
 abbrev pub from_spot : View → Buffer → Spot → ℕ
 from_spot v b x = 1 + below v b x + after v b x
 
--- what holds of the document of a buffer's source, where it is told
+-- where a buffer's source tells its document, the tree of the document node has a given property
 abbrev pub IfTold : View → Buffer → (Forest → Type 0) → Type 0
 IfTold v b P = v.told (number_of b) ≡ true → P (document_node v (number_of b))
 
--- the trees that an answer stands for: the tree at a spot, and those behind it
+-- the trees that an answered spot stands for: the tree at the spot and those of its later siblings; none without a spot
 abbrev pub trees_from : Forest → Buffer → Option Spot → Forest
 trees_from f b None = none
 trees_from f b (Some x) = trees_at f (place_of b x)
@@ -85,7 +85,7 @@ HasAllChildren b x = rest_of b x ≡ nil
 abbrev pub HasAllSiblings : Buffer → Spot → Type 0
 HasAllSiblings b x = (u : Spot) (k : ℕ) → IsSpot b u → IsChildSpot b u k x → HasAllChildren b u
 
--- of the spots that there were, only wanted ones have another list of further children
+-- of the spots that a buffer had before a call, only wanted ones have another list of children that are not handed out
 abbrev pub ChangesOnly : (Spot → Type 0) → Buffer → Buffer → Type 0
 ChangesOnly Wanted b b' = (x : Spot) → IsSpot b x → ¬ Wanted x → rest_of b' x ≡ rest_of b x
 

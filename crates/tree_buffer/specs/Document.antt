@@ -8,7 +8,7 @@ use Rattle.lxp_core.specs.View.{View, document}
 abbrev pub document_node : View → ℕ → Forest
 document_node v n = tree [] (document v n) none
 
--- whether there is such a place, where one is given
+-- whether a place is given and a document has it
 abbrev pub has_given : Forest → Option (List ℕ) → Bool
 has_given f None = false
 has_given f (Some place) = has_place f place

@@ -18,7 +18,7 @@ entry_label e = e.label
 abbrev pub list_of : Entry → Open
 list_of e = stacked e.rest.items nil
 
--- entries, field by field
+-- a buffer's entries as nodes: one list for each field
 abbrev pub nodes : List Entry → Nodes
 nodes es = record {
   links = map link_of es;
@@ -29,7 +29,7 @@ nodes es = record {
   rests = map list_of es;
 }
 
--- the entries name one another rightly
+-- the parents, counts, first children and next siblings of a buffer's entries agree with one another
 abbrev pub AreLinked : List Entry → Type 0
 AreLinked es = IsLinked (nodes es).links (nodes es).counts (nodes es).firsts (nodes es).nexts
 

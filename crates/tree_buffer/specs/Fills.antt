@@ -16,11 +16,11 @@ holes_weight weight nil = 0
 holes_weight weight (node label kids rest) = holes_weight weight kids + holes_weight weight rest
 holes_weight weight (hole id rest) = weight id + holes_weight weight rest
 
--- a number that falls with each fill of the hole at the front
+-- a number that falls with each fill of the first hole of a list
 abbrev pub fills_left : (HoleId → ℕ) → Open → ℕ
 fills_left weight o = holes_weight weight o + holes_weight weight o + hole_first o
 
--- the same of a list that is kept as a stack, from its last tree on
+-- a number that falls with each fill of the first hole of a list that is kept as a stack, its last tree first
 abbrev pub left_in : View → ℕ → List OpenTree → ℕ
 left_in v number stack = fills_left (v.weight number) (stacked stack nil)
 
@@ -33,11 +33,11 @@ pub record IsRefined (old new : View) (n : ℕ) (was now : Open) : Type 0 where
   pub closes : old.told n ≡ true → closed (new.forest n) now ≡ closed (old.forest n) was
   pub whole : was ≡ nil → now ≡ nil
 
--- over a forward source each fill takes a hole from the front
+-- over a forward source at most one fill was asked between two states, and one only where a list began with a hole and now begins with none
 abbrev pub IsLazy : View → View → ℕ → Open → Open → Type 0
 IsLazy old new n was now = old.forward n ≡ true → new.fills + hole_first now ≤ old.fills + hole_first was
 
--- what fills of holes at the front come to
+-- what filling the first holes of a list comes to: all sources are kept, the list is refined, and over a forward source at most one fill was asked
 pub record IsSettling (old new : View) (n : ℕ) (was now : Open) : Type 0 where
   pub keeps : Keeps old new
   pub refined : IsRefined old new n was now

@@ -5,18 +5,18 @@ use Rattle.tree_buffer.specs.declared.buffer.Buffer.{Buffer}
 use Rattle.tree_buffer.specs.declared.spot.Spot.{Spot}
 use Rattle.tree_buffer.specs.Buffer.{IsSpot, place_of, IsSourcesOf, IsKept, Ran}
 
--- no call leaves what a call leaves
+-- what a call leaves of sources and a buffer holds too where there is no call
 abbrev pub RanSame : {S : Type 0} → (S → View) → (S → S → Type 0) → Type 0
 RanSame {S} view came_from = (s : S) (b : Buffer) → IsSourcesOf (view s) b → Ran view came_from s b s b
 
--- one call after another leaves what a call leaves
+-- what a call leaves of sources and a buffer is left by two calls, one after the other, too
 abbrev pub RanTwice : {S : Type 0} → (S → View) → (S → S → Type 0) → Type 0
 RanTwice {S} view came_from = (s t u : S) (a b c : Buffer) → Ran view came_from s a t b → Ran view came_from t b u c → Ran view came_from s a u c
 
--- whatever keeps what every call keeps, keeps each buffer of the sources
+-- where sources keep what every call keeps, each buffer of theirs that no call takes stays one of theirs and goes on
 abbrev pub KeepsBuffers : Type 0
 KeepsBuffers = (v v' : View) (b : Buffer) → IsSourcesOf v b → Keeps v v' → IsKept v v' b
 
--- two spots of a buffer that stand for one place are one
+-- two spots of a buffer that stand for the same place are the same spot
 abbrev pub SpotsAreOne : Type 0
 SpotsAreOne = (b : Buffer) (x y : Spot) → IsSpot b x → IsSpot b y → place_of b x ≡ place_of b y → x.number ≡ y.number

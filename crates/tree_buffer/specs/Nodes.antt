@@ -3,7 +3,7 @@ use Rattle.std.specs.Prelude.{◌≡◌, ℕ, ◌+◌, ◌<◌, ◌≤◌, List,
 use Rattle.std.proofs.Common.{get_or}
 use Rattle.lxp_core.specs.Open.{Open, nil}
 
--- the nodes; the first one is the document node
+-- the nodes that a buffer handed out, a list for each field; the first one is the document node
 pub record Nodes : Type 0 where
   -- each node's parent, and its index among its parent's children
   pub links : List (ℕ × ℕ)
@@ -21,7 +21,7 @@ abbrev pub place_after : List (List ℕ) → ℕ × ℕ → List ℕ
 place_after [] link = []
 place_after (p ∷ ps) link = get_or (p ∷ ps) link.0 [] ++ link.1 ∷ []
 
--- these places, and the places that further links lead to
+-- given places, followed by the places that further links lead to
 abbrev pub grown : List (List ℕ) → List (ℕ × ℕ) → List (List ℕ)
 grown ps [] = ps
 grown ps (link ∷ links) = grown (ps ++ place_after ps link ∷ []) links
@@ -54,7 +54,7 @@ pub record IsLast (m : Nodes) (q b : ℕ) : Type 0 where
   pub child : IsChild m.links q (index m.links b) b
   pub last : index m.links b + 1 ≡ get_or m.counts q 0
 
--- the nodes name one another rightly, and no two stand at one place
+-- the parents, counts, first children and next siblings of nodes agree with one another, and no two nodes stand at the same place
 pub record IsLinked (ls : List (ℕ × ℕ)) (cs fs ns : List ℕ) : Type 0 where
   pub some : 0 < length ls
   pub top : place ls 0 ≡ []
@@ -69,6 +69,6 @@ pub record IsLinked (ls : List (ℕ × ℕ)) (cs fs ns : List ℕ) : Type 0 wher
   pub stands : (i : ℕ) → 0 < i → i < length ls → place ls i ≡ place ls (parent ls i) ++ index ls i ∷ []
   pub distinct : (i j : ℕ) → i < length ls → j < length ls → place ls i ≡ place ls j → i ≡ j
 
--- each node but q has the list that it had
+-- each node but one keeps its list of children that are not handed out
 abbrev pub KeepsLists : ℕ → Nodes → Nodes → Type 0
 KeepsLists q m m' = (i : ℕ) → i < length m.links → ¬ (i ≡ q) → get_or m'.rests i nil ≡ get_or m.rests i nil

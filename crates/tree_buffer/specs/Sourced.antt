@@ -9,7 +9,7 @@ use Rattle.tree_buffer.specs.Document.{document_node}
 use Rattle.tree_buffer.specs.Nodes.{Nodes, place}
 use Rattle.tree_buffer.specs.Weights.{weight_from, below_node}
 
--- what a view means is the sources of these nodes, which are of source n
+-- nodes are those of source n: it knows their holes, and where it tells its document, they stand for that document
 pub record Sourced (v : View) (n : ℕ) (m : Nodes) : Type 0 where
   pub number : n < v.count
   pub root : v.knows n (v.root n) ≡ true
@@ -23,7 +23,7 @@ pub record Sourced (v : View) (n : ℕ) (m : Nodes) : Type 0 where
   pub stands : v.told n ≡ true → (i : ℕ) → i < length m.links
       → first_label (trees_at (document_node v n) (place m.links i)) ≡ Some (get_or m.labels i [])
 
--- each node stands for what it stood for, what lies below it and behind it doesn't weigh more, and an empty list stays so
+-- between two states each node keeps its place and label, what lies below and after it weighs no more, and an empty list of children stays empty
 pub record Moved (w : Open → ℕ) (m : Nodes) (w' : Open → ℕ) (m' : Nodes) : Type 0 where
   pub more : length m.links ≤ length m'.links
   pub links : (i : ℕ) → i < length m.links → get_or m'.links i (0, 0) ≡ get_or m.links i (0, 0)

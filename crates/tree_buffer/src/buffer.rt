@@ -59,7 +59,7 @@ impl Buffer {
         self.number
     }
 
-    /// The document node. Its label is empty.
+    /// The spot of the document node, whose label is empty.
     pub fn top(&self) -> Spot
         ensures spot { IsSpot self.now result }
         ensures place { place_of self.now result ≡ [] }
@@ -68,7 +68,7 @@ impl Buffer {
         Spot { number: 0 }
     }
 
-    /// The label of a node.
+    /// The label of the node that a spot stands for.
     pub fn label(&self, p: &Spot) -> &Label
         requires { IsSpot self.now p.now }
         ensures { result.now ≡ label_of self.now p.now }
@@ -100,8 +100,8 @@ impl Buffer {
         a.number == b.number
     }
 
-    /// The first child; `None` where the node has none. A fill is asked only while no child is known and a hole stands
-    /// at the front of the children. `Failed`: the source failed in such a fill, and the fault names it.
+    /// The first child; `None` where the node has none. A fill is asked only while no child is known and the
+    /// list of children begins with a hole. `Failed`: the source failed in such a fill, and the fault names it.
     pub fn down<S: Sources>(
         &mut self,
         alloc: Global,

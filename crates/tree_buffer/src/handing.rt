@@ -17,7 +17,7 @@ impl Buffer {
     ghost use Rattle.tree_buffer.specs.Buffer.{nodes_of, IsSourcesOf, IsSourceOf};
     ghost use Rattle.tree_buffer.specs.Advance.{Advances, Advanced};
 
-    // Asks fills until no hole stands at the front of a node's list.
+    // Asks fills until no hole begins a node's list.
     pub(crate) fn settle_at<S: Sources>(
         &mut self,
         alloc: Global,
@@ -84,7 +84,7 @@ impl Buffer {
     }
 }
 
-// Makes room for one node more.
+// Makes room for one entry more in a list of entries.
 fn make_room(entries: &mut Vec<Entry>) -> Result<(), AllocError>
     ensures items { entries.new.items ≡ entries.old.items }
     ensures room { OnOk result (vec_len entries.new < vec_capacity entries.new) }

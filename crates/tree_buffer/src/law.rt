@@ -13,12 +13,12 @@ pub fn two_calls_run<S: Sources>()
     ensures { RanTwice S.view S.came_from }
 {}
 
-/// Whatever is asked of the sources, each buffer of theirs that isn't taken stays one and goes on.
+/// Where sources keep what every call keeps, each buffer of theirs that no call takes stays one of theirs and goes on.
 pub fn buffers_are_kept()
     ensures { KeepsBuffers }
 {}
 
-/// Two spots of one buffer that stand for one place are one.
+/// Two spots of one buffer that stand for the same place are the same spot.
 pub fn spots_are_one()
     ensures { SpotsAreOne }
 {}

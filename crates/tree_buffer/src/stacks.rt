@@ -14,7 +14,7 @@ use mix_tree::Label;
 use std::alloc::{AllocError, Global};
 use std::mem::replace;
 
-// The hole at the top, where one stands there.
+// The hole at the top of a stack, where one stands there.
 fn top_hole(stack: &Vec<OpenTree>) -> Option<HoleId>
     ensures { MatchOption result (begins_with_hole (stacked stack.now.items nil) ≡ false)
         (λ h. (rest : List OpenTree) × (stack.now.items ≡ rest ++ Hole h ∷ [])) }
@@ -26,7 +26,7 @@ fn top_hole(stack: &Vec<OpenTree>) -> Option<HoleId>
     }
 }
 
-// Turns a list round. Most have one tree and stay, and the test is the whole cost.
+// Reverses a list of trees. Most have one tree and stay, and the test is the whole cost.
 #[inline(always)]
 fn turn_round(list: &mut Vec<OpenTree>)
     ensures { list.new.items ≡ reverse list.old.items }
@@ -46,7 +46,7 @@ fn free_hole(mut stack: Vec<OpenTree>)
     }
 }
 
-// Puts a list in the place of the hole at the top. Where the stack holds nothing else, the list becomes the stack.
+// Puts a list in the place of the hole at the top of a stack. Where the stack holds nothing else, the list becomes the stack.
 #[inline(always)]
 fn replace_top(stack: &mut Vec<OpenTree>, mut list: Vec<OpenTree>) -> Result<(), AllocError>
     requires { (front : List OpenTree) × (h : HoleId) × (stack.old.items ≡ front ++ Hole h ∷ []) }
@@ -96,7 +96,7 @@ fn refill<S: Sources>(
     Ok(())
 }
 
-// Asks fills until no hole stands at the top.
+// Asks fills until no hole stands at the top of a stack.
 pub(crate) fn settle<S: Sources>(
     alloc: Global,
     s: &mut S,
@@ -136,7 +136,7 @@ fn parts_of(tree: OpenTree) -> (Label, Vec<OpenTree>)
     }
 }
 
-// A stack that is empty takes no memory.
+// The stack as it is kept: an empty one takes no memory.
 #[inline(always)]
 fn free_when_empty(stack: &mut Vec<OpenTree>)
     ensures { stack.new.items ≡ stack.old.items }
