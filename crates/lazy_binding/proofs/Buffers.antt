@@ -41,7 +41,7 @@ get_set [] i x h = absurd (omega (arith, h))
 get_set (y ∷ xs) zero x h = refl
 get_set (y ∷ xs) (suc i) x h = get_set xs i x (omega (arith, h))
 
--- what stands at another one
+-- what stands at an index other than the one that was written
 get_other : {X : Type 0} (xs : List X) (i j : ℕ) (x : X) → (j ≡ i → ⊥) → slice_get (set xs i x) j ≡ slice_get xs j
 get_other [] i j x ne = refl
 get_other (y ∷ xs) zero zero x ne = absurd (ne refl)
@@ -56,17 +56,17 @@ module _ {a b : World} (k : Keeps a b) where
   part_stays (label_part label) h = tt
   part_stays free_part h = absurd h
 
-  -- so are keys
+  -- each part of a key is a part still after a call
   pub key_stays : (key : List KeyPart) → AllByRecursion (IsPart a) key → AllByRecursion (IsPart b) key
   key_stays [] h = tt
   key_stays (p ∷ key) h = (part_stays p h.0, key_stays key h.1)
 
-  -- and lists of them
+  -- each part of each of these keys is a part still after a call
   pub keys_stay : (keys : List (List KeyPart)) → AllByRecursion (AllByRecursion (IsPart a)) keys → AllByRecursion (AllByRecursion (IsPart b)) keys
   keys_stay [] h = tt
   keys_stay (key ∷ keys) h = (key_stays key h.0, keys_stay keys h.1)
 
-  -- groups were walked as far as before
+  -- where no group was walked on, each group at hand was walked to a binding as before
   pub reached_kept : (ops : List Operator) → IsBench a ops → b.walked.reached ≡ a.walked.reached → HasReached b ops
   reached_kept ops h same n r e q =
       (cursors_kept a b k ops h n (Seen' q r.below.value r.seen) (h.reached n r (ap (λ (z : Vec (Option Reached) Global). slice_index_or z.items n None) (sym same) ∙ e) q)).cursor
@@ -108,7 +108,7 @@ module _ {a b : World} (k : Keeps a b) where
 -- a call on the buffer of one source
 module _ (v v' : View) (bs : List Buffer) (seen : List (List (List KeyPart))) (memos : List (Kept (Rc Position Global))) (walked : Walked) (ops : List Operator) (bench : IsBench (world v bs seen memos walked) ops) (keeps : KeepsView v v')
     (s : ℕ) (x y : Buffer) (there : slice_get bs s ≡ Some x) (goes : Goes v x v' y) (sources : IsSourcesOf v' y) (others : (c : Buffer) → IsSourcesOf v c → IsKept v v' c) where
-  -- keeps what every call keeps
+  -- a call on the buffer of one source keeps what every call keeps
   pub buffer_keeps : Keeps (world v bs seen memos walked) (world v' (set bs s y) seen memos walked)
   buffer_keeps = record {
     view = keeps;
@@ -133,7 +133,7 @@ module _ (v v' : View) (bs : List Buffer) (seen : List (List (List KeyPart))) (m
           }
       at t z h (inr ne) = record { later = z; there = get_other bs s t y ne ∙ h; goes = (others z (bench.sources t z h).1).goes }
 
-  -- and leaves a bench of the later sources
+  -- a call on the buffer of one source leaves a bench of the later sources
   pub buffer_bench : IsBench (world v' (set bs s y) seen memos walked) ops
   buffer_bench = bench_stays buffer_keeps ops bench refl (same_members buffer_keeps ops bench refl) refl (λ t z h. at t z h (cases_eq t s))
     where

@@ -13,19 +13,19 @@ use Rattle.plan_core.specs.TolledRows.{TolledRow, KeyValue, by_node, by_label, k
 use Rattle.plan_core.proofs.Found.{found-only_yes}
 use Rattle.lazy_binding.specs.Cursors.{behind_found, behind_first, IsBindingOf, NoneBefore, IsFirstBy}
 
--- what compares the same is the same
+-- values of keys that compare as the same are equal
 same_value-true : (a b : KeyValue) → same_value a b ≡ true → a ≡ b
 same_value-true (by_node m) (by_node n) h = ap by_node (same_node-true m n h)
 same_value-true (by_node m) (by_label y) h = cc
 same_value-true (by_label x) (by_node n) h = cc
 same_value-true (by_label x) (by_label y) h = ap by_label ((bytes_decides x y).0 h)
 
--- and the other way
+-- a value of a key compares as the same as itself
 same_value-refl : (a : KeyValue) → same_value a a ≡ true
 same_value-refl (by_node m) = same_node-refl m
 same_value-refl (by_label x) = (bytes_decides x x).1 refl
 
--- so do all keys
+-- keys whose values compare as the same are equal
 same_values-true : (xs ys : List KeyValue) → same_values xs ys ≡ true → xs ≡ ys
 same_values-true [] [] h = refl
 same_values-true [] (y ∷ ys) h = cc
@@ -37,7 +37,7 @@ pub same_values-refl : (xs : List KeyValue) → same_values xs xs ≡ true
 same_values-refl [] = refl
 same_values-refl (x ∷ xs) = and_from (same_value x x) (same_values xs xs) (same_value-refl x) (same_values-refl xs)
 
--- two tests that can't both hold
+-- a test that does not hold fails
 not_both : (t : Bool) → (t ≡ true → ⊥) → t ≡ false
 not_both true h = absurd (h refl)
 not_both false h = refl
@@ -47,12 +47,12 @@ pub other_key : (a b : List KeyValue) (s : List (List KeyValue)) → is_seen b s
 other_key a b s seen new =
     not_both (same_values a b) (λ e. let z : true ≡ false = sym seen ∙ ap (λ (x : List KeyValue). is_seen x s) (sym (same_values-true a b e)) ∙ new in cc)
 
--- a choice that fails, fails on both sides
+-- a choice of two that fails fails on both sides
 neither : (p q : Bool) → p || q ≡ false → (p ≡ false) × (q ≡ false)
 neither true q h = cc
 neither false q h = (refl, h)
 
--- keys that are not among these and one more
+-- keys outside a list with one more at its end are outside the list, and differ from that one
 pub other_last : (a b : List KeyValue) (s : List (List KeyValue)) → is_seen a (s ++ b ∷ []) ≡ false → (is_seen a s ≡ false) × (same_values a b ≡ false)
 other_last a b [] h =
     (refl, not_both (same_values a b) (λ e. let z : true ≡ false = sym (ap (λ (x : List KeyValue). same_values b x) (same_values-true a b e) ∙ same_values-refl b) ∙ (neither (same_values b a) false h).0 in cc))
@@ -62,44 +62,44 @@ other_last a b (z ∷ s) h =
     (ap (λ (t : Bool). t || is_seen a s) y.0 ∙ k.0, k.1)
 
 module _ (ops : List Operator) (i : ℕ) (keys : List Key) {d e : Documents} (docs : e ≡ d) where
-  -- what is before stays
+  -- that no binding with other keys stands before some events stays so for the same keys and events
   pub none_before_kept : {s z : List (List KeyValue)} → z ≡ s → {l m : RowEvents} → m ≡ l → NoneBefore d keys (events d ops i) s l → NoneBefore e keys (events e ops i) z m
   none_before_kept {s} {z} seen {l} {m} later h =
       subst (λ (y : List (List KeyValue)). NoneBefore e keys (events e ops i) y m) (sym seen)
       (subst (λ (y : RowEvents). NoneBefore e keys (events e ops i) s y) (sym later) (subst (λ (y : Documents). NoneBefore y keys (events y ops i) s l) (sym docs) h))
 
-  -- what is the first stays so
+  -- the first binding with its keys stays the first one
   pub first_by_kept : {r q : TolledRow} → q ≡ r → {l m : RowEvents} → m ≡ l → IsFirstBy d keys (events d ops i) r l → IsFirstBy e keys (events e ops i) q m
   first_by_kept {r} {q} row {l} {m} later h =
       subst (λ (y : TolledRow). IsFirstBy e keys (events e ops i) y m) (sym row)
       (subst (λ (y : RowEvents). IsFirstBy e keys (events e ops i) r y) (sym later) (subst (λ (y : Documents). IsFirstBy y keys (events y ops i) r l) (sym docs) h))
 
-  -- what is a binding stays one
+  -- a binding among events stays one
   pub binding_of_kept : {r q : TolledRow} → q ≡ r → {l m : RowEvents} → m ≡ l → IsBindingOf (events d ops i) r l → IsBindingOf (events e ops i) q m
   binding_of_kept {r} {q} row {l} {m} later h =
       (h.0, ap (λ (y : Documents). found (behind_first h.0 (events y ops i))) docs ∙ h.1 ∙ ap (λ (y : TolledRow). finds y l) (sym row) ∙ ap (finds q) (sym later))
 
 -- BINDINGS THAT ARE ALL DIFFERENT
 
--- the first binding is behind none
+-- the events after the first k + 1 bindings are those after the first k of what comes after the first binding
 behind_next : (k : ℕ) (es : RowEvents) → behind_first (suc k) es ≡ behind_first k (behind_found (found es))
 behind_next zero es = refl
 behind_next (suc k) es = ap (λ (z : RowEvents). behind_found (found z)) (behind_next k es)
 
 module _ (P : TolledRow → Type 0) where
-  -- what holds of each binding holds of the first
+  -- a property of each binding among events is one of the first binding
   each_found : (es : RowEvents) (row : TolledRow) (later : RowEvents) → EachBinding P es → found es ≡ finds row later → P row
   each_found [] row later h e = cc
   each_found (skip ∷ es) row later h e = each_found es row later h e
   each_found (bind b ∷ es) row later h e = (let z : b ≡ row = cc in subst P z h.0)
 
-  -- and of those behind it
+  -- a property of each binding among events is one of each after the first
   each_left : (es : RowEvents) → EachBinding P es → EachBinding P (behind_found (found es))
   each_left [] h = tt
   each_left (skip ∷ es) h = each_left es h
   each_left (bind b ∷ es) h = h.1
 
-  -- and of those behind the first few
+  -- a property of each binding among events is one of each after the first few
   each_behind : (k : ℕ) (es : RowEvents) → EachBinding P es → EachBinding P (behind_first k es)
   each_behind zero es h = h
   each_behind (suc k) es h = each_left (behind_first k es) (each_behind k es h)
@@ -109,7 +109,7 @@ module _ (docs : Documents) (keys : List Key) (row : TolledRow) (later : RowEven
   abbrev has_keys : TolledRow → Bool
   has_keys r = same_values (key_values docs keys row) (key_values docs keys r)
 
-  -- where no two agree, each binding is the first one with its keys
+  -- among bindings of which no two agree by keys, each is the first one with its keys
   first_at : (k : ℕ) (es : RowEvents) → AreApart docs keys es → found (behind_first k es) ≡ finds row later → IsFirstBy docs keys es row later
   first_at zero es h e = found-only_yes has_keys es row later e (same_values-refl (key_values docs keys row))
   first_at (suc k) [] h e = first_at k [] h (sym (ap found (behind_next k [])) ∙ e)
@@ -121,6 +121,6 @@ module _ (docs : Documents) (keys : List Key) (row : TolledRow) (later : RowEven
       let z : true ≡ false = sym (same_values-refl (key_values docs keys b)) ∙ ap (same_values (key_values docs keys b)) (sym (same_values-true (key_values docs keys row) (key_values docs keys b) t)) ∙ other in cc) in
       rw differs (first_at k es h.1 there)
 
-  -- so is a binding of them
+  -- a binding among events of which no two agree by keys is the first one with its keys
   pub apart_first : (es : RowEvents) → AreApart docs keys es → IsBindingOf es row later → IsFirstBy docs keys es row later
   apart_first es h at = first_at at.0 es h at.1

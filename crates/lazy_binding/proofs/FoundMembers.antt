@@ -37,7 +37,7 @@ inside (y ∷ xs) zero place x e = omega arith
 inside (y ∷ xs) (suc j) place x e = (let l = inside xs j place x e in omega (arith, l))
 
 module _ (old new : List (List (Rc Position Global))) (r : Rc Position Global) (j place : ℕ) (m : Rc Position Global) (e : slice_get (slice_index_or old j []) place ≡ Some m) where
-  -- one more member of a group leaves all at their places
+  -- one more member of a group leaves all members of all groups at their places
   joined_stays : (k : ℕ) → IsJoined old new k r → slice_get (slice_index_or new j []) place ≡ Some m
   joined_stays k h = by_place (cases_eq j k)
     where
@@ -47,11 +47,11 @@ module _ (old new : List (List (Rc Position Global))) (r : Rc Position Global) (
           ∙ get-front (slice_index_or old k []) (r ∷ []) place m (ap (λ (x : ℕ). slice_get (slice_index_or old x []) place) (sym z) ∙ e)
       by_place (inr ne) = ap (λ (xs : List (Rc Position Global)). slice_get xs place) (h.others j ne) ∙ e
 
-  -- so does one more group
+  -- one more group leaves all members of the others at their places
   begun_stays : IsBegun old new r → slice_get (slice_index_or new j []) place ≡ Some m
   begun_stays h = ap (λ (xs : List (Rc Position Global)). slice_get xs place) (h.others j (inside old j place m e)) ∙ e
 
--- one more member leaves those that were found at their places
+-- a walk that goes on by one binding leaves all members that were found at their places
 pub gathered_stay : (old new : Gathered) (seen later : List (List KeyPart)) (key : List KeyPart) (at : Position) → IsGatheredBy old new seen later key at → MembersStay old new
 gathered_stay old new seen later key at goes j place m e = elim goes.2.member [
   | inl x ↦ joined_stays old.groups new.groups goes.0 j place m e x.0 x.2.joined
@@ -63,11 +63,11 @@ module _ (w : World) (seen : List (List (List KeyPart))) (walked : Walked) where
   pub found_stay : ((n : ℕ) → MembersStay (gathered_at w n) (groups_in walked n)) → FoundStay w (world w.view w.buffers seen w.memos walked)
   found_stay stay n number place c f = (f.0, stay n (number - 1) place f.0 f.1, f.2)
 
-  -- where the groups of each operator are the same
+  -- where the groups of each operator are the same, all members that were found stay
   pub found_same : ((n : ℕ) → groups_in walked n ≡ gathered_at w n) → FoundStay w (world w.view w.buffers seen w.memos walked)
   found_same same = found_stay (λ n j place m e. ap (λ (z : Gathered). slice_get (slice_index_or z.groups j []) place) (same n) ∙ e)
 
-  -- where those of one operator grew
+  -- where the members of the groups of one operator stay and those of others are the same, all that were found stay
   pub found_others : (n : ℕ) → OthersGathered w.walked walked n → MembersStay (gathered_at w n) (groups_in walked n) → FoundStay w (world w.view w.buffers seen w.memos walked)
   found_others n others stay = found_stay (λ k j place m e. at k j place m e (cases_eq k n))
     where
@@ -86,7 +86,7 @@ place_is f ms zero m e = ap (λ (x : Rc Position Global). x.value) (some_is f m 
 place_is f [] (suc p) m e = cc
 place_is f (x ∷ ms) (suc p) m e = place_is x ms p m e
 
--- nothing stands at places that are no places of a list
+-- a place of a list at which nothing stands is none below its length
 past_all : {X : Type 0} (xs : List X) (k : ℕ) → slice_get xs k ≡ None → length xs ≤ k
 past_all [] k e = omega arith
 past_all (x ∷ xs) zero e = cc
@@ -118,7 +118,7 @@ module _ (w : World) (ops : List Operator) (n i : ℕ) (keys : List Key) (group 
     of : IsOf w ops i one.value
     come : AreInGroup w ops i keys (binding w ops i one.value) last one.value 1 others
 
-  -- there are some
+  -- a group of which a member was found has members
   some_members : Members
   some_members = by_list members refl
     where
@@ -144,11 +144,11 @@ module _ (w : World) (ops : List Operator) (n i : ℕ) (keys : List Key) (group 
     among : slice_get (ms.one ∷ ms.others) place ≡ Some here.0
     among = sym (ap (λ (xs : List (Rc Position Global)). slice_get xs place) ms.are) ∙ here.1
 
-    -- it is the one at its place
+    -- the member that was found at a place is the one at its place among the members of its group
     at_is : at_place ms.one.value ms.others place ≡ at
     at_is = place_is ms.one ms.others place here.0 among ∙ here.2
 
-    -- its place is one of the group's
+    -- the place of a member that was found is no greater than the number of members after the first
     low : place ≤ length ms.others
     low = (let l = slice_get_within (ms.one ∷ ms.others) place here.0 among in omega (arith, l))
 
@@ -156,7 +156,7 @@ module _ (w : World) (ops : List Operator) (n i : ℕ) (keys : List Key) (group 
     pub found_of : IsOf w ops i at
     found_of = subst (IsOf w ops i) at_is (each_of w ops i keys (binding w ops i ms.one.value) last ms.one.value 1 ms.others place low ms.of ms.come)
 
-    -- behind it stands the one at the next place
+    -- the member that was found at the next place stands at the next binding of its group
     pub found_next : (next : Position) → IsFound w n number (suc place) next → IsNextMember w ops i keys (binding w ops i first) at (suc place) next
     found_next next f =
         let e : slice_get (ms.one ∷ ms.others) (suc place) ≡ Some f.0 = sym (ap (λ (xs : List (Rc Position Global)). slice_get xs (suc place)) ms.are) ∙ f.1 in

@@ -26,23 +26,23 @@ use Rattle.lazy_binding.proofs.Stay.{cursors_kept, size_kept, seen_kept}
 use Rattle.lazy_binding.proofs.FirstMembers.{none_before_kept}
 
 module _ (a b : World) (ops : List Operator) (bench : IsBench a ops) (k : Keeps a b) (i : ℕ) (keys : List Key) (row : TolledRow) where
-  -- the events of the group among these
+  -- the events of a group among these events, by the earlier documents
   abbrev in_group : RowEvents → RowEvents
   in_group es = same_group (docs_of a) keys row es
 
-  -- whether a binding is of the group
+  -- whether a binding is of a group, by the earlier documents
   abbrev of_group : TolledRow → Bool
   of_group r = same_values (key_values (docs_of a) keys row) (key_values (docs_of a) keys r)
 
-  -- by whichever documents
+  -- the events of a group among these are the same by the earlier and by the later documents
   same_docs : (es : RowEvents) → same_group (docs_of b) keys row es ≡ in_group es
   same_docs es = ap (λ (z : Documents). same_group z keys row es) (docs_kept k ops bench)
 
-  -- those behind an earlier position are the same
+  -- the events of a group after an earlier position are the same by the later world
   same_behind : (c : Position) → IsOf a ops i c → same_group (docs_of b) keys row (ahead b ops i c) ≡ in_group (ahead a ops i c)
   same_behind c h = same_docs (ahead b ops i c) ∙ ap in_group (cursors_kept a b k ops bench i c h).ahead_is
 
-  -- what is told was
+  -- sources that are told in the later world were told in the earlier one
   was_told : IsTrue (is_told b ops) → IsTrue (is_told a ops)
   was_told t = subst IsTrue (told-kept k ops) t
 
@@ -221,7 +221,7 @@ pub passed_there : (w : World) (ops : List Operator) (n i : ℕ) (keys : List Ke
     → IsIn w ops n (passes_on i (first_by_keys keys group)) (Seen' q c k) → IsPassed w ops n i keys group c k
 passed_there w ops n i keys group c k q h = record { cursor = h.0; few = h.5; within = h.2; seen = h.3; before = h.4; past = h.6 }
 
--- so is the first one with its keys
+-- the first binding with its keys is one up to which a walk may have come
 pub passed_first : (w : World) (ops : List Operator) (n i : ℕ) (keys : List Key) (group : Option (Piece × ℕ)) (c : Position) (k : ℕ) (q : Rc (Unit {0}) Global)
     → IsIn w ops n (passes_on i (first_by_keys keys group)) (First' q c k) → IsPassed w ops n i keys group c k
 passed_first w ops n i keys group c k q h = record {
@@ -233,7 +233,7 @@ passed_first w ops n i keys group c k q h = record {
   past = λ t. record { found = ap found (sym (h.9 t)); costs = (let e = ap cost (h.9 t) in omega (arith, e)) };
 }
 
--- two first ones with as many keys have the same members behind them
+-- two positions at first bindings of one operator with as many keys seen have the same events of their group after them
 pub firsts_agree : (w : World) (ops : List Operator) (n i : ℕ) (keys : List Key) (group : Option (Piece × ℕ)) (c d : Position) (k : ℕ) (q u : Rc (Unit {0}) Global)
     → IsIn w ops n (passes_on i (first_by_keys keys group)) (First' q c k) → IsIn w ops n (passes_on i (first_by_keys keys group)) (First' u d k) → IsTrue (is_told w ops)
     → key_values (docs_of w) keys (binding w ops i c) ≡ key_values (docs_of w) keys (binding w ops i d)

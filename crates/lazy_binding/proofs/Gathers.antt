@@ -101,7 +101,7 @@ module _ (a b : World) (ops : List Operator) (bench : IsBench a ops) (k : Keeps 
           let z : j < length g.groups = omega (arith, l, ne) in
           subst (HasGroup b ops n i keys r.value j) (sym (begun.others j z)) (has_group_passed j (slice_index_or g.groups j []) (other_keys j z) (h.groups j z))
 
--- nothing is behind the binding that was walked to: the walk has ended
+-- where nothing comes after the binding that was walked to, what was gathered stays right once the walk has ended
 pub gathered_ended : (a b : World) (ops : List Operator) (bench : IsBench a ops) (k : Keeps a b) (n i : ℕ) (keys : List Key) (group : Option (Piece × ℕ)) (g : Gathered)
     → length (seen_at b n) ≡ length (seen_at a n) → (IsTrue (is_told a ops) → found (ahead a ops i g.last) ≡ nothing) → AreGathered a ops n i keys group g
     → AreGathered b ops n i keys group (record { groups = g.groups; last = g.last; ended = true })

@@ -20,15 +20,15 @@ reads-same : (f g : ℕ → Bool) → ((s : ℕ) → f s ≡ g s) → (ops : Lis
 reads-same f g h ops = ap (λ (t : ℕ → Bool). list_all (reads t) ops) (λ i s. h s i)
 
 module _ {a b : World} (k : Keeps a b) (ops : List Operator) where
-  -- the same sources tell their documents
+  -- the sources of the operators are told after a call exactly where they were before
   pub told-kept : is_told b ops ≡ is_told a ops
   told-kept = reads-same b.view.told a.view.told k.view.told ops
 
-  -- the same sources are forward
+  -- the sources of the operators are forward after a call exactly where they were before
   pub forward-kept : is_forward b ops ≡ is_forward a ops
   forward-kept = reads-same b.view.forward a.view.forward k.view.forward ops
 
--- a bound of the roots' weights below n
+-- the weights of the roots of the sources below n are the same after a call
 roots_kept : (a b : View) → KeepsView a b → (n : ℕ) → ((s : ℕ) → s < n → a.knows s (a.root s) ≡ true) → roots_weight b n ≡ roots_weight a n
 roots_kept a b k zero h = refl
 roots_kept a b k (suc n) h =
@@ -48,7 +48,7 @@ module _ {a b : World} (k : Keeps a b) where
       at : (s : ℕ) → docs_of b s ≡ docs_of a s
       at s = ap (λ (n : ℕ). cond (nat_lt s n) (document b.view s) none) k.view.count ∙ within s (nat_lt s a.view.count) refl
 
-  -- the bound is the same
+  -- the number that no cursor of a visit exceeds is the same after a call
   pub bound_kept : (ops : List Operator) → IsBench a ops → bound_of b ≡ bound_of a
   bound_kept ops h =
       ap (roots_weight b.view) k.buffers
@@ -58,13 +58,13 @@ module _ {a b : World} (k : Keeps a b) where
   pub spot_kept : (s : ℕ) (x : Spot) → IsSpotIn a s x → IsSpotIn b s x
   spot_kept s x h = let g = k.goes s h.buffer h.there in record { buffer = g.later; there = g.there; spot = g.goes.spot x h.spot }
 
-  -- it stands at the same place
+  -- a spot of a source's buffer stands at the same place after a call
   pub place_kept : (s : ℕ) (x : Spot) → IsSpotIn a s x → place_in b s x ≡ place_in a s x
   place_kept s x h =
       let g = k.goes s h.buffer h.there in
       ap (of_buffer [] (λ c. place_of c x)) g.there ∙ g.goes.place x h.spot ∙ sym (ap (of_buffer [] (λ c. place_of c x)) h.there)
 
-  -- at the same node
+  -- a spot of a source's buffer stands at the same node after a call
   pub node_kept : (s : ℕ) (x : Spot) → IsSpotIn a s x → spot_node b s x ≡ spot_node a s x
   node_kept s x h = ap (λ (p : List ℕ). record { source = s; place = p }) (place_kept s x h)
 
@@ -85,7 +85,7 @@ goes_idle v b = record {
   siblings = λ x i c. c;
 }
 
--- a buffer that went on twice
+-- a buffer that goes on, and then goes on again, goes on from the first to the last
 goes_twice : {u v w : View} {x y z : Buffer} → Goes u x v y → Goes v y w z → Goes u x w z
 goes_twice g h = record {
   number = h.number ∙ g.number;
@@ -117,11 +117,11 @@ keeps_walked w walked stay = record {
   found = stay;
 }
 
--- nothing happened
+-- where nothing is called, what every call keeps is kept
 pub keeps_same : (w : World) (ops : List Operator) → IsBench w ops → Keeps w w
 keeps_same w ops h = keeps_walked w w.walked (λ n number place c f. f)
 
--- one call after another
+-- where two calls each keep what every call keeps, both together do
 pub keeps_then : {a b c : World} → Keeps a b → Keeps b c → Keeps a c
 keeps_then {a} {b} {c} k l = record {
   view = keeps_twice a.view b.view c.view k.view l.view;

@@ -13,7 +13,7 @@ use Rattle.plan_core.specs.Valid.{kinds, Kinds, AreNodes}
 use Rattle.lazy_binding.specs.Keys.{IsNodeKey}
 use Rattle.lazy_binding.proofs.Bound.{fit_nodes, fit_at}
 
--- a key of nodes, and others
+-- each key is of a node, where all are
 each_node : (keys : List Key) (k : Kinds) → AreNodes keys k → AllByRecursion (IsNodeKey k) keys
 each_node [] k h = tt
 each_node (key ∷ keys) k h =
@@ -31,7 +31,7 @@ pub keys_fit : (ops : List Operator) → IsTyped ops → (n : ℕ) → n < lengt
     → AllByRecursion (IsNodeKey (kinds ops i)) keys
 keys_fit ops typed n within i keys group e = each_node keys (kinds ops i) (fit_nodes keys group (kinds ops i) (fit_at ops typed n within (passes_on i (first_by_keys keys group)) e))
 
--- so is each of them
+-- the key at an index is of a node, where all are
 pub node_key_at : (k : Kinds) (keys : List Key) → AllByRecursion (IsNodeKey k) keys → (i : ℕ) (key : Key) → i < length keys → key ≡ get_or keys i key → IsNodeKey k key
 node_key_at k [] h i key l e = absurd (omega (arith, l))
 node_key_at k (x ∷ keys) h zero key l e = subst (IsNodeKey k) (sym e) h.0

@@ -44,7 +44,7 @@ all_read test (o ∷ ops) (suc n) h s e t = all_read test ops n (omega (arith, h
 pub told_read : (w : World) (ops : List Operator) (s : ℕ) → IsRead ops s → IsTrue (is_told w ops) → w.view.told s ≡ true
 told_read w ops s r t = all_read w.view.told ops r.number r.within s r.is t
 
--- where they are forward, each of them is
+-- where the sources that operators read are forward, each of them is
 pub forward_read : (w : World) (ops : List Operator) (s : ℕ) → IsRead ops s → IsTrue (is_forward w ops) → w.view.forward s ≡ true
 forward_read w ops s r t = all_read w.view.forward ops r.number r.within s r.is t
 

@@ -21,7 +21,7 @@ use Rattle.lazy_binding.proofs.Keep.{docs_kept, told-kept}
 use Rattle.lazy_binding.proofs.Stay.{cursors_kept, size_kept}
 
 module _ (w : World) (ops : List Operator) (i : ℕ) (by : Option Link) where
-  -- the last of them is a position of the operator
+  -- the last of these members is a position of the operator
   pub last_is : (at : Position) (n : ℕ) (ms : List Member) → IsOf w ops i at → AreNext w ops i by at n ms → IsOf w ops i (last_of at ms)
   last_is at n [] of h = of
   last_is at n (m ∷ ms) of h = last_is m.1.value (suc n) ms h.0.cursor h.1
@@ -34,7 +34,7 @@ module _ {a b : World} (k : Keeps a b) (ops : List Operator) (bench : IsBench a 
       ∙ ap (λ (z : TolledRow). label_at (docs_of b) (row_node z v)) (sym same)
   link_label-kept i by_node v m same = refl
 
-  -- so does that by which a binding is found
+  -- the label by which a binding of the right side is looked up stays
   pub member_label-kept : (i : ℕ) (by : Option Link) (m : Position) → binding b ops i m ≡ binding a ops i m → member_label a ops i by m ≡ member_label b ops i by m
   member_label-kept i None m same = refl
   member_label-kept i (Some link) m same = link_label-kept i link.by link.right m same
@@ -55,12 +55,12 @@ module _ {a b : World} (k : Keeps a b) (ops : List Operator) (bench : IsBench a 
           label_is = λ t. h.label_is (sym (told-kept k ops) ∙ t) ∙ member_label-kept i by m here.binding_is;
         }
 
-    -- so are all
+    -- members that come one after another do so after every call
     next_kept : (at : Position) (n : ℕ) (ms : List Member) → IsOf a ops i at → AreNext a ops i by at n ms → AreNext b ops i by at n ms
     next_kept at n [] of h = tt
     next_kept at n (m ∷ ms) of h = (member_kept at n m.0 m.1.value of h.0, next_kept m.1.value (suc n) ms h.0.cursor h.1)
 
-  -- a memo stays one
+  -- a memo holds the first bindings of its operator after every call
   pub members_kept : (i : ℕ) (by : Option Link) (m : Kept (Rc Position Global)) → AreMembers a ops i by m → AreMembers b ops i by m
   members_kept i by m h = record {
     next = next_kept i by Start 0 m.pairs tt h.next;
@@ -69,7 +69,7 @@ module _ {a b : World} (k : Keeps a b) (ops : List Operator) (bench : IsBench a 
         ap found last.ahead_is ∙ h.all e (sym (told-kept k ops) ∙ t);
   }
 
-  -- so do all memos, where they are the same
+  -- where the memos are the same, each holds the first bindings of its operator still
   pub same_members : b.memos ≡ a.memos → HasMembers b ops
   same_members same n l r tests e =
       subst (AreMembers b ops r (link_at ops n)) (sym (ap (λ (z : List (Kept (Rc Position Global))). memo_at (record { view = a.view; buffers = a.buffers; seen = a.seen; memos = z; walked = a.walked }) n) same))

@@ -22,7 +22,7 @@ use Rattle.lazy_binding.specs.Sides.{with_other, others, node_var, shape_right, 
 use Rattle.lazy_binding.proofs.Bound.{with_none, either_none, kinds_at, inputs_at}
 use Rattle.lazy_binding.proofs.FirstLists.{take_map}
 
--- a part of a list, each member changed
+-- a mapped list without its first elements is the list without them, mapped
 drop_map : {X Y : Type 0} (f : X → Y) (xs : List X) (few : ℕ) → drop few (map f xs) ≡ map f (drop few xs)
 drop_map f xs zero = refl
 drop_map f [] (suc few) = refl
@@ -46,12 +46,12 @@ between ops n l r tests x inside e s =
     ∙ ap (others (kinds (map op_of ops) l)) (sym (take_map op_of (drop (suc l) ops) (n - suc l)) ∙ ap (take (n - suc l)) (sym (drop_map op_of ops (suc l))))
     ∙ ap (shape_right (map op_of ops) n) (sym (shape_read ops n x (pairs_up l r tests) inside e s))
 
--- nothing is no kind
+-- a kind that is not there is missing
 none_is : (k : Option Kind) → is_some k ≡ false → k ≡ None
 none_is None e = refl
 none_is (Some k) e = cc
 
--- one of these variables is none of the side's
+-- a variable among those that a side does not bind is not bound by it
 pub other_lacks : (side : Kinds) (os : List Operator) (v : ℕ) → list_any (λ u. u == v) (others side os) ≡ true → side v ≡ None
 other_lacks side [] v h = cc
 other_lacks side (o ∷ os) v h = by_var (node_var (shape_of o)) (other_lacks side os v) h
@@ -122,7 +122,7 @@ module _ (ops : List Operator) (typed : IsTyped ops) where
     no_spot_nth i h (one_more q c rest) zero v k = no_spot i h (shape_at ops i) refl c v k
     no_spot_nth i h (one_more q c rest) (suc m) v k = no_spot_nth i h rest m v k
 
-  -- of a variable of the right side alone the spot in a pair is that in its right part
+  -- the spot of a variable of the right side alone in a pair is that in its right part
   pub right_spot : (n l r : ℕ) (tests : List Test) (q q' : _) (x y : Position) (m v : ℕ) → n < length ops → shape_at ops n ≡ pairs_up l r tests → list_any (λ u. u == v) (right_vars ops n) ≡ true
       → spot_in ops r y v ≡ spot_in ops n (Pair' q x q' y m) v
   right_spot n l r tests q q' x y m v h e g =

@@ -46,7 +46,7 @@ module _ (ones : SpotsAreOne) (w : World) where
   same_part-is free_part q h k = absurd h
   same_part-is p free_part h k = absurd k
 
-  -- so are keys
+  -- keys of parts that are known compare by their parts as by their values
   pub same_parts-is : (ps qs : List KeyPart) → AllByRecursion (IsPart w) ps → AllByRecursion (IsPart w) qs → same_parts ps qs ≡ same_values (map (part_value w) ps) (map (part_value w) qs)
   same_parts-is [] [] h k = refl
   same_parts-is [] (q ∷ qs) h k = refl

@@ -26,7 +26,7 @@ pub node_right : (k : Kinds) (op : TestOp) (right : Operand) (v : ℕ) → IsOpe
 node_right k op (var_operand u) v h e = (let f : u ≡ v = cc in ap k (sym f) ∙ h)
 node_right k op (text_operand label) v h e = cc
 
--- and never with a text
+-- a comparison of nodes has no text as an operand
 pub no_text : (k : Kinds) (op : TestOp) (right : Operand) (label : List ℕ) → IsOperand k op right → compares_nodes op ≡ true → right ≡ text_operand label → ⊥
 no_text k op (var_operand u) label h n e = cc
 no_text k op (text_operand l) label h n e = cc
@@ -41,10 +41,10 @@ module _ (ops : List Operator) (n : ℕ) (c : Position) (t : Test) (nodes : comp
       ∙ ap (same_node (row_node (binding w ops n c) t.left)) (sym g.node)
       ∙ sym (passes_nodes (docs_of w) t (row_node (binding w ops n c)) v nodes is)
 
-  -- in one source it holds where both are one spot
+  -- a comparison of two nodes of one source holds exactly where both are one spot
   pub in_one_source : s ≡ r → (x.number == y.number) ≡ passes (docs_of w) t (row_node (binding w ops n c))
   in_one_source e = sym (ap (λ (z : Bool). z && (x.number == y.number)) (eq-eqb s r e)) ∙ same_spots
 
-  -- in two sources it doesn't hold
+  -- a comparison of two nodes of different sources does not hold
   pub in_two_sources : (s ≡ r → ⊥) → (s == r) ≡ passes (docs_of w) t (row_node (binding w ops n c))
   in_two_sources e = ne_eqb s r e ∙ sym (ap (λ (z : Bool). z && (x.number == y.number)) (ne_eqb s r e)) ∙ same_spots

@@ -47,7 +47,7 @@ module _ {X : Type 0} (p : X → Bool) where
       by_case true e more = absurd (omega (arith, (rw e at h)))
       by_case false e more = rw e (more (omega (arith, (rw e at h))))
 
-  -- at its place
+  -- where the first element that passes a test is at place i, one of the first few does exactly where i is less than few
   any_some : (xs : List X) (few i : ℕ) → position p xs ≡ Some i → list_any p (take few xs) ≡ nat_lt i few
   any_some xs few i h = by_case (nat_lt (position_or_len p xs) (length xs)) refl
     where
@@ -111,7 +111,7 @@ module _ (key : List KeyPart) (k : SmallVec KeyPart) (same : same_parts k.items 
   equal : IsEquivalence same_parts
   equal = lists_equiv part_equivalence
 
-  -- it is none that differs from all behind it
+  -- an element that differs from all of these has no key that one of them has
   apart_from : (xs : List (SmallVec KeyPart)) (x : SmallVec KeyPart) (i : ℕ) → AllByRecursion (λ y. same_key x y ≡ false) xs → slice_get xs i ≡ Some k → same_parts key x.items ≡ false
   apart_from [] x i d e = cc
   apart_from (y ∷ xs) x zero d e =
@@ -131,11 +131,11 @@ module _ (key : List KeyPart) (k : SmallVec KeyPart) (same : same_parts k.items 
   one_there (x ∷ xs) (suc i) e = ap (λ (b : Bool). same_parts key x.items || b) (one_there xs i e) ∙ or_true (same_parts key x.items)
 
   module _ (ks : List (SmallVec KeyPart)) (i : ℕ) (there : slice_get ks i ≡ Some k) where
-    -- is none of those before it
+    -- a key at a place is none of those before it
     pub unseen_before : IsDistinct same_key ks → was_seen key (take i (map (λ j. j.items) ks)) ≡ false
     unseen_before d = few_is key ks i ∙ none_before ks i d there
 
-    -- and one of those up to it
+    -- a key at a place is one of those up to it
     pub seen_up_to : was_seen key (take (suc i) (map (λ j. j.items) ks)) ≡ true
     seen_up_to = few_is key ks (suc i) ∙ one_there ks i there
 

@@ -22,7 +22,7 @@ use Rattle.lazy_binding.specs.SortedLists.{sorts, ArePositions, bindings_at}
 use Rattle.lazy_binding.specs.Reading.{nth, below}
 use Rattle.lazy_binding.specs.Spots.{spot_at, spot_in, spot_nth}
 
--- all of one list and of another are all of both
+-- a property of all elements of two lists is one of both lists one after the other
 pub all_both : {X : Type 0} (P : X → Type 0) (xs ys : List X) → AllByRecursion P xs → AllByRecursion P ys → AllByRecursion P (xs ++ ys)
 all_both P [] ys a b = b
 all_both P (x ∷ xs) ys a b = (a.0, all_both P xs ys a.1 b)
@@ -33,7 +33,7 @@ found_at [] k l = absurd (omega (arith, l))
 found_at (x ∷ rows) zero l = refl
 found_at (x ∷ rows) (suc k) l = found_at rows k (omega (arith, l))
 
--- nothing is found behind the end
+-- no binding is found after the end of a list of bindings
 pub found_past : (rows : List TolledRow) (k : ℕ) → length rows ≤ k → found (map bind (drop k rows)) ≡ nothing
 found_past [] zero l = refl
 found_past [] (suc k) l = refl
@@ -52,7 +52,7 @@ pub as_made : (q : _) (m : _) (row : Row _) (k : ℕ) → (list : Rc (Vec (Rc Po
 unfolding roll-Position denote.Hole.Carrier.roll
 as_made q m row k = (_, rolls-Sorted _ _ ∙ ap roll-Position (sym (outs-Sorted' q m row k)) ∙ roll-out-Position (Sorted' q m row k))
 
--- as many positions as members
+-- a sorted list has as many positions as members
 count_items : (m : _) (row : Row m) → count row ≡ length (items m row)
 count_items m no_more = refl
 count_items m (one_more q c rest) = ap suc (count_items _ rest)
@@ -93,7 +93,7 @@ module _ (w : World) (ops : List Operator) (i : ℕ) where
   in_items m no_more h = tt
   in_items m (one_more q c rest) h = (h.0.0, h.0.1, in_items _ rest h.1)
 
-  -- and back
+  -- a sorted list whose positions are ones of an operator has members that are
   items_in : (m : _) (row : Row m) → AreIn w ops i row → ArePositions w ops i (items m row)
   items_in m no_more h = tt
   items_in m (one_more q c rest) h = ((h.0, h.1), items_in _ rest h.2)
@@ -107,7 +107,7 @@ module _ (list : Rc (Vec (Rc Position Global) Global) Global) (k : ℕ) where
   pub list_below : (p : Rc Position Global) → slice_get list.value.items k ≡ Some p → below (Sorted list k) ≡ p.value
   list_below p h = let l = list_of (Sorted list k) in nth_items l.0 l.1 k p (ap (λ (xs : List (Rc Position Global)). slice_get xs k) (items_are list.value) ∙ h)
 
-  -- there is none behind the end
+  -- past the end of a sorted list stands the position before all events
   pub list_past : slice_get list.value.items k ≡ None → below (Sorted list k) ≡ Start
   list_past h = let l = list_of (Sorted list k) in nth_past l.0 l.1 k (ap (λ (xs : List (Rc Position Global)). slice_get xs k) (items_are list.value) ∙ h)
 
@@ -120,7 +120,7 @@ module _ (list : Rc (Vec (Rc Position Global) Global) Global) (k : ℕ) where
   list_no_spot ops i v h = let l = list_of (Sorted list k) in spot_past ops i v l.0 l.1 k (ap (λ (xs : List (Rc Position Global)). slice_get xs k) (items_are list.value) ∙ h)
 
   module _ (w : World) (ops : List Operator) (i : ℕ) where
-    -- its bindings are those at which its positions stand
+    -- the bindings of a sorted list are those at which its positions stand
     pub list_rows : rows_in w ops i (list_of (Sorted list k)).1 ≡ bindings_at w ops i list.value.items
     list_rows = let l = list_of (Sorted list k) in rows_items w ops i l.0 l.1 ∙ ap (bindings_at w ops i) (items_are list.value)
 
@@ -128,7 +128,7 @@ module _ (list : Rc (Vec (Rc Position Global) Global) Global) (k : ℕ) where
     pub list_in : ArePositions w ops i list.value.items → AreIn w ops i (list_of (Sorted list k)).1
     list_in h = let l = list_of (Sorted list k) in in_items w ops i l.0 l.1 (subst (ArePositions w ops i) (sym (items_are list.value)) h)
 
-    -- and back
+    -- positions of an operator make a sorted list of its positions
     pub in_list : AreIn w ops i (list_of (Sorted list k)).1 → ArePositions w ops i list.value.items
     in_list h = let l = list_of (Sorted list k) in subst (ArePositions w ops i) (items_are list.value) (items_in w ops i l.0 l.1 h)
 

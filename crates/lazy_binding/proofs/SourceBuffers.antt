@@ -21,6 +21,6 @@ member_more P (x ∷ xs) b base f g (suc n) c t =
 from_zero : (k : ℕ) → 0 + k ≡ k
 from_zero k = omega arith
 
--- one buffer more
+-- buffers of the sources, with one more of the next source at the end, are buffers of the sources
 pub buffers_more : (v : View) (bs : List Buffer) (b : Buffer) → AreBuffers v bs → number_of b ≡ length bs → IsSourcesOf v b → AreBuffers v (bs ++ b ∷ [])
 buffers_more v bs b h e s n c there = subst (λ (m : ℕ). (number_of c ≡ m) × IsSourcesOf v c) (from_zero n) (member_more (λ m d. (number_of d ≡ m) × IsSourcesOf v d) bs b 0 (λ k d g. subst (λ (m : ℕ). (number_of d ≡ m) × IsSourcesOf v d) (sym (from_zero k)) (h k d g)) (subst (λ (m : ℕ). (number_of b ≡ m) × IsSourcesOf v b) (sym (from_zero (length bs))) (e, s)) n c there)

@@ -18,7 +18,7 @@ use Rattle.lazy_binding.specs.Cursors.{binding, ahead, stands, source_number, Is
 use Rattle.lazy_binding.specs.Spots.{spot_at, spot_in, spot_nth, or_else}
 use Rattle.lazy_binding.proofs.Bound.{Lacks, value_left, value_more, lacks_more, lacks_both, with_none, with_other, no_list, no_node, fit_nodes, either_none, either_some, kinds_at, inputs_at, fit_at, first_lacks, first_node}
 
--- this is the spot of a variable that holds a node in a binding: it is one of its source, which some operator reads, and the node stands there
+-- an optional spot is that of a variable which holds a node in a binding: it is one of its source, which some operator reads, and the node stands there
 pub record IsSpotThere (w : World) (ops : List Operator) (there : Option (ℕ × Spot)) (row : TolledRow) (v : ℕ) : Type 0 where
   pub source : ℕ
   pub spot : Spot
@@ -27,11 +27,11 @@ pub record IsSpotThere (w : World) (ops : List Operator) (there : Option (ℕ ×
   pub known : IsSpotIn w source spot
   pub value : tolled_value row v ≡ of_source (spot_node w source spot)
 
--- that of a variable in a position's binding, in its shape
+-- the spot of a variable that holds a node is right in a position's binding, in its shape
 abbrev pub IsSpotAt : World → List Operator → ℕ → Shape → Position → ℕ → Type 0
 IsSpotAt w ops n f c v = IsSpotThere w ops (spot_at ops f c v) (stands w ops n f c).row v
 
--- that of an operator's variable
+-- the spot of a variable that holds a node is right in the binding of operator n's cursor
 abbrev pub IsSpotOf : World → List Operator → ℕ → Position → ℕ → Type 0
 IsSpotOf w ops n c v = IsSpotAt w ops n (shape_at ops n) c v
 
@@ -191,7 +191,7 @@ module _ (ops : List Operator) (typed : IsTyped ops) (w : World) where
         record { source = s.source; spot = s.spot; is = s.is; read = s.read; known = s.known; value = s.value }
     spot_is n h f e c of row v k = absurd of
 
-    -- so it has in a sorted list
+    -- the spot of a variable that holds a node is right in the binding at an index of a sorted list
     spot_nth-is : (i : ℕ) → i < length ops → {z : _} (list : Row z) (m : ℕ) → AreIn w ops i list → m < count list → (v : ℕ) → kinds ops i v ≡ Some a_node
         → IsSpotThere w ops (spot_nth ops i list m v) (get_or (rows_in w ops i list) m []) v
     spot_nth-is i h no_more m of l v k = absurd (omega (arith, l))

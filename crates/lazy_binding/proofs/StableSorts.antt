@@ -84,7 +84,7 @@ module _ {X : Type 0} (lt : X → X → Bool) (o : IsStrictWeakOrder lt) where
   all_insert P x (y ∷ xs) p a =
       elim (lt y x) as (λ t. AllByRecursion P (cond t (y ∷ insert_by lt x xs) (x ∷ y ∷ xs))) [ true ↦ (a.0, all_insert P x xs p a.1) | false ↦ (p, a) ]
 
-  -- and where all are sorted
+  -- a property of all elements of a list is one of all elements of it once sorted
   pub all_sorted : (P : X → Type 0) (xs : List X) → AllByRecursion P xs → AllByRecursion P (sorted_by lt xs)
   all_sorted P [] a = tt
   all_sorted P (x ∷ xs) a = all_insert P x (sorted_by lt xs) a.0 (all_sorted P xs a.1)
@@ -113,7 +113,7 @@ module _ {X : Type 0} (lt : X → X → Bool) (o : IsStrictWeakOrder lt) where
         | false ↦ λ e. ((e, chained x y xs e r.0), r)
       ] refl
 
-  -- so does sorting
+  -- a list that is sorted rises
   rises_sorted : (xs : List X) → Rises (sorted_by lt xs)
   rises_sorted [] = tt
   rises_sorted (x ∷ xs) = rises_insert x (sorted_by lt xs) (rises_sorted xs)
@@ -152,7 +152,7 @@ module _ {X : Type 0} (lt : X → X → Bool) (o : IsStrictWeakOrder lt) where
         | false ↦ λ e. refl
       ] refl
 
-  -- so does sorting
+  -- sorting keeps elements that tie in their order
   stable_sorted : (xs : List X) → IsStableBy lt xs (sorted_by lt xs)
   stable_sorted [] z = refl
   stable_sorted (x ∷ xs) z = stable_insert z x (sorted_by lt xs) ∙ ap (λ (zs : List X). cond (ties lt z x) (x ∷ zs) zs) (stable_sorted xs z)

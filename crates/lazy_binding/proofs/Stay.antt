@@ -42,7 +42,7 @@ module _ (a b : World) (k : Keeps a b) (ops : List Operator) (bench : IsBench a 
   at_old : {A : Type 0} (x : A) (f : Buffer → A) (s : ℕ) (d : DescCursor) (h : IsMatchIn a s d) → of_buffer x f (buffer_at a s) ≡ f h.buffer
   at_old x f s d h = ap (of_buffer x f) h.there
 
-  -- and afterwards
+  -- what a function makes of a source's buffer after a call is what it makes of the buffer that went on
   at_new : {A : Type 0} (x : A) (f : Buffer → A) (s : ℕ) (d : DescCursor) (h : IsMatchIn a s d) → of_buffer x f (buffer_at b s) ≡ f (k.goes s h.buffer h.there).later
   at_new x f s d h = ap (of_buffer x f) (k.goes s h.buffer h.there).there
 
@@ -50,17 +50,17 @@ module _ (a b : World) (k : Keeps a b) (ops : List Operator) (bench : IsBench a 
   match_kept : (s : ℕ) (d : DescCursor) → IsMatchIn a s d → IsMatchIn b s d
   match_kept s d h = record { buffer = (k.goes s h.buffer h.there).later; there = (k.goes s h.buffer h.there).there; cursor = (stays_in s d h (machine_of (record { labels = []; behind = []; live = 0; first = 0 }))).cursor }
 
-  -- at the same place
+  -- a cursor of a visit stands at the same place after a call
   match_place-kept : (s : ℕ) (d : DescCursor) → IsMatchIn a s d → match_place b s d ≡ match_place a s d
   match_place-kept s d h =
       at_new [] (λ c. place_at c d) s d h ∙ (stays_in s d h (machine_of (record { labels = []; behind = []; live = 0; first = 0 }))).place ∙ sym (at_old [] (λ c. place_at c d) s d h)
 
-  -- with the same events behind it
+  -- a cursor of a visit has the same events after it once a call was made
   match_ahead-kept : (s : ℕ) (m : Machine) (d : DescCursor) → IsMatchIn a s d → match_ahead b s m d ≡ match_ahead a s m d
   match_ahead-kept s m d h =
       at_new [] (λ c. ahead_of b.view c m d) s d h ∙ (stays_in s d h m).ahead ∙ sym (at_old [] (λ c. ahead_of a.view c m d) s d h)
 
-  -- and no greater number
+  -- a cursor of a visit has no greater number after a call
   match_number-kept : (s : ℕ) (d : DescCursor) → IsMatchIn a s d → match_number b s d ≤ match_number a s d
   match_number-kept s d h =
       let e = at_new 0 (λ c. number_of_match b.view c d) s d h in
@@ -78,12 +78,12 @@ module _ (a b : World) (k : Keeps a b) (ops : List Operator) (bench : IsBench a 
   part_kept (label_part label) h = refl
   part_kept free_part h = absurd h
 
-  -- so do the parts of a key
+  -- the parts of a key compare the same after a call
   pub parts_kept : (key : List KeyPart) → AllByRecursion (IsPart a) key → map (part_value b) key ≡ map (part_value a) key
   parts_kept [] h = refl
   parts_kept (p ∷ key) h = ap (λ (x : KeyValue). x ∷ map (part_value b) key) (part_kept p h.0) ∙ ap (λ (xs : List KeyValue). part_value a p ∷ xs) (parts_kept key h.1)
 
-  -- and all keys
+  -- keys that were seen compare the same after a call
   pub values_kept : (keys : List (List KeyPart)) → AllByRecursion (AllByRecursion (IsPart a)) keys → seen_values b keys ≡ seen_values a keys
   values_kept [] h = refl
   values_kept (key ∷ keys) h =
@@ -155,14 +155,14 @@ module _ (a b : World) (k : Keeps a b) (ops : List Operator) (bench : IsBench a 
         ap (λ (rows : List TolledRow). record { row = get_or rows m []; ahead = map bind (drop (suc m) rows) }) (rows_kept i row h.0)
     standing_kept n f c h = absurd h
 
-    -- so do the bindings of a sorted list
+    -- the bindings of a sorted list are the same after a call
     rows_kept : (i : ℕ) → {m : _} (row : Row m) → AreIn a ops i row → rows_in b ops i row ≡ rows_in a ops i row
     rows_kept i no_more h = refl
     rows_kept i (one_more q c rest) h =
         ap (λ (z : Standing). z.row ∷ rows_in b ops i rest) (standing_kept i (shape_at ops i) c h.0)
         ∙ ap (λ (rows : List TolledRow). binding a ops i c ∷ rows) (rows_kept i rest h.2)
 
-  -- its number doesn't rise
+  -- an earlier position's number does not rise
   number_kept : (n : ℕ) (f : Shape) (c : Position) → IsIn a ops n f c → weighs b ops n f c ≤ weighs a ops n f c
   number_kept n f Start h = let e = size_kept n in omega (arith, e)
   number_kept n (one_source s out) (Top t x) h = omega arith
@@ -188,7 +188,7 @@ module _ (a b : World) (k : Keeps a b) (ops : List Operator) (bench : IsBench a 
   number_kept n f c h = absurd h
 
   mutual
-    -- it is a position of the operator still
+    -- an earlier position of an operator is one still after a call
     cursor_kept : (n : ℕ) (f : Shape) (c : Position) → IsIn a ops n f c → IsIn b ops n f c
     cursor_kept n f Start h = tt
     cursor_kept n (one_source s out) (Top t x) h = (h.0, spot_kept k t x h.1, place_kept k t x h.1 ∙ h.2)
@@ -258,7 +258,7 @@ module _ (a b : World) (k : Keeps a b) (ops : List Operator) (bench : IsBench a 
     cursor_kept n (passes_on i (in_order v desc)) (Sorted' q z row m) h = (let e = size_kept n in (all_kept i row h.0, h.1, omega (arith, e, h.2)))
     cursor_kept n f c h = absurd h
 
-    -- so are those of a sorted list
+    -- the positions of a sorted list are positions of their operator still after a call
     all_kept : (i : ℕ) → {m : _} (row : Row m) → AreIn a ops i row → AreIn b ops i row
     all_kept i no_more h = tt
     all_kept i (one_more q c rest) h = (cursor_kept i (shape_at ops i) c h.0, h.1, all_kept i rest h.2)

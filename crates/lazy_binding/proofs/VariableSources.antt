@@ -41,7 +41,7 @@ module _ (ops : List Operator) (typed : IsTyped ops) (n : ℕ) (within : n < len
   source_at v = ap (λ (g : ℕ → Option ℕ). g v) (by_number-is (λ o. shape_source (shape_of o)) (λ v. None) ops n source-reads (typed.inputs n within))
       ∙ ap (λ (g : Shape). shape_source g (source_var ops) v) e
 
--- the same of an operator that is known
+-- the source of a variable of operator n is that of its shape, by its inputs' variables
 pub source_var-of : (ops : List Operator) → IsTyped ops → (n : ℕ) → n < length ops → (o : Operator) (v : ℕ) → o ≡ op_at ops n → source_var ops n v ≡ shape_source (shape_of o) (source_var ops) v
 source_var-of ops typed n h o v e = source_at ops typed n h (shape_of o) (sym (ap shape_of e)) v
 
@@ -55,7 +55,7 @@ abbrev source_in : Option (ℕ × Spot) → Option ℕ
 source_in None = None
 source_in (Some p) = Some p.0
 
--- one spot or else the other
+-- the source of the first of two spots that is there is the first of their sources that is there
 source_either : (p q : Option (ℕ × Spot)) → source_in (or_else p q) ≡ or_other (source_in p) (source_in q)
 source_either None q = refl
 source_either (Some p) q = refl
@@ -111,24 +111,24 @@ module _ (ops : List Operator) (typed : IsTyped ops) (w : World) where
         ∙ sym (source_at ops typed n h (pairs_up l r tests) e v)
     source_is n h f e c of row v = absurd of
 
-    -- so it is in a sorted list
+    -- the source of the spot of a variable at an index of a sorted list is that of the variable
     source_nth : (i : ℕ) → i < length ops → {z : _} (list : Row z) (m : ℕ) → AreIn w ops i list → m < count list → (v : ℕ) → source_in (spot_nth ops i list m v) ≡ source_var ops i v
     source_nth i h no_more m of l v = absurd (omega (arith, l))
     source_nth i h (one_more q c rest) zero of l v = source_is i h (shape_at ops i) refl c of.0 of.1 v
     source_nth i h (one_more q c rest) (suc m) of l v = source_nth i h rest m of.2 (omega (arith, l)) v
 
-  -- so is that of its node
+  -- the source of the node that a variable holds in a cursor's binding is that of the variable
   pub node_source : (n : ℕ) → n < length ops → (c : Position) → IsOf w ops n c → IsTrue (has_row c) → (v : ℕ) → kinds ops n v ≡ Some a_node
       → source_var ops n v ≡ Some ((row_node (binding w ops n c) v).source)
   node_source n h c of row v k =
       let x = spot_is ops typed w n h (shape_at ops n) refl c of row v k in
       sym (source_is n h (shape_at ops n) refl c of row v) ∙ ap source_in x.is ∙ ap Some (sym (ap (λ (y : Node). y.source) (ap source_node x.value)))
 
--- the same source
+-- two sources that are there and equal are one
 pub same_some : (x y : ℕ) → Some x ≡ Some y → x ≡ y
 same_some x y e = cc
 
--- one source or the other
+-- a node variable of both sides together has a source
 either_source : (j k : Option Kind) (p q : Option ℕ) → either_kind j k ≡ Some a_node → (j ≡ Some a_node → (s : ℕ) × (p ≡ Some s)) → (k ≡ Some a_node → (s : ℕ) × (q ≡ Some s)) → (s : ℕ) × (or_other p q ≡ Some s)
 either_source (Some j) k (Some x) q e f g = (x, refl)
 either_source (Some j) k None q e f g = let z = f e in let y : None ≡ Some z.0 = z.1 in cc

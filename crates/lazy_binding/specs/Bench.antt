@@ -17,7 +17,7 @@ use Rattle.lazy_binding.specs.Cursors.{HasSeen, gathers_by}
 use Rattle.lazy_binding.specs.Gathering.{AreGathered}
 use Rattle.lazy_binding.specs.World.{World, docs_of, is_told, buffer_at, seen_at, seen_values, memo_at, reached_at, gathered_at, IsPart}
 
--- the input of a shape that drops bindings whose keys were seen, and these keys
+-- the input of a shape that keeps the first bindings by keys, and these keys; none of any other shape
 abbrev pub drops_by : Shape → Option (ℕ × List Key)
 drops_by (passes_on i (first_by_keys keys group)) = Some (i, keys)
 drops_by f = None
@@ -26,18 +26,17 @@ drops_by f = None
 abbrev pub HasMembers : World → List Operator → Type 0
 HasMembers w ops = (n l r : ℕ) (tests : List Test) → shape_at ops n ≡ pairs_up l r tests → AreMembers w ops r (link_at ops n) (memo_at w n)
 
--- where the group at hand of an operator was walked to a binding of its input, that is one whose keys are among those that the group was found with
+-- where the group at hand of an operator was walked to a binding of its input, the keys of that binding are among those that the operator had seen when it found the group
 abbrev pub HasReached : World → List Operator → Type 0
 HasReached w ops = (n : ℕ) (r : Reached) → reached_at w n ≡ Some r → HasSeen w ops n r.below.value r.seen
 
--- of each operator whose groups end with its input the members of its groups were found in one walk
+-- the members of the groups of each operator whose groups end with its input were found in one walk over it
 abbrev pub HasGathered : World → List Operator → Type 0
 HasGathered w ops = (n i : ℕ) (keys : List Key) (group : Option (Piece × ℕ)) → shape_at ops n ≡ passes_on i (first_by_keys keys group)
     → gathers_by ops (passes_on i (first_by_keys keys group)) ≡ true → AreGathered w ops n i keys group (gathered_at w n)
 
--- the root hole of each source is known, the buffers are those of the sources of these operators, where the sources are told, the keys that an operator has seen are the first
--- ones of those that its input has, the members of a join's memo are the first bindings of its right side, groups were walked to bindings of theirs, and the members that were found of groups
--- come one behind another
+-- a bench is sound: the root holes and the buffers are those of its sources, the keys that an operator has seen are the first of those of its input, the members of each memo the first
+-- bindings of its right side, groups were walked to bindings of their inputs, and members that were found come one after another
 pub record IsBench (w : World) (ops : List Operator) : Type 0 where
   pub roots : (s : ℕ) → s < w.view.count → w.view.knows s (w.view.root s) ≡ true
   pub few : length w.buffers ≤ w.view.count

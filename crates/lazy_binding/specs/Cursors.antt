@@ -20,31 +20,31 @@ use Rattle.lazy_descend.specs.declared.cursor.DescCursor.{DescCursor}
 use Rattle.lazy_binding.specs.declared.position.Position.{Position, Start, Top, Whole, Found', Pass', First', Seen', Pair', Sorted', Row_of-Position-Sorted-0-1 as Row, end_of-Position-Sorted-0-1 as no_more, more_of-Position-Sorted-0-1 as one_more}
 use Rattle.lazy_binding.specs.World.{World, docs_of, is_told, spot_node, IsSpotIn, IsMatchIn, match_place, match_ahead, match_number, bound_of, seen_at, seen_values, memo_at, passed, place_in, IsFound}
 
--- the binding and the events ahead, together
+-- what a position stands for: a binding, and the events after it
 pub record Standing : Type 0 where
   pub row : TolledRow
   pub ahead : RowEvents
 
--- the events behind a binding that was found
+-- the events after the binding that was found; none where none was found
 abbrev pub behind_found : Find TolledRow → RowEvents
 behind_found nothing = []
 behind_found (finds row es) = es
 
--- the events behind the first so many bindings among these
+-- the events after the first k bindings among these events
 abbrev pub behind_first : ℕ → RowEvents → RowEvents
 behind_first zero es = es
 behind_first (suc k) es = behind_found (found (behind_first k es))
 
--- this is a binding of these events, with those behind it
+-- a row is one of the bindings among these events, and `later` are the events after it
 abbrev pub IsBindingOf : RowEvents → TolledRow → RowEvents → Type 0
 IsBindingOf es row later = (k : ℕ) × (found (behind_first k es) ≡ finds row later)
 
--- no binding lies between the first of these events and those, which cost no more
+-- the next binding in `later` is the next one in `es`, and `later` costs no more
 pub record IsPast (es later : RowEvents) : Type 0 where
   pub found : found es ≡ found later
   pub costs : cost later ≤ cost es
 
--- the groups of a shape end with its input, so that their members are gathered in one walk
+-- whether the groups of a shape end with its input, so that their members are gathered in one walk
 abbrev pub gathers_by : List Operator → Shape → Bool
 gathers_by ops (passes_on i (first_by_keys keys (Some made))) = not (stops_over ops i keys)
 gathers_by ops f = false
@@ -55,17 +55,17 @@ gathers_by ops f = false
 abbrev pub visit_ahead : World → ℕ → Form → ℕ → TolledRow → ℕ → DescCursor → RowEvents
 visit_ahead w start path out row s d = nodes_found out (row_node row start) row (match_ahead w s (machine_of (table_of path)) d)
 
--- the events of the left bindings behind the present one
+-- the events of a join for the left side's bindings after the present one
 abbrev pub left_ahead : World → List Operator → ℕ → List Test → RowEvents → RowEvents
 left_ahead w ops right tests later = expand (pairs (docs_of w) tests (events (docs_of w) ops right)) later
 
--- the keys that operator n had seen when there were so many
+-- the first k keys that operator n has seen
 abbrev pub up_to : World → ℕ → ℕ → List (List KeyValue)
 up_to w n k = seen_values w (take k (seen_at w n))
 
 -- WHAT POSITIONS STAND AT
 
--- a cursor stands at a binding of its input, or of both
+-- whether a position stands at a binding, and not at an event without one or before all events
 abbrev pub has_row : Position → Bool
 has_row Start = false
 has_row (Top s x) = true
@@ -116,30 +116,30 @@ abbrev mutual
       let rows = rows_in w ops i row in record { row = get_or rows k []; ahead = map bind (drop (suc k) rows) }
   stands w ops n f c = record { row = []; ahead = [] }
 
-  -- the bindings of the input at which a sorted list of its positions stands
+  -- the bindings at which the positions of a sorted list stand
   pub rows_in : World → List Operator → ℕ → {m : _} → Row m → List TolledRow
   rows_in w ops i no_more = []
   rows_in w ops i (one_more q c rest) = (stands w ops i (shape_at ops i) c).row ∷ rows_in w ops i rest
 
--- what a cursor of operator n stands for
+-- what a cursor of operator n stands for: its binding, and the events after it
 abbrev pub standing : World → List Operator → ℕ → Position → Standing
 standing w ops n c = stands w ops n (shape_at ops n) c
 
--- the binding at which a cursor stands
+-- the binding at which a cursor of operator n stands
 abbrev pub binding : World → List Operator → ℕ → Position → TolledRow
 binding w ops n c = (standing w ops n c).row
 
--- the events behind it
+-- the events after the binding at which a cursor of operator n stands
 abbrev pub ahead : World → List Operator → ℕ → Position → RowEvents
 ahead w ops n c = (standing w ops n c).ahead
 
--- a number above those of the positions of a stage, by that of its input. A position of first bindings by keys counts the keys that were not seen up to it before all else
+-- a number above those of all positions of a stage, from that of its input; first bindings by keys count the keys that are still to come before all else
 abbrev pub stage_size : Stage → ℕ → ℕ
 stage_size (one_group piece out) below = 1
 stage_size (first_by_keys keys group) below = suc below * suc below
 stage_size f below = below
 
--- the same of a shape, by the weights of the sources alone
+-- a number above those of all positions of a shape, from those of its inputs and the greatest number of a visit
 abbrev pub shape_size : ℕ → Shape → (ℕ → ℕ) → ℕ
 shape_size bound (one_source s out) of = 1
 shape_size bound (visits_below i start path out) of = of i * suc (suc bound)
@@ -147,11 +147,11 @@ shape_size bound (pairs_up l r tests) of = of l * suc (of r)
 shape_size bound (passes_on i stage) of = stage_size stage (of i)
 shape_size bound (no_events i v) of = 0
 
--- the whole number of operator n, which no call changes
+-- a number above those of all positions of operator n, which no call changes
 unfoldable pub size : World → List Operator → ℕ → ℕ
 size w ops n = by_number (λ o. shape_size (bound_of w) (shape_of o)) 0 ops n
 
--- a number of a position that no call raises, and that falls from event to event
+-- the number of a position of operator n in this shape: no call raises it, and it falls from event to event
 abbrev pub weighs : World → List Operator → ℕ → Shape → Position → ℕ
 weighs w ops n f Start = size w ops n
 weighs w ops n (visits_below i start path out) (Found' s q c d) = weighs w ops i (shape_at ops i) c * suc (suc (bound_of w)) + match_number w s d
@@ -164,34 +164,34 @@ weighs w ops n (pairs_up l r tests) (Pair' q x q' y k) = weighs w ops l (shape_a
 weighs w ops n (passes_on i (in_order v desc)) (Sorted' q m row k) = count row - suc k
 weighs w ops n f c = 0
 
--- the number of a cursor
+-- the number of a cursor of operator n: no call raises it, and it falls from event to event
 abbrev pub number : World → List Operator → ℕ → Position → ℕ
 number w ops n c = weighs w ops n (shape_at ops n) c
 
--- the source that a shape reads
+-- the number of the source that a shape reads; none where it reads none
 abbrev pub source_number : Shape → Option ℕ
 source_number (one_source s out) = Some s
 source_number f = None
 
--- an operator reads the source
+-- one of the operators reads source s
 pub record IsRead (ops : List Operator) (s : ℕ) : Type 0 where
   pub number : ℕ
   pub within : number < length ops
   pub is : source_number (shape_at ops number) ≡ Some s
 
--- each binding whose keys were not seen is ahead of these events, where it is the first one with its keys
+-- no binding whose keys are outside `seen` stands among the events `es` before `later`
 abbrev pub NoneBefore : Documents → List Key → RowEvents → List (List KeyValue) → RowEvents → Type 0
 NoneBefore docs keys es seen later = (row : TolledRow) → is_seen (key_values docs keys row) seen ≡ false → found (same_group docs keys row es) ≡ found (same_group docs keys row later)
 
--- of the bindings with these keys this one is the first, with those events behind it
+-- a row is the first of the bindings in `es` with its keys, and `later` are the events after it
 abbrev pub IsFirstBy : Documents → List Key → RowEvents → TolledRow → RowEvents → Type 0
 IsFirstBy docs keys es row later = found (same_group docs keys row es) ≡ finds row (same_group docs keys row later)
 
 abbrev mutual
-  -- a position of operator n in this shape. A pair stands at the last of the members that were passed. Of first bindings by keys it is also known that the keys ahead of it are those that the input has behind the ones
-  -- seen up to it, that no event before it has other keys, that no more keys were seen than there are bindings, and which of the operator's bindings are ahead: where it stands at a binding, those behind as many as keys
-  -- were seen, and this is the first one with its keys, which were seen last, and where members are gathered the first of its group; else the same up to events without a binding. A project over bindings that are all different by its keys
-  -- has positions that stand at a binding of the input, and no others; a groupBy whose groups end with its input has none but at first bindings
+  -- a position of operator n in this shape is one that a step may have given: what it stands on are such positions at bindings, its spots are known, and a pair stands at the last of the
+  -- members that were passed. A position of first bindings by keys comes after the first k keys that the operator has seen: the keys still ahead of it are the others of its input, and no event
+  -- before it has one of these. At a binding it is the first with the last of the k keys, and of the operator's own bindings those after the first k are ahead of it. A project over bindings that
+  -- are all different by its keys has only positions of bindings of its input, and a groupBy whose groups end with its input only those at first bindings
   pub IsIn : World → List Operator → ℕ → Shape → Position → Type 0
   IsIn w ops n f Start = Unit {0}
   IsIn w ops n (one_source s out) (Top t x) = (t ≡ s) × IsSpotIn w t x × (place_in w t x ≡ [])
@@ -222,12 +222,12 @@ abbrev mutual
   IsIn w ops n (passes_on i (in_order v desc)) (Sorted' q m row k) = AreIn w ops i row × (k < count row) × (count row ≤ size w ops n)
   IsIn w ops n f c = ⊥
 
-  -- a sorted list of positions of operator i, each at a binding
+  -- each position of a sorted list is one of operator i, and stands at a binding
   pub AreIn : World → List Operator → ℕ → {m : _} → Row m → Type 0
   AreIn w ops i no_more = Unit {0}
   AreIn w ops i (one_more q c rest) = IsIn w ops i (shape_at ops i) c × IsTrue (has_row c) × AreIn w ops i rest
 
--- a cursor of operator n
+-- a position is a cursor of operator n
 abbrev pub IsOf : World → List Operator → ℕ → Position → Type 0
 IsOf w ops n c = IsIn w ops n (shape_at ops n) c
 

@@ -14,7 +14,7 @@ use Rattle.lazy_binding.specs.World.{World, docs_of, is_told, seen_at}
 use Rattle.lazy_binding.specs.Cursors.{binding, ahead, number, size, up_to, IsOf, IsPast, NoneBefore, has_row, behind_first}
 use Rattle.lazy_binding.specs.Gathered.{Gathered}
 
--- a position of operator i stands at the next binding with the keys of a row behind another position, behind which k of them come first
+-- position m of operator i stands at the next binding with the keys of a row after position `at`, before which k of them come
 pub record IsNextMember (w : World) (ops : List Operator) (i : ℕ) (keys : List Key) (row : TolledRow) (at : Position) (k : ℕ) (m : Position) : Type 0 where
   pub cursor : IsOf w ops i m
   pub stands : IsTrue (has_row m)
@@ -22,14 +22,14 @@ pub record IsNextMember (w : World) (ops : List Operator) (i : ℕ) (keys : List
   pub found : IsTrue (is_told w ops)
       → found (same_group (docs_of w) keys row (ahead w ops i at)) ≡ finds (binding w ops i m) (same_group (docs_of w) keys row (ahead w ops i m))
 
--- these positions of operator i stand at the bindings with the keys of a row, one behind another, up to the binding that was walked to; behind that one the next comes at no greater cost
+-- these positions of operator i stand at the bindings with the keys of a row after position `at`, one after another, up to position `last`; after that one the next comes at no greater cost
 abbrev pub AreInGroup : World → List Operator → ℕ → List Key → TolledRow → Position → Position → ℕ → List (Rc Position Global) → Type 0
 AreInGroup w ops i keys row last at k [] = (k + number w ops i last ≤ size w ops i)
     × (IsTrue (is_told w ops) → IsPast (same_group (docs_of w) keys row (ahead w ops i at)) (same_group (docs_of w) keys row (ahead w ops i last)))
 AreInGroup w ops i keys row last at k (m ∷ ms) = IsNextMember w ops i keys row at k m.value × AreInGroup w ops i keys row last m.value (suc k) ms
 
--- operator n keeps the first ones of the bindings of its input, i, by these keys, and k of them come up to a position of the input: what is behind it has the keys behind the first k, no
--- event before it has others, and the operator's bindings behind the first k are those that are made behind it
+-- of operator n, which keeps the first bindings of its input i by these keys, the first k come up to position c of the input: after c come the keys after the first k, no event before c has
+-- other keys, and the bindings of operator n after the first k are those that are made after c
 pub record IsPassed (w : World) (ops : List Operator) (n i : ℕ) (keys : List Key) (group : Option (Piece × ℕ)) (c : Position) (k : ℕ) : Type 0 where
   pub cursor : IsOf w ops i c
   pub few : number w ops i c + k ≤ size w ops i
@@ -40,7 +40,7 @@ pub record IsPassed (w : World) (ops : List Operator) (n i : ℕ) (keys : List K
   pub past : IsTrue (is_told w ops) → IsPast (behind_first k (events (docs_of w) ops n))
       (distinct (docs_of w) keys (kept_row (docs_of w) keys (stops_over ops i keys) group) (up_to w n k) (ahead w ops i c))
 
--- the members of the group of number k, counted from 0: the operator's binding behind k others is the first one's, and the others come one behind another
+-- these are the members of group k, counted from 0, of operator n: the binding of operator n after k others is made of the first, and the others come one after another
 abbrev pub HasGroup : World → List Operator → ℕ → ℕ → List Key → Position → ℕ → List (Rc Position Global) → Type 0
 HasGroup w ops n i keys last k [] = ⊥
 HasGroup w ops n i keys last k (m ∷ ms) = ((q : Rc (Unit {0}) Global) → IsOf w ops n (First' q m.value (suc k)))
@@ -48,7 +48,7 @@ HasGroup w ops n i keys last k (m ∷ ms) = ((q : Rc (Unit {0}) Global) → IsOf
     ≡ finds (binding w ops n (First' q m.value (suc k))) (ahead w ops n (First' q m.value (suc k))))
     × IsOf w ops i m.value × AreInGroup w ops i keys (binding w ops i m.value) last m.value 1 ms
 
--- of operator n as many groups were found as it has seen keys, each with its members up to the binding that was walked to, which is the last one where the walk has ended
+-- of operator n as many groups were found as it has seen keys, each with its members up to the binding that was walked to, which is the last one of the input where the walk has ended
 pub record AreGathered (w : World) (ops : List Operator) (n i : ℕ) (keys : List Key) (group : Option (Piece × ℕ)) (g : Gathered) : Type 0 where
   pub count : length g.groups ≡ length (seen_at w n)
   pub walked : IsPassed w ops n i keys group g.last (length g.groups)

@@ -10,17 +10,17 @@ use Rattle.plan_core.specs.Shapes.{Shape, shape_at}
 use Rattle.lazy_binding.specs.Bench.{IsBench}
 use Rattle.lazy_binding.specs.Cursors.{stands, weighs, IsIn, IsOf}
 
--- the buffer of a source goes on
+-- source s has a buffer in the new world too, which goes on from the old one
 pub record GoesOn (old new : World) (s : ℕ) (b : Buffer) : Type 0 where
   pub later : Buffer
   pub there : buffer_at new s ≡ Some later
   pub goes : Goes old.view b new.view later
 
--- the members of groups that were found stay at their places
+-- each member of a group that was found in the old world stands at the same place in the new one
 abbrev pub FoundStay : World → World → Type 0
 FoundStay old new = (n number place : ℕ) (c : Position) → IsFound old n number place c → IsFound new n number place c
 
--- the sources keep what every call of theirs keeps, each buffer goes on, the lists of keys that were seen and the memos only grow, and so do the members of groups that were found
+-- what every call keeps: what the sources keep, buffers that go on, keys that were seen, members of memos and members of groups, which all stay and only become more
 pub record Keeps (old new : World) : Type 0 where
   pub view : KeepsView old.view new.view
   pub buffers : length new.buffers ≡ length old.buffers
@@ -40,14 +40,14 @@ pub record StaysIn (old new : World) (ops : List Operator) (n : ℕ) (f : Shape)
   pub ahead_is : (stands new ops n f c).ahead ≡ (stands old ops n f c).ahead
   pub number_is : weighs new ops n f c ≤ weighs old ops n f c
 
--- so does an earlier cursor of it
+-- an earlier cursor of operator n stands for the same binding, with the same events after it, and its number did not rise
 abbrev pub Stays : World → World → List Operator → ℕ → Position → Type 0
 Stays old new ops n c = StaysIn old new ops n (shape_at ops n) c
 
--- and each of them
+-- each earlier cursor of each operator stands for the same binding, with the same events after it, and its number did not rise
 abbrev pub KeepsCursors : World → World → List Operator → Type 0
 KeepsCursors old new ops = (n : ℕ) (c : Position) → IsOf old ops n c → Stays old new ops n c
 
--- where what every call keeps is kept, each earlier cursor stays
+-- wherever what every call keeps is kept, each earlier cursor stays
 abbrev pub CursorsStay : Type 0
 CursorsStay = (old new : World) (ops : List Operator) → IsBench old ops → Keeps old new → KeepsCursors old new ops

@@ -10,7 +10,7 @@ use Rattle.lazy_binding.specs.declared.key.KeyPart.{KeyPart}
 use Rattle.lazy_binding.specs.declared.key.KeyPart.TheVariants.{Node as node_part, Label as label_part, Free as free_part}
 use Rattle.lazy_binding.specs.Keys.{same_part, part_fed}
 
--- the same part is one part
+-- two parts of keys compare as the same exactly where they are equal
 pub part_decides : (p q : KeyPart) → Decides (same_part p q) (p ≡ q)
 part_decides (node_part s x) (node_part t y) = (λ e. one (and_parts (s == t) (x.number == y.number) e), λ e. two (cc) (cc))
   where
@@ -25,14 +25,14 @@ part_decides (label_part a) (label_part b) = (λ e. ap label_part ((bytes_decide
 part_decides free_part free_part = (λ e. refl, λ e. refl)
 part_decides p q = (λ e. cc, λ e. cc)
 
--- so it is an equivalence
+-- the comparison of parts of keys is an equivalence
 pub part_equivalence : IsEquivalence same_part
 part_equivalence = decided same_part part_decides
 
--- and a partial one
+-- the comparison of parts of keys is symmetric and transitive
 pub part_partial_equivalence : IsPartialEquivalence same_part
 part_partial_equivalence = partial_equiv_from_equiv part_equivalence
 
--- the same parts feed a hasher alike
+-- parts of keys that are the same feed a hasher alike
 pub part_alike : Alike same_part part_fed
 part_alike = same_Alike part_fed part_decides

@@ -20,12 +20,12 @@ abbrev pub link_label : World → List Operator → ℕ → LinkKind → ℕ →
 link_label w ops n by_label v c = label_at (docs_of w) (row_node (binding w ops n c) v)
 link_label w ops n by_node v c = spot_text (spot_in ops n c v)
 
--- the label by which a binding of the right side is found; where nothing is looked up, no bytes
+-- the label by which a binding of a join's right side is looked up; no bytes where nothing is looked up
 abbrev pub member_label : World → List Operator → ℕ → Option Link → Position → List ℕ
 member_label w ops i None c = []
 member_label w ops i (Some link) c = link_label w ops i link.by link.right c
 
--- a position of operator i stands at the next binding behind another, behind which k members come first; its label is that by which its binding is found
+-- position m of operator i stands at the next binding after position `at`, before which k members come, and the label is the one by which m is looked up
 pub record IsMember (w : World) (ops : List Operator) (i : ℕ) (by : Option Link) (at : Position) (k : ℕ) (label : List ℕ) (m : Position) : Type 0 where
   pub cursor : IsOf w ops i m
   pub row : IsTrue (has_row m)
@@ -33,12 +33,12 @@ pub record IsMember (w : World) (ops : List Operator) (i : ℕ) (by : Option Lin
   pub found : IsTrue (is_told w ops) → found (ahead w ops i at) ≡ finds (binding w ops i m) (ahead w ops i m)
   pub label_is : IsTrue (is_told w ops) → label ≡ member_label w ops i by m
 
--- so does each of these, one behind another
+-- these members of operator i stand at its next bindings after position `at`, one after another, the first with k members before it
 abbrev pub AreNext : World → List Operator → ℕ → Option Link → Position → ℕ → List Member → Type 0
 AreNext w ops i by at k [] = Unit {0}
 AreNext w ops i by at k (m ∷ ms) = IsMember w ops i by at k m.0 m.1.value × AreNext w ops i by m.1.value (suc k) ms
 
--- a memo of operator i: its first bindings, and all of them where it has ended
+-- a memo holds the first bindings of operator i, and all of them where it has ended
 pub record AreMembers (w : World) (ops : List Operator) (i : ℕ) (by : Option Link) (m : Kept (Rc Position Global)) : Type 0 where
   pub next : AreNext w ops i by Start 0 m.pairs
   pub all : IsTrue m.ended → IsTrue (is_told w ops) → found (ahead w ops i (last_of Start m.pairs)) ≡ nothing

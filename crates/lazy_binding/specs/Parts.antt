@@ -16,16 +16,16 @@ use Rattle.lazy_binding.specs.declared.parts.Fixed.{Fixed}
 use Rattle.lazy_binding.specs.declared.parts.Growing.{Growing}
 use Rattle.lazy_binding.specs.declared.parts.Walk.{Walk}
 
--- the operators of the plan
+-- the operators of the plan of a bench
 abbrev pub operators : Fixed → List Operator
 operators f = map op_of f.plan.ops.items
 
--- what a view and what has grown are together
+-- the world of a bench: what its sources mean, and what has grown
 abbrev pub world_of : View → Growing → World
 world_of v g = world v g.buffers.items g.seen.items g.memos.items g.walked
 
--- the plan is valid, each path has its automaton, and of each operator it is told whether its groups end at the first other key, whether it passes on bindings that are all different by its keys, by
--- which variables members are looked up, and which are those of its right side alone
+-- what is computed once, before any step, is right: the plan is valid, each path has its automaton, and of each operator it is told whether its groups end at the first other key, whether
+-- it passes on all bindings of its input, by which link members are looked up, and which variables are those of its right side alone
 pub record IsFixed (f : Fixed) : Type 0 where
   pub valid : IsValid (plan_value f.plan)
   pub typed : IsTyped (operators f)
@@ -37,6 +37,6 @@ pub record IsFixed (f : Fixed) : Type 0 where
   pub sides : length f.rights.items ≡ length (operators f)
   pub rights : AreRights (operators f) f.rights.items
 
--- the shape of an operator that is walked
+-- the shape of the operator that is walked
 abbrev pub shape_walked : Walk → Shape
 shape_walked k = shape_at (operators k.fixed.now) k.op

@@ -15,24 +15,24 @@ use Rattle.lazy_binding.specs.Parts.{operators, world_of}
 use Rattle.lazy_descend.specs.Cursors.{spot_of}
 use Rattle.lazy_binding.specs.declared.position.Position.{Position, Start, Top, Found', Pass', First', Seen', Pair', Sorted', Row_of-Position-Sorted-0-1 as Row, end_of-Position-Sorted-0-1 as no_more, more_of-Position-Sorted-0-1 as one_more}
 
--- the spot at which a part of a position stands, with its source
+-- the spot at which a position itself stands, with its source; none where it only stands on positions of inputs
 abbrev pub held : Position → Option (ℕ × Spot)
 held (Top t x) = Some (t, x)
 held (Found' s q c d) = Some (s, spot_of d.frame)
 held c = None
 
--- of a part, where there is one
+-- the spot at which a position that may be missing stands, with its source
 abbrev pub held_in : Option (Bor Position) → Option (ℕ × Spot)
 held_in None = None
 held_in (Some p) = held p.now
 
--- a position of a sorted list
+-- the position at an index of a sorted list; past its end the one before all events
 abbrev pub nth : {m : _} → Row m → ℕ → Position
 nth no_more k = Start
 nth (one_more q c rest) zero = c
 nth (one_more q c rest) (suc k) = nth rest k
 
--- the position of the input in a position, or that of the left input
+-- the position of the input in a position, or that of the left input; without an input the one before all events
 abbrev pub below : Position → Position
 below (Found' s q c d) = c
 below (Pass' q c) = c
@@ -42,30 +42,30 @@ below (Pair' q l q' r k) = l
 below (Sorted' q m row k) = nth row k
 below c = Start
 
--- how many keys were seen up to a position
+-- how many keys of the operator were seen up to a position
 abbrev pub count_of : Position → ℕ
 count_of (First' q c k) = k
 count_of (Seen' q c k) = k
 count_of c = 0
 
--- the spot of a variable's node
+-- spot x of source s is that of variable v's node in the binding of a cursor of operator n
 pub record Found (w : World) (ops : List Operator) (n : ℕ) (c : Position) (v s : ℕ) (x : Spot) : Type 0 where
   pub read : IsRead ops s
   pub known : IsSpotIn w s x
   pub node : row_node (binding w ops n c) v ≡ spot_node w s x
 
--- in each world of which this is a position of an operator that is walked, so much holds of the world and the binding there
+-- in each world of which a position is one of the operator that is walked, this holds of the world and of the binding there
 abbrev pub InEachWorld : Walk → Position → (World → TolledRow → Type 0) → Type 0
 InEachWorld k c holds = (w : World) → IsOf w (operators k.fixed.now) k.op c → holds w (binding w (operators k.fixed.now) k.op c)
 
--- some sources and their bench, of which this is a position of an operator that is walked
+-- some sources, with what has grown, are a bench of which a position is one of the operator that is walked
 abbrev pub HasStand : Growing → Walk → Position → Type 0
 HasStand g k c = (view : View) × IsBench (world_of view g) (operators k.fixed.now) × IsOf (world_of view g) (operators k.fixed.now) k.op c
 
--- whatever the sources are, if this is such a position, so much holds in their world
+-- whatever the sources are, if a position is one of the operator that is walked, this holds in their world
 abbrev pub InEach : Growing → Walk → Position → (World → Type 0) → Type 0
 InEach g k c holds = (view : View) → IsBench (world_of view g) (operators k.fixed.now) → IsOf (world_of view g) (operators k.fixed.now) k.op c → holds (world_of view g)
 
--- and where the sources that the plan reads are told, so much of their documents and the binding there
+-- where the sources that the plan reads are told, and a position is one of the operator that is walked, this holds of their world, their documents and the binding there
 abbrev pub Tells : Growing → Walk → Position → (World → Documents → TolledRow → Type 0) → Type 0
 Tells g k c holds = InEach g k c (λ w. IsTrue (is_told w (operators k.fixed.now)) → holds w (docs_of w) (binding w (operators k.fixed.now) k.op c))

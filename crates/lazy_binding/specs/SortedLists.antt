@@ -13,15 +13,15 @@ use Rattle.lazy_binding.specs.declared.position.Position.{Position}
 use Rattle.lazy_binding.specs.World.{World}
 use Rattle.lazy_binding.specs.Cursors.{binding, has_row, IsOf}
 
--- the shape of an orderBy
+-- the shape of an orderBy of input i by the label of variable v
 abbrev pub sorts : ℕ → ℕ → Bool → Shape
 sorts i v desc = passes_on i (in_order v desc)
 
--- positions of an operator, each at a binding
+-- each of these positions is one of operator i, and stands at a binding
 abbrev pub ArePositions : World → List Operator → ℕ → List (Rc Position Global) → Type 0
 ArePositions w ops i places = AllByRecursion (λ c. IsOf w ops i c.value × IsTrue (has_row c.value)) places
 
--- the bindings at which they stand
+-- the bindings of operator i at which these positions stand
 abbrev pub bindings_at : World → List Operator → ℕ → List (Rc Position Global) → List TolledRow
 bindings_at w ops i places = map (λ c. binding w ops i c.value) places
 

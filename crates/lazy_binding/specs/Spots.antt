@@ -11,7 +11,7 @@ use Rattle.plan_core.specs.Shapes.{Shape, one_source, visits_below, pairs_up, fi
 use Rattle.lazy_descend.specs.Cursors.{spot_of}
 use Rattle.lazy_binding.specs.declared.position.Position.{Position, Top, Found', Pass', First', Pair', Sorted', Row_of-Position-Sorted-0-1 as Row, end_of-Position-Sorted-0-1 as no_more, more_of-Position-Sorted-0-1 as one_more}
 
--- one spot, or else the other
+-- the first of two optional spots that is there
 abbrev pub or_else : Option (ℕ × Spot) → Option (ℕ × Spot) → Option (ℕ × Spot)
 or_else None p = p
 or_else (Some p) q = Some p
@@ -29,13 +29,13 @@ abbrev mutual
   spot_at ops (passes_on i (in_order u desc)) (Sorted' q m row k) v = spot_nth ops i row k v
   spot_at ops f c v = None
 
-  -- that of a position of a sorted list
+  -- the spot of a variable in the binding at an index of a sorted list, with its source
   pub spot_nth : List Operator → ℕ → {m : _} → Row m → ℕ → ℕ → Option (ℕ × Spot)
   spot_nth ops i no_more k v = None
   spot_nth ops i (one_more q c rest) zero v = spot_at ops (shape_at ops i) c v
   spot_nth ops i (one_more q c rest) (suc k) v = spot_nth ops i rest k v
 
--- the spot of a variable in a cursor's binding
+-- the spot of a variable in the binding of operator n's cursor, with its source; none where the variable holds no node
 abbrev pub spot_in : List Operator → ℕ → Position → ℕ → Option (ℕ × Spot)
 spot_in ops n c v = spot_at ops (shape_at ops n) c v
 

@@ -16,12 +16,12 @@ part_in f c i = below c
 abbrev pub part_at : List Operator → ℕ → Position → ℕ → Position
 part_at ops n c i = part_in (shape_at ops n) c i
 
--- the first, or else the other
+-- the first of two optional numbers that is there
 abbrev pub or_other : Option ℕ → Option ℕ → Option ℕ
 or_other None p = p
 or_other (Some s) p = Some s
 
--- the source of a variable's nodes behind a stage, by those of the input's
+-- the source of the nodes that a variable holds after a stage, by the sources of its input's variables
 abbrev pub stage_source : Stage → (ℕ → Option ℕ) → ℕ → Option ℕ
 stage_source (filters test) of v = of v
 stage_source (extends out made) of v = of v
@@ -29,7 +29,7 @@ stage_source (first_by_keys keys group) of v = cond (has_var keys v) (of v) None
 stage_source (one_group piece out) of v = None
 stage_source (in_order w desc) of v = of v
 
--- the same of each shape
+-- the source of the nodes that a variable of a shape holds, by the sources of its inputs' variables
 abbrev pub shape_source : Shape → (ℕ → ℕ → Option ℕ) → ℕ → Option ℕ
 shape_source (one_source s out) of v = cond (out == v) (Some s) None
 shape_source (visits_below input start path out) of v = cond (out == v) (of input start) (of input v)

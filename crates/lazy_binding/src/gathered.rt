@@ -33,7 +33,7 @@ impl Model for Gathered {
     ghost view = { λ g. record { groups = map (λ m. m.items) g.groups.items; last = or_start g.last; ended = g.ended } };
 }
 
-/// One more member of the group of a number.
+/// Puts one more member into the group of a number.
 fn join_group(
     groups: &mut Vec<Vec<Rc<Position>>>,
     number: usize,
@@ -51,7 +51,7 @@ fn join_group(
     }
 }
 
-/// One more group, of a key that was not seen, with its first member. Where memory is wanting, groups and keys are as they were.
+/// Begins a group, of a key that was not seen, with its first member. Where memory is wanting, groups and keys are as they were.
 fn begin_group(
     alloc: Global,
     groups: &mut Vec<Vec<Rc<Position>>>,
@@ -75,7 +75,7 @@ fn begin_group(
 }
 
 impl Gathered {
-    /// Nothing was walked. It takes no memory.
+    /// The groups of an operator whose input was not walked yet. It takes no memory.
     pub fn new(alloc: Global) -> Gathered
         ensures { result ≡ no_groups }
     {
@@ -136,14 +136,14 @@ impl Gathered {
         self.ended
     }
 
-    /// No more bindings will come.
+    /// Notes that all bindings of the input were walked to.
     pub fn end(&mut self)
         ensures { self.new ≡ record { groups = self.old.groups; last = self.old.last; ended = true } }
     {
         self.ended = true;
     }
 
-    /// The next binding of the input, which has this key: one more member of the group of the key, or the first of a new one. Where memory is
+    /// Puts the next binding of the input, which has this key, into the group of the key, or makes it the first of a new one. Where memory is
     /// wanting, all is as it was.
     pub fn push(
         &mut self,

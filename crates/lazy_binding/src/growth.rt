@@ -15,7 +15,7 @@ use mix_tree::Label;
 use std::alloc::Global;
 use std::rc::Rc;
 
-/// One more member behind those of an operator's memo.
+/// Puts one more member after those of an operator's memo.
 pub fn push_member(
     alloc: Global,
     memos: &mut Vec<Memo<Rc<Position>>>,
@@ -49,7 +49,7 @@ pub fn last_member(alloc: Global, memo: &Memo<Rc<Position>>) -> Result<Rc<Positi
     }
 }
 
-/// No more members will come to an operator's memo.
+/// Notes that no more members come to an operator's memo.
 pub fn end_members(memos: &mut Vec<Memo<Rc<Position>>>, op: usize)
     requires { op < length memos.old.items }
     ensures others { OthersStay memos.old.items memos.new.items op }
@@ -60,7 +60,7 @@ pub fn end_members(memos: &mut Vec<Memo<Rc<Position>>>, op: usize)
     memo.end();
 }
 
-/// Whether a key is new behind the first few; where it is the newest of all, it stands behind them then.
+/// Whether a key is new after the first few; where it is the newest of all, it is put after them.
 pub fn is_first(list: &mut SeenKeys, key: KeyTuple, count: usize) -> Result<bool, WalkFault>
     requires { count ≤ length list.old }
     ensures err { IfErr result (λ e. e ≡ OutOfMemory) }
@@ -76,7 +76,7 @@ pub fn is_first(list: &mut SeenKeys, key: KeyTuple, count: usize) -> Result<bool
     list.push(key)
 }
 
-/// No more members will come to the groups of an operator.
+/// Notes that no more members come to the groups of an operator.
 pub fn end_groups(walked: &mut Walked, op: usize)
     requires { op < length walked.old.gathered.items }
     ensures others { OthersGathered walked.old walked.new op }
@@ -87,7 +87,7 @@ pub fn end_groups(walked: &mut Walked, op: usize)
     gathered.end();
 }
 
-/// A group was walked to a binding of its operator's input.
+/// Notes that a group was walked to a binding of its operator's input.
 pub fn reach(walked: &mut Walked, op: usize, to: Reached)
     requires { op < length walked.old.reached.items }
     ensures { IsReached walked.old walked.new op to }
@@ -95,7 +95,7 @@ pub fn reach(walked: &mut Walked, op: usize, to: Reached)
     walked.reached[op] = Some(to);
 }
 
-/// Where the group at a position was walked, the last member that was found; `None` exactly where it isn't known.
+/// The position at the last member that was found of the group at a position; `None` exactly where it was not walked or is not known.
 pub fn resume(growing: &Growing, op: usize, at: &Position) -> Result<Option<Position>, WalkFault>
     requires op { op < length growing.now.walked.reached.items }
     ensures err { IfErr result (λ e. e ≡ OutOfMemory) }

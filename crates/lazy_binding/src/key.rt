@@ -90,7 +90,7 @@ impl Model for SeenKeys {
 }
 
 impl SeenKeys {
-    /// No keys.
+    /// The keys of an operator that has seen none.
     pub fn new(alloc: Global) -> SeenKeys
         ensures { result ≡ [] }
     {
@@ -106,7 +106,7 @@ impl SeenKeys {
         self.keys.len()
     }
 
-    /// Whether a key stands at a place. So it is none of those before.
+    /// Whether a key stands at a place; then it stands at no place before.
     pub fn stands_at(&self, place: usize, key: &KeyTuple) -> bool
         ensures is { place < length self.now → result ≡ same_parts (slice_index_or self.now place []) key.now.items }
         ensures before { IsTrue result → was_seen key.now.items (take place self.now) ≡ false }
@@ -118,7 +118,7 @@ impl SeenKeys {
         }
     }
 
-    /// Whether a key is among the first few. No key is hashed where it is the last of them, or the one behind.
+    /// Whether a key is among the first few. No key is hashed where it is the last of them, or the next one.
     pub fn begins_with(&self, few: usize, key: &KeyTuple) -> bool
         ensures { result ≡ was_seen key.now.items (take few self.now) }
     {
@@ -139,7 +139,8 @@ impl SeenKeys {
         ensures within { IfSome result (λ m. m < length self.now) }
         ensures none { is_none result ≡ true → (few : ℕ) → was_seen key.now.items (take few self.now) ≡ false }
         ensures some { IfSome result (λ m. (few : ℕ) → nat_lt m few ≡ was_seen key.now.items (take few self.now)) }
-        ensures alone { (j : ℕ) → j < length self.now → same_parts (slice_index_or self.now j []) key.now.items ≡ true → was_seen key.now.items (take j self.now) ≡ false }
+        ensures alone { let items = key.now.items in
+            (j : ℕ) → j < length self.now → same_parts (slice_index_or self.now j []) items ≡ true → was_seen items (take j self.now) ≡ false }
     {
         if self.keys.len() == 0 {
             return None;
@@ -147,7 +148,7 @@ impl SeenKeys {
         self.keys.get_index_of(key)
     }
 
-    /// A key that was not seen stands behind the others; whether it is one. No key is hashed where it is the last of them.
+    /// Puts a key after the others where it was not seen; whether it did so. No key is hashed where it is the last of them.
     pub fn push(&mut self, key: KeyTuple) -> Result<bool, WalkFault>
         ensures new { IfOk result (λ new. new ≡ not (was_seen key.items self.old)) }
         ensures ok { IfOk result (λ new. self.new ≡ (if new then self.old ++ key.items ∷ [] else self.old)) }

@@ -39,7 +39,7 @@ pub fn sort_labelled(rows: &mut Vec<Labelled>, desc: bool) -> Result<(), AllocEr
     Ok(())
 }
 
-/// The positions of these, in their order.
+/// The positions of these labelled ones, in their order.
 pub fn places(alloc: Global, rows: Vec<Labelled>) -> Result<Vec<Rc<Position>>, AllocError>
     ensures { IfOk result (λ list. list.items ≡ map (λ row. row.place) rows.items) }
 {

@@ -54,7 +54,7 @@ fn automaton(alloc: Global, op: &Op) -> Result<Option<Auto>, AllocError>
     }
 }
 
-/// The automata of the operators' paths.
+/// The automaton of each operator's path, where it has one.
 pub fn automata(alloc: Global, ops: &[Op]) -> Result<Vec<Option<Auto>>, AllocError>
     requires { (n : ℕ) → n < length ops.now → HasShortPath (op_at (map op_of ops.now) n) }
     ensures { IfOk result (λ autos. autos.items ≡ map (λ op. table_in (op_of op)) ops.now) }
@@ -66,7 +66,7 @@ pub fn automata(alloc: Global, ops: &[Op]) -> Result<Vec<Option<Auto>>, AllocErr
     Ok(autos)
 }
 
-/// For each operator that it has seen no keys.
+/// The keys that each operator has seen before any step: none.
 pub fn no_keys(alloc: Global, count: usize) -> Result<Vec<SeenKeys>, AllocError>
     ensures length { IfOk result (λ seen. length seen.items ≡ count) }
     ensures none { IfOk result (λ seen. (n : ℕ) → slice_index_or seen.items n [] ≡ []) }
@@ -78,7 +78,7 @@ pub fn no_keys(alloc: Global, count: usize) -> Result<Vec<SeenKeys>, AllocError>
     Ok(seen)
 }
 
-/// For each operator a memo without members.
+/// The memo of each operator before any step: one without members.
 pub fn no_memos(alloc: Global, count: usize) -> Result<Vec<Memo<Rc<Position>>>, AllocError>
     ensures length { IfOk result (λ memos. length memos.items ≡ count) }
     ensures none { IfOk result (λ memos. (n : ℕ) → slice_index_or memos.items n no_pairs ≡ no_pairs) }
@@ -90,7 +90,7 @@ pub fn no_memos(alloc: Global, count: usize) -> Result<Vec<Memo<Rc<Position>>>, 
     Ok(memos)
 }
 
-/// For each operator that no group of it was walked.
+/// How far the group at hand of each operator was walked before any step: not at all.
 pub fn none_reached(alloc: Global, count: usize) -> Result<Vec<Option<Reached>>, AllocError>
     ensures length { IfOk result (λ reached. length reached.items ≡ count) }
     ensures none { IfOk result (λ reached. (n : ℕ) → slice_index_or reached.items n None ≡ None) }
@@ -102,7 +102,7 @@ pub fn none_reached(alloc: Global, count: usize) -> Result<Vec<Option<Reached>>,
     Ok(reached)
 }
 
-/// For each operator that no members of its groups were found.
+/// The members that were found of the groups of each operator before any step: none.
 pub fn none_gathered(alloc: Global, count: usize) -> Result<Vec<Gathered>, AllocError>
     ensures length { IfOk result (λ gathered. length gathered.items ≡ count) }
     ensures none { IfOk result (λ gathered. (n : ℕ) → slice_index_or gathered.items n no_groups ≡ no_groups) }

@@ -79,7 +79,7 @@ fn part(here: &Position) -> Option<&Rc<Position>>
     }
 }
 
-/// The same, where want of memory alone can stand in the way.
+/// The position of the input in a position, where it fails for want of memory alone.
 pub(crate) fn input_part(alloc: Global, at: &Position) -> Result<Rc<Position>, AllocError>
     ensures { IfOk result (λ r. r.value ≡ below at.now) }
 {

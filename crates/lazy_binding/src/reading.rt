@@ -14,6 +14,7 @@ ghost use Rattle.lazy_binding.specs.Spots.{spot_in, spot_text};
 
 use crate::parts::{Growing, Walk};
 use crate::position::Position;
+use itoa::Buffer;
 use mix_tree::{Label, Operand, Test, TestOp, Var};
 use std::alloc::{AllocError, Global};
 use std::default::Default;
@@ -28,8 +29,8 @@ fn text_of(alloc: Global, source: u32, spot: Spot) -> Result<Label, AllocError>
     let mut state = FoldHasher::default();
     spot.hash(&mut state);
     let number = state.finish() % 0x1_0000_0000;
-    let digits = format!(in alloc; "{number}")?;
-    Label::of_text(alloc, digits.as_str().as_bytes())
+    let mut digits = Buffer::new();
+    Label::of_text(alloc, digits.format(number).as_bytes())
 }
 
 impl Walk<'_> {

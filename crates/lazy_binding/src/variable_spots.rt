@@ -12,7 +12,7 @@ use plan_core::Op;
 use plan_forms::names_var;
 use tree_buffer::Spot;
 
-/// Whether a variable is one of these.
+/// Whether a variable is among these.
 fn is_among(vars: &[Var], v: Var) -> bool
     ensures { result ≡ list_any (λ u. u == v) vars.now }
 {

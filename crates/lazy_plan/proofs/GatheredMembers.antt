@@ -25,13 +25,13 @@ use Rattle.lazy_steps.specs.Gathers.{IsFurther, members_behind}
 use Rattle.lazy_steps.specs.Steps.{Asks, telling}
 use Rattle.lazy_steps.proofs.Goes.{asks_nothing, tells_on, untouched_then}
 
--- there are fewer events behind a binding than there are with it
+-- there are fewer events after a binding than with it
 fewer : (es : RowEvents) (r : TolledRow) (rest : RowEvents) → found es ≡ finds r rest → length rest < length es
 fewer [] r rest e = cc
 fewer (skip ∷ es) r rest e = (let l = fewer es r rest e in omega (arith, l))
 fewer (bind b ∷ es) r rest e = (let same : es ≡ rest = cc in let l = ap length same in omega (arith, l))
 
--- so none of them is that binding again
+-- the events after a binding are not those with it
 not_again : (es : RowEvents) (r : TolledRow) → found es ≡ finds r es → ⊥
 not_again es r e = (let l = fewer es r es e in omega (arith, l))
 
@@ -48,7 +48,7 @@ module _ (ops : List Operator) (n i : ℕ) (keys : List Key) (made : Piece × �
   abbrev whole : RowEvents
   whole = members_behind a ops i keys first at
 
-  -- those that the walk of all groups has left, in a later world
+  -- the events of a group that the walk over the input has left, in a later world
   abbrev left : World → RowEvents
   left w = members_behind w ops i keys first (gathered_at w n).last
 
@@ -60,15 +60,15 @@ module _ (ops : List Operator) (n i : ℕ) (keys : List Key) (made : Piece × �
   good : (w : World) → IsBench w ops → AreGathered w ops n i keys (Some made) (gathered_at w n)
   good w h = h.gathered n i keys (Some made) is by
 
-  -- the first member is a position of the input
+  -- the first member of the group is a position of the input
   first_of : IsOf a ops i first
   first_of = found_of a ops n i keys (Some made) (good a bench) count first begun first 0 begun
 
-  -- so is this one
+  -- the member from which the group is walked is a position of the input
   at_of : IsOf a ops i at
   at_of = found_of a ops n i keys (Some made) (good a bench) count first begun at place here
 
-  -- at the beginning
+  -- a walk to the next member begins with all of its events ahead
   pub comes_here : Comes a
   comes_here = record {
     asks = asks_nothing a ops n (keeps_same a ops bench) whole;
@@ -113,7 +113,7 @@ module _ (ops : List Operator) (n i : ℕ) (keys : List Key) (made : Piece × �
       none = λ s. k.none s ∙ come.asks.none s;
     }
 
-    -- one more member of a group was found
+    -- a walk to the next member goes on by one more member of some group
     pub behind_on : IsBench e ops → IsFurther b e ops n i keys → Comes e
     behind_on last m = record {
       asks = behind_asks;
@@ -130,7 +130,7 @@ module _ (ops : List Operator) (n i : ℕ) (keys : List Key) (made : Piece × �
         last_is : (gathered_at e n).last ≡ m.next
         last_is = m.goes.2.last ∙ m.goes.1
 
-        -- the first member is a position in between
+        -- the first member of the group is a position of the input in a later world
         first_then : IsOf b ops i first
         first_then = (cursors_kept a b come.asks.kept ops bench i first first_of).cursor
 

@@ -67,7 +67,7 @@ group_shape (over i (group_by [] piece out)) h = cc
 group_shape (over i (group_by (k ∷ keys) piece out)) h = ((piece, out), refl)
 group_shape o h = cc
 
--- its groups end at the first other key, or with its input
+-- the groups of a groupBy by keys end at the first other key, or with its input
 pub group_stops : (ops : List Operator) (o : Operator) → form o ≡ gathers_groups → op_stops ops o ≡ stops_over ops (input_of o) (keys_of o)
 group_stops ops (over i (group_by [] piece out)) h = cc
 group_stops ops (over i (group_by (k ∷ keys) piece out)) h = refl
@@ -118,7 +118,7 @@ group_begins w p n c d m f k e g =
 keeps_reached : (b : World) (walked : Walked) → walked.gathered ≡ b.walked.gathered → Keeps b (world b.view b.buffers b.seen b.memos walked)
 keeps_reached b walked same = keeps_walked b walked (found_same b b.seen walked (λ n. ap (λ (z : Vec Gathered Global). slice_index_or z.items n no_groups) same))
 
--- that a group was walked on leaves a bench
+-- a bench stays sound where it notes that a group was walked on
 pub reached_bench : (b : World) (ops : List Operator) → IsBench b ops → (walked : Walked) (n : ℕ) (to : Reached) → IsReached b.walked walked n to → HasSeen b ops n to.below.value to.seen
     → IsBench (world b.view b.buffers b.seen b.memos walked) ops
 reached_bench b ops late walked n to r seen = record {
@@ -215,11 +215,11 @@ module _ {place : ℕ} (a b : World) (p : Plan) (op m : ℕ) (first at : Positio
   begun : IsIn a ops op (passes_on i (first_by_keys keys made)) (First' q first m)
   begun = subst (λ (z : Shape). IsIn a ops op z (First' q first m)) at_shape (g.begins q)
 
-  -- its members aren't gathered, since it ends at the first other key
+  -- the members of a group that ends at the first other key are not gathered
   walked_on : gathers_by ops (passes_on i (first_by_keys keys made)) ≡ false
   walked_on = ap not (sym (group_stops ops (op_at ops op) is) ∙ stops)
 
-  -- it was walked to one of them
+  -- the group was walked to one of its members
   member : IsIn a ops op (passes_on i (first_by_keys keys made)) (Seen' q at m)
   member = subst (λ (z : Shape). IsIn a ops op z (Seen' q at m)) at_shape (g.member stops q)
 
@@ -287,7 +287,7 @@ module _ {place : ℕ} (a b : World) (p : Plan) (op m : ℕ) (first at : Positio
           (goes_past ops op i keys made refl walked_on typed within at_shape a (Seen' q at m) member b bench k d f late key parts val ones
           (ap (λ (z : ℕ). was_seen key (take z (seen_at b op))) (sym one) ∙ seen) u).cursor
 
-      -- it is the next member
+      -- the next binding of the input is the next member of the group where its keys are those of the group
       pub member_found : (walked : Walked) → walked.gathered ≡ b.walked.gathered → same_parts (slice_index_or (seen_at b op) (m - 1) []) key ≡ true
           → Searches.Finds (told_by (record { world = a; plan = p })) (members_of (record { world = world b.view b.buffers b.seen b.memos walked; plan = p }) op m first (suc place))
           (group_ahead (record { world = a; plan = p }) op first at) (size a ops i - place) d

@@ -54,7 +54,7 @@ module _ (a : World) (p : Plan) (op m place : ℕ) (first at : Position) (is : f
   pub next_shape : shape_at ops op ≡ passes_on i (first_by_keys keys (Some next_made))
   next_shape = (group_shape (op_at ops op) is).1
 
-  -- its groups end with its input
+  -- the groups of the operator end with its input
   pub next_gathers : gathers_by ops (passes_on i (first_by_keys keys (Some next_made))) ≡ true
   next_gathers = ap not (sym (group_stops ops (op_at ops op) is) ∙ among)
 
@@ -62,7 +62,7 @@ module _ (a : World) (p : Plan) (op m place : ℕ) (first at : Position) (is : f
   some : Rc (Unit {0}) Global
   some = record { ptr = (g.placed among).0.ptr; value = tt }
 
-  -- the first member was found
+  -- the first member of the group was found at its place
   pub first_found : IsFound a op m 0 first
   first_found = (subst (λ (z : Shape). IsIn a ops op z (First' some first m)) next_shape (g.begins some)).11 next_gathers
 
@@ -70,7 +70,7 @@ module _ (a : World) (p : Plan) (op m place : ℕ) (first at : Position) (is : f
   events_are : (w : World) (x : Position) → group_ahead (record { world = w; plan = p }) op first x ≡ members_behind w ops i keys first x
   events_are w x = ap (λ (v : Bool). passing v (λ row. same_values (key_values (docs_of w) keys (binding w ops i first)) (key_values (docs_of w) keys row)) (ahead w ops i x)) among
 
-  -- none is behind the member
+  -- where none of the events after a member is of its group, the group has no more members
   pub next_none : FindsNone (telling a ops) (members_behind a ops i keys first at) → FindsNone (telling a ops) (group_ahead (record { world = a; plan = p }) op first at)
   next_none h t = ap found (events_are a at) ∙ h t
 

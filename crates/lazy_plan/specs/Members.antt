@@ -9,13 +9,13 @@ use Rattle.lazy_binding.specs.declared.parts.Growing.{Growing}
 use Rattle.lazy_binding.specs.declared.position.Position.{Position}
 use Rattle.lazy_binding.specs.Parts.{operators, world_of}
 use Rattle.lazy_binding.specs.World.{IsFound}
-use Rattle.lazy_steps.specs.declared.gather_steps.Gathers.{Gathers}
+use Rattle.lazy_steps.specs.declared.gather_steps.Gather.{Gather}
 use Rattle.lazy_plan.specs.declared.groups.GroupFrom.{GroupFrom}
 use Rattle.lazy_steps.specs.Steps.{telling, Ran, HasCause}
 use Rattle.lazy_steps.specs.Gathers.{members_behind}
 
--- what a call for the member at the next place of a group leaves and answers: none is behind the present one, or it was found there
-pub record NextWalked {S : Type 0} (view : S → View) (came_from : S → S → Type 0) (k : Gathers) (g : GroupFrom) (s : S) (old : Growing) (s' : S) (new : Growing)
+-- what a call for the member at the next place of a group leaves and answers: none comes after the present one, or it was found there
+pub record NextWalked {S : Type 0} (view : S → View) (came_from : S → S → Type 0) (k : Gather) (g : GroupFrom) (s : S) (old : Growing) (s' : S) (new : Growing)
     (result : Result (Option (Rc Position Global)) WalkFault) : Type 0 where
   pub ran : Ran view came_from (operators k.walk.fixed.now) k.walk.op
       (members_behind (world_of (view s) old) (operators k.walk.fixed.now) k.input k.keys.now g.first.now g.at.now) s old s' new

@@ -10,7 +10,7 @@ use crate::bench::Bench;
 use crate::cursor::Cursor;
 use crate::groups::GroupFrom;
 use lazy_binding::{Growing, Position, Walk, share};
-use lazy_steps::Gathers;
+use lazy_steps::Gather;
 use lxp_core::{Sources, WalkFault};
 use plan_forms::{group_keys, input_of};
 use std::alloc::Global;
@@ -21,7 +21,7 @@ fn next_found<S: Sources>(
     alloc: Global,
     growing: &mut Growing,
     s: &mut S,
-    gathers: &Gathers<'_>,
+    gathers: &Gather<'_>,
     group: &GroupFrom<'_>,
 ) -> Result<Option<Rc<Position>>, WalkFault>
     requires fixed { IsFixed gathers.now.walk.fixed.now }
@@ -74,7 +74,7 @@ impl Bench {
             op: group.op as usize,
         };
         let keys = group_keys(&walk.fixed.plan, group.op);
-        let gathers = Gathers::new(walk, input, keys);
+        let gathers = Gather::new(walk, input, keys);
         match next_found(alloc, &mut self.growing, s, &gathers, group)? {
             None => Ok(None),
             Some(position) => Ok(Some(Cursor { position })),

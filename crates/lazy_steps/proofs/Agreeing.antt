@@ -18,7 +18,7 @@ abbrev pub agrees : LinkKind → Documents → Node → Node → Bool
 agrees by_label docs m n = bytes_eq (label_at docs m) (label_at docs n)
 agrees by_node docs m n = same_node m n
 
--- it comes to this, whichever of the two is compared with the other
+-- two nodes agree by labels or by nodes, or differ, whichever of the two is compared with the other
 pub record Agree (by : LinkKind) (docs : Documents) (m n : Node) (verdict : Bool) : Type 0 where
   pub one : agrees by docs m n ≡ verdict
   pub other : agrees by docs n m ≡ verdict

@@ -71,7 +71,7 @@ module _ (ops : List Operator) (n i : ℕ) (keys : List Key) (group : Option (Pi
   firsts_below w (Pass' q c) h = absurd (not_passed w q c h)
   firsts_below w c h = absurd h
 
-  -- no more keys were seen up to it than were seen
+  -- no more keys were seen up to a position of first bindings than the operator has seen
   pub firsts_count : (w : World) (c : Position) → IsIn w ops n F c → count_of c ≤ length (seen_at w n)
   firsts_count w Start h = omega arith
   firsts_count w (First' q c k) h = h.2
@@ -96,7 +96,7 @@ module _ (ops : List Operator) (n i : ℕ) (keys : List Key) (group : Option (Pi
     firsts_passed w (Pass' q c) h = absurd (not_passed w q c h)
     firsts_passed w c h = absurd h
 
-    -- its number is above that of a later position with as many keys
+    -- the number of a position of first bindings is above that of a later position with as many keys seen
     pub firsts_above : (w : World) (c : Position) → IsIn w ops n F c → (m : ℕ) → m < number w ops i (below c) → (size w ops i - count_of c) * suc (size w ops i) + m < weighs w ops n F c
     firsts_above w Start h m l =
         let z = size_at ops typed n within F is w in
@@ -107,7 +107,7 @@ module _ (ops : List Operator) (n i : ℕ) (keys : List Key) (group : Option (Pi
     firsts_above w (Pass' q c) h m l = absurd (not_passed w q c h)
     firsts_above w c h m l = absurd h
 
-    -- and above that of one at a binding, with one key more
+    -- the number of a position of first bindings is above that of one at a binding with one key more
     pub firsts_over_next : (w : World) (c : Position) → IsIn w ops n F c → suc (count_of c) ≤ size w ops i
         → (size w ops i - suc (count_of c)) * suc (size w ops i) + size w ops i < weighs w ops n F c
     firsts_over_next w Start h l =
@@ -139,7 +139,7 @@ module _ (ops : List Operator) (n i : ℕ) (keys : List Key) (group : Option (Pi
           let q = ap cost (firsts_ahead_is a c h) in
           omega (arith, p, q)
 
-      -- nothing below
+      -- where no more bindings of the input come, no more first bindings come
       pub firsts_done : (FindsNone (telling a ops) (ahead a ops i (below c))) → IsTrue (is_told a ops) → found (stands a ops n F c).ahead ≡ nothing
       firsts_done f t =
           ap found (firsts_ahead_is a c h)
@@ -152,7 +152,7 @@ group_some ops i j keys others piece out (Some g) e = refl
 group_some ops i j [] others piece out None e = cc
 group_some ops i j (k ∷ keys) others piece out None e = cc
 
--- it makes something of each group
+-- an operator that makes groups by keys makes something of each group
 pub group_made : (i j : ℕ) (keys others : List Key) (piece : Piece) (out : ℕ) (group : Option (Piece × ℕ)) → shape_of (over i (group_by keys piece out)) ≡ passes_on j (first_by_keys others group)
     → (made : Piece × ℕ) × (group ≡ Some made)
 group_made i j [] others piece out group e = cc

@@ -81,11 +81,11 @@ module _ (ops : List Operator) (n i : ℕ) (keys : List Key) (group : Option (Pi
           abbrev here : World
           here = world b.view b.buffers seen b.memos b.walked
 
-          -- it keeps what every call keeps
+          -- a key that is noted leaves what every call keeps
           kept : Keeps b here
           kept = kept_here ops n i keys group is a (below c) (count_of c) passed b bench k.kept d f late key parts val ones seen b.walked g pushed refl (λ m number place x y. y)
 
-          -- it is a bench
+          -- a key that is noted leaves a sound bench
           pub firsts_bench : IsBench here ops
           firsts_bench =
               passed_bench ops n i keys group is a (below c) (count_of c) passed b bench k.kept d f late key parts val ones seen b.walked g pushed refl (λ m number place x y. y) late.walks
@@ -122,7 +122,7 @@ module _ (ops : List Operator) (n i : ℕ) (keys : List Key) (group : Option (Pi
               few : number here ops i d + suc (count_of c) ≤ size_of here ops i
               few = few_here ops n i keys group is a (below c) (count_of c) passed b bench k.kept d f late key parts val ones seen b.walked g pushed refl (λ m number place x y. y) m l
 
-          -- one whose key was seen is passed
+          -- a binding of the input whose key was seen is passed
           firsts_on : was_seen key (take (count_of c) (seen_at b n)) ≡ true → (q : _) → Moves a here ops n F (stands a ops n F c).ahead (weighs a ops n F c) (Seen' q d (count_of c))
           firsts_on m q =
               let moves = goes_past m q in

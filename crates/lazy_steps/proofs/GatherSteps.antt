@@ -86,7 +86,7 @@ module _ (a c : World) (ops : List Operator) (n i : ℕ) (keys : List Key) (made
     untouched : IsUntouched a c n
     untouched = k.above n gathers_less
 
-    -- there are as many groups as keys that were seen
+    -- an operator has as many groups as keys that it has seen
     pub few_is : few ≡ length (seen_at c n)
     few_is = gathered_good.count ∙ ap length (sym untouched.1)
 
@@ -171,11 +171,11 @@ module _ (a c : World) (ops : List Operator) (n i : ℕ) (keys : List Key) (made
         gathered_members : MembersStay (groups_in c.walked n) (groups_in walked n)
         gathered_members = subst (λ (z : Gathered). MembersStay z (groups_in walked n)) (sym untouched.2) (gathered_stay g (groups_in walked n) (seen_at c n) (slice_index_or seen n []) key d goes)
 
-        -- so do those of all operators
+        -- one more member leaves the members that were found of all operators at their places
         gathered_found : FoundStay c now
         gathered_found = found_others c seen walked n others gathered_members
 
-        -- the first member of a new group was found
+        -- the first member of a new group is found at its place
         first_there : Begins g.groups (groups_in walked n).groups (seen_at c n) (slice_index_or seen n []) key r → IsFound now n (suc few) 0 d
         first_there y =
             let same : suc few - 1 ≡ few = omega arith in
@@ -278,7 +278,7 @@ module _ (a c : World) (ops : List Operator) (n i : ℕ) (keys : List Key) (made
         pub gathered_asks : Asks a now ops n (ahead a ops i g.last)
         gathered_asks = gather_asks seen walked key grows others gathered_keeps
 
-        -- it is one more member, in the world that is left
+        -- the next binding of the input is one more member of its group, in the world that is left
         pub gathered_further : IsFurther a now ops n i keys
         gathered_further = record {
           next = d;

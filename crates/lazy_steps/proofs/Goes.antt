@@ -32,7 +32,7 @@ le_same n = omega arith
 pub tells_on : {a b : World} → Keeps a b → (ops : List Operator) → TellsOn (telling a ops) (telling b ops)
 tells_on k ops = record { told = told-kept k ops; forward = forward-kept k ops }
 
--- of these events of operator n the later ones are still ahead, and a call keeps what every call keeps
+-- of these events of operator n some were passed without a binding, the later ones are still ahead, and what every call keeps was kept
 pub record Goes (a b : World) (ops : List Operator) (n : ℕ) (whole now : RowEvents) (top num : ℕ) : Type 0 where
   pub kept : Keeps a b
   pub above : KeepsAbove a b n
@@ -43,11 +43,11 @@ pub record Goes (a b : World) (ops : List Operator) (n : ℕ) (whole now : RowEv
 pub untouched_then : (a b c : World) (j : ℕ) → IsUntouched a b j → IsUntouched b c j → IsUntouched a c j
 untouched_then a b c j x y = (y.0 ∙ x.0, y.1 ∙ x.1, y.2 ∙ x.2)
 
--- at the beginning, the events and the number in other words
+-- before any call all events are still ahead
 pub goes_same : {w : World} {ops : List Operator} {n : ℕ} {whole now : RowEvents} {top num : ℕ} → Keeps w w → whole ≡ now → top ≡ num → Goes w w ops n whole now top num
 goes_same k e f = record { kept = k; above = λ j l. (refl, refl, refl); comes = comes_start e f; none = λ s. refl }
 
--- nothing was asked
+-- where nothing was asked, no more was asked than events allow
 pub asks_nothing : (a : World) (ops : List Operator) (n : ℕ) → Keeps a a → (es : RowEvents) → Asks a a ops n es
 asks_nothing a ops n k es = record { kept = k; above = λ j l. (refl, refl, refl); lazy = λ t f. omega arith; none = λ s. refl }
 
@@ -95,7 +95,7 @@ pub less_times : (x y r s : ℕ) → x < y → r ≤ s → x * suc s + r < y * s
 less_times x y r s h k = omega (arith, mul-le (suc x) (suc s) y (suc s) h (le_same (suc s)))
 
 module _ {S : Type 0} {view : S → View} {came_from : S → S → Type 0} {ops : List Operator} where
-  -- one call after another, where the first left events ahead
+  -- two calls one after another, of which the first left events ahead, leave what one call over all of them leaves
   pub ran_then : ((x y z : S) → came_from x y → came_from y z → came_from x z) → {n : ℕ} {whole now : RowEvents} {top num : ℕ} {s t u : S} {g h i : Growing}
       → came_from s t → Goes (world_of (view s) g) (world_of (view t) h) ops n whole now top num → Ran view came_from ops n now t h u i → Ran view came_from ops n whole s g u i
   ran_then after {n} {whole} {now} {top} {num} {s} {t} {u} came goes ran = record {
@@ -150,6 +150,6 @@ pub placed : {S : Type 0} {view : S → View} {came_from : S → S → Type 0} {
 placed {view} {came_from} {p} {n} {s} {g} {s'} {g'} {result} c d e f is h =
     shaped c f is (subst (λ (z : Position). StepsIn view came_from p n f z s g s' g' result) (sym e) h)
 
--- the same position, in its own words
+-- a position that is given in other words is the same position
 pub in_place : {v : View} {g : Growing} {p : Fixed} {n : ℕ} {c : Position} → CanStep v g p n c → (f : Shape) → shape_at (operators p) n ≡ f → (d : Position) → c ≡ d → IsIn (world_of v g) (operators p) n f d
 in_place {v} {g} {p} {n} {c} can f is d e = subst (IsIn (world_of v g) (operators p) n f) e (in_shape can f is)

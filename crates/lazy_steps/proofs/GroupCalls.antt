@@ -21,7 +21,7 @@ use Rattle.lazy_binding.specs.Growth.{OthersGathered, groups_in}
 use Rattle.lazy_binding.specs.Parts.{operators, world_of, IsFixed}
 use Rattle.lazy_binding.specs.Reading.{count_of}
 use Rattle.lazy_binding.specs.World.{World, world, docs_of, is_told, seen_at, gathered_at, part_value, IsPart}
-use Rattle.lazy_steps.specs.declared.gather_steps.Gathers.{Gathers}
+use Rattle.lazy_steps.specs.declared.gather_steps.Gather.{Gather}
 use Rattle.lazy_steps.specs.Gathers.{GathersGroups, IsFurther, IsNextGroup}
 use Rattle.lazy_steps.specs.Steps.{Asks, CanStep, CanWalk, Finds, GrowsAt, telling}
 use Rattle.lazy_steps.proofs.Goes.{in_shape}
@@ -29,22 +29,22 @@ use Rattle.lazy_steps.proofs.GatherSteps.{groups_read, gathers_can, gathers_less
 use Rattle.lazy_steps.proofs.GroupWalks.{ComesTo, whole_ahead, comes_first, none_there, group_found, group_none, comes_asks, comes_on}
 
 -- the shape of such an operator
-abbrev pub group_shape : (k : Gathers) → GathersGroups k → Shape
+abbrev pub group_shape : (k : Gather) → GathersGroups k → Shape
 group_shape k is = passes_on k.input (first_by_keys k.keys.now (Some is.0))
 
 -- the events of its input that were not walked yet
-abbrev pub unwalked : World → Gathers → RowEvents
+abbrev pub unwalked : World → Gather → RowEvents
 unwalked w k = ahead w (operators k.walk.fixed.now) k.input (gathered_at w k.walk.op).last
 
 -- what a call leaves: a bench, and what it asked
-abbrev pub LeavesGroups : World → World → Gathers → Type 0
+abbrev pub LeavesGroups : World → World → Gather → Type 0
 LeavesGroups a b k = IsBench b (operators k.walk.fixed.now) × Asks a b (operators k.walk.fixed.now) k.walk.op (unwalked a k)
 
 -- a step of such an operator has come so far
-abbrev pub StepCame : Gathers → World → World → Position → Type 0
+abbrev pub StepCame : Gather → World → World → Position → Type 0
 StepCame k a b c = (is : GathersGroups k) × ComesTo (operators k.walk.fixed.now) k.walk.op k.input k.keys.now is.0 a b c
 
-module _ (v : View) (g : Growing) (k : Gathers) (is : GathersGroups k) (fixed : IsFixed k.walk.fixed.now) (within : k.walk.op < length (operators k.walk.fixed.now))
+module _ (v : View) (g : Growing) (k : Gather) (is : GathersGroups k) (fixed : IsFixed k.walk.fixed.now) (within : k.walk.op < length (operators k.walk.fixed.now))
     (bench : IsBench (world_of v g) (operators k.walk.fixed.now)) where
   -- the operators of the plan
   abbrev ops : List Operator
@@ -79,7 +79,7 @@ module _ (v : View) (g : Growing) (k : Gathers) (is : GathersGroups k) (fixed : 
   none_unwalked m e ended = (bench.gathered n k.input k.keys.now (Some is.0) is.1 is.2).all (ap (λ (z : Gathered). z.ended) (sym (read_groups m e)) ∙ ended)
 
   module _ (c : World) (asks : Asks a c ops k.input (unwalked a k)) (late : IsBench c ops) where
-    -- there are as many groups as keys that were seen
+    -- an operator has as many groups as keys that it has seen
     pub as_many : length (gathered_at c n).groups ≡ length (seen_at c n)
     as_many = (late.gathered n k.input k.keys.now (Some is.0) is.1 is.2).count
 
@@ -101,7 +101,7 @@ module _ (v : View) (g : Growing) (k : Gathers) (is : GathersGroups k) (fixed : 
         refused_asks a c ops n k.input k.keys.now is.0 fixed.typed within is.1 is.2 bench asks late d f key parts val ones seen walked grows others groups same,
       )
 
-      -- one more member
+      -- a call that puts the next binding of the input into its group leaves what a call for one more member leaves
       pub grow_more : IsGatheredBy (groups_in c.walked n) (groups_in walked n) (seen_at c n) (slice_index_or seen n []) key d → (m : Gathered) → m ≡ get_or g.walked.gathered.items n m → m.ended ≡ false
           → LeavesGroups a (world c.view c.buffers seen c.memos walked) k × IsFurther a (world c.view c.buffers seen c.memos walked) ops n k.input k.keys.now
       grow_more goes m e further =
@@ -115,12 +115,12 @@ module _ (v : View) (g : Growing) (k : Gathers) (is : GathersGroups k) (fixed : 
             gathered_further a c ops n k.input k.keys.now is.0 fixed.typed within is.1 is.2 bench asks late d f key parts val ones seen walked grows others went ongoing,
           )
 
-module _ {v : View} {g : Growing} (k : Gathers) (c : Position) (can : CanWalk v g k.walk c) where
+module _ {v : View} {g : Growing} (k : Gather) (c : Position) (can : CanWalk v g k.walk c) where
   -- before the step
   abbrev old : World
   old = world_of v g
 
-  -- at the beginning
+  -- before any call a step over groups has come nowhere yet
   pub step_begins : GathersGroups k → StepCame k old old c
   step_begins is = (is, comes_first (operators k.walk.fixed.now) k.walk.op k.input k.keys.now is.0 can.fixed.typed can.op is.1 is.2 old can.bench c (in_shape can (group_shape k is) is.1))
 
@@ -157,7 +157,7 @@ module _ {v : View} {g : Growing} (k : Gathers) (c : Position) (can : CanWalk v 
       pub step_none : FindsNone (telling b (operators k.walk.fixed.now)) (unwalked b k) → FindsNone (telling old (operators k.walk.fixed.now)) whole
       step_none over = group_none (operators k.walk.fixed.now) k.walk.op k.input k.keys.now is.0 can.fixed.typed can.op is.1 is.2 old can.bench c at b late come.1 (step_count none) over
 
-      -- one more member was found
+      -- a step over groups goes on by one more member that was found
       pub step_goes_on : IsBench e (operators k.walk.fixed.now) → IsFurther b e (operators k.walk.fixed.now) k.walk.op k.input k.keys.now → SpotsAreOne → StepCame k old e c
       step_goes_on last m ones =
           (is, comes_on (operators k.walk.fixed.now) k.walk.op k.input k.keys.now is.0 can.fixed.typed can.op is.1 is.2 old can.bench c at b late come.1 e asks (step_count none) last m ones)

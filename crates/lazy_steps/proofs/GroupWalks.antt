@@ -79,12 +79,12 @@ module _ (ops : List Operator) (n i : ℕ) (keys : List Key) (made : Piece × �
   left_costs : (w : World) (few : ℕ) → cost (ahead w ops i (gathered_at w n).last) ≤ cost (left w few)
   left_costs w few = cost-distinct_le (docs_of w) keys (kept_row (docs_of w) keys (stops_over ops i keys) group) (up_to w n few) (ahead w ops i (gathered_at w n).last)
 
-  -- nothing below
+  -- where no more bindings of the input come, no more groups come
   left_none : (w : World) (few : ℕ) → found (ahead w ops i (gathered_at w n).last) ≡ nothing → found (left w few) ≡ nothing
   left_none w few e = found-distinct_none (docs_of w) keys (kept_row (docs_of w) keys (stops_over ops i keys) group) (up_to w n few) (ahead w ops i (gathered_at w n).last) e
 
   module _ (a : World) (bench : IsBench a ops) (c : Position) (h : IsIn a ops n F c) where
-    -- no more groups were counted up to it than there are
+    -- no more groups were counted up to a position than there are
     count_low : count_of c ≤ length (seen_at a n)
     count_low = firsts_count ops n i keys group refl a c h
 
@@ -95,7 +95,7 @@ module _ (ops : List Operator) (n i : ℕ) (keys : List Key) (made : Piece × �
     whole_is t (Seen' q x m) k = (let z : true ≡ false = sym by ∙ k.8 in cc)
     whole_is t z k = absurd k
 
-    -- at the beginning
+    -- a walk to the next group begins with all of its events ahead
     pub comes_first : ComesTo ops n i keys made a a c
     comes_first = record {
       asks = asks_nothing a ops n (keeps_same a ops bench) (stands a ops n F c).ahead;
@@ -184,7 +184,7 @@ module _ (ops : List Operator) (n i : ℕ) (keys : List Key) (made : Piece × �
           none = λ s. k.none s ∙ come.asks.none s;
         }
 
-        -- one more member was found
+        -- a walk to the next group goes on by one more member that was found
         pub comes_on : IsBench e ops → IsFurther b e ops n i keys → SpotsAreOne → ComesTo ops n i keys made a e c
         comes_on last m ones = record {
           asks = comes_asks;
@@ -222,6 +222,6 @@ module _ (ops : List Operator) (n i : ℕ) (keys : List Key) (made : Piece × �
               | inr y ↦ absurd (let l = y.begun.lists in omega (arith, l, x, count))
             ]
 
--- with one more member the walk stands nearer to the end
+-- with one more member the walk stands nearer to the end of the input
 pub further_falls : (b e : World) (ops : List Operator) (n i : ℕ) (keys : List Key) → IsFurther b e ops n i keys → number e ops i (gathered_at e n).last < number b ops i (gathered_at b n).last
 further_falls b e ops n i keys m = subst (λ (z : Position). number e ops i z < number b ops i (gathered_at b n).last) (sym (m.goes.2.last ∙ m.goes.1)) m.found.falls

@@ -37,7 +37,7 @@ use Rattle.lazy_steps.specs.Steps.{Finds, Ran}
 -- THE MEMBERS OF A MEMO
 
 module _ (w : World) (ops : List Operator) (i : ℕ) (by : Option Link) where
-  -- the last of them is far enough from the end
+  -- the number of these members and that of the last one are together no more than the size of the operator
   last_few : (at : Position) (n : ℕ) (ms : List Member) → n + number w ops i at ≤ size w ops i → AreNext w ops i by at n ms → (n + length ms) + number w ops i (last_of at ms) ≤ size w ops i
   last_few at n [] l h = omega (arith, l)
   last_few at n (m ∷ ms) l h = (let r = last_few m.1.value (suc n) ms h.0.few h.1 in omega (arith, r))
@@ -49,7 +49,7 @@ module _ (w : World) (ops : List Operator) (i : ℕ) (by : Option Link) where
       let e : n + length (x ∷ ms) ≡ suc n + length ms = omega arith in
       (h.0, next_push x.1.value (suc n) ms m h.1 (subst (λ (z : ℕ). IsMember w ops i by (last_of x.1.value ms) z m.0 m.1.value) e new))
 
-  -- each stands at the next binding behind the one before it
+  -- each of these members stands at the next binding after the one before it
   member_in : (at : Position) (n : ℕ) (ms : List Member) (p : ℕ) → AreNext w ops i by at n ms → p < length ms
       → IsMember w ops i by (last_of at (take p ms)) (n + p) (get_or (labels_of ms) p []) (last_of at (take (suc p) ms))
   member_in at n [] p h l = absurd (omega (arith, l))
@@ -60,7 +60,7 @@ module _ (w : World) (ops : List Operator) (i : ℕ) (by : Option Link) where
       subst (λ (z : ℕ). IsMember w ops i by (last_of m.1.value (take p ms)) z (get_or (labels_of ms) p []) (last_of m.1.value (take (suc p) ms))) e
       (member_in m.1.value (suc n) ms p h.1 (omega (arith, l)))
 
--- none of them
+-- where no members were passed, the last position is the one before all events
 pub take_none : (ms : List Member) → passed ms 0 ≡ Start
 take_none [] = refl
 take_none (m ∷ ms) = refl
@@ -78,11 +78,11 @@ module _ {w : World} {ops : List Operator} {i : ℕ} {by : Option Link} {m : Kep
   member_at p l =
       subst (λ (z : ℕ). IsMember w ops i by (passed m.pairs p) z (get_or (labels_of m.pairs) p []) (passed m.pairs (suc p))) (omega arith) (member_in w ops i by Start 0 m.pairs p h.next l)
 
-  -- the last one is a position of the operator
+  -- the last member of a memo is a position of its operator
   pub last_in : IsOf w ops i (last_of Start m.pairs)
   last_in = last_is w ops i by Start 0 m.pairs tt h.next
 
-  -- there are few enough
+  -- the number of members of a memo and that of the last one are together no more than the size of the operator
   pub members_few : length m.pairs + number w ops i (last_of Start m.pairs) ≤ size w ops i
   members_few = (let l = last_few w ops i by Start 0 m.pairs (omega arith) h.next in omega (arith, l))
 
@@ -90,7 +90,7 @@ module _ {a b : World} (k : Keeps a b) (ops : List Operator) (bench : IsBench a 
   last : Stays a b ops i (last_of Start m.pairs)
   last = cursors_kept a b k ops bench i (last_of Start m.pairs) (last_in h)
 
-  -- with the next binding behind the last
+  -- a memo with the next binding after its last member is a memo still
   pub members_push : (label : List ℕ) (r : Rc Position Global) → Finds a b ops i (shape_at ops i) (ahead a ops i (last_of Start m.pairs)) (number a ops i (last_of Start m.pairs)) r.value
       → (IsTrue (is_told b ops) → label ≡ member_label b ops i by r.value) → AreMembers b ops i by (record { pairs = m.pairs ++ (label, r) ∷ []; ended = false })
   members_push label r f is = record {
@@ -127,7 +127,7 @@ memo_read v g ops bench n within m e = e ∙ get_or_default g.memos.items n m no
 module _ (b : World) (memos : List (Kept (Rc Position Global))) (n : ℕ) (stay : OthersStay b.memos memos n)
     (more : length (memo_at b n).pairs ≤ length (slice_index_or memos n no_pairs).pairs)
     (front : (k : ℕ) → k ≤ length (memo_at b n).pairs → take k (slice_index_or memos n no_pairs).pairs ≡ take k (memo_at b n).pairs) where
-  -- one memo grows
+  -- one more member of one memo leaves what every call keeps
   pub memo_keeps : Keeps b (world b.view b.buffers b.seen memos b.walked)
   memo_keeps = record {
     view = keeps_view_same b.view;

@@ -1,5 +1,5 @@
 -- A look-up by labels or by nodes finds all that the comparisons let through.
-use Rattle.std.proofs.Common.{◌≡◌, ◌<◌, ◌&&◌, ◌||◌, ℕ, Bool, true, false, cond, List, [], ◌∷◌, Option, Some, None, length, get_or, refl, ◌∙◌, sym, ap, subst, true≢false, arith}
+use Rattle.std.proofs.Common.{◌≡◌, ◌<◌, ◌⊎◌, inl, inr, ◌&&◌, ◌||◌, ℕ, Bool, true, false, cond, List, [], ◌∷◌, Option, Some, None, length, get_or, refl, ◌∙◌, sym, ap, subst, true≢false, arith}
 use Rattle.std.proofs.lemmas.List.{get_or-map, length-map}
 use Rattle.std.specs.Prelude.{is_some, IfSome}
 use Rattle.std.specs.List.{AllByRecursion}
@@ -25,7 +25,7 @@ use Rattle.plan_forms.specs.declared.link.LinkKind.{LinkKind}
 use Rattle.plan_forms.specs.declared.link.LinkKind.TheVariants.{Label as by_label, Node as by_node}
 use Rattle.lazy_binding.specs.declared.parts.Fixed.{Fixed}
 use Rattle.lazy_binding.specs.declared.position.Position.{Position}
-use Rattle.plan_forms.specs.Links.{link_kind, on_sides, kind_link, test_link, link_or, first_link, shape_link, op_link, link_at}
+use Rattle.plan_forms.specs.Links.{link_kind, on_sides, kind_link, test_link, is_earlier_better, better_link, best_link, shape_link, op_link, link_at}
 use Rattle.lazy_binding.specs.Parts.{operators, IsFixed}
 use Rattle.lazy_binding.specs.Cursors.{binding}
 use Rattle.lazy_binding.specs.Members.{link_label}
@@ -35,6 +35,16 @@ use Rattle.lazy_binding.proofs.Bound.{fit_at}
 use Rattle.lazy_steps.proofs.Agreeing.{Agree, agrees}
 use Rattle.lazy_steps.specs.Beside.{sought_label, is_by_label, NoneBetween, IsNextPlace, HasSought}
 
+-- the better of two links is one of the two
+pub one_of_two : (a b : Option Link) (link : Link) → better_link a b ≡ Some link → (a ≡ Some link) ⊎ (b ≡ Some link)
+one_of_two None b link h = inr h
+one_of_two (Some x) None link h = inl h
+one_of_two (Some x) (Some y) link h = by_case (is_earlier_better x.by y.by) h
+  where
+    by_case : (c : Bool) → cond c (Some x) (Some y) ≡ Some link → (Some x ≡ Some link) ⊎ (Some y ≡ Some link)
+    by_case true g = inl g
+    by_case false g = inr g
+
 -- the variables of a link are of nodes, each of its side, and the left side doesn't bind the right one
 pub record LinkFits (left right : Kinds) (link : Link) : Type 0 where
   pub left_is : left link.left ≡ Some a_node
@@ -42,7 +52,7 @@ pub record LinkFits (left right : Kinds) (link : Link) : Type 0 where
   pub apart : left link.right ≡ None
 
 module _ (left right : Kinds) (link : Link) where
-  -- of two variables of nodes
+  -- the link of two variables of nodes fits: each is of its side
   sides_fit : (by : LinkKind) (v u : ℕ) → either_kind (left v) (right v) ≡ Some a_node → either_kind (left u) (right u) ≡ Some a_node → on_sides left by v u ≡ Some link → LinkFits left right link
   sides_fit by v u a b h = by_case (left v) (left u) refl refl h
     where
@@ -61,7 +71,7 @@ module _ (left right : Kinds) (link : Link) where
       by_case None (Some y) e f g = subst (LinkFits left right) (some_is (record { left = u; right = v; by = by }) link g) (one u v y f e b a)
       by_case None None e f g = cc
 
-  -- of one comparison
+  -- the link of a comparison that fits is one of variables of nodes, each of its side
   test_fits : (t : Test) → IsTest (λ v. either_kind (left v) (right v)) t → test_link left t ≡ Some link → LinkFits left right link
   test_fits t fit h = by_case t.op t.left t.right fit.0 fit.1 h
     where
@@ -77,16 +87,16 @@ module _ (left right : Kinds) (link : Link) where
       by_case Same v (var_operand u) a b g = sides_fit by_node v u a b g
       by_case Same v (text_operand label) a b g = cc
 
-  -- of all
-  pub link_fits : (tests : List Test) → AllByRecursion (IsTest (λ v. either_kind (left v) (right v))) tests → first_link left tests ≡ Some link → LinkFits left right link
+  -- the variables of the best link of all comparisons are of nodes, each of its side
+  pub link_fits : (tests : List Test) → AllByRecursion (IsTest (λ v. either_kind (left v) (right v))) tests → best_link left tests ≡ Some link → LinkFits left right link
   link_fits [] fit h = cc
-  link_fits (t ∷ tests) fit h = by_case (link_fits tests fit.1) (test_link left t) refl h
+  link_fits (t ∷ tests) fit h = by_case (link_fits tests fit.1) (one_of_two (test_link left t) (best_link left tests) link h)
     where
-      by_case : (first_link left tests ≡ Some link → LinkFits left right link) → (o : Option Link) → test_link left t ≡ o → link_or o (first_link left tests) ≡ Some link → LinkFits left right link
-      by_case more None e g = more g
-      by_case more (Some x) e g = test_fits t fit.0 (e ∙ g)
+      by_case : (best_link left tests ≡ Some link → LinkFits left right link) → (test_link left t ≡ Some link) ⊎ (best_link left tests ≡ Some link) → LinkFits left right link
+      by_case more (inl one) = test_fits t fit.0 one
+      by_case more (inr other) = more other
 
--- with nothing beside it
+-- a test or nothing is the test
 or_none : (b c : Bool) → b ≡ c → (b || false) ≡ c
 or_none true c e = e
 or_none false c e = e
@@ -107,7 +117,7 @@ module _ (left : Kinds) (link : Link) (docs : Documents) (row : TolledRow) (verd
           subst (λ (z : Link). agrees z.by docs (row_node row z.right) (row_node row z.left) ≡ verdict) (sym e) come.other
       by_case None None g = cc
 
-  -- so does the comparison that has the link
+  -- a comparison comes to what the two sides of its link come to
   test_comes : (t : Test) → test_link left t ≡ Some link → passes docs t (row_node row) ≡ verdict
   test_comes t h = by_case t.op t.left t.right h
     where
@@ -122,31 +132,31 @@ module _ (left : Kinds) (link : Link) (docs : Documents) (row : TolledRow) (verd
       by_case Same v (var_operand u) g = sides_come by_node v u g
       by_case Same v (text_operand label) g = cc
 
--- nothing holds together with what doesn't
+-- a test together with one that fails fails
 and_false : (p : Bool) → p && false ≡ false
 and_false true = refl
 and_false false = refl
 
 module _ (left : Kinds) (link : Link) (docs : Documents) (row : TolledRow) where
   -- where the two sides don't agree, not all comparisons hold
-  pub tests_fail : Agree link.by docs (row_node row link.left) (row_node row link.right) false → (tests : List Test) → first_link left tests ≡ Some link → passes_all docs tests row ≡ false
+  pub tests_fail : Agree link.by docs (row_node row link.left) (row_node row link.right) false → (tests : List Test) → best_link left tests ≡ Some link → passes_all docs tests row ≡ false
   tests_fail differ [] h = cc
-  tests_fail differ (t ∷ tests) h = by_case (tests_fail differ tests) (test_link left t) refl h
+  tests_fail differ (t ∷ tests) h = by_case (tests_fail differ tests) (one_of_two (test_link left t) (best_link left tests) link h)
     where
-      by_case : (first_link left tests ≡ Some link → passes_all docs tests row ≡ false) → (o : Option Link) → test_link left t ≡ o → link_or o (first_link left tests) ≡ Some link
+      by_case : (best_link left tests ≡ Some link → passes_all docs tests row ≡ false) → (test_link left t ≡ Some link) ⊎ (best_link left tests ≡ Some link)
           → passes docs t (row_node row) && passes_all docs tests row ≡ false
-      by_case more None e g = ap (λ (z : Bool). passes docs t (row_node row) && z) (more g) ∙ and_false (passes docs t (row_node row))
-      by_case more (Some x) e g = ap (λ (z : Bool). z && passes_all docs tests row) (test_comes left link docs row false differ t (e ∙ g))
+      by_case more (inl one) = ap (λ (z : Bool). z && passes_all docs tests row) (test_comes left link docs row false differ t one)
+      by_case more (inr other) = ap (λ (z : Bool). passes docs t (row_node row) && z) (more other) ∙ and_false (passes docs t (row_node row))
 
   -- where they agree, the only comparison holds
-  pub test_holds : Agree link.by docs (row_node row link.left) (row_node row link.right) true → (tests : List Test) → length tests ≡ 1 → first_link left tests ≡ Some link → passes_all docs tests row ≡ true
+  pub test_holds : Agree link.by docs (row_node row link.left) (row_node row link.right) true → (tests : List Test) → length tests ≡ 1 → best_link left tests ≡ Some link → passes_all docs tests row ≡ true
   test_holds same [] one h = cc
   test_holds same (t ∷ u ∷ tests) one h = absurd (omega (arith, one))
-  test_holds same (t ∷ []) one h = by_case (test_link left t) refl h
+  test_holds same (t ∷ []) one h = by_case None refl (one_of_two (test_link left t) None link h)
     where
-      by_case : (o : Option Link) → test_link left t ≡ o → link_or o None ≡ Some link → passes docs t (row_node row) && true ≡ true
-      by_case None e g = cc
-      by_case (Some x) e g = ap (λ (z : Bool). z && true) (test_comes left link docs row true same t (e ∙ g))
+      by_case : (o : Option Link) → o ≡ None → (test_link left t ≡ Some link) ⊎ (o ≡ Some link) → passes docs t (row_node row) && true ≡ true
+      by_case o none (inl only) = ap (λ (z : Bool). z && true) (test_comes left link docs row true same t only)
+      by_case o none (inr other) = cc
 
 -- what is looked up by labels is looked up
 pub label_some : (by : Option Link) → is_by_label by ≡ true → is_some by ≡ true
@@ -157,7 +167,7 @@ label_some (Some link) h = refl
 pub link_read : (f : Fixed) → IsFixed f → (n : ℕ) → n < length (operators f) → (o : Option Link) → o ≡ get_or f.links.items n o → o ≡ link_at (operators f) n
 link_read f fixed n within o e = e ∙ ap (λ (os : List (Option Link)). get_or os n o) fixed.links ∙ get_or-map (op_link (operators f)) (operators f) n (source 0 0) o within
 
--- those of a join are of nodes, each of its side
+-- the variables of a join's link are of nodes, each of its side
 pub join_fits : (ops : List Operator) → IsTyped ops → (n : ℕ) → n < length ops → (l r : ℕ) (tests : List Test) → shape_at ops n ≡ pairs_up l r tests → (link : Link) → link_at ops n ≡ Some link
     → LinkFits (kinds ops l) (kinds ops r) link
 join_fits ops typed n within l r tests is link e =
@@ -178,7 +188,7 @@ pub none_next : (ms : List Member) (key : List ℕ) (from : ℕ) (r : Option ℕ
 none_next ms key from None never h = h
 none_next ms key from (Some p) never h = absurd (never p refl)
 
--- it has the label that was looked up
+-- the member that a memo finds has the label that was looked up
 pub found_label : (ms : List Member) (key : List ℕ) (by : Option Link) (from : ℕ) (r : Option ℕ) → IsFound (labels_of ms) key from r → IfSome r (HasSought ms key by)
 found_label ms key by from None h = tt
 found_label ms key by from (Some p) h = λ some. h.label.is

@@ -99,11 +99,11 @@ module _ (v v' : View) (bs : List Buffer) (seen : List (List (List KeyPart))) (m
             (sym (ap (of_buffer [] (λ (b : Buffer). ahead_of v' b m d)) here));
       }
 
--- the same spot, by the buffer that was read
+-- a spot of a source is one of the buffer that was read
 abbrev pub spot_read : {w : World} {s : ℕ} {x : Spot} (k : IsSpotIn w s x) (z : Buffer) → z ≡ k.buffer → IsSpotIn w s x
 spot_read {w} {s} {x} k z e = record { buffer = z; there = k.there ∙ ap Some (sym e); spot = subst (λ (b : Buffer). IsSpot b x) (sym e) k.spot }
 
--- the same match
+-- a cursor of a visit in a source is one of the buffer that was read
 abbrev pub match_read : {w : World} {s : ℕ} {d : DescCursor} (k : IsMatchIn w s d) (z : Buffer) → z ≡ k.buffer → IsMatchIn w s d
 match_read {w} {s} {d} k z e = record { buffer = z; there = k.there ∙ ap Some (sym e); cursor = subst (λ (b : Buffer). IsCursor b d) (sym e) k.cursor }
 
@@ -131,7 +131,7 @@ call_asked {S} {view} {came_from} {ops} {es} {s} {t} {g} {h} src x y bench there
         ∙ ap (λ (z : List (Kept (Rc Position Global))). world (view t) (set g.buffers.items src y) g.seen.items z h.walked) memos
         ∙ ap (world (view t) (set g.buffers.items src y) g.seen.items g.memos.items) walked
 
--- the first cursor of a visit has a number of at most all that may lie below
+-- the first cursor of a visit has a number of at most what may lie below its start
 pub less_first : (w : World) (ops : List Operator) → IsBench w ops → (s : ℕ) (x : Spot) (k : IsSpotIn w s x) (v' : View) (y : Buffer) (r : Option DescCursor)
     → IfSome r (λ d. number_of_match v' y d < below w.view k.buffer x) → IfSome r (λ d. number_of_match v' y d < suc (bound_of w))
 less_first w ops bench s x k v' y None h = tt
@@ -154,7 +154,7 @@ pub three_ok : {T E : Type 0} (r : Result T E) (A B C Q : T → Type 0) → ((x 
 three_ok (Ok x) A B C Q f a b c = f x a b c
 three_ok (Err e) A B C Q f a b c = tt
 
--- so it does of four
+-- where four facts hold of what a call answers, so does what follows from them
 pub four_ok : {T E : Type 0} (r : Result T E) (A B C D Q : T → Type 0) → ((x : T) → A x → B x → C x → D x → Q x) → IfOk r A → IfOk r B → IfOk r C → IfOk r D → IfOk r Q
 four_ok (Ok x) A B C D Q f a b c d = f x a b c d
 four_ok (Err e) A B C D Q f a b c d = tt

@@ -56,7 +56,7 @@ module _ {X K : Type 0} (cmp : K → K → Bool) (g h : X → K) where
       ∙ ap (λ (k : K). cond (cmp (h y) k) (y ∷ insert_by (λ a b. cmp (g a) (g b)) x xs) (x ∷ y ∷ xs)) e
       ∙ ap (λ (zs : List X). cond (cmp (h y) (h x)) (y ∷ zs) (x ∷ y ∷ xs)) (insert_alike x xs e a.1)
 
-  -- and sort alike
+  -- lists whose elements have the same keys sort alike
   sorted_alike : IsStrictWeakOrder (λ a b. cmp (h a) (h b)) → (xs : List X) → AllByRecursion (λ y. g y ≡ h y) xs → sorted_by (λ a b. cmp (g a) (g b)) xs ≡ sorted_by (λ a b. cmp (h a) (h b)) xs
   sorted_alike o [] a = refl
   sorted_alike o (x ∷ xs) a =
@@ -65,7 +65,7 @@ module _ {X K : Type 0} (cmp : K → K → Bool) (g h : X → K) where
 
 -- EVENTS
 
--- all events are those up to the first binding and those behind it
+-- all events are those up to the first binding and those after it
 length-found : {B : Type 0} (es : List (Event B)) (b : B) (rest : List (Event B)) → found es ≡ finds b rest → length es ≡ cost es + length rest
 length-found [] b rest h = cc
 length-found (skip ∷ es) b rest h = let l = length-found es b rest h in omega (arith, l)
@@ -76,7 +76,7 @@ found-skips : (es : RowEvents) (xs : RowEvents) → found (skips es ++ xs) ≡ f
 found-skips [] xs = refl
 found-skips (e ∷ es) xs = found-skips es xs
 
--- which costs no less than all events
+-- as many skips as there are events, before other events, cost no less than there are
 cost-skips : (es : RowEvents) (xs : RowEvents) → length es ≤ cost (skips es ++ xs)
 cost-skips [] xs = omega arith
 cost-skips (e ∷ es) xs = let l = cost-skips es xs in omega (arith, l)
@@ -96,19 +96,19 @@ module _ (a b : World) (k : Keeps a b) (ops : List Operator) (bench : IsBench a 
             ∙ ap (λ (row : TolledRow). label_at (docs_of b) (row_node row v)) (sym stays.binding_is);
       }
 
-  -- so are all of them
+  -- positions with the labels of their bindings stay so after a call
   all_kept : (rows : List Labelled) → AreGiven a ops i v rows → AreGiven b ops i v rows
   all_kept [] g = tt
   all_kept (x ∷ rows) g = (one_kept x g.0, all_kept rows g.1)
 
-  -- at the same bindings
+  -- positions with labels stand at the same bindings after a call
   rows_kept : (rows : List Labelled) → AreGiven a ops i v rows → rows_of b ops i rows ≡ rows_of a ops i rows
   rows_kept [] g = refl
   rows_kept (x ∷ rows) g =
       ap (λ (r : TolledRow). r ∷ rows_of b ops i rows) (cursors_kept a b k ops bench i x.place.value g.0.of).binding_is
       ∙ ap (λ (rs : List TolledRow). binding a ops i x.place.value ∷ rs) (rows_kept rows g.1)
 
--- of all bindings of an operator these were passed, and a cursor stands behind them
+-- of all bindings of an operator these were passed, and a cursor stands after them
 pub record Gathered (a b : World) (ops : List Operator) (i v : ℕ) (rows : List Labelled) (c : Position) : Type 0 where
   pub kept : Keeps a b
   pub above : KeepsAbove a b i
@@ -118,7 +118,7 @@ pub record Gathered (a b : World) (ops : List Operator) (i v : ℕ) (rows : List
   pub passed : IsTrue (is_told a ops) → rows_of b ops i rows ++ without_skips (ahead b ops i c) ≡ without_skips (events (docs_of a) ops i)
   pub lazy : IsTrue (is_told a ops) → IsTrue (is_forward a ops) → b.view.fills + length (ahead b ops i c) ≤ a.view.fills + length (events (docs_of a) ops i)
 
--- none so far
+-- before any call no bindings were passed
 pub gathered_start : (a : World) (ops : List Operator) (i v : ℕ) → Keeps a a → (c : Position) → c ≡ Start → Gathered a a ops i v [] c
 gathered_start a ops i v k c e = rw e record { kept = k; above = λ j l. (refl, refl, refl); given = tt; cursor = tt; few = omega arith; passed = λ t. refl; lazy = λ t f. omega arith }
 
@@ -132,7 +132,7 @@ module _ {a b : World} (d : World) {ops : List Operator} {i v : ℕ} {rows : Lis
       let z = cost-length (ahead b ops i c) in
       omega (arith, x, y, z)
 
-  -- one more
+  -- the next binding of an operator is one more that was passed
   pub gathered_more : (x : Position) → Finds b d ops i (shape_at ops i) (ahead b ops i c) (number b ops i c) x → (y : Labelled) → y.place.value ≡ x
       → (IsTrue (is_told d ops) → y.label ≡ label_at (docs_of d) (row_node (binding d ops i x) v)) → Gathered a d ops i v (rows ++ y ∷ []) x
   gathered_more x f y e label = record {
@@ -162,7 +162,7 @@ module _ {a b : World} (d : World) {ops : List Operator} {i v : ℕ} {rows : Lis
         omega (arith, p, q, l);
   }
 
-  -- that was all
+  -- where no more bindings come, those that were passed are all
   pub gathered_all : IsBench a ops → (FindsNone (telling b ops) (ahead b ops i c)) → AreAll a d ops i v rows
   gathered_all first f = record {
     given = all_kept b d k.kept ops bench i v rows g.given;
@@ -205,7 +205,7 @@ module _ (w : World) (ops : List Operator) (i v : ℕ) where
   places_given [] g = tt
   places_given (x ∷ rows) g = ((g.0.of, g.0.row), places_given rows g.1)
 
--- at the same bindings
+-- positions without their labels stand at the same bindings
 places_rows : (w : World) (ops : List Operator) (i : ℕ) (rows : List Labelled) → bindings_at w ops i (map (λ x. x.place) rows) ≡ rows_of w ops i rows
 places_rows w ops i [] = refl
 places_rows w ops i (x ∷ rows) = ap (λ (rs : List TolledRow). binding w ops i x.place.value ∷ rs) (places_rows w ops i rows)
@@ -251,23 +251,23 @@ order_next w ops n i v desc list k of r h =
     (omega (arith, c, of.1))
 
 module _ (ops : List Operator) (typed : IsTyped ops) (n : ℕ) (within : n < length ops) (i v : ℕ) (desc : Bool) (e : shape_at ops n ≡ sorts i v desc) where
-  -- it reads the variable of a node
+  -- an orderBy reads a variable that holds a node
   pub order_node : kinds ops i v ≡ Some a_node
   order_node = fit_at ops typed n within (sorts i v desc) e
 
-  -- its input stands before it
+  -- the input of an orderBy has a smaller number
   pub order_below : i < n
   order_below = (inputs_at ops typed n within (sorts i v desc) e).0
 
-  -- it is as large as its input
+  -- the size of an orderBy is that of its input
   order_size : (w : World) → size w ops n ≡ size w ops i
   order_size w = size_at ops typed n within (sorts i v desc) e w
 
-  -- its events
+  -- the events of an orderBy are a skip for each event of its input, and then its bindings, sorted
   order_events : (docs : Documents) → events docs ops n ≡ skips (events docs ops i) ++ map bind (sorted_rows docs v desc (events docs ops i))
   order_events docs = events_at ops typed n within (sorts i v desc) e docs
 
-  -- it is never single
+  -- an orderBy is never an operator that is known to have a single binding
   order_single : IsTrue (single ops n) → ⊥
   order_single s = let z : true ≡ false = sym s ∙ single_at ops typed n within (sorts i v desc) e in cc
 
@@ -291,14 +291,14 @@ module _ (ops : List Operator) (typed : IsTyped ops) (n : ℕ) (within : n < len
   }
 
   module _ (a b : World) (k : Keeps a b) (bench : IsBench a ops) (rows sorted : List Labelled) (all : AreAll a b ops i v rows) (is : sorted ≡ by_label desc rows) where
-    -- all of them are sorted
+    -- the positions that were sorted stand at bindings of the input with their labels
     pub sorted_given : AreGiven b ops i v sorted
     sorted_given = subst (AreGiven b ops i v) (sym is) (all_sorted (λ x y. comes_before desc x.label y.label) (label_weak desc (λ (x : Labelled). x.label)) (IsGiven b ops i v) rows all.given)
 
     sorted_length : length sorted ≡ length rows
     sorted_length = ap length is ∙ length_sorted (λ x y. comes_before desc x.label y.label) (label_weak desc (λ (x : Labelled). x.label)) rows
 
-    -- they are few enough
+    -- the positions that were sorted are no more than the size of the orderBy
     pub sorted_few : length sorted ≤ size b ops n
     sorted_few = let l = sorted_length in let m = all.few in let s = order_size b in omega (arith, l, m, s)
 
@@ -320,11 +320,11 @@ module _ (ops : List Operator) (typed : IsTyped ops) (n : ℕ) (within : n < len
 
     -- the sorted list, as a position holds it
     module _ (list : Vec (Rc Position Global) Global) (places : list.items ≡ map (λ x. x.place) sorted) where
-      -- its bindings
+      -- the sorted list stands at the bindings of the sorted positions
       list_rows_are : bindings_at b ops i list.items ≡ rows_of b ops i sorted
       list_rows_are = ap (bindings_at b ops i) places ∙ places_rows b ops i sorted
 
-      -- the first of them, or none
+      -- the first step of an orderBy comes to the first position of the sorted list, or to the end
       pub order_first : (r : Step) → IsSortedAt list 0 r → Steps a b ops n (sorts i v desc) (events (docs_of a) ops n) (size a ops n) r
       order_first r h =
           let given = subst (ArePositions b ops i) (sym places) (places_given b ops i v sorted sorted_given) in

@@ -45,7 +45,7 @@ module _ (ops : List Operator) (n l r : ℕ) (tests : List Test) where
   pair_or_start w c h others = absurd h
 
   module _ (typed : IsTyped ops) (within : n < length ops) (is : shape_at ops n ≡ pairs_up l r tests) where
-    -- both sides of a single join are single
+    -- both sides of a join that has a single binding have one
     pub pairs_single : IsTrue (single ops n) → IsTrue (single ops l) × IsTrue (single ops r)
     pairs_single s = both tests (sym (single_at ops typed n within (pairs_up l r tests) is) ∙ s)
       where
@@ -69,7 +69,7 @@ module _ (ops : List Operator) (n l r : ℕ) (tests : List Test) where
       pub left_costs : (x : Position) → cost (ahead a ops l x) ≤ cost (left_events a ops l r tests x)
       left_costs x = cost-expand_le (pairs (docs_of a) tests (events (docs_of a) ops r)) (ahead a ops l x)
 
-      -- nothing on the left
+      -- where no more bindings of the left side come, no more pairs come
       pub left_done : (x : Position) → (FindsNone (telling a ops) (ahead a ops l x)) → FindsNone (telling a ops) (left_events a ops l r tests x)
       left_done x f t = found-expand_none (pairs (docs_of a) tests (events (docs_of a) ops r)) (ahead a ops l x) (f t)
 
@@ -127,7 +127,7 @@ module _ (ops : List Operator) (n l r : ℕ) (tests : List Test) where
             let m = mul-le (number b ops l x) (suc (size a ops r)) (number a ops l x) (suc (size a ops r)) stays.number_is (le_same (suc (size a ops r))) in
             subst (λ (z : ℕ). number b ops l x * suc z ≤ left_number a ops l r x) (sym (size_kept a b k.kept ops bench r)) m
 
-        -- nothing is left on the right
+        -- where no more members of the right side come, the pairs of the next binding of the left side come next
         pub right_over : (p : ℕ) → (FindsNone (telling a ops) (ahead a ops r y))
             → Goes a b ops n (beside_events a ops l r tests x y) (left_events b ops l r tests x) (beside_number a ops l r x p) (left_number b ops l r x)
         right_over p f = record {
@@ -172,7 +172,7 @@ module _ (ops : List Operator) (n l r : ℕ) (tests : List Test) where
               ∙ ap (λ (z : TolledRow). pairs (docs_of b) tests (ahead b ops r d) z ++ left_ahead b ops r tests (ahead a ops l x)) (sym stays.binding_is)
               ∙ ap (λ (z : RowEvents). pairs (docs_of b) tests (ahead b ops r d) (binding b ops l x) ++ left_ahead b ops r tests z) (sym stays.ahead_is)
 
-          -- that is let through
+          -- a pair of which all comparisons hold is the next binding of the join
           right_at : (q q' : _) → (IsTrue (is_told b ops) → lets b ops l r tests x d ≡ true)
               → Finds a b ops n (pairs_up l r tests) (beside_events a ops l r tests x y) (beside_number a ops l r x p) (Pair' q x q' d (suc p))
           right_at q q' h = record {
@@ -186,7 +186,7 @@ module _ (ops : List Operator) (n l r : ℕ) (tests : List Test) where
                 ∙ ap (finds (binding b ops l x ++ binding b ops r d)) pair_ahead;
           }
 
-          -- that is passed: the events behind it are ahead
+          -- a pair of which a comparison fails is passed, and the events after it are ahead
           pub right_past : (IsTrue (is_told b ops) → lets b ops l r tests x d ≡ false)
               → Goes a b ops n (beside_events a ops l r tests x y) (beside_events b ops l r tests x d) (beside_number a ops l r x p) (beside_number b ops l r x (suc p))
           right_past h = record {
@@ -214,7 +214,7 @@ module _ (ops : List Operator) (n l r : ℕ) (tests : List Test) where
                     cost-pairs_no (docs_of a) tests (ahead a ops r y) (binding a ops l x) (binding b ops r d) (ahead b ops r d) (next t) e,
                   )
 
-          -- at its pair
+          -- a step that passes a pair of which a comparison fails comes to its position
           pub right_on : (q q' : _) → (IsTrue (is_told b ops) → lets b ops l r tests x d ≡ false)
               → Moves a b ops n (pairs_up l r tests) (beside_events a ops l r tests x y) (beside_number a ops l r x p) (Pair' q x q' d (suc p))
           right_on q q' h = (let past = right_past h in record { cursor = pair_cursor q q'; falls = past_falls; found = past.comes.found; lazy = past.comes.lazy })
@@ -230,7 +230,7 @@ module _ (ops : List Operator) (n l r : ℕ) (tests : List Test) where
               (right_on h.0.0 h.0.1 (λ t. ap (lets b ops l r tests x) (sym place) ∙ h.1 t))
 
 module _ {v : View} {g : Growing} {p : Fixed} {n : ℕ} {c : Position} (can : CanStep v g p n c) (l r : ℕ) (tests : List Test) (is : shape_at (operators p) n ≡ pairs_up l r tests) where
-  -- both sides have smaller numbers
+  -- both sides of a join have smaller numbers
   pub sides : (l < n) × (r < n)
   sides = (let h = inputs_at (operators p) can.fixed.typed n can.op (pairs_up l r tests) is in (h.0, h.1.0))
 

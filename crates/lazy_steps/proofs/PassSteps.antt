@@ -53,13 +53,13 @@ module _ (ops : List Operator) (typed : IsTyped ops) (n : ℕ) (within : n < len
     filter_ahead w (Pass' q c) h = refl
     filter_ahead w c h = absurd h
 
-    -- its number is the input's
+    -- the number of a select's position is that of its input's
     filter_number : (w : World) (c : Position) → IsIn w ops n (passes_on i (filters test)) c → weighs w ops n (passes_on i (filters test)) c ≡ number w ops i (below c)
     filter_number w Start h = size_at ops typed n within (passes_on i (filters test)) is w
     filter_number w (Pass' q c) h = refl
     filter_number w c h = absurd h
 
-    -- it is not single
+    -- the input of a select that has a single binding has one
     pub filter_single : IsTrue (single ops n) → IsTrue (single ops i)
     filter_single s = (let z : false ≡ true = sym (single_at ops typed n within (passes_on i (filters test)) is) ∙ s in cc)
 
@@ -68,7 +68,7 @@ module _ (ops : List Operator) (typed : IsTyped ops) (n : ℕ) (within : n < len
       pub filter_costs : cost (ahead a ops i (below c)) ≤ cost (stands a ops n (passes_on i (filters test)) c).ahead
       filter_costs = (let p = cost-only_le (λ row. passes (docs_of a) test (row_node row)) (ahead a ops i (below c)) in let q = ap cost (filter_ahead a c h) in omega (arith, p, q))
 
-      -- nothing below
+      -- where no more bindings of the input come, no more bindings of a select come
       pub filter_done : (FindsNone (telling a ops) (ahead a ops i (below c))) → IsTrue (is_told a ops) → found (stands a ops n (passes_on i (filters test)) c).ahead ≡ nothing
       filter_done f t = ap found (filter_ahead a c h) ∙ found-only_none (λ row. passes (docs_of a) test (row_node row)) (ahead a ops i (below c)) (f t)
 
@@ -94,7 +94,7 @@ module _ (ops : List Operator) (typed : IsTyped ops) (n : ℕ) (within : n < len
               ∙ ap (finds (binding b ops i d)) later;
         }
 
-        -- another one
+        -- a binding of the input of which the comparison fails is passed
         pub filter_on : (q : _) → (IsTrue (is_told b ops) → passes (docs_of b) test (row_node (binding b ops i d)) ≡ false)
             → Moves a b ops n (passes_on i (filters test)) (stands a ops n (passes_on i (filters test)) c).ahead (weighs a ops n (passes_on i (filters test)) c) (Pass' q d)
         filter_on q y = record {
@@ -133,7 +133,7 @@ passed_row docs (first_by_keys keys group) row = tolled_restrict keys row
 passed_row docs stage row = row
 
 module _ (p : PlanValue) (valid : IsValid p) (n : ℕ) (within : n < length p.ops) (i : ℕ) where
-  -- each operator is typed
+  -- the operators of a valid plan are typed
   typed : IsTyped p.ops
   typed = valid_is_typed p valid
 
@@ -143,7 +143,7 @@ module _ (p : PlanValue) (valid : IsValid p) (n : ℕ) (within : n < length p.op
     ahead_is : (stands w p.ops n (passes_on i stage) c).ahead ≡ each_row (passed_row (docs_of w) stage) (ahead w p.ops i (below c))
     number_low : number w p.ops i (below c) ≤ weighs w p.ops n (passes_on i stage) c
 
-  -- so it is of each
+  -- what a position of an operator that passes on all bindings stands for is that of its input, each binding changed
   each_is : (stage : Stage) → shape_at p.ops n ≡ passes_on i stage → PassesEach p.ops i stage → (w : World) (c : Position) → IsIn w p.ops n (passes_on i stage) c → IsEach w stage c
   each_is (extends out made) is e w Start h = record {
     input = tt;
@@ -179,7 +179,7 @@ module _ (p : PlanValue) (valid : IsValid p) (n : ℕ) (within : n < length p.op
   pass_stands (first_by_keys keys None) e w q d = refl
   pass_stands stage e w q d = absurd e
 
-  -- its number
+  -- the number of a position of an operator that passes on all bindings is that of its input's
   pass_weighs : (stage : Stage) → PassesEach p.ops i stage → (w : World) (q : _) (d : Position) → weighs w p.ops n (passes_on i stage) (Pass' q d) ≡ number w p.ops i d
   pass_weighs (extends out made) e w q d = refl
   pass_weighs (first_by_keys keys None) e w q d = refl
@@ -208,7 +208,7 @@ module _ (p : PlanValue) (valid : IsValid p) (n : ℕ) (within : n < length p.op
     pass_in stage e h q = absurd e
 
     module _ (stage : Stage) (is : shape_at p.ops n ≡ passes_on i stage) (e : PassesEach p.ops i stage) (h : IsIn a p.ops n (passes_on i stage) c) where
-      -- it is a binding here
+      -- the next binding of the input is the next binding of an operator that passes on all of them
       pub each_at : (q : _) → Finds a b p.ops n (passes_on i stage) (stands a p.ops n (passes_on i stage) c).ahead (weighs a p.ops n (passes_on i stage) c) (Pass' q d)
       each_at q = record {
         cursor = pass_in stage e h q;

@@ -42,7 +42,7 @@ use Rattle.lazy_binding.proofs.Keep.{told-kept, docs_kept}
 use Rattle.lazy_binding.proofs.SameKeys.{was_seen-is}
 use Rattle.lazy_binding.proofs.Stay.{seen_kept, cursors_kept, size_kept}
 
--- the last of a list and one more
+-- the last element of a list with one more at its end is that one
 last_push : {X : Type 0} (xs : List X) (x : X) → last_or None (xs ++ x ∷ []) ≡ Some x
 last_push [] x = refl
 last_push (y ∷ []) x = refl
@@ -65,7 +65,7 @@ module _ (ops : List Operator) (n i : ℕ) (keys : List Key) (group : Option (Pi
     module _ (b : World) (bench : IsBench a ops) (kept : Keeps a b) (d : Position) (f : Finds a b ops i (shape_at ops i) (ahead a ops i c) (number a ops i c) d)
         (late : IsBench b ops) (key : List KeyPart) (parts : AllByRecursion (IsPart b) key)
         (val : IsTrue (is_told b ops) → map (part_value b) key ≡ key_values (docs_of b) keys (binding b ops i d)) (ones : SpotsAreOne) where
-      -- it drops bindings of its input by its keys
+      -- the operator keeps the first bindings of its input by these keys
       drops_is : drops_by (shape_at ops n) ≡ Some (i, keys)
       drops_is = ap drops_by is
 
@@ -130,7 +130,7 @@ module _ (ops : List Operator) (n i : ℕ) (keys : List Key) (group : Option (Pi
           let o = other_last (key_values (docs_of a) keys row) (key_values (docs_of a) keys (binding b ops i d)) (up_to a n few) e in
           h.before t row o.0 ∙ found-only_no (has_keys row) (ahead a ops i c) (binding b ops i d) (ahead b ops i d) (f.found t) o.1
 
-      -- which is the first with that key
+      -- a binding whose key was not seen is the first one with that key
       is_first : IsTrue (is_told a ops) → was_seen key (take few (seen_at b n)) ≡ false → IsFirstBy (docs_of a) keys (events (docs_of a) ops i) (binding b ops i d) (ahead b ops i d)
       is_first t m =
           h.before t (binding b ops i d) (same_test t ∙ m)
@@ -215,7 +215,7 @@ module _ (ops : List Operator) (n i : ℕ) (keys : List Key) (group : Option (Pi
               (let l = length-append (seen_at b n) (key ∷ []) in omega (arith, l))))
         ]
 
-        -- each node in them is one of its source's buffer
+        -- each node in the keys that were seen is one of its source's buffer
         parts_here : AllByRecursion (AllByRecursion (IsPart b)) (slice_index_or seen n [])
         parts_here = elim g.here [
           | inl y ↦ subst (AllByRecursion (AllByRecursion (IsPart b))) (sym y) (late.parts n)
@@ -254,7 +254,7 @@ module _ (ops : List Operator) (n i : ℕ) (keys : List Key) (group : Option (Pi
                 subst (λ (y : List (List KeyPart)). seen_values b y ≡ take (length y) (keys_seen (docs_of b) ks [] (events (docs_of b) ops m))) (sym (g.others j ne)) (late.seen j m ks by t)
 
         module _ (m : was_seen key (take few (seen_at b n)) ≡ false) (l : few < length (slice_index_or seen n [])) where
-          -- the first keys that are seen now, with the new one
+          -- the first keys that are seen now are those that were seen, and the new one
           list_head : IsTrue (is_told b ops) → seen_values b (take (suc few) (slice_index_or seen n [])) ≡ up_to b n few ++ map (part_value b) key ∷ []
           list_head t =
               sym (take_map (map (part_value b)) (slice_index_or seen n []) (suc few))
@@ -274,11 +274,11 @@ module _ (ops : List Operator) (n i : ℕ) (keys : List Key) (group : Option (Pi
           stay : Stays b here ops i d
           stay = cursors_kept b here kept_here ops late i d f.cursor
 
-          -- so does the size
+          -- noting a key leaves the size of the input
           pub size_here : size here ops i ≡ size a ops i
           size_here = size_kept b here kept_here ops late i ∙ same_size
 
-          -- no more keys were seen than there are bindings
+          -- no more keys were seen than there are bindings of the input
           pub few_here : number here ops i d + suc few ≤ size here ops i
           few_here =
               let j = h.few in

@@ -27,7 +27,7 @@ use Rattle.lazy_binding.specs.declared.position.Position.{Position, Start, Pair'
 use Rattle.lazy_binding.specs.Bench.{IsBench}
 use Rattle.lazy_binding.specs.World.{World, docs_of, is_told, spot_node, Member, memo_at, passed, last_of}
 use Rattle.lazy_binding.specs.Cursors.{binding, ahead, size, stands, weighs, IsIn, IsOf, has_row}
-use Rattle.plan_forms.specs.Links.{shape_link, first_link, link_at}
+use Rattle.plan_forms.specs.Links.{shape_link, best_link, link_at}
 use Rattle.lazy_binding.specs.Members.{link_label, member_label, AreMembers}
 use Rattle.lazy_binding.specs.Spots.{spot_text}
 use Rattle.lazy_binding.specs.Parts.{operators, world_of}
@@ -56,7 +56,7 @@ module _ (ops : List Operator) (n l r : ℕ) (tests : List Test) (typed : IsType
   smaller : (l < length ops) × (r < length ops)
   smaller = (let z = inputs_at ops typed n within (pairs_up l r tests) is in (omega (arith, z.0, within), omega (arith, z.1.0, within)))
 
-  linked : link_at ops n ≡ first_link (kinds ops l) tests
+  linked : link_at ops n ≡ best_link (kinds ops l) tests
   linked = ap (shape_link ops) is
 
   -- the nodes of a pair by which its member is looked up are those of its two sides
@@ -103,7 +103,7 @@ module _ (ops : List Operator) (n l r : ℕ) (tests : List Test) (typed : IsType
           let fits = fits_at link e in
           tests_fail (kinds ops l) link (docs_of w) (binding w ops l x ++ binding w ops r d) (pair_agrees d link false fits (sides_differ d of at link fits link.by f)) tests (sym linked ∙ e)
 
-  -- one that was found by its label is let through, where nothing else is compared
+  -- a member that was found by its label is let through, where nothing else is compared
   pub found_lets : (p : ℕ) → p < length ms → (length tests ≡ 1) × (is_by_label (link_at ops n) ≡ true) → IsTrue (is_told w ops)
       → HasSought ms (sought_label w ops l (link_at ops n) x) (link_at ops n) p → lets w ops l r tests x (passed ms (suc p)) ≡ true
   found_lets p less alone t has = by_case (link_at ops n) refl alone.1 (sym ((member_at members p less).label_is t) ∙ has (label_some (link_at ops n) alone.1))
@@ -120,7 +120,7 @@ module _ (ops : List Operator) (n l r : ℕ) (tests : List Test) (typed : IsType
           test_holds (kinds ops l) link (docs_of w) (binding w ops l x ++ binding w ops r (passed ms (suc p)))
           (pair_agrees (passed ms (suc p)) link true (fits_at link e) (same link.by link some f)) tests alone.0 (sym linked ∙ e)
 
-  -- it is passed
+  -- a member without the label that is looked up is passed
   pass_one : IsTrue (is_told w ops) → (k : ℕ) → k < length ms → (get_or (labels_of ms) k [] ≡ sought_label w ops l (link_at ops n) x → ⊥)
       → (found (beside_events w ops l r tests x (passed ms k)) ≡ found (beside_events w ops l r tests x (passed ms (suc k))))
       × (cost (beside_events w ops l r tests x (passed ms (suc k))) ≤ cost (beside_events w ops l r tests x (passed ms k)))
@@ -135,7 +135,7 @@ module _ (ops : List Operator) (n l r : ℕ) (tests : List Test) (typed : IsType
         omega (arith, cost-append_both front later (left_events w ops l r tests x) (cost (ahead w ops r (passed ms k))) f c),
       )
 
-  -- so are many
+  -- members without the label that is looked up are passed, one after another
   pass_many : IsTrue (is_told w ops) → (c k p : ℕ) → k + c ≡ p → p ≤ length ms → NoneBetween ms (sought_label w ops l (link_at ops n) x) k p
       → (found (beside_events w ops l r tests x (passed ms k)) ≡ found (beside_events w ops l r tests x (passed ms p)))
       × (cost (beside_events w ops l r tests x (passed ms p)) ≤ cost (beside_events w ops l r tests x (passed ms k)))
@@ -176,7 +176,7 @@ module _ (ops : List Operator) (n l r : ℕ) (tests : List Test) (typed : IsType
       ap (λ (c : Position). passes_all (docs_of w) tests (binding w ops n c)) at.2
       ∙ ap (λ (f : Shape). passes_all (docs_of w) tests (stands w ops n f (Pair' at.0 x at.1 (passed ms (suc p)) (suc p))).row) is
 
-  -- both
+  -- the pair with a member at its place is a position of the join, and its comparisons hold of it exactly where they do of the pair
   pub pair_stands : (p : ℕ) → p < length ms → (z : Position) → IsPairAt ms x p z → IsOf w ops n z × (passes_all (docs_of w) tests (binding w ops n z) ≡ lets w ops l r tests x (passed ms (suc p)))
   pair_stands p less z at = ((pair_is p less z at).0, pair_lets p z at)
 
@@ -214,7 +214,7 @@ module _ (ops : List Operator) (n l r : ℕ) (tests : List Test) (typed : IsType
     pub grown_length : length (memo_at b n).pairs ≡ suc (length ms)
     grown_length = (let e = ap length now in let c = length-append ms (g.0 ∷ []) in omega (arith, e, c))
 
-    -- it stands behind the others
+    -- the member that was found stands after the others of its memo
     there : passed (memo_at b n).pairs (suc (length ms)) ≡ g.0.1.value
     there = ap (λ (xs : List Member). passed xs (suc (length ms))) now ∙ take_more Start ms g.0 (length ms) refl
 
@@ -255,7 +255,7 @@ module _ {S : Type 0} {view : S → View} {came_from : S → S → Type 0} {s t 
   one_more : length (memo_at b n).pairs ≡ suc k
   one_more = omega (arith, grown_length (operators p) n l r tests can.fixed.typed within is a can.bench x can.cursor row b ran.asks grown, behind)
 
-  -- it is the only one that may be found
+  -- the member that was found is the only one that a look-up may find
   only : (j : ℕ) → (k ≤ j) × (j < length (memo_at b n).pairs) → j ≡ length (memo_at a n).pairs
   only j there = omega (arith, there.0, there.1, one_more, behind)
 

@@ -11,7 +11,7 @@ neither : (a b : Bool) → (a || b) ≡ false → (a ≡ false) × (b ≡ false)
 neither true b h = cc
 neither false b h = (refl, h)
 
--- one of two
+-- a choice of two holds where the second does
 either : (a b : Bool) → b ≡ true → (a || b) ≡ true
 either true b h = refl
 either false b h = h
@@ -39,7 +39,7 @@ module _ (key : List KeyPart) where
       let n = neither (same_parts x key) (was_seen key (take j xs)) h in
       there_first xs j (omega (arith, l)) n.1 (sym (ap (λ (b : Bool). b || was_seen key (take (suc j) xs)) n.0) ∙ k)
 
-  -- one that was not seen stands at none
+  -- a key that was not seen stands at no place
   pub nowhere : (xs : List (List KeyPart)) (j : ℕ) → j < length xs → was_seen key xs ≡ false → same_parts (slice_index_or xs j []) key ≡ false
   nowhere [] j l h = absurd (omega (arith, l))
   nowhere (x ∷ xs) zero l h = (neither (same_parts x key) (was_seen key xs) h).0
@@ -56,7 +56,7 @@ module _ (key : List KeyPart) where
         below : (k : ℕ) → nat_lt k (suc k) ≡ true
         below k = grind (arith, nat_tests)
 
-    -- and nowhere else
+    -- a key that stands at a place stands nowhere else
     pub stands_alone : ((j : ℕ) → j < length xs → same_parts (slice_index_or xs j []) key ≡ true → was_seen key (take j xs) ≡ false) → (j : ℕ) → j < length xs → (j ≡ m → ⊥)
         → same_parts (slice_index_or xs j []) key ≡ false
     stands_alone alone j l ne = by_case (same_parts (slice_index_or xs j []) key) refl
@@ -68,14 +68,14 @@ module _ (key : List KeyPart) where
         by_case false e = e
         by_case true e = absurd (ne (at m (known j ∙ alone j l e) (known (suc j) ∙ seen_here xs j l e)))
 
--- the last of the first few
+-- the last of the first m + 1 elements, mapped, is the one at index m, mapped
 pub last_taken : {X Y : Type 0} (f : X → Y) (xs : List X) (m : ℕ) (d : X) → suc m ≤ length xs → last_or None (map f (take (suc m) xs)) ≡ Some (f (slice_index_or xs m d))
 last_taken f [] m d l = absurd (omega (arith, l))
 last_taken f (x ∷ xs) zero d l = refl
 last_taken f (x ∷ []) (suc m) d l = absurd (omega (arith, l))
 last_taken f (x ∷ y ∷ xs) (suc m) d l = last_taken f (y ∷ xs) m d (omega (arith, l))
 
--- one of a list that all have a property
+-- a property of all elements of a list is one of that at each index
 pub each_one : {X : Type 0} (P : X → Type 0) (xs : List X) (m : ℕ) (d : X) → m < length xs → AllByRecursion P xs → P (slice_index_or xs m d)
 each_one P [] m d l h = absurd (omega (arith, l))
 each_one P (x ∷ xs) zero d l h = h.0

@@ -30,7 +30,7 @@ module _ (ops : List Operator) (typed : IsTyped ops) (n : ℕ) (within : n < len
       events-of docs ops n (op_at ops n) refl (typed.inputs n within)
       ∙ ap (λ (g : Shape). shape_events docs (front ops) g (events docs ops)) e
 
-  -- its size
+  -- the size of operator n, by its shape
   pub size_at : (w : World) → size w ops n ≡ shape_size (bound_of w) f (size w ops)
   unfolding size
   size_at w =

@@ -53,7 +53,7 @@ module _ (ops : List Operator) (typed : IsTyped ops) (n : ℕ) (within : n < len
           ∙ ap (λ (p : List ℕ). finds ((out, of_source (record { source = s; place = p })) ∷ []) []) (sym place);
     }
 
-    -- nothing comes behind it
+    -- no event comes after the document node of a source
     pub top_over : (w : World) (c : Position) → IsIn w ops n (one_source s out) c → (c ≡ Start → ⊥) → found (stands w ops n (one_source s out) c).ahead ≡ nothing
     top_over w Start h ne = absurd (ne refl)
     top_over w (Top t x) h ne = refl
@@ -73,7 +73,7 @@ module _ (ops : List Operator) (typed : IsTyped ops) (n : ℕ) (within : n < len
       found = λ t. ap found (events_at ops typed n within (passes_on i (one_group p out)) e (docs_of w));
     }
 
-    -- nothing comes behind it
+    -- no event comes after the only binding of a groupBy without keys
     pub whole_over : (w : World) (c : Position) → IsIn w ops n (passes_on i (one_group p out)) c → (c ≡ Start → ⊥) → found (stands w ops n (passes_on i (one_group p out)) c).ahead ≡ nothing
     whole_over w Start h ne = absurd (ne refl)
     whole_over w Whole h ne = refl
@@ -88,6 +88,6 @@ module _ (ops : List Operator) (typed : IsTyped ops) (n : ℕ) (within : n < len
 pub top_known : (w : World) (s : ℕ) (b : Buffer) (x : Spot) → s < length w.buffers → b ≡ get_or w.buffers s b → IsSpot b x → IsSpotIn w s x
 top_known w s b x h e k = record { buffer = b; there = slice_get_read w.buffers (length w.buffers) s b refl h e; spot = k }
 
--- it stands at the document node
+-- the root of a buffer stands at the document node
 pub top_place : (w : World) (s : ℕ) (b : Buffer) (x : Spot) → s < length w.buffers → b ≡ get_or w.buffers s b → place_of b x ≡ [] → place_in w s x ≡ []
 top_place w s b x h e k = ap (of_buffer [] (λ (z : Buffer). place_of z x)) (slice_get_read w.buffers (length w.buffers) s b refl h e) ∙ k

@@ -102,7 +102,7 @@ module _ (ops : List Operator) (n i start : ℕ) (path : Form) (out : ℕ) where
       pub visits_costs : cost (ahead a ops i c) ≤ cost (visit_events a ops i start path out c)
       visits_costs = cost-expand_le (descendants (docs_of a) start path out) (ahead a ops i c)
 
-      -- nothing below
+      -- where no more bindings of the input come, no more matches of a getDescendants come
       pub visits_done : (FindsNone (telling a ops) (ahead a ops i c)) → FindsNone (telling a ops) (visit_events a ops i start path out c)
       visits_done f t = found-expand_none (descendants (docs_of a) start path out) (ahead a ops i c) (f t)
 
@@ -324,7 +324,7 @@ module _ {S : Type 0} {view : S → View} {came_from : S → S → Type 0} {s t 
     pub start_at : CanStep (view t) h p i d
     start_at = record { fixed = can.fixed; op = can.op; bench = ran.bench; cursor = f.cursor }
 
-    -- so far the walk has come
+    -- a walk of a getDescendants from binding to binding of its input has come to the events from the present one on
     pub start_goes : {a : World} {whole : RowEvents} {top : ℕ}
         → Goes a (world_of (view s) g) (operators p) n whole (visit_events (world_of (view s) g) (operators p) i start path out x) top (visit_number (world_of (view s) g) (operators p) i x)
         → Goes a (world_of (view t) h) (operators p) n whole

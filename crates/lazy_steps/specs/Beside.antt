@@ -21,69 +21,70 @@ use Rattle.lazy_binding.specs.World.{World, docs_of, is_told, Member, no_pairs, 
 use Rattle.lazy_binding.specs.Cursors.{binding, ahead, number, size, has_row}
 use Rattle.lazy_binding.specs.Parts.{operators, shape_walked, world_of, IsFixed}
 use Rattle.lazy_binding.specs.Reading.{HasStand, InEach}
-use Rattle.lazy_steps.specs.declared.pair_steps.Pairs.{Pairs}
+use Rattle.lazy_steps.specs.declared.join_steps.Join.{Join}
 use Rattle.lazy_steps.specs.declared.step.Step.{Step}
 use Rattle.lazy_steps.specs.declared.step.Step.TheVariants.{Done, At, On}
 use Rattle.lazy_steps.specs.Steps.{telling, Finds, Ran, HasCause, Stepped, left_events, left_number}
 
--- the sides of a join, as operators that are walked
-abbrev pub left_of : Pairs → Walk
+-- the left side of a join, as an operator that is walked
+abbrev pub left_of : Join → Walk
 left_of k = record { fixed = k.walk.fixed; op = k.left }
 
-abbrev pub right_of : Pairs → Walk
+-- the right side of a join, as an operator that is walked
+abbrev pub right_of : Join → Walk
 right_of k = record { fixed = k.walk.fixed; op = k.right }
 
--- the memo of an operator, in what has grown
+-- the memo of operator n, in what has grown
 abbrev pub memo_in : Growing → ℕ → Kept (Rc Position Global)
 memo_in g n = slice_index_or g.memos.items n no_pairs
 
--- the label that is looked up beside a left binding; where nothing is looked up, no bytes
+-- the label that is looked up beside a binding of a join's left side; no bytes where nothing is looked up
 abbrev pub sought_label : World → List Operator → ℕ → Option Link → Position → List ℕ
 sought_label w ops l None x = []
 sought_label w ops l (Some link) x = link_label w ops l link.by link.left x
 
--- a link is by labels
+-- whether members are looked up by labels, and not by nodes
 abbrev pub is_label : LinkKind → Bool
 is_label by_label = true
 is_label by_node = false
 
--- members are looked up, and by their labels
+-- whether a join looks its members up, and by labels
 abbrev pub is_by_label : Option Link → Bool
 is_by_label None = false
 is_by_label (Some link) = is_label link.by
 
--- from one place on, and before another, no member has this label
+-- no member at a place from k on, and before p, has this label
 abbrev pub NoneBetween : List Member → List ℕ → ℕ → ℕ → Type 0
 NoneBetween ms key k p = (j : ℕ) → k ≤ j → j < p → slice_index_or (labels_of ms) j [] ≡ key → ⊥
 
--- the place of a member, at or behind one
+-- if a place was found, it is that of a member, and k or a later one
 abbrev pub IsPlaceFrom : List Member → ℕ → Option ℕ → Type 0
 IsPlaceFrom ms k r = MatchOption r (Unit {0}) (λ p. (k ≤ p) × (p < length ms))
 
--- no member from one place on has this label, or none before the place that is given
+-- no member from place k on has this label, or none before the place that was found
 abbrev pub IsNextPlace : List Member → List ℕ → ℕ → Option ℕ → Type 0
 IsNextPlace ms key k r = MatchOption r (NoneBetween ms key k (length ms)) (NoneBetween ms key k)
 
--- where members are looked up, the one at this place has the label that is looked up
+-- where members are looked up, the one at place p has the label that is looked up
 abbrev pub HasSought : List Member → List ℕ → Option Link → ℕ → Type 0
 HasSought ms key by p = is_some by ≡ true → slice_index_or (labels_of ms) p [] ≡ key
 
--- the pair of a left position and the member at a place
+-- a position is the pair of a position of a join's left side and the member at place p
 abbrev pub IsPairAt : List Member → Position → ℕ → Position → Type 0
 IsPairAt ms x p d = (q q' : _) × (d ≡ Pair' q x q' (passed ms (suc p)) (suc p))
 
--- whether the comparisons hold of that pair
+-- whether a join's comparisons hold of a pair of a position of its left side and one of its right
 abbrev pub lets : World → List Operator → ℕ → ℕ → List Test → Position → Position → Bool
 lets w ops l r tests x y = passes_all (docs_of w) tests (binding w ops l x ++ binding w ops r y)
 
--- the event at a pair of a left position and the member at a place: a binding exactly where the comparisons hold
+-- a step comes to the pair of a position of a join's left side and the member at place p: as a binding exactly where the comparisons hold
 abbrev pub IsMemberStep : World → List Operator → ℕ → ℕ → List Test → List Member → Position → ℕ → Step → Type 0
 IsMemberStep w ops l r tests ms x p Done = ⊥
 IsMemberStep w ops l r tests ms x p (At d) = IsPairAt ms x p d × (IsTrue (is_told w ops) → lets w ops l r tests x (passed ms (suc p)) ≡ true)
 IsMemberStep w ops l r tests ms x p (On d) = IsPairAt ms x p d × (IsTrue (is_told w ops) → lets w ops l r tests x (passed ms (suc p)) ≡ false)
 
--- what a step from a position of the left side to the pair with the member at a place takes
-pub record CanPair (g : Growing) (k : Pairs) (x : Position) (p : ℕ) : Type 0 where
+-- a join can step from a position of its left side to the pair with the member at place p
+pub record CanPair (g : Growing) (k : Join) (x : Position) (p : ℕ) : Type 0 where
   pub fixed : IsFixed k.walk.fixed.now
   pub op : k.walk.op < length (operators k.walk.fixed.now)
   pub is : shape_walked k.walk ≡ pairs_up k.left k.right k.tests.now
@@ -91,26 +92,26 @@ pub record CanPair (g : Growing) (k : Pairs) (x : Position) (p : ℕ) : Type 0 w
   pub cursor : HasStand g (left_of k) x
   pub row : IsTrue (has_row x)
 
--- what it comes to
-abbrev pub PairSteps : Growing → Pairs → Position → ℕ → Result Step WalkFault → Type 0
+-- a step of a join from a position of its left side comes to the pair with the member at place p
+abbrev pub PairSteps : Growing → Join → Position → ℕ → Result Step WalkFault → Type 0
 PairSteps g k x p result =
     let ops = operators k.walk.fixed.now in
     IfOk result (λ s. InEach g (left_of k) x (λ w. IsMemberStep w ops k.left k.right k.tests.now (memo_in g k.walk.op).pairs x p s))
 
--- the events of a join from a position of its right side on, beside one of its left
+-- the events of a join from a position of its right side on, beside a position of its left
 abbrev pub beside_events : World → List Operator → ℕ → ℕ → List Test → Position → Position → RowEvents
 beside_events w ops l r tests x y = pairs (docs_of w) tests (ahead w ops r y) (binding w ops l x) ++ left_events w ops l r tests x
 
--- a number for them, where so many members were passed
+-- a number for the events of a join beside a position of its left side, once k members were passed; it falls as they are gone through
 abbrev pub beside_number : World → List Operator → ℕ → ℕ → Position → ℕ → ℕ
 beside_number w ops l r x k = left_number w ops l r x + (size w ops r - k)
 
--- the last member of a join's right side, or the position before all events
+-- the position of the last member of the memo of operator n, or the one before all events
 abbrev pub last_at : World → ℕ → Position
 last_at w n = last_of Start (memo_at w n).pairs
 
--- a step of a join beside a left position, behind all members so far
-abbrev pub StepsBeside : {S : Type 0} → (S → View) → (S → S → Type 0) → Pairs → Position → S → Growing → S → Growing → Result Step WalkFault → Type 0
+-- what a step of a join beside a position of its left side, after all members so far, leaves and answers
+abbrev pub StepsBeside : {S : Type 0} → (S → View) → (S → S → Type 0) → Join → Position → S → Growing → S → Growing → Result Step WalkFault → Type 0
 StepsBeside view came_from k x s g s' g' result =
     let w = world_of (view s) g in
     let ops = operators k.walk.fixed.now in
@@ -119,7 +120,7 @@ StepsBeside view came_from k x s g s' g' result =
     Stepped view came_from k.walk.fixed.now k.walk.op (pairs_up k.left k.right k.tests.now) (beside_events w ops k.left k.right k.tests.now x y)
     (beside_number w ops k.left k.right x most) s g s' g' result
 
--- one more member stands behind the others, at the first binding behind the last one; or there is none, and the memo has ended
+-- the memo of operator n has one more member after the others, at the next binding of the right side; or there is none, and the memo has ended
 abbrev pub IsGrown : World → World → List Operator → ℕ → ℕ → Bool → Type 0
 IsGrown old new ops n r true =
     (m : Member) × (memo_at new n ≡ record { pairs = (memo_at old n).pairs ++ m ∷ []; ended = false })
@@ -127,8 +128,8 @@ IsGrown old new ops n r true =
 IsGrown old new ops n r false =
     (memo_at new n ≡ record { pairs = (memo_at old n).pairs; ended = true }) × FindsNone (telling old ops) (ahead old ops r (last_at old n))
 
--- what a call for one more member leaves and answers
-pub record Grew {S : Type 0} (view : S → View) (came_from : S → S → Type 0) (k : Pairs) (s : S) (g : Growing) (s' : S) (g' : Growing) (result : Result Bool WalkFault) : Type 0 where
+-- what a call for one more member of a join's memo leaves and answers
+pub record Grew {S : Type 0} (view : S → View) (came_from : S → S → Type 0) (k : Join) (s : S) (g : Growing) (s' : S) (g' : Growing) (result : Result Bool WalkFault) : Type 0 where
   pub ran : Ran view came_from (operators k.walk.fixed.now) k.walk.op
       (ahead (world_of (view s) g) (operators k.walk.fixed.now) k.right (last_at (world_of (view s) g) k.walk.op)) s g s' g'
   pub cause : HasCause (operators k.walk.fixed.now) (view s) (view s') result

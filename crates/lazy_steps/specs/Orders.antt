@@ -25,33 +25,33 @@ use Rattle.lazy_binding.specs.World.{World, docs_of, is_told}
 use Rattle.lazy_binding.specs.Cursors.{binding, size, has_row, IsOf}
 use Rattle.lazy_steps.specs.Steps.{telling, KeepsAbove}
 
--- a position at a binding, and the label of a variable's node in it
+-- a position of operator i stands at a binding, with the label of variable v's node in it
 pub record IsGiven (w : World) (ops : List Operator) (i v : ℕ) (x : Labelled) : Type 0 where
   pub of : IsOf w ops i x.place.value
   pub row : IsTrue (has_row x.place.value)
   pub label : IsTrue (is_told w ops) → x.label ≡ label_at (docs_of w) (row_node (binding w ops i x.place.value) v)
 
--- each of these is one
+-- each of these positions of operator i stands at a binding, with the label of variable v's node in it
 abbrev pub AreGiven : World → List Operator → ℕ → ℕ → List Labelled → Type 0
 AreGiven w ops i v rows = AllByRecursion (IsGiven w ops i v) rows
 
--- the bindings at which they stand
+-- the bindings of operator i at which these positions with labels stand
 abbrev pub rows_of : World → List Operator → ℕ → List Labelled → List TolledRow
 rows_of w ops i rows = map (λ x. binding w ops i x.place.value) rows
 
--- at an index of a sorted list: behind its end, or a position there
+-- a step comes to the position at index k of a sorted list, or the list ends before it
 abbrev pub IsSortedAt : Vec (Rc Position Global) Global → ℕ → Step → Type 0
 IsSortedAt list k Done = length list.items ≤ k
 IsSortedAt list k (At d) = (k < length list.items) × ((r : Rc (Vec (Rc Position Global) Global) Global) × (r.value ≡ list) × (d ≡ Sorted r k))
 IsSortedAt list k (On d) = ⊥
 
--- these are at all bindings of an operator
+-- these positions with labels stand at all bindings of operator i, in their order
 pub record AreAll (old new : World) (ops : List Operator) (i v : ℕ) (rows : List Labelled) : Type 0 where
   pub given : AreGiven new ops i v rows
   pub few : length rows ≤ size new ops i
   pub bindings : IsTrue (is_told old ops) → rows_of new ops i rows ≡ without_skips (events (docs_of old) ops i)
 
--- these are at all bindings of an operator that is walked
+-- these positions with labels stand at all bindings of the operator that is walked, in their order
 abbrev pub AreAllOf : World → World → Walk → ℕ → List Labelled → Type 0
 AreAllOf old new k v rows = AreAll old new (operators k.fixed.now) k.op v rows
 

@@ -38,15 +38,15 @@ use Rattle.lazy_binding.specs.Keeping.{Keeps}
 abbrev pub single : List Operator → ℕ → Bool
 single ops n = is_single_at ops n
 
--- a refusal has its cause, in a source that an operator reads
+-- a call that was refused has its cause: a source that an operator reads failed, or memory ran out
 abbrev pub HasCause : {T : Type 0} → List Operator → View → View → Result T WalkFault → Type 0
 HasCause ops old new result = Causes.HasCause (IsRead ops) old new result
 
--- what is known of the sources that the operators read
+-- what is known of the sources that the operators read: whether they are told and forward, and how many fills they have answered
 abbrev pub telling : World → List Operator → Telling
 telling w ops = record { told = is_told w ops; forward = is_forward w ops; fills = w.view.fills }
 
--- the positions of operator n in this shape, among its events
+-- the positions of operator n in this shape, as cursors among its events
 abbrev pub positions : World → List Operator → ℕ → Shape → Cursors Position TolledRow
 positions w ops n f = record {
   IsCursor = IsIn w ops n f;
@@ -56,7 +56,7 @@ positions w ops n f = record {
   number = weighs w ops n f;
 }
 
--- the cursors of a visit by this machine over a source's document, among its places
+-- the cursors of a visit by this automaton over a source's document, as cursors among its events
 abbrev pub matches : World → Machine → ℕ → Cursors DescCursor (List ℕ)
 matches w m s = record {
   IsCursor = IsMatchIn w s;
@@ -70,43 +70,43 @@ matches w m s = record {
 abbrev pub IsUntouched : World → World → ℕ → Type 0
 IsUntouched old new j = (memo_at new j ≡ memo_at old j) × (seen_at new j ≡ seen_at old j) × (gathered_at new j ≡ gathered_at old j)
 
--- nothing that is remembered of the operators above n was touched
+-- what is remembered of each operator above n is as it was
 abbrev pub KeepsAbove : World → World → ℕ → Type 0
 KeepsAbove old new n = (j : ℕ) → n < j → IsUntouched old new j
 
--- a call on operator n keeps what every call keeps, and what is remembered of those above; over told and forward sources it asks at most a fill for each of these events up
--- to the first binding, and on a single operator none
+-- a call over events of operator n keeps what every call keeps, and what is remembered of the operators above n; it asks at most a fill for each of these events up to the first binding,
+-- where the sources are told and forward, and none of an operator with a single binding
 pub record Asks (old new : World) (ops : List Operator) (n : ℕ) (es : RowEvents) : Type 0 where
   pub kept : Keeps old new
   pub above : KeepsAbove old new n
   pub lazy : AsksAtMost (telling old ops) (telling new ops) (cost es)
   pub none : IsTrue (single ops n) → new.view.fills ≡ old.view.fills
 
--- the position of operator n in this shape stands at the first binding of these events
+-- a position of operator n in this shape stands at the first binding of these events
 abbrev pub Finds : World → World → List Operator → ℕ → Shape → RowEvents → ℕ → Position → Type 0
 Finds old new ops n f es top d = Searches.Finds (telling old ops) (positions new ops n f) es top d
 
--- it stands at one of these events, with no binding up to it
+-- a position of operator n in this shape stands at one of these events, with no binding before it or at it
 abbrev pub Moves : World → World → List Operator → ℕ → Shape → RowEvents → ℕ → Position → Type 0
 Moves old new ops n f es top d = Searches.Moves (telling old ops) (telling new ops) (positions new ops n f) es top d
 
--- what a step came to, as one over events
+-- what a step came to, as an outcome over events
 abbrev pub outcome : Step → Outcome Position
 outcome Done = over
 outcome (At d) = at_row d
 outcome (On d) = at_event d
 
--- what a step over these events came to
+-- what a step over these events of operator n came to
 abbrev pub Steps : World → World → List Operator → ℕ → Shape → RowEvents → ℕ → Step → Type 0
 Steps old new ops n f es top r = Searches.Steps (telling old ops) (telling new ops) (positions new ops n f) es top (outcome r)
 
--- what a call on operator n leaves, whatever it answers
+-- what a call over these events of operator n leaves, whatever it answers
 pub record Ran {S : Type 0} (view : S → View) (came_from : S → S → Type 0) (ops : List Operator) (n : ℕ) (es : RowEvents) (s : S) (g : Growing) (s' : S) (g' : Growing) : Type 0 where
   pub came : came_from s s'
   pub bench : IsBench (world_of (view s') g') ops
   pub asks : Asks (world_of (view s) g) (world_of (view s') g') ops n es
 
--- what a call of one visit over these of its places leaves, whatever it answers; what is remembered of each operator is as it was
+-- what a call over these events of a visit leaves, whatever it answers; what is remembered of each operator is as it was
 pub record Asked {S : Type 0} (view : S → View) (came_from : S → S → Type 0) (ops : List Operator) (es : List (Event (List ℕ))) (s : S) (g : Growing) (s' : S) (g' : Growing) : Type 0 where
   pub came : came_from s s'
   pub bench : IsBench (world_of (view s') g') ops
@@ -114,52 +114,52 @@ pub record Asked {S : Type 0} (view : S → View) (came_from : S → S → Type 
   pub untouched : (j : ℕ) → IsUntouched (world_of (view s) g) (world_of (view s') g') j
   pub lazy : AsksAtMost (telling (world_of (view s) g) ops) (telling (world_of (view s') g') ops) (cost es)
 
--- what it answers, of a visit by this machine: no match is ahead, or the cursor stands at the first
+-- a call of a visit by this automaton answers that no match is among these events, or a cursor at the first
 abbrev pub GivesMatch : World → World → List Operator → Machine → ℕ → List (Event (List ℕ)) → ℕ → Option DescCursor → Type 0
 GivesMatch old new ops m s es top r = GivesFirst (telling old ops) (matches new m s) es top r
 
--- what a step from a position takes
+-- operator n of a plan can step from position c
 pub record CanStep (v : View) (g : Growing) (p : Fixed) (n : ℕ) (c : Position) : Type 0 where
   pub fixed : IsFixed p
   pub op : n < length (operators p)
   pub bench : IsBench (world_of v g) (operators p)
   pub cursor : IsOf (world_of v g) (operators p) n c
 
--- the same of an operator that is walked
+-- the operator that is walked can step from position c
 abbrev pub CanWalk : View → Growing → Walk → Position → Type 0
 CanWalk v g k c = CanStep v g k.fixed.now k.op c
 
--- what a step over these events leaves and answers
+-- what a step over these events of operator n leaves and answers
 pub record Stepped {S : Type 0} (view : S → View) (came_from : S → S → Type 0) (p : Fixed) (n : ℕ) (f : Shape) (es : RowEvents) (top : ℕ) (s : S) (g : Growing) (s' : S) (g' : Growing)
     (result : Result Step WalkFault) : Type 0 where
   pub ran : Ran view came_from (operators p) n es s g s' g'
   pub cause : HasCause (operators p) (view s) (view s') result
   pub answer : IfOk result (Steps (world_of (view s) g) (world_of (view s') g') (operators p) n f es top)
 
--- a step from a position of operator n, in this shape
+-- what a step of operator n, in this shape, from position c leaves and answers
 abbrev pub StepsIn : {S : Type 0} → (S → View) → (S → S → Type 0) → Fixed → ℕ → Shape → Position → S → Growing → S → Growing → Result Step WalkFault → Type 0
 StepsIn view came_from p n f c s g s' g' result =
     Stepped view came_from p n f (stands (world_of (view s) g) (operators p) n f c).ahead (weighs (world_of (view s) g) (operators p) n f c) s g s' g' result
 
--- a step from a position of operator n
+-- what a step of operator n from position c leaves and answers
 abbrev pub StepsFrom : {S : Type 0} → (S → View) → (S → S → Type 0) → Fixed → ℕ → Position → S → Growing → S → Growing → Result Step WalkFault → Type 0
 StepsFrom view came_from p n c s g s' g' result = StepsIn view came_from p n (shape_at (operators p) n) c s g s' g' result
 
--- the same of an operator that is walked
+-- what a step of the operator that is walked from position c leaves and answers
 abbrev pub StepsOn : {S : Type 0} → (S → View) → (S → S → Type 0) → Walk → Position → S → Growing → S → Growing → Result Step WalkFault → Type 0
 StepsOn view came_from k c s g s' g' result = StepsFrom view came_from k.fixed.now k.op c s g s' g' result
 
--- a stage passes on each binding of operator i: with a variable more, or with the variables of keys by which no two agree
+-- a stage passes on each binding of operator i: with a variable more, or, where no two of them agree by its keys, with the variables of these keys
 abbrev pub PassesEach : List Operator → ℕ → Stage → Type 0
 PassesEach ops i (extends out made) = Unit {0}
 PassesEach ops i (first_by_keys keys None) = apart_over ops i keys ≡ true
 PassesEach ops i stage = ⊥
 
--- so does that of an operator that is walked
+-- the operator that is walked passes on each binding of its input i
 abbrev pub PassesOn : Walk → ℕ → Type 0
 PassesOn k i = (stage : Stage) × (shape_walked k ≡ passes_on i stage) × PassesEach (operators k.fixed.now) i stage
 
--- an operator that is walked keeps the first ones of bindings by these keys, none is passed on without a look at its keys, and its groups, where it makes some, don't end with its input
+-- the operator that is walked keeps the first bindings of its input i by these keys, may have to drop some, and its groups, where it makes some, do not end with its input
 abbrev pub KeepsFirsts : Walk → ℕ → List Key → Type 0
 KeepsFirsts k i keys = (group : Option (Piece × ℕ)) × (shape_walked k ≡ passes_on i (first_by_keys keys group))
     × (shape_apart (operators k.fixed.now) (passes_on i (first_by_keys keys group)) ≡ false)
@@ -169,11 +169,11 @@ KeepsFirsts k i keys = (group : Option (Piece × ℕ)) × (shape_walked k ≡ pa
 abbrev pub left_events : World → List Operator → ℕ → ℕ → List Test → Position → RowEvents
 left_events w ops l r tests x = left_ahead w ops r tests (ahead w ops l x)
 
--- a number for them
+-- a number for the events of a join from a position of its left side on; it falls as they are gone through
 abbrev pub left_number : World → List Operator → ℕ → ℕ → Position → ℕ
 left_number w ops l r x = number w ops l x * suc (size w ops r)
 
--- a step of a join from a position of its left side
+-- what a step of a join from a position of its left side leaves and answers
 abbrev pub StepsLeft : {S : Type 0} → (S → View) → (S → S → Type 0) → Walk → ℕ → ℕ → List Test → Position → S → Growing → S → Growing → Result Step WalkFault → Type 0
 StepsLeft view came_from k l r tests x s g s' g' result =
     let w = world_of (view s) g in
@@ -184,18 +184,18 @@ StepsLeft view came_from k l r tests x s g s' g' result =
 abbrev pub visit_events : World → List Operator → ℕ → ℕ → Form → ℕ → Position → RowEvents
 visit_events w ops i start path out c = expand (descendants (docs_of w) start path out) (ahead w ops i c)
 
--- a number for them
+-- a number for the events of a getDescendants from a position of its input on; it falls as they are gone through
 abbrev pub visit_number : World → List Operator → ℕ → Position → ℕ
 visit_number w ops i c = number w ops i c * suc (suc (bound_of w))
 
--- a step of a getDescendants from a position of its input
+-- what a step of a getDescendants from a position of its input leaves and answers
 abbrev pub StepsVisits : {S : Type 0} → (S → View) → (S → S → Type 0) → Walk → ℕ → ℕ → Form → ℕ → Position → S → Growing → S → Growing → Result Step WalkFault → Type 0
 StepsVisits view came_from k i start path out c s g s' g' result =
     let w = world_of (view s) g in
     let ops = operators k.fixed.now in
     Stepped view came_from k.fixed.now k.op (visits_below i start path out) (visit_events w ops i start path out c) (visit_number w ops i c) s g s' g' result
 
--- what the walk from a position to the next binding leaves and answers
+-- what the walk of operator n from position c to its next binding leaves and answers
 pub record Advanced {S : Type 0} (view : S → View) (came_from : S → S → Type 0) (p : Fixed) (n : ℕ) (c : Position) (s : S) (g : Growing) (s' : S) (g' : Growing)
     (result : Result (Option (Rc Position Global)) WalkFault) : Type 0 where
   pub ran : Ran view came_from (operators p) n (ahead (world_of (view s) g) (operators p) n c) s g s' g'
@@ -203,25 +203,25 @@ pub record Advanced {S : Type 0} (view : S → View) (came_from : S → S → Ty
   pub answer : IfOk result (λ r. GivesFirst (telling (world_of (view s) g) (operators p)) (positions (world_of (view s') g') (operators p) n (shape_at (operators p) n))
       (ahead (world_of (view s) g) (operators p) n c) (number (world_of (view s) g) (operators p) n c) (option_map (λ d. d.value) r))
 
--- the same of an operator that is walked
+-- what the walk of the operator that is walked from position c to its next binding leaves and answers
 abbrev pub AdvancedOn : {S : Type 0} → (S → View) → (S → S → Type 0) → Walk → Position → S → Growing → S → Growing → Result (Option (Rc Position Global)) WalkFault → Type 0
 AdvancedOn view came_from k c s g s' g' result = Advanced view came_from k.fixed.now k.op c s g s' g' result
 
--- the keys of an operator as they were, or with one more
+-- in two lists of keys that operators have seen, those of operator n are the same or one more, and all others are the same
 pub record GrowsAt (old new : List (List (List KeyPart))) (n : ℕ) (key : List KeyPart) : Type 0 where
   pub lists : length new ≡ length old
   pub others : (j : ℕ) → (j ≡ n → ⊥) → slice_index_or new j [] ≡ slice_index_or old j []
   pub here : (slice_index_or new n [] ≡ slice_index_or old n []) ⊎ (slice_index_or new n [] ≡ slice_index_or old n [] ++ key ∷ [])
 
--- a position at the first binding of the input with its keys, where so many keys were seen
+-- position d stands at the first binding with its keys, which position c of the input has, and k keys were seen up to it
 abbrev pub IsFirst : Position → Position → ℕ → Type 0
 IsFirst d c k = (q : _) × (d ≡ First' q c k)
 
--- a position at a later one
+-- position d stands at a later binding with keys that were seen, which position c of the input has, and k keys were seen up to it
 abbrev pub IsSeen : Position → Position → ℕ → Type 0
 IsSeen d c k = (q : _) × (d ≡ Seen' q c k)
 
--- the event at an input's binding with this key: a binding exactly where the key was not seen so far
+-- a step at position c of the input, whose binding has this key, comes to a binding exactly where the key is not among the first k that were seen
 abbrev pub IsKeyEvent : List (List KeyPart) → List (List KeyPart) → List KeyPart → Position → ℕ → Step → Type 0
 IsKeyEvent old new key c k Done = ⊥
 IsKeyEvent old new key c k (At d) = IsFirst d c (k + 1) × (was_seen key (take k old) ≡ false) × (k < length new)

@@ -15,24 +15,24 @@ use Rattle.lazy_binding.specs.World.{World, docs_of, place_in, bound_of, match_a
 use Rattle.lazy_binding.specs.Parts.{operators, world_of}
 use Rattle.lazy_steps.specs.Steps.{Asked, GivesMatch, HasCause}
 
--- the places below a spot
+-- the events of a visit below a spot, each a place in the document or a skip
 abbrev pub places_below : World → Visit → Spot → List (Event (List ℕ))
 places_below w k x = visit_below (machine_of k.auto.now) (tree [] (docs_of w k.source) none) (place_in w k.source x)
 
--- what a call of a visit by this machine over these places leaves and answers
+-- what a call of a visit by this automaton over these events leaves and answers
 pub record Sought {S : Type 0} (view : S → View) (came_from : S → S → Type 0) (ops : List Operator) (m : Machine) (src : ℕ) (es : List (Event (List ℕ))) (top : ℕ)
     (s : S) (g : Growing) (s' : S) (g' : Growing) (result : Result (Option DescCursor) WalkFault) : Type 0 where
   pub asked : Asked view came_from ops es s g s' g'
   pub cause : HasCause ops (view s) (view s') result
   pub answer : IfOk result (GivesMatch (world_of (view s) g) (world_of (view s') g') ops m src es top)
 
--- the first match below a spot
+-- what a call for the first match of a visit below a spot leaves and answers
 abbrev pub FindsFirst : {S : Type 0} → (S → View) → (S → S → Type 0) → Visit → Spot → S → Growing → S → Growing → Result (Option DescCursor) WalkFault → Type 0
 FindsFirst view came_from k x s g s' g' result =
     let w = world_of (view s) g in
     Sought view came_from (operators k.fixed.now) (machine_of k.auto.now) k.source (places_below w k x) (suc (bound_of w)) s g s' g' result
 
--- the next match behind another
+-- what a call for the next match of a visit after a cursor leaves and answers
 abbrev pub FindsNext : {S : Type 0} → (S → View) → (S → S → Type 0) → Visit → DescCursor → S → Growing → S → Growing → Result (Option DescCursor) WalkFault → Type 0
 FindsNext view came_from k d s g s' g' result =
     let w = world_of (view s) g in

@@ -18,7 +18,7 @@ pub(crate) struct KeyEvent {
     pub(crate) key: KeyTuple,
 }
 
-/// Whether an event's key is new: it stands at the end of those that were seen so far.
+/// The event at a binding of the input with this key: a binding where the key is new after the first few that were seen.
 pub(crate) fn first_of_key(
     seen: &mut Vec<SeenKeys>,
     op: usize,

@@ -20,14 +20,14 @@ use tree_buffer::spots_are_one;
 
 /// A groupBy whose groups end with its input: its input, and its keys.
 #[derive(Clone, Copy)]
-pub struct Gathers<'a> {
+pub struct Gather<'a> {
     pub walk: Walk<'a>,
     pub input: usize,
     pub keys: &'a [Key],
 }
 
 /// An event of an operator's input is one more member of the group of its key, or the first of a new one.
-fn gather(
+fn add_member(
     alloc: Global,
     seen: &mut Vec<SeenKeys>,
     walked: &mut Walked,
@@ -51,12 +51,12 @@ fn gather(
     gathered.push(alloc, keys, key, below)
 }
 
-impl<'a> Gathers<'a> {
+impl<'a> Gather<'a> {
     /// A groupBy of this input, by these keys.
-    pub fn new(walk: Walk<'a>, input: u32, keys: &'a [Key]) -> Gathers<'a>
+    pub fn new(walk: Walk<'a>, input: u32, keys: &'a [Key]) -> Gather<'a>
         ensures { result ≡ record { walk = walk.entry; input = input; keys = keys.entry } }
     {
-        Gathers {
+        Gather {
             walk,
             input: input as usize,
             keys,
@@ -140,7 +140,7 @@ impl<'a> Gathers<'a> {
                 let key = input.key_of(alloc, growing, &below, self.keys)?;
                 spots_are_one();
                 let event = KeyEvent { below, key };
-                gather(
+                add_member(
                     alloc,
                     &mut growing.seen,
                     &mut growing.walked,

@@ -3,16 +3,16 @@
 
 mod firsts;
 mod gather_steps;
+mod join_steps;
 mod memo_steps;
-mod order_steps;
-mod pair_steps;
 mod pass_steps;
+mod path_scan;
 mod single_steps;
+mod sort_steps;
 mod sorted;
 mod step;
 mod steps;
-mod visit_steps;
 mod visits;
 
-pub use gather_steps::Gathers;
+pub use gather_steps::Gather;
 pub use steps::advance;

@@ -11,7 +11,7 @@ ghost use Rattle.lazy_binding.specs.Parts.{operators, shape_walked, world_of, Is
 ghost use Rattle.lazy_binding.specs.Reading.{HasStand, Tells};
 ghost use Rattle.lazy_steps.specs.Beside.{left_of, right_of, memo_in, sought_label, is_by_label, IsPlaceFrom, IsNextPlace, IsPairAt, HasSought, CanPair, PairSteps, Grew};
 
-use crate::pair_steps::Pairs;
+use crate::join_steps::Join;
 use crate::step::Step;
 use crate::steps::advance;
 use lazy_binding::growth::{end_members, last_member, push_member};
@@ -22,7 +22,7 @@ use plan_forms::LinkKind;
 use std::alloc::{AllocError, Global};
 use std::rc::Rc;
 
-impl Pairs<'_> {
+impl Join<'_> {
     /// The place of the next member beside a binding of the left side, at or behind one: the next of the label that is looked up, or whichever
     /// is next; `None` where none is known yet. No fill is asked.
     pub(crate) fn next_known(
@@ -127,7 +127,7 @@ impl Pairs<'_> {
         }
     }
 
-    /// The same where the member was looked up by its label: nothing is compared where that decides.
+    /// The event at the pair of a binding of the left side and a member that was looked up: where its label decides, nothing more is compared.
     pub(crate) fn at_found(
         &self,
         growing: &Growing,

@@ -16,18 +16,18 @@ use tree_buffer::spots_are_one;
 
 /// A select: its input, and the comparison that its bindings meet.
 #[derive(Clone, Copy)]
-pub(crate) struct Filters<'a> {
+pub(crate) struct Filter<'a> {
     pub(crate) walk: Walk<'a>,
     pub(crate) input: usize,
     pub(crate) test: &'a Test,
 }
 
-impl<'a> Filters<'a> {
+impl<'a> Filter<'a> {
     /// A select of this input and comparison.
-    pub(crate) fn new(walk: Walk<'a>, input: u32, test: &'a Test) -> Filters<'a>
+    pub(crate) fn new(walk: Walk<'a>, input: u32, test: &'a Test) -> Filter<'a>
         ensures { result ≡ record { walk = walk.entry; input = input; test = test.entry } }
     {
-        Filters {
+        Filter {
             walk,
             input: input as usize,
             test,
@@ -69,17 +69,17 @@ impl<'a> Filters<'a> {
 
 /// A concatenate, a createElement, or a project over bindings of which no two agree by its keys: its input.
 #[derive(Clone, Copy)]
-pub(crate) struct Passes<'a> {
+pub(crate) struct Project<'a> {
     pub(crate) walk: Walk<'a>,
     pub(crate) input: usize,
 }
 
-impl<'a> Passes<'a> {
-    /// Such an operator of this input.
-    pub(crate) fn new(walk: Walk<'a>, input: u32) -> Passes<'a>
+impl<'a> Project<'a> {
+    /// An operator that passes on each binding of this input.
+    pub(crate) fn new(walk: Walk<'a>, input: u32) -> Project<'a>
         ensures { result ≡ record { walk = walk.entry; input = input } }
     {
-        Passes {
+        Project {
             walk,
             input: input as usize,
         }
@@ -112,18 +112,18 @@ impl<'a> Passes<'a> {
 
 /// A project, or a groupBy with keys: its input, and the keys by which it drops bindings that are the same.
 #[derive(Clone, Copy)]
-pub(crate) struct Firsts<'a> {
+pub(crate) struct Distinct<'a> {
     pub(crate) walk: Walk<'a>,
     pub(crate) input: usize,
     pub(crate) keys: &'a [Key],
 }
 
-impl<'a> Firsts<'a> {
+impl<'a> Distinct<'a> {
     /// A project or a groupBy of this input, by these keys.
-    pub(crate) fn new(walk: Walk<'a>, input: u32, keys: &'a [Key]) -> Firsts<'a>
+    pub(crate) fn new(walk: Walk<'a>, input: u32, keys: &'a [Key]) -> Distinct<'a>
         ensures { result ≡ record { walk = walk.entry; input = input; keys = keys.entry } }
     {
-        Firsts {
+        Distinct {
             walk,
             input: input as usize,
             keys,

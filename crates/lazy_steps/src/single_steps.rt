@@ -11,17 +11,17 @@ use lxp_core::{Sources, WalkFault};
 
 /// A source operator: the number of its source.
 #[derive(Clone, Copy)]
-pub(crate) struct OneSource<'a> {
+pub(crate) struct DocumentScan<'a> {
     pub(crate) walk: Walk<'a>,
     pub(crate) source: u32,
 }
 
-impl<'a> OneSource<'a> {
+impl<'a> DocumentScan<'a> {
     /// The operator of this source.
-    pub(crate) fn new(walk: Walk<'a>, source: u32) -> OneSource<'a>
+    pub(crate) fn new(walk: Walk<'a>, source: u32) -> DocumentScan<'a>
         ensures { result ≡ record { walk = walk.entry; source = source } }
     {
-        OneSource { walk, source }
+        DocumentScan { walk, source }
     }
 
     /// A source has its document node, and nothing behind it.

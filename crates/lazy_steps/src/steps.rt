@@ -1,13 +1,13 @@
 // One step over the events of each operator.
 ghost use Rattle.lazy_steps.specs.Steps.{CanWalk, StepsOn, AdvancedOn};
 
-use crate::gather_steps::Gathers;
-use crate::order_steps::Sorts;
-use crate::pair_steps::Pairs;
-use crate::pass_steps::{Filters, Firsts, Passes};
-use crate::single_steps::{OneSource, step_whole};
+use crate::gather_steps::Gather;
+use crate::join_steps::Join;
+use crate::pass_steps::{Distinct, Filter, Project};
+use crate::path_scan::PathScan;
+use crate::single_steps::{DocumentScan, step_whole};
+use crate::sort_steps::Sort;
 use crate::step::Step;
-use crate::visit_steps::Visits;
 use lazy_binding::{Growing, Position, Walk, put};
 use lxp_core::{Sources, WalkFault};
 use plan_core::Op;
@@ -83,33 +83,35 @@ fn next_event<S: Sources>(
     ensures { StepsOn S.view S.came_from walk.entry at.now s.old growing.old s.new growing.new result }
 {
     match walk.fixed.operator(walk.op) {
-        Op::Source { source, .. } => OneSource::new(walk, *source).step(growing, s, at),
+        Op::Source { source, .. } => DocumentScan::new(walk, *source).step(growing, s, at),
         Op::GetDescendants {
             input,
             start,
             path,
             out,
-        } => Visits::new(walk, *input, *start, path, *out).step(alloc, growing, s, at),
-        Op::Select { input, test } => Filters::new(walk, *input, test).step(alloc, growing, s, at),
+        } => PathScan::new(walk, *input, *start, path, *out).step(alloc, growing, s, at),
+        Op::Select { input, test } => Filter::new(walk, *input, test).step(alloc, growing, s, at),
         Op::Join { left, right, tests } => {
-            Pairs::new(walk, *left, *right, tests).step(alloc, growing, s, at)
+            Join::new(walk, *left, *right, tests).step(alloc, growing, s, at)
         }
         Op::GroupBy { keys, .. } if keys.is_empty() => step_whole(walk, growing, s, at),
         Op::Project { input, .. } if walk.fixed.is_apart(walk.op) => {
-            Passes::new(walk, *input).step(alloc, growing, s, at)
+            Project::new(walk, *input).step(alloc, growing, s, at)
         }
-        Op::Project { input, keys } => Firsts::new(walk, *input, keys).step(alloc, growing, s, at),
+        Op::Project { input, keys } => Distinct::new(walk, *input, keys).step(
+            alloc, growing, s, at,
+        ),
         Op::GroupBy { input, keys, .. } if !walk.fixed.stops_at(walk.op) => {
-            Gathers::new(walk, *input, keys).step(alloc, growing, s, at)
+            Gather::new(walk, *input, keys).step(alloc, growing, s, at)
         }
         Op::GroupBy { input, keys, .. } => {
-            Firsts::new(walk, *input, keys).step(alloc, growing, s, at)
+            Distinct::new(walk, *input, keys).step(alloc, growing, s, at)
         }
         Op::OrderBy { input, var, desc } => {
-            Sorts::new(walk, *input, *var, *desc).step(alloc, growing, s, at)
+            Sort::new(walk, *input, *var, *desc).step(alloc, growing, s, at)
         }
-        Op::Concatenate { input, .. } => Passes::new(walk, *input).step(alloc, growing, s, at),
-        Op::CreateElement { input, .. } => Passes::new(walk, *input).step(alloc, growing, s, at),
+        Op::Concatenate { input, .. } => Project::new(walk, *input).step(alloc, growing, s, at),
+        Op::CreateElement { input, .. } => Project::new(walk, *input).step(alloc, growing, s, at),
         Op::TupleDestroy { .. } => Ok(Step::Done),
     }
 }

@@ -39,7 +39,7 @@ impl Visit<'_> {
         DescCursor::first(alloc, s, buffer, self.auto, start)
     }
 
-    /// The next match behind another.
+    /// The next match of a visit after a cursor at one.
     pub(crate) fn next<S: Sources>(
         &self,
         alloc: Global,

@@ -43,7 +43,7 @@ held_under st n i v c d p u = record {
 pub held_below : (st : BenchState) (n i v m : ℕ) (c d e : Position) → IsPassedOn st.plan n v i → IsUnder st n c i d → IsHeldAt st i d v m e → IsHeldAt st n c v m e
 held_below st n i v m c d e p u h = held_twice st n v i m c d e (held_under st n i v c d p u) h
 
--- one cursor further down
+-- a way goes on to a cursor of an input from which its lowest cursor has all values
 below_on : (st : BenchState) (n m i : ℕ) (c d e : Position) → IsBelow st n c m d → i < m → PassesAll st.plan m i → IsUnder st m d i e → IsBelow st n c i e
 below_on st n m i c d e b l all u = record {
   within = (let x = b.within in omega (arith, x, l));
@@ -62,7 +62,7 @@ foot_below st n c h (Below' op at q above) i = i.0
 pub at_foot : (P : ℕ → Position → Type 0) (w : Way) (m : ℕ) (d : Position) → m ≡ foot_op w → d ≡ foot_at w → P (foot_op w) (foot_at w) → P m d
 at_foot P w m d e f h = subst (λ (j : ℕ). P j d) (sym e) (subst (λ (x : Position). P (foot_op w) x) (sym f) h)
 
--- and the other way round
+-- a property of the operator and cursor that are read off a way is one of its lowest cursor
 pub of_foot : (P : ℕ → Position → Type 0) (w : Way) (m : ℕ) (d : Position) → m ≡ foot_op w → d ≡ foot_at w → P m d → P (foot_op w) (foot_at w)
 of_foot P w m d e f h = subst (λ (j : ℕ). P j (foot_at w)) e (subst (λ (x : Position). P m x) f h)
 
@@ -108,6 +108,6 @@ module _ (a b : BenchState) (k : KeepsBench a b) where
   IsWay-kept n c h (Top op at) i = i
   IsWay-kept n c h (Below' op at q above) i = (below-kept n c h op at i.0, IsWay-kept n c h above i.1)
 
-  -- so do two
+  -- two ways from a cursor are from it still after a call
   pub IsWays-kept : (n : ℕ) (c : Position) → IsCursor a n c → (w : Ways) → IsWays a n c w → IsWays b n c w
   IsWays-kept n c h w i = (IsWay-kept n c h w.last.value i.0, IsWay-kept n c h w.lowest.value i.1)

@@ -34,11 +34,11 @@ element_is st op list input at origin r ps i o e =
     ∙ ap (λ (n : ℕ). value_trees (documents st) (tolled_value (binding_at st n at) list) (ends 0)) i
     ∙ sym (ap (λ (qs : List Piece). piece_items (documents st) (slice_index_or qs 0 (text_piece [])) (binding_at st (input_at (ops_of st) op) at) (ends 0)) ps)
 
--- nothing is behind it
+-- a rest that is nothing is one of the bench
 pub end_rest : (st : BenchState) (r : Rest) → r ≡ End → IsRest st r
 end_rest st r e = subst (λ (x : Rest). IsRest st x) (sym e) tt
 
--- the same trees, said otherwise
+-- a rest that goes on for some trees goes on for equal ones
 pub goes_as : (a : BenchState) (f g : Tolled) (w : ℕ) (r : Rest) → f ≡ g → GoesOn a a f w r → GoesOn a a g w r
 goes_as a f g w r e h = subst (λ (x : Tolled). GoesOn a a x w r) e h
 

@@ -49,7 +49,7 @@ module _ (a c : BenchState) (k : KeepsBench a c) (op : ℕ) (up : Rest) (h : IsR
 
 module _ {S : Type 0} {view : S → View} {came_from : S → S → Type 0} (s t : S) (b d : Bench) (op input : ℕ) (at : Option Position) (up : Rest) (i : input ≡ input_at (ops_of (state_of (view s) b)) op)
     (walked : Walked view came_from s b t d (cost (ahead_from (state_of (view s) b) input at))) where
-  -- of all bindings
+  -- a call for the next binding of an input asks no more than the toll of the members of its list allows
   pub members_walked : Walked view came_from s b t d (toll (members_trees (state_of (view s) b) op at (rest_trees (state_of (view s) b) up)))
   members_walked =
       walked_less (cost (ahead_from (state_of (view s) b) input at)) (toll (members_trees (state_of (view s) b) op at (rest_trees (state_of (view s) b) up))) walked
@@ -86,7 +86,7 @@ module _ {S : Type 0} {view : S → View} {came_from : S → S → Type 0} (s t 
       pub member_there : Stands (state_of (view t) d) op gathers_all p
       member_there = (let w = GathersAll-kept (state_of (view s) b) (state_of (view t) d) walked.kept op g in record { within = w.within; is = w.is; cursor = first_there.cursor })
 
-      -- its trees are the first of the list
+      -- the trees of the member that was found are the first of its list
       pub members_stand : (n : Site) → StandsFor (state_of (view t) d) (state_of (view t) d) (member_trees (state_of (view t) d) op p (members_trees (state_of (view t) d) op (Some p) (rest_trees (state_of (view t) d) up))) n
           → StandsFor (state_of (view s) b) (state_of (view t) d) (members_trees (state_of (view s) b) op at (rest_trees (state_of (view s) b) up)) n
       members_stand n w =
@@ -99,7 +99,7 @@ module _ {S : Type 0} {view : S → View} {came_from : S → S → Type 0} (s t 
 
 module _ {S : Type 0} {view : S → View} {came_from : S → S → Type 0} (s t : S) (b d : Bench) (op : ℕ) (first at : Position) (place : ℕ) (up : Rest)
     (walked : Walked view came_from s b t d (cost (group_ahead (state_of (view s) b) op first at))) where
-  -- of a group
+  -- a call for the next member of a group asks no more than the toll of its members allows
   pub group_walked : Walked view came_from s b t d (toll (group_trees (state_of (view s) b) op first at (rest_trees (state_of (view s) b) up)))
   group_walked =
       walked_less (cost (group_ahead (state_of (view s) b) op first at)) (toll (group_trees (state_of (view s) b) op first at (rest_trees (state_of (view s) b) up))) walked
@@ -119,14 +119,14 @@ module _ {S : Type 0} {view : S → View} {came_from : S → S → Type 0} (s t 
 
     module _ (number : ℕ) (p : Position) (f : IsMember (state_of (view s) b) (state_of (view t) d) op number first (suc place) (group_ahead (state_of (view s) b) op first at)
         (size_of (state_of (view s) b) (input_at (ops_of (state_of (view s) b)) op) - place) p) where
-      -- its trees are the first of the list
+      -- the trees of the member that was found are the first of its group
       pub group_stand : (n : Site) → StandsFor (state_of (view t) d) (state_of (view t) d) (member_trees (state_of (view t) d) op p (group_trees (state_of (view t) d) op first p (rest_trees (state_of (view t) d) up))) n
           → StandsFor (state_of (view s) b) (state_of (view t) d) (group_trees (state_of (view s) b) op first at (rest_trees (state_of (view s) b) up)) n
       group_stand n w =
           at_behind (state_of (view s) b) (state_of (view t) d) walked.kept (cost (group_ahead (state_of (view s) b) op first at)) _ _
           (λ y. gathers_some (state_of (view s) b) (state_of (view t) d) walked.kept op up h (group_ahead (state_of (view s) b) op first at) _ _ (f.found y)) n w
 
-      -- it is in the group, before what is behind the list
+      -- the member that was found is in the group, at the next place
       pub group_in : (next : ℕ) → next ≡ suc place → Stands (state_of (view s) b) op gathers_groups first
           → Stands (state_of (view t) d) op gathers_groups first × Stands (state_of (view t) d) op gathers_groups p × IsGroup (state_of (view t) d) op number first p next × IsRest (state_of (view t) d) up
       group_in next e i =

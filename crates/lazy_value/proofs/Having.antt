@@ -32,11 +32,11 @@ use Rattle.lazy_value.proofs.Making.{cond_true}
 use Rattle.lazy_value.proofs.RowLabels.{Holds, Fits, each_first, rows_fit}
 use Rattle.plan_forms.proofs.Lasts.{valid_ends, last_is}
 
--- there is a binding
+-- there is a binding among these events
 abbrev HasRow : RowEvents → Type 0
 HasRow es = (row : TolledRow) × ((rest : RowEvents) × (found es ≡ finds row rest))
 
--- the first of the front is the first of all
+-- a binding that is found in the first of two lists of events is found in both together
 found_front : (xs ys : RowEvents) (row : TolledRow) (rest : RowEvents) → found xs ≡ finds row rest → found (xs ++ ys) ≡ finds row (rest ++ ys)
 found_front [] ys row rest e = cc
 found_front (skip ∷ xs) ys row rest e = found_front xs ys row rest e
@@ -101,7 +101,7 @@ module _ (docs : Documents) (ops : List Operator) (typed : IsTyped ops) (input v
           let y : false ≡ true = ap is_item (sym z) ∙ i in cc
       go (finds row rest) f = sym (ap item_label (row_document row rest f).1)
 
-  -- there is one
+  -- the plan's document has a first tree
   pub document_there : (t : LabelledTree) × (first_tree (plain (tolled_document docs ops)) ≡ Some t)
   document_there =
       let r = single_row docs ops typed input h.within h.single in

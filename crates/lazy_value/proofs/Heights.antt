@@ -72,7 +72,7 @@ gives_ranked j k l (Some (Item x r)) h = (let a = h.0 in omega (arith, a, l), le
 
 -- THE WEIGHTS OF THE SOURCES
 
--- those below n are kept
+-- the weights of the roots of the sources below n are the same after a call
 roots_kept : (a b : View) → KeepsView a b → (n : ℕ) → ((s : ℕ) → s < n → a.knows s (a.root s) ≡ true) → roots_weight b n ≡ roots_weight a n
 roots_kept a b k zero h = refl
 roots_kept a b k (suc n) h =

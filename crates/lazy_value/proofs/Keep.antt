@@ -30,7 +30,7 @@ module _ (a b : BenchState) (k : KeepsBench a b) where
   pub ops_kept : ops_of b ≡ ops_of a
   ops_kept = ap (λ (p : Plan). (plan_value p).ops) k.plan
 
-  -- so is the input of each
+  -- the input of each operator is the same after a call
   pub input_kept : (op : ℕ) → input_at (ops_of b) op ≡ input_at (ops_of a) op
   input_kept op = ap (λ (ops : List Operator). input_at ops op) ops_kept
 
@@ -38,11 +38,11 @@ module _ (a b : BenchState) (k : KeepsBench a b) where
   cursor_in : (op : ℕ) (c : Position) → IsCursor a (input_at (ops_of a) op) c → CursorStays a b (input_at (ops_of a) op) c
   cursor_in op c h = k.cursors (input_at (ops_of a) op) c h
 
-  -- it is one of the input still
+  -- an earlier cursor of an operator's input is one still
   pub cursor_kept : (op : ℕ) (c : Position) → IsCursor a (input_at (ops_of a) op) c → IsCursor b (input_at (ops_of b) op) c
   cursor_kept op c h = subst (λ (n : ℕ). IsCursor b n c) (sym (input_kept op)) (cursor_in op c h).cursor
 
-  -- at the same binding
+  -- an earlier cursor of an operator's input stands at the same binding
   pub binding_kept : (op : ℕ) (c : Position) → IsCursor a (input_at (ops_of a) op) c → binding_at b (input_at (ops_of b) op) c ≡ binding_at a (input_at (ops_of a) op) c
   binding_kept op c h = ap (λ (n : ℕ). binding_at b n c) (input_kept op) ∙ (cursor_in op c h).binding
 
@@ -50,7 +50,7 @@ module _ (a b : BenchState) (k : KeepsBench a b) where
   pub ahead_kept : (op : ℕ) (c : Position) → IsCursor a (input_at (ops_of a) op) c → ahead_at b (input_at (ops_of b) op) c ≡ ahead_at a (input_at (ops_of a) op) c
   ahead_kept op c h = ap (λ (n : ℕ). ahead_at b n c) (input_kept op) ∙ (cursor_in op c h).ahead
 
-  -- with no greater number
+  -- an earlier cursor of an operator's input has no greater number
   pub number_kept : (op : ℕ) (c : Position) → IsCursor a (input_at (ops_of a) op) c → number_at b (input_at (ops_of b) op) c ≤ number_at a (input_at (ops_of a) op) c
   number_kept op c h = subst (λ (n : ℕ). number_at b n c ≤ number_at a (input_at (ops_of a) op) c) (sym (input_kept op)) (cursor_in op c h).number
 
@@ -214,6 +214,6 @@ module _ (a b : BenchState) (k : KeepsBench a b) where
   site_left-kept (Inside s p) h = (k.spots s p h).after
   site_left-kept (Item x r) h = left-kept r.value h.1
 
-  -- each earlier identifier stays
+  -- each earlier identifier stands for the same trees after a call
   pub keeps_sites : KeepsSites a b
   keeps_sites n h = record { node = IsSite-kept n h; here = here-kept n h; left = site_left-kept n h }

@@ -59,7 +59,7 @@ collected_nothing docs p (skip ∷ es) rest h =
     rw (collected_nothing docs p es rest h, dearer_twice 1 (cost es) rest) (let e : 1 + cost es ≡ cost es + 1 = omega arith in rw e refl)
 collected_nothing docs p (bind b ∷ es) rest h = cc
 
--- at the first binding its trees come next
+-- the trees of a list after some events are those of the first binding that is found, and then those of the bindings after it
 pub collected_finds : (docs : Documents) (p : Piece) (es : RowEvents) (rest : Tolled) (b : TolledRow) (later : RowEvents) → found es ≡ finds b later
     → collected docs p es rest ≡ dearer (cost es) (piece_items docs p b (collected docs p later rest))
 collected_finds docs p [] rest b later h = cc

@@ -44,7 +44,7 @@ pub not_other : (b r : Bool) → r ≡ not b → r ≡ false → b ≡ true
 not_other true r e h = refl
 not_other false r e h = cc
 
--- one that holds
+-- a test fails where its opposite holds
 pub is_other : (b r : Bool) → r ≡ not b → r ≡ true → b ≡ false
 is_other true r e h = cc
 is_other false r e h = refl
@@ -54,7 +54,7 @@ pub no_items : {X : Type 0} (xs : List X) (len : ℕ) (b : Bool) → len ≡ len
 no_items [] len b e h t = refl
 no_items (x ∷ xs) len b e h t = let z : (len == 0) ≡ true = sym h ∙ t in absurd (grind (arith, nat_tests, e, z))
 
--- one with some
+-- a list whose length is not zero is not empty
 pub some_items : {X : Type 0} (xs : List X) (len : ℕ) (b : Bool) → len ≡ length xs → b ≡ (len == 0) → b ≡ false → xs ≡ [] → ⊥
 some_items [] len b e h f z = let y : (len == 0) ≡ false = sym h ∙ f in grind (arith, nat_tests, e, y)
 some_items (x ∷ xs) len b e h f z = cc
@@ -126,7 +126,7 @@ module _ (st : BenchState) (typed : IsTyped (ops_of st)) (n : ℕ) (within : n <
     rank = omega arith;
   }
 
-  -- all bindings
+  -- a groupBy without keys makes the list of all bindings of its input
   pub all_made : (i : ℕ) (keys : List Key) (piece : Piece) (out : ℕ) → over i (group_by keys piece out) ≡ op_at (ops_of st) n → keys ≡ [] → (out == v) ≡ true → IsCursor st n c
       → IsOriginOf st n c v (All n)
   all_made i keys piece out e none t h =
@@ -215,7 +215,7 @@ module _ (st : BenchState) (typed : IsTyped (ops_of st)) (n : ℕ) (within : n <
         rank = omega arith;
       }
 
--- it is made where that is made
+-- a value that a variable has from a cursor further down is made where that one is made
 pub origin_held : (st : BenchState) (n v m : ℕ) (c d : Position) (r : Origin) → IsHeldAt st n c v m d → IsOriginOf st m d v r → IsOriginOf st n c v r
 origin_held st n v m c d r h o = record {
   origin = o.origin;

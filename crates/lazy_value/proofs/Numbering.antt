@@ -65,7 +65,7 @@ FitsKind (Some a_node) l = l ≡ Some None
 FitsKind (Some a_list) l = l ≡ Some None
 FitsKind (Some an_element) l = (x : List ℕ) × (l ≡ Some (Some x))
 
--- one operator more
+-- a variable that one operator more binds, or one that its input binds, fits its label
 fits_other : (b : Bool) (k : Kind) (x : Option (List ℕ)) (j : Option Kind) (l : Option (Option (List ℕ))) → FitsKind (Some k) (Some x) → FitsKind j l → FitsKind (cond b (Some k) j) (cond b (Some x) l)
 fits_other true k x j l h i = h
 fits_other false k x j l h i = i
@@ -111,7 +111,7 @@ fits_some (Some a_node) l k h e = (None, h)
 fits_some (Some a_list) l k h e = (None, h)
 fits_some (Some an_element) l k h e = (Some h.0, h.1)
 
--- and one that isn't has none
+-- a variable that is not bound has no label
 pub fits_none : (j : Option Kind) (l : Option (Option (List ℕ))) → FitsKind j l → j ≡ None → l ≡ None
 fits_none None l h e = h
 fits_none (Some j) l h e = cc

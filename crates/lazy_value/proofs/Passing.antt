@@ -28,7 +28,7 @@ use Rattle.lazy_value.proofs.Numbering.{inputs_below, kind_of, size_of, extent_o
 
 -- WHAT AN OPERATOR BINDS
 
--- of the right side, whatever the left one binds
+-- a variable that the right side of a join binds is bound, whatever the left one binds
 pub bound_either : (r : Bool) (j k : Option Kind) → r ≡ is_some k → r ≡ true → r ≡ is_some (either_kind j k)
 bound_either r None k e h = e
 bound_either r (Some j) k e h = h
@@ -39,7 +39,7 @@ none_bound j k e h = cc
 
 -- WHERE A VALUE COMES FROM
 
--- the same choice on both sides
+-- a choice whose test fails is its second part
 pub cond_false : {A : Type 0} (b : Bool) (x y : A) → b ≡ false → cond b x y ≡ y
 cond_false true x y h = cc
 cond_false false x y h = refl

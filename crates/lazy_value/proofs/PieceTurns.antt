@@ -38,7 +38,7 @@ falls_more b v w Over l h = tt
 falls_more b v w (At n) l h = omega (arith, l, h)
 falls_more b v w (On r) l h = omega (arith, l, h)
 
--- one piece further
+-- the elements from index i on are that at i and those from i + 1 on
 one_on : {X : Type 0} (xs : List X) (i : ℕ) (d : X) → i < length xs → drop i xs ≡ slice_index_or xs i d ∷ drop (i + 1) xs
 one_on xs i d h = rw add-one (drop-cons xs i d h)
 
@@ -76,7 +76,7 @@ module _ (st : BenchState) (op next : ℕ) (at : Position) (up : Rest) (there : 
         turns_more st st (pieces_trees st op at next (rest_trees st up)) _ _ t (omega (arith, c, d, e))
         (subst (λ (f : Tolled). Turns st st f (suc (origin_size st origin + weight st (Pieces' op at (next + 1) ways q up))) t) values_on w)
 
-    -- the same, where the rest is put together apart
+    -- a turn into the value of a variable, with the other pieces after it as a rest, is a turn over the pieces
     pub var_turned : (x : Rest) → x ≡ Pieces' op at (next + 1) ways q up → (t : Turn)
         → (IsOrigin st origin → IsRest st x → Turns st st (value_trees (documents st) (value_of st origin) (rest_trees st x)) (suc (origin_size st origin + weight st x)) t)
         → Turns st st (pieces_trees st op at next (rest_trees st up)) (suc (pieces_size st op next + weight st up)) t
@@ -92,7 +92,7 @@ module _ (st : BenchState) (op next : ℕ) (at : Position) (up : Rest) (there : 
         let e : origin_extent st origin ≤ extent (size_of st) (ops_of st) (input_at (ops_of st) op) v = subst (λ (n : ℕ). origin_extent st origin ≤ extent (size_of st) (ops_of st) n v) i o.extent in
         falls_more st _ _ t (omega (arith, c, d, e)) w
 
-    -- the same, where the rest is put together apart
+    -- after a turn into the value of a variable, with the other pieces after it as a rest, as many trees are left as after one over the pieces
     pub var_fallen : (x : Rest) → x ≡ Pieces' op at (next + 1) ways q up → (t : Turn) → (IsOrigin st origin → IsRest st x → Falls (origin_extent st origin + left st x) st t)
         → Falls (pieces_extent st op next + left st up) st t
     var_fallen x e t f =

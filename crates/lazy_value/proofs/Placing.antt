@@ -40,7 +40,7 @@ label_paid : (f : Tolled) → item_label (paid f) ≡ item_label f
 label_paid (ends t) = refl
 label_paid (item t x d r) = refl
 
--- the first child is the first of the trees below
+-- the trees at the place of a first child are those below the place
 at_down : (f : Tolled) (p : List ℕ) → tolled_at f (child_place p) ≡ trees_below (tolled_at f p)
 at_down f [] = refl
 at_down f (k ∷ p) = at_down (trees_from k (trees_below f)) p
@@ -93,7 +93,7 @@ plain_some : (f : Tolled) → is_some (first_label (plain f)) ≡ is_item f
 plain_some (ends t) = refl
 plain_some (item t x d r) = refl
 
--- its label
+-- the label of the first tree with tolls is that of the tree without
 plain_label : (f : Tolled) → is_item f ≡ true → (u : LabelledTree) × (first_tree (plain f) ≡ Some u) × (item_label f ≡ u.label)
 plain_label (ends t) h = cc
 plain_label (item t x d r) h = (record { label = x; kids = plain d }, refl, refl)
@@ -147,7 +147,7 @@ module _ (st : BenchState) (law : IsTolled st) (t : LabelledTree) (e : plan_docu
   document_is = plain_alone (tolled st) (alone_last (events (documents st) (ops_of st)) (last_or None (ops_of st))) t
       (sym law ∙ e)
 
-  -- its places
+  -- a tree has a place exactly where the tree with tolls has one
   has_is : (p : List ℕ) → has_place (alone t) p ≡ is_item (tolled_at (tolled st) p)
   has_is p = ap (λ (f : Forest). is_some (first_label f)) (ap (λ (f : Forest). trees_at f p) (sym document_is) ∙ sym (plain_at (tolled st) p)) ∙ plain_some (tolled_at (tolled st) p)
 
@@ -178,7 +178,7 @@ module _ (a b : BenchState) (k : KeepsBench a b) where
   tolled_same : tolled b ≡ tolled a
   tolled_same = ap (λ (d : Documents). tolled_document d (ops_of b)) k.documents ∙ ap (tolled_document (documents a)) ops_same
 
-  -- so are its places
+  -- the plan's document has the same places after a call
   has_same : (p : List ℕ) → HasPlace a p → HasPlace b p
   has_same p h t e = h t (sym document_same ∙ e)
 
@@ -189,7 +189,7 @@ module _ (a b : BenchState) (k : KeepsBench a b) where
     here = λ y. (keeps_sites a b k n.site h.node).here ∙ h.here (sym k.told ∙ y) ∙ ap (λ (f : Tolled). paid (tolled_at f p)) (sym tolled_same);
   }
 
-  -- each earlier identifier stays
+  -- each earlier identifier stays one at its place after a call
   pub nodes_stay : NodesStay a b
   nodes_stay = record {
     node = λ n h. (keeps_sites a b k n.site h).node;
@@ -209,7 +209,7 @@ module _ (st : BenchState) (law : IsTolled st) (n : NodeId) (p : List ℕ) (h : 
   pub down_asks : (b : BenchState) → AsksAtMost st b (toll (trees_below (here st n.site))) → AsksAtMost st b (down_toll (documents st) (ops_of st) p)
   down_asks b k y w = let e = ap toll (ap trees_below (h.here y) ∙ below_paid (tolled_at (tolled st) p)) in let i = k y w in omega (arith, e, i)
 
-  -- so for the trees behind
+  -- a step to the right asks no more than its toll at the place of the document
   pub right_asks : (b : BenchState) → AsksAtMost st b (toll (trees_behind (here st n.site))) → AsksAtMost st b (right_toll (documents st) (ops_of st) p)
   right_asks b k y w = let e = ap toll (behind_here y) in let i = k y w in omega (arith, e, i)
 
@@ -244,7 +244,7 @@ module _ (a b : BenchState) (k : KeepsBench a b) (law : IsTolled a) (n : NodeId)
   pub down_none : Reaches a b (trees_below (here a n.site)) None → IsTrue (told a) → HasNoPlace a (Some (child_place p))
   down_none i y = reached_none a b k law (trees_below (here a n.site)) (child_place p) y (below_at a law n p h y) (i y)
 
-  -- the first child
+  -- a first child that was found stands at the place of the first child
   pub down_some : (x : Site) (m : NodeId) → m.site ≡ x → StandsFor a b (trees_below (here a n.site)) x → IsTrue (told a) → IsThere a b (Some (child_place p)) m
   down_some x m z i y = reached_there a b k law (trees_below (here a n.site)) (child_place p) y (below_at a law n p h y) x m z i
 

@@ -18,7 +18,7 @@ charged_paid : (f : Forest) → (f ≡ none → ⊥) → item 0 (label_of_first 
 charged_paid none h = absurd (h refl)
 charged_paid (tree x d r) h = refl
 
--- there is one
+-- trees with tolls of a source have a first one where there are trees
 charged_some : (f : Forest) → (f ≡ none → ⊥) → is_item (charged f) ≡ true
 charged_some none h = absurd (h refl)
 charged_some (tree x d r) h = refl

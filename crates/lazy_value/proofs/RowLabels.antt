@@ -29,11 +29,11 @@ Holds None s x = s ≡ false
 Holds (Some None) s x = s ≡ true
 Holds (Some (Some label)) s x = (s ≡ true) × ((kids : Tolled) × (x ≡ element label kids))
 
--- all variables of a binding do
+-- each variable of a binding holds an element with the label that is told of it, or none
 abbrev pub Fits : Labels → TolledRow → Type 0
 Fits ls row = (v : ℕ) → Holds (ls v) (stands_in row v) (tolled_value row v)
 
--- each binding of these events is such a one
+-- each binding of these events has a property
 abbrev pub EachRow : (TolledRow → Type 0) → RowEvents → Type 0
 EachRow P [] = Unit {0}
 EachRow P (skip ∷ es) = EachRow P es
@@ -41,7 +41,7 @@ EachRow P (bind row ∷ es) = P row × EachRow P es
 
 -- ONE BINDING
 
--- one entry more
+-- a binding with one variable more holds what is told of that variable and of the others
 entry : (t : Bool) (k : Option (List ℕ)) (l : Option (Option (List ℕ))) (s : Bool) (x y : TolledValue) → Holds (Some k) true x → Holds l s y → Holds (cond t (Some k) l) (t || s) (cond t x y)
 entry true k l s x y h i = h
 entry false k l s x y h i = i
@@ -148,7 +148,7 @@ each_bound : (P : TolledRow → Type 0) (xs : List TolledRow) → AllByRecursion
 each_bound P [] h = tt
 each_bound P (x ∷ xs) h = (h.0, each_bound P xs h.1)
 
--- the first of them is such a one
+-- a property of each binding of these events is one of the first
 pub each_first : (P : TolledRow → Type 0) (es : RowEvents) → EachRow P es → (row : TolledRow) (rest : RowEvents) → found es ≡ finds row rest → P row
 each_first P [] h row rest e = cc
 each_first P (skip ∷ es) h row rest e = each_first P es h row rest e
@@ -197,7 +197,7 @@ node_none (Some a_node) l h e = h
 node_none (Some an_element) l h e = cc
 node_none (Some a_list) l h e = cc
 
--- in each binding of an operator its variables hold what is said of them
+-- in each binding of an operator its variables hold what their labels tell
 pub rows_fit : (docs : Documents) (ops : List Operator) → IsTyped ops → (n : ℕ) → n < length ops → EachRow (Fits (labels ops n)) (events docs ops n)
 rows_fit docs ops typed n h = below (suc n) n (omega arith) h
   where

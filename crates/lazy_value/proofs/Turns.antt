@@ -19,12 +19,12 @@ use Rattle.lazy_value.proofs.Keep.{IsRest-kept, rest_trees-kept, weight-kept}
 pub tells_on : {a b : BenchState} → KeepsBench a b → TellsOn (told_by a) (told_by b)
 tells_on k = record { told = k.told; forward = k.forward }
 
--- of these trees the later ones are left, behind a toll that was paid
+-- of trees f the later trees g are left, after a toll that was paid
 pub record Paid (a b : BenchState) (f g : Tolled) : Type 0 where
   pub kept : KeepsBench a b
   pub trees : IsTrue (told a) → (t : ℕ) × (f ≡ dearer t g) × (IsTrue (forward a) → fills_of b ≤ fills_of a + t)
 
--- at the beginning
+-- before any turn all trees are left, and no toll was paid
 pub paid_start : (a : BenchState) (f : Tolled) → Paid a a f f
 paid_start a f = record { kept = keeps_on.same a; trees = λ y. (0, sym (dearer_zero f), λ w. omega arith) }
 
@@ -36,7 +36,7 @@ module _ {a b c : BenchState} {f g : Tolled} (p : Paid a b f g) where
       let e = ap toll q.1 in let d = toll_dearer q.0 g in let i = q.2 w in let j = h (still_told (tells_on p.kept) y) (still_forward (tells_on p.kept) w) in
       omega (arith, e, d, i, j)
 
-  -- the first of the later trees is the first
+  -- an identifier that stands for the first of the later trees stands for the first of all
   pub paid_at : (n : Site) → StandsFor b c g n → StandsFor a c f n
   paid_at n h = record {
     node = h.node;

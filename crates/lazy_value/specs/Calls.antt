@@ -30,15 +30,15 @@ use Rattle.tree_buffer.specs.declared.spot.Spot.{Spot}
 
 -- STATES
 
--- the states before and after a call
+-- a relation of the states of a bench before and after a call
 abbrev pub Between : {S : Type 0} → (S → View) → S → Bench → S → Bench → (BenchState → BenchState → Type 0) → Type 0
 Between view s b s' b' P = P (state_of (view s) b) (state_of (view s') b')
 
--- each state that a bench may be in
+-- a property of each state that a bench may be in, whatever its sources mean
 abbrev pub InEach : Bench → (BenchState → Type 0) → Type 0
 InEach b P = (view : View) → IsBenchOf view b → P (state_of view b)
 
--- one of them
+-- a property of a state that a bench may be in
 abbrev pub InSome : Bench → (BenchState → Type 0) → Type 0
 InSome b P = (view : View) × IsBenchOf view b × P (state_of view b)
 
@@ -50,46 +50,46 @@ WalkedTo view came_from s b s' b' f = Walked view came_from s b s' b' (toll (f (
 abbrev pub WalkedOver : {S : Type 0} → (S → View) → (S → S → Type 0) → S → Bench → S → Bench → (BenchState → RowEvents) → Type 0
 WalkedOver view came_from s b s' b' es = Walked view came_from s b s' b' (cost (es (state_of (view s) b)))
 
--- fewer trees than this are behind the node that was found
+-- fewer trees than this come after the node that was found, where one was
 abbrev pub HasFewer : ℕ → BenchState → Option Site → Type 0
 HasFewer w st r = MatchOption r (Unit {0}) (λ n. site_left st n < w)
 
--- the trees below a source's node, as they are charged
+-- the trees below a source's node, each with the tolls of a source
 abbrev pub kids_of_spot : BenchState → ℕ → Spot → Tolled
 kids_of_spot st s p = charged (first_kids (trees_at_spot st s p))
 
--- those behind it
+-- the trees after a source's node, each with the tolls of a source
 abbrev pub behind_spot : BenchState → ℕ → Spot → Tolled
 behind_spot st s p = charged (behind (trees_at_spot st s p))
 
 -- VALUES AND PIECES
 
--- what entering a value comes to, with this behind it
+-- what a turn that enters the value of an origin comes to, with this rest after it
 abbrev pub Enters : BenchState → Origin → Rest → Turn → Type 0
 Enters st o r t =
     IsOrigin st o → IsRest st r → Turns st st (value_trees (documents st) (value_of st o) (rest_trees st r)) (suc (origin_size st o + weight st r)) t
 
--- and how many trees are left then
+-- how many trees are left after a turn that enters the value of an origin, with this rest after it
 abbrev pub EnteringFalls : BenchState → Origin → Rest → Turn → Type 0
 EnteringFalls st o r t = IsOrigin st o → IsRest st r → Falls (origin_extent st o + left st r) st t
 
--- a concatenation from one of its pieces on, ways from its cursor, and this behind it
+-- there is a concatenation from one of its pieces on, ways from its cursor, and a rest after it
 pub record InPieces (st : BenchState) (p : PiecesFrom) (ways : Ways) (up : Rest) : Type 0 where
   pub stands : Stands st p.op makes_list p.at.now
   pub next : p.next ≤ length (pieces_of (op_at (ops_of st) p.op))
   pub along : IsWays st (input_at (ops_of st) p.op) p.at.now ways
   pub behind : IsRest st up
 
--- what a turn over these pieces comes to
+-- what a turn over the pieces of a concatenation comes to
 abbrev pub TurnsPieces : BenchState → PiecesFrom → Ways → Rest → Turn → Type 0
 TurnsPieces st p ways up t = InPieces st p ways up → Turns st st (pieces_trees st p.op p.at.now p.next (rest_trees st up))
     (suc (pieces_size st p.op p.next + weight st up)) t
 
--- and how many trees are left then
+-- how many trees are left after a turn over the pieces of a concatenation
 abbrev pub PiecesFall : BenchState → PiecesFrom → Ways → Rest → Turn → Type 0
 PiecesFall st p ways up t = InPieces st p ways up → Falls (pieces_extent st p.op p.next + left st up) st t
 
--- a rest is these pieces, with these ways and this behind them
+-- a rest is the pieces of a concatenation, with these ways and this rest after them
 pub record IsPiecesOf (p : PiecesFrom) (ways : Ways) (up r : Rest) : Type 0 where
   pub count : Rc (Unit {0}) Global
   pub is : r ≡ Pieces' p.op p.at.now p.next ways count up
@@ -100,43 +100,43 @@ TurnsRest old new r t = Turns old new (rest_trees old r) (weight old r) t
 
 -- MEMBERS
 
--- a group from a member of it on, with this behind it
+-- there is a group from one of its members on, and a rest after it
 abbrev pub InGroup : BenchState → GroupFrom → Rest → Type 0
 InGroup st g up =
     Stands st g.op gathers_groups g.first.now × Stands st g.op gathers_groups g.at.now × IsGroup st g.op g.number g.first.now g.at.now g.place × IsRest st up
 
--- the identifier stands for the member at which it begins, with those behind it
+-- an identifier stands for the first tree of the member of a group at which a walk begins, with the other members and the rest after it
 abbrev pub IsGroupMember : BenchState → GroupFrom → Rest → Site → Type 0
 IsGroupMember st g up n =
     Stands st g.op gathers_groups g.first.now → Stands st g.op gathers_groups g.at.now → IsGroup st g.op g.number g.first.now g.at.now g.place → IsRest st up
     → StandsFor st st (member_trees st g.op g.at.now (group_trees st g.op g.first.now g.at.now (rest_trees st up))) n
 
--- the same of a list of all bindings
+-- an identifier stands for the first tree of the member of a list of all bindings at a cursor, with the other members and the rest after it
 abbrev pub IsListMember : BenchState → ℕ → Position → Rest → Site → Type 0
 IsListMember st op at up n =
     Stands st op gathers_all at → IsRest st up → StandsFor st st (member_trees st op at (members_trees st op (Some at) (rest_trees st up))) n
 
--- how many trees are behind the member at a cursor at most
+-- how many trees come after the member at a cursor at most, with this rest after the list
 abbrev pub behind_member : BenchState → ℕ → Position → Rest → ℕ
 behind_member st op at up = number_at st (input_at (ops_of st) op) at + left st up
 
--- how many trees are in a list behind a cursor, or in all of it, at most, with this behind it
+-- how many trees are in a list of all bindings after a cursor at most, or in all of it, with this rest after it
 abbrev pub behind_members : BenchState → MembersFrom → Rest → ℕ
 behind_members st l up = number_from st (input_at (ops_of st) l.op) l.at.now + left st up
 
--- the first binding of an operator, or the one behind a cursor, or there is none
+-- a call answers the first binding of operator op after a cursor, or of all where there is no cursor, or that there is none
 abbrev pub GivesFrom : BenchState → BenchState → ℕ → Option Position → Option Position → Type 0
 GivesFrom old new op at r = GivesFirst old new op (ahead_from old op at) (number_from old op at) r
 
--- the members of a list behind a cursor, and what is behind them
+-- the trees of the members of a list of all bindings after a cursor, and the rest after them
 abbrev pub trees_of_members : BenchState → MembersFrom → Rest → Tolled
 trees_of_members st l up = members_trees st l.op l.at.now (rest_trees st up)
 
--- the members of a group behind one, and what is behind them
+-- the trees of the members of a group after one of them, and the rest after them
 abbrev pub trees_of_group : BenchState → GroupFrom → Rest → Tolled
 trees_of_group st g up = group_trees st g.op g.first.now g.at.now (rest_trees st up)
 
--- what a turn over the members of a list comes to
+-- what a turn over the members of a list of all bindings comes to
 abbrev pub TurnsMembers : BenchState → BenchState → MembersFrom → Rest → Turn → Type 0
 TurnsMembers old new l up t = Turns old new (trees_of_members old l up) (suc (weight old up)) t
 
@@ -144,6 +144,6 @@ TurnsMembers old new l up t = Turns old new (trees_of_members old l up) (suc (we
 abbrev pub TurnsGroup : BenchState → BenchState → GroupFrom → Rest → Turn → Type 0
 TurnsGroup old new g up t = Turns old new (trees_of_group old g up) (suc (weight old up)) t
 
--- how many trees are behind the member from which a group is walked at most, with this behind it
+-- how many trees come after the member from which a group is walked at most, with this rest after the group
 abbrev pub behind_group : BenchState → GroupFrom → Rest → ℕ
 behind_group st g up = (size_of st (input_at (ops_of st) g.op) - g.place) + left st up

@@ -14,7 +14,7 @@ use Rattle.lazy_value.specs.declared.ids.Turn.TheVariants.{Over, At, On}
 
 -- RANKS: THE OPERATORS THAT MAKE THE ELEMENTS OF A LIST HAVE SMALLER NUMBERS
 
--- those that make the elements of a value
+-- a number above those of the operators that make the elements of the value of an origin
 abbrev pub origin_rank : Origin → ℕ
 origin_rank (Node s p) = 0
 origin_rank (Element op at) = suc op
@@ -22,43 +22,43 @@ origin_rank (Joined op at) = op
 origin_rank (All op) = op
 origin_rank (Same op c number) = op
 
--- the one that makes a node, where it is an element
+-- a number above that of the operator that makes a node, where it is an element
 abbrev pub head_rank : Head → ℕ
 head_rank (Whole s p) = 0
 head_rank (Built op at) = suc op
 head_rank (Leaf s p) = 0
 head_rank (Text op index) = 0
 
--- those that make the elements behind a node
+-- a number above those of the operators that make the elements that come after a node
 abbrev pub rest_rank : Rest → ℕ
 rest_rank End = 0
 rest_rank (Pieces' op at next ways q up) = max op (rest_rank up)
 rest_rank (Members' op at q up) = max op (rest_rank up)
 rest_rank (Group' op first number at place q up) = max op (rest_rank up)
 
--- a member of a list that the plan makes, in which no rank is greater
+-- an identifier stands at a member of a list that the plan makes, in which no rank is greater than k
 abbrev pub IsRanked : ℕ → Site → Type 0
 IsRanked k Root = ⊥
 IsRanked k (Inside s p) = ⊥
 IsRanked k (Item head rest) = (head_rank head ≤ k) × (rest_rank rest.value ≤ k)
 
--- there is none, or it is such a member
+-- a call answers no node, or a member of a list that the plan makes, in which no rank is greater than k
 abbrev pub GivesRanked : ℕ → Option Site → Type 0
 GivesRanked k r = MatchOption r (Unit {0}) (IsRanked k)
 
--- what a turn leaves of a list in which no rank is greater
+-- a turn leaves nothing, or a member or a rest of a list in which no rank is greater than k
 abbrev pub TurnsRanked : ℕ → Turn → Type 0
 TurnsRanked k Over = Unit {0}
 TurnsRanked k (At n) = IsRanked k n
 TurnsRanked k (On r) = rest_rank r.value ≤ k
 
--- what a turn leaves of trees of this rank and what is behind them
+-- a turn over trees of this rank, with a rest after them, leaves nothing of a greater rank than these have
 abbrev pub KeepsRank : ℕ → Rest → Turn → Type 0
 KeepsRank rank behind t = (k : ℕ) → rank ≤ k → rest_rank behind ≤ k → TurnsRanked k t
 
 -- HEIGHTS
 
--- what lies below a node of any source weighs at most so much
+-- a weight that what lies below a node of any source does not exceed
 abbrev pub roots_of : BenchState → ℕ
 roots_of st = roots_weight st.world.view st.world.view.count
 
@@ -68,10 +68,10 @@ site_height st Root = roots_of st + length (ops_of st)
 site_height st (Inside s p) = below_at st s p + after_at st s p
 site_height st (Item head rest) = roots_of st + max (head_rank head) (rest_rank rest.value)
 
--- the node that was found stands lower than this
+-- the height of the node that was found, where one was, is below this
 abbrev pub IsLower : ℕ → BenchState → Option Site → Type 0
 IsLower height st r = MatchOption r (Unit {0}) (λ n. site_height st n < height)
 
--- the node that was found stands no higher than this
+-- the height of the node that was found, where one was, is not above this
 abbrev pub IsNoHigher : ℕ → BenchState → Option Site → Type 0
 IsNoHigher height st r = MatchOption r (Unit {0}) (λ n. site_height st n ≤ height)

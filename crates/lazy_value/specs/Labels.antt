@@ -7,16 +7,16 @@ use Rattle.plan_core.specs.Unary.{Unary, project, group_by, concatenate, create_
 use Rattle.plan_core.specs.ByNumber.{by_number}
 use Rattle.plan_core.specs.TolledRows.{TolledRow}
 
--- for each variable that is bound: the label of its element, or that it holds none
+-- of each variable that is bound the label of the element that it holds, or that it holds none
 abbrev pub Labels : Type 0
 Labels = ℕ → Option (Option (List ℕ))
 
--- those of the first where they are bound there, and else those of the other
+-- the first of two, where it says something of a variable, and else the second
 abbrev pub either_label : Option (Option (List ℕ)) → Option (Option (List ℕ)) → Option (Option (List ℕ))
 either_label None l = l
 either_label (Some k) l = Some k
 
--- what an operator with one input makes of those of its input
+-- the labels of the elements that the variables of an operator with one input hold, by those of the input's
 abbrev pub unary_labels : Unary → Labels → Labels
 unary_labels (project keys) of v = cond (has_var keys v) (of v) None
 unary_labels (group_by keys piece out) of v = cond (out == v) (Some None) (cond (has_var keys v) (of v) None)
@@ -24,7 +24,7 @@ unary_labels (concatenate pieces out) of v = cond (out == v) (Some None) (of v)
 unary_labels (create_element label list out) of v = cond (out == v) (Some (Some label)) (of v)
 unary_labels op of v = of v
 
--- what each operator makes of those of its inputs
+-- the labels of the elements that the variables of an operator hold, by those of its inputs'
 abbrev pub op_labels : Operator → (ℕ → Labels) → Labels
 op_labels (source s out) of v = cond (out == v) (Some None) None
 op_labels (get_descendants input start path out) of v = cond (out == v) (Some None) (of input v)
@@ -32,10 +32,10 @@ op_labels (join left right tests) of v = either_label (of left v) (of right v)
 op_labels (over input op) of v = unary_labels op (of input) v
 op_labels (tuple_destroy input made) of v = None
 
--- those of the variables of operator n
+-- the labels of the elements that the variables of operator n hold
 unfoldable pub labels : List Operator → ℕ → Labels
 labels ops n = by_number op_labels (λ v. None) ops n
 
--- a variable stands in a binding
+-- whether a variable is bound in a binding
 abbrev pub stands_in : TolledRow → ℕ → Bool
 stands_in row v = list_any (λ p. p.0 == v) row

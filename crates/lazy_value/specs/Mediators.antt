@@ -20,11 +20,11 @@ use Rattle.lazy_value.specs.declared.mediator.Mediator.{Mediator}
 abbrev pub state_of : View → Mediator → BenchState
 state_of v m = bench.state_of v m.bench
 
--- its plan
+-- the plan of a mediator
 abbrev pub plan_of : Mediator → Plan
 plan_of m = bench.plan_of m.bench
 
--- a view means the sources of a mediator
+-- a mediator is sound over sources that mean this
 abbrev pub IsMediatorOf : View → Mediator → Type 0
 IsMediatorOf v m = IsBenchOf v m.bench
 
@@ -32,7 +32,7 @@ IsMediatorOf v m = IsBenchOf v m.bench
 abbrev pub node_left : BenchState → NodeId → ℕ
 node_left st n = ids.site_left st n.site
 
--- fewer nodes than this are to the right of the node that was found
+-- fewer nodes than this are to the right of the node that was found, where one was
 abbrev pub HasFewer : ℕ → BenchState → Option NodeId → Type 0
 HasFewer w st r = MatchOption r (Unit {0}) (λ n. node_left st n < w)
 
@@ -40,11 +40,11 @@ HasFewer w st r = MatchOption r (Unit {0}) (λ n. node_left st n < w)
 abbrev pub node_height : BenchState → NodeId → ℕ
 node_height st n = heights.site_height st n.site
 
--- the node that was found stands lower than this
+-- the height of the node that was found, where one was, is below this
 abbrev pub HasLower : ℕ → BenchState → Option NodeId → Type 0
 HasLower height st r = MatchOption r (Unit {0}) (λ n. node_height st n < height)
 
--- the node that was found stands no higher than this
+-- the height of the node that was found, where one was, is not above this
 abbrev pub HasNoHigher : ℕ → BenchState → Option NodeId → Type 0
 HasNoHigher height st r = MatchOption r (Unit {0}) (λ n. node_height st n ≤ height)
 
@@ -52,11 +52,11 @@ HasNoHigher height st r = MatchOption r (Unit {0}) (λ n. node_height st n ≤ h
 abbrev pub KeepsHeights : BenchState → BenchState → Type 0
 KeepsHeights old new = (n : NodeId) → IsNode old n → node_height new n ≤ node_height old n
 
--- from an identifier at a place the node at another is found, or there is none
+-- where an identifier stands at place p, a call answers the node at another place, or that there is none
 abbrev pub LeadsTo : BenchState → BenchState → NodeId → List ℕ → Option (List ℕ) → Result (Option NodeId) WalkFault → Type 0
 LeadsTo old new n p goal result = IsAt old n p → IfOk result (GivesPlace old new goal)
 
--- over told sources the label is that of an identifier's node
+-- where the sources are told and an identifier stands at place p, this is the label of the node there
 abbrev pub IsLabelOf : BenchState → NodeId → List ℕ → List ℕ → Type 0
 IsLabelOf st n p label = IsAt st n p → IsTrue (told st) → IsLabelAt st p label
 

@@ -26,7 +26,7 @@ use Rattle.lazy_value.specs.declared.ids.Head.TheVariants.{Whole, Built, Leaf, T
 use Rattle.lazy_value.specs.declared.ids.Origin.{Origin}
 use Rattle.lazy_value.specs.declared.ids.Origin.TheVariants.{Node, Element, Joined, All, Group as Same}
 
--- the kind of what is made there
+-- the kind of the value that is made at an origin: a node, an element or a list
 abbrev pub origin_kind : Origin → Kind
 origin_kind (Node s p) = a_node
 origin_kind (Element op at) = an_element
@@ -34,7 +34,7 @@ origin_kind (Joined op at) = a_list
 origin_kind (All op) = a_list
 origin_kind (Same op c number) = a_list
 
--- how many lists and pieces are entered on the way through it
+-- how many lists and pieces are entered on the way through the value of an origin
 abbrev pub origin_size : BenchState → Origin → ℕ
 origin_size st (Node s p) = 0
 origin_size st (Element op at) = 0
@@ -42,7 +42,7 @@ origin_size st (Joined op at) = suc (suc (pieces_count (λ v. suc (size (ops_of 
 origin_size st (All op) = 2
 origin_size st (Same op c number) = 2
 
--- how many trees it has at most
+-- how many trees the value of an origin has at most
 abbrev pub origin_extent : BenchState → Origin → ℕ
 origin_extent st (Node s p) = 1
 origin_extent st (Element op at) = 1
@@ -50,7 +50,7 @@ origin_extent st (Joined op at) = pieces_count (extent (size_of st) (ops_of st) 
 origin_extent st (All op) = size_of st (input_at (ops_of st) op)
 origin_extent st (Same op c number) = suc (size_of st (input_at (ops_of st) op))
 
--- the value of a variable in a cursor's binding is made there
+-- the value of variable v in the binding of operator n's cursor c is made at this origin
 pub record IsOriginOf (st : BenchState) (n : ℕ) (c : Position) (v : ℕ) (r : Origin) : Type 0 where
   pub origin : IsOrigin st r
   pub value : tolled_value (binding_at st n c) v ≡ value_of st r
@@ -59,7 +59,7 @@ pub record IsOriginOf (st : BenchState) (n : ℕ) (c : Position) (v : ℕ) (r : 
   pub extent : origin_extent st r ≤ extent (size_of st) (ops_of st) n v
   pub rank : origin_rank r ≤ suc n
 
--- the value of a variable is that in the binding of input i
+-- operator n has the value of variable v from the binding of its input i
 pub record IsPassedOn (p : Plan) (n v i : ℕ) : Type 0 where
   pub within : i < n
   pub input : AmongInputs i (op_at (plan_value p).ops n)
@@ -71,38 +71,38 @@ pub record IsPassedOn (p : Plan) (n v i : ℕ) : Type 0 where
   pub value : (w : World) (row below : TolledRow) (es : RowEvents) → IsMadeOf (record { world = w; plan = p }) row i below es (op_at (plan_value p).ops n)
       → tolled_value row v ≡ tolled_value below v
 
--- all that input i binds is in its binding
+-- operator n has the values of all variables of its input i from there
 abbrev pub PassesAll : Plan → ℕ → ℕ → Type 0
 PassesAll p n i = (v : ℕ) (k : Kind) → kinds (plan_value p).ops i v ≡ Some k → IsPassedOn p n v i
 
--- an operator makes the value of a variable
+-- whether an operator makes the value of a variable itself
 abbrev pub makes : Operator → ℕ → Bool
 makes (over input (group_by keys piece out)) v = out == v
 makes (over input (concatenate pieces out)) v = out == v
 makes (over input (create_element label list out)) v = out == v
 makes op v = false
 
--- the variable holds a node, or the operator makes its value
+-- variable v of operator n holds a node, or the operator makes its value itself
 abbrev pub IsMadeHere : Plan → ℕ → ℕ → Type 0
 IsMadeHere p n v = (kinds (plan_value p).ops n v ≡ Some a_node) ⊎ IsTrue (makes (op_at (plan_value p).ops n) v)
 
--- the operator does not make the value of the variable, or it is made there
+-- a call answers that operator n does not make the value of variable v, or the origin at which it is made in the binding of cursor c
 abbrev pub GivesMade : BenchState → ℕ → Position → ℕ → Option Origin → Type 0
 GivesMade st n c v r = MatchOption r (makes (op_at (ops_of st) n) v ≡ false) (IsOriginOf st n c v)
 
--- the operator makes no element of the variable, or it makes it over the binding of cursor d of its input
+-- a call answers that operator n makes no element of variable v, or the cursor of its input over whose binding it makes the element in the binding of cursor c
 abbrev pub GivesElement : BenchState → ℕ → Position → ℕ → Option Position → Type 0
 GivesElement st n c v r =
     MatchOption r (form (op_at (ops_of st) n) ≡ makes_element → makes (op_at (ops_of st) n) v ≡ false) (λ d. IsOriginOf st n c v (Element n d))
 
--- the value of a variable in a cursor's binding is this one tree
+-- the value of variable v in the binding of operator n's cursor c is the tree of this node alone
 abbrev pub IsTreeOf : BenchState → ℕ → Position → ℕ → Head → Type 0
 IsTreeOf st n c v (Whole s p) = IsOriginOf st n c v (Node s p)
 IsTreeOf st n c v (Built op at) = IsOriginOf st n c v (Element op at)
 IsTreeOf st n c v (Leaf s p) = ⊥
 IsTreeOf st n c v (Text op index) = ⊥
 
--- a node with the trees below it is the one tree of a piece
+-- a node with the trees below it is the only tree of a piece of operator op over the binding of cursor c
 pub record IsHeadOf (st : BenchState) (op index : ℕ) (c : Position) (h : Head) : Type 0 where
   pub head : IsHead st h
   pub rank : head_rank h ≤ op

@@ -10,23 +10,23 @@ use Rattle.lazy_plan.specs.Bench.{BenchState, ops_of, documents, told}
 use Rattle.lazy_value.specs.Ids as ids
 use Rattle.lazy_value.specs.declared.ids.NodeId.{NodeId}
 
--- the document of the plan, over the documents of the sources
+-- the document that the plan makes of the documents of the sources
 abbrev pub plan_document : BenchState → Option LabelledTree
 plan_document st = document (visited (documents st)) (ops_of st)
 
--- what it costs to come to the first child of the node at a place, or to learn that it has none
+-- what it costs to come to the first child of the node at a place of the document, or to learn that it has none
 abbrev pub down_toll : Documents → List Operator → List ℕ → ℕ
 down_toll docs ops p = toll (trees_below (tolled_at (tolled_document docs ops) p))
 
--- what it costs to come to its next sibling, or to learn that it has none
+-- what it costs to come to the next sibling of the node at a place of the document, or to learn that it has none
 abbrev pub right_toll : Documents → List Operator → List ℕ → ℕ
 right_toll docs ops p = toll (trees_behind (tolled_at (tolled_document docs ops) p))
 
--- the plan's document has this place
+-- the plan's document has a node at this place
 abbrev pub HasPlace : BenchState → List ℕ → Type 0
 HasPlace st p = (t : LabelledTree) → plan_document st ≡ Some t → IsTrue (has_place (alone t) p)
 
--- it has not the place that is asked for, or none is
+-- the plan's document has no node at the place that is asked for, or no place is asked for
 abbrev pub HasNoPlace : BenchState → Option (List ℕ) → Type 0
 HasNoPlace st goal = (t : LabelledTree) → plan_document st ≡ Some t → (p : List ℕ) → goal ≡ Some p → has_place (alone t) p ≡ false
 
@@ -34,7 +34,7 @@ HasNoPlace st goal = (t : LabelledTree) → plan_document st ≡ Some t → (p :
 abbrev pub IsLabelAt : BenchState → List ℕ → List ℕ → Type 0
 IsLabelAt st p label = (t : LabelledTree) → plan_document st ≡ Some t → (u : LabelledTree) × (tree_at t p ≡ Some u) × (label ≡ u.label)
 
--- an identifier of a mediator
+-- an identifier is one of the mediator
 abbrev pub IsNode : BenchState → NodeId → Type 0
 IsNode st n = ids.IsSite st n.site
 
@@ -45,17 +45,17 @@ pub record IsAt (st : BenchState) (n : NodeId) (p : List ℕ) : Type 0 where
   pub place : IsTrue (told st) → HasPlace st p
   pub here : IsTrue (told st) → ids.here st n.site ≡ paid (tolled_at (tolled_document (documents st) (ops_of st)) p)
 
--- there is no node, or the identifier is one of the mediator's
+-- a call answers no node, or an identifier of the mediator
 abbrev pub GivesNode : BenchState → Option NodeId → Type 0
 GivesNode st r = MatchOption r (Unit {0}) (IsNode st)
 
--- an identifier stands at the place that was asked for, which the document has
+-- an identifier stands at the place that is asked for, where the plan's document has a node
 pub record IsThere (old new : BenchState) (goal : Option (List ℕ)) (n : NodeId) : Type 0 where
   pub place : List ℕ
   pub asked : goal ≡ Some place
   pub has : HasPlace old place
   pub at : IsAt new n place
 
--- where the sources are told, there is no node exactly where the document has not the place that is asked for, and else the identifier stands there
+-- where the sources are told, a call answers no node exactly where the plan's document has none at the place that is asked for, and else an identifier that stands there
 abbrev pub GivesPlace : BenchState → BenchState → Option (List ℕ) → Option NodeId → Type 0
 GivesPlace old new goal r = IsTrue (told old) → MatchOption r (HasNoPlace old goal) (IsThere old new goal)

@@ -14,51 +14,51 @@ use Rattle.lazy_value.specs.declared.ids.Rest.{Rest}
 use Rattle.lazy_value.specs.declared.ids.Turn.{Turn}
 use Rattle.lazy_value.specs.declared.ids.Turn.TheVariants.{Over, At, On}
 
--- what a call leaves, whatever it answers: it keeps what every call keeps, and asks at most so many fills
+-- what a call of at most so many fills leaves, whatever it answers
 pub record Walked {S : Type 0} (view : S → View) (came_from : S → S → Type 0) (s : S) (b : Bench) (s' : S) (b' : Bench) (most : ℕ) : Type 0 where
   pub came : came_from s s'
   pub bench : IsBenchOf (view s') b'
   pub kept : KeepsBench (state_of (view s) b) (state_of (view s') b')
   pub asks : AsksAtMost (state_of (view s) b) (state_of (view s') b') most
 
--- an identifier stands for the first of these trees
+-- an identifier stands for the first of these trees, with the others after it
 pub record StandsFor (old new : BenchState) (f : Tolled) (n : Site) : Type 0 where
   pub node : IsSite new n
   pub here : IsTrue (told old) → here new n ≡ paid f
   pub tree : IsTrue (told old) → IsTrue (is_item f)
 
--- there is none of these trees, or the identifier stands for the first
+-- a call answers that these trees are none, or an identifier that stands for the first of them
 abbrev pub Reaches : BenchState → BenchState → Tolled → Option Site → Type 0
 Reaches old new f r = MatchOption r (IsTrue (told old) → is_item f ≡ false) (StandsFor old new f)
 
--- an earlier identifier stands for the same tree, with the same trees behind it, and its number did not rise
+-- an earlier identifier stands for the same tree, with the same trees after it, and its number did not rise
 pub record Stays (old new : BenchState) (n : Site) : Type 0 where
   pub node : IsSite new n
   pub here : here new n ≡ here old n
   pub left : site_left new n ≤ site_left old n
 
--- so does each earlier identifier
+-- each earlier identifier stands for the same tree, with the same trees after it, and its number did not rise
 abbrev pub KeepsSites : BenchState → BenchState → Type 0
 KeepsSites old new = (n : Site) → IsSite old n → Stays old new n
 
--- a rest of these trees, and what it cost to come to it
+-- a rest is one of these trees, fewer lists and pieces than this are to be entered in it, and coming to it cost what its toll allows
 pub record GoesOn (old new : BenchState) (f : Tolled) (w : ℕ) (r : Rest) : Type 0 where
   pub rest : IsRest new r
   pub falls : weight new r < w
   pub trees : IsTrue (told old) → (t : ℕ) × (f ≡ dearer t (rest_trees new r)) × (IsTrue (forward old) → fills_of new ≤ fills_of old + t)
 
--- what one turn over these trees comes to
+-- what one turn over these trees comes to: there is none, an identifier stands for the first, or a rest of them goes on
 abbrev pub Turns : BenchState → BenchState → Tolled → ℕ → Turn → Type 0
 Turns old new f w Over = IsTrue (told old) → is_item f ≡ false
 Turns old new f w (At n) = StandsFor old new f n
 Turns old new f w (On r) = GoesOn old new f w r.value
 
--- how many trees are left after it
+-- after one turn fewer trees are left than this where a node was found, and no more where a rest goes on
 abbrev pub Falls : ℕ → BenchState → Turn → Type 0
 Falls w st Over = Unit {0}
 Falls w st (At n) = site_left st n < w
 Falls w st (On r) = left st r.value ≤ w
 
--- the cursor stands at the first binding of these events of a group, at this place
+-- a cursor stands at the first binding of these events of a group, as the member at this place
 abbrev pub IsMember : BenchState → BenchState → ℕ → ℕ → Position → ℕ → RowEvents → ℕ → Position → Type 0
 IsMember old new op number first place es top c = Finds (told_by old) (members_of new op number first place) es top c

@@ -8,7 +8,7 @@ use Rattle.lazy_value.specs.Sizes.{size, extent}
 use Rattle.lazy_value.specs.declared.ways.Way.{Way, Top, Below'}
 use Rattle.lazy_value.specs.declared.ways.Ways.{Ways}
 
--- the value of a variable in a cursor's binding is that in the binding of cursor d of operator m
+-- the value of variable v in the binding of operator n's cursor c is that in the binding of operator m's cursor d, and is of no more lists and trees there
 pub record IsHeldAt (st : BenchState) (n : ℕ) (c : Position) (v m : ℕ) (d : Position) : Type 0 where
   pub within : m ≤ n
   pub cursor : IsCursor st m d
@@ -17,7 +17,7 @@ pub record IsHeldAt (st : BenchState) (n : ℕ) (c : Position) (v m : ℕ) (d : 
   pub size : size (ops_of st) m v ≤ size (ops_of st) n v
   pub extent : extent (size_of st) (ops_of st) m v ≤ extent (size_of st) (ops_of st) n v
 
--- all that operator m binds has in a cursor's binding the value that it has in the binding of cursor d
+-- all variables that operator m binds have in the binding of operator n's cursor c the values that they have in that of operator m's cursor d
 pub record IsBelow (st : BenchState) (n : ℕ) (c : Position) (m : ℕ) (d : Position) : Type 0 where
   pub within : m ≤ n
   pub cursor : IsCursor st m d
@@ -28,46 +28,46 @@ abbrev pub foot_op : Way → ℕ
 foot_op (Top op at) = op
 foot_op (Below' op at q above) = op
 
--- that cursor
+-- the lowest cursor of a way
 abbrev pub foot_at : Way → Position
 foot_at (Top op at) = at
 foot_at (Below' op at q above) = at
 
--- a way from this cursor of operator n
+-- a way leads from operator n's cursor c down to a cursor of an operator whose variables all have the same values in both bindings
 abbrev pub IsWay : BenchState → ℕ → Position → Way → Type 0
 IsWay st n c (Top op at) = (op ≡ n) × (at ≡ c)
 IsWay st n c (Below' op at q above) = IsBelow st n c op at × IsWay st n c above
 
--- two ways from it
+-- both of two ways are from operator n's cursor c
 abbrev pub IsWays : BenchState → ℕ → Position → Ways → Type 0
 IsWays st n c w = IsWay st n c w.last.value × IsWay st n c w.lowest.value
 
--- whatever cursor a way is from, the other one is from it too
+-- from whatever cursor the first way is, the second is from it too
 abbrev pub KeepsWay : Way → Way → Type 0
 KeepsWay old new = (st : BenchState) (n : ℕ) (c : Position) → IsWay st n c old → IsWay st n c new
 
--- so are two ways
+-- from whatever cursor both of the first two ways are, both of the second two are from it too
 abbrev pub KeepsWays : Ways → Ways → Type 0
 KeepsWays old new = KeepsWay old.last.value new.last.value × KeepsWay old.lowest.value new.lowest.value
 
--- from whatever cursor the first way is, the second is from it too, and at the lowest cursor of this the variable has the value of that binding
+-- from whatever cursor the first way is, the second is from it too, and variable v has at its lowest cursor the value that it has in the binding of that cursor
 abbrev pub GoesDown : BenchState → ℕ → Way → Way → Type 0
 GoesDown st v old new = (n : ℕ) (c : Position) → IsCursor st n c → IsWay st n c old → IsWay st n c new × IsHeldAt st n c v (foot_op new) (foot_at new)
 
--- a cursor of operator n whose binding has the variable
+-- operator n binds variable v, and has a cursor c
 pub record Has (st : BenchState) (v n : ℕ) (c : Position) : Type 0 where
   pub within : n < length (ops_of st)
   pub cursor : IsCursor st n c
   pub kind : (k : Kind) × (kinds (ops_of st) n v ≡ Some k)
 
--- a way from such a cursor
+-- a way is from a cursor of an operator that binds variable v
 pub record LeadsUp (st : BenchState) (v : ℕ) (w : Way) : Type 0 where
   pub op : ℕ
   pub at : Position
   pub has : Has st v op at
   pub way : IsWay st op at w
 
--- two ways from one
+-- two ways are from one cursor of an operator that binds variable v
 pub record Leads (st : BenchState) (v : ℕ) (w : Ways) : Type 0 where
   pub op : ℕ
   pub at : Position

@@ -17,7 +17,7 @@ use plan_forms::input_of;
 use std::alloc::{AllocError, Global};
 use std::rc::Rc;
 
-/// The next member of a group behind one. Where bindings of one group stand side by side it ends at the first of another.
+/// The next member of a group after one. Where bindings of one group stand side by side it ends at the first of another.
 fn next_of_group<S: Sources>(
     alloc: Global,
     bench: &mut Bench,
@@ -39,14 +39,14 @@ fn next_of_group<S: Sources>(
     }
 }
 
-/// The place behind another.
+/// The next place of a group; it fails only where counts are exhausted.
 fn place_behind(place: usize) -> Result<usize, AllocError>
     ensures { IfOk result (λ next. next ≡ suc place) }
 {
     place.checked_add(1).ok_or(AllocError)
 }
 
-/// The first binding of an operator, or the one behind a cursor.
+/// The first binding of an operator, or the next one after a cursor.
 fn behind<S: Sources>(
     alloc: Global,
     bench: &mut Bench,
@@ -67,7 +67,7 @@ fn behind<S: Sources>(
     }
 }
 
-/// The members of a list of all bindings behind a cursor, and what is behind them.
+/// One turn over the members of a list of all bindings after a cursor, and over what comes after the list.
 pub(crate) fn members<S: Sources>(
     alloc: Global,
     bench: &mut Bench,
@@ -93,7 +93,7 @@ pub(crate) fn members<S: Sources>(
     }
 }
 
-/// The members of a group behind a cursor, and what is behind them.
+/// One turn over the members of a group after a cursor, and over what comes after the group.
 pub(crate) fn group<S: Sources>(
     alloc: Global,
     bench: &mut Bench,

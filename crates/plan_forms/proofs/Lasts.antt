@@ -7,7 +7,7 @@ use Rattle.plan_core.specs.Typed.{IsTyped}
 use Rattle.plan_core.specs.Valid.{kinds, an_element, IsFit, EndsSingle, is_single_at, IsValid, inputs_of}
 use Rattle.plan_forms.specs.Forms.{input_of, shown_by, IsLast}
 
--- how operators end
+-- a list of operators ends with a tupleDestroy over an operator with a single binding
 pub record Ends (of : ℕ → Bool) (ops : List Operator) (d : Option Operator) : Type 0 where
   pub input : ℕ
   pub element : ℕ
@@ -17,11 +17,11 @@ pub record Ends (of : ℕ → Bool) (ops : List Operator) (d : Option Operator) 
   pub last : last_or d ops ≡ Some (tuple_destroy input element)
   pub alone : of input ≡ true
 
--- one operator before them
+-- a list that ends with a tupleDestroy does so with one operator more before it
 before : (of : ℕ → Bool) (o : Operator) (ops : List Operator) (d : Option Operator) → Ends of ops (Some o) → Ends of (o ∷ ops) d
 before of o ops d e = record { input = e.input; element = e.element; number = suc e.number; count = ap suc e.count; is = e.is; last = e.last; alone = e.alone }
 
--- they end with a tupleDestroy over a single one
+-- the operators of a valid plan end with a tupleDestroy over an operator with a single binding
 ends_are : (of : ℕ → Bool) (ops : List Operator) (d : Option Operator) → EndsSingle of ops → Ends of ops d
 ends_are of [] d h = absurd h
 ends_are of (tuple_destroy i v ∷ []) d h = record { input = i; element = v; number = 0; count = refl; is = refl; last = refl; alone = h }
@@ -32,15 +32,15 @@ ends_are of (join l r tests ∷ ops) d h = before of (join l r tests) ops d (end
 ends_are of (over i u ∷ ops) d h = before of (over i u) ops d (ends_are of ops (Some (over i u)) h)
 
 module _ (p : PlanValue) (valid : IsValid p) where
-  -- how a valid plan ends
+  -- the operators of a valid plan end with a tupleDestroy
   pub valid_ends : Ends (is_single_at p.ops) p.ops None
   valid_ends = ends_are (is_single_at p.ops) p.ops None valid.ends
 
-  -- it has an operator
+  -- a valid plan has an operator
   pub valid_some : 0 < length p.ops
   valid_some = let e = valid_ends.count in omega (arith, e)
 
-  -- the last one
+  -- the last operator of a valid plan is a tupleDestroy
   pub last_at : op_at p.ops (length p.ops - 1) ≡ tuple_destroy valid_ends.input valid_ends.element
   last_at = let e = valid_ends.count in let z : length p.ops - 1 ≡ valid_ends.number = omega (arith, e) in ap (op_at p.ops) z ∙ valid_ends.is
 
@@ -60,7 +60,7 @@ module _ (p : PlanValue) (valid : IsValid p) where
       fit : IsFit (op_at p.ops valid_ends.number) (kinds p.ops) → op_at p.ops valid_ends.number ≡ tuple_destroy valid_ends.input valid_ends.element → kinds p.ops valid_ends.input valid_ends.element ≡ Some an_element
       fit f e = subst (λ (o : Operator). IsFit o (kinds p.ops)) e f
 
--- the input and the variable that stand in it are those
+-- the input and the variable that are read off a tupleDestroy are its own
 pub last_shown : (ops : List Operator) (o : Operator) (i v j w : ℕ) (shown : List ℕ) → o ≡ tuple_destroy i v → j ≡ input_of o → shown ≡ shown_by o → w ≡ get_or shown 0 w → IsLast ops i v → IsLast ops j w
 last_shown ops o i v j w shown e f g h k =
     let x : i ≡ j = sym (f ∙ ap input_of e) in

@@ -1,2 +1,3 @@
+pub mod Better
 pub mod Binding
 pub mod Lasts

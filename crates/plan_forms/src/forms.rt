@@ -10,7 +10,7 @@ ghost use Rattle.plan_forms.specs.Forms.{pieces_of, piece_at, keys_of, input_at,
 use mix_tree::{Key, Label, Var};
 use plan_core::{Op, Piece, Plan, valid_plans_are_typed};
 
-/// The operator of a number.
+/// The operator of a number in a plan.
 pub fn operator(plan: &Plan, n: u32) -> &Op
     requires { n < length (plan_value plan.now).ops }
     ensures { op_of result.now ≡ op_at (plan_value plan.now).ops n }
@@ -18,7 +18,7 @@ pub fn operator(plan: &Plan, n: u32) -> &Op
     &plan.ops[n as usize]
 }
 
-/// The last operator.
+/// The last operator of a plan.
 fn ending(plan: &Plan) -> &Op
     requires { 0 < length (plan_value plan.now).ops }
     ensures { op_of result.now ≡ op_at (plan_value plan.now).ops (length (plan_value plan.now).ops - 1) }
@@ -26,7 +26,7 @@ fn ending(plan: &Plan) -> &Op
     &plan.ops[plan.ops.len() - 1]
 }
 
-/// The pieces of a list, or the one of a group's.
+/// The pieces of which an operator makes its list or its groups; none of any other operator.
 fn pieces_in(plan: &Plan, op: u32) -> &[Piece]
     requires op { op < length (plan_value plan.now).ops }
     requires written { IsWritten (op_at (plan_value plan.now).ops op) }
@@ -39,7 +39,7 @@ fn pieces_in(plan: &Plan, op: u32) -> &[Piece]
     }
 }
 
-/// A piece of a list or of a group's.
+/// A piece of an operator's list or of its groups, by its index.
 pub fn piece(plan: &Plan, op: u32, index: usize) -> &Piece
     requires op { op < length (plan_value plan.now).ops }
     requires index { index < length (pieces_of (op_at (plan_value plan.now).ops op)) }
@@ -66,7 +66,7 @@ pub fn input_of(plan: &Plan, op: u32) -> u32
     input_in(operator(plan, op))
 }
 
-/// The same, of the operator itself.
+/// The input of an operator, or the left one of two; 0 where it has none.
 fn input_in(op: &Op) -> u32
     ensures { result ≡ forms.input_of (op_of op.now) }
 {

@@ -5,7 +5,7 @@ ghost use Rattle.plan_core.specs.PlanMade.{op_of};
 ghost use Rattle.plan_core.specs.Typed.{IsTyped};
 ghost use Rattle.plan_core.specs.Valid.{kinds, inputs_of};
 ghost use Rattle.plan_forms.specs.Links as spec;
-ghost use Rattle.plan_forms.specs.Links.{test_link, first_link, op_link};
+ghost use Rattle.plan_forms.specs.Links.{test_link, better_link, best_link, op_link};
 
 use crate::variables::binds;
 use mix_tree::{Operand, Test, TestOp, Var};
@@ -38,7 +38,7 @@ fn link_kind(op: TestOp) -> Option<LinkKind>
     }
 }
 
-/// The variables of a comparison of equal labels or of nodes, where the left side binds one of them alone.
+/// The link of a comparison of equal labels or of nodes, where the left side binds one of its variables alone.
 fn link_of(ops: &[Op], left: u32, test: &Test) -> Option<Link>
     requires typed { IsTyped (map op_of ops.now) }
     requires op { left < length (map op_of ops.now) }
@@ -65,33 +65,47 @@ fn link_of(ops: &[Op], left: u32, test: &Test) -> Option<Link>
     }
 }
 
-/// The variables of the first comparison that has such ones.
-fn first_of(ops: &[Op], left: u32, tests: &[Test]) -> Option<Link>
-    requires typed { IsTyped (map op_of ops.now) }
-    requires op { left < length (map op_of ops.now) }
-    ensures { result ≡ first_link (kinds (map op_of ops.now) left) tests.now }
+/// Of two links the one to look up by: one by nodes before one by labels, and of two by the same the later.
+fn better(earlier: Option<Link>, later: Option<Link>) -> Option<Link>
+    ensures { result ≡ better_link earlier later }
 {
-    for test in tests {
-        if let Some(link) = link_of(ops, left, test) {
-            return Some(link);
-        }
+    match (earlier, later) {
+        (None, other) => other,
+        (Some(only), None) => Some(only),
+        (Some(first), Some(second)) => match (first.by, second.by) {
+            (LinkKind::Node, LinkKind::Label) => Some(first),
+            _ => Some(second),
+        },
     }
-    None
 }
 
-/// The same of an operator; only a join has such variables.
+/// The best link of a join's comparisons; `None` where none of them has one.
+#[tactic(auto, using(crate::proofs::Better::better_assoc, crate::proofs::Better::better_none))]
+fn best_of(ops: &[Op], left: u32, tests: &[Test]) -> Option<Link>
+    requires typed { IsTyped (map op_of ops.now) }
+    requires op { left < length (map op_of ops.now) }
+    ensures { result ≡ best_link (kinds (map op_of ops.now) left) tests.now }
+{
+    let mut best = None;
+    for test in tests {
+        best = better(best, link_of(ops, left, test));
+    }
+    best
+}
+
+/// The link by which an operator looks members up; only a join has one.
 fn join_link(ops: &[Op], op: &Op) -> Option<Link>
     requires typed { IsTyped (map op_of ops.now) }
     requires left { AllByRecursion (λ i. i < length (map op_of ops.now)) (inputs_of (op_of op.now)) }
     ensures { result ≡ op_link (map op_of ops.now) (op_of op.now) }
 {
     match op {
-        Op::Join { left, tests, .. } => first_of(ops, *left, tests),
+        Op::Join { left, tests, .. } => best_of(ops, *left, tests),
         _ => None,
     }
 }
 
-/// The same of each operator.
+/// The link by which each operator of a plan looks members up.
 pub fn links(alloc: Global, ops: &[Op]) -> Result<Vec<Option<Link>>, AllocError>
     requires { IsTyped (map op_of ops.now) }
     ensures { IfOk result (λ links. links.items ≡ map (op_link (map op_of ops.now)) (map op_of ops.now)) }

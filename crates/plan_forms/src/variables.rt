@@ -9,7 +9,7 @@ ghost use Rattle.plan_core.specs.Valid.{kinds};
 use mix_tree::{Key, Var};
 use plan_core::Op;
 
-/// The variable of a key.
+/// The variable that a key names.
 pub fn var_of(key: Key) -> Var
     ensures { result ≡ key_var key }
 {

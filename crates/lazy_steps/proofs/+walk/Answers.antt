@@ -47,7 +47,7 @@ use Rattle.lazy_binding.specs.SortedLists.{sorts}
 use Rattle.lazy_binding.specs.declared.labelled.Labelled.{Labelled}
 use Rattle.lazy_steps.proofs.OrderSteps.{Gathered, gathered_start, gathered_more, gathered_all, through, through_nothing, order_ran, order_next, order_first, order_over}
 use Rattle.lazy_binding.proofs.SortedRows.{list_count}
-use Rattle.lazy_steps.specs.declared.pass_steps.Firsts.{Firsts}
+use Rattle.lazy_steps.specs.declared.pass_steps.Distinct.{Distinct}
 use Rattle.lazy_steps.proofs.+walk.Goals as goal
 
 pub steps::advance-returns-in_err-next_event : goal.steps::advance-returns-in_err-next_event
@@ -121,30 +121,30 @@ steps::next_event-returns-in-TupleDestroy g t c =
       answer = λ u. end_over (operators c.args.walk.fixed.now) c.requires.fixed.typed c.args.walk.op c.requires.op _ _ is (world_of (g.S.Sources.view c.args.s.now) c.args.growing.now) c.args.at.now (in_shape c.requires _ is);
     })
 
-pub pass_steps::Filters::step-returns-in_err-before : goal.pass_steps::Filters::step-returns-in_err-before
-pass_steps::Filters::step-returns-in_err-before g t c = record { ran = ran_nothing g.met.S.Sources.same c.args.self.now.walk.op (ahead (world_of (g.S.Sources.view c.args.s.now) c.args.growing.now) (operators c.args.self.now.walk.fixed.now) c.args.self.now.walk.op c.args.at.now) c.args.s.now c.args.growing.now c.requires.can.bench; cause = search rules; answer = search rules }
+pub pass_steps::Filter::step-returns-in_err-before : goal.pass_steps::Filter::step-returns-in_err-before
+pass_steps::Filter::step-returns-in_err-before g t c = record { ran = ran_nothing g.met.S.Sources.same c.args.self.now.walk.op (ahead (world_of (g.S.Sources.view c.args.s.now) c.args.growing.now) (operators c.args.self.now.walk.fixed.now) c.args.self.now.walk.op c.args.at.now) c.args.s.now c.args.growing.now c.requires.can.bench; cause = search rules; answer = search rules }
 
-pub pass_steps::Filters::step-advance-requires : goal.pass_steps::Filters::step-advance-requires
-pass_steps::Filters::step-advance-requires g t c κs within =
+pub pass_steps::Filter::step-advance-requires : goal.pass_steps::Filter::step-advance-requires
+pass_steps::Filter::step-advance-requires g t c κs within =
     let over = filter_over c.requires.can c.args.self.now.input c.args.self.now.test.now c.requires.is in
     let can = over_can c.requires.can over c.in_ok-before.before.value c.in_ok-before.ensures.ok in
     let small = over.less in
     search rules
 
-pub pass_steps::Filters::step-returns-in_err-advance : goal.pass_steps::Filters::step-returns-in_err-advance
-pass_steps::Filters::step-returns-in_err-advance g t c =
+pub pass_steps::Filter::step-returns-in_err-advance : goal.pass_steps::Filter::step-returns-in_err-advance
+pass_steps::Filter::step-returns-in_err-advance g t c =
     let over = filter_over c.requires.can c.args.self.now.input c.args.self.now.test.now c.requires.is in
     let adv = rw c.in_ok-before.ensures.ok at c.advance.ensures in
     shaped c.args.at.now (passes_on c.args.self.now.input (filters c.args.self.now.test.now)) c.requires.is (record { ran = ran_over adv.ran over.costs over.less over.alone; cause = search rules; answer = search rules })
 
-pub pass_steps::Filters::step-returns-in-None : goal.pass_steps::Filters::step-returns-in-None
-pass_steps::Filters::step-returns-in-None g t c =
+pub pass_steps::Filter::step-returns-in-None : goal.pass_steps::Filter::step-returns-in-None
+pass_steps::Filter::step-returns-in-None g t c =
     let over = filter_over c.requires.can c.args.self.now.input c.args.self.now.test.now c.requires.is in
     let adv = rw c.in_ok-before.ensures.ok at c.advance.ensures in
     shaped c.args.at.now (passes_on c.args.self.now.input (filters c.args.self.now.test.now)) c.requires.is (record { ran = ran_over adv.ran over.costs over.less over.alone; cause = tt; answer = over.over (rw (c.in-None.is, c.in_ok-before.ensures.ok) at c.in_ok-advance.ensures.answer) })
 
-pub pass_steps::Filters::step-returns-then-holds : goal.pass_steps::Filters::step-returns-then-holds
-pass_steps::Filters::step-returns-then-holds g t c =
+pub pass_steps::Filter::step-returns-then-holds : goal.pass_steps::Filter::step-returns-then-holds
+pass_steps::Filter::step-returns-then-holds g t c =
     let over = filter_over c.requires.can c.args.self.now.input c.args.self.now.test.now c.requires.is in
     let adv = rw c.in_ok-before.ensures.ok at c.advance.ensures in
     let f = rw (c.in-Some.is, c.in_ok-before.ensures.ok) at c.in_ok-advance.ensures.answer in
@@ -156,8 +156,8 @@ pass_steps::Filters::step-returns-then-holds g t c =
           (in_shape c.requires.can (passes_on c.args.self.now.input (filters c.args.self.now.test.now)) c.requires.is) c.requires.can.bench adv.ran.asks _ f _ (λ u. sym (holds u) ∙ c.if-holds.true));
     })
 
-pub pass_steps::Filters::step-returns : goal.pass_steps::Filters::step-returns
-pass_steps::Filters::step-returns g t c =
+pub pass_steps::Filter::step-returns : goal.pass_steps::Filter::step-returns
+pass_steps::Filter::step-returns g t c =
     let over = filter_over c.requires.can c.args.self.now.input c.args.self.now.test.now c.requires.is in
     let adv = rw c.in_ok-before.ensures.ok at c.advance.ensures in
     let f = rw (c.in-Some.is, c.in_ok-before.ensures.ok) at c.in_ok-advance.ensures.answer in
@@ -169,30 +169,30 @@ pass_steps::Filters::step-returns g t c =
           (in_shape c.requires.can (passes_on c.args.self.now.input (filters c.args.self.now.test.now)) c.requires.is) c.requires.can.bench adv.ran.asks _ f _ (λ u. sym (holds u) ∙ c.if-holds.false));
     })
 
-pub pass_steps::Passes::step-returns-in_err-before : goal.pass_steps::Passes::step-returns-in_err-before
-pass_steps::Passes::step-returns-in_err-before g t c = record { ran = ran_nothing g.met.S.Sources.same c.args.self.now.walk.op (ahead (world_of (g.S.Sources.view c.args.s.now) c.args.growing.now) (operators c.args.self.now.walk.fixed.now) c.args.self.now.walk.op c.args.at.now) c.args.s.now c.args.growing.now c.requires.can.bench; cause = search rules; answer = search rules }
+pub pass_steps::Project::step-returns-in_err-before : goal.pass_steps::Project::step-returns-in_err-before
+pass_steps::Project::step-returns-in_err-before g t c = record { ran = ran_nothing g.met.S.Sources.same c.args.self.now.walk.op (ahead (world_of (g.S.Sources.view c.args.s.now) c.args.growing.now) (operators c.args.self.now.walk.fixed.now) c.args.self.now.walk.op c.args.at.now) c.args.s.now c.args.growing.now c.requires.can.bench; cause = search rules; answer = search rules }
 
-pub pass_steps::Passes::step-advance-requires : goal.pass_steps::Passes::step-advance-requires
-pass_steps::Passes::step-advance-requires g t c κs within =
+pub pass_steps::Project::step-advance-requires : goal.pass_steps::Project::step-advance-requires
+pass_steps::Project::step-advance-requires g t c κs within =
     let over = each_over c.requires.can c.args.self.now.input c.requires.is.0 c.requires.is.1 c.requires.is.2 in
     let can = over_can c.requires.can over c.in_ok-before.before.value c.in_ok-before.ensures.ok in
     let small = over.less in
     search rules
 
-pub pass_steps::Passes::step-returns-in_err-advance : goal.pass_steps::Passes::step-returns-in_err-advance
-pass_steps::Passes::step-returns-in_err-advance g t c =
+pub pass_steps::Project::step-returns-in_err-advance : goal.pass_steps::Project::step-returns-in_err-advance
+pass_steps::Project::step-returns-in_err-advance g t c =
     let over = each_over c.requires.can c.args.self.now.input c.requires.is.0 c.requires.is.1 c.requires.is.2 in
     let adv = rw c.in_ok-before.ensures.ok at c.advance.ensures in
     shaped c.args.at.now (passes_on c.args.self.now.input c.requires.is.0) c.requires.is.1 (record { ran = ran_over adv.ran over.costs over.less over.alone; cause = search rules; answer = search rules })
 
-pub pass_steps::Passes::step-returns-in-None : goal.pass_steps::Passes::step-returns-in-None
-pass_steps::Passes::step-returns-in-None g t c =
+pub pass_steps::Project::step-returns-in-None : goal.pass_steps::Project::step-returns-in-None
+pass_steps::Project::step-returns-in-None g t c =
     let over = each_over c.requires.can c.args.self.now.input c.requires.is.0 c.requires.is.1 c.requires.is.2 in
     let adv = rw c.in_ok-before.ensures.ok at c.advance.ensures in
     shaped c.args.at.now (passes_on c.args.self.now.input c.requires.is.0) c.requires.is.1 (record { ran = ran_over adv.ran over.costs over.less over.alone; cause = tt; answer = over.over (rw (c.in-None.is, c.in_ok-before.ensures.ok) at c.in_ok-advance.ensures.answer) })
 
-pub pass_steps::Passes::step-returns : goal.pass_steps::Passes::step-returns
-pass_steps::Passes::step-returns g t c =
+pub pass_steps::Project::step-returns : goal.pass_steps::Project::step-returns
+pass_steps::Project::step-returns g t c =
     let over = each_over c.requires.can c.args.self.now.input c.requires.is.0 c.requires.is.1 c.requires.is.2 in
     let adv = rw c.in_ok-before.ensures.ok at c.advance.ensures in
     let f = rw (c.in-Some.is, c.in_ok-before.ensures.ok) at c.in_ok-advance.ensures.answer in
@@ -203,11 +203,11 @@ pass_steps::Passes::step-returns g t c =
           c.requires.is.0 c.requires.is.1 c.requires.is.2 (in_shape c.requires.can (passes_on c.args.self.now.input c.requires.is.0) c.requires.is.1) _;
     })
 
-pub pass_steps::Firsts::step-returns-in_err-later : goal.pass_steps::Firsts::step-returns-in_err-later
-pass_steps::Firsts::step-returns-in_err-later g t c = record { ran = ran_nothing g.met.S.Sources.same c.args.self.now.walk.op (ahead (world_of (g.S.Sources.view c.args.s.now) c.args.growing.now) (operators c.args.self.now.walk.fixed.now) c.args.self.now.walk.op c.args.at.now) c.args.s.now c.args.growing.now c.requires.can.bench; cause = search rules; answer = search rules }
+pub pass_steps::Distinct::step-returns-in_err-later : goal.pass_steps::Distinct::step-returns-in_err-later
+pass_steps::Distinct::step-returns-in_err-later g t c = record { ran = ran_nothing g.met.S.Sources.same c.args.self.now.walk.op (ahead (world_of (g.S.Sources.view c.args.s.now) c.args.growing.now) (operators c.args.self.now.walk.fixed.now) c.args.self.now.walk.op c.args.at.now) c.args.s.now c.args.growing.now c.requires.can.bench; cause = search rules; answer = search rules }
 
-pub pass_steps::Firsts::step-returns-in-Some : goal.pass_steps::Firsts::step-returns-in-Some
-pass_steps::Firsts::step-returns-in-Some g t c =
+pub pass_steps::Distinct::step-returns-in-Some : goal.pass_steps::Distinct::step-returns-in-Some
+pass_steps::Distinct::step-returns-in-Some g t c =
     let later = rw c.in-Some.is at c.in_ok-later.ensures.later in
     shaped c.args.at.now (passes_on c.args.self.now.input (first_by_keys c.args.self.now.keys.now c.requires.is.0)) c.requires.is.1 (record {
       ran = ran_nothing g.met.S.Sources.same c.args.self.now.walk.op _ c.args.s.now c.args.growing.now c.requires.can.bench;
@@ -215,47 +215,47 @@ pass_steps::Firsts::step-returns-in-Some g t c =
       answer = firsts_resume (operators c.args.self.now.walk.fixed.now) c.args.self.now.walk.op c.args.self.now.input c.args.self.now.keys.now c.requires.is.0 c.requires.is.1 (world_of (g.S.Sources.view c.args.s.now) c.args.growing.now) c.requires.can.bench c.args.at.now (in_shape c.requires.can (passes_on c.args.self.now.input (first_by_keys c.args.self.now.keys.now c.requires.is.0)) c.requires.is.1) c.in-Some.later later;
     })
 
-pub pass_steps::Firsts::next_key-returns-in_err-before : goal.pass_steps::Firsts::next_key-returns-in_err-before
-pass_steps::Firsts::next_key-returns-in_err-before g t c = record { ran = ran_nothing g.met.S.Sources.same c.args.self.now.walk.op (ahead (world_of (g.S.Sources.view c.args.s.now) c.args.growing.now) (operators c.args.self.now.walk.fixed.now) c.args.self.now.walk.op c.args.at.now) c.args.s.now c.args.growing.now c.requires.can.bench; cause = search rules; answer = search rules }
+pub pass_steps::Distinct::next_key-returns-in_err-before : goal.pass_steps::Distinct::next_key-returns-in_err-before
+pass_steps::Distinct::next_key-returns-in_err-before g t c = record { ran = ran_nothing g.met.S.Sources.same c.args.self.now.walk.op (ahead (world_of (g.S.Sources.view c.args.s.now) c.args.growing.now) (operators c.args.self.now.walk.fixed.now) c.args.self.now.walk.op c.args.at.now) c.args.s.now c.args.growing.now c.requires.can.bench; cause = search rules; answer = search rules }
 
-pub pass_steps::Firsts::next_key-advance-requires : goal.pass_steps::Firsts::next_key-advance-requires
-pass_steps::Firsts::next_key-advance-requires g t c κs within =
+pub pass_steps::Distinct::next_key-advance-requires : goal.pass_steps::Distinct::next_key-advance-requires
+pass_steps::Distinct::next_key-advance-requires g t c κs within =
     let over = firsts_over c.requires.can c.args.self.now.input c.args.self.now.keys.now c.requires.is.0 c.requires.is.1 c.requires.is.2 in
     let can = over_can c.requires.can over c.in_ok-before.before.value c.in_ok-before.ensures.ok in
     let small = over.less in
     search rules
 
-pub pass_steps::Firsts::next_key-returns-in_err-advance : goal.pass_steps::Firsts::next_key-returns-in_err-advance
-pass_steps::Firsts::next_key-returns-in_err-advance g t c =
+pub pass_steps::Distinct::next_key-returns-in_err-advance : goal.pass_steps::Distinct::next_key-returns-in_err-advance
+pass_steps::Distinct::next_key-returns-in_err-advance g t c =
     let over = firsts_over c.requires.can c.args.self.now.input c.args.self.now.keys.now c.requires.is.0 c.requires.is.1 c.requires.is.2 in
     let adv = rw c.in_ok-before.ensures.ok at c.advance.ensures in
     shaped c.args.at.now (passes_on c.args.self.now.input (first_by_keys c.args.self.now.keys.now c.requires.is.0)) c.requires.is.1 (record { ran = ran_over adv.ran over.costs over.less over.alone; cause = search rules; answer = search rules })
 
-pub pass_steps::Firsts::next_key-returns-in-None : goal.pass_steps::Firsts::next_key-returns-in-None
-pass_steps::Firsts::next_key-returns-in-None g t c =
+pub pass_steps::Distinct::next_key-returns-in-None : goal.pass_steps::Distinct::next_key-returns-in-None
+pass_steps::Distinct::next_key-returns-in-None g t c =
     let over = firsts_over c.requires.can c.args.self.now.input c.args.self.now.keys.now c.requires.is.0 c.requires.is.1 c.requires.is.2 in
     let adv = rw c.in_ok-before.ensures.ok at c.advance.ensures in
     shaped c.args.at.now (passes_on c.args.self.now.input (first_by_keys c.args.self.now.keys.now c.requires.is.0)) c.requires.is.1 (record { ran = ran_over adv.ran over.costs over.less over.alone; cause = tt; answer = over.over (rw (c.in-None.is, c.in_ok-before.ensures.ok) at c.in_ok-advance.ensures.answer) })
 
-pub pass_steps::Firsts::next_key-returns-in_err-key-in-Some : goal.pass_steps::Firsts::next_key-returns-in_err-key-in-Some
-pass_steps::Firsts::next_key-returns-in_err-key-in-Some g t c =
+pub pass_steps::Distinct::next_key-returns-in_err-key-in-Some : goal.pass_steps::Distinct::next_key-returns-in_err-key-in-Some
+pass_steps::Distinct::next_key-returns-in_err-key-in-Some g t c =
     let over = firsts_over c.requires.can c.args.self.now.input c.args.self.now.keys.now c.requires.is.0 c.requires.is.1 c.requires.is.2 in
     let adv = rw c.in_ok-before.ensures.ok at c.advance.ensures in
     shaped c.args.at.now (passes_on c.args.self.now.input (first_by_keys c.args.self.now.keys.now c.requires.is.0)) c.requires.is.1 (record { ran = ran_over adv.ran over.costs over.less over.alone; cause = search rules; answer = search rules })
 
-pub pass_steps::Firsts::next_key-key_of-requires-clause-keys : goal.pass_steps::Firsts::next_key-key_of-requires-clause-keys
-pass_steps::Firsts::next_key-key_of-requires-clause-keys g t c = keys_fit (operators c.args.self.now.walk.fixed.now) c.requires.can.fixed.typed c.args.self.now.walk.op c.requires.can.op c.args.self.now.input c.args.self.now.keys.now c.requires.is.0 c.requires.is.1
+pub pass_steps::Distinct::next_key-key_of-requires-clause-keys : goal.pass_steps::Distinct::next_key-key_of-requires-clause-keys
+pass_steps::Distinct::next_key-key_of-requires-clause-keys g t c = keys_fit (operators c.args.self.now.walk.fixed.now) c.requires.can.fixed.typed c.args.self.now.walk.op c.requires.can.op c.args.self.now.input c.args.self.now.keys.now c.requires.is.0 c.requires.is.1
 
-pub pass_steps::Firsts::next_key-first_of_key-requires-clause-count : goal.pass_steps::Firsts::next_key-first_of_key-requires-clause-count
-pass_steps::Firsts::next_key-first_of_key-requires-clause-count g t c =
+pub pass_steps::Distinct::next_key-first_of_key-requires-clause-count : goal.pass_steps::Distinct::next_key-first_of_key-requires-clause-count
+pass_steps::Distinct::next_key-first_of_key-requires-clause-count g t c =
     let adv = rw c.in_ok-before.ensures.ok at c.advance.ensures in
     let within = in_shape c.requires.can (passes_on c.args.self.now.input (first_by_keys c.args.self.now.keys.now c.requires.is.0)) c.requires.is.1 in
     let few = firsts_count (operators c.args.self.now.walk.fixed.now) c.args.self.now.walk.op c.args.self.now.input c.args.self.now.keys.now c.requires.is.0 c.requires.is.2 (world_of (g.S.Sources.view c.args.s.now) c.args.growing.now) c.args.at.now within in
     let more = adv.ran.asks.kept.longer c.args.self.now.walk.op in
     omega (arith, few, more, c.seen_up_to-count.ensures)
 
-pub pass_steps::Firsts::next_key-returns : goal.pass_steps::Firsts::next_key-returns
-pass_steps::Firsts::next_key-returns g t c =
+pub pass_steps::Distinct::next_key-returns : goal.pass_steps::Distinct::next_key-returns
+pass_steps::Distinct::next_key-returns g t c =
     let adv = rw c.in_ok-before.ensures.ok at c.advance.ensures in
     let h = rw c.in-Some.is at c.in_ok-advance.ensures.answer in
     let f = rw (c.in-Some.is, c.in_ok-before.ensures.ok) at c.in_ok-advance.ensures.answer in
@@ -267,39 +267,39 @@ pass_steps::Firsts::next_key-returns g t c =
       answer = firsts_result (operators c.args.self.now.walk.fixed.now) c.args.self.now.walk.op c.args.self.now.input c.args.self.now.keys.now c.requires.is.0 c.requires.is.2 c.requires.is.3 c.requires.can.fixed.typed c.requires.can.op c.requires.is.1 (world_of (g.S.Sources.view c.args.s.now) c.args.growing.now) c.args.at.now (in_shape c.requires.can (passes_on c.args.self.now.input (first_by_keys c.args.self.now.keys.now c.requires.is.0)) c.requires.is.1) _ c.requires.can.bench adv.ran.asks _ f adv.ran.bench c.in_ok-key-in-Some.key.items parts value c.spots_are_one.ensures c.first_of_key.new.seen.items c.first_of_key.ensures.grows (rw c.seen_up_to-count.ensures at c.first_of_key.ensures.pushed) c.first_of_key.result (rw c.seen_up_to-count.ensures at c.first_of_key.ensures.answer);
     })
 
-pub pair_steps::Pairs::next_left-returns-in_err-advance : goal.pair_steps::Pairs::next_left-returns-in_err-advance
-pair_steps::Pairs::next_left-returns-in_err-advance g t c = record { ran = left_ran c.args.self.now.left c.args.self.now.right c.args.self.now.walk.op c.args.self.now.tests.now c.requires.can c.requires.op c.requires.is c.advance.ensures.ran; cause = search rules; answer = search rules }
+pub join_steps::Join::next_left-returns-in_err-advance : goal.join_steps::Join::next_left-returns-in_err-advance
+join_steps::Join::next_left-returns-in_err-advance g t c = record { ran = left_ran c.args.self.now.left c.args.self.now.right c.args.self.now.walk.op c.args.self.now.tests.now c.requires.can c.requires.op c.requires.is c.advance.ensures.ran; cause = search rules; answer = search rules }
 
-pub pair_steps::Pairs::next_left-returns-in_err-start-in-Some : goal.pair_steps::Pairs::next_left-returns-in_err-start-in-Some
-pair_steps::Pairs::next_left-returns-in_err-start-in-Some g t c = record { ran = left_ran c.args.self.now.left c.args.self.now.right c.args.self.now.walk.op c.args.self.now.tests.now c.requires.can c.requires.op c.requires.is c.advance.ensures.ran; cause = search rules; answer = search rules }
+pub join_steps::Join::next_left-returns-in_err-start-in-Some : goal.join_steps::Join::next_left-returns-in_err-start-in-Some
+join_steps::Join::next_left-returns-in_err-start-in-Some g t c = record { ran = left_ran c.args.self.now.left c.args.self.now.right c.args.self.now.walk.op c.args.self.now.tests.now c.requires.can c.requires.op c.requires.is c.advance.ensures.ran; cause = search rules; answer = search rules }
 
-pub pair_steps::Pairs::next_left-returns-in-None : goal.pair_steps::Pairs::next_left-returns-in-None
-pair_steps::Pairs::next_left-returns-in-None g t c = record { ran = left_ran c.args.self.now.left c.args.self.now.right c.args.self.now.walk.op c.args.self.now.tests.now c.requires.can c.requires.op c.requires.is c.advance.ensures.ran; cause = tt; answer = left_done (operators c.args.self.now.walk.fixed.now) c.args.self.now.walk.op c.args.self.now.left c.args.self.now.right c.args.self.now.tests.now c.requires.can.fixed.typed c.requires.op c.requires.is (world_of (g.S.Sources.view c.args.s.now) c.args.growing.now) (world_of (g.S.Sources.view c.args.s.now) c.args.growing.now) c.requires.can.bench c.args.l.now.value (rw c.in-None.is at c.in_ok-advance.ensures.answer) }
+pub join_steps::Join::next_left-returns-in-None : goal.join_steps::Join::next_left-returns-in-None
+join_steps::Join::next_left-returns-in-None g t c = record { ran = left_ran c.args.self.now.left c.args.self.now.right c.args.self.now.walk.op c.args.self.now.tests.now c.requires.can c.requires.op c.requires.is c.advance.ensures.ran; cause = tt; answer = left_done (operators c.args.self.now.walk.fixed.now) c.args.self.now.walk.op c.args.self.now.left c.args.self.now.right c.args.self.now.tests.now c.requires.can.fixed.typed c.requires.op c.requires.is (world_of (g.S.Sources.view c.args.s.now) c.args.growing.now) (world_of (g.S.Sources.view c.args.s.now) c.args.growing.now) c.requires.can.bench c.args.l.now.value (rw c.in-None.is at c.in_ok-advance.ensures.answer) }
 
-pub pair_steps::Pairs::next_left-returns-in_ok-start-in-Some : goal.pair_steps::Pairs::next_left-returns-in_ok-start-in-Some
-pair_steps::Pairs::next_left-returns-in_ok-start-in-Some g t c = record {
+pub join_steps::Join::next_left-returns-in_ok-start-in-Some : goal.join_steps::Join::next_left-returns-in_ok-start-in-Some
+join_steps::Join::next_left-returns-in_ok-start-in-Some g t c = record {
   ran = left_ran c.args.self.now.left c.args.self.now.right c.args.self.now.walk.op c.args.self.now.tests.now c.requires.can c.requires.op c.requires.is c.advance.ensures.ran;
   cause = tt;
   answer = rw c.in_ok-start-in-Some.ensures.ok
       (left_on (operators c.args.self.now.walk.fixed.now) c.args.self.now.walk.op c.args.self.now.left c.args.self.now.right c.args.self.now.tests.now c.requires.can.fixed.typed c.requires.op c.requires.is (world_of (g.S.Sources.view c.args.s.now) c.args.growing.now) _ c.requires.can.bench c.args.l.now.value c.advance.ensures.ran.asks _ (rw c.in-Some.is at c.in_ok-advance.ensures.answer) _ _);
 }
 
-pub pair_steps::Pairs::step-next_left-requires : goal.pair_steps::Pairs::step-next_left-requires
-pair_steps::Pairs::step-next_left-requires g t c κs within =
+pub join_steps::Join::step-next_left-requires : goal.join_steps::Join::step-next_left-requires
+join_steps::Join::step-next_left-requires g t c κs within =
     let begins = pair_or_start (operators c.args.self.now.walk.fixed.now) c.args.self.now.walk.op c.args.self.now.left c.args.self.now.right c.args.self.now.tests.now (world_of (g.S.Sources.view c.args.s.now) c.args.growing.now) c.args.at.now (in_shape c.requires.can (pairs_up c.args.self.now.left c.args.self.now.right c.args.self.now.tests.now) c.requires.is) (λ q x q' y m e. c.in_default.not-Pair (record { ptr = q.ptr; value = x }) (record { ptr = q'.ptr; value = y }) m e) in
     let same : c.in_ok-start-in_default.start.value ≡ c.args.at.now = c.in_ok-start-in_default.ensures.ok ∙ sym begins in
     let can : CanStep (g.S.Sources.view c.args.s.now) c.args.growing.now c.args.self.now.walk.fixed.now c.args.self.now.left c.in_ok-start-in_default.start.value = rw same (left_can c.requires.can c.args.self.now.left c.args.self.now.right c.args.self.now.tests.now c.requires.is begins) in
     let small = (sides c.requires.can c.args.self.now.left c.args.self.now.right c.args.self.now.tests.now c.requires.is).0 in
     search rules
 
-pub pair_steps::Pairs::step-returns-in_err-start-in_default : goal.pair_steps::Pairs::step-returns-in_err-start-in_default
-pair_steps::Pairs::step-returns-in_err-start-in_default g t c = shaped c.args.at.now (pairs_up c.args.self.now.left c.args.self.now.right c.args.self.now.tests.now) c.requires.is (record { ran = ran_nothing g.met.S.Sources.same c.args.self.now.walk.op _ c.args.s.now c.args.growing.now c.requires.can.bench; cause = search rules; answer = search rules })
+pub join_steps::Join::step-returns-in_err-start-in_default : goal.join_steps::Join::step-returns-in_err-start-in_default
+join_steps::Join::step-returns-in_err-start-in_default g t c = shaped c.args.at.now (pairs_up c.args.self.now.left c.args.self.now.right c.args.self.now.tests.now) c.requires.is (record { ran = ran_nothing g.met.S.Sources.same c.args.self.now.walk.op _ c.args.s.now c.args.growing.now c.requires.can.bench; cause = search rules; answer = search rules })
 
-pub pair_steps::Pairs::step-returns-in_err-place-in-Pair : goal.pair_steps::Pairs::step-returns-in_err-place-in-Pair
-pair_steps::Pairs::step-returns-in_err-place-in-Pair g t c = shaped c.args.at.now (pairs_up c.args.self.now.left c.args.self.now.right c.args.self.now.tests.now) c.requires.is (record { ran = ran_nothing g.met.S.Sources.same c.args.self.now.walk.op _ c.args.s.now c.args.growing.now c.requires.can.bench; cause = search rules; answer = search rules })
+pub join_steps::Join::step-returns-in_err-place-in-Pair : goal.join_steps::Join::step-returns-in_err-place-in-Pair
+join_steps::Join::step-returns-in_err-place-in-Pair g t c = shaped c.args.at.now (pairs_up c.args.self.now.left c.args.self.now.right c.args.self.now.tests.now) c.requires.is (record { ran = ran_nothing g.met.S.Sources.same c.args.self.now.walk.op _ c.args.s.now c.args.growing.now c.requires.can.bench; cause = search rules; answer = search rules })
 
-pub pair_steps::Pairs::step-returns-in_ok-start-in_default : goal.pair_steps::Pairs::step-returns-in_ok-start-in_default
-pair_steps::Pairs::step-returns-in_ok-start-in_default g t c =
+pub join_steps::Join::step-returns-in_ok-start-in_default : goal.join_steps::Join::step-returns-in_ok-start-in_default
+join_steps::Join::step-returns-in_ok-start-in_default g t c =
     let begins = pair_or_start (operators c.args.self.now.walk.fixed.now) c.args.self.now.walk.op c.args.self.now.left c.args.self.now.right c.args.self.now.tests.now (world_of (g.S.Sources.view c.args.s.now) c.args.growing.now) c.args.at.now (in_shape c.requires.can (pairs_up c.args.self.now.left c.args.self.now.right c.args.self.now.tests.now) c.requires.is) (λ q x q' y m e. c.in_default.not-Pair (record { ptr = q.ptr; value = x }) (record { ptr = q'.ptr; value = y }) m e) in
     let goes = pairs_begin (operators c.args.self.now.walk.fixed.now) c.args.self.now.walk.op c.args.self.now.left c.args.self.now.right c.args.self.now.tests.now c.requires.can.fixed.typed c.requires.can.op c.requires.is (world_of (g.S.Sources.view c.args.s.now) c.args.growing.now) c.requires.can.bench c.args.at.now begins in
     let same : c.in_ok-start-in_default.start.value ≡ c.args.at.now = c.in_ok-start-in_default.ensures.ok ∙ sym begins in
@@ -310,33 +310,33 @@ pair_steps::Pairs::step-returns-in_ok-start-in_default g t c =
       answer = goes_result _ goes (pairs_up c.args.self.now.left c.args.self.now.right c.args.self.now.tests.now) c.next_left.result left.answer;
     })
 
-pub visit_steps::Visits::step-next-requires-clause-bench : goal.visit_steps::Visits::step-next-requires-clause-bench
-visit_steps::Visits::step-next-requires-clause-bench g t c = rw c.visit.ensures.is c.requires.can.bench
+pub path_scan::PathScan::step-next-requires-clause-bench : goal.path_scan::PathScan::step-next-requires-clause-bench
+path_scan::PathScan::step-next-requires-clause-bench g t c = rw c.visit.ensures.is c.requires.can.bench
 
-pub visit_steps::Visits::step-next-requires-clause-read : goal.visit_steps::Visits::step-next-requires-clause-read
-visit_steps::Visits::step-next-requires-clause-read g t c = rw c.visit.ensures.is (in_visit c.requires.can c.args.self.now.input c.args.self.now.start c.args.self.now.path.now c.args.self.now.out c.requires.is (record { ptr = c.in-Found.below.ptr; value = tt }) _ _ _ c.in-Found.is).3
+pub path_scan::PathScan::step-next-requires-clause-read : goal.path_scan::PathScan::step-next-requires-clause-read
+path_scan::PathScan::step-next-requires-clause-read g t c = rw c.visit.ensures.is (in_visit c.requires.can c.args.self.now.input c.args.self.now.start c.args.self.now.path.now c.args.self.now.out c.requires.is (record { ptr = c.in-Found.below.ptr; value = tt }) _ _ _ c.in-Found.is).3
 
-pub visit_steps::Visits::step-next-requires-clause-at : goal.visit_steps::Visits::step-next-requires-clause-at
-visit_steps::Visits::step-next-requires-clause-at g t c = rw c.visit.ensures.is (in_visit c.requires.can c.args.self.now.input c.args.self.now.start c.args.self.now.path.now c.args.self.now.out c.requires.is (record { ptr = c.in-Found.below.ptr; value = tt }) _ _ _ c.in-Found.is).4
+pub path_scan::PathScan::step-next-requires-clause-at : goal.path_scan::PathScan::step-next-requires-clause-at
+path_scan::PathScan::step-next-requires-clause-at g t c = rw c.visit.ensures.is (in_visit c.requires.can c.args.self.now.input c.args.self.now.start c.args.self.now.path.now c.args.self.now.out c.requires.is (record { ptr = c.in-Found.below.ptr; value = tt }) _ _ _ c.in-Found.is).4
 
-pub visit_steps::Visits::step-returns-in_err-next-in-Found : goal.visit_steps::Visits::step-returns-in_err-next-in-Found
-visit_steps::Visits::step-returns-in_err-next-in-Found g t c =
+pub path_scan::PathScan::step-returns-in_err-next-in-Found : goal.path_scan::PathScan::step-returns-in_err-next-in-Found
+path_scan::PathScan::step-returns-in_err-next-in-Found g t c =
     let asked = (next_sought (machine_of c.visit.result.auto.now) (machine_of (table_of c.args.self.now.path.now)) c.visit.ensures.auto c.in-Found.source c.in-Found.found _ _ (rw c.visit.ensures.is at c.next.ensures)).asked in
     placed c.args.at.now _ c.in-Found.is (visits_below c.args.self.now.input c.args.self.now.start c.args.self.now.path.now c.args.self.now.out) c.requires.is (record { ran = match_ran c.requires.can c.args.self.now.input c.args.self.now.start c.args.self.now.path.now c.args.self.now.out c.requires.is (record { ptr = c.in-Found.below.ptr; value = tt }) _ _ _ c.in-Found.is asked; cause = search rules; answer = search rules })
 
-pub visit_steps::Visits::step-returns-in_err-share-in-Some : goal.visit_steps::Visits::step-returns-in_err-share-in-Some
-visit_steps::Visits::step-returns-in_err-share-in-Some g t c =
+pub path_scan::PathScan::step-returns-in_err-share-in-Some : goal.path_scan::PathScan::step-returns-in_err-share-in-Some
+path_scan::PathScan::step-returns-in_err-share-in-Some g t c =
     let asked = (next_sought (machine_of c.visit.result.auto.now) (machine_of (table_of c.args.self.now.path.now)) c.visit.ensures.auto c.in-Found.source c.in-Found.found _ _ (rw c.visit.ensures.is at c.next.ensures)).asked in
     placed c.args.at.now _ c.in-Found.is (visits_below c.args.self.now.input c.args.self.now.start c.args.self.now.path.now c.args.self.now.out) c.requires.is (record { ran = match_ran c.requires.can c.args.self.now.input c.args.self.now.start c.args.self.now.path.now c.args.self.now.out c.requires.is (record { ptr = c.in-Found.below.ptr; value = tt }) _ _ _ c.in-Found.is asked; cause = search rules; answer = search rules })
 
-pub visit_steps::Visits::step-next_start-requires : goal.visit_steps::Visits::step-next_start-requires
-visit_steps::Visits::step-next_start-requires g t c κs within =
+pub path_scan::PathScan::step-next_start-requires : goal.path_scan::PathScan::step-next_start-requires
+path_scan::PathScan::step-next_start-requires g t c κs within =
     let can = can_then (input_can c.requires.can c.args.self.now.input c.args.self.now.start c.args.self.now.path.now c.args.self.now.out c.requires.is (record { ptr = c.in-Found.below.ptr; value = tt }) _ _ _ c.in-Found.is) (g.S.Sources.view c.next.new.s) c.next.new.growing (rw c.visit.ensures.is at c.next.ensures).asked.bench (rw c.visit.ensures.is at c.next.ensures).asked.kept in
     let small = input_below c.requires.can c.args.self.now.input c.args.self.now.start c.args.self.now.path.now c.args.self.now.out c.requires.is in
     search rules
 
-pub visit_steps::Visits::step-returns-in-None : goal.visit_steps::Visits::step-returns-in-None
-visit_steps::Visits::step-returns-in-None g t c =
+pub path_scan::PathScan::step-returns-in-None : goal.path_scan::PathScan::step-returns-in-None
+path_scan::PathScan::step-returns-in-None g t c =
     let asked = (next_sought (machine_of c.visit.result.auto.now) (machine_of (table_of c.args.self.now.path.now)) c.visit.ensures.auto c.in-Found.source c.in-Found.found _ _ (rw c.visit.ensures.is at c.next.ensures)).asked in
     let none = (next_sought (machine_of c.visit.result.auto.now) (machine_of (table_of c.args.self.now.path.now)) c.visit.ensures.auto c.in-Found.source c.in-Found.found _ _ (rw c.visit.ensures.is at c.in_ok-next-in-Found.ensures)).answer in
     let goes = match_then c.requires.can c.args.self.now.input c.args.self.now.start c.args.self.now.path.now c.args.self.now.out c.requires.is (record { ptr = c.in-Found.below.ptr; value = tt }) _ _ _ c.in-Found.is asked (rw c.in-None.is at none) in
@@ -346,8 +346,8 @@ visit_steps::Visits::step-returns-in-None g t c =
       answer = goes_result _ goes (visits_below c.args.self.now.input c.args.self.now.start c.args.self.now.path.now c.args.self.now.out) c.next_start.result c.next_start.ensures.answer;
     })
 
-pub visit_steps::Visits::step-returns-in_ok-share-in-Some : goal.visit_steps::Visits::step-returns-in_ok-share-in-Some
-visit_steps::Visits::step-returns-in_ok-share-in-Some g t c =
+pub path_scan::PathScan::step-returns-in_ok-share-in-Some : goal.path_scan::PathScan::step-returns-in_ok-share-in-Some
+path_scan::PathScan::step-returns-in_ok-share-in-Some g t c =
     let asked = (next_sought (machine_of c.visit.result.auto.now) (machine_of (table_of c.args.self.now.path.now)) c.visit.ensures.auto c.in-Found.source c.in-Found.found _ _ (rw c.visit.ensures.is at c.next.ensures)).asked in
     let found = (next_sought (machine_of c.visit.result.auto.now) (machine_of (table_of c.args.self.now.path.now)) c.visit.ensures.auto c.in-Found.source c.in-Found.found _ _ (rw c.visit.ensures.is at c.in_ok-next-in-Found.ensures)).answer in
     placed c.args.at.now _ c.in-Found.is (visits_below c.args.self.now.input c.args.self.now.start c.args.self.now.path.now c.args.self.now.out) c.requires.is (record {
@@ -357,19 +357,19 @@ visit_steps::Visits::step-returns-in_ok-share-in-Some g t c =
           (ap (λ (y : Position). Found' c.in-Found.source (record { ptr = c.in_ok-share-in-Some.field-0.ptr; value = tt }) y c.in-Some.found) c.in_ok-share-in-Some.ensures.ok);
     })
 
-pub visit_steps::Visits::step-next_start-requires-in_default : goal.visit_steps::Visits::step-next_start-requires-in_default
-visit_steps::Visits::step-next_start-requires-in_default g t c κs within =
+pub path_scan::PathScan::step-next_start-requires-in_default : goal.path_scan::PathScan::step-next_start-requires-in_default
+path_scan::PathScan::step-next_start-requires-in_default g t c κs within =
     let begins = found_or_start (operators c.args.self.now.walk.fixed.now) c.args.self.now.walk.op c.args.self.now.input c.args.self.now.start c.args.self.now.path.now c.args.self.now.out (world_of (g.S.Sources.view c.args.s.now) c.args.growing.now) c.args.at.now (in_shape c.requires.can (visits_below c.args.self.now.input c.args.self.now.start c.args.self.now.path.now c.args.self.now.out) c.requires.is) (λ q x s d e. c.in_default.not-Found s (record { ptr = q.ptr; value = x }) d e) in
     let same : c.in_ok-start-in_default.start.value ≡ c.args.at.now = c.in_ok-start-in_default.ensures.ok ∙ sym begins in
     let can : CanStep (g.S.Sources.view c.args.s.now) c.args.growing.now c.args.self.now.walk.fixed.now c.args.self.now.input c.in_ok-start-in_default.start.value = rw same (start_can c.requires.can c.args.self.now.input c.args.self.now.start c.args.self.now.path.now c.args.self.now.out c.requires.is begins) in
     let small = input_below c.requires.can c.args.self.now.input c.args.self.now.start c.args.self.now.path.now c.args.self.now.out c.requires.is in
     search rules
 
-pub visit_steps::Visits::step-returns-in_err-start-in_default : goal.visit_steps::Visits::step-returns-in_err-start-in_default
-visit_steps::Visits::step-returns-in_err-start-in_default g t c = shaped c.args.at.now (visits_below c.args.self.now.input c.args.self.now.start c.args.self.now.path.now c.args.self.now.out) c.requires.is (record { ran = ran_nothing g.met.S.Sources.same c.args.self.now.walk.op _ c.args.s.now c.args.growing.now c.requires.can.bench; cause = search rules; answer = search rules })
+pub path_scan::PathScan::step-returns-in_err-start-in_default : goal.path_scan::PathScan::step-returns-in_err-start-in_default
+path_scan::PathScan::step-returns-in_err-start-in_default g t c = shaped c.args.at.now (visits_below c.args.self.now.input c.args.self.now.start c.args.self.now.path.now c.args.self.now.out) c.requires.is (record { ran = ran_nothing g.met.S.Sources.same c.args.self.now.walk.op _ c.args.s.now c.args.growing.now c.requires.can.bench; cause = search rules; answer = search rules })
 
-pub visit_steps::Visits::step-returns-in_ok-start-in_default : goal.visit_steps::Visits::step-returns-in_ok-start-in_default
-visit_steps::Visits::step-returns-in_ok-start-in_default g t c =
+pub path_scan::PathScan::step-returns-in_ok-start-in_default : goal.path_scan::PathScan::step-returns-in_ok-start-in_default
+path_scan::PathScan::step-returns-in_ok-start-in_default g t c =
     let begins = found_or_start (operators c.args.self.now.walk.fixed.now) c.args.self.now.walk.op c.args.self.now.input c.args.self.now.start c.args.self.now.path.now c.args.self.now.out (world_of (g.S.Sources.view c.args.s.now) c.args.growing.now) c.args.at.now (in_shape c.requires.can (visits_below c.args.self.now.input c.args.self.now.start c.args.self.now.path.now c.args.self.now.out) c.requires.is) (λ q x s d e. c.in_default.not-Found s (record { ptr = q.ptr; value = x }) d e) in
     let goes = visits_begin (operators c.args.self.now.walk.fixed.now) c.args.self.now.walk.op c.args.self.now.input c.args.self.now.start c.args.self.now.path.now c.args.self.now.out c.requires.can.fixed.typed c.requires.can.op c.requires.is (world_of (g.S.Sources.view c.args.s.now) c.args.growing.now) c.requires.can.bench c.args.at.now begins in
     let same : c.in_ok-start-in_default.start.value ≡ c.args.at.now = c.in_ok-start-in_default.ensures.ok ∙ sym begins in
@@ -380,24 +380,24 @@ visit_steps::Visits::step-returns-in_ok-start-in_default g t c =
       answer = goes_result _ goes (visits_below c.args.self.now.input c.args.self.now.start c.args.self.now.path.now c.args.self.now.out) c.next_start-in_default.result next.answer;
     })
 
-pub visit_steps::Visits::next_start-starts-init : goal.visit_steps::Visits::next_start-starts-init
-visit_steps::Visits::next_start-starts-init g t c =
+pub path_scan::PathScan::next_start-starts-init : goal.path_scan::PathScan::next_start-starts-init
+path_scan::PathScan::next_start-starts-init g t c =
     rw c.in_ok-at.ensures.ok record {
       came = g.met.S.Sources.same c.args.s.now;
       goes = goes_same (keeps_same (world_of (g.S.Sources.view c.args.s.now) c.args.growing.now) (operators c.args.self.now.walk.fixed.now) c.requires.can.bench) refl refl;
       can = c.requires.can;
     }
 
-pub visit_steps::Visits::next_start-returns-in_err-at : goal.visit_steps::Visits::next_start-returns-in_err-at
-visit_steps::Visits::next_start-returns-in_err-at g t c = record { ran = ran_nothing g.met.S.Sources.same c.args.self.now.walk.op _ c.args.s.now c.args.growing.now c.requires.can.bench; cause = search rules; answer = search rules }
+pub path_scan::PathScan::next_start-returns-in_err-at : goal.path_scan::PathScan::next_start-returns-in_err-at
+path_scan::PathScan::next_start-returns-in_err-at g t c = record { ran = ran_nothing g.met.S.Sources.same c.args.self.now.walk.op _ c.args.s.now c.args.growing.now c.requires.can.bench; cause = search rules; answer = search rules }
 
-pub visit_steps::Visits::next_start-returns-in_err-next : goal.visit_steps::Visits::next_start-returns-in_err-next
-visit_steps::Visits::next_start-returns-in_err-next g t c =
+pub path_scan::PathScan::next_start-returns-in_err-next : goal.path_scan::PathScan::next_start-returns-in_err-next
+path_scan::PathScan::next_start-returns-in_err-next g t c =
     let i = c.starts.invariant in
     record { ran = ran_then g.met.S.Sources.after i.came i.goes (start_ran c.args.self.now.input c.args.self.now.start c.args.self.now.path.now c.args.self.now.out c.requires.op c.requires.is c.starts.at.value i.can c.advance.ensures.ran); cause = search rules; answer = search rules }
 
-pub visit_steps::Visits::next_start-returns-in_default : goal.visit_steps::Visits::next_start-returns-in_default
-visit_steps::Visits::next_start-returns-in_default g t c =
+pub path_scan::PathScan::next_start-returns-in_default : goal.path_scan::PathScan::next_start-returns-in_default
+path_scan::PathScan::next_start-returns-in_default g t c =
     let i = c.starts.invariant in
     record {
       ran = ran_then g.met.S.Sources.after i.came i.goes (start_ran c.args.self.now.input c.args.self.now.start c.args.self.now.path.now c.args.self.now.out c.requires.op c.requires.is c.starts.at.value i.can c.advance.ensures.ran);
@@ -405,37 +405,37 @@ visit_steps::Visits::next_start-returns-in_default g t c =
       answer = comes_none i.goes.comes (visits_done (operators c.args.self.now.walk.fixed.now) c.args.self.now.walk.op c.args.self.now.input c.args.self.now.start c.args.self.now.path.now c.args.self.now.out i.can.fixed.typed c.requires.op c.requires.is (world_of (g.S.Sources.view c.starts.s) c.starts.growing) (world_of (g.S.Sources.view c.starts.s) c.starts.growing) i.can.bench c.starts.at.value (rw (none_of _ c.in_default.not-Some) at c.in_ok-next.ensures.answer));
     }
 
-pub visit_steps::Visits::next_start-advance-requires : goal.visit_steps::Visits::next_start-advance-requires
-visit_steps::Visits::next_start-advance-requires g t c κs within =
+pub path_scan::PathScan::next_start-advance-requires : goal.path_scan::PathScan::next_start-advance-requires
+path_scan::PathScan::next_start-advance-requires g t c κs within =
     let can = c.starts.invariant.can in
     let small = input_before (operators c.args.self.now.walk.fixed.now) can.fixed.typed c.args.self.now.walk.op c.requires.op c.args.self.now.input c.args.self.now.start c.args.self.now.path.now c.args.self.now.out c.requires.is in
     search rules
 
-pub visit_steps::Visits::next_start-node_of-source-requires-clause-cursor : goal.visit_steps::Visits::next_start-node_of-source-requires-clause-cursor
-visit_steps::Visits::next_start-node_of-source-requires-clause-cursor g t c =
+pub path_scan::PathScan::next_start-node_of-source-requires-clause-cursor : goal.path_scan::PathScan::next_start-node_of-source-requires-clause-cursor
+path_scan::PathScan::next_start-node_of-source-requires-clause-cursor g t c =
     let f = rw c.in-Some.is at c.in_ok-next.ensures.answer in
     rw c.deref.ensures (world_of (g.S.Sources.view c.advance.new.s) c.advance.new.growing, f.cursor)
 
-pub visit_steps::Visits::next_start-node_of-source-requires-clause-node : goal.visit_steps::Visits::next_start-node_of-source-requires-clause-node
-visit_steps::Visits::next_start-node_of-source-requires-clause-node g t c = (fit_at (operators c.args.self.now.walk.fixed.now) c.requires.can.fixed.typed c.args.self.now.walk.op c.requires.op (visits_below c.args.self.now.input c.args.self.now.start c.args.self.now.path.now c.args.self.now.out) c.requires.is).0
+pub path_scan::PathScan::next_start-node_of-source-requires-clause-node : goal.path_scan::PathScan::next_start-node_of-source-requires-clause-node
+path_scan::PathScan::next_start-node_of-source-requires-clause-node g t c = (fit_at (operators c.args.self.now.walk.fixed.now) c.requires.can.fixed.typed c.args.self.now.walk.op c.requires.op (visits_below c.args.self.now.input c.args.self.now.start c.args.self.now.path.now c.args.self.now.out) c.requires.is).0
 
-pub visit_steps::Visits::next_start-first-requires-clause-bench : goal.visit_steps::Visits::next_start-first-requires-clause-bench
-visit_steps::Visits::next_start-first-requires-clause-bench g t c = rw c.visit.ensures.is c.advance.ensures.ran.bench
+pub path_scan::PathScan::next_start-first-requires-clause-bench : goal.path_scan::PathScan::next_start-first-requires-clause-bench
+path_scan::PathScan::next_start-first-requires-clause-bench g t c = rw c.visit.ensures.is c.advance.ensures.ran.bench
 
-pub visit_steps::Visits::next_start-first-requires-clause-read : goal.visit_steps::Visits::next_start-first-requires-clause-read
-visit_steps::Visits::next_start-first-requires-clause-read g t c =
+pub path_scan::PathScan::next_start-first-requires-clause-read : goal.path_scan::PathScan::next_start-first-requires-clause-read
+path_scan::PathScan::next_start-first-requires-clause-read g t c =
     let f = rw c.in-Some.is at c.in_ok-next.ensures.answer in
     let node = (rw c.deref.ensures at c.node_of-source.ensures) _ f.cursor in
     rw c.visit.ensures.is node.read
 
-pub visit_steps::Visits::next_start-first-requires-clause-start : goal.visit_steps::Visits::next_start-first-requires-clause-start
-visit_steps::Visits::next_start-first-requires-clause-start g t c =
+pub path_scan::PathScan::next_start-first-requires-clause-start : goal.path_scan::PathScan::next_start-first-requires-clause-start
+path_scan::PathScan::next_start-first-requires-clause-start g t c =
     let f = rw c.in-Some.is at c.in_ok-next.ensures.answer in
     let node = (rw c.deref.ensures at c.node_of-source.ensures) _ f.cursor in
     rw c.visit.ensures.is node.known
 
-pub visit_steps::Visits::next_start-returns-in_err-found : goal.visit_steps::Visits::next_start-returns-in_err-found
-visit_steps::Visits::next_start-returns-in_err-found g t c =
+pub path_scan::PathScan::next_start-returns-in_err-found : goal.path_scan::PathScan::next_start-returns-in_err-found
+path_scan::PathScan::next_start-returns-in_err-found g t c =
     record {
       ran = (let i = c.starts.invariant in let f = rw c.in-Some.is at c.in_ok-next.ensures.answer in let node = (rw c.deref.ensures at c.node_of-source.ensures) _ f.cursor in let at = start_at c.args.self.now.input c.args.self.now.start c.args.self.now.path.now c.args.self.now.out c.requires.op c.requires.is c.starts.at.value i.can c.advance.ensures.ran _ f in let goes = start_goes c.args.self.now.input c.args.self.now.start c.args.self.now.path.now c.args.self.now.out c.requires.op c.requires.is c.starts.at.value i.can c.advance.ensures.ran _ f i.goes in let visit = rw c.visit.ensures.is at c.first.ensures in let sought = first_sought c.args.self.now.path.now (machine_of c.visit.result.auto.now) c.visit.ensures.auto _ c.node_of-source.result.0 c.node_of-source.result.1 node.node c.first.result visit in let came = g.met.S.Sources.after _ _ _ i.came c.advance.ensures.ran.came in ran_then g.met.S.Sources.after came goes (visit_ran c.args.self.now.input c.args.self.now.start c.args.self.now.path.now c.args.self.now.out c.requires.op c.requires.is c.in-Some.next.value at f.row c.node_of-source.result.0 (ap (λ (z : Node). z.source) node.node) node.read _ sought.asked));
       cause =
@@ -445,8 +445,8 @@ visit_steps::Visits::next_start-returns-in_err-found g t c =
       answer = search rules;
     }
 
-pub visit_steps::Visits::next_start-returns-in-Some-2 : goal.visit_steps::Visits::next_start-returns-in-Some-2
-visit_steps::Visits::next_start-returns-in-Some-2 g t c =
+pub path_scan::PathScan::next_start-returns-in-Some-2 : goal.path_scan::PathScan::next_start-returns-in-Some-2
+path_scan::PathScan::next_start-returns-in-Some-2 g t c =
     let i = c.starts.invariant in
     let f = rw c.in-Some.is at c.in_ok-next.ensures.answer in
     let node = (rw c.deref.ensures at c.node_of-source.ensures) _ f.cursor in
@@ -460,8 +460,8 @@ visit_steps::Visits::next_start-returns-in-Some-2 g t c =
       answer = comes_at goes.comes (visit_found c.args.self.now.input c.args.self.now.start c.args.self.now.path.now c.args.self.now.out c.requires.op c.requires.is c.in-Some.next.value at f.row c.node_of-source.result.0 (ap (λ (z : Node). z.source) node.node) node.read _ sought.asked _ _ (rw c.in-Some-2.is at sought.answer) _ refl);
     }
 
-pub visit_steps::Visits::next_start-starts-preserved : goal.visit_steps::Visits::next_start-starts-preserved
-visit_steps::Visits::next_start-starts-preserved g t c =
+pub path_scan::PathScan::next_start-starts-preserved : goal.path_scan::PathScan::next_start-starts-preserved
+path_scan::PathScan::next_start-starts-preserved g t c =
     let i = c.starts.invariant in
     let f = rw c.in-Some.is at c.in_ok-next.ensures.answer in
     let node = (rw c.deref.ensures at c.node_of-source.ensures) _ f.cursor in
@@ -475,8 +475,8 @@ visit_steps::Visits::next_start-starts-preserved g t c =
       can = can_then at (g.S.Sources.view c.first.new.s) c.first.new.growing sought.asked.bench sought.asked.kept;
     }
 
-pub visit_steps::Visits::next_start-starts-smaller : goal.visit_steps::Visits::next_start-starts-smaller
-visit_steps::Visits::next_start-starts-smaller g t c =
+pub path_scan::PathScan::next_start-starts-smaller : goal.path_scan::PathScan::next_start-starts-smaller
+path_scan::PathScan::next_start-starts-smaller g t c =
     let f = rw c.in-Some.is at c.in_ok-next.ensures.answer in
     let node = (rw c.deref.ensures at c.node_of-source.ensures) _ f.cursor in
     let visit = rw c.visit.ensures.is at c.first.ensures in
@@ -484,25 +484,25 @@ visit_steps::Visits::next_start-starts-smaller g t c =
     let stays = cursors_kept _ _ sought.asked.kept (operators c.args.self.now.walk.fixed.now) c.advance.ensures.ran.bench c.args.self.now.input c.in-Some.next.value f.cursor in
     omega (arith, f.falls, stays.number_is)
 
-pub order_steps::Sorts::first-returns-in_err-rows : goal.order_steps::Sorts::first-returns-in_err-rows
-order_steps::Sorts::first-returns-in_err-rows g t c = shaped Start (sorts c.args.self.now.input c.args.self.now.var c.args.self.now.desc) c.requires.is (record { ran = order_ran (operators c.args.self.now.walk.fixed.now) c.requires.can.fixed.typed c.args.self.now.walk.op c.requires.can.op c.args.self.now.input c.args.self.now.var c.args.self.now.desc c.requires.is c.labelled.ensures.ran; cause = search rules; answer = search rules })
+pub sort_steps::Sort::first-returns-in_err-rows : goal.sort_steps::Sort::first-returns-in_err-rows
+sort_steps::Sort::first-returns-in_err-rows g t c = shaped Start (sorts c.args.self.now.input c.args.self.now.var c.args.self.now.desc) c.requires.is (record { ran = order_ran (operators c.args.self.now.walk.fixed.now) c.requires.can.fixed.typed c.args.self.now.walk.op c.requires.can.op c.args.self.now.input c.args.self.now.var c.args.self.now.desc c.requires.is c.labelled.ensures.ran; cause = search rules; answer = search rules })
 
-pub order_steps::Sorts::first-returns-in_err-sort_labelled : goal.order_steps::Sorts::first-returns-in_err-sort_labelled
-order_steps::Sorts::first-returns-in_err-sort_labelled g t c = shaped Start (sorts c.args.self.now.input c.args.self.now.var c.args.self.now.desc) c.requires.is (record { ran = order_ran (operators c.args.self.now.walk.fixed.now) c.requires.can.fixed.typed c.args.self.now.walk.op c.requires.can.op c.args.self.now.input c.args.self.now.var c.args.self.now.desc c.requires.is c.labelled.ensures.ran; cause = search rules; answer = search rules })
+pub sort_steps::Sort::first-returns-in_err-sort_labelled : goal.sort_steps::Sort::first-returns-in_err-sort_labelled
+sort_steps::Sort::first-returns-in_err-sort_labelled g t c = shaped Start (sorts c.args.self.now.input c.args.self.now.var c.args.self.now.desc) c.requires.is (record { ran = order_ran (operators c.args.self.now.walk.fixed.now) c.requires.can.fixed.typed c.args.self.now.walk.op c.requires.can.op c.args.self.now.input c.args.self.now.var c.args.self.now.desc c.requires.is c.labelled.ensures.ran; cause = search rules; answer = search rules })
 
-pub order_steps::labelled-returns-in_err-at-clause-ran : goal.order_steps::labelled-returns-in_err-at-clause-ran
-order_steps::labelled-returns-in_err-at-clause-ran g t c = through_nothing g.met.S.Sources.same c.args.walk.op c.args.s.now c.args.growing.now c.requires.can.bench
+pub sort_steps::labelled-returns-in_err-at-clause-ran : goal.sort_steps::labelled-returns-in_err-at-clause-ran
+sort_steps::labelled-returns-in_err-at-clause-ran g t c = through_nothing g.met.S.Sources.same c.args.walk.op c.args.s.now c.args.growing.now c.requires.can.bench
 
-pub order_steps::labelled-events-init : goal.order_steps::labelled-events-init
-order_steps::labelled-events-init g t c =
+pub sort_steps::labelled-events-init : goal.sort_steps::labelled-events-init
+sort_steps::labelled-events-init g t c =
     rw (c.new-rows.ensures.items, c.in_ok-at.ensures.ok) record {
       came = g.met.S.Sources.same c.args.s.now;
       gathered = gathered_start (world_of (g.S.Sources.view c.args.s.now) c.args.growing.now) (operators c.args.walk.fixed.now) c.args.walk.op c.args.v (keeps_same (world_of (g.S.Sources.view c.args.s.now) c.args.growing.now) (operators c.args.walk.fixed.now) c.requires.can.bench) Start refl;
       can = c.requires.can;
     }
 
-pub order_steps::labelled-events-preserved : goal.order_steps::labelled-events-preserved
-order_steps::labelled-events-preserved g t c =
+pub sort_steps::labelled-events-preserved : goal.sort_steps::labelled-events-preserved
+sort_steps::labelled-events-preserved g t c =
     let finds = rw c.in-Some.is at c.in_ok-advance.ensures.answer in
     let place_is = c.in_ok-share-in-Some.ensures.ok in
     record {
@@ -512,55 +512,55 @@ order_steps::labelled-events-preserved g t c =
       can = record { fixed = c.requires.can.fixed; op = c.requires.can.op; bench = c.advance.ensures.ran.bench; cursor = finds.cursor };
     }
 
-pub order_steps::labelled-returns-in_err-advance-clause-ran : goal.order_steps::labelled-returns-in_err-advance-clause-ran
-order_steps::labelled-returns-in_err-advance-clause-ran g t c = through g.met.S.Sources.after c.events.invariant.came c.events.invariant.gathered c.events.invariant.can.bench c.advance.ensures.ran
+pub sort_steps::labelled-returns-in_err-advance-clause-ran : goal.sort_steps::labelled-returns-in_err-advance-clause-ran
+sort_steps::labelled-returns-in_err-advance-clause-ran g t c = through g.met.S.Sources.after c.events.invariant.came c.events.invariant.gathered c.events.invariant.can.bench c.advance.ensures.ran
 
-pub order_steps::labelled-returns-in-None-clause-ran : goal.order_steps::labelled-returns-in-None-clause-ran
-order_steps::labelled-returns-in-None-clause-ran g t c = through g.met.S.Sources.after c.events.invariant.came c.events.invariant.gathered c.events.invariant.can.bench c.advance.ensures.ran
+pub sort_steps::labelled-returns-in-None-clause-ran : goal.sort_steps::labelled-returns-in-None-clause-ran
+sort_steps::labelled-returns-in-None-clause-ran g t c = through g.met.S.Sources.after c.events.invariant.came c.events.invariant.gathered c.events.invariant.can.bench c.advance.ensures.ran
 
-pub order_steps::labelled-returns-in_err-label-in-Some-clause-ran : goal.order_steps::labelled-returns-in_err-label-in-Some-clause-ran
-order_steps::labelled-returns-in_err-label-in-Some-clause-ran g t c = through g.met.S.Sources.after c.events.invariant.came c.events.invariant.gathered c.events.invariant.can.bench c.advance.ensures.ran
+pub sort_steps::labelled-returns-in_err-label-in-Some-clause-ran : goal.sort_steps::labelled-returns-in_err-label-in-Some-clause-ran
+sort_steps::labelled-returns-in_err-label-in-Some-clause-ran g t c = through g.met.S.Sources.after c.events.invariant.came c.events.invariant.gathered c.events.invariant.can.bench c.advance.ensures.ran
 
-pub order_steps::labelled-returns-in_err-share-in-Some-clause-ran : goal.order_steps::labelled-returns-in_err-share-in-Some-clause-ran
-order_steps::labelled-returns-in_err-share-in-Some-clause-ran g t c = through g.met.S.Sources.after c.events.invariant.came c.events.invariant.gathered c.events.invariant.can.bench c.advance.ensures.ran
+pub sort_steps::labelled-returns-in_err-share-in-Some-clause-ran : goal.sort_steps::labelled-returns-in_err-share-in-Some-clause-ran
+sort_steps::labelled-returns-in_err-share-in-Some-clause-ran g t c = through g.met.S.Sources.after c.events.invariant.came c.events.invariant.gathered c.events.invariant.can.bench c.advance.ensures.ran
 
-pub order_steps::labelled-returns-in_err-push-in-Some-clause-ran : goal.order_steps::labelled-returns-in_err-push-in-Some-clause-ran
-order_steps::labelled-returns-in_err-push-in-Some-clause-ran g t c = through g.met.S.Sources.after c.events.invariant.came c.events.invariant.gathered c.events.invariant.can.bench c.advance.ensures.ran
+pub sort_steps::labelled-returns-in_err-push-in-Some-clause-ran : goal.sort_steps::labelled-returns-in_err-push-in-Some-clause-ran
+sort_steps::labelled-returns-in_err-push-in-Some-clause-ran g t c = through g.met.S.Sources.after c.events.invariant.came c.events.invariant.gathered c.events.invariant.can.bench c.advance.ensures.ran
 
-pub order_steps::labelled-returns-in-None-clause-rows : goal.order_steps::labelled-returns-in-None-clause-rows
-order_steps::labelled-returns-in-None-clause-rows g t c =
+pub sort_steps::labelled-returns-in-None-clause-rows : goal.sort_steps::labelled-returns-in-None-clause-rows
+sort_steps::labelled-returns-in-None-clause-rows g t c =
     gathered_all (world_of (g.S.Sources.view c.advance.new.s) c.advance.new.growing) c.events.invariant.gathered c.events.invariant.can.bench c.advance.ensures.ran.asks c.requires.can.bench (rw c.in-None.is at c.in_ok-advance.ensures.answer)
 
-pub order_steps::Sorts::first-returns-in_err-places : goal.order_steps::Sorts::first-returns-in_err-places
-order_steps::Sorts::first-returns-in_err-places g t c = shaped Start (sorts c.args.self.now.input c.args.self.now.var c.args.self.now.desc) c.requires.is (record { ran = order_ran (operators c.args.self.now.walk.fixed.now) c.requires.can.fixed.typed c.args.self.now.walk.op c.requires.can.op c.args.self.now.input c.args.self.now.var c.args.self.now.desc c.requires.is c.labelled.ensures.ran; cause = search rules; answer = search rules })
+pub sort_steps::Sort::first-returns-in_err-places : goal.sort_steps::Sort::first-returns-in_err-places
+sort_steps::Sort::first-returns-in_err-places g t c = shaped Start (sorts c.args.self.now.input c.args.self.now.var c.args.self.now.desc) c.requires.is (record { ran = order_ran (operators c.args.self.now.walk.fixed.now) c.requires.can.fixed.typed c.args.self.now.walk.op c.requires.can.op c.args.self.now.input c.args.self.now.var c.args.self.now.desc c.requires.is c.labelled.ensures.ran; cause = search rules; answer = search rules })
 
-pub order_steps::Sorts::first-returns-in_err-list : goal.order_steps::Sorts::first-returns-in_err-list
-order_steps::Sorts::first-returns-in_err-list g t c = shaped Start (sorts c.args.self.now.input c.args.self.now.var c.args.self.now.desc) c.requires.is (record { ran = order_ran (operators c.args.self.now.walk.fixed.now) c.requires.can.fixed.typed c.args.self.now.walk.op c.requires.can.op c.args.self.now.input c.args.self.now.var c.args.self.now.desc c.requires.is c.labelled.ensures.ran; cause = search rules; answer = search rules })
+pub sort_steps::Sort::first-returns-in_err-list : goal.sort_steps::Sort::first-returns-in_err-list
+sort_steps::Sort::first-returns-in_err-list g t c = shaped Start (sorts c.args.self.now.input c.args.self.now.var c.args.self.now.desc) c.requires.is (record { ran = order_ran (operators c.args.self.now.walk.fixed.now) c.requires.can.fixed.typed c.args.self.now.walk.op c.requires.can.op c.args.self.now.input c.args.self.now.var c.args.self.now.desc c.requires.is c.labelled.ensures.ran; cause = search rules; answer = search rules })
 
-pub order_steps::Sorts::first-returns : goal.order_steps::Sorts::first-returns
-order_steps::Sorts::first-returns g t c =
+pub sort_steps::Sort::first-returns : goal.sort_steps::Sort::first-returns
+sort_steps::Sort::first-returns g t c =
     shaped Start (sorts c.args.self.now.input c.args.self.now.var c.args.self.now.desc) c.requires.is (record {
       ran = order_ran (operators c.args.self.now.walk.fixed.now) c.requires.can.fixed.typed c.args.self.now.walk.op c.requires.can.op c.args.self.now.input c.args.self.now.var c.args.self.now.desc c.requires.is c.labelled.ensures.ran;
       cause = search rules;
       answer = IfOk-weaker c.sorted_at.result _ _ (λ r ok. order_first (operators c.args.self.now.walk.fixed.now) c.requires.can.fixed.typed c.args.self.now.walk.op c.requires.can.op c.args.self.now.input c.args.self.now.var c.args.self.now.desc c.requires.is (world_of (g.S.Sources.view c.args.s.now) c.args.growing.now) (world_of (g.S.Sources.view c.labelled.new.s) c.labelled.new.growing) c.labelled.ensures.ran.kept c.requires.can.bench c.in_ok-rows.rows.items c.sort_labelled.new.rows.items c.in_ok-rows.ensures.rows c.in_ok-sort_labelled.ensures c.in_ok-list.list.value (ap (λ (v : Vec (Rc Position Global) Global). v.items) c.in_ok-list.ensures.ok ∙ c.in_ok-places.ensures) r ok) c.sorted_at.ensures.ok;
     })
 
-pub order_steps::Sorts::step-overflow_add-index : goal.order_steps::Sorts::step-overflow_add-index
-order_steps::Sorts::step-overflow_add-index g t c =
+pub sort_steps::Sort::step-overflow_add-index : goal.sort_steps::Sort::step-overflow_add-index
+sort_steps::Sort::step-overflow_add-index g t c =
     let of = in_place c.requires.can (sorts c.args.self.now.input c.args.self.now.var c.args.self.now.desc) c.requires.is _ c.in-Sorted.is in
     let count = list_count c.in-Sorted.list c.in-Sorted.index in
     omega (arith, count, of.1, c.in-Sorted.list.value.ok, c.in-Sorted.list.value.small)
 
-pub order_steps::Sorts::step-returns-in-Sorted : goal.order_steps::Sorts::step-returns-in-Sorted
-order_steps::Sorts::step-returns-in-Sorted g t c =
+pub sort_steps::Sort::step-returns-in-Sorted : goal.sort_steps::Sort::step-returns-in-Sorted
+sort_steps::Sort::step-returns-in-Sorted g t c =
     placed c.args.at.now _ c.in-Sorted.is (sorts c.args.self.now.input c.args.self.now.var c.args.self.now.desc) c.requires.is (record {
       ran = ran_nothing g.met.S.Sources.same c.args.self.now.walk.op _ c.args.s.now c.args.growing.now c.requires.can.bench;
       cause = search rules;
       answer = IfOk-weaker c.sorted_at.result _ _ (λ r ok. order_next (world_of (g.S.Sources.view c.args.s.now) c.args.growing.now) (operators c.args.self.now.walk.fixed.now) c.args.self.now.walk.op c.args.self.now.input c.args.self.now.var c.args.self.now.desc c.in-Sorted.list c.in-Sorted.index (in_place c.requires.can (sorts c.args.self.now.input c.args.self.now.var c.args.self.now.desc) c.requires.is _ c.in-Sorted.is) r ok) c.sorted_at.ensures.ok;
     })
 
-pub order_steps::Sorts::step-returns-in_default : goal.order_steps::Sorts::step-returns-in_default
-order_steps::Sorts::step-returns-in_default g t c =
+pub sort_steps::Sort::step-returns-in_default : goal.sort_steps::Sort::step-returns-in_default
+sort_steps::Sort::step-returns-in_default g t c =
     shaped c.args.at.now (sorts c.args.self.now.input c.args.self.now.var c.args.self.now.desc) c.requires.is (record {
       ran = ran_nothing g.met.S.Sources.same c.args.self.now.walk.op _ c.args.s.now c.args.growing.now c.requires.can.bench;
       cause = tt;
@@ -593,7 +593,7 @@ steps::next_event-step-requires-in-Project-2 g t c κs within =
     let shape = ap shape_of (sym c.operator.ensures ∙ ap op_of c.in-Project-2.is) in
     let given : KeepsFirsts c.args.walk c.in-Project-2.input c.in-Project-2.keys.items = (None, shape, ap (shape_apart (operators c.args.walk.fixed.now)) (sym shape) ∙ sym c.is_apart.ensures ∙ c.if-is_apart.false, refl) in
     let is : KeepsFirsts one.walk one.input one.keys.now =
-    subst (λ (z : Firsts). KeepsFirsts z.walk z.input z.keys.now) (sym c.new-in-Project-2.ensures) (subst (KeepsFirsts c.args.walk c.in-Project-2.input) (sym c.deref-in-Project-2.ensures.value) given) in
+    subst (λ (z : Distinct). KeepsFirsts z.walk z.input z.keys.now) (sym c.new-in-Project-2.ensures) (subst (KeepsFirsts c.args.walk c.in-Project-2.input) (sym c.deref-in-Project-2.ensures.value) given) in
     search rules
 
 pub steps::next_event-step-requires-in-GroupBy-2 : goal.steps::next_event-step-requires-in-GroupBy-2
@@ -620,25 +620,25 @@ steps::next_event-step-requires-in-GroupBy-3 g t c κs within =
     let shape = sym (ap shape_of op) ∙ given.1 in
     let some = group_some (operators c.args.walk.fixed.now) _ _ _ _ _ _ given.0 shape in
     let no = group_gathers (operators c.args.walk.fixed.now) _ _ _ _ _ _ given.0 shape ∙ ap not (ap (op_stops (operators c.args.walk.fixed.now)) (sym op) ∙ sym c.stops_at.ensures ∙ c.if-not-stops_at.false) in
-    let is : KeepsFirsts one.walk one.input one.keys.now = subst (λ (z : Firsts). KeepsFirsts z.walk z.input z.keys.now) (sym c.new-in-GroupBy-3.ensures) (given.0, given.1, some, no) in
+    let is : KeepsFirsts one.walk one.input one.keys.now = subst (λ (z : Distinct). KeepsFirsts z.walk z.input z.keys.now) (sym c.new-in-GroupBy-3.ensures) (given.0, given.1, some, no) in
     search rules
 
-pub pair_steps::Pairs::grow-returns-in_err-last : goal.pair_steps::Pairs::grow-returns-in_err-last
-pair_steps::Pairs::grow-returns-in_err-last g t c = record { ran = ran_nothing g.met.S.Sources.same c.args.self.now.walk.op _ c.args.s.now c.args.growing.now c.requires.bench; cause = search rules; answer = search rules }
+pub join_steps::Join::grow-returns-in_err-last : goal.join_steps::Join::grow-returns-in_err-last
+join_steps::Join::grow-returns-in_err-last g t c = record { ran = ran_nothing g.met.S.Sources.same c.args.self.now.walk.op _ c.args.s.now c.args.growing.now c.requires.bench; cause = search rules; answer = search rules }
 
-pub pair_steps::Pairs::grow-advance-requires : goal.pair_steps::Pairs::grow-advance-requires
-pair_steps::Pairs::grow-advance-requires g t c κs within =
+pub join_steps::Join::grow-advance-requires : goal.join_steps::Join::grow-advance-requires
+join_steps::Join::grow-advance-requires g t c κs within =
     let can = last_can {v = g.S.Sources.view c.args.s.now} {g = c.args.growing.now} c.args.self.now.left c.args.self.now.right c.args.self.now.walk.op c.args.self.now.tests.now c.requires.fixed c.requires.op c.requires.is c.requires.bench c.in_ok-last.last.value (c.in_ok-last.ensures.ok ∙ ap (λ (m : Kept (Rc Position Global)). last_of Start m.pairs) (memo_read (g.S.Sources.view c.args.s.now) c.args.growing.now (operators c.args.self.now.walk.fixed.now) c.requires.bench c.args.self.now.walk.op c.requires.op c.index.result.now c.index.ensures)) in
     search rules
 
-pub pair_steps::Pairs::grow-returns-in_err-advance : goal.pair_steps::Pairs::grow-returns-in_err-advance
-pair_steps::Pairs::grow-returns-in_err-advance g t c =
+pub join_steps::Join::grow-returns-in_err-advance : goal.join_steps::Join::grow-returns-in_err-advance
+join_steps::Join::grow-returns-in_err-advance g t c =
     let last = (c.in_ok-last.ensures.ok ∙ ap (λ (m : Kept (Rc Position Global)). last_of Start m.pairs) (memo_read (g.S.Sources.view c.args.s.now) c.args.growing.now (operators c.args.self.now.walk.fixed.now) c.requires.bench c.args.self.now.walk.op c.requires.op c.index.result.now c.index.ensures)) in
     let adv = rw last at c.advance.ensures in
     record { ran = grow_ran c.args.self.now.left c.args.self.now.right c.args.self.now.walk.op c.args.self.now.tests.now c.requires.fixed c.requires.op c.requires.is c.requires.bench adv.ran; cause = search rules; answer = search rules }
 
-pub pair_steps::Pairs::grow-returns-in-None : goal.pair_steps::Pairs::grow-returns-in-None
-pair_steps::Pairs::grow-returns-in-None g t c =
+pub join_steps::Join::grow-returns-in-None : goal.join_steps::Join::grow-returns-in-None
+join_steps::Join::grow-returns-in-None g t c =
     let last = (c.in_ok-last.ensures.ok ∙ ap (λ (m : Kept (Rc Position Global)). last_of Start m.pairs) (memo_read (g.S.Sources.view c.args.s.now) c.args.growing.now (operators c.args.self.now.walk.fixed.now) c.requires.bench c.args.self.now.walk.op c.requires.op c.index.result.now c.index.ensures)) in
     let adv = rw last at c.advance.ensures in
     let none = rw (c.in-None.is, last) at c.in_ok-advance.ensures.answer in
@@ -648,20 +648,20 @@ pair_steps::Pairs::grow-returns-in-None g t c =
       answer = ended_grown c.args.self.now.left c.args.self.now.right c.args.self.now.walk.op c.args.self.now.tests.now c.requires.fixed c.requires.op c.requires.is c.requires.bench adv.ran c.end_members.new.memos c.end_members.ensures.others c.end_members.ensures.ended none;
     }
 
-pub pair_steps::Pairs::grow-returns-in_err-label-in-Some : goal.pair_steps::Pairs::grow-returns-in_err-label-in-Some
-pair_steps::Pairs::grow-returns-in_err-label-in-Some g t c =
+pub join_steps::Join::grow-returns-in_err-label-in-Some : goal.join_steps::Join::grow-returns-in_err-label-in-Some
+join_steps::Join::grow-returns-in_err-label-in-Some g t c =
     let last = (c.in_ok-last.ensures.ok ∙ ap (λ (m : Kept (Rc Position Global)). last_of Start m.pairs) (memo_read (g.S.Sources.view c.args.s.now) c.args.growing.now (operators c.args.self.now.walk.fixed.now) c.requires.bench c.args.self.now.walk.op c.requires.op c.index.result.now c.index.ensures)) in
     let adv = rw last at c.advance.ensures in
     record { ran = grow_ran c.args.self.now.left c.args.self.now.right c.args.self.now.walk.op c.args.self.now.tests.now c.requires.fixed c.requires.op c.requires.is c.requires.bench adv.ran; cause = search rules; answer = search rules }
 
-pub pair_steps::Pairs::grow-returns-in_err-push_member-in-Some : goal.pair_steps::Pairs::grow-returns-in_err-push_member-in-Some
-pair_steps::Pairs::grow-returns-in_err-push_member-in-Some g t c =
+pub join_steps::Join::grow-returns-in_err-push_member-in-Some : goal.join_steps::Join::grow-returns-in_err-push_member-in-Some
+join_steps::Join::grow-returns-in_err-push_member-in-Some g t c =
     let last = (c.in_ok-last.ensures.ok ∙ ap (λ (m : Kept (Rc Position Global)). last_of Start m.pairs) (memo_read (g.S.Sources.view c.args.s.now) c.args.growing.now (operators c.args.self.now.walk.fixed.now) c.requires.bench c.args.self.now.walk.op c.requires.op c.index.result.now c.index.ensures)) in
     let adv = rw last at c.advance.ensures in
     record { ran = refused_ran c.args.self.now.left c.args.self.now.right c.args.self.now.walk.op c.args.self.now.tests.now c.requires.fixed c.requires.op c.requires.is c.requires.bench adv.ran c.push_member.new.memos c.push_member.ensures.others c.in_err-push_member-in-Some.ensures.err; cause = search rules; answer = search rules }
 
-pub pair_steps::Pairs::grow-returns : goal.pair_steps::Pairs::grow-returns
-pair_steps::Pairs::grow-returns g t c =
+pub join_steps::Join::grow-returns : goal.join_steps::Join::grow-returns
+join_steps::Join::grow-returns g t c =
     let last = (c.in_ok-last.ensures.ok ∙ ap (λ (m : Kept (Rc Position Global)). last_of Start m.pairs) (memo_read (g.S.Sources.view c.args.s.now) c.args.growing.now (operators c.args.self.now.walk.fixed.now) c.requires.bench c.args.self.now.walk.op c.requires.op c.index.result.now c.index.ensures)) in
     let adv = rw last at c.advance.ensures in
     let f = rw (c.in-Some.is, last) at c.in_ok-advance.ensures.answer in
@@ -672,15 +672,15 @@ pair_steps::Pairs::grow-returns g t c =
       answer = pushed_grown c.args.self.now.left c.args.self.now.right c.args.self.now.walk.op c.args.self.now.tests.now c.requires.fixed c.requires.op c.requires.is c.requires.bench adv.ran c.push_member.new.memos c.push_member.ensures.others c.in_ok-label-in-Some.label c.in-Some.found c.in_ok-push_member-in-Some.ensures.ok f label;
     }
 
-pub pair_steps::Pairs::next_new-members-init : goal.pair_steps::Pairs::next_new-members-init
-pair_steps::Pairs::next_new-members-init g t c = record {
+pub join_steps::Join::next_new-members-init : goal.join_steps::Join::next_new-members-init
+join_steps::Join::next_new-members-init g t c = record {
   came = g.met.S.Sources.same c.args.s.now;
   goes = goes_same (keeps_same (world_of (g.S.Sources.view c.args.s.now) c.args.growing.now) (operators c.args.self.now.walk.fixed.now) c.requires.can.bench) refl refl;
   can = c.requires.can;
 }
 
-pub pair_steps::Pairs::next_new-returns-then-ended : goal.pair_steps::Pairs::next_new-returns-then-ended
-pair_steps::Pairs::next_new-returns-then-ended g t c =
+pub join_steps::Join::next_new-returns-then-ended : goal.join_steps::Join::next_new-returns-then-ended
+join_steps::Join::next_new-returns-then-ended g t c =
     let i = c.members.invariant in
     let ended = ap (λ (m : Kept (Rc Position Global)). m.ended) (sym (memo_read (g.S.Sources.view c.members.s) c.members.growing (operators c.args.self.now.walk.fixed.now) i.can.bench c.args.self.now.walk.op c.requires.op c.index-memo.result.now c.index-memo.ensures)) ∙ sym c.ended.ensures ∙ c.if-ended.true in
     let goes = goes_then i.goes (ended_goes (operators c.args.self.now.walk.fixed.now) c.args.self.now.walk.op c.args.self.now.left c.args.self.now.right c.args.self.now.tests.now i.can.fixed.typed c.requires.op c.requires.is (world_of (g.S.Sources.view c.members.s) c.members.growing) i.can.bench c.args.l.now.value i.can.cursor c.requires.row ended) in
@@ -690,17 +690,17 @@ pair_steps::Pairs::next_new-returns-then-ended g t c =
       answer = goes_result _ goes (pairs_up c.args.self.now.left c.args.self.now.right c.args.self.now.tests.now) c.next_left.result c.next_left.ensures.answer;
     }
 
-pub pair_steps::Pairs::next_new-returns-in_err-grow : goal.pair_steps::Pairs::next_new-returns-in_err-grow
-pair_steps::Pairs::next_new-returns-in_err-grow g t c = (let i = c.members.invariant in record { ran = ran_then g.met.S.Sources.after i.came i.goes (beside_ran c.args.self.now.left c.args.self.now.right c.args.self.now.walk.op c.args.self.now.tests.now i.can c.requires.row c.requires.op c.requires.is c.grow.ensures.ran); cause = search rules; answer = search rules })
+pub join_steps::Join::next_new-returns-in_err-grow : goal.join_steps::Join::next_new-returns-in_err-grow
+join_steps::Join::next_new-returns-in_err-grow g t c = (let i = c.members.invariant in record { ran = ran_then g.met.S.Sources.after i.came i.goes (beside_ran c.args.self.now.left c.args.self.now.right c.args.self.now.walk.op c.args.self.now.tests.now i.can c.requires.row c.requires.op c.requires.is c.grow.ensures.ran); cause = search rules; answer = search rules })
 
-pub pair_steps::Pairs::next_new-next_left-requires-then-not-branch : goal.pair_steps::Pairs::next_new-next_left-requires-then-not-branch
-pair_steps::Pairs::next_new-next_left-requires-then-not-branch g t c κs within =
+pub join_steps::Join::next_new-next_left-requires-then-not-branch : goal.join_steps::Join::next_new-next_left-requires-then-not-branch
+join_steps::Join::next_new-next_left-requires-then-not-branch g t c κs within =
     let can = can_then c.members.invariant.can (g.S.Sources.view c.grow.new.s) c.grow.new.growing c.grow.ensures.ran.bench c.grow.ensures.ran.asks.kept in
     let small = (inputs_at (operators c.args.self.now.walk.fixed.now) c.requires.can.fixed.typed c.args.self.now.walk.op c.requires.op (pairs_up c.args.self.now.left c.args.self.now.right c.args.self.now.tests.now) c.requires.is).0 in
     search rules
 
-pub pair_steps::Pairs::next_new-returns-then-not-branch : goal.pair_steps::Pairs::next_new-returns-then-not-branch
-pair_steps::Pairs::next_new-returns-then-not-branch g t c =
+pub join_steps::Join::next_new-returns-then-not-branch : goal.join_steps::Join::next_new-returns-then-not-branch
+join_steps::Join::next_new-returns-then-not-branch g t c =
     let i = c.members.invariant in
     let none = rw c.if-not-branch.true at c.in_ok-grow.ensures.answer in
     let goes = goes_then i.goes (none_grown c.args.self.now.left c.args.self.now.right c.args.self.now.walk.op c.args.self.now.tests.now i.can c.requires.row c.requires.op c.requires.is c.grow.ensures.ran none.1) in
@@ -710,11 +710,11 @@ pair_steps::Pairs::next_new-returns-then-not-branch g t c =
       answer = goes_result _ goes (pairs_up c.args.self.now.left c.args.self.now.right c.args.self.now.tests.now) c.next_left-then-not-branch.result c.next_left-then-not-branch.ensures.answer;
     }
 
-pub pair_steps::Pairs::next_new-next_known-requires-clause-cursor : goal.pair_steps::Pairs::next_new-next_known-requires-clause-cursor
-pair_steps::Pairs::next_new-next_known-requires-clause-cursor g t c = (_, c.grow.ensures.ran.bench, (can_then c.members.invariant.can (g.S.Sources.view c.grow.new.s) c.grow.new.growing c.grow.ensures.ran.bench c.grow.ensures.ran.asks.kept).cursor)
+pub join_steps::Join::next_new-next_known-requires-clause-cursor : goal.join_steps::Join::next_new-next_known-requires-clause-cursor
+join_steps::Join::next_new-next_known-requires-clause-cursor g t c = (_, c.grow.ensures.ran.bench, (can_then c.members.invariant.can (g.S.Sources.view c.grow.new.s) c.grow.new.growing c.grow.ensures.ran.bench c.grow.ensures.ran.asks.kept).cursor)
 
-pub pair_steps::Pairs::next_new-at_found-requires-clause-can : goal.pair_steps::Pairs::next_new-at_found-requires-clause-can
-pair_steps::Pairs::next_new-at_found-requires-clause-can g t c = record {
+pub join_steps::Join::next_new-at_found-requires-clause-can : goal.join_steps::Join::next_new-at_found-requires-clause-can
+join_steps::Join::next_new-at_found-requires-clause-can g t c = record {
   fixed = c.requires.can.fixed;
   op = c.requires.op;
   is = c.requires.is;
@@ -723,11 +723,11 @@ pair_steps::Pairs::next_new-at_found-requires-clause-can g t c = record {
   row = c.requires.row;
 }
 
-pub pair_steps::Pairs::next_new-returns-in_err-found : goal.pair_steps::Pairs::next_new-returns-in_err-found
-pair_steps::Pairs::next_new-returns-in_err-found g t c = (let i = c.members.invariant in record { ran = ran_then g.met.S.Sources.after i.came i.goes (beside_ran c.args.self.now.left c.args.self.now.right c.args.self.now.walk.op c.args.self.now.tests.now i.can c.requires.row c.requires.op c.requires.is c.grow.ensures.ran); cause = search rules; answer = search rules })
+pub join_steps::Join::next_new-returns-in_err-found : goal.join_steps::Join::next_new-returns-in_err-found
+join_steps::Join::next_new-returns-in_err-found g t c = (let i = c.members.invariant in record { ran = ran_then g.met.S.Sources.after i.came i.goes (beside_ran c.args.self.now.left c.args.self.now.right c.args.self.now.walk.op c.args.self.now.tests.now i.can c.requires.row c.requires.op c.requires.is c.grow.ensures.ran); cause = search rules; answer = search rules })
 
-pub pair_steps::Pairs::next_new-returns-in-Some : goal.pair_steps::Pairs::next_new-returns-in-Some
-pair_steps::Pairs::next_new-returns-in-Some g t c =
+pub join_steps::Join::next_new-returns-in-Some : goal.join_steps::Join::next_new-returns-in-Some
+join_steps::Join::next_new-returns-in-Some g t c =
     let i = c.members.invariant in
     let grown = rw c.if-not-branch.false at c.in_ok-grow.ensures.answer in
     let behind = c.len-place.ensures ∙ ap (λ (m : Kept (Rc Position Global)). length m.pairs) (memo_read (g.S.Sources.view c.members.s) c.members.growing (operators c.args.self.now.walk.fixed.now) i.can.bench c.args.self.now.walk.op c.requires.op c.index-memo.result.now c.index-memo.ensures) in
@@ -738,8 +738,8 @@ pair_steps::Pairs::next_new-returns-in-Some g t c =
       answer = goes_result _ i.goes (pairs_up c.args.self.now.left c.args.self.now.right c.args.self.now.tests.now) c.at_found.result (more_steps c.args.self.now.left c.args.self.now.right c.args.self.now.walk.op c.args.self.now.tests.now i.can c.requires.row c.requires.op c.requires.is c.grow.ensures.ran grown c.len-place.result behind c.in-Some.found (rw c.in-Some.is at c.in_ok-found.ensures.place) c.at_found.result pair);
     }
 
-pub pair_steps::Pairs::next_new-members-preserved : goal.pair_steps::Pairs::next_new-members-preserved
-pair_steps::Pairs::next_new-members-preserved g t c =
+pub join_steps::Join::next_new-members-preserved : goal.join_steps::Join::next_new-members-preserved
+join_steps::Join::next_new-members-preserved g t c =
     let i = c.members.invariant in
     let grown = rw c.if-not-branch.false at c.in_ok-grow.ensures.answer in
     let can = can_then i.can (g.S.Sources.view c.grow.new.s) c.grow.new.growing c.grow.ensures.ran.bench c.grow.ensures.ran.asks.kept in
@@ -749,14 +749,14 @@ pair_steps::Pairs::next_new-members-preserved g t c =
       can = can;
     }
 
-pub pair_steps::Pairs::next_new-members-smaller : goal.pair_steps::Pairs::next_new-members-smaller
-pair_steps::Pairs::next_new-members-smaller g t c =
+pub join_steps::Join::next_new-members-smaller : goal.join_steps::Join::next_new-members-smaller
+join_steps::Join::next_new-members-smaller g t c =
     let i = c.members.invariant in
     let grown = rw c.if-not-branch.false at c.in_ok-grow.ensures.answer in
     more_falls c.args.self.now.left c.args.self.now.right c.args.self.now.walk.op c.args.self.now.tests.now i.can c.requires.row c.requires.op c.requires.is c.grow.ensures.ran grown c.len-place.result (c.len-place.ensures ∙ ap (λ (m : Kept (Rc Position Global)). length m.pairs) (memo_read (g.S.Sources.view c.members.s) c.members.growing (operators c.args.self.now.walk.fixed.now) i.can.bench c.args.self.now.walk.op c.requires.op c.index-memo.result.now c.index-memo.ensures))
 
-pub pair_steps::Pairs::step-returns-in-Some : goal.pair_steps::Pairs::step-returns-in-Some
-pair_steps::Pairs::step-returns-in-Some g t c =
+pub join_steps::Join::step-returns-in-Some : goal.join_steps::Join::step-returns-in-Some
+join_steps::Join::step-returns-in-Some g t c =
     let here = in_pair c.requires.can c.args.self.now.left c.args.self.now.right c.args.self.now.tests.now c.requires.is _ _ _ _ _ c.in-Pair.is in
     placed c.args.at.now _ c.in-Pair.is (pairs_up c.args.self.now.left c.args.self.now.right c.args.self.now.tests.now) c.requires.is (record {
       ran = ran_nothing g.met.S.Sources.same c.args.self.now.walk.op _ c.args.s.now c.args.growing.now c.requires.can.bench;
@@ -766,8 +766,8 @@ pair_steps::Pairs::step-returns-in-Some g t c =
           (IfOk-weaker c.at_found.result _ _ (λ z h. h (g.S.Sources.view c.args.s.now) c.requires.can.bench here.0) c.at_found.ensures.answer);
     })
 
-pub pair_steps::Pairs::step-returns-in-None : goal.pair_steps::Pairs::step-returns-in-None
-pair_steps::Pairs::step-returns-in-None g t c =
+pub join_steps::Join::step-returns-in-None : goal.join_steps::Join::step-returns-in-None
+join_steps::Join::step-returns-in-None g t c =
     let here = in_pair c.requires.can c.args.self.now.left c.args.self.now.right c.args.self.now.tests.now c.requires.is _ _ _ _ _ c.in-Pair.is in
     let goes = at_none c.requires.can c.args.self.now.left c.args.self.now.right c.args.self.now.tests.now c.requires.is _ _ _ _ _ c.in-Pair.is ((rw c.in-None.is at c.in_ok-place-in-Pair.ensures.next) (g.S.Sources.view c.args.s.now) c.requires.can.bench here.0) in
     placed c.args.at.now _ c.in-Pair.is (pairs_up c.args.self.now.left c.args.self.now.right c.args.self.now.tests.now) c.requires.is (record {
@@ -776,102 +776,102 @@ pair_steps::Pairs::step-returns-in-None g t c =
       answer = goes_result _ goes (pairs_up c.args.self.now.left c.args.self.now.right c.args.self.now.tests.now) c.next_new.result c.next_new.ensures.answer;
     })
 
-pub gather_steps::Gathers::grow-returns-then-ended : goal.gather_steps::Gathers::grow-returns-then-ended
-gather_steps::Gathers::grow-returns-then-ended g t c = record { ran = ran_nothing g.met.S.Sources.same c.args.self.now.walk.op _ c.args.s.now c.args.growing.now c.requires.bench; cause = tt; answer = none_unwalked (g.S.Sources.view c.args.s.now) c.args.growing.now c.args.self.now c.requires.is c.requires.fixed c.requires.op c.requires.bench c.index-gathered.result.now c.index-gathered.ensures (sym c.ended.ensures ∙ c.if-ended.true) }
+pub gather_steps::Gather::grow-returns-then-ended : goal.gather_steps::Gather::grow-returns-then-ended
+gather_steps::Gather::grow-returns-then-ended g t c = record { ran = ran_nothing g.met.S.Sources.same c.args.self.now.walk.op _ c.args.s.now c.args.growing.now c.requires.bench; cause = tt; answer = none_unwalked (g.S.Sources.view c.args.s.now) c.args.growing.now c.args.self.now c.requires.is c.requires.fixed c.requires.op c.requires.bench c.index-gathered.result.now c.index-gathered.ensures (sym c.ended.ensures ∙ c.if-ended.true) }
 
-pub gather_steps::Gathers::grow-returns-in_err-last : goal.gather_steps::Gathers::grow-returns-in_err-last
-gather_steps::Gathers::grow-returns-in_err-last g t c = record { ran = ran_nothing g.met.S.Sources.same c.args.self.now.walk.op _ c.args.s.now c.args.growing.now c.requires.bench; cause = search rules; answer = search rules }
+pub gather_steps::Gather::grow-returns-in_err-last : goal.gather_steps::Gather::grow-returns-in_err-last
+gather_steps::Gather::grow-returns-in_err-last g t c = record { ran = ran_nothing g.met.S.Sources.same c.args.self.now.walk.op _ c.args.s.now c.args.growing.now c.requires.bench; cause = search rules; answer = search rules }
 
-pub gather_steps::Gathers::grow-advance-requires : goal.gather_steps::Gathers::grow-advance-requires
-gather_steps::Gathers::grow-advance-requires g t c κs within =
+pub gather_steps::Gather::grow-advance-requires : goal.gather_steps::Gather::grow-advance-requires
+gather_steps::Gather::grow-advance-requires g t c κs within =
     let can = groups_can (g.S.Sources.view c.args.s.now) c.args.growing.now c.args.self.now c.requires.is c.requires.fixed c.requires.op c.requires.bench c.in_ok-last.last.value (read_last (g.S.Sources.view c.args.s.now) c.args.growing.now c.args.self.now c.requires.is c.requires.fixed c.requires.op c.requires.bench c.index-gathered.result.now c.index-gathered.ensures c.in_ok-last.last.value c.in_ok-last.ensures.ok) in
     let small = input_less (g.S.Sources.view c.args.s.now) c.args.growing.now c.args.self.now c.requires.is c.requires.fixed c.requires.op c.requires.bench in
     search rules
 
-pub gather_steps::Gathers::grow-returns-in_err-advance : goal.gather_steps::Gathers::grow-returns-in_err-advance
-gather_steps::Gathers::grow-returns-in_err-advance g t c =
+pub gather_steps::Gather::grow-returns-in_err-advance : goal.gather_steps::Gather::grow-returns-in_err-advance
+gather_steps::Gather::grow-returns-in_err-advance g t c =
     let last = read_last (g.S.Sources.view c.args.s.now) c.args.growing.now c.args.self.now c.requires.is c.requires.fixed c.requires.op c.requires.bench c.index-gathered.result.now c.index-gathered.ensures c.in_ok-last.last.value c.in_ok-last.ensures.ok in
     let adv = rw last at c.advance.ensures in
     record { ran = gathers_ran c.args.self.now.walk.op c.args.self.now.input c.args.self.now.keys.now c.requires.is.0 c.requires.fixed c.requires.op c.requires.is.1 adv.ran; cause = search rules; answer = search rules }
 
-pub gather_steps::Gathers::grow-returns-in_err-key-in-Some : goal.gather_steps::Gathers::grow-returns-in_err-key-in-Some
-gather_steps::Gathers::grow-returns-in_err-key-in-Some g t c =
+pub gather_steps::Gather::grow-returns-in_err-key-in-Some : goal.gather_steps::Gather::grow-returns-in_err-key-in-Some
+gather_steps::Gather::grow-returns-in_err-key-in-Some g t c =
     let last = read_last (g.S.Sources.view c.args.s.now) c.args.growing.now c.args.self.now c.requires.is c.requires.fixed c.requires.op c.requires.bench c.index-gathered.result.now c.index-gathered.ensures c.in_ok-last.last.value c.in_ok-last.ensures.ok in
     let adv = rw last at c.advance.ensures in
     record { ran = gathers_ran c.args.self.now.walk.op c.args.self.now.input c.args.self.now.keys.now c.requires.is.0 c.requires.fixed c.requires.op c.requires.is.1 adv.ran; cause = search rules; answer = search rules }
 
-pub gather_steps::Gathers::grow-returns-in-None : goal.gather_steps::Gathers::grow-returns-in-None
-gather_steps::Gathers::grow-returns-in-None g t c =
+pub gather_steps::Gather::grow-returns-in-None : goal.gather_steps::Gather::grow-returns-in-None
+gather_steps::Gather::grow-returns-in-None g t c =
     let last = read_last (g.S.Sources.view c.args.s.now) c.args.growing.now c.args.self.now c.requires.is c.requires.fixed c.requires.op c.requires.bench c.index-gathered.result.now c.index-gathered.ensures c.in_ok-last.last.value c.in_ok-last.ensures.ok in
     let adv = rw last at c.advance.ensures in
     let none = rw (c.in-None.is, last) at c.in_ok-advance.ensures.answer in
     let leaves = grow_ended (g.S.Sources.view c.args.s.now) c.args.growing.now c.args.self.now c.requires.is c.requires.fixed c.requires.op c.requires.bench (world_of (g.S.Sources.view c.advance.new.s) c.advance.new.growing) adv.ran.asks adv.ran.bench c.end_groups.new.walked c.end_groups.ensures.others c.end_groups.ensures.ended none in
     record { ran = record { came = adv.ran.came; bench = leaves.0; asks = leaves.1 }; cause = tt; answer = none }
 
-pub gather_steps::Gathers::grow-key_of-requires-clause-keys : goal.gather_steps::Gathers::grow-key_of-requires-clause-keys
-gather_steps::Gathers::grow-key_of-requires-clause-keys g t c = keys_fit (operators c.args.self.now.walk.fixed.now) c.requires.fixed.typed c.args.self.now.walk.op c.requires.op c.args.self.now.input c.args.self.now.keys.now (Some c.requires.is.0) c.requires.is.1
+pub gather_steps::Gather::grow-key_of-requires-clause-keys : goal.gather_steps::Gather::grow-key_of-requires-clause-keys
+gather_steps::Gather::grow-key_of-requires-clause-keys g t c = keys_fit (operators c.args.self.now.walk.fixed.now) c.requires.fixed.typed c.args.self.now.walk.op c.requires.op c.args.self.now.input c.args.self.now.keys.now (Some c.requires.is.0) c.requires.is.1
 
-pub gather_steps::Gathers::grow-gather-requires-clause-count : goal.gather_steps::Gathers::grow-gather-requires-clause-count
-gather_steps::Gathers::grow-gather-requires-clause-count g t c =
+pub gather_steps::Gather::grow-add_member-requires-clause-count : goal.gather_steps::Gather::grow-add_member-requires-clause-count
+gather_steps::Gather::grow-add_member-requires-clause-count g t c =
     let last = read_last (g.S.Sources.view c.args.s.now) c.args.growing.now c.args.self.now c.requires.is c.requires.fixed c.requires.op c.requires.bench c.index-gathered.result.now c.index-gathered.ensures c.in_ok-last.last.value c.in_ok-last.ensures.ok in
     let adv = rw last at c.advance.ensures in
     as_many (g.S.Sources.view c.args.s.now) c.args.growing.now c.args.self.now c.requires.is c.requires.fixed c.requires.op c.requires.bench (world_of (g.S.Sources.view c.advance.new.s) c.advance.new.growing) adv.ran.asks adv.ran.bench
 
-pub gather_steps::Gathers::grow-returns-in_err-gather-in-Some : goal.gather_steps::Gathers::grow-returns-in_err-gather-in-Some
-gather_steps::Gathers::grow-returns-in_err-gather-in-Some g t c =
+pub gather_steps::Gather::grow-returns-in_err-add_member-in-Some : goal.gather_steps::Gather::grow-returns-in_err-add_member-in-Some
+gather_steps::Gather::grow-returns-in_err-add_member-in-Some g t c =
     let last = read_last (g.S.Sources.view c.args.s.now) c.args.growing.now c.args.self.now c.requires.is c.requires.fixed c.requires.op c.requires.bench c.index-gathered.result.now c.index-gathered.ensures c.in_ok-last.last.value c.in_ok-last.ensures.ok in
     let adv = rw last at c.advance.ensures in
     let h = rw c.in-Some.is at c.in_ok-advance.ensures.answer in
     let f = rw (c.in-Some.is, last) at c.in_ok-advance.ensures.answer in
     let parts = (rw c.deref.ensures at c.in_ok-key-in-Some.ensures.parts) _ adv.ran.bench h.cursor in
     let value = (rw c.deref.ensures at c.in_ok-key-in-Some.ensures.value) _ adv.ran.bench h.cursor in
-    let leaves = grow_refused (g.S.Sources.view c.args.s.now) c.args.growing.now c.args.self.now c.requires.is c.requires.fixed c.requires.op c.requires.bench (world_of (g.S.Sources.view c.advance.new.s) c.advance.new.growing) adv.ran.asks adv.ran.bench _ f c.in_ok-key-in-Some.key.items parts value c.spots_are_one.ensures c.gather.new.seen.items c.gather.new.walked c.gather.ensures.grows c.gather.ensures.others c.in_err-gather-in-Some.ensures.err c.in_err-gather-in-Some.ensures.kept in
+    let leaves = grow_refused (g.S.Sources.view c.args.s.now) c.args.growing.now c.args.self.now c.requires.is c.requires.fixed c.requires.op c.requires.bench (world_of (g.S.Sources.view c.advance.new.s) c.advance.new.growing) adv.ran.asks adv.ran.bench _ f c.in_ok-key-in-Some.key.items parts value c.spots_are_one.ensures c.add_member.new.seen.items c.add_member.new.walked c.add_member.ensures.grows c.add_member.ensures.others c.in_err-add_member-in-Some.ensures.err c.in_err-add_member-in-Some.ensures.kept in
     record { ran = record { came = adv.ran.came; bench = leaves.0; asks = leaves.1 }; cause = search rules; answer = search rules }
 
-pub gather_steps::Gathers::grow-returns : goal.gather_steps::Gathers::grow-returns
-gather_steps::Gathers::grow-returns g t c =
+pub gather_steps::Gather::grow-returns : goal.gather_steps::Gather::grow-returns
+gather_steps::Gather::grow-returns g t c =
     let last = read_last (g.S.Sources.view c.args.s.now) c.args.growing.now c.args.self.now c.requires.is c.requires.fixed c.requires.op c.requires.bench c.index-gathered.result.now c.index-gathered.ensures c.in_ok-last.last.value c.in_ok-last.ensures.ok in
     let adv = rw last at c.advance.ensures in
     let h = rw c.in-Some.is at c.in_ok-advance.ensures.answer in
     let f = rw (c.in-Some.is, last) at c.in_ok-advance.ensures.answer in
     let parts = (rw c.deref.ensures at c.in_ok-key-in-Some.ensures.parts) _ adv.ran.bench h.cursor in
     let value = (rw c.deref.ensures at c.in_ok-key-in-Some.ensures.value) _ adv.ran.bench h.cursor in
-    let more = grow_more (g.S.Sources.view c.args.s.now) c.args.growing.now c.args.self.now c.requires.is c.requires.fixed c.requires.op c.requires.bench (world_of (g.S.Sources.view c.advance.new.s) c.advance.new.growing) adv.ran.asks adv.ran.bench _ f c.in_ok-key-in-Some.key.items parts value c.spots_are_one.ensures c.gather.new.seen.items c.gather.new.walked c.gather.ensures.grows c.gather.ensures.others c.in_ok-gather-in-Some.ensures.ok c.index-gathered.result.now c.index-gathered.ensures (sym c.ended.ensures ∙ c.if-ended.false) in
+    let more = grow_more (g.S.Sources.view c.args.s.now) c.args.growing.now c.args.self.now c.requires.is c.requires.fixed c.requires.op c.requires.bench (world_of (g.S.Sources.view c.advance.new.s) c.advance.new.growing) adv.ran.asks adv.ran.bench _ f c.in_ok-key-in-Some.key.items parts value c.spots_are_one.ensures c.add_member.new.seen.items c.add_member.new.walked c.add_member.ensures.grows c.add_member.ensures.others c.in_ok-add_member-in-Some.ensures.ok c.index-gathered.result.now c.index-gathered.ensures (sym c.ended.ensures ∙ c.if-ended.false) in
     record { ran = record { came = adv.ran.came; bench = more.0.0; asks = more.0.1 }; cause = tt; answer = more.1 }
 
-pub gather_steps::Gathers::step-bindings-init : goal.gather_steps::Gathers::step-bindings-init
-gather_steps::Gathers::step-bindings-init g t c = record {
+pub gather_steps::Gather::step-bindings-init : goal.gather_steps::Gather::step-bindings-init
+gather_steps::Gather::step-bindings-init g t c = record {
   came = g.met.S.Sources.same c.args.s.now;
   bench = c.requires.can.bench;
   comes = step_begins c.args.self.now c.args.at.now c.requires.can c.requires.is;
 }
 
-pub gather_steps::Gathers::step-returns-in_err-group : goal.gather_steps::Gathers::step-returns-in_err-group
-gather_steps::Gathers::step-returns-in_err-group g t c =
+pub gather_steps::Gather::step-returns-in_err-group : goal.gather_steps::Gather::step-returns-in_err-group
+gather_steps::Gather::step-returns-in_err-group g t c =
     let i = c.bindings.invariant in
     shaped c.args.at.now (group_shape c.args.self.now i.comes.0) i.comes.0.1 (record { ran = record { came = i.came; bench = i.bench; asks = i.comes.1.asks }; cause = search rules; answer = search rules })
 
-pub gather_steps::Gathers::step-returns-in-Some : goal.gather_steps::Gathers::step-returns-in-Some
-gather_steps::Gathers::step-returns-in-Some g t c =
+pub gather_steps::Gather::step-returns-in-Some : goal.gather_steps::Gather::step-returns-in-Some
+gather_steps::Gather::step-returns-in-Some g t c =
     let i = c.bindings.invariant in
     let next = rw (c.in-Some.is, c.seen_up_to-count.ensures) at c.in_ok-group.ensures.group in
     shaped c.args.at.now (group_shape c.args.self.now i.comes.0) i.comes.0.1 (record { ran = record { came = i.came; bench = i.bench; asks = i.comes.1.asks }; cause = tt; answer = step_found c.args.self.now c.args.at.now c.requires.can (world_of (g.S.Sources.view c.bindings.s) c.bindings.growing) i.bench i.comes c.in-Some.group next })
 
-pub gather_steps::Gathers::step-returns-in_err-grow-in-None : goal.gather_steps::Gathers::step-returns-in_err-grow-in-None
-gather_steps::Gathers::step-returns-in_err-grow-in-None g t c =
+pub gather_steps::Gather::step-returns-in_err-grow-in-None : goal.gather_steps::Gather::step-returns-in_err-grow-in-None
+gather_steps::Gather::step-returns-in_err-grow-in-None g t c =
     let i = c.bindings.invariant in
     let none = rw (c.in-None.is, c.seen_up_to-count.ensures) at c.in_ok-group.ensures.group in
     shaped c.args.at.now (group_shape c.args.self.now i.comes.0) i.comes.0.1 (record { ran = record { came = g.met.S.Sources.after _ _ _ i.came c.grow.ensures.ran.came; bench = c.grow.ensures.ran.bench; asks = step_asks c.args.self.now c.args.at.now c.requires.can (world_of (g.S.Sources.view c.bindings.s) c.bindings.growing) i.bench i.comes none (world_of (g.S.Sources.view c.grow.new.s) c.grow.new.growing) c.grow.ensures.ran.asks }; cause = search rules; answer = search rules })
 
-pub gather_steps::Gathers::step-returns-then-not-branch : goal.gather_steps::Gathers::step-returns-then-not-branch
-gather_steps::Gathers::step-returns-then-not-branch g t c =
+pub gather_steps::Gather::step-returns-then-not-branch : goal.gather_steps::Gather::step-returns-then-not-branch
+gather_steps::Gather::step-returns-then-not-branch g t c =
     let i = c.bindings.invariant in
     let none = rw (c.in-None.is, c.seen_up_to-count.ensures) at c.in_ok-group.ensures.group in
     let over = rw c.if-not-branch.true at c.in_ok-grow-in-None.ensures.answer in
     shaped c.args.at.now (group_shape c.args.self.now i.comes.0) i.comes.0.1 (record { ran = record { came = g.met.S.Sources.after _ _ _ i.came c.grow.ensures.ran.came; bench = c.grow.ensures.ran.bench; asks = step_asks c.args.self.now c.args.at.now c.requires.can (world_of (g.S.Sources.view c.bindings.s) c.bindings.growing) i.bench i.comes none (world_of (g.S.Sources.view c.grow.new.s) c.grow.new.growing) c.grow.ensures.ran.asks }; cause = tt; answer = step_none c.args.self.now c.args.at.now c.requires.can (world_of (g.S.Sources.view c.bindings.s) c.bindings.growing) i.bench i.comes none (world_of (g.S.Sources.view c.grow.new.s) c.grow.new.growing) c.grow.ensures.ran.asks over })
 
-pub gather_steps::Gathers::step-bindings-preserved : goal.gather_steps::Gathers::step-bindings-preserved
-gather_steps::Gathers::step-bindings-preserved g t c =
+pub gather_steps::Gather::step-bindings-preserved : goal.gather_steps::Gather::step-bindings-preserved
+gather_steps::Gather::step-bindings-preserved g t c =
     let i = c.bindings.invariant in
     let none = rw (c.in-None.is, c.seen_up_to-count.ensures) at c.in_ok-group.ensures.group in
     let further = rw c.if-not-branch.false at c.in_ok-grow-in-None.ensures.answer in
@@ -881,7 +881,7 @@ gather_steps::Gathers::step-bindings-preserved g t c =
       comes = step_goes_on c.args.self.now c.args.at.now c.requires.can (world_of (g.S.Sources.view c.bindings.s) c.bindings.growing) i.bench i.comes none (world_of (g.S.Sources.view c.grow.new.s) c.grow.new.growing) c.grow.ensures.ran.asks c.grow.ensures.ran.bench further c.spots_are_one.ensures;
     }
 
-pub gather_steps::Gathers::step-bindings-smaller : goal.gather_steps::Gathers::step-bindings-smaller
-gather_steps::Gathers::step-bindings-smaller g t c =
+pub gather_steps::Gather::step-bindings-smaller : goal.gather_steps::Gather::step-bindings-smaller
+gather_steps::Gather::step-bindings-smaller g t c =
     let further = rw c.if-not-branch.false at c.in_ok-grow-in-None.ensures.answer in
     further_falls (world_of (g.S.Sources.view c.bindings.s) c.bindings.growing) (world_of (g.S.Sources.view c.grow.new.s) c.grow.new.growing) (operators c.args.self.now.walk.fixed.now) c.args.self.now.walk.op c.args.self.now.input c.args.self.now.keys.now further

@@ -22,27 +22,27 @@ decreases-steps::event_behind g l = 7 * l.walk.op + 3
 abbrev pub decreases-steps::next_event : goal.decreases-steps::next_event
 decreases-steps::next_event g l = 7 * l.walk.op + 2
 
-abbrev pub decreases-pass_steps::Filters::step : goal.decreases-pass_steps::Filters::step
-decreases-pass_steps::Filters::step g l = 7 * l.self.now.walk.op
+abbrev pub decreases-pass_steps::Filter::step : goal.decreases-pass_steps::Filter::step
+decreases-pass_steps::Filter::step g l = 7 * l.self.now.walk.op
 
-abbrev pub decreases-pass_steps::Passes::step : goal.decreases-pass_steps::Passes::step
-decreases-pass_steps::Passes::step g l = 7 * l.self.now.walk.op
+abbrev pub decreases-pass_steps::Project::step : goal.decreases-pass_steps::Project::step
+decreases-pass_steps::Project::step g l = 7 * l.self.now.walk.op
 
-abbrev pub decreases-pass_steps::Firsts::step : goal.decreases-pass_steps::Firsts::step
-decreases-pass_steps::Firsts::step g l = 7 * l.self.now.walk.op + 1
+abbrev pub decreases-pass_steps::Distinct::step : goal.decreases-pass_steps::Distinct::step
+decreases-pass_steps::Distinct::step g l = 7 * l.self.now.walk.op + 1
 
-abbrev pub decreases-pass_steps::Firsts::next_key : goal.decreases-pass_steps::Firsts::next_key
-decreases-pass_steps::Firsts::next_key g l = 7 * l.self.now.walk.op
+abbrev pub decreases-pass_steps::Distinct::next_key : goal.decreases-pass_steps::Distinct::next_key
+decreases-pass_steps::Distinct::next_key g l = 7 * l.self.now.walk.op
 
-abbrev pub decreases-pair_steps::Pairs::step : goal.decreases-pair_steps::Pairs::step
-decreases-pair_steps::Pairs::step g l = 7 * l.self.now.walk.op + 1
+abbrev pub decreases-join_steps::Join::step : goal.decreases-join_steps::Join::step
+decreases-join_steps::Join::step g l = 7 * l.self.now.walk.op + 1
 
-abbrev pub decreases-pair_steps::Pairs::next_new : goal.decreases-pair_steps::Pairs::next_new
-decreases-pair_steps::Pairs::next_new g l = 7 * l.self.now.walk.op
+abbrev pub decreases-join_steps::Join::next_new : goal.decreases-join_steps::Join::next_new
+decreases-join_steps::Join::next_new g l = 7 * l.self.now.walk.op
 
 -- the members so far were passed: what is still ahead, and what it has cost
-abbrev pub invariant-pair_steps::Pairs::next_new-members : goal.invariant-pair_steps::Pairs::next_new-members
-invariant-pair_steps::Pairs::next_new-members g l = record {
+abbrev pub invariant-join_steps::Join::next_new-members : goal.invariant-join_steps::Join::next_new-members
+invariant-join_steps::Join::next_new-members g l = record {
   came : g.S.Sources.came_from l.initial.s l.s;
   goes : Goes (world_of (g.S.Sources.view l.initial.s) l.initial.growing) (world_of (g.S.Sources.view l.s) l.growing) (operators l.self.walk.fixed.now) l.self.walk.op
       (beside_events (world_of (g.S.Sources.view l.initial.s) l.initial.growing) (operators l.self.walk.fixed.now) l.self.left l.self.right l.self.tests.now l.l.value (last_at (world_of (g.S.Sources.view l.initial.s) l.initial.growing) l.self.walk.op))
@@ -53,25 +53,25 @@ invariant-pair_steps::Pairs::next_new-members g l = record {
 }
 
 -- how many more may come
-abbrev pub decreases-pair_steps::Pairs::next_new-members : goal.decreases-pair_steps::Pairs::next_new-members
-decreases-pair_steps::Pairs::next_new-members g l =
+abbrev pub decreases-join_steps::Join::next_new-members : goal.decreases-join_steps::Join::next_new-members
+decreases-join_steps::Join::next_new-members g l =
     size (world_of (g.S.Sources.view l.s) l.growing) (operators l.self.walk.fixed.now) l.self.right - length (memo_at (world_of (g.S.Sources.view l.s) l.growing) l.self.walk.op).pairs
 
-abbrev pub decreases-pair_steps::Pairs::grow : goal.decreases-pair_steps::Pairs::grow
-decreases-pair_steps::Pairs::grow g l = 7 * l.self.now.right + 6
+abbrev pub decreases-join_steps::Join::grow : goal.decreases-join_steps::Join::grow
+decreases-join_steps::Join::grow g l = 7 * l.self.now.right + 6
 
-abbrev pub decreases-pair_steps::Pairs::next_left : goal.decreases-pair_steps::Pairs::next_left
-decreases-pair_steps::Pairs::next_left g l = 7 * l.self.now.left + 6
+abbrev pub decreases-join_steps::Join::next_left : goal.decreases-join_steps::Join::next_left
+decreases-join_steps::Join::next_left g l = 7 * l.self.now.left + 6
 
-abbrev pub decreases-visit_steps::Visits::step : goal.decreases-visit_steps::Visits::step
-decreases-visit_steps::Visits::step g l = 7 * l.self.now.walk.op
+abbrev pub decreases-path_scan::PathScan::step : goal.decreases-path_scan::PathScan::step
+decreases-path_scan::PathScan::step g l = 7 * l.self.now.walk.op
 
-abbrev pub decreases-visit_steps::Visits::next_start : goal.decreases-visit_steps::Visits::next_start
-decreases-visit_steps::Visits::next_start g l = 7 * l.self.now.input + 6
+abbrev pub decreases-path_scan::PathScan::next_start : goal.decreases-path_scan::PathScan::next_start
+decreases-path_scan::PathScan::next_start g l = 7 * l.self.now.input + 6
 
 -- the visits so far had no match: what is still ahead, and what it has cost
-abbrev pub invariant-visit_steps::Visits::next_start-starts : goal.invariant-visit_steps::Visits::next_start-starts
-invariant-visit_steps::Visits::next_start-starts g l = record {
+abbrev pub invariant-path_scan::PathScan::next_start-starts : goal.invariant-path_scan::PathScan::next_start-starts
+invariant-path_scan::PathScan::next_start-starts g l = record {
   came : g.S.Sources.came_from l.initial.s l.s;
   goes : Goes (world_of (g.S.Sources.view l.initial.s) l.initial.growing) (world_of (g.S.Sources.view l.s) l.growing) (operators l.self.walk.fixed.now) l.self.walk.op
       (visit_events (world_of (g.S.Sources.view l.initial.s) l.initial.growing) (operators l.self.walk.fixed.now) l.self.input l.self.start l.self.path.now l.self.out l.below.value) (visit_events (world_of (g.S.Sources.view l.s) l.growing) (operators l.self.walk.fixed.now) l.self.input l.self.start l.self.path.now l.self.out l.at.value)
@@ -79,8 +79,8 @@ invariant-visit_steps::Visits::next_start-starts g l = record {
   can : CanStep (g.S.Sources.view l.s) l.growing l.self.walk.fixed.now l.self.input l.at.value;
 }
 
-abbrev pub decreases-visit_steps::Visits::next_start-starts : goal.decreases-visit_steps::Visits::next_start-starts
-decreases-visit_steps::Visits::next_start-starts g l = number (world_of (g.S.Sources.view l.s) l.growing) (operators l.self.walk.fixed.now) l.self.input l.at.value
+abbrev pub decreases-path_scan::PathScan::next_start-starts : goal.decreases-path_scan::PathScan::next_start-starts
+decreases-path_scan::PathScan::next_start-starts g l = number (world_of (g.S.Sources.view l.s) l.growing) (operators l.self.walk.fixed.now) l.self.input l.at.value
 
 -- what is still ahead, and what it has cost
 abbrev pub invariant-steps::advance_behind-events : goal.invariant-steps::advance_behind-events
@@ -95,40 +95,40 @@ invariant-steps::advance_behind-events g l = record {
 abbrev pub decreases-steps::advance_behind-events : goal.decreases-steps::advance_behind-events
 decreases-steps::advance_behind-events g l = number (world_of (g.S.Sources.view l.s) l.growing) (operators l.walk.fixed.now) l.walk.op l.at
 
-abbrev pub decreases-order_steps::Sorts::step : goal.decreases-order_steps::Sorts::step
-decreases-order_steps::Sorts::step g l = 7 * l.self.now.walk.op + 1
+abbrev pub decreases-sort_steps::Sort::step : goal.decreases-sort_steps::Sort::step
+decreases-sort_steps::Sort::step g l = 7 * l.self.now.walk.op + 1
 
-abbrev pub decreases-order_steps::Sorts::first : goal.decreases-order_steps::Sorts::first
-decreases-order_steps::Sorts::first g l = 7 * l.self.now.walk.op
+abbrev pub decreases-sort_steps::Sort::first : goal.decreases-sort_steps::Sort::first
+decreases-sort_steps::Sort::first g l = 7 * l.self.now.walk.op
 
-abbrev pub decreases-order_steps::labelled : goal.decreases-order_steps::labelled
-decreases-order_steps::labelled g l = 7 * l.walk.op + 6
+abbrev pub decreases-sort_steps::labelled : goal.decreases-sort_steps::labelled
+decreases-sort_steps::labelled g l = 7 * l.walk.op + 6
 
 -- the bindings so far, and what they have cost
-abbrev pub invariant-order_steps::labelled-events : goal.invariant-order_steps::labelled-events
-invariant-order_steps::labelled-events g l = record {
+abbrev pub invariant-sort_steps::labelled-events : goal.invariant-sort_steps::labelled-events
+invariant-sort_steps::labelled-events g l = record {
   came : g.S.Sources.came_from l.initial.s l.s;
   gathered : Gathered (world_of (g.S.Sources.view l.initial.s) l.initial.growing) (world_of (g.S.Sources.view l.s) l.growing) (operators l.walk.fixed.now) l.walk.op l.v l.rows.items l.at.value;
   can : CanStep (g.S.Sources.view l.s) l.growing l.walk.fixed.now l.walk.op l.at.value;
 }
 
-abbrev pub decreases-order_steps::labelled-events : goal.decreases-order_steps::labelled-events
-decreases-order_steps::labelled-events g l = number (world_of (g.S.Sources.view l.s) l.growing) (operators l.walk.fixed.now) l.walk.op l.at.value
+abbrev pub decreases-sort_steps::labelled-events : goal.decreases-sort_steps::labelled-events
+decreases-sort_steps::labelled-events g l = number (world_of (g.S.Sources.view l.s) l.growing) (operators l.walk.fixed.now) l.walk.op l.at.value
 
-abbrev pub decreases-gather_steps::Gathers::step : goal.decreases-gather_steps::Gathers::step
-decreases-gather_steps::Gathers::step g l = 7 * l.self.now.walk.op + 1
+abbrev pub decreases-gather_steps::Gather::step : goal.decreases-gather_steps::Gather::step
+decreases-gather_steps::Gather::step g l = 7 * l.self.now.walk.op + 1
 
-abbrev pub decreases-gather_steps::Gathers::grow : goal.decreases-gather_steps::Gathers::grow
-decreases-gather_steps::Gathers::grow g l = 7 * l.self.now.input + 6
+abbrev pub decreases-gather_steps::Gather::grow : goal.decreases-gather_steps::Gather::grow
+decreases-gather_steps::Gather::grow g l = 7 * l.self.now.input + 6
 
 -- how far the walk has come
-abbrev pub invariant-gather_steps::Gathers::step-bindings : goal.invariant-gather_steps::Gathers::step-bindings
-invariant-gather_steps::Gathers::step-bindings g l = record {
+abbrev pub invariant-gather_steps::Gather::step-bindings : goal.invariant-gather_steps::Gather::step-bindings
+invariant-gather_steps::Gather::step-bindings g l = record {
   came : g.S.Sources.came_from l.initial.s l.s;
   bench : IsBench (world_of (g.S.Sources.view l.s) l.growing) (operators l.self.walk.fixed.now);
   comes : StepCame l.self (world_of (g.S.Sources.view l.initial.s) l.initial.growing) (world_of (g.S.Sources.view l.s) l.growing) l.fn.at;
 }
 
-abbrev pub decreases-gather_steps::Gathers::step-bindings : goal.decreases-gather_steps::Gathers::step-bindings
-decreases-gather_steps::Gathers::step-bindings g l =
+abbrev pub decreases-gather_steps::Gather::step-bindings : goal.decreases-gather_steps::Gather::step-bindings
+decreases-gather_steps::Gather::step-bindings g l =
     number (world_of (g.S.Sources.view l.s) l.growing) (operators l.self.walk.fixed.now) l.self.input (gathered_at (world_of (g.S.Sources.view l.s) l.growing) l.self.walk.op).last

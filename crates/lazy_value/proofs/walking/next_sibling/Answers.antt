@@ -12,6 +12,6 @@ returns-in-Inside-clause-height g c =
 
 pub returns-in-Item-clause-height : goal.returns-in-Item-clause-height
 returns-in-Item-clause-height g c =
-    if_ok c.front.result _ (IsNoHigher (site_height (state_of (g.S.Sources.view c.args.s.now) c.args.bench.now) c.args.site.now) (state_of (g.S.Sources.view c.front.new.s) c.front.new.bench))
-    (λ r h. subst (λ (n : ℕ). IsNoHigher n (state_of (g.S.Sources.view c.front.new.s) c.front.new.bench) r) (sym (ap (site_height (state_of (g.S.Sources.view c.args.s.now) c.args.bench.now)) c.in-Item.is))
-    (ranked_behind (state_of (g.S.Sources.view c.args.s.now) c.args.bench.now) (state_of (g.S.Sources.view c.front.new.s) c.front.new.bench) c.in-Item.head (rest_rank c.in-Item.rest.value) (roots_same (g.S.Sources.view c.args.s.now) (g.S.Sources.view c.front.new.s) c.args.bench.now c.front.new.bench (g.met.S.Sources.keeps c.args.s.now c.front.new.s c.front.ensures.walked.came) c.requires.bench) r h)) c.front.ensures.rank
+    if_ok c.first_node.result _ (IsNoHigher (site_height (state_of (g.S.Sources.view c.args.s.now) c.args.bench.now) c.args.site.now) (state_of (g.S.Sources.view c.first_node.new.s) c.first_node.new.bench))
+    (λ r h. subst (λ (n : ℕ). IsNoHigher n (state_of (g.S.Sources.view c.first_node.new.s) c.first_node.new.bench) r) (sym (ap (site_height (state_of (g.S.Sources.view c.args.s.now) c.args.bench.now)) c.in-Item.is))
+    (ranked_behind (state_of (g.S.Sources.view c.args.s.now) c.args.bench.now) (state_of (g.S.Sources.view c.first_node.new.s) c.first_node.new.bench) c.in-Item.head (rest_rank c.in-Item.rest.value) (roots_same (g.S.Sources.view c.args.s.now) (g.S.Sources.view c.first_node.new.s) c.args.bench.now c.first_node.new.bench (g.met.S.Sources.keeps c.args.s.now c.first_node.new.s c.first_node.ensures.walked.came) c.requires.bench) r h)) c.first_node.ensures.rank

@@ -19,7 +19,7 @@ module _ (old view now : Gathered) (is : view ≡ old) (seen : List (List KeyPar
     goes_on = ended ∙ ap (λ (z : Gathered). z.ended) is;
   }
 
-  -- it is new
+  -- a key that is new begins a group
   begun : (later : List (List KeyPart)) → was_seen key (take (length seen) seen) ≡ false → later ≡ seen ++ key ∷ [] → IsBegun view.groups now.groups r → GoesTo old now seen later key r
   begun later fresh pushed first = record {
     member = inr (record { fresh = sym (ap (was_seen key) (take-length seen)) ∙ fresh; pushed = pushed; begun = subst (λ (z : Gathered). IsBegun z.groups now.groups r) is first });

@@ -7,12 +7,12 @@ use Rattle.lazy_binding.proofs.SeenLists.{seen_at_place, seen_nowhere, seen_alon
 use Rattle.lazy_binding.proofs.key.SeenKeys.number_of.Goals as goal
 
 module _ (key : List KeyPart) (ks : List (SmallVec KeyPart)) (self : List (List KeyPart)) (view : map (λ k. k.items) ks ≡ self) where
-  -- without a place
+  -- a key that is at no place was not seen
   none_at : (r : Option ℕ) → position (λ k. same_parts key k.items) ks ≡ r → is_none r ≡ true → (few : ℕ) → was_seen key (take few self) ≡ false
   none_at None e h = λ few. ap (λ (z : List (List KeyPart)). was_seen key (take few z)) (sym view) ∙ sym (seen_nowhere key ks few e)
   none_at (Some m) e h = cc
 
-  -- at its place
+  -- a key at its place was seen exactly by those that count further
   some_at : (r : Option ℕ) → position (λ k. same_parts key k.items) ks ≡ r → IfSome r (λ m. (few : ℕ) → nat_lt m few ≡ was_seen key (take few self))
   some_at None e = tt
   some_at (Some m) e = λ few. seen_at_place key ks few m e ∙ ap (λ (z : List (List KeyPart)). was_seen key (take few z)) view

@@ -3,7 +3,7 @@ use Rattle.std.specs.Prelude.{option_copied, slice_get, slice_index_or}
 use Rattle.std.proofs.lemmas.List.{get_or_default}
 use Rattle.lazy_binding.specs.declared.position.Position.{Position, First'}
 use Rattle.lazy_binding.specs.Gathered.{Gathered, no_groups}
-use Rattle.lazy_steps.proofs.gather_steps.Gathers.next_known.Goals as goal
+use Rattle.lazy_steps.proofs.gather_steps.Gather.next_known.Goals as goal
 
 pub returns-in_ok-share-in-Some-clause-group : goal.returns-in_ok-share-in-Some-clause-group
 returns-in_ok-share-in-Some-clause-group c =

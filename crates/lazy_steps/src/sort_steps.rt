@@ -18,19 +18,19 @@ use std::rc::Rc;
 
 /// An orderBy: its input, and the variable by whose labels it sorts, ascending or descending.
 #[derive(Clone, Copy)]
-pub(crate) struct Sorts<'a> {
+pub(crate) struct Sort<'a> {
     pub(crate) walk: Walk<'a>,
     pub(crate) input: usize,
     pub(crate) var: Var,
     pub(crate) desc: bool,
 }
 
-impl<'a> Sorts<'a> {
+impl<'a> Sort<'a> {
     /// An orderBy of this input, by this variable.
-    pub(crate) fn new(walk: Walk<'a>, input: u32, var: Var, desc: bool) -> Sorts<'a>
+    pub(crate) fn new(walk: Walk<'a>, input: u32, var: Var, desc: bool) -> Sort<'a>
         ensures { result ≡ record { walk = walk.entry; input = input; var = var; desc = desc } }
     {
-        Sorts {
+        Sort {
             walk,
             input: input as usize,
             var,

@@ -3,7 +3,7 @@ use Rattle.plan_core.specs.Shapes.{one_source}
 use Rattle.lazy_binding.specs.Parts.{operators, world_of}
 use Rattle.lazy_steps.proofs.Goes.{ran_nothing, shaped, in_shape, placed}
 use Rattle.lazy_steps.proofs.Singles.{top_at, top_over, source_within, top_known, top_place}
-use Rattle.lazy_steps.proofs.single_steps.OneSource.step.Goals as goal
+use Rattle.lazy_steps.proofs.single_steps.DocumentScan.step.Goals as goal
 
 pub index-requires : goal.index-requires
 index-requires g c =

@@ -9,7 +9,7 @@ use Rattle.lazy_steps.specs.Beside.{memo_in}
 use Rattle.lazy_binding.proofs.MemberItems.{item_is, item_there}
 use Rattle.lazy_steps.proofs.Growing.{memo_read}
 use Rattle.lazy_steps.proofs.Passing.{pair_made}
-use Rattle.lazy_steps.proofs.pair_steps.Pairs.pair_at.Goals as goal
+use Rattle.lazy_steps.proofs.join_steps.Join.pair_at.Goals as goal
 
 pub returns-in_ok-r-in-Some-clause-pair : goal.returns-in_ok-r-in-Some-clause-pair
 returns-in_ok-r-in-Some-clause-pair c =

@@ -1,6 +1,6 @@
 use Rattle.lazy_binding.specs.Parts.{operators, world_of}
 use Rattle.lazy_steps.proofs.Passing.{found_lets}
-use Rattle.lazy_steps.proofs.pair_steps.Pairs.at_found.Goals as goal
+use Rattle.lazy_steps.proofs.join_steps.Join.at_found.Goals as goal
 
 pub pair_at-requires-clause-bench : goal.pair_at-requires-clause-bench
 pair_at-requires-clause-bench c = (c.requires.can.cursor.0, c.requires.can.cursor.1)

@@ -2,7 +2,7 @@ use Rattle.std.proofs.Common.{◌∙◌, sym}
 use Rattle.lazy_binding.specs.Parts.{operators, world_of}
 use Rattle.lazy_steps.proofs.PairSteps.{tests_fit}
 use Rattle.lazy_steps.proofs.Passing.{pair_is, pair_stands}
-use Rattle.lazy_steps.proofs.pair_steps.Pairs.at_member.Goals as goal
+use Rattle.lazy_steps.proofs.join_steps.Join.at_member.Goals as goal
 
 pub pair_at-requires-clause-bench : goal.pair_at-requires-clause-bench
 pair_at-requires-clause-bench c = (c.requires.can.cursor.0, c.requires.can.cursor.1)

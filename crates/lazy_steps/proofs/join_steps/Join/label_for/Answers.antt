@@ -1,7 +1,7 @@
 use Rattle.std.proofs.Common.{sym, ◌∙◌}
 use Rattle.lazy_binding.specs.Parts.{operators}
 use Rattle.lazy_steps.proofs.Linked.{link_read, join_fits}
-use Rattle.lazy_steps.proofs.pair_steps.Pairs.label_for.Goals as goal
+use Rattle.lazy_steps.proofs.join_steps.Join.label_for.Goals as goal
 
 pub label_of-requires-clause-node : goal.label_of-requires-clause-node
 label_of-requires-clause-node c =

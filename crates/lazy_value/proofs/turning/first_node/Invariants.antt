@@ -3,7 +3,7 @@ use Rattle.lazy_plan.specs.Bench.{state_of, IsBenchOf}
 use Rattle.lazy_value.specs.Ids.{IsRest, rest_trees, weight, left}
 use Rattle.lazy_value.specs.Heights.{rest_rank}
 use Rattle.lazy_value.proofs.Turns.{Paid}
-use Rattle.lazy_value.proofs.turning.front.Given as goal
+use Rattle.lazy_value.proofs.turning.first_node.Given as goal
 
 abbrev pub invariant-turns : goal.invariant-turns
 invariant-turns g l = record {

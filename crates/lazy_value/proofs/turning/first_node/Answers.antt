@@ -2,7 +2,7 @@ use Rattle.std.proofs.Common.{arith}
 use Rattle.lazy_value.proofs.Turns.{walked_then, paid_on}
 use Rattle.std.proofs.Common.{Some}
 use Rattle.lazy_value.proofs.Heights.{gives_ranked}
-use Rattle.lazy_value.proofs.turning.front.Goals as goal
+use Rattle.lazy_value.proofs.turning.first_node.Goals as goal
 
 pub returns-in_err-turn-clause-walked : goal.returns-in_err-turn-clause-walked
 returns-in_err-turn-clause-walked g c = walked_then g.met.S.Sources.after c.turns.invariant.came c.turns.invariant.paid c.turn.ensures.walked

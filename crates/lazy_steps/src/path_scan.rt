@@ -17,7 +17,7 @@ use std::rc::Rc;
 
 /// A getDescendants: its input, the variable from whose nodes it visits along a path, and the one that it binds.
 #[derive(Clone, Copy)]
-pub(crate) struct Visits<'a> {
+pub(crate) struct PathScan<'a> {
     pub(crate) walk: Walk<'a>,
     pub(crate) input: usize,
     pub(crate) start: Var,
@@ -25,7 +25,7 @@ pub(crate) struct Visits<'a> {
     pub(crate) out: Var,
 }
 
-impl<'a> Visits<'a> {
+impl<'a> PathScan<'a> {
     /// A getDescendants of this input, from one variable along a path to another.
     pub(crate) fn new(
         walk: Walk<'a>,
@@ -33,10 +33,10 @@ impl<'a> Visits<'a> {
         start: Var,
         path: &'a Path,
         out: Var,
-    ) -> Visits<'a>
+    ) -> PathScan<'a>
         ensures { result ≡ record { walk = walk.entry; input = input; start = start; path = path.entry; out = out } }
     {
-        Visits {
+        PathScan {
             walk,
             input: input as usize,
             start,

@@ -5,9 +5,9 @@ use Rattle.lxp_core.specs.declared.fault.WalkFault.{WalkFault}
 use Rattle.lazy_binding.specs.declared.key.KeyPart.{KeyPart}
 use Rattle.lazy_binding.specs.declared.position.Position.{Position}
 use Rattle.lazy_binding.specs.Gathered.{Gathered, IsGatheredBy, no_groups}
-use Rattle.lazy_steps.proofs.gather_steps.gather.Goals as goal
+use Rattle.lazy_steps.proofs.gather_steps.add_member.Goals as goal
 
--- the same groups and keys, in other words
+-- what was gathered stays so where groups and keys are given in other words
 in_words : (r : Result (Unit {0}) WalkFault) (key : List KeyPart) (at : Position) {a b x y : Gathered} {s t u v : List (List KeyPart)} → a ≡ x → b ≡ y → s ≡ u → t ≡ v
     → OnOk r (IsGatheredBy a b s t key at) → OnOk r (IsGatheredBy x y u v key at)
 in_words r key at {a} {b} {x} {y} {s} {t} {u} {v} e f p q h =

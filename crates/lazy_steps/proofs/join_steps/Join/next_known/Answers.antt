@@ -4,7 +4,7 @@ use Rattle.lazy_binding.specs.Parts.{operators, world_of}
 use Rattle.lazy_steps.specs.Beside.{memo_in, sought_label}
 use Rattle.lazy_steps.proofs.Growing.{memo_read}
 use Rattle.lazy_steps.proofs.Linked.{link_read, join_fits, sought_by_label, sought_by_node, found_in, next_place, found_label}
-use Rattle.lazy_steps.proofs.pair_steps.Pairs.next_known.Goals as goal
+use Rattle.lazy_steps.proofs.join_steps.Join.next_known.Goals as goal
 
 pub label_of-requires-clause-node : goal.label_of-requires-clause-node
 label_of-requires-clause-node c =

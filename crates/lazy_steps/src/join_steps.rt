@@ -16,19 +16,19 @@ use std::rc::Rc;
 
 /// A join: its inputs, and the comparisons that its bindings meet.
 #[derive(Clone, Copy)]
-pub(crate) struct Pairs<'a> {
+pub(crate) struct Join<'a> {
     pub(crate) walk: Walk<'a>,
     pub(crate) left: usize,
     pub(crate) right: usize,
     pub(crate) tests: &'a [Test],
 }
 
-impl<'a> Pairs<'a> {
+impl<'a> Join<'a> {
     /// A join of these inputs, with these comparisons.
-    pub(crate) fn new(walk: Walk<'a>, left: u32, right: u32, tests: &'a [Test]) -> Pairs<'a>
+    pub(crate) fn new(walk: Walk<'a>, left: u32, right: u32, tests: &'a [Test]) -> Join<'a>
         ensures { result ≡ record { walk = walk.entry; left = left; right = right; tests = tests.entry } }
     {
-        Pairs {
+        Join {
             walk,
             left: left as usize,
             right: right as usize,
