@@ -7,7 +7,7 @@ use Rattle.mix_base.proofs.Choices.{and_parts, some_is}
 use Rattle.mix_tree.specs.Forest.{Forest, none, tree, LabelledTree, forest_of}
 use Rattle.bracket_text.specs.Grammar.{is_blank, IsBlanks, SpellsBrackets, SpellsRest, SpellsTrees, Spells, SpellsAtMostOne}
 use Rattle.bracket_text.specs.Machine.{Frame, Mode, start, first, named, closed, State, at, leaf, after_label, run, tree_in, whole, empty, tree_of, step}
-use Rattle.bracket_text.proofs.Runs.{blank_not_bare, start_blanks, first_blanks, IsNamed, named_by, named_hand, tree_blanks, tree_comma, tree_close, MayBegin, NamedBehind, whole_label}
+use Rattle.bracket_text.proofs.Runs.{blank_not_bare, start_blanks, first_blanks, IsNamed, named_by, named_hand, tree_blanks, tree_comma, tree_close, MayBegin, NamedAfter, whole_label}
 
 -- the trees of a forest in a list
 abbrev pub trees_of : Forest → List LabelledTree
@@ -23,8 +23,8 @@ forest_of-trees_of (tree l k n) = ap (tree l k) (forest_of-trees_of n)
 abbrev pub with_kids : Frame → List LabelledTree → Frame
 with_kids f ts = record { label = f.label; kids = f.kids ++ ts }
 
--- the state behind the text of trees below an open one: the last is at hand, and those before it are below the open one
-pub record Behind (f : Frame) (o : List Frame) (ts : List LabelledTree) (s : State) : Type 0 where
+-- the state after the text of trees below an open one: the last is at hand, and those before it are below the open one
+pub record After (f : Frame) (o : List Frame) (ts : List LabelledTree) (s : State) : Type 0 where
   pub before : List LabelledTree
   pub last : LabelledTree
   pub mode : Mode
@@ -37,19 +37,19 @@ abbrev pub Ends : (State → Type 0) → Option State → Type 0
 Ends P o = (s : State) × (o ≡ Some s) × P s
 
 -- a run ends with this tree at hand
-abbrev pub TreeBehind : List Frame → LabelledTree → Option State → Type 0
-TreeBehind o t r = (m : Mode) × (r ≡ Some (at o m)) × (tree_in m ≡ Some t)
+abbrev pub TreeAfter : List Frame → LabelledTree → Option State → Type 0
+TreeAfter o t r = (m : Mode) × (r ≡ Some (at o m)) × (tree_in m ≡ Some t)
 
--- text of trees leads from a place where a tree may begin to where they stand behind it
+-- text of trees leads from a place where a tree may begin to where they stand after it
 abbrev pub ReadsTrees : Forest → List ℕ → Type 0
-ReadsTrees k x = (f : Frame) (o : List Frame) (m : Mode) → MayBegin m → Ends (Behind f o (trees_of k)) (run (at (f ∷ o) m) x)
+ReadsTrees k x = (f : Frame) (o : List Frame) (m : Mode) → MayBegin m → Ends (After f o (trees_of k)) (run (at (f ∷ o) m) x)
 
--- a blank behind a label
+-- a blank after a label
 blank_label : (o : List Frame) (l : List ℕ) (b : ℕ) → IsTrue (is_blank b) → after_label o l b ≡ Some (at o (named l))
 blank_label o l b h = rw h refl
 
--- blanks behind a label
-name_blanks : (a : List ℕ) (o : List Frame) (m : Mode) (l : List ℕ) → IsNamed m l → IsBlanks a → NamedBehind o l (run (at o m) a)
+-- blanks after a label
+name_blanks : (a : List ℕ) (o : List Frame) (m : Mode) (l : List ℕ) → IsNamed m l → IsBlanks a → NamedAfter o l (run (at o m) a)
 name_blanks [] o m l n h = (m, refl, n)
 name_blanks (b ∷ a) o m l n h =
     let parts = and_parts (is_blank b) (list_all is_blank a) h in
@@ -63,8 +63,8 @@ opened l a b o m n ha hb =
     run_then step a (91 ∷ b) (at o m) (at o blanks.0) blanks.1
     ∙ run_byte step 91 b (at o blanks.0) (at (record { label = l; kids = [] } ∷ o) first) (named_by o blanks.0 l 91 blanks.2 refl) ∙ first_blanks b _ hb
 
--- blanks and the closing bracket behind the trees below
-closes : (l c : List ℕ) (k : Forest) (o : List Frame) (s : State) → IsBlanks c → Behind (record { label = l; kids = [] }) o (trees_of k) s → run s (c ++ 93 ∷ []) ≡ Some (at o (closed (record { label = l; kids = k })))
+-- blanks and the closing bracket after the trees below
+closes : (l c : List ℕ) (k : Forest) (o : List Frame) (s : State) → IsBlanks c → After (record { label = l; kids = [] }) o (trees_of k) s → run s (c ++ 93 ∷ []) ≡ Some (at o (closed (record { label = l; kids = k })))
 closes l c k o s hc h =
     let f : Frame = with_kids (record { label = l; kids = [] }) h.before in
     let blanks = tree_blanks c (f ∷ o) h.mode h.last h.hand hc in
@@ -75,7 +75,7 @@ closes l c k o s hc h =
 
 -- brackets round such a text, or nothing
 brackets_read : (l : List ℕ) (k : Forest) (x : List ℕ) (o : List Frame) (m : Mode) → IsNamed m l → ((y : List ℕ) → SpellsTrees k y → ReadsTrees k y) → SpellsBrackets k (SpellsTrees k) x
-    → TreeBehind o (record { label = l; kids = k }) (run (at o m) x)
+    → TreeAfter o (record { label = l; kids = k }) (run (at o m) x)
 brackets_read l none x o m n reads (inl e) = (m, ap (run (at o m)) e, named_hand m l n)
 brackets_read l none x o m n reads (inr (a, b, ha, hb, e)) =
     (closed (leaf l), ap (run (at o m)) e ∙ run_then step (a ++ 91 ∷ b) (93 ∷ []) (at o m) _ (opened l a b o m n ha hb), refl)
@@ -88,9 +88,9 @@ brackets_read l (tree l' k' n') x o m n reads (a, b, y, c, ha, hb, hc, hy, e) =
       refl,
     )
 
--- a comma, blanks around it, and other trees behind the one at hand; or nothing
+-- a comma, blanks around it, and other trees after the one at hand; or nothing
 rest_read : (f : Frame) (o : List Frame) (m : Mode) (t : LabelledTree) (n : Forest) (x : List ℕ) → ((y : List ℕ) → SpellsTrees n y → ReadsTrees n y) → SpellsRest n (SpellsTrees n) x
-    → tree_in m ≡ Some t → Ends (Behind f o (t ∷ trees_of n)) (run (at (with_kids f [] ∷ o) m) x)
+    → tree_in m ≡ Some t → Ends (After f o (t ∷ trees_of n)) (run (at (with_kids f [] ∷ o) m) x)
 rest_read f o m t none x reads e h =
     (at (with_kids f [] ∷ o) m, ap (run (at (with_kids f [] ∷ o) m)) e, record { before = []; last = t; mode = m; all = refl; hand = h; is = refl })
 rest_read f o m t (tree l' k' n') x reads (a, b, y, ha, hb, hy, e) h =

@@ -40,7 +40,7 @@ shut_holds r nodes opened place label kids o s e c m =
       same = m;
     }
 
--- a comma behind a tree puts it among its siblings
+-- a comma after a tree puts it among its siblings
 pub comma_lies : (nodes : List LaidNode) (opened : List ℕ) (f : Frame) (o : List Frame) (t : LabelledTree) → Lies nodes opened (laid (alone t)) (f ∷ o)
     → Lies nodes opened [] (record { label = f.label; kids = f.kids ++ t ∷ [] } ∷ o)
 comma_lies nodes opened f o t l = record {
@@ -57,7 +57,7 @@ tree_shuts nodes opened f o t l = let c = comma_lies nodes opened f o t l in rec
 pub empty_shuts : (nodes : List LaidNode) (opened : List ℕ) (f : Frame) (o : List Frame) → Lies nodes opened [] (f ∷ o) → Shuts nodes opened f.label (forest_of f.kids) o
 empty_shuts nodes opened f o l = record { nodes_are = l.nodes_are; places_are = l.places_are }
 
--- a label behind which a bracket opens
+-- a label after which a bracket opens
 pub open_lies : (nodes : List LaidNode) (opened more : List ℕ) (place : ℕ) (o : List Frame) (l : List ℕ) → Lies nodes opened (laid (alone (leaf l))) o → more ≡ opened ++ place ∷ []
     → place + 1 ≡ length nodes → Lies nodes more [] (record { label = l; kids = [] } ∷ o)
 open_lies nodes opened more place o l h e p =
@@ -80,7 +80,7 @@ not_none xs n b e f l h = by_count n (omega (arith, l, ap length h)) (sym e ∙ 
     by_count : (k : ℕ) → k ≡ 0 → (k == 0) ≡ false → ⊥
     by_count k p q = grind (arith, nat_tests)
 
--- a byte behind a tree: a blank
+-- a byte after a tree: a blank
 pub tree_blank : (r : Reader) (at : ℕ) (o : List Frame) (t : LabelledTree) (b : ℕ) → Lies r.store r.«open».items (laid (alone t)) o → r.mode ≡ Closed → IsTrue (is_blank b) → Gives (Ok tt) at r (after_tree o t b)
 tree_blank r at o t b l m h = (machine.at o (machine.closed t), rw h refl, record { lies = l; same = m })
 
@@ -112,7 +112,7 @@ pub tree_stops : (o : List Frame) (t : LabelledTree) (b : ℕ) → is_blank b �
 tree_stops [] t b n c d = rw n refl
 tree_stops (f ∷ o) t b n c d = rw (n, c, d) refl
 
--- a closing bracket right behind an opening one
+-- a closing bracket right after an opening one
 pub empty_close : (r : Reader) (at : ℕ) (nodes : List LaidNode) (opened : List ℕ) (o : List Frame) (b : ℕ) → Lies nodes opened [] o → b ≡ 93 → (opened ≡ [] → ⊥)
     → ClosesTree r nodes opened → Gives (Ok tt) at r (cond (b == 93) (close_empty o) None)
 empty_close r at nodes opened [] b l e some k = absurd (some l.places_are)
@@ -128,7 +128,7 @@ empty_alone opened [] b l e = same (b == 93)
     same false = refl
 empty_alone opened (f ∷ o) b l e = none_open o f opened l e
 
--- a byte behind a label: a blank
+-- a byte after a label: a blank
 pub label_blank : (r : Reader) (at : ℕ) (o : List Frame) (l : List ℕ) (b : ℕ) → Lies r.store r.«open».items (laid (alone (leaf l))) o → r.mode ≡ Named → IsTrue (is_blank b) → Gives (Ok tt) at r (after_label o l b)
 label_blank r at o l b h m k = (machine.at o (machine.named l), rw k refl, record { lies = h; same = m })
 
@@ -142,7 +142,7 @@ label_opens r at place nodes opened o l b h s p n m k e = (
   record { lies = subst (λ ns. Lies ns r.«open».items [] (record { label = l; kids = [] } ∷ o)) (sym s) (open_lies nodes opened r.«open».items place o l h p n); same = m },
 )
 
--- another byte behind a label is one behind a leaf
+-- another byte after a label is one after a leaf
 pub label_tree : (o : List Frame) (l : List ℕ) (b : ℕ) → is_blank b ≡ false → (b == 91) ≡ false → after_tree o (leaf l) b ≡ after_label o l b
 label_tree o l b n c =
     sym (ap (λ k. cond k (Some (machine.at o (machine.named l))) (cond (b == 91) (Some (machine.at (record { label = l; kids = [] } ∷ o) machine.first)) (after_tree o (leaf l) b))) n
@@ -224,7 +224,7 @@ no_begin o b n = by_tests (is_bare b) (b == 34) n
 pub start_stops : (r : Reader) (o : List Frame) (m : machine.Mode) (b : ℕ) → Holds r o m → r.mode ≡ Start → is_blank b ≡ false → machine.begins b ≡ false → step_in o m b ≡ None
 start_stops r o m b h e k n = ap (λ q. step_in o q b) (is_start r o m h e) ∙ rw k (no_begin o b n)
 
--- a byte right behind an opening bracket
+-- a byte right after an opening bracket
 pub first_gives : (r w : Reader) (res : Result Unit BracketFault) (at : ℕ) (o : List Frame) (m : machine.Mode) (b : ℕ) → Holds r o m → r.mode ≡ First → is_blank b ≡ false → machine.begins b ≡ false
     → ((p : List Frame) → Lies r.store r.«open».items [] p → Gives res at w (cond (b == 93) (close_empty p) None)) → Gives res at w (step_in o m b)
 first_gives r w res at o m b h e k n g =
@@ -234,7 +234,7 @@ first_gives r w res at o m b h e k n g =
     ap (λ q. step_in o q b) is ∙ ap (λ c. cond c (Some (machine.at o machine.first)) (cond (b == 93) (close_empty o) (machine.begin o b))) k ∙ ap (cond (b == 93) (close_empty o)) (no_begin o b n) in
     subst (Gives res at w) (sym same) (g o held.lies)
 
--- a byte behind a label
+-- a byte after a label
 pub named_gives : (r w : Reader) (res : Result Unit BracketFault) (at : ℕ) (o : List Frame) (m : machine.Mode) (b : ℕ) → Holds r o m → r.mode ≡ Named
     → ((p : List Frame) (l : List ℕ) → Lies r.store r.«open».items (laid (alone (leaf l))) p → Gives res at w (after_label p l b)) → Gives res at w (step_in o m b)
 named_gives r w res at o m b h e g =
@@ -242,7 +242,7 @@ named_gives r w res at o m b h e g =
     let held = subst (Holds r o) is.1 h in
     subst (λ n. Gives res at w (step_in o n b)) (sym is.1) (g o is.0 held.lies)
 
--- a byte behind a tree
+-- a byte after a tree
 pub closed_gives : (r w : Reader) (res : Result Unit BracketFault) (at : ℕ) (o : List Frame) (m : machine.Mode) (b : ℕ) → Holds r o m → r.mode ≡ Closed
     → ((p : List Frame) (t : LabelledTree) → Lies r.store r.«open».items (laid (alone t)) p → Gives res at w (after_tree p t b)) → Gives res at w (step_in o m b)
 closed_gives r w res at o m b h e g =
@@ -321,13 +321,13 @@ pub only_tree : (x : List ℕ) (r : Result (List LaidNode) BracketFault) (t : La
 only_tree x (Ok d) t u (w, s, k) h = subst (IsDocument d) (trees.only_tree x (Ok w) t (trees.answers x (Ok w) u s) u h) k
 only_tree x (Err e) t u g h = trees.only_tree x (Err e) t (trees.answers x (Err e) u g) u h
 
--- the document is whole behind a label
+-- the document is whole after a label
 pub named_whole : (r : Reader) (o : List Frame) (m : machine.Mode) (d : List LaidNode) → Holds r o m → r.mode ≡ Named → r.«open».items ≡ [] → Closes r.store 0 d → GivesDocument (Ok d) (machine.at_end (machine.whole_in o m))
 named_whole r o m d h e n c =
     let is = is_named r o m h e in
     whole_holds r o m d h n c (leaf is.0) (ap machine.tree_in is.1) (ap hand_nodes is.1)
 
--- and behind a tree
+-- and after a tree
 pub closed_whole : (r : Reader) (o : List Frame) (m : machine.Mode) (d : List LaidNode) → Holds r o m → r.mode ≡ Closed → r.«open».items ≡ [] → Closes r.store 0 d → GivesDocument (Ok d) (machine.at_end (machine.whole_in o m))
 closed_whole r o m d h e n c =
     let is = is_closed r o m h e in

@@ -5,7 +5,7 @@ use Rattle.mix_base.proofs.Choices.{some_is, none_some, Gives, either}
 use Rattle.mix_tree.specs.Forest.{LabelledTree, forest_of}
 use Rattle.mix_tree.specs.LabelMachine as spelled
 use Rattle.bracket_text.specs.Grammar.{is_blank, levels_of, levels}
-use Rattle.bracket_text.specs.Machine.{Frame, Mode, start, first, spelling, named, closed, State, at, leaf, after_tree, after_tree_in, after_label, or_other, begin, behind, close_empty, begins, is_deep_in, step_in, step, run, tree_in, whole_in, whole}
+use Rattle.bracket_text.specs.Machine.{Frame, Mode, start, first, spelling, named, closed, State, at, leaf, after_tree, after_tree_in, after_label, or_other, begin, after, close_empty, begins, is_deep_in, step_in, step, run, tree_in, whole_in, whole}
 use Rattle.bracket_text.proofs.Runs.{spelling_begins}
 
 -- the levels of the trees that are open
@@ -46,12 +46,12 @@ comma_levels f o t = omega (arith, levels_push f.kids t)
 pub close_levels : (f : Frame) (o : List Frame) (t : LabelledTree) → reached (at o (closed (record { label = f.label; kids = forest_of (f.kids ++ t ∷ []) }))) ≡ levels_in (f ∷ o) (closed t)
 close_levels f o t = omega (arith, levels_push f.kids t)
 
--- nor does either of them behind a tree
+-- nor does either of them after a tree
 tree_in_levels : (o : List Frame) (t : LabelledTree) (b : ℕ) → Gives (Has (levels_in o (closed t))) (after_tree_in o t b)
 tree_in_levels [] t b = tt
 tree_in_levels (f ∷ o) t b = either _ (b == 44) _ _ (λ e. comma_levels f o t) (λ n. either _ (b == 93) _ _ (λ e. close_levels f o t) (λ k. tt))
 
--- nor does any byte behind a tree
+-- nor does any byte after a tree
 tree_levels : (o : List Frame) (t : LabelledTree) (b : ℕ) → Gives (Has (levels_in o (closed t))) (after_tree o t b)
 tree_levels o t b = either _ (is_blank b) _ _ (λ h. refl) (λ n. tree_in_levels o t b)
 
@@ -59,7 +59,7 @@ tree_levels o t b = either _ (is_blank b) _ _ (λ h. refl) (λ n. tree_in_levels
 open_one : (o : List Frame) (l : List ℕ) → reached (at (record { label = l; kids = [] } ∷ o) first) ≡ levels_in o (named l)
 open_one o l = omega arith
 
--- nor does any byte behind a label
+-- nor does any byte after a label
 label_levels : (o : List Frame) (l : List ℕ) (b : ℕ) → Gives (Has (levels_in o (named l))) (after_label o l b)
 label_levels o l b =
     let same : levels_in o (closed (leaf l)) ≡ levels_in o (named l) = omega arith in
@@ -67,9 +67,9 @@ label_levels o l b =
     (λ n. either _ (b == 91) _ _ (λ e. open_one o l) (λ k. subst (λ i. Gives (Has i) (after_tree o (leaf l) b)) same (tree_levels o (leaf l) b)))
 
 -- nor does a byte that ends a label
-behind_levels : (o : List Frame) (l : Option (List ℕ)) (b : ℕ) → Gives (Has (max (open_levels o) (length o + 1))) (behind o l b)
-behind_levels o None b = tt
-behind_levels o (Some l) b = label_levels o l b
+after_levels : (o : List Frame) (l : Option (List ℕ)) (b : ℕ) → Gives (Has (max (open_levels o) (length o + 1))) (after o l b)
+after_levels o None b = tt
+after_levels o (Some l) b = label_levels o l b
 
 -- nor does a byte of a label
 spelling_levels : (o : List Frame) (r : Option spelled.Spot) (other : Option State) → Gives (Has (max (open_levels o) (length o + 1))) other → Gives (Has (max (open_levels o) (length o + 1))) (or_other o other r)
@@ -145,7 +145,7 @@ step_levels o first b =
     either _ (is_blank b) _ _ (λ h. same_levels o first b (Some (at o first)) (not_deep (begins b) _ (blank_begins b h)) refl)
     (λ n. either _ (b == 93) _ _ (λ e. same_levels o first b (close_empty o) (not_deep (begins b) _ (close_begins b e)) (empty_levels o))
     (λ k. begin_levels o first b refl (omega arith)))
-step_levels o (spelling s) b = same_levels o (spelling s) b (step_in o (spelling s) b) refl (spelling_levels o (spelled.step s b) (behind o (spelled.label_in s) b) (behind_levels o (spelled.label_in s) b))
+step_levels o (spelling s) b = same_levels o (spelling s) b (step_in o (spelling s) b) refl (spelling_levels o (spelled.step s b) (after o (spelled.label_in s) b) (after_levels o (spelled.label_in s) b))
 step_levels o (named l) b = same_levels o (named l) b (after_label o l b) refl (label_levels o l b)
 step_levels o (closed t) b = same_levels o (closed t) b (after_tree o t b) refl (tree_levels o t b)
 

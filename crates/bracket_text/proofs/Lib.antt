@@ -1,6 +1,6 @@
 pub mod AsciiTexts
 pub mod Complete
-pub mod Fronts
+pub mod Prefixes
 pub mod Held
 pub mod Levels
 pub mod Runs

@@ -10,7 +10,7 @@ use Rattle.mix_tree.specs.LabelGrammar.{SpellsLabel}
 use Rattle.mix_tree.specs.LabelMachine as spelled
 use Rattle.mix_tree.proofs.LabelComplete as labels
 use Rattle.bracket_text.specs.Grammar.{is_blank, IsBlanks}
-use Rattle.bracket_text.specs.Machine.{Frame, Mode, start, first, spelling, named, closed, State, at, leaf, after_label, after_tree_in, or_other, begin, behind, begins, step_in, step, run, tree_in}
+use Rattle.bracket_text.specs.Machine.{Frame, Mode, start, first, spelling, named, closed, State, at, leaf, after_label, after_tree_in, or_other, begin, after, begins, step_in, step, run, tree_in}
 
 -- no blank is a byte of a bare label
 pub blank_not_bare : (b : ℕ) → IsTrue (is_blank b) → is_bare b ≡ false
@@ -40,7 +40,7 @@ start_blanks (b ∷ a) o h =
     let parts = and_parts (is_blank b) (list_all is_blank a) h in
     rw parts.0 (start_blanks a o parts.1)
 
--- the same right behind an opening bracket
+-- the same right after an opening bracket
 pub first_blanks : (a : List ℕ) (o : List Frame) → IsBlanks a → run (at o first) a ≡ Some (at o first)
 first_blanks [] o h = refl
 first_blanks (b ∷ a) o h =
@@ -61,13 +61,13 @@ label_stops spelled.start l b e h = none_some l e
 label_stops (spelled.in_bare k) l b e h = rw h refl
 label_stops (spelled.in_quotes k) l b e h = none_some l e
 label_stops (spelled.in_escape k) l b e h = none_some l e
-label_stops (spelled.behind_quote k) l b e h = refl
+label_stops (spelled.after_quote k) l b e h = refl
 
--- a byte behind a label at hand
+-- a byte after a label at hand
 pub named_by : (o : List Frame) (m : Mode) (l : List ℕ) (b : ℕ) → IsNamed m l → is_bare b ≡ false → step_in o m b ≡ after_label o l b
 named_by o start l b h n = absurd h
 named_by o first l b h n = absurd h
-named_by o (spelling s) l b h n = ap (or_other o (behind o (spelled.label_in s) b)) (label_stops s l b h n) ∙ ap (λ k. behind o k b) h
+named_by o (spelling s) l b h n = ap (or_other o (after o (spelled.label_in s) b)) (label_stops s l b h n) ∙ ap (λ k. after o k b) h
 named_by o (named k) l b h n = ap (λ j. after_label o j b) h
 named_by o (closed t) l b h n = absurd h
 
@@ -91,13 +91,13 @@ hand_cases {Q = Q} (spelling s) t e k j = by_label (spelled.label_in s) refl e
 hand_cases (named l) t e k j = k l refl (some_is (leaf l) t e)
 hand_cases (closed u) t e k j = j (ap closed (some_is u t e))
 
--- a blank behind a tree: it stays the tree at hand
+-- a blank after a tree: it stays the tree at hand
 pub tree_blank : (o : List Frame) (m : Mode) (t : LabelledTree) (b : ℕ) → tree_in m ≡ Some t → IsTrue (is_blank b) → (n : Mode) × (step_in o m b ≡ Some (at o n)) × (tree_in n ≡ Some t)
 tree_blank o m t b e h = hand_cases m t e
     (λ l is same. (named l, named_by o m l b is (blank_not_bare b h) ∙ rw h refl, ap Some same))
     (λ same. (closed t, ap (λ k. step_in o k b) same ∙ rw h refl, refl))
 
--- blanks behind a tree
+-- blanks after a tree
 pub tree_blanks : (a : List ℕ) (o : List Frame) (m : Mode) (t : LabelledTree) → tree_in m ≡ Some t → IsBlanks a → (n : Mode) × (run (at o m) a ≡ Some (at o n)) × (tree_in n ≡ Some t)
 tree_blanks [] o m t e h = (m, refl, e)
 tree_blanks (b ∷ a) o m t e h =
@@ -106,7 +106,7 @@ tree_blanks (b ∷ a) o m t e h =
     let more = tree_blanks a o one.0 t one.2 parts.1 in
     (more.0, run_byte step b a (at o m) (at o one.0) one.1 ∙ more.1, more.2)
 
--- a comma and a closing bracket behind a tree
+-- a comma and a closing bracket after a tree
 pub tree_comma : (f : Frame) (o : List Frame) (m : Mode) (t : LabelledTree) → tree_in m ≡ Some t → step_in (f ∷ o) m 44 ≡ Some (at (record { label = f.label; kids = f.kids ++ t ∷ [] } ∷ o) start)
 tree_comma f o m t e = hand_cases m t e
     (λ l is same. named_by (f ∷ o) m l 44 is refl ∙ ap (λ u. after_tree_in (f ∷ o) u 44) same)
@@ -119,11 +119,11 @@ tree_close f o m t e = hand_cases m t e
     (λ l is same. named_by (f ∷ o) m l 93 is refl ∙ ap (λ u. after_tree_in (f ∷ o) u 93) same)
     (λ same. ap (λ k. step_in (f ∷ o) k 93) same)
 
--- a label's bytes behind its first
+-- a label's bytes after its first
 label_more : (o : List Frame) (s t : spelled.Spot) (b : ℕ) (x : List ℕ) (r : Option spelled.Spot) → spelled.step s b ≡ r → option_and_then (λ u. spelled.run u x) r ≡ Some t
     → ((u : spelled.Spot) → spelled.run u x ≡ Some t → run (at o (spelling u)) x ≡ Some (at o (spelling t))) → run (at o (spelling s)) (b ∷ x) ≡ Some (at o (spelling t))
 label_more o s t b x None f e k = none_some t e
-label_more o s t b x (Some u) f e k = run_byte step b x (at o (spelling s)) (at o (spelling u)) (ap (or_other o (behind o (spelled.label_in s) b)) f) ∙ k u e
+label_more o s t b x (Some u) f e k = run_byte step b x (at o (spelling s)) (at o (spelling u)) (ap (or_other o (after o (spelled.label_in s) b)) f) ∙ k u e
 
 -- the bytes of a label
 pub label_run : (x : List ℕ) (o : List Frame) (s t : spelled.Spot) → spelled.run s x ≡ Some t → run (at o (spelling s)) x ≡ Some (at o (spelling t))
@@ -146,13 +146,13 @@ begin_step o (spelling s) b m h = absurd m
 begin_step o (named l) b m h = absurd m
 begin_step o (closed t) b m h = absurd m
 
--- a label behind which its spelling may end
-abbrev pub NamedBehind : List Frame → List ℕ → Option State → Type 0
-NamedBehind o l r = (m : Mode) × (r ≡ Some (at o m)) × IsNamed m l
+-- a label after which its spelling may end
+abbrev pub NamedAfter : List Frame → List ℕ → Option State → Type 0
+NamedAfter o l r = (m : Mode) × (r ≡ Some (at o m)) × IsNamed m l
 
 -- a label from its first byte on
 first_byte : (o : List Frame) (m : Mode) (l x : List ℕ) (b : ℕ) (s : spelled.Spot) (r : Option spelled.Spot) → MayBegin m → spelled.step spelled.start b ≡ r → option_and_then (λ u. spelled.run u x) r ≡ Some s
-    → spelled.label_in s ≡ Some l → NamedBehind o l (run (at o m) (b ∷ x))
+    → spelled.label_in s ≡ Some l → NamedAfter o l (run (at o m) (b ∷ x))
 first_byte o m l x b s None h f e k = none_some s e
 first_byte o m l x b s (Some u) h f e k = (
   spelling s,
@@ -161,9 +161,9 @@ first_byte o m l x b s (Some u) h f e k = (
 )
 
 -- a label is read as it is spelled
-pub whole_label : (o : List Frame) (m : Mode) (w l : List ℕ) → MayBegin m → SpellsLabel w l → NamedBehind o l (run (at o m) w)
+pub whole_label : (o : List Frame) (m : Mode) (w l : List ℕ) → MayBegin m → SpellsLabel w l → NamedAfter o l (run (at o m) w)
 whole_label o m w l h k = by_text w (labels.spelled_reads w l k)
   where
-    by_text : (x : List ℕ) → labels.ReadsAs x l → NamedBehind o l (run (at o m) x)
+    by_text : (x : List ℕ) → labels.ReadsAs x l → NamedAfter o l (run (at o m) x)
     by_text [] (s, r, e) = none_some l (ap spelled.label_in (some_is spelled.start s r) ∙ e)
     by_text (b ∷ x) (s, r, e) = first_byte o m l x b s (spelled.step spelled.start b) h refl r e

@@ -1,4 +1,4 @@
--- What the machine has read is a front of a text of the grammar.
+-- What the machine has read is a prefix of a text of the grammar.
 use Rattle.std.proofs.Common.{◌≡◌, inl, inr, ◌∙◌, ◌==◌, ℕ, IsTrue, List, [], ◌∷◌, ◌++◌, Option, Some, None, refl, sym, ap, subst, append_assoc, option_and_then, option_map}
 use Rattle.mix_base.proofs.Lists.{append_nil}
 use Rattle.mix_base.proofs.Choices.{list_all-push, number_is, some_is, none_some, Gives, either}
@@ -7,13 +7,13 @@ use Rattle.mix_tree.specs.LabelGrammar.{SpellsLabel}
 use Rattle.mix_tree.specs.LabelMachine as spelled
 use Rattle.mix_tree.proofs.LabelSound as labels
 use Rattle.bracket_text.specs.Grammar.{is_blank, IsBlanks, SpellsBrackets, SpellsTrees, Spells}
-use Rattle.bracket_text.specs.Machine.{Frame, Mode, start, first, spelling, named, closed, State, leaf, after_tree, after_tree_in, after_label, or_other, begin, behind, close_empty, step_in, step, run, tree_in, whole_in, whole, empty, tree_of}
+use Rattle.bracket_text.specs.Machine.{Frame, Mode, start, first, spelling, named, closed, State, leaf, after_tree, after_tree_in, after_label, or_other, begin, after, close_empty, step_in, step, run, tree_in, whole_in, whole, empty, tree_of}
 
 -- the text of one tree
 abbrev pub SpellsOne : LabelledTree → List ℕ → Type 0
 SpellsOne t x = SpellsTrees (alone t) x
 
--- the text of the trees below an open one, with the comma behind each
+-- the text of the trees below an open one, with the comma after each
 abbrev pub KidsText : List LabelledTree → List ℕ → Type 0
 KidsText [] m = m ≡ []
 KidsText (t ∷ ts) m = (x c d : List ℕ) × SpellsTrees (forest_of (t ∷ ts)) x × IsBlanks c × IsBlanks d × (m ≡ x ++ c ++ 44 ∷ d)
@@ -57,11 +57,11 @@ hand_of_name o l p (q, w, a, ho, hl, ha, e) = (q, w, a, ho, (w, [], [], hl, inl 
 pub name_of_spelling : (o : List Frame) (s : spelled.Spot) (l p : List ℕ) → spelled.label_in s ≡ Some l → ModeText o (spelling s) p → NameText o l p
 name_of_spelling o s l p f (q, w, ho, hw, e) = (q, w, [], ho, labels.label_spelled w s l hw f, refl, e ∙ ap (λ r. q ++ r) (sym (append_nil w)))
 
--- more behind a comma
+-- more after a comma
 comma_then : (c x d w g y : List ℕ) → c ++ (x ++ d ++ (w ++ (g ++ y))) ≡ (c ++ (x ++ d ++ (w ++ g))) ++ y
 comma_then c x d w g y = simp append_assoc
 
--- one blank more behind the opening bracket or behind a comma
+-- one blank more after the opening bracket or after a comma
 kids_blank : (ts : List LabelledTree) (c m : List ℕ) (b : ℕ) → IsTrue (is_blank b) → IsBlanks c → KidsText ts m
     → (d : List ℕ) × (n : List ℕ) × IsBlanks d × KidsText ts n × ((91 ∷ d) ++ n ≡ ((91 ∷ c) ++ m) ++ b ∷ [])
 kids_blank [] c m b h hc hm =
@@ -79,19 +79,19 @@ open_blank (f ∷ o) p b h (q, w, a, c, m, ho, hl, ha, hc, hm, e) =
     let out : (q ++ (w ++ (a ++ 91 ∷ c ++ m))) ++ b ∷ [] ≡ q ++ (w ++ (a ++ (((91 ∷ c) ++ m) ++ b ∷ []))) = simp append_assoc in
     (q, w, a, k.0, k.1, ho, hl, ha, k.2, k.3, ap (λ r. r ++ b ∷ []) e ∙ out ∙ ap (λ r. q ++ (w ++ (a ++ r))) (sym k.4) ∙ ap (λ r. q ++ (w ++ r)) (sym (append_assoc a (91 ∷ k.0) k.1)))
 
--- the same behind a tree
+-- the same after a tree
 hand_blank : (o : List Frame) (t : LabelledTree) (p : List ℕ) (b : ℕ) → IsTrue (is_blank b) → HandText o t p → HandText o t (p ++ b ∷ [])
 hand_blank o t p b h (q, x, a, ho, hx, ha, e) =
     let out : (q ++ (x ++ a)) ++ b ∷ [] ≡ q ++ (x ++ (a ++ b ∷ [])) = simp append_assoc in
     (q, x, a ++ b ∷ [], ho, hx, list_all-push is_blank a b ha h, ap (λ r. r ++ b ∷ []) e ∙ out)
 
--- the same behind a label
+-- the same after a label
 name_blank : (o : List Frame) (l p : List ℕ) (b : ℕ) → IsTrue (is_blank b) → NameText o l p → NameText o l (p ++ b ∷ [])
 name_blank o l p b h (q, w, a, ho, hl, ha, e) =
     let out : (q ++ (w ++ a)) ++ b ∷ [] ≡ q ++ (w ++ (a ++ b ∷ [])) = simp append_assoc in
     (q, w, a ++ b ∷ [], ho, hl, list_all-push is_blank a b ha h, ap (λ r. r ++ b ∷ []) e ∙ out)
 
--- another tree behind trees, with a comma between
+-- another tree after trees, with a comma between
 joined : (u : LabelledTree) (us : List LabelledTree) (t : LabelledTree) (y c d x : List ℕ) → SpellsTrees (forest_of (u ∷ us)) y → IsBlanks c → IsBlanks d → SpellsOne t x → SpellsTrees (forest_of (u ∷ us ++ t ∷ [])) (y ++ (c ++ 44 ∷ d) ++ x)
 joined u [] t y c d x (l, k, w, hl, hk, hw, e) hc hd hx =
     let out : ((l ++ k) ++ []) ++ (c ++ 44 ∷ d) ++ x ≡ l ++ k ++ (c ++ 44 ∷ d ++ x) = simp (append_assoc, append_nil) in
@@ -101,13 +101,13 @@ joined u (v ∷ vs) t y c d x (l, k, w, hl, hk, (a, b, z, ha, hb, hz, ew), e) hc
     let out : (l ++ k ++ (a ++ 44 ∷ b ++ z)) ++ (c ++ 44 ∷ d) ++ x ≡ l ++ k ++ (a ++ 44 ∷ b ++ (z ++ (c ++ 44 ∷ d) ++ x)) = simp append_assoc in
     (l, k, a ++ 44 ∷ b ++ (z ++ (c ++ 44 ∷ d) ++ x), hl, hk, (a, b, z ++ (c ++ 44 ∷ d) ++ x, ha, hb, rest, refl), ap (λ r. r ++ (c ++ 44 ∷ d) ++ x) (e ∙ ap (λ r. l ++ k ++ r) ew) ∙ out)
 
--- a tree behind those below the open one
+-- a tree after those below the open one
 kids_then : (ts : List LabelledTree) (t : LabelledTree) (m x : List ℕ) → KidsText ts m → SpellsOne t x → SpellsTrees (forest_of (ts ++ t ∷ [])) (m ++ x)
 kids_then [] t m x hm hx = subst (λ r. SpellsOne t (r ++ x)) (sym hm) hx
 kids_then (u ∷ us) t m x (y, c, d, hy, hc, hd, e) hx =
     subst (λ r. SpellsTrees (forest_of (u ∷ us ++ t ∷ [])) (r ++ x)) (sym (e ∙ append_assoc y c (44 ∷ d))) (joined u us t y c d x hy hc hd hx)
 
--- the text with a comma behind the trees
+-- the text with a comma after the trees
 kids_comma : (ts : List LabelledTree) (t : LabelledTree) (m c : List ℕ) → SpellsTrees (forest_of (ts ++ t ∷ [])) m → IsBlanks c → KidsText (ts ++ t ∷ []) (m ++ c ++ 44 ∷ [])
 kids_comma [] t m c hm hc = (m, c, [], hm, hc, refl, refl)
 kids_comma (u ∷ us) t m c hm hc = (m, c, [], hm, hc, refl, refl)
@@ -155,7 +155,7 @@ within f o t p (q, x, a, (q0, l, a0, b0, m, ho, hl, ha0, hb0, hm, e0), hx, ha, e
     regrouped : (q l z m x a : List ℕ) → (q ++ (l ++ (z ++ m))) ++ (x ++ a) ≡ q ++ (l ++ (z ++ ((m ++ x) ++ a)))
     regrouped q l z m x a = simp append_assoc
 
--- a comma behind a tree
+-- a comma after a tree
 comma_text : (f : Frame) (o : List Frame) (t : LabelledTree) (p : List ℕ) → Within f o t p → OpenText (record { label = f.label; kids = f.kids ++ t ∷ [] } ∷ o) (p ++ 44 ∷ [])
 comma_text f o t p h = (
   h.before,
@@ -174,7 +174,7 @@ comma_text f o t p h = (
     regrouped : (q l z m a w : List ℕ) → (q ++ (l ++ (z ++ (m ++ a)))) ++ w ≡ q ++ (l ++ (z ++ (m ++ a ++ w)))
     regrouped q l z m a w = simp append_assoc
 
--- a closing bracket behind a tree
+-- a closing bracket after a tree
 close_text : (f : Frame) (o : List Frame) (t : LabelledTree) (p : List ℕ) → Within f o t p → HandText o (record { label = f.label; kids = forest_of (f.kids ++ t ∷ []) }) (p ++ 93 ∷ [])
 close_text f o t p h = (
   h.before,
@@ -189,7 +189,7 @@ close_text f o t p h = (
     regrouped : (q l z m a w : List ℕ) → (q ++ (l ++ (z ++ (m ++ a)))) ++ w ≡ q ++ ((l ++ (z ++ m ++ a ++ w) ++ []) ++ [])
     regrouped q l z m a w = simp (append_assoc, append_nil)
 
--- a comma or a bracket behind a tree that is in an open one
+-- a comma or a bracket after a tree that is in an open one
 pub hand_in : (o : List Frame) (t : LabelledTree) (p : List ℕ) (b : ℕ) → HandText o t p → Gives (StateText (p ++ b ∷ [])) (after_tree_in o t b)
 hand_in [] t p b h = tt
 hand_in (f ∷ o) t p b h =
@@ -199,11 +199,11 @@ hand_in (f ∷ o) t p b h =
     either _ (b == 44) _ _ (λ e. subst (λ c. OpenText (more ∷ o) (p ++ c ∷ [])) (number_is b 44 e) (comma_text f o t p parts))
     (λ n. either _ (b == 93) _ _ (λ e. subst (λ c. HandText o shut (p ++ c ∷ [])) (number_is b 93 e) (close_text f o t p parts)) (λ k. tt))
 
--- a byte behind a tree
+-- a byte after a tree
 hand_step : (o : List Frame) (t : LabelledTree) (p : List ℕ) (b : ℕ) → HandText o t p → Gives (StateText (p ++ b ∷ [])) (after_tree o t b)
 hand_step o t p b h = either _ (is_blank b) _ _ (λ k. hand_blank o t p b k h) (λ n. hand_in o t p b h)
 
--- an opening bracket behind a label
+-- an opening bracket after a label
 opened_text : (o : List Frame) (l p : List ℕ) → NameText o l p → ModeText (record { label = l; kids = [] } ∷ o) first (p ++ 91 ∷ [])
 opened_text o l p (q, w, a, ho, hl, ha, e) =
     ((q, w, a, [], [], ho, hl, ha, refl, refl, ap (λ r. r ++ 91 ∷ []) e ∙ regrouped q w a (91 ∷ [])), refl)
@@ -211,7 +211,7 @@ opened_text o l p (q, w, a, ho, hl, ha, e) =
     regrouped : (q l a w : List ℕ) → (q ++ (l ++ a)) ++ w ≡ q ++ (l ++ ((a ++ w) ++ []))
     regrouped q l a w = simp (append_assoc, append_nil)
 
--- a byte behind a label
+-- a byte after a label
 name_step : (o : List Frame) (l p : List ℕ) (b : ℕ) → NameText o l p → Gives (StateText (p ++ b ∷ [])) (after_label o l b)
 name_step o l p b h =
     let f : Frame = record { label = l; kids = [] } in
@@ -230,7 +230,7 @@ begin_step : (o : List Frame) (p : List ℕ) (b : ℕ) → OpenText o p → Give
 begin_step o p b h =
     subst (λ r. Gives (StateText (r ++ b ∷ [])) (begin o b)) (append_nil p) (label_goes o p [] b (spelled.step spelled.start b) None h (labels.step_writes [] spelled.start b refl) tt)
 
--- a closing bracket right behind the opening one
+-- a closing bracket right after the opening one
 close_step : (o : List Frame) (p : List ℕ) → ModeText o first p → Gives (StateText (p ++ 93 ∷ [])) (close_empty o)
 close_step [] p h = tt
 close_step (f ∷ o) p ((q, w, a, c, m, ho, hl, ha, hc, hm, e), bare) =
@@ -252,16 +252,16 @@ close_step (f ∷ o) p ((q, w, a, c, m, ho, hl, ha, hc, hm, e), bare) =
     empty_brackets q l z m w = simp (append_assoc, append_nil)
 
 -- a byte that does not go on a label
-behind_step : (o : List Frame) (s : spelled.Spot) (l : Option (List ℕ)) (p : List ℕ) (b : ℕ) → spelled.label_in s ≡ l → ModeText o (spelling s) p → Gives (StateText (p ++ b ∷ [])) (behind o l b)
-behind_step o s None p b f h = tt
-behind_step o s (Some l) p b f h = name_step o l p b (name_of_spelling o s l p f h)
+past_step : (o : List Frame) (s : spelled.Spot) (l : Option (List ℕ)) (p : List ℕ) (b : ℕ) → spelled.label_in s ≡ l → ModeText o (spelling s) p → Gives (StateText (p ++ b ∷ [])) (after o l b)
+past_step o s None p b f h = tt
+past_step o s (Some l) p b f h = name_step o l p b (name_of_spelling o s l p f h)
 
--- a byte of a label, or behind it
+-- a byte of a label, or after it
 spelling_step : (o : List Frame) (s : spelled.Spot) (p : List ℕ) (b : ℕ) → ModeText o (spelling s) p → Gives (StateText (p ++ b ∷ [])) (step_in o (spelling s) b)
 spelling_step o s p b (q, w, ho, hw, e) =
     subst (λ r. Gives (StateText (r ++ b ∷ [])) (step_in o (spelling s) b)) (sym e)
-    (label_goes o q w b (spelled.step s b) (behind o (spelled.label_in s) b) ho (labels.step_writes w s b hw)
-    (behind_step o s (spelled.label_in s) (q ++ w) b refl (q, w, ho, hw, refl)))
+    (label_goes o q w b (spelled.step s b) (after o (spelled.label_in s) b) ho (labels.step_writes w s b hw)
+    (past_step o s (spelled.label_in s) (q ++ w) b refl (q, w, ho, hw, refl)))
 
 -- a step goes on with the text
 pub step_text : (o : List Frame) (m : Mode) (p : List ℕ) (b : ℕ) → ModeText o m p → Gives (StateText (p ++ b ∷ [])) (step_in o m b)
@@ -273,7 +273,7 @@ step_text o (spelling s) p b h = spelling_step o s p b h
 step_text o (named l) p b h = name_step o l p b h
 step_text o (closed t) p b h = hand_step o t p b h
 
--- the text of a run behind a first byte
+-- the text of a run after a first byte
 after_step : (x y : List ℕ) (b : ℕ) (s : Option State) → Gives (StateText (x ++ b ∷ [])) s → ((t : State) → StateText (x ++ b ∷ []) t → Gives (StateText ((x ++ b ∷ []) ++ y)) (run t y))
     → Gives (StateText (x ++ b ∷ y)) (option_and_then (λ t. run t y) s)
 after_step x y b None h k = tt

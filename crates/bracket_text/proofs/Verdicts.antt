@@ -5,8 +5,8 @@ use Rattle.std.specs.List.{list_all}
 use Rattle.std.specs.Str.{IsUtf8}
 use Rattle.std.proofs.lemmas.Str.{IsUtf8-nil}
 use Rattle.mix_base.proofs.Runs.{run_then, run_byte}
-use Rattle.mix_base.specs.Reading.{IsFront}
-use Rattle.mix_base.proofs.Lists.{append_nil, front_is, front_with}
+use Rattle.mix_base.specs.Reading.{IsPrefix}
+use Rattle.mix_base.proofs.Lists.{append_nil, prefix_is, prefix_with}
 use Rattle.mix_base.proofs.Choices.{and_parts, and_both, number_is, some_is, none_some, Gives, either}
 use Rattle.mix_base.proofs.Utf8.{utf8_split, utf8_push}
 use Rattle.mix_tree.specs.Forest.{LabelledTree}
@@ -15,7 +15,7 @@ use Rattle.mix_tree.specs.LabelGrammar.{is_escape}
 use Rattle.mix_tree.specs.LabelMachine as spelled
 use Rattle.mix_tree.proofs.LabelComplete.{bare_goes_on}
 use Rattle.bracket_text.specs.Grammar.{is_blank, Spells, SpellsShallow}
-use Rattle.bracket_text.specs.Machine.{Frame, Mode, start, first, spelling, named, closed, State, at, after_tree, after_tree_in, after_label, or_other, begin, behind, begins, is_deep_in, is_deep, step_in, step, run, whole, empty, Verdict, reads, unexpected, too_deep, ends, at_end, or_stop, verdict}
+use Rattle.bracket_text.specs.Machine.{Frame, Mode, start, first, spelling, named, closed, State, at, after_tree, after_tree_in, after_label, or_other, begin, after, begins, is_deep_in, is_deep, step_in, step, run, whole, empty, Verdict, reads, unexpected, too_deep, ends, at_end, or_stop, verdict}
 use Rattle.bracket_text.specs.Results.{Refuses, Answers, IsTree}
 use Rattle.bracket_text.specs.ReaderState.{GivesFault, GivesVerdict}
 use Rattle.bracket_text.specs.declared.fault.BracketFault.{BracketFault}
@@ -24,7 +24,7 @@ use Rattle.bracket_text.proofs.Runs.{label_run, MayBegin, begin_step}
 use Rattle.bracket_text.proofs.Sound.{read_spelled}
 use Rattle.bracket_text.proofs.Complete.{spelled_read, one_spelled}
 use Rattle.bracket_text.proofs.Levels.{reached, stepped, whole_levels}
-use Rattle.bracket_text.proofs.Fronts.{run_front, shallow_front, stopped_front, deep_front, shorter_front}
+use Rattle.bracket_text.proofs.Prefixes.{run_prefix, shallow_prefix, stopped_prefix, deep_prefix, shorter_prefix}
 
 -- each byte of a character that is not ASCII goes on there
 abbrev SpotHigh : spelled.Spot → Type 0
@@ -32,7 +32,7 @@ SpotHigh spelled.start = ⊥
 SpotHigh (spelled.in_bare l) = Unit {0}
 SpotHigh (spelled.in_quotes l) = Unit {0}
 SpotHigh (spelled.in_escape l) = ⊥
-SpotHigh (spelled.behind_quote l) = ⊥
+SpotHigh (spelled.after_quote l) = ⊥
 
 -- the same of a mode
 abbrev ModeHigh : Mode → Type 0
@@ -54,47 +54,47 @@ not_high b c low high e = absurd (omega (arith, number_is b c e))
 high_blank : {Q : Type 0} (b : ℕ) → 128 ≤ b → IsTrue (is_blank b) → Q
 high_blank b high h = let no : ⊥ = grind (arith, nat_tests) in absurd no
 
--- behind such a byte of a label, another goes on
+-- after such a byte of a label, another goes on
 spot_high_step : (s : spelled.Spot) (b : ℕ) → 128 ≤ b → Gives SpotHigh (spelled.step s b)
 spot_high_step spelled.start b h = either _ (is_bare b) _ _ (λ k. tt) (λ n. either _ (b == 34) _ _ (λ e. tt) (λ k. tt))
 spot_high_step (spelled.in_bare l) b h = either _ (is_bare b) _ _ (λ k. tt) (λ n. tt)
 spot_high_step (spelled.in_quotes l) b h =
     either _ (b == 34) _ _ (λ e. not_high b 34 (omega arith) h e) (λ n. either _ (b == 92) _ _ (λ e. not_high b 92 (omega arith) h e) (λ k. tt))
 spot_high_step (spelled.in_escape l) b h = either _ (is_escape b) _ _ (λ k. tt) (λ n. tt)
-spot_high_step (spelled.behind_quote l) b h = tt
+spot_high_step (spelled.after_quote l) b h = tt
 
 -- the same where a label goes on or something else follows
 label_high : (o : List Frame) (r : Option spelled.Spot) (other : Option State) → Gives SpotHigh r → Gives StateHigh other → Gives StateHigh (or_other o other r)
 label_high o None other h k = k
 label_high o (Some s) other h k = h
 
--- no such byte fits behind a tree in brackets
+-- no such byte fits after a tree in brackets
 tree_in_high : (o : List Frame) (t : LabelledTree) (b : ℕ) → 128 ≤ b → Gives StateHigh (after_tree_in o t b)
 tree_in_high [] t b h = tt
 tree_in_high (f ∷ o) t b h = either _ (b == 44) _ _ (λ e. not_high b 44 (omega arith) h e) (λ n. either _ (b == 93) _ _ (λ e. not_high b 93 (omega arith) h e) (λ k. tt))
 
--- nor behind any tree
+-- nor after any tree
 tree_high : (o : List Frame) (t : LabelledTree) (b : ℕ) → 128 ≤ b → Gives StateHigh (after_tree o t b)
 tree_high o t b h = either _ (is_blank b) _ _ (λ k. high_blank b h k) (λ n. tree_in_high o t b h)
 
--- nor behind a label
+-- nor after a label
 pub label_after_high : (o : List Frame) (l : List ℕ) (b : ℕ) → 128 ≤ b → Gives StateHigh (after_label o l b)
 label_after_high o l b h = either _ (is_blank b) _ _ (λ k. high_blank b h k) (λ n. either _ (b == 91) _ _ (λ e. not_high b 91 (omega arith) h e) (λ k. tree_high o _ b h))
 
 -- nor where a label has ended
-behind_high : (o : List Frame) (l : Option (List ℕ)) (b : ℕ) → 128 ≤ b → Gives StateHigh (behind o l b)
-behind_high o None b h = tt
-behind_high o (Some l) b h = label_after_high o l b h
+after_high : (o : List Frame) (l : Option (List ℕ)) (b : ℕ) → 128 ≤ b → Gives StateHigh (after o l b)
+after_high o None b h = tt
+after_high o (Some l) b h = label_after_high o l b h
 
 -- such a byte begins a bare label
 begin_high : (o : List Frame) (b : ℕ) → 128 ≤ b → Gives StateHigh (begin o b)
 begin_high o b h = label_high o (spelled.step spelled.start b) None (spot_high_step spelled.start b h) tt
 
--- behind such a byte, another goes on
+-- after such a byte, another goes on
 mode_high_step : (o : List Frame) (m : Mode) (b : ℕ) → 128 ≤ b → Gives StateHigh (step_in o m b)
 mode_high_step o start b h = either _ (is_blank b) _ _ (λ k. high_blank b h k) (λ n. begin_high o b h)
 mode_high_step o first b h = either _ (is_blank b) _ _ (λ k. high_blank b h k) (λ n. either _ (b == 93) _ _ (λ e. not_high b 93 (omega arith) h e) (λ k. begin_high o b h))
-mode_high_step o (spelling s) b h = label_high o (spelled.step s b) (behind o (spelled.label_in s) b) (spot_high_step s b h) (behind_high o (spelled.label_in s) b h)
+mode_high_step o (spelling s) b h = label_high o (spelled.step s b) (after o (spelled.label_in s) b) (spot_high_step s b h) (after_high o (spelled.label_in s) b h)
 mode_high_step o (named l) b h = label_after_high o l b h
 mode_high_step o (closed t) b h = tree_high o t b h
 
@@ -117,7 +117,7 @@ spot_goes (spelled.in_quotes l) b h k e = by_tests (b == 34) (b == 92) _ _ _ e
     by_tests false true p q r f = none_some q (sym f)
     by_tests false false p q r f = none_some r (sym f)
 spot_goes (spelled.in_escape l) b h k e = absurd h
-spot_goes (spelled.behind_quote l) b h k e = absurd h
+spot_goes (spelled.after_quote l) b h k e = absurd h
 
 -- the same of a mode
 mode_goes : (o : List Frame) (m : Mode) (b : ℕ) → ModeHigh m → 128 ≤ b → step_in o m b ≡ None → ⊥
@@ -125,7 +125,7 @@ mode_goes o start b h k e = absurd h
 mode_goes o first b h k e = absurd h
 mode_goes o (spelling s) b h k e = by_spot (spelled.step s b) refl e
   where
-    by_spot : (r : Option spelled.Spot) → spelled.step s b ≡ r → or_other o (behind o (spelled.label_in s) b) r ≡ None → ⊥
+    by_spot : (r : Option spelled.Spot) → spelled.step s b ≡ r → or_other o (after o (spelled.label_in s) b) r ≡ None → ⊥
     by_spot None f g = spot_goes s b h k f
     by_spot (Some t) f g = none_some (at o (spelling t)) (sym g)
 mode_goes o (named l) b h k e = absurd h
@@ -159,7 +159,7 @@ before_stop x p y s i b h stops = elim (low_or_high b) [
   | inr high ↦ elim h.bound [ inl u ↦ u | inr k ↦ absurd (stops k high) ]
 ]
 
--- behind one more byte, the text is whole characters, or the next byte of the character goes on
+-- after one more byte, the text is whole characters, or the next byte of the character goes on
 bound_more : (x p y : List ℕ) (s t : State) (i b : ℕ) → Read x p (b ∷ y) s i → step s b ≡ Some t → IsUtf8 (p ++ b ∷ []) ⊎ StateHigh t
 bound_more x p y s t i b h e = elim (low_or_high b) [
   | inl low ↦ inl (utf8_push p b low (utf8_split p y b low (subst IsUtf8 h.parts h.utf8)).0)
@@ -185,13 +185,13 @@ read_more x p y s t i b h e n = record {
 inside_of : (x p y : List ℕ) (s : State) (i b : ℕ) → Read x p (b ∷ y) s i → i < length x
 inside_of x p y s i b h = omega (arith, h.place, ap length h.parts, length-append p (b ∷ y))
 
--- the front of the text up to the place
+-- the prefix of the text up to the place
 up_to : (x p y : List ℕ) (s : State) (i b : ℕ) → Read x p (b ∷ y) s i → take i x ≡ p
-up_to x p y s i b h = ap (take i) h.parts ∙ front_is p y b i h.place
+up_to x p y s i b h = ap (take i) h.parts ∙ prefix_is p y b i h.place
 
 -- and with the byte there
 up_with : (x p y : List ℕ) (s : State) (i b : ℕ) → Read x p (b ∷ y) s i → take (i + 1) x ≡ p ++ b ∷ []
-up_with x p y s i b h = ap (take (i + 1)) h.parts ∙ front_with p y b i h.place
+up_with x p y s i b h = ap (take (i + 1)) h.parts ∙ prefix_with p y b i h.place
 
 -- what the machine says is so
 abbrev Says : List ℕ → Verdict → Type 0
@@ -209,8 +209,8 @@ said_at_end x p s i r h e =
     by_whole : (r : Option LabelledTree) → run empty x ≡ Some s → whole s ≡ r → Says x (at_end r)
     by_whole None f g = (
       h.utf8,
-      shallow_front x s h.utf8 f h.levels,
-      record { front = run_front x s h.utf8 f; none = λ t k. none_some t (sym (ap (option_and_then whole) f ∙ g) ∙ spelled_read x t k) },
+      shallow_prefix x s h.utf8 f h.levels,
+      record { prefix = run_prefix x s h.utf8 f; none = λ t k. none_some t (sym (ap (option_and_then whole) f ∙ g) ∙ spelled_read x t k) },
     )
     by_whole (Some t) f g = (h.utf8, (read_spelled x t (ap (option_and_then whole) f ∙ g), omega (arith, whole_levels s t g, h.levels)))
 
@@ -220,11 +220,11 @@ said_unexpected x p y s i b h e =
     let u : IsUtf8 p = before_stop x p y s i b h (λ k high. mode_goes s.open' s.mode b k high e) in
     let stops : run empty (p ++ b ∷ []) ≡ None = run_then step p (b ∷ []) empty s h.runs ∙ ap (option_and_then (λ t. run t [])) e in (
       h.utf8,
-      subst (IsFront SpellsShallow) (sym (up_to x p y s i b h)) (shallow_front p s u h.runs h.levels),
+      subst (IsPrefix SpellsShallow) (sym (up_to x p y s i b h)) (shallow_prefix p s u h.runs h.levels),
       record {
         inside = inside_of x p y s i b h;
-        front = subst (IsFront Spells) (sym (up_to x p y s i b h)) (run_front p s u h.runs);
-        wrong = λ f. stopped_front (p ++ b ∷ []) stops (subst (IsFront Spells) (up_with x p y s i b h) f);
+        prefix = subst (IsPrefix Spells) (sym (up_to x p y s i b h)) (run_prefix p s u h.runs);
+        wrong = λ f. stopped_prefix (p ++ b ∷ []) stops (subst (IsPrefix Spells) (up_with x p y s i b h) f);
       },
     )
 
@@ -290,7 +290,7 @@ begun o (named l) b e = cc
 begun o (closed t) b e = cc
 
 -- a tree goes on from a label's first byte that is not ASCII
-high_on : (x p y : List ℕ) (s : State) (i b : ℕ) → Read x p (b ∷ y) s i → (k : Begun s.open' s.mode b) → 128 ≤ b → IsFront Spells (p ++ b ∷ [])
+high_on : (x p y : List ℕ) (s : State) (i b : ℕ) → Read x p (b ∷ y) s i → (k : Begun s.open' s.mode b) → 128 ≤ b → IsPrefix Spells (p ++ b ∷ [])
 high_on x p y s i b h k high =
     let r = high_first y in
     let z = (p ++ b ∷ []) ++ r.high in
@@ -301,13 +301,13 @@ high_on x p y s i b h k high =
     let one : run empty (p ++ b ∷ []) ≡ Some first_spot =
     run_then step p (b ∷ []) empty s h.runs ∙ run_byte step b [] s (at s.open' (spelling k.spot)) k.is ∙ ap (λ q. Some (at s.open' (spelling q))) (k.bare high) in
     let more : run first_spot r.high ≡ Some last_spot = label_run r.high s.open' (spelled.in_bare (b ∷ [])) (spelled.in_bare (b ∷ r.high)) (bare_goes_on (b ∷ []) r.high r.bare) in
-    shorter_front (p ++ b ∷ []) r.high (run_front z last_spot u (run_then step (p ++ b ∷ []) r.high empty first_spot one ∙ more))
+    shorter_prefix (p ++ b ∷ []) r.high (run_prefix z last_spot u (run_then step (p ++ b ∷ []) r.high empty first_spot one ∙ more))
 
 -- a tree goes on from a label's first byte that is ASCII
-low_on : (x p y : List ℕ) (s : State) (i b : ℕ) → Read x p (b ∷ y) s i → (k : Begun s.open' s.mode b) → b < 128 → IsFront Spells (p ++ b ∷ [])
+low_on : (x p y : List ℕ) (s : State) (i b : ℕ) → Read x p (b ∷ y) s i → (k : Begun s.open' s.mode b) → b < 128 → IsPrefix Spells (p ++ b ∷ [])
 low_on x p y s i b h k low =
     let u : IsUtf8 p = (utf8_split p y b low (subst IsUtf8 h.parts h.utf8)).0 in
-    run_front (p ++ b ∷ []) (at s.open' (spelling k.spot)) (utf8_push p b low u) (run_then step p (b ∷ []) empty s h.runs ∙ run_byte step b [] s (at s.open' (spelling k.spot)) k.is)
+    run_prefix (p ++ b ∷ []) (at s.open' (spelling k.spot)) (utf8_push p b low u) (run_then step p (b ∷ []) empty s h.runs ∙ run_byte step b [] s (at s.open' (spelling k.spot)) k.is)
 
 -- what is said at a label that lies too deep
 said_too_deep : (x p y : List ℕ) (s : State) (i b : ℕ) → Read x p (b ∷ y) s i → is_deep s b ≡ true → Refuses x (TooDeep i)
@@ -316,13 +316,13 @@ said_too_deep x p y s i b h e =
     let k = begun s.open' s.mode b e in
     let t : State = at s.open' (spelling k.spot) in
     let goes : run empty (p ++ b ∷ []) ≡ Some t = run_then step p (b ∷ []) empty s h.runs ∙ run_byte step b [] s t k.is in
-    let on : IsFront Spells (p ++ b ∷ []) = elim (low_or_high b) [ inl low ↦ low_on x p y s i b h k low | inr high ↦ high_on x p y s i b h k high ] in (
+    let on : IsPrefix Spells (p ++ b ∷ []) = elim (low_or_high b) [ inl low ↦ low_on x p y s i b h k low | inr high ↦ high_on x p y s i b h k high ] in (
       h.utf8,
       record {
         inside = inside_of x p y s i b h;
-        front = subst (IsFront SpellsShallow) (sym (up_to x p y s i b h)) (shallow_front p s u h.runs h.levels);
-        goes_on = subst (IsFront Spells) (sym (up_with x p y s i b h)) on;
-        deep = λ f. deep_front (p ++ b ∷ []) t goes ((stepped s t b k.is).deep e) (subst (IsFront SpellsShallow) (up_with x p y s i b h) f);
+        prefix = subst (IsPrefix SpellsShallow) (sym (up_to x p y s i b h)) (shallow_prefix p s u h.runs h.levels);
+        goes_on = subst (IsPrefix Spells) (sym (up_with x p y s i b h)) on;
+        deep = λ f. deep_prefix (p ++ b ∷ []) t goes ((stepped s t b k.is).deep e) (subst (IsPrefix SpellsShallow) (up_with x p y s i b h) f);
       },
     )
 
@@ -338,7 +338,7 @@ said : (y x p : List ℕ) (s : State) (i : ℕ) → Read x p y s i → Says x (v
 said [] x p s i h = said_at_end x p s i (whole s) h refl
 said (b ∷ y) x p s i h = said_byte x p y s i b (is_deep s b) (step s b) h refl refl (λ t e n. said y x (p ++ b ∷ []) t (i + 1) (read_more x p y s t i b h e n))
 
--- what is said of a text from its front on
+-- what is said of a text from its beginning on
 said_of : (x : List ℕ) → IsUtf8 x → Says x (verdict empty 0 x)
 said_of x u = said x x [] empty 0 (record { utf8 = u; parts = refl; place = refl; runs = refl; levels = omega arith; bound = inl IsUtf8-nil })
 
@@ -355,14 +355,14 @@ pub answers : (x : List ℕ) (r : Result LabelledTree BracketFault) → IsUtf8 x
 answers x (Ok t) u h = subst (Says x) h (said_of x u)
 answers x (Err e) u h = fault_refuses x e (verdict empty 0 x) h (said_of x u)
 
--- each front of a text of the grammar is one
-whole_front : (x : List ℕ) (n : ℕ) (t : LabelledTree) → IsUtf8 x → Spells x t → IsFront Spells (take n x)
-whole_front x n t u h =
+-- each prefix of a text of the grammar is one
+whole_prefix : (x : List ℕ) (n : ℕ) (t : LabelledTree) → IsUtf8 x → Spells x t → IsPrefix Spells (take n x)
+whole_prefix x n t u h =
     let all = take-append-drop n x in
     (drop n x, t, subst IsUtf8 (sym all) u, subst (λ z. Spells z t) (sym all) h)
 
 -- the same of a tree that is not too deep
-shallow_whole : (x : List ℕ) (n : ℕ) (t : LabelledTree) → IsUtf8 x → SpellsShallow x t → IsFront SpellsShallow (take n x)
+shallow_whole : (x : List ℕ) (n : ℕ) (t : LabelledTree) → IsUtf8 x → SpellsShallow x t → IsPrefix SpellsShallow (take n x)
 shallow_whole x n t u h =
     let all = take-append-drop n x in
     (drop n x, t, subst IsUtf8 (sym all) u, (subst (λ z. Spells z t) (sym all) h.0, h.1))
@@ -371,7 +371,7 @@ shallow_whole x n t u h =
 pub only_tree : (x : List ℕ) (r : Result LabelledTree BracketFault) (t : LabelledTree) → Answers x r → IsUtf8 x → SpellsShallow x t → IsTree r t
 only_tree x (Ok v) t h u s = one_spelled x v t h.1.0 s.0
 only_tree x (Err (NotUtf8 i)) t h u s = h.0 u
-only_tree x (Err (Unexpected i)) t h u s = h.2.wrong (whole_front x (i + 1) t u s.0)
+only_tree x (Err (Unexpected i)) t h u s = h.2.wrong (whole_prefix x (i + 1) t u s.0)
 only_tree x (Err (TooDeep i)) t h u s = h.1.deep (shallow_whole x (i + 1) t u s)
 only_tree x (Err Ends) t h u s = h.2.none t s.0
 only_tree x (Err OutOfMemory) t h u s = tt

@@ -19,7 +19,7 @@ brackets_spell (tree l k n) h =
     let x = canon_trees (tree l k n) in
     ([], [], x, [], refl, refl, refl, h, ap (λ r. 91 ∷ r ++ 93 ∷ []) (sym (append_nil x)))
 
--- and the trees behind a tree
+-- and the trees after a tree
 rest_spells : (n : Forest) → AreSpelled n → SpellsRest n (SpellsTrees n) (canon_rest n (canon_trees n))
 rest_spells none h = refl
 rest_spells (tree l k n) h = ([], [], canon_trees (tree l k n), refl, refl, h, refl)
@@ -38,7 +38,7 @@ canon_spells t = ([], canon_trees (alone t), [], refl, refl, trees_spell (alone 
 pub first_then : (t : LabelledTree) (ts : List LabelledTree) (x : List ℕ) → (x ++ canon t) ++ canon_rest (forest_of ts) (canon_trees (forest_of ts)) ≡ x ++ canon_trees (forest_of (t ∷ ts))
 first_then t ts x = append_assoc x (canon t) (canon_rest (forest_of ts) (canon_trees (forest_of ts)))
 
--- brackets round the text of children behind a label
+-- brackets round the text of children after a label
 pub bracketed : (l : List ℕ) (ts : List LabelledTree) (x : List ℕ) → 0 < length ts
     → (((x ++ spelling l) ++ 91 ∷ []) ++ canon_trees (forest_of ts)) ++ 93 ∷ [] ≡ x ++ canon (record { label = l; kids = forest_of ts })
 bracketed l [] x h = absurd (omega arith)

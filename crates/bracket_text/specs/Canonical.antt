@@ -1,4 +1,4 @@
--- The canonical text of a tree: canonical spellings of the labels, no blanks, and no brackets behind a leaf.
+-- The canonical text of a tree: canonical spellings of the labels, no blanks, and no brackets after a leaf.
 use Rattle.std.specs.Prelude.{ℕ, List, [], ◌∷◌, ◌++◌}
 use Rattle.mix_tree.specs.Forest.{Forest, none, tree, LabelledTree}
 use Rattle.mix_tree.specs.Spelling.{spelling}

@@ -12,13 +12,13 @@ is_blank b = b == 32 || b == 9 || b == 10 || b == 13
 abbrev pub IsBlanks : List ℕ → Type 0
 IsBlanks x = IsTrue (list_all is_blank x)
 
--- what stands behind the label of a tree with these children: nothing or empty brackets where it has none, else brackets round their text
+-- what stands after the label of a tree with these children: nothing or empty brackets where it has none, else brackets round their text
 abbrev pub SpellsBrackets : Forest → (List ℕ → Type 0) → List ℕ → Type 0
 SpellsBrackets none SpellsKids x = (x ≡ []) ⊎ ((a b : List ℕ) × IsBlanks a × IsBlanks b × (x ≡ a ++ 91 ∷ b ++ 93 ∷ []))
 SpellsBrackets (tree label kids rest) SpellsKids x =
     (a b text c : List ℕ) × IsBlanks a × IsBlanks b × IsBlanks c × SpellsKids text × (x ≡ a ++ 91 ∷ b ++ text ++ c ++ 93 ∷ [])
 
--- what stands behind a tree of a list: nothing behind the last one, else a comma and the text of the others
+-- what stands after a tree of a list: nothing after the last one, else a comma and the text of the others
 abbrev pub SpellsRest : Forest → (List ℕ → Type 0) → List ℕ → Type 0
 SpellsRest none SpellsOthers x = x ≡ []
 SpellsRest (tree label kids rest) SpellsOthers x =

@@ -11,7 +11,7 @@ pub record Frame : Type 0 where
   pub label : List ℕ
   pub kids : List LabelledTree
 
--- what has been read of the tree at hand: nothing where a tree must come; nothing, right behind a bracket that opened;
+-- what has been read of the tree at hand: nothing where a tree must come; nothing, right after a bracket that opened;
 -- a label that is being spelled; a label that has ended; a tree that has ended
 pub data Mode : Type 0 where
   start : Mode
@@ -33,18 +33,18 @@ at o m = record { open' = o; mode = m }
 abbrev pub leaf : List ℕ → LabelledTree
 leaf l = record { label = l; kids = none }
 
--- a comma or a closing bracket behind a tree that lies in the innermost open one
+-- a comma or a closing bracket after a tree that lies in the innermost open one
 abbrev pub after_tree_in : List Frame → LabelledTree → ℕ → Option State
 after_tree_in [] t b = None
 after_tree_in (f ∷ o) t b =
     cond (b == 44) (Some (at (record { label = f.label; kids = f.kids ++ t ∷ [] } ∷ o) start))
     (cond (b == 93) (Some (at o (closed (record { label = f.label; kids = forest_of (f.kids ++ t ∷ []) })))) None)
 
--- a byte behind a whole tree
+-- a byte after a whole tree
 abbrev pub after_tree : List Frame → LabelledTree → ℕ → Option State
 after_tree o t b = cond (is_blank b) (Some (at o (closed t))) (after_tree_in o t b)
 
--- a byte behind a label
+-- a byte after a label
 abbrev pub after_label : List Frame → List ℕ → ℕ → Option State
 after_label o l b =
     cond (is_blank b) (Some (at o (named l)))
@@ -59,10 +59,10 @@ or_other o other (Some s) = Some (at o (spelling s))
 abbrev pub begin : List Frame → ℕ → Option State
 begin o b = or_other o None (spelled.step spelled.start b)
 
--- a byte that does not go on the label: it stands behind the label, where that may end
-abbrev pub behind : List Frame → Option (List ℕ) → ℕ → Option State
-behind o None b = None
-behind o (Some l) b = after_label o l b
+-- a byte that does not go on the label: it stands after the label, where that may end
+abbrev pub after : List Frame → Option (List ℕ) → ℕ → Option State
+after o None b = None
+after o (Some l) b = after_label o l b
 
 -- a closing bracket with no tree before it
 abbrev pub close_empty : List Frame → Option State
@@ -73,7 +73,7 @@ close_empty (f ∷ o) = Some (at o (closed (record { label = f.label; kids = for
 abbrev pub step_in : List Frame → Mode → ℕ → Option State
 step_in o start b = cond (is_blank b) (Some (at o start)) (begin o b)
 step_in o first b = cond (is_blank b) (Some (at o first)) (cond (b == 93) (close_empty o) (begin o b))
-step_in o (spelling s) b = or_other o (behind o (spelled.label_in s) b) (spelled.step s b)
+step_in o (spelling s) b = or_other o (after o (spelled.label_in s) b) (spelled.step s b)
 step_in o (named l) b = after_label o l b
 step_in o (closed t) b = after_tree o t b
 

@@ -11,7 +11,7 @@ use Rattle.bracket_text.specs.declared.reader.Reader.{Reader}
 use Rattle.bracket_text.specs.declared.fault.BracketFault.{BracketFault}
 use Rattle.bracket_text.specs.declared.fault.BracketFault.TheVariants.{NotUtf8, Unexpected, TooDeep, Ends, OutOfMemory}
 
--- the nodes of the open trees and of their whole children, behind the document node
+-- the nodes of the open trees and of their whole children, after the document node
 abbrev pub open_nodes : List machine.Frame → List LaidNode
 open_nodes [] = bare_node [] ∷ []
 open_nodes (f ∷ o) = laid (forest_of f.kids) ++ bare_node f.label ∷ open_nodes o
@@ -21,7 +21,7 @@ abbrev pub places : List machine.Frame → List ℕ
 places [] = []
 places (f ∷ o) = places o ++ length (open_nodes o) ∷ []
 
--- some nodes lie behind those of the open trees
+-- some nodes lie after those of the open trees
 pub record Lies (nodes : List LaidNode) (opened : List ℕ) (hand : List LaidNode) (o : List machine.Frame) : Type 0 where
   pub nodes_are : nodes ≡ hand ++ open_nodes o
   pub places_are : opened ≡ places o
@@ -120,7 +120,7 @@ IsSeenFault (TooDeep i) seen = ⊥
 IsSeenFault Ends seen = seen ≡ spelled.ends
 IsSeenFault OutOfMemory seen = Unit {0}
 
--- the label that is seen of a text was put in behind some nodes
+-- the label that is seen of a text was put in after some nodes
 pub record Pushed (text : List ℕ) (at end : ℕ) (seen : spelled.Seen) (old new : List LaidNode) : Type 0 where
   pub label : List ℕ
   pub nodes : new ≡ bare_node label ∷ old

@@ -2,27 +2,27 @@
 use Rattle.std.specs.Prelude.{◌≡◌, ℕ, ◌+◌, ◌<◌, List, length, take, Result, Ok, Err}
 use Rattle.std.specs.Str.{IsUtf8}
 use Rattle.std.specs.Str.Lossy.{utf8_valid_len}
-use Rattle.mix_base.specs.Reading.{IsFront, IsUnexpected, IsCut}
+use Rattle.mix_base.specs.Reading.{IsPrefix, IsUnexpected, IsCut}
 use Rattle.mix_tree.specs.Forest.{LabelledTree}
 use Rattle.document_store.specs.Laid.{LaidNode, IsDocument}
 use Rattle.bracket_text.specs.Grammar.{Spells, SpellsShallow}
 use Rattle.bracket_text.specs.declared.fault.BracketFault.{BracketFault}
 use Rattle.bracket_text.specs.declared.fault.BracketFault.TheVariants.{NotUtf8, Unexpected, TooDeep, Ends, OutOfMemory}
 
--- the first byte behind which each tree has more than 200 levels, though trees still go on: the label of the first one at level 201
+-- the first byte after which each tree has more than 200 levels, though trees still go on: the label of the first one at level 201
 -- begins there
 pub record IsTooDeep (x : List ℕ) (at : ℕ) : Type 0 where
   pub inside : at < length x
-  pub front : IsFront SpellsShallow (take at x)
-  pub goes_on : IsFront Spells (take (at + 1) x)
-  pub deep : IsFront SpellsShallow (take (at + 1) x) → ⊥
+  pub prefix : IsPrefix SpellsShallow (take at x)
+  pub goes_on : IsPrefix Spells (take (at + 1) x)
+  pub deep : IsPrefix SpellsShallow (take (at + 1) x) → ⊥
 
 -- the fault is that of the text
 abbrev pub Refuses : List ℕ → BracketFault → Type 0
 Refuses x (NotUtf8 at) = (¬ IsUtf8 x) × (at ≡ utf8_valid_len x)
-Refuses x (Unexpected at) = IsUtf8 x × IsFront SpellsShallow (take at x) × IsUnexpected Spells x at
+Refuses x (Unexpected at) = IsUtf8 x × IsPrefix SpellsShallow (take at x) × IsUnexpected Spells x at
 Refuses x (TooDeep at) = IsUtf8 x × IsTooDeep x at
-Refuses x Ends = IsUtf8 x × IsFront SpellsShallow x × IsCut Spells x
+Refuses x Ends = IsUtf8 x × IsPrefix SpellsShallow x × IsCut Spells x
 Refuses x OutOfMemory = Unit {0}
 
 -- the tree that the text spells, or why there is none

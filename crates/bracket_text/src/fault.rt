@@ -5,7 +5,7 @@ ghost use Rattle.bracket_text.specs.declared.fault.BracketFault.TheVariants.{Out
 use std::alloc::{AllocError, AllocFailed};
 use thiserror::Error;
 
-/// Why bracket text is not read. Places count bytes from the front of the text.
+/// Why bracket text is not read. Places count bytes from the beginning of the text.
 #[derive(Clone, Copy, Debug, PartialEq, Eq, Error)]
 pub enum BracketFault {
     /// The text is not UTF-8 from the place on.

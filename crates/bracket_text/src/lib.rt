@@ -1,4 +1,4 @@
-//! Bracket text: trees whose children stand in brackets behind their label, with commas between them.
+//! Bracket text: trees whose children stand in brackets after their label, with commas between them.
 #![tactic(auto)]
 
 mod ascii;

@@ -46,7 +46,7 @@ fn is_blank_byte(byte: u8) -> bool
     byte <= b' ' && matches!(byte, b' ' | b'\t' | b'\n' | b'\r')
 }
 
-// Puts in the node of a label between quotes, of which a place behind the opening one is given, with its escapes.
+// Puts in the node of a label between quotes, of which a place after the opening one is given, with its escapes.
 fn push_escaped(store: &mut Store, text: &[u8], from: usize) -> Result<usize, BracketFault>
     requires inside { from ≤ length text.now }
     requires utf8 { IsUtf8 text.now }
@@ -72,7 +72,7 @@ fn push_escaped(store: &mut Store, text: &[u8], from: usize) -> Result<usize, Br
     }
 }
 
-// Puts in the node of the label that begins at a place, and answers the place behind its spelling.
+// Puts in the node of the label that begins at a place, and answers the place after its spelling.
 #[inline]
 fn push_label(store: &mut Store, text: &[u8], at: usize) -> Result<usize, BracketFault>
     requires inside { at < length text.now }
@@ -111,7 +111,7 @@ impl Reader {
         })
     }
 
-    // Takes a closing bracket behind the children of the innermost open tree.
+    // Takes a closing bracket after the children of the innermost open tree.
     fn shut(&mut self)
         ensures { (t : LabelledTree) (o : List Frame) → HasAllKids self.old t o → Holds self.new o (closed t) }
     {
@@ -122,7 +122,7 @@ impl Reader {
         self.mode = Mode::Closed;
     }
 
-    // Takes a byte that is no blank right behind an opening bracket.
+    // Takes a byte that is no blank right after an opening bracket.
     fn close_empty(&mut self, at: usize, byte: u8) -> Result<(), BracketFault>
         ensures { (o : List Frame) → Lies self.old.store self.old.open.items [] o → Gives result at self.new (cond (byte == 93) (close_empty o) None) }
     {
@@ -136,7 +136,7 @@ impl Reader {
         Err(BracketFault::Unexpected(at))
     }
 
-    // Takes a byte behind a whole tree.
+    // Takes a byte after a whole tree.
     #[inline]
     fn close_tree(&mut self, at: usize, byte: u8) -> Result<(), BracketFault>
         ensures { (o : List Frame) (t : LabelledTree) → HasTree self.old t o → Gives result at self.new (after_tree o t byte) }
@@ -159,7 +159,7 @@ impl Reader {
         Err(BracketFault::Unexpected(at))
     }
 
-    // Takes a byte behind a label.
+    // Takes a byte after a label.
     #[inline(always)]
     fn close_label(&mut self, at: usize, byte: u8) -> Result<(), BracketFault>
         ensures { (o : List Frame) (l : List ℕ) → HasTree self.old (leaf l) o → Gives result at self.new (after_label o l byte) }
@@ -200,7 +200,7 @@ impl Reader {
         }
     }
 
-    // Takes the label that begins at a place, and the byte behind it.
+    // Takes the label that begins at a place, and the byte after it.
     #[inline]
     fn take_label(&mut self, text: &[u8], at: usize) -> Result<usize, BracketFault>
         requires inside { at < length text.now }
@@ -222,7 +222,7 @@ impl Reader {
         Ok(end + 1)
     }
 
-    /// Takes a label or a byte at a place, and answers the place behind.
+    /// Takes a label or a byte at a place, and answers the place after.
     #[inline]
     pub fn take(&mut self, text: &[u8], at: usize) -> Result<usize, BracketFault>
         requires inside { at < length text.now }

@@ -7,7 +7,7 @@ ghost use Rattle.bracket_text.specs.Grammar.{Spells};
 use mix_tree::{Tree, push_label};
 use std::alloc::{AllocError, Global};
 
-/// Writes a tree's canonical text behind what `out` holds. An error leaves a front of it there.
+/// Writes a tree's canonical text after what `out` holds. An error leaves a prefix of it there.
 #[cycle(write)]
 pub fn push_tree(out: &mut Vec<u8>, tree: &Tree) -> Result<(), AllocError>
     ensures { OnOk result (out.new.items ≡ out.old.items ++ canon tree.now) }
@@ -36,7 +36,7 @@ fn push_trees(out: &mut Vec<u8>, trees: &[Tree]) -> Result<(), AllocError>
     Ok(())
 }
 
-/// The canonical text of a tree: labels in their canonical spelling, no blanks, and no brackets behind a leaf.
+/// The canonical text of a tree: labels in their canonical spelling, no blanks, and no brackets after a leaf.
 pub fn write_tree(alloc: Global, tree: &Tree) -> Result<Vec<u8>, AllocError>
     ensures canonical { IfOk result (λ text. text.items ≡ canon tree.now) }
     ensures spells { IfOk result (λ text. Spells text.items tree.now) }

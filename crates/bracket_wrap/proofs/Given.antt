@@ -133,7 +133,7 @@ module _ (ns : List LaidNode) where
   given-none whole parent zero to h = chosen_nil (fits ns (before ns parent) to) _ h
   given-none whole parent (suc most) to h = chosen_nil (fits ns (before ns parent) to) _ h
 
-  -- the first child is given, and then those behind it
+  -- the first child is given, and then those after it
   pub given-some : (whole : Bool) (parent most to i : ℕ) → 0 < most → fits ns (before ns parent) to ≡ true → i + 1 ≡ to
       → given_from ns whole parent most to ≡ node (node_at ns i).label (kids_given ns whole i) (given_from ns whole parent (most - 1) (before ns i))
   given-some whole parent zero to i some h e = absurd (omega arith)

@@ -8,7 +8,7 @@ use std::alloc::Global;
 
 /// A document that is given so many children at a time.
 ///
-/// A hole stands for the children of a node from an index on. Its list has the next of them, at most a chunk, and behind
+/// A hole stands for the children of a node from an index on. Its list has the next of them, at most a chunk, and after
 /// these one hole exactly where more remain. A child is given whole where the document is deep. Else it has one hole below
 /// it where it has children, and nothing where it is a leaf. The root's hole stands for the root, which is given in the
 /// same two ways. No list begins with a hole.

@@ -14,7 +14,7 @@ use std::alloc::{AllocError, Global};
 // A list over at most so many nodes has room for all of them.
 const FEW: usize = 4;
 
-// Makes room for one tree more behind a list. Mostly there is room, and the test is the whole cost.
+// Makes room for one tree more after a list. Mostly there is room, and the test is the whole cost.
 #[inline(always)]
 fn make_room(list: &mut Vec<OpenTree>) -> Result<(), AllocError>
     ensures items { list.new.items ≡ list.old.items }
@@ -140,7 +140,7 @@ impl BracketDoc {
     }
 
     /// The next of some last children of a node, at most `most`, each whole or with a hole below it where it has children,
-    /// and a hole behind them where more remain.
+    /// and a hole after them where more remain.
     pub fn give(
         &self,
         alloc: Global,
@@ -153,7 +153,7 @@ impl BracketDoc {
     {
         let from = self.nodes.before(rest.node);
         let mut to = rest.to;
-        // A hole behind the children takes the place of one more.
+        // A hole after the children takes the place of one more.
         let mut list = Vec::with_capacity(alloc, self.room(from, to, most))?;
         let mut left = most;
         while left > 0 {

@@ -11,7 +11,7 @@ use Rattle.browse_profile.specs.declared.profile.Profile.{Profile}
 use Rattle.browse_profile.specs.Costs.{Costs, ends, stop, more, costs_of}
 use Rattle.browse_profile.specs.Fits.{FourFit}
 use Rattle.browse_profile.specs.Profiles.{many}
-use Rattle.browse_class.proofs.EventFits.{HasNone, no_bindings, none_behind}
+use Rattle.browse_class.proofs.EventFits.{HasNone, no_bindings, none_after}
 
 -- of one binding at most
 IsAlone : Costs → Type 0
@@ -41,7 +41,7 @@ alone_apart docs keys (bind row ∷ es) h = (no_bindings (Differ docs keys row) 
 fits_alone : (i : Profile) → many i.most ≡ false → (c : Costs) → FourFit i c → IsAlone c
 unfolding IsAlone
 fits_alone i o (ends t) h = tt
-fits_alone i o (stop t c) h = none_behind i o c h.2
+fits_alone i o (stop t c) h = none_after i o c h.2
 
 -- where there is one binding at most, no two agree by any keys
 pub apart_once : (docs : Documents) (keys : List Key) (i : Profile) → many i.most ≡ false → (es : RowEvents) → FourFit i (costs_of es) → AreApart docs keys es

@@ -9,7 +9,7 @@ use Rattle.plan_core.specs.ByNumber.{op_at}
 use Rattle.plan_core.specs.Events.{RowEvents, events, first_row, element_alone, tolled_destroyed, tolled_document}
 use Rattle.plan_core.specs.Plans.{Operator, source, get_descendants, join, over, tuple_destroy, PlanValue}
 use Rattle.plan_core.specs.Shapes.{Made, a_list_of, an_element_of, Stage, filters, extends, first_by_keys, one_group, in_order, Shape, one_source, visits_below, pairs_up, passes_on, no_events, shape_of, shape_at}
-use Rattle.plan_core.specs.Tolled.{Tolled, ends as the_end, item, toll, trees_below, trees_behind, trees_from, tolled_at}
+use Rattle.plan_core.specs.Tolled.{Tolled, ends as the_end, item, toll, trees_below, trees_after, trees_from, tolled_at}
 use Rattle.plan_core.specs.TolledRows.{TolledValue, of_source, element, trees, TolledRow, tolled_value}
 use Rattle.plan_core.specs.Typed.{IsTyped}
 use Rattle.plan_core.specs.Valid.{Kind, a_node, an_element, a_list, Kinds, kinds, IsValid}
@@ -83,9 +83,9 @@ one_within [] of n h = least n h
 one_within (op ∷ ops) of n h = one_within ops of n (larger_right (op_bound op of) (all_bounds ops of) n h)
 
 -- cheap trees
-cheap_behind : (most : Option ℕ) (f : Tolled) → IsCheap most f → IsCheap most (trees_behind f)
-cheap_behind most (the_end t) h = within_zero most
-cheap_behind most (item t label kids rest) h = h.2
+cheap_after : (most : Option ℕ) (f : Tolled) → IsCheap most f → IsCheap most (trees_after f)
+cheap_after most (the_end t) h = within_zero most
+cheap_after most (item t label kids rest) h = h.2
 
 cheap_below : (most : Option ℕ) (f : Tolled) → IsCheap most f → IsCheap most (trees_below f)
 cheap_below most (the_end t) h = within_zero most
@@ -93,7 +93,7 @@ cheap_below most (item t label kids rest) h = h.1
 
 cheap_from : (most : Option ℕ) (k : ℕ) (f : Tolled) → IsCheap most f → IsCheap most (trees_from k f)
 cheap_from most zero f h = h
-cheap_from most (suc k) f h = cheap_from most k (trees_behind f) (cheap_behind most f h)
+cheap_from most (suc k) f h = cheap_from most k (trees_after f) (cheap_after most f h)
 
 cheap_at : (most : Option ℕ) (f : Tolled) (place : List ℕ) → IsCheap most f → IsCheap most (tolled_at f place)
 cheap_at most f [] h = h
@@ -158,5 +158,5 @@ module _ (shapes : ℕ → Layout) (docs : Documents) (laid : AreLaid shapes doc
   tolls_within place =
       let cheap = document_cheap shapes docs laid (Some most) p valid typed bounded in (
         cheap_toll (Some most) (trees_below (tolled_at (tolled_document docs p.ops) place)) (cheap_below (Some most) (tolled_at (tolled_document docs p.ops) place) (cheap_at (Some most) (tolled_document docs p.ops) place cheap)),
-        cheap_toll (Some most) (trees_behind (tolled_at (tolled_document docs p.ops) place)) (cheap_behind (Some most) (tolled_at (tolled_document docs p.ops) place) (cheap_at (Some most) (tolled_document docs p.ops) place cheap)),
+        cheap_toll (Some most) (trees_after (tolled_at (tolled_document docs p.ops) place)) (cheap_after (Some most) (tolled_at (tolled_document docs p.ops) place) (cheap_at (Some most) (tolled_document docs p.ops) place cheap)),
       )

@@ -11,7 +11,7 @@ use Rattle.browse_profile.specs.declared.profile.Most.{Most}
 use Rattle.browse_profile.specs.declared.profile.Most.TheVariants.{Never, Once, Many}
 use Rattle.browse_profile.specs.Bounds.{Within, sum}
 use Rattle.browse_profile.specs.Costs.{Costs, ends, stop, more, followed, costs_of, total}
-use Rattle.browse_profile.specs.Fits.{FourFit, Fits, Behind}
+use Rattle.browse_profile.specs.Fits.{FourFit, Fits, After}
 use Rattle.browse_profile.specs.Profiles.{may, many, unbounded, passed_once, passed_by, passed, first_kept}
 use Rattle.browse_profile.specs.Replacing.{IsReplaced}
 use Rattle.plan_core.specs.Beside.{EachBinding}
@@ -58,7 +58,7 @@ abbrev pub HasNone : Costs → Type 0
 HasNone (ends t) = Unit {0}
 HasNone (stop t c) = ⊥
 
--- nor behind a smaller cost
+-- nor after a smaller cost
 pub none_more : (n : ℕ) (c : Costs) → HasNone (more n c) → HasNone c
 none_more n (ends t) h = tt
 none_more n (stop t c) h = h
@@ -69,10 +69,10 @@ no_bindings Q [] h = tt
 no_bindings Q (skip ∷ es) h = no_bindings Q es (none_more 1 (costs_of es) h)
 no_bindings Q (bind row ∷ es) h = absurd h
 
--- behind the only stop there is none
-pub none_behind : (i : Profile) → many i.most ≡ false → (c : Costs) → Behind i c → HasNone c
-none_behind i o (ends t) h = tt
-none_behind i o (stop t c) h = (let e : true ≡ false = sym h.1 ∙ o in cc)
+-- after the only stop there is none
+pub none_after : (i : Profile) → many i.most ≡ false → (c : Costs) → After i c → HasNone c
+none_after i o (ends t) h = tt
+none_after i o (stop t c) h = (let e : true ≡ false = sym h.1 ∙ o in cc)
 
 -- a list of a profile that never has a stop has none
 pub none_never : (i : Profile) → may i.most ≡ false → (c : Costs) → FourFit i c → HasNone c
@@ -86,10 +86,10 @@ costs-only_none test (skip ∷ es) h = ap (more 1) (costs-only_none test es (non
 costs-only_none test (bind row ∷ es) h = absurd h
 
 module _ (i : Profile) (test : TolledRow → Bool) where
-  dropped : (once : many i.most ≡ false) (n : ℕ) (c : Costs) → Within (n + 1) i.lead → may i.most ≡ true → Behind i c → (b : Bool) → FourFit (passed_once i) (more n (cond b (stop 1 c) (more 1 c)))
+  dropped : (once : many i.most ≡ false) (n : ℕ) (c : Costs) → Within (n + 1) i.lead → may i.most ≡ true → After i c → (b : Bool) → FourFit (passed_once i) (more n (cond b (stop 1 c) (more 1 c)))
   dropped once n c w m h true = (w, m, h_passed c h)
     where
-      h_passed : (c : Costs) → Behind i c → Behind (passed_once i) c
+      h_passed : (c : Costs) → After i c → After (passed_once i) c
       h_passed (ends t) h = h
       h_passed (stop t c) h = (h.0, h.1, h_passed c h.2)
   dropped once n (ends t) w m h false =
@@ -103,7 +103,7 @@ module _ (i : Profile) (test : TolledRow → Bool) where
       subst (FourFit (passed_once i)) (sym (more-more n 1 (costs_of (only test es))))
       (only_once once (n + 1) es (subst (FourFit i) (more-more n 1 (costs_of es)) h))
   only_once once n (bind row ∷ es) h =
-      let same : costs_of (only test es) ≡ costs_of es = costs-only_none test es (none_behind i once (costs_of es) h.2) in
+      let same : costs_of (only test es) ≡ costs_of es = costs-only_none test es (none_after i once (costs_of es) h.2) in
       let there = dropped once n (costs_of es) h.0 h.1 h.2 (test row) in
       elim (test row) as (λ b. FourFit (passed_once i) (more n (cond b (stop 1 (costs_of es)) (more 1 (costs_of es)))) → FourFit (passed_once i) (more n (costs_of (cond b (bind row) skip ∷ only test es)))) [
         | true ↦ λ z. subst (λ (c : Costs). FourFit (passed_once i) (more n (stop 1 c))) (sym same) z
@@ -123,16 +123,16 @@ four_only i test es h = only_by i.most i test refl es h
 
 -- bindings but the first are passed over where their keys were seen
 module _ (i : Profile) (some : many i.most ≡ true) (docs : Documents) (keys : List Key) (make : TolledRow → RowEvents → TolledRow) where
-  any_behind : (c : Costs) → Behind (first_kept i) c
-  any_behind (ends t) = tt
-  any_behind (stop t c) = (tt, some, any_behind c)
+  any_after : (c : Costs) → After (first_kept i) c
+  any_after (ends t) = tt
+  any_after (stop t c) = (tt, some, any_after c)
 
   distinct_from : (n : ℕ) (es : RowEvents) → FourFit i (more n (costs_of es)) → FourFit (first_kept i) (more n (costs_of (distinct docs keys make [] es)))
   distinct_from n [] h = h
   distinct_from n (skip ∷ es) h =
       subst (FourFit (first_kept i)) (sym (more-more n 1 (costs_of (distinct docs keys make [] es))))
       (distinct_from (n + 1) es (subst (FourFit i) (more-more n 1 (costs_of es)) h))
-  distinct_from n (bind row ∷ es) h = (h.0, h.1, any_behind (costs_of (distinct docs keys make ([] ++ key_values docs keys row ∷ []) es)))
+  distinct_from n (bind row ∷ es) h = (h.0, h.1, any_after (costs_of (distinct docs keys make ([] ++ key_values docs keys row ∷ []) es)))
 
   four_distinct : (es : RowEvents) → FourFit i (costs_of es) → FourFit (first_kept i) (costs_of (distinct docs keys make [] es))
   four_distinct es h =

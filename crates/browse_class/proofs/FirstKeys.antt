@@ -16,17 +16,17 @@ use Rattle.browse_profile.specs.Replacing.{IsReplaced}
 use Rattle.browse_profile.specs.Costs.{first_only}
 use Rattle.browse_profile.specs.Costs.{total}
 use Rattle.plan_core.specs.Beside.{EachBinding}
-use Rattle.plan_core.proofs.KeyValues.{same_behind, map_more}
+use Rattle.plan_core.proofs.KeyValues.{same_after, map_more}
 use Rattle.browse_class.proofs.EventFits.{more_replaced}
 use Rattle.browse_profile.proofs.Totals.{total-more, first_only-more}
 use Rattle.browse_profile.proofs.Following.{more-zero, more-followed}
 
--- what is seen behind the same values
-seen_behind : (k x : List KeyValue) (si : List (List KeyValue)) → is_seen (k ++ x) (map (λ s. k ++ s) si) ≡ is_seen x si
-seen_behind k x [] = refl
-seen_behind k x (s ∷ si) = ap (λ (b : Bool). b || is_seen (k ++ x) (map (λ s. k ++ s) si)) (same_behind k s x) ∙ ap (λ (b : Bool). same_values s x || b) (seen_behind k x si)
+-- what is seen after the same values
+seen_after : (k x : List KeyValue) (si : List (List KeyValue)) → is_seen (k ++ x) (map (λ s. k ++ s) si) ≡ is_seen x si
+seen_after k x [] = refl
+seen_after k x (s ∷ si) = ap (λ (b : Bool). b || is_seen (k ++ x) (map (λ s. k ++ s) si)) (same_after k s x) ∙ ap (λ (b : Bool). same_values s x || b) (seen_after k x si)
 
--- one more behind the same values
+-- one more after the same values
 map_snoc : (k x : List KeyValue) (si : List (List KeyValue)) → map (λ s. k ++ s) (si ++ x ∷ []) ≡ map (λ s. k ++ s) si ++ (k ++ x) ∷ []
 map_snoc k x [] = refl
 map_snoc k x (s ∷ si) = ap (λ (z : List (List KeyValue)). (k ++ s) ∷ z) (map_snoc k x si)
@@ -68,7 +68,7 @@ module _ (docs : Documents) (d e : List Key) (make : TolledRow → RowEvents →
   seen_inside k x seen si free =
       list_any-append (λ s. same_values s (k ++ x)) seen (map (λ s. k ++ s) si)
       ∙ ap (λ (b : Bool). b || is_seen (k ++ x) (map (λ s. k ++ s) si)) (free x)
-      ∙ seen_behind k x si
+      ∙ seen_after k x si
 
   -- events with the same values by the first keys, and what follows them
   inside : (k : List KeyValue) (seen si : List (List KeyValue)) (xs ys : RowEvents) → IsFree k seen → EachBinding (λ a. key_values docs d a ≡ k) xs
@@ -115,21 +115,21 @@ module _ (docs : Documents) (d e : List Key) (make : TolledRow → RowEvents →
   other_free a b seen si free apart x =
       list_any-append (λ s. same_values s (key_values docs d b ++ x)) seen (map (λ s. key_values docs d a ++ s) si)
       ∙ ap (λ (w : Bool). w || is_seen (key_values docs d b ++ x) (map (λ s. key_values docs d a ++ s) si)) (free x)
-      ∙ none_behind si
+      ∙ none_after si
     where
-      differ_behind : (ks : List Key) (f g : Key → KeyValue) (s x : List KeyValue) → same_values (map f ks) (map g ks) ≡ false → same_values (map f ks ++ s) (map g ks ++ x) ≡ false
-      differ_behind [] f g s x h = cc
-      differ_behind (c ∷ ks) f g s x h =
+      differ_after : (ks : List Key) (f g : Key → KeyValue) (s x : List KeyValue) → same_values (map f ks) (map g ks) ≡ false → same_values (map f ks ++ s) (map g ks ++ x) ≡ false
+      differ_after [] f g s x h = cc
+      differ_after (c ∷ ks) f g s x h =
           (elim (same_value (f c) (g c)) as (λ w. (w && same_values (map f ks) (map g ks)) ≡ false → (w && same_values (map f ks ++ s) (map g ks ++ x)) ≡ false) [
-            | true ↦ λ z. differ_behind ks f g s x z
+            | true ↦ λ z. differ_after ks f g s x z
             | false ↦ λ z. refl
           ]) h
 
-      none_behind : (si : List (List KeyValue)) → is_seen (key_values docs d b ++ x) (map (λ s. key_values docs d a ++ s) si) ≡ false
-      none_behind [] = refl
-      none_behind (s ∷ si) =
-          ap (λ (w : Bool). w || is_seen (key_values docs d b ++ x) (map (λ s. key_values docs d a ++ s) si)) (differ_behind d (key_value docs (row_node a)) (key_value docs (row_node b)) s x apart)
-          ∙ none_behind si
+      none_after : (si : List (List KeyValue)) → is_seen (key_values docs d b ++ x) (map (λ s. key_values docs d a ++ s) si) ≡ false
+      none_after [] = refl
+      none_after (s ∷ si) =
+          ap (λ (w : Bool). w || is_seen (key_values docs d b ++ x) (map (λ s. key_values docs d a ++ s) si)) (differ_after d (key_value docs (row_node a)) (key_value docs (row_node b)) s x apart)
+          ∙ none_after si
 
   all_free : (a : TolledRow) (seen si : List (List KeyValue)) (es : RowEvents) → EachBinding (λ b. IsFree (key_values docs d b) seen) es → EachBinding (Differ docs d a) es
       → EachBinding (λ b. IsFree (key_values docs d b) (seen ++ map (λ s. key_values docs d a ++ s) si)) es

@@ -23,7 +23,7 @@ places_found P Q out start row h [] b = tt
 places_found P Q out start row h (skip ∷ es) b = places_found P Q out start row h es b
 places_found P Q out start row h (bind place ∷ es) b = (h place b.0, places_found P Q out start row h es b.1)
 
--- of what is made of first bindings and the events behind them
+-- of what is made of first bindings and the events after them
 pub suffix_distinct : (R : TolledRow → RowEvents → Type 0) (Q : TolledRow → Type 0) (docs : Documents) (keys : List Key) (make : TolledRow → RowEvents → TolledRow) → ((row : TolledRow) (es : RowEvents) → R row es → Q (make row es))
     → (seen : List (List KeyValue)) (es : RowEvents) → EachSuffix R es → EachBinding Q (distinct docs keys make seen es)
 suffix_distinct R Q docs keys make h seen [] b = tt

@@ -288,12 +288,12 @@ module _ (docs : Documents) (most : Option ℕ) (kl kr : Kinds) (fr gr : Front) 
       (sym (level_each_row docs (node_keys (take k gr.vars)) (λ r. Unit {0}) (λ r. row ++ r) (λ r u. right_values (node_keys (take k gr.vars)) (part_nodes kr k gr.vars right_front.nodes) row r b) make rs (each_binding (λ r. Unit {0}) (λ r. tt) rs)))
       (fits_in_turn one_skip (g.levels k) (ends 1) (costs_of (distinct docs (node_keys (take k gr.vars)) make [] rs)) one (right.leveled k h make)))) ls left.bound (left_front.front.whole e))
 
-  take_behind : (j : ℕ) (xs ys : List ℕ) → length xs ≤ j → take j (xs ++ ys) ≡ xs ++ take (j - length xs) ys
-  take_behind j [] ys h = let z : j ≡ j - 0 = omega arith in ap (λ (n : ℕ). take n ys) z
-  take_behind zero (x ∷ xs) ys h = absurd (omega (arith, h))
-  take_behind (suc j) (x ∷ xs) ys h =
+  take_after : (j : ℕ) (xs ys : List ℕ) → length xs ≤ j → take j (xs ++ ys) ≡ xs ++ take (j - length xs) ys
+  take_after j [] ys h = let z : j ≡ j - 0 = omega arith in ap (λ (n : ℕ). take n ys) z
+  take_after zero (x ∷ xs) ys h = absurd (omega (arith, h))
+  take_after (suc j) (x ∷ xs) ys h =
       let z : j - length xs ≡ suc j - length (x ∷ xs) = omega arith in
-      ap (λ (n : List ℕ). x ∷ n) (take_behind j xs ys (omega (arith, h))) ∙ ap (λ (n : ℕ). x ∷ (xs ++ take n ys)) z
+      ap (λ (n : List ℕ). x ∷ n) (take_after j xs ys (omega (arith, h))) ∙ ap (λ (n : ℕ). x ∷ (xs ++ take n ys)) z
 
   length_both : (xs ys : List ℕ) → length (xs ++ ys) ≡ length xs + length ys
   length_both [] ys = omega arith
@@ -312,7 +312,7 @@ module _ (docs : Documents) (most : Option ℕ) (kl kr : Kinds) (fr gr : Front) 
             let b = length_both fr.vars gr.vars in
             let l : suc j - length fr.vars ≤ length gr.vars = omega (arith, h, b) in
             subst (λ (ks : List Key). Fits (replaced f.profile (in_turn one_skip (g.levels k))) (costs_of (distinct docs ks make [] all_rows)))
-            (sym (ap node_keys (take_behind (suc j) fr.vars gr.vars m) ∙ node_keys_more fr.vars (take (suc j - length fr.vars) gr.vars)))
+            (sym (ap node_keys (take_after (suc j) fr.vars gr.vars m) ∙ node_keys_more fr.vars (take (suc j - length fr.vars) gr.vars)))
             (right_level e k l make))
         | false ↦ λ t. fits_unbounded (costs_of (distinct docs (node_keys (take (suc j) (fr.vars ++ gr.vars))) make [] all_rows))
       ]) refl

@@ -81,10 +81,10 @@ module _ (docs : Documents) (keys : List Key) where
   apart_bound [] h = tt
   apart_bound (row ∷ rows) h = (each_bound (Differ docs keys row) rows h.0, apart_bound rows h.1)
 
-  apart_behind : (es more : RowEvents) → AreApart docs keys more → AreApart docs keys (skips es ++ more)
-  apart_behind [] more h = h
-  apart_behind (skip ∷ es) more h = apart_behind es more h
-  apart_behind (bind row ∷ es) more h = apart_behind es more h
+  apart_after : (es more : RowEvents) → AreApart docs keys more → AreApart docs keys (skips es ++ more)
+  apart_after [] more h = h
+  apart_after (skip ∷ es) more h = apart_after es more h
+  apart_after (bind row ∷ es) more h = apart_after es more h
 
   apart_insert : (less : TolledRow → TolledRow → Bool) (x : TolledRow) (rows : List TolledRow) → AllByRecursion (Differ docs keys x) rows → Apart docs keys rows → Apart docs keys (insert_by less x rows)
   apart_insert less x [] d h = (tt, tt)
@@ -98,6 +98,6 @@ module _ (docs : Documents) (keys : List Key) where
   apart_sorted less [] h = tt
   apart_sorted less (x ∷ rows) h = apart_insert less x (sorted_by less rows) (each_sorted (Differ docs keys x) less rows h.0) (apart_sorted less rows h.1)
 
-  -- sorted bindings, behind the skips that they cost
+  -- sorted bindings, after the skips that they cost
   pub sorted_apart : (less : TolledRow → TolledRow → Bool) (es : RowEvents) → AreApart docs keys es → AreApart docs keys (skips es ++ map bind (sorted_by less (without_skips es)))
-  sorted_apart less es h = apart_behind es (map bind (sorted_by less (without_skips es))) (apart_bound (sorted_by less (without_skips es)) (apart_sorted less (without_skips es) (apart_without es h)))
+  sorted_apart less es h = apart_after es (map bind (sorted_by less (without_skips es))) (apart_bound (sorted_by less (without_skips es)) (apart_sorted less (without_skips es) (apart_without es h)))

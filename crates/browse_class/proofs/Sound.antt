@@ -71,7 +71,7 @@ module _ (shapes : ℕ → Layout) (docs : Documents) (laid : AreLaid shapes doc
   anew n b f e i v x y =
       out_fresh p valid typed n i v b (subst (λ (g : Shape). Among i (shape_inputs g)) (sym e) x) (subst (λ (g : Shape). Among v (shape_outs g)) (sym e) y)
 
-  -- so behind a stage
+  -- so after a stage
   stage_anew : (n : ℕ) → n < length p.ops → (i : ℕ) (stage : Stage) → shape_at p.ops n ≡ passes_on i stage → IsStageFresh stage (kinds p.ops i)
   stage_anew n b i (filters test) e = tt
   stage_anew n b i (extends out made) e = anew n b (passes_on i (extends out made)) e i out (inl refl) (inl refl)
@@ -80,7 +80,7 @@ module _ (shapes : ℕ → Layout) (docs : Documents) (laid : AreLaid shapes doc
   stage_anew n b i (one_group piece out) e = tt
   stage_anew n b i (in_order v desc) e = tt
 
-  -- the front behind a stage
+  -- the front after a stage
   stage_fronted : (n : ℕ) → n < length p.ops → (i : ℕ) (stage : Stage) → shape_at p.ops n ≡ passes_on i stage → IsStageFit (kinds p.ops i) stage
       → AreFronted docs (kinds p.ops i) (front p.ops i) (events docs p.ops i)
       → AreFronted docs (stage_kinds stage (kinds p.ops i)) (stage_front stage (front p.ops i)) (stage_events docs (front p.ops i).vars stage (events docs p.ops i))

@@ -1,4 +1,4 @@
--- Behind a stage events are as is known of them, where those before it are.
+-- After a stage events are as is known of them, where those before it are.
 use Rattle.std.proofs.Common.{◌≡◌, ◌++◌, ℕ, zero, suc, ◌+◌, ◌≤◌, true, false, cond, List, [], ◌∷◌, refl, sym, ap, subst, ◌∙◌, arith, length, take, map}
 use Rattle.std.specs.Prelude.{Bool, ◌||◌, ◌==◌, not, Option, Some, None}
 use Rattle.mix_base.specs.Events.{skip, bind}
@@ -8,7 +8,7 @@ use Rattle.mix_tree.specs.Nodes.{Documents, label_at}
 use Rattle.mix_tree.specs.declared.var.Key.{Key}
 use Rattle.plan_core.specs.declared.plan.Piece.{Piece}
 use Rattle.plan_core.specs.Beside.{EachBinding, AreApart}
-use Rattle.plan_core.specs.Events.{RowEvents, each_row, only, run_of, passing, group_behind, distinct, skips, sorted_rows, kept_row, group_row, extended, made_value, whole_row, stage_events}
+use Rattle.plan_core.specs.Events.{RowEvents, each_row, only, run_of, passing, group_after, distinct, skips, sorted_rows, kept_row, group_row, extended, made_value, whole_row, stage_events}
 use Rattle.plan_core.specs.Fronts.{Front, node_keys, shared, covers, are_contiguous, stage_front}
 use Rattle.plan_core.specs.Shapes.{Made, a_list_of, an_element_of, Stage, filters, extends, first_by_keys, one_group, in_order}
 use Rattle.plan_core.specs.Tolled.{ends as the_end}
@@ -19,11 +19,11 @@ use Rattle.plan_core.proofs.Aparts.{apart_each_row, apart_only, distinct_is, cov
 use Rattle.plan_core.proofs.Bindings.{EachSuffix, binding_each_row, binding_only, binding_sorted, each_binding}
 use Rattle.plan_core.proofs.BoundRows.{fresh_differs, keys_with, nodes_with, restrict_value, nodes_kept}
 use Rattle.plan_core.proofs.FrontSteps.{AreFronted}
-use Rattle.plan_core.proofs.KeyValues.{values_alike, shared_front, take_front, length_front}
+use Rattle.plan_core.proofs.KeyValues.{values_alike, shared_front, take_prefix, length_front}
 use Rattle.browse_profile.specs.declared.profile.Profile.{Profile}
 use Rattle.browse_profile.specs.Bounds.{Within, larger}
 use Rattle.browse_profile.specs.Costs.{Costs, ends, stop, more, costs_of}
-use Rattle.browse_profile.specs.Fits.{Fits, FourFit, Behind}
+use Rattle.browse_profile.specs.Fits.{Fits, FourFit, After}
 use Rattle.browse_profile.specs.Profiles.{many, costless, first_kept, one_binding, unbounded, passed}
 use Rattle.browse_profile.proofs.Bounding.{within_left, within_right}
 use Rattle.browse_profile.proofs.Fitting.{fits_unbounded}
@@ -33,7 +33,7 @@ use Rattle.browse_class.specs.Cheap.{IsWithin}
 use Rattle.browse_class.specs.Facts.{Facts, with_at, distinct_profile, group_profile, open_list, run_list, single_list, made_profile, kept_facts, stage_facts}
 use Rattle.browse_class.specs.Levels.{with_zero, own_level, AreLeveled}
 use Rattle.browse_class.proofs.Alone.{apart_once, costs-distinct}
-use Rattle.browse_class.proofs.EventFits.{HasNone, costs-each_row, costs-only_none, none_behind, none_more, fits_only, fits_distinct}
+use Rattle.browse_class.proofs.EventFits.{HasNone, costs-each_row, costs-only_none, none_after, none_more, fits_only, fits_distinct}
 use Rattle.browse_class.proofs.LevelLaws.{level_zero, level_own, level_each_row, take_whole, costs-part, costs-contiguous}
 use Rattle.browse_class.proofs.Rows.{suffix_distinct, bound_with, bound_restrict, bound_none}
 use Rattle.browse_class.proofs.Sorts.{sorted_apart}
@@ -63,7 +63,7 @@ leveled_none docs p es f (suc j) h make = absurd (omega (arith, h))
 
 -- BINDINGS AND THOSE BEHIND THEM
 
--- what holds of all bindings holds of each and of those behind it
+-- what holds of all bindings holds of each and of those after it
 suffix_bindings : (P : TolledRow → Type 0) (es : RowEvents) → EachBinding P es → EachSuffix (λ row rest. P row × EachBinding P rest) es
 suffix_bindings P [] b = tt
 suffix_bindings P (skip ∷ es) b = suffix_bindings P es b
@@ -75,40 +75,40 @@ suffix_both R S [] a b = tt
 suffix_both R S (skip ∷ es) a b = suffix_both R S es a b
 suffix_both R S (bind row ∷ es) a b = ((a.0, b.0), suffix_both R S es a.1 b.1)
 
--- behind each binding the events go on as the profile says
-suffix_behind : (i : Profile) (es : RowEvents) (n : ℕ) → Behind i (more n (costs_of es)) → EachSuffix (λ row rest. Behind i (costs_of rest)) es
-suffix_behind i [] n h = tt
-suffix_behind i (skip ∷ es) n h = suffix_behind i es (n + 1) (subst (Behind i) (more-more n 1 (costs_of es)) h)
-suffix_behind i (bind row ∷ es) n h = (h.2, suffix_behind i es 0 (subst (Behind i) (sym (more-zero (costs_of es))) h.2))
+-- after each binding the events go on as the profile says
+suffix_after : (i : Profile) (es : RowEvents) (n : ℕ) → After i (more n (costs_of es)) → EachSuffix (λ row rest. After i (costs_of rest)) es
+suffix_after i [] n h = tt
+suffix_after i (skip ∷ es) n h = suffix_after i es (n + 1) (subst (After i) (more-more n 1 (costs_of es)) h)
+suffix_after i (bind row ∷ es) n h = (h.2, suffix_after i es 0 (subst (After i) (sym (more-zero (costs_of es))) h.2))
 
 -- so from the start
-suffix_fits : (i : Profile) (es : RowEvents) (n : ℕ) → FourFit i (more n (costs_of es)) → EachSuffix (λ row rest. Behind i (costs_of rest)) es
+suffix_fits : (i : Profile) (es : RowEvents) (n : ℕ) → FourFit i (more n (costs_of es)) → EachSuffix (λ row rest. After i (costs_of rest)) es
 suffix_fits i [] n h = tt
 suffix_fits i (skip ∷ es) n h = suffix_fits i es (n + 1) (subst (FourFit i) (more-more n 1 (costs_of es)) h)
-suffix_fits i (bind row ∷ es) n h = (h.2, suffix_behind i es 0 (subst (Behind i) (sym (more-zero (costs_of es))) h.2))
+suffix_fits i (bind row ∷ es) n h = (h.2, suffix_after i es 0 (subst (After i) (sym (more-zero (costs_of es))) h.2))
 
 -- THE LIST OF A GROUP
 
 -- a list of which no more is known
-any_behind : (c : Costs) → Behind open_list c
-any_behind (ends t) = tt
-any_behind (stop t c) = (tt, refl, any_behind c)
+any_after : (c : Costs) → After open_list c
+any_after (ends t) = tt
+any_after (stop t c) = (tt, refl, any_after c)
 
--- behind the only member
-last_behind : (i : Profile) → many i.most ≡ false → (c : Costs) → Behind i c → Behind (single_list i) c
-last_behind i e (ends t) h = h
-last_behind i e (stop t c) h = (let f : true ≡ false = sym h.1 ∙ e in cc)
+-- after the only member
+last_after : (i : Profile) → many i.most ≡ false → (c : Costs) → After i c → After (single_list i) c
+last_after i e (ends t) h = h
+last_after i e (stop t c) h = (let f : true ≡ false = sym h.1 ∙ e in cc)
 
 -- up to the first other binding, which is passed
-run_behind : (i : Profile) (test : TolledRow → Bool) (n : ℕ) (es : RowEvents) → Behind i (more n (costs_of es)) → Behind (run_list i) (more n (costs_of (run_of test es)))
-run_behind i test n [] h = within_right i.between i.trail (n + 0) h
-run_behind i test n (skip ∷ es) h =
-    subst (Behind (run_list i)) (sym (more-more n 1 (costs_of (run_of test es)))) (run_behind i test (n + 1) es (subst (Behind i) (more-more n 1 (costs_of es)) h))
-run_behind i test n (bind row ∷ es) h =
-    let rest : Behind (run_list i) (costs_of (run_of test es)) =
-    subst (Behind (run_list i)) (more-zero (costs_of (run_of test es))) (run_behind i test 0 es (subst (Behind i) (sym (more-zero (costs_of es))) h.2)) in
+run_after : (i : Profile) (test : TolledRow → Bool) (n : ℕ) (es : RowEvents) → After i (more n (costs_of es)) → After (run_list i) (more n (costs_of (run_of test es)))
+run_after i test n [] h = within_right i.between i.trail (n + 0) h
+run_after i test n (skip ∷ es) h =
+    subst (After (run_list i)) (sym (more-more n 1 (costs_of (run_of test es)))) (run_after i test (n + 1) es (subst (After i) (more-more n 1 (costs_of es)) h))
+run_after i test n (bind row ∷ es) h =
+    let rest : After (run_list i) (costs_of (run_of test es)) =
+    subst (After (run_list i)) (more-zero (costs_of (run_of test es))) (run_after i test 0 es (subst (After i) (sym (more-zero (costs_of es))) h.2)) in
     let last : n + 1 ≡ n + (1 + 0) = omega arith in
-    elim (test row) as (λ w. Behind (run_list i) (more n (costs_of (cond w (bind row ∷ run_of test es) (skip ∷ []))))) [
+    elim (test row) as (λ w. After (run_list i) (more n (costs_of (cond w (bind row ∷ run_of test es) (skip ∷ []))))) [
       | true ↦ (h.0, refl, rest)
       | false ↦ subst (λ (m : ℕ). Within m (larger i.between i.trail)) last (within_left i.between i.trail (n + 1) h.0)
     ]
@@ -124,21 +124,21 @@ costs-passing_none : (stops : Bool) (test : TolledRow → Bool) (es : RowEvents)
 costs-passing_none true test es h = costs-run_none test es h
 costs-passing_none false test es h = costs-only_none test es h
 
--- a group's list, behind its first member
-group_fits : (i : Profile) (stops : Bool) (test : TolledRow → Bool) (es : RowEvents) → Behind i (costs_of es) → FourFit (group_profile stops i) (stop 0 (costs_of (passing stops test es)))
+-- a group's list, after its first member
+group_fits : (i : Profile) (stops : Bool) (test : TolledRow → Bool) (es : RowEvents) → After i (costs_of es) → FourFit (group_profile stops i) (stop 0 (costs_of (passing stops test es)))
 group_fits i stops test es h =
     (elim (many i.most) as (λ w. many i.most ≡ w → FourFit (cond w (cond stops (run_list i) open_list) (single_list i)) (stop 0 (costs_of (passing stops test es)))) [
       | true ↦ λ e. some stops
-      | false ↦ λ e. (omega arith, refl, subst (Behind (single_list i)) (sym (costs-passing_none stops test es (none_behind i e (costs_of es) h))) (last_behind i e (costs_of es) h))
+      | false ↦ λ e. (omega arith, refl, subst (After (single_list i)) (sym (costs-passing_none stops test es (none_after i e (costs_of es) h))) (last_after i e (costs_of es) h))
     ]) refl
   where
     some : (b : Bool) → FourFit (cond b (run_list i) open_list) (stop 0 (costs_of (passing b test es)))
     some true = (
       omega arith,
       refl,
-      subst (Behind (run_list i)) (more-zero (costs_of (run_of test es))) (run_behind i test 0 es (subst (Behind i) (sym (more-zero (costs_of es))) h)),
+      subst (After (run_list i)) (more-zero (costs_of (run_of test es))) (run_after i test 0 es (subst (After i) (sym (more-zero (costs_of es))) h)),
     )
-    some false = (omega arith, refl, any_behind (costs_of (only test es)))
+    some false = (omega arith, refl, any_after (costs_of (only test es)))
 
 -- STAGES
 
@@ -147,7 +147,7 @@ abbrev pub IsMadeWithin : Option ℕ → Made → Facts → Type 0
 IsMadeWithin most (a_list_of pieces) f = Unit {0}
 IsMadeWithin most (an_element_of label list) f = IsWithin most (f.lists list)
 
--- so behind a stage
+-- so after a stage
 abbrev pub IsStageWithin : Option ℕ → Stage → Facts → Type 0
 IsStageWithin most (filters test) f = Unit {0}
 IsStageWithin most (extends out made) f = IsMadeWithin most made f
@@ -236,7 +236,7 @@ module _ (docs : Documents) (most : Option ℕ) (one : Within 1 most) (kinds : K
   shared_take keys j h =
       let s = shared_front keys fr.vars in
       let l : length (shared keys fr.vars) ≤ length fr.vars = subst (λ (z : List ℕ). length (shared keys fr.vars) ≤ length z) s.1 (length_front (shared keys fr.vars) s.0) in
-      (omega (arith, h, l), subst (λ (z : List ℕ). take j z ≡ take j (shared keys fr.vars)) s.1 (take_front j (shared keys fr.vars) s.0 h))
+      (omega (arith, h, l), subst (λ (z : List ℕ). take j z ≡ take j (shared keys fr.vars)) s.1 (take_prefix j (shared keys fr.vars) s.0 h))
 
   module _ (keys : List Key) (made : TolledRow → RowEvents → TolledRow) (values : (row : TolledRow) (rest : RowEvents) (v : ℕ) → has_var keys v ≡ true → tolled_value (made row rest) v ≡ tolled_value row v) where
     -- the bindings that are kept
@@ -311,7 +311,7 @@ module _ (docs : Documents) (most : Option ℕ) (one : Within 1 most) (kinds : K
 
     -- the group's list
     abbrev group_list : TolledRow → RowEvents → TolledValue
-    group_list row rest = trees (piece_items docs piece row (collected docs piece (group_behind docs keys stops row rest) (the_end 0)))
+    group_list row rest = trees (piece_items docs piece row (collected docs piece (group_after docs keys stops row rest) (the_end 0)))
 
     -- a group has the values of its keys' variables
     group_values : (row : TolledRow) (rest : RowEvents) (v : ℕ) → has_var keys v ≡ true → tolled_value (group_row docs keys stops piece out row rest) v ≡ tolled_value row v
@@ -338,15 +338,15 @@ module _ (docs : Documents) (most : Option ℕ) (one : Within 1 most) (kinds : K
     group_step = record {
       fits = kept_fits keys (group_row docs keys stops piece out) group_values;
       bound =
-          suffix_distinct (λ row rest. (IsBound docs most kinds f row × EachBinding (IsBound docs most kinds f) rest) × Behind f.profile (costs_of rest))
+          suffix_distinct (λ row rest. (IsBound docs most kinds f row × EachBinding (IsBound docs most kinds f) rest) × After f.profile (costs_of rest))
           (IsBound docs most (with_kind out a_list (kept keys kinds)) group_facts) docs keys (group_row docs keys stops piece out)
           (λ row rest b.
           bound_with docs most (kept keys kinds) f group_facts out a_list [] (group_profile stops f.profile) (group_list row rest) (tolled_restrict keys row) (λ v. refl) (λ v. refl)
-          (group_is docs most one kinds f piece row (group_behind docs keys stops row rest) [] (group_profile stops f.profile) single b.0.0
+          (group_is docs most one kinds f piece row (group_after docs keys stops row rest) [] (group_profile stops f.profile) single b.0.0
           (passing_bound (λ r. same_values (key_values docs keys row) (key_values docs keys r)) stops rest b.0.1)
           (group_fits f.profile stops (λ r. same_values (key_values docs keys row) (key_values docs keys r)) rest b.1))
           (bound_restrict docs most kinds f row keys n b.0.0)) [] es
-          (suffix_both (λ row rest. IsBound docs most kinds f row × EachBinding (IsBound docs most kinds f) rest) (λ row rest. Behind f.profile (costs_of rest)) es
+          (suffix_both (λ row rest. IsBound docs most kinds f row × EachBinding (IsBound docs most kinds f) rest) (λ row rest. After f.profile (costs_of rest)) es
           (suffix_bindings (IsBound docs most kinds f) es known.bound) (suffix_fits f.profile es 0 (subst (FourFit f.profile) (sym (more-zero (costs_of es))) known.fits.0)));
       apart = kept_differ keys (group_row docs keys stops piece out) group_values;
       nodes = nodes_with (kept keys kinds) keys out a_list (nodes_kept kinds keys n) (kept_none kinds keys out fresh);
@@ -384,7 +384,7 @@ module _ (docs : Documents) (most : Option ℕ) (one : Within 1 most) (kinds : K
         leveled = leveled_none docs unbounded all (fits_unbounded (costs_of all));
       }
 
-  -- behind a stage
+  -- after a stage
   pub stage_step : (stage : Stage) → IsStageFit kinds stage → IsStageFresh stage kinds → IsStageWithin most stage f
       → AreAsKnown docs most (stage_kinds stage kinds) (stage_front stage fr).vars (stage_facts stage kinds fr.vars f) (stage_events docs fr.vars stage es)
   stage_step (filters test) fit fresh w = filters_step (λ row. passes docs test (row_node row))

@@ -17,7 +17,7 @@ use Rattle.browse_class.specs.Bound.{IsValue, HasValue, IsBound}
 use Rattle.browse_class.specs.Cheap.{spine, IsCheap, IsCheapBelow, AtMost, IsWithin}
 use Rattle.browse_profile.specs.Costs.{Costs, ends, stop, more, followed, costs_of}
 use Rattle.browse_class.specs.Facts.{Facts, one_item, kind_profile, piece_profile, pieces_from, pieces_profile}
-use Rattle.browse_profile.specs.Fits.{FourFit, Behind}
+use Rattle.browse_profile.specs.Fits.{FourFit, After}
 use Rattle.browse_visit.specs.Layouts.{Layout}
 use Rattle.browse_profile.specs.Profiles.{costless, in_turn}
 use Rattle.plan_core.specs.Beside.{EachBinding}
@@ -32,7 +32,7 @@ spine-dearer : (n : ℕ) (f : Tolled) → spine (dearer n f) ≡ more n (spine f
 spine-dearer n (the_end t) = refl
 spine-dearer n (item t label kids rest) = refl
 
--- one list behind another
+-- one list after another
 pub spine-followed : (f g : Tolled) → spine (tolled_followed f g) ≡ followed (spine f) (spine g)
 spine-followed (the_end t) g = spine-dearer t g
 spine-followed (item t label kids rest) g = ap (stop t) (spine-followed rest g)
@@ -62,14 +62,14 @@ within_most None (Some m) n a w = absurd a
 within_most (Some k) (Some m) n a w = omega (arith, a, w)
 
 -- a list whose profile is within a number is cheap
-cheap_behind : (most : Option ℕ) (p : Profile) → IsWithin most p → (f : Tolled) → Behind p (spine f) → IsCheapBelow most f → IsCheap most f
-cheap_behind most p w (the_end t) h b = within_most p.trail most t w.trail h
-cheap_behind most p w (item t label kids rest) h b = (within_most p.between most t w.between h.0, b.0, cheap_behind most p w rest h.2 b.1)
+cheap_after : (most : Option ℕ) (p : Profile) → IsWithin most p → (f : Tolled) → After p (spine f) → IsCheapBelow most f → IsCheap most f
+cheap_after most p w (the_end t) h b = within_most p.trail most t w.trail h
+cheap_after most p w (item t label kids rest) h b = (within_most p.between most t w.between h.0, b.0, cheap_after most p w rest h.2 b.1)
 
 -- a list whose own tolls and those below its trees are within a bound is cheap
 pub cheap_list : (most : Option ℕ) (p : Profile) → IsWithin most p → (f : Tolled) → FourFit p (spine f) → IsCheapBelow most f → IsCheap most f
 cheap_list most p w (the_end t) h b = within_most p.none most t w.none h.0
-cheap_list most p w (item t label kids rest) h b = (within_most p.lead most t w.lead h.0, b.0, cheap_behind most p w rest h.2 b.1)
+cheap_list most p w (item t label kids rest) h b = (within_most p.lead most t w.lead h.0, b.0, cheap_after most p w rest h.2 b.1)
 
 module _ (docs : Documents) (most : Option ℕ) (one : Within 1 most) (kinds : Kinds) (f : Facts) where
   -- trees below those of a value
@@ -135,7 +135,7 @@ module _ (docs : Documents) (most : Option ℕ) (one : Within 1 most) (kinds : K
   followed_end (ends t) = let e : t + 0 ≡ t = omega arith in ap ends e
   followed_end (stop t c) = ap (stop t) (followed_end c)
 
-  -- pieces behind what is before
+  -- pieces after what is before
   pieces_fit : (pieces : List Piece) (row : TolledRow) (before : Profile) (c : Costs) → AllByRecursion (IsPiece kinds) pieces → IsBound docs most kinds f row → FourFit before c
       → FourFit (pieces_from before kinds f.lists pieces) (followed c (spine (all_items docs pieces row (the_end 0))))
   pieces_fit [] row before c h b k = subst (FourFit before) (sym (followed_end c)) k

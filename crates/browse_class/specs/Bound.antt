@@ -25,7 +25,7 @@ IsValue docs most a_list gs p (of_source n) = ⊥
 IsValue docs most a_list gs p (element label kids) = ⊥
 IsValue docs most a_list gs p (trees f) = FourFit p (spine f) × IsCheapBelow most f
 
--- a binding has a value of the kind, whatever stands behind it, or none
+-- a binding has a value of the kind, whatever stands after it, or none
 abbrev pub HasValue : Documents → Option ℕ → Option Kind → List Layout → Profile → TolledRow → TolledRow → ℕ → Type 0
 HasValue docs most None gs p row more v = tolled_value (row ++ more) v ≡ tolled_value more v
 HasValue docs most (Some k) gs p row more v = (tolled_value (row ++ more) v ≡ tolled_value row v) × IsValue docs most k gs p (tolled_value row v)

@@ -5,7 +5,7 @@ use Rattle.plan_core.specs.Events.{events, tolled_document}
 use Rattle.plan_core.specs.Fronts.{front}
 use Rattle.plan_core.specs.Plans.{Operator, PlanValue}
 use Rattle.plan_core.specs.Shapes.{Made, a_list_of, an_element_of, Stage, filters, extends, first_by_keys, one_group, in_order, Shape, one_source, visits_below, pairs_up, passes_on, no_events, shape_of}
-use Rattle.plan_core.specs.Tolled.{tolled_at, toll, trees_below, trees_behind}
+use Rattle.plan_core.specs.Tolled.{tolled_at, toll, trees_below, trees_after}
 use Rattle.plan_core.specs.Valid.{kinds, IsValid}
 use Rattle.browse_profile.specs.Bounds.{larger}
 use Rattle.browse_profile.specs.Profiles.{greatest}
@@ -20,7 +20,7 @@ abbrev pub made_bound : Made → Facts → Option ℕ
 made_bound (a_list_of pieces) f = Some 0
 made_bound (an_element_of label list) f = greatest (f.lists list)
 
--- so behind a stage
+-- so after a stage
 abbrev pub stage_bound : Stage → Facts → Option ℕ
 stage_bound (filters test) f = Some 0
 stage_bound (extends out made) f = made_bound made f
@@ -78,7 +78,7 @@ sorts_any (op ∷ ops) = op_sorts op || sorts_any ops
 abbrev pub AllTollsWithin : ℕ → Documents → List Operator → Type 0
 AllTollsWithin most docs ops =
     (place : List ℕ)
-    → (toll (trees_below (tolled_at (tolled_document docs ops) place)) ≤ most) × (toll (trees_behind (tolled_at (tolled_document docs ops) place)) ≤ most)
+    → (toll (trees_below (tolled_at (tolled_document docs ops) place)) ≤ most) × (toll (trees_after (tolled_at (tolled_document docs ops) place)) ≤ most)
 
 -- the class by the constant
 abbrev pub class_by : Option ℕ → Class

@@ -41,7 +41,7 @@ of_side (Some k) a b = a
 abbrev pub no_facts : Facts
 no_facts = record { profile = costless; layouts = λ v. []; lists = λ v. costless; keys = []; levels = with_zero costless (λ j. unbounded) }
 
--- the visit along a path below such nodes, behind the skip for its start
+-- the visit along a path below such nodes, after the skip for its start
 abbrev pub visit_below : Form → List Layout → Profile
 visit_below path gs = in_turn one_skip (path_profile path gs)
 
@@ -89,7 +89,7 @@ piece_profile kinds lists (label_piece v) = one_item
 piece_profile kinds lists (text_piece label) = one_item
 piece_profile kinds lists (var_piece v) = kind_profile (kinds v) (lists v)
 
--- the trees of the pieces, one after another, behind others
+-- the trees of the pieces, one after another, after others
 abbrev pub pieces_from : Profile → Kinds → (ℕ → Profile) → List Piece → Profile
 pieces_from before kinds lists [] = before
 pieces_from before kinds lists (p ∷ pieces) = pieces_from (in_turn before (piece_profile kinds lists p)) kinds lists pieces
@@ -108,7 +108,7 @@ abbrev pub kept_facts : List Key → List ℕ → Facts → (ℕ → List Layout
 kept_facts keys vars f layouts lists =
     record { profile = distinct_profile keys vars f; layouts = layouts; lists = lists; keys = keys; levels = with_zero (distinct_profile keys vars f) f.levels }
 
--- behind a stage, over events with a front of these variables
+-- after a stage, over events with a front of these variables
 abbrev pub stage_facts : Stage → Kinds → List ℕ → Facts → Facts
 stage_facts (filters test) kinds vars f =
     record { profile = passed f.profile; layouts = f.layouts; lists = f.lists; keys = f.keys; levels = with_zero (passed f.profile) (λ j. own_level (passed f.profile)) }

@@ -15,7 +15,7 @@ use Rattle.browse_profile.proofs.Repeating as repeating
 use Rattle.browse_profile.proofs.Replaced as replacing
 use Rattle.browse_profile.proofs.Totals.{total-followed, within_replaced, four_once}
 
--- one list behind another fits their profiles in turn
+-- one list after another fits their profiles in turn
 pub fits_in_turn : (a b : Profile) (c d : Costs) → Fits a c → Fits b d → Fits (in_turn a b) (followed c d)
 fits_in_turn a b c d h k =
     (following.fits_in_turn a b c d h.0 k.0, subst (λ (n : ℕ). Within n (sum a.all b.all)) (sym (total-followed c d)) (within_sum a.all b.all (total c) (total d) h.1 k.1))
@@ -39,7 +39,7 @@ repeated_all a n = elim a.sure as (λ w. Within n (cond w (repeated_sure a) unbo
 pub fits_repeated_none : (a : Profile) → Fits (repeated a) (ends 0)
 fits_repeated_none a = (repeating.fits_repeated_none a, repeated_all a 0)
 
--- so is one more in front of any number
+-- so is one more before any number
 pub fits_repeated_more : (a : Profile) (c d : Costs) → Fits a c → Fits (repeated a) d → Fits (repeated a) (followed c d)
 fits_repeated_more a c d h k = (repeating.fits_repeated_more a c d h.0 k.0, repeated_all a (total (followed c d)))
 

@@ -6,10 +6,10 @@ use Rattle.browse_profile.specs.declared.profile.Most.{Most}
 use Rattle.browse_profile.specs.declared.profile.Most.TheVariants.{Never, Once, Many}
 use Rattle.browse_profile.specs.Bounds.{Within, sum}
 use Rattle.browse_profile.specs.Costs.{Costs, ends, stop, more, followed}
-use Rattle.browse_profile.specs.Fits.{Behind, FourFit}
+use Rattle.browse_profile.specs.Fits.{After, FourFit}
 use Rattle.browse_profile.specs.Profiles.{may, many, greater, unbounded, with_all, one_of, repeated_sure, repeated}
 use Rattle.browse_profile.proofs.Bounding.{within_less, within_left, within_right, within_sum}
-use Rattle.browse_profile.proofs.Following.{fits_looser, behind_followed}
+use Rattle.browse_profile.proofs.Following.{fits_looser, after_followed}
 
 many_greater_left : (a b : Most) → many a ≡ true → many (greater a b) ≡ true
 many_greater_left Never b h = cc
@@ -60,14 +60,14 @@ fits_second a b c h =
     (λ n v. within_right a.lead b.lead n v) (λ n v. within_right a.none b.none n v) (and_right a.sure b.sure) (may_greater_right a.most b.most) c h
 
 -- where nothing is known, all fits
-pub behind_unbounded : (c : Costs) → Behind unbounded c
-behind_unbounded (ends t) = tt
-behind_unbounded (stop t c) = (tt, refl, behind_unbounded c)
+pub after_unbounded : (c : Costs) → After unbounded c
+after_unbounded (ends t) = tt
+after_unbounded (stop t c) = (tt, refl, after_unbounded c)
 
 -- every list fits where nothing is known
 pub fits_unbounded : (c : Costs) → FourFit unbounded c
 fits_unbounded (ends t) = (tt, refl)
-fits_unbounded (stop t c) = (tt, refl, behind_unbounded c)
+fits_unbounded (stop t c) = (tt, refl, after_unbounded c)
 
 -- another cost of all
 pub four_with_all : (x : Option ℕ) (p : Profile) (c : Costs) → FourFit p c → FourFit (with_all x p) c
@@ -80,14 +80,14 @@ fits_repeated_none a = elim a.sure as (λ w. FourFit (cond w (repeated_sure a) u
 
 -- one list more, where it has a stop
 module _ (a : Profile) where
-  again : (d : Costs) → FourFit (repeated_sure a) d → (k : ℕ) → Within k a.trail → Behind (repeated_sure a) (more k d)
+  again : (d : Costs) → FourFit (repeated_sure a) d → (k : ℕ) → Within k a.trail → After (repeated_sure a) (more k d)
   again (ends u) h k w = let e : k + u ≤ k = omega (arith, h.0) in within_less a.trail (k + u) k e w
   again (stop u d) h k w = (within_right a.between (sum a.trail a.lead) (k + u) (within_sum a.trail a.lead k u w h.0), refl, h.2)
 
   more_sure : a.sure ≡ true → (c d : Costs) → FourFit a c → FourFit (repeated_sure a) d → FourFit (repeated_sure a) (followed c d)
   more_sure s (ends t) d h k = absurd (let e : true ≡ false = sym s ∙ h.1 in cc)
   more_sure s (stop t c) d h k =
-      (h.0, refl, behind_followed a (repeated_sure a) (λ n v. within_left a.between (sum a.trail a.lead) n v) (λ m. refl) d (again d k) c h.2)
+      (h.0, refl, after_followed a (repeated_sure a) (λ n v. within_left a.between (sum a.trail a.lead) n v) (λ m. refl) d (again d k) c h.2)
 
   -- one list more
   pub fits_repeated_more : (c d : Costs) → FourFit a c → FourFit (repeated a) d → FourFit (repeated a) (followed c d)

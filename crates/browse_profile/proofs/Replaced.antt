@@ -6,11 +6,11 @@ use Rattle.browse_profile.specs.declared.profile.Most.{Most}
 use Rattle.browse_profile.specs.declared.profile.Most.TheVariants.{Never, Once, Many}
 use Rattle.browse_profile.specs.Bounds.{Within, sum, less_one, only_if}
 use Rattle.browse_profile.specs.Costs.{Costs, ends, stop, more, followed}
-use Rattle.browse_profile.specs.Fits.{Behind, FourFit}
+use Rattle.browse_profile.specs.Fits.{After, FourFit}
 use Rattle.browse_profile.specs.Replacing.{IsReplaced}
 use Rattle.browse_profile.specs.Profiles.{may, many, unbounded, replaced_sure, replaced_once, replaced_by}
 use Rattle.browse_profile.proofs.Bounding.{within_left, within_right, within_sum, within_less_one, within_case}
-use Rattle.browse_profile.proofs.Following.{behind_followed}
+use Rattle.browse_profile.proofs.Following.{after_followed}
 use Rattle.browse_profile.proofs.Repeating.{fits_unbounded}
 
 many_if : (a : Bool) (b : Most) → a ≡ true → many (cond a Many b) ≡ true
@@ -30,15 +30,15 @@ no_both e = cc
 
 -- each list has a stop
 module _ (i p : Profile) (sure : p.sure ≡ true) where
-  inside : (e : Costs) → Behind p e → (d : Costs) → ((k : ℕ) → Within k p.trail → Behind (replaced_sure i p) (more k d)) → Behind (replaced_sure i p) (followed e d)
+  inside : (e : Costs) → After p e → (d : Costs) → ((k : ℕ) → Within k p.trail → After (replaced_sure i p) (more k d)) → After (replaced_sure i p) (followed e d)
   inside e h d rest =
-      behind_followed p (replaced_sure i p) (λ n v. within_left p.between (only_if (many i.most) (sum (sum p.trail (less_one i.between)) p.lead)) n v) (many_else (many i.most) p.most) d rest e h
+      after_followed p (replaced_sure i p) (λ n v. within_left p.between (only_if (many i.most) (sum (sum p.trail (less_one i.between)) p.lead)) n v) (many_else (many i.most) p.most) d rest e h
 
-  -- the first of the lists, behind one before it
-  first_behind : (t u : ℕ) (e r : Costs) → t ≡ suc u → Within t i.between → many i.most ≡ true → FourFit p e → ((k : ℕ) → Within k p.trail → Behind (replaced_sure i p) (more k r))
-      → (k : ℕ) → Within k p.trail → Behind (replaced_sure i p) (more k (more u (followed e r)))
-  first_behind t u (ends v) r same b m f rest k w = absurd (no_both (sym sure ∙ f.1))
-  first_behind t u (stop v e) r same b m f rest k w =
+  -- the first of the lists, after one before it
+  first_after : (t u : ℕ) (e r : Costs) → t ≡ suc u → Within t i.between → many i.most ≡ true → FourFit p e → ((k : ℕ) → Within k p.trail → After (replaced_sure i p) (more k r))
+      → (k : ℕ) → Within k p.trail → After (replaced_sure i p) (more k (more u (followed e r)))
+  first_after t u (ends v) r same b m f rest k w = absurd (no_both (sym sure ∙ f.1))
+  first_after t u (stop v e) r same b m f rest k w =
       let n : k + u + v ≡ k + (u + v) = omega arith in (
         subst (λ (z : ℕ). Within z (replaced_sure i p).between) n
             (within_right p.between (only_if (many i.most) (sum (sum p.trail (less_one i.between)) p.lead)) (k + u + v)
@@ -50,13 +50,13 @@ module _ (i p : Profile) (sure : p.sure ≡ true) where
       )
 
   -- what follows a list that stands for a stop
-  rest_fits : (c d : Costs) → Behind i c → IsReplaced (FourFit p) c d → (k : ℕ) → Within k p.trail → Behind (replaced_sure i p) (more k d)
-  rest_fits (ends t) d h r k w = subst (λ (x : Costs). Behind (replaced_sure i p) (more k x)) (sym r) (within_sum p.trail i.trail k t w h)
+  rest_fits : (c d : Costs) → After i c → IsReplaced (FourFit p) c d → (k : ℕ) → Within k p.trail → After (replaced_sure i p) (more k d)
+  rest_fits (ends t) d h r k w = subst (λ (x : Costs). After (replaced_sure i p) (more k x)) (sym r) (within_sum p.trail i.trail k t w h)
   rest_fits (stop t c) d h (u, e, r, same, f, next, is) k w =
-      subst (λ (x : Costs). Behind (replaced_sure i p) (more k x)) (sym is) (first_behind t u e r same h.0 h.1 f (rest_fits c r h.2 next) k w)
+      subst (λ (x : Costs). After (replaced_sure i p) (more k x)) (sym is) (first_after t u e r same h.0 h.1 f (rest_fits c r h.2 next) k w)
 
   -- the first of all
-  first_of_all : (t u : ℕ) (e r : Costs) → t ≡ suc u → Within t i.lead → FourFit p e → ((k : ℕ) → Within k p.trail → Behind (replaced_sure i p) (more k r)) → FourFit (replaced_sure i p) (more u (followed e r))
+  first_of_all : (t u : ℕ) (e r : Costs) → t ≡ suc u → Within t i.lead → FourFit p e → ((k : ℕ) → Within k p.trail → After (replaced_sure i p) (more k r)) → FourFit (replaced_sure i p) (more u (followed e r))
   first_of_all t u (ends v) r same b f rest = absurd (no_both (sym sure ∙ f.1))
   first_of_all t u (stop v e) r same b f rest = (
     within_sum (less_one i.lead) p.lead u v (within_less_one i.lead u (subst (λ (z : ℕ). Within z i.lead) same b)) f.0,
@@ -71,7 +71,7 @@ module _ (i p : Profile) (sure : p.sure ≡ true) where
 
 -- the one list may have no stop
 module _ (i p : Profile) (once : many i.most ≡ false) where
-  last_alone : (c d : Costs) → Behind i c → IsReplaced (FourFit p) c d → (w : ℕ) × (d ≡ ends w) × Within w i.trail
+  last_alone : (c d : Costs) → After i c → IsReplaced (FourFit p) c d → (w : ℕ) × (d ≡ ends w) × Within w i.trail
   last_alone (ends t) d h r = (t, r, h)
   last_alone (stop t c) d h r = absurd (no_both (sym h.1 ∙ once))
 
@@ -88,7 +88,7 @@ module _ (i p : Profile) (once : many i.most ≡ false) where
     within_case (may p.most) (sum (less_one i.lead) p.lead) (u + v) f.1
         (within_sum (less_one i.lead) p.lead u v (within_less_one i.lead u (subst (λ (z : ℕ). Within z i.lead) same b)) f.0),
     f.1,
-    behind_followed p (replaced_once i p) (λ n v. v) (λ m. m) (ends w) (λ k v. within_case (may p.most) (sum p.trail i.trail) (k + w) f.1 (within_sum p.trail i.trail k w v l)) e f.2,
+    after_followed p (replaced_once i p) (λ n v. v) (λ m. m) (ends w) (λ k v. within_case (may p.most) (sum p.trail i.trail) (k + w) f.1 (within_sum p.trail i.trail k w v l)) e f.2,
   )
 
   once_fits : (c d : Costs) → FourFit i c → IsReplaced (FourFit p) c d → FourFit (replaced_once i p) d

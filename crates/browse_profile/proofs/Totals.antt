@@ -6,7 +6,7 @@ use Rattle.mix_base.specs.Events.{Event, skip, bind}
 use Rattle.browse_profile.specs.declared.profile.Profile.{Profile}
 use Rattle.browse_profile.specs.Bounds.{Within, times, all_replaced}
 use Rattle.browse_profile.specs.Costs.{Costs, ends, stop, more, followed, costs_of, total, first_only}
-use Rattle.browse_profile.specs.Fits.{FourFit, Behind}
+use Rattle.browse_profile.specs.Fits.{FourFit, After}
 use Rattle.browse_profile.specs.Profiles.{many, once_of_many, once}
 use Rattle.browse_profile.specs.Replacing.{IsReplaced}
 use Rattle.browse_profile.proofs.Bounding.{within_less, within_less_one, within_capped}
@@ -17,7 +17,7 @@ pub total-more : (n : ℕ) (c : Costs) → total (more n c) ≡ n + total c
 total-more n (ends t) = refl
 total-more n (stop t c) = omega arith
 
--- one list behind another costs what both do
+-- one list after another costs what both do
 pub total-followed : (c d : Costs) → total (followed c d) ≡ total c + total d
 total-followed (ends t) d = total-more t d
 total-followed (stop t c) d = (let h = total-followed c d in omega (arith, h))
@@ -60,9 +60,9 @@ pub first_only-more : (n : ℕ) (c : Costs) → first_only (more n c) ≡ more n
 first_only-more n (ends t) = refl
 first_only-more n (stop t c) = refl
 
-once_behind : (p : Profile) → many p.most ≡ false → (t : ℕ) (c : Costs) → Behind p c → Behind p (ends (total c))
-once_behind p o t (ends u) h = h
-once_behind p o t (stop u c) h = (let e : true ≡ false = sym h.1 ∙ o in cc)
+once_after : (p : Profile) → many p.most ≡ false → (t : ℕ) (c : Costs) → After p c → After p (ends (total c))
+once_after p o t (ends u) h = h
+once_after p o t (stop u c) h = (let e : true ≡ false = sym h.1 ∙ o in cc)
 
 -- events of which the first binding alone counts
 fits_once_at : {B : Type 0} (p : Profile) (n : ℕ) (es : List (Event B)) → FourFit p (more n (costs_of es)) → Within (total (more n (costs_of es))) p.all → FourFit (once p) (first_only (more n (costs_of es)))
@@ -75,7 +75,7 @@ fits_once_at p n (bind b ∷ es) h w =
       | true ↦ λ e.
           (let s : suc (total (costs_of es)) ≤ n + 1 + total (costs_of es) = omega arith in
           (h.0, refl, within_less_one p.all (total (costs_of es)) (within_less p.all (suc (total (costs_of es))) (n + 1 + total (costs_of es)) s w)))
-      | false ↦ λ e. (h.0, h.1, once_behind p e n (costs_of es) h.2)
+      | false ↦ λ e. (h.0, h.1, once_after p e n (costs_of es) h.2)
     ]) refl
 
 -- a list with its first stop alone fits the profile of that stop, but for the cost of all

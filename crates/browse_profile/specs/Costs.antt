@@ -2,17 +2,17 @@
 use Rattle.std.specs.Prelude.{ℕ, ◌+◌, List, [], ◌∷◌}
 use Rattle.mix_base.specs.Events.{Event, skip, bind}
 
--- the cost to learn that the list ends; or the cost to reach its first stop, and those behind it
+-- the cost to learn that the list ends; or the cost to reach its first stop, and those after it
 pub data Costs : Type 0 where
   ends : (cost : ℕ) → Costs
   stop : (cost : ℕ) → (rest : Costs) → Costs
 
--- the same stops behind a further cost
+-- the same stops after a further cost
 abbrev pub more : ℕ → Costs → Costs
 more n (ends t) = ends (n + t)
 more n (stop t c) = stop (n + t) c
 
--- one list behind another: what it costs to leave the first is paid on the way to the second
+-- one list after another: what it costs to leave the first is paid on the way to the second
 abbrev pub followed : Costs → Costs → Costs
 followed (ends t) d = more t d
 followed (stop t c) d = stop t (followed c d)

@@ -17,7 +17,7 @@ many Never = false
 many Once = false
 many Many = true
 
--- of one list behind another
+-- of one list after another
 abbrev pub added : Most → Most → Most
 added Never m = m
 added Once Never = Once

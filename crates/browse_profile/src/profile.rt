@@ -12,7 +12,7 @@ pub enum Most {
     Many,
 }
 
-/// Bounds on the costs of a list, each a number or none: to its first stop, from one to the next, behind the last, and of a list
+/// Bounds on the costs of a list, each a number or none: to its first stop, from one to the next, after the last, and of a list
 /// without any.
 #[derive(Clone, Copy)]
 pub struct Profile {
@@ -40,7 +40,7 @@ impl Most {
         matches!(self, Most::Many)
     }
 
-    /// Of one list behind another.
+    /// Of one list after another.
     pub fn added(self, other: Most) -> Most
         ensures { result ≡ added self other }
     {

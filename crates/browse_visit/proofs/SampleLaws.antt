@@ -72,10 +72,10 @@ are_samples t l =
     let other : List ℕ = other_label (written t.labels) in
     elim (is_written t.labels l) [
       | inl a ↦ (l, among_left (written t.labels) (other ∷ []) l a, λ q. refl)
-      | inr h ↦ (other, among_right (written t.labels) (other ∷ []) other (inl refl), λ q. step_alike t.labels t.behind 0 q l other (alike_other t.labels l h))
+      | inr h ↦ (other, among_right (written t.labels) (other ∷ []) other (inl refl), λ q. step_alike t.labels t.after 0 q l other (alike_other t.labels l h))
     ]
 
--- those of one list of tests behind another
+-- those of one list of tests after another
 pub written_append : (a b : List (Option (List ℕ))) → written (a ++ b) ≡ written a ++ written b
 written_append [] b = refl
 written_append (None ∷ a) b = written_append a b

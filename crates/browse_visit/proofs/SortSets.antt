@@ -207,7 +207,7 @@ module _ (shape : Shape) where
               | inr b ↦ elim (among_cases ys zs g b) [ inl c ↦ among_left (xs ++ ys) zs g (among_right xs ys g c) | inr c ↦ among_right (xs ++ ys) zs g c ]
             ]
 
-    -- behind it nothing
+    -- after it nothing
     set_last : (k : Sorts) (xs ys : List Layout) → IsSet shape k (xs ++ ys) → IsSet shape k (xs ++ (ys ++ []))
     set_last k xs ys s =
         set_same k (xs ++ ys) (xs ++ (ys ++ [])) s
@@ -288,7 +288,7 @@ module _ (shape : Shape) where
     abbrev visit : Layout → Profile
     visit g = visit_profile m labels m.start g
 
-    -- any of them, behind others
+    -- any of them, after others
     abbrev any_from : Option Profile → List Layout → Profile
     any_from None gs = any_of visit gs
     any_from (Some a) [] = a

@@ -4,7 +4,7 @@ use Rattle.mix_base.specs.Events.{Event, skip, bind}
 use Rattle.mix_tree.specs.Forest.{Forest, none, tree}
 use Rattle.mix_tree.specs.Place.{child_place}
 use Rattle.path_auto.specs.Automaton.{Machine}
-use Rattle.path_auto.specs.Visit.{visit, place_behind}
+use Rattle.path_auto.specs.Visit.{visit, place_after}
 use Rattle.browse_profile.specs.declared.profile.Profile.{Profile}
 use Rattle.browse_profile.specs.Costs.{Costs, ends, followed, costs_of}
 use Rattle.browse_profile.specs.Fits.{Fits}
@@ -35,26 +35,26 @@ module _ (m : Machine) (labels : List (List ℕ)) (samples : AreSamples m labels
         | false ↦ own_fits q at
       ]
 
-  -- a visit, its first tree and those behind it
+  -- a visit, its first tree and those after it
   tree_costs : (q : ℕ) (at label : List ℕ) (kids rest : Forest)
-      → costs_of (visit m q at (tree label kids rest)) ≡ followed (costs_of (here (m.step q label) at kids)) (costs_of (visit m q (place_behind at) rest))
-  tree_costs q at label kids rest = costs-append (here (m.step q label) at kids) (visit m q (place_behind at) rest)
+      → costs_of (visit m q at (tree label kids rest)) ≡ followed (costs_of (here (m.step q label) at kids)) (costs_of (visit m q (place_after at) rest))
+  tree_costs q at label kids rest = costs-append (here (m.step q label) at kids) (visit m q (place_after at) rest)
 
   no_trees_fit : (q : ℕ) (at : List ℕ) (f : Forest) → IsNone f → Fits one_skip (costs_of (visit m q at f))
   no_trees_fit q at none h = ((omega arith, refl), omega arith)
   no_trees_fit q at (tree label kids rest) h = absurd h
 
-  tree_then : (q : ℕ) (at label : List ℕ) (kids rest : Forest) (a b : Profile) → Fits a (costs_of (here (m.step q label) at kids)) → Fits b (costs_of (visit m q (place_behind at) rest))
+  tree_then : (q : ℕ) (at label : List ℕ) (kids rest : Forest) (a b : Profile) → Fits a (costs_of (here (m.step q label) at kids)) → Fits b (costs_of (visit m q (place_after at) rest))
       → Fits (in_turn a b) (costs_of (visit m q at (tree label kids rest)))
   tree_then q at label kids rest a b h k =
-      subst (Fits (in_turn a b)) (sym (tree_costs q at label kids rest)) (fits_in_turn a b (costs_of (here (m.step q label) at kids)) (costs_of (visit m q (place_behind at) rest)) h k)
+      subst (Fits (in_turn a b)) (sym (tree_costs q at label kids rest)) (fits_in_turn a b (costs_of (here (m.step q label) at kids)) (costs_of (visit m q (place_after at) rest)) h k)
 
   -- rows: any number of them, and then a skip
   rows_fit : (q : ℕ) (label : List ℕ) (P : Forest → Type 0) (a : Profile) → ((at : List ℕ) (kids : Forest) → P kids → Fits a (costs_of (here (m.step q label) at kids)))
       → (at : List ℕ) (f : Forest) → EachTree label P f → (c : Costs) × Fits (repeated a) c × (costs_of (visit m q at f) ≡ followed c (ends 1))
   rows_fit q label P a each at none h = (ends 0, fits_repeated_none a, refl)
   rows_fit q label P a each at (tree l kids rest) h =
-      let r = rows_fit q label P a each (place_behind at) rest h.2 in
+      let r = rows_fit q label P a each (place_after at) rest h.2 in
       let c : Costs = costs_of (here (m.step q l) at kids) in (
         followed (costs_of (here (m.step q l) at kids)) r.0,
         fits_repeated_more a c r.0 (subst (λ (z : List ℕ). Fits a (costs_of (here (m.step q z) at kids))) (sym h.0) (each at kids h.1)) r.1,
@@ -80,10 +80,10 @@ module _ (m : Machine) (labels : List (List ℕ)) (samples : AreSamples m labels
       tree_then q at l k r (tree_profile m (m.step q label) (visit_profile m labels (m.step q label) kids)) (visit_profile m labels q rest)
       (subst (λ (z : List ℕ). Fits (tree_profile m (m.step q z) (visit_profile m labels (m.step q z) kids)) (costs_of (here (m.step q l) at k))) h.0
       (here_fits (m.step q l) at k (visit_profile m labels (m.step q l) kids) (visit_fits kids (m.step q l) (child_place at) k h.1)))
-      (visit_fits rest q (place_behind at) r h.2)
+      (visit_fits rest q (place_after at) r h.2)
   visit_fits one_value q at none h = absurd h
   visit_fits one_value q at (tree l k r) h =
-      tree_then q at l k r (any_of (λ l. tree_profile m (m.step q l) one_skip) labels) one_skip (value_fits q at l k h.0) (no_trees_fit q (place_behind at) r h.1)
+      tree_then q at l k r (any_of (λ l. tree_profile m (m.step q l) one_skip) labels) one_skip (value_fits q at l k h.0) (no_trees_fit q (place_after at) r h.1)
   visit_fits (any_rows label kids) q at f h =
       rows_then q (tree_profile m (m.step q label) (visit_profile m labels (m.step q label) kids)) (costs_of (visit m q at f))
       (rows_fit q label (IsLaid kids) (tree_profile m (m.step q label) (visit_profile m labels (m.step q label) kids))

@@ -5,11 +5,11 @@ use Rattle.std.specs.List.{flat_map, list_any}
 use Rattle.mix_base.specs.Ascents.{Among}
 use Rattle.mix_base.proofs.Ascents.{among_left, among_right, among_cases}
 use Rattle.mix_base.specs.Events.{Event, skip, bind}
-use Rattle.mix_tree.specs.Forest.{Forest, none, tree, first_kids, from, behind}
+use Rattle.mix_tree.specs.Forest.{Forest, none, tree, first_kids, from, after_first}
 use Rattle.mix_tree.specs.Place.{trees_at, child_place, next_place}
 use Rattle.mix_tree.proofs.Places.{trees_at-append, trees_at-child}
 use Rattle.path_auto.specs.Automaton.{Machine}
-use Rattle.path_auto.specs.Visit.{visit, place_behind}
+use Rattle.path_auto.specs.Visit.{visit, place_after}
 use Rattle.browse_visit.specs.Layouts.{Layout, no_trees, a_tree, one_value, any_rows, either, any_trees, IsLaid, IsNone, EachTree, IsBelow}
 use Rattle.browse_visit.specs.Visits.{AreSamples, layouts_found, layouts_below}
 use Rattle.plan_core.specs.Beside.{EachBinding}
@@ -21,22 +21,22 @@ next_place-push [] k = refl
 next_place-push (x ∷ []) k = refl
 next_place-push (x ∷ y ∷ p) k = ap (option_map (λ q. x ∷ q)) (next_place-push (y ∷ p) k)
 
--- the place behind a child's is that of the next child
-behind_push : (p : List ℕ) (k : ℕ) → place_behind (p ++ k ∷ []) ≡ p ++ (k + 1) ∷ []
-behind_push p k = ap (λ o. unwrap_or o (p ++ k ∷ [])) (next_place-push p k)
+-- the place after a child's is that of the next child
+after_push : (p : List ℕ) (k : ℕ) → place_after (p ++ k ∷ []) ≡ p ++ (k + 1) ∷ []
+after_push p k = ap (λ o. unwrap_or o (p ++ k ∷ [])) (next_place-push p k)
 
-from_behind : (k : ℕ) (f : Forest) → from k (behind f) ≡ behind (from k f)
-from_behind zero f = refl
-from_behind (suc k) f = from_behind k (behind f)
+from_after : (k : ℕ) (f : Forest) → from k (after_first f) ≡ after_first (from k f)
+from_after zero f = refl
+from_after (suc k) f = from_after k (after_first f)
 
--- the trees there are those behind
-trees_next : (whole : Forest) (p : List ℕ) (k : ℕ) → trees_at whole (p ++ (k + 1) ∷ []) ≡ behind (trees_at whole (p ++ k ∷ []))
+-- the trees there are those after
+trees_next : (whole : Forest) (p : List ℕ) (k : ℕ) → trees_at whole (p ++ (k + 1) ∷ []) ≡ after_first (trees_at whole (p ++ k ∷ []))
 trees_next whole p k =
     let e : k + 1 ≡ suc k = omega arith in
     trees_at-append whole p ((k + 1) ∷ [])
     ∙ ap (λ (n : ℕ). from n (first_kids (trees_at whole p))) e
-    ∙ from_behind k (first_kids (trees_at whole p))
-    ∙ ap behind (sym (trees_at-append whole p (k ∷ [])))
+    ∙ from_after k (first_kids (trees_at whole p))
+    ∙ ap after_first (sym (trees_at-append whole p (k ∷ [])))
 
 -- of a list that is taken or not
 among_taken : (a : Bool) (g : Layout) → IsTrue a → Among g (cond a (g ∷ []) [])
@@ -90,7 +90,7 @@ module _ (m : Machine) (labels : List (List ℕ)) (samples : AreSamples m labels
       let there : EachBinding (BelowPlace gs) (visit m q ((p ++ k ∷ []) ++ 0 ∷ []) kids) = h (trees_at-child whole (p ++ k ∷ []) ∙ ap first_kids at) in
       elim (m.goes_on q) as (λ w. EachBinding (BelowPlace (cond w gs [])) (cond w (visit m q (child_place (p ++ k ∷ [])) kids) [])) [ true ↦ there | false ↦ tt ]
 
-  -- a child, what is below it, and what is behind it
+  -- a child, what is below it, and what is after it
   tree_kinds : (q : ℕ) (p : List ℕ) (k : ℕ) (label : List ℕ) (kids rest : Forest) (own deep later : List Layout) → trees_at whole (p ++ k ∷ []) ≡ tree label kids rest
       → (IsTrue (m.accepts (m.step q label)) → IsBelow own kids)
       → ((trees_at whole ((p ++ k ∷ []) ++ 0 ∷ []) ≡ kids) → EachBinding (BelowPlace deep) (visit m (m.step q label) ((p ++ k ∷ []) ++ 0 ∷ []) kids))
@@ -101,13 +101,13 @@ module _ (m : Machine) (labels : List (List ℕ)) (samples : AreSamples m labels
       let gs : List Layout = own ++ (cond (m.goes_on (m.step q label)) deep [] ++ later) in
       let here : List (Event (List ℕ)) = cond (m.accepts (m.step q label)) (bind (p ++ k ∷ [])) skip ∷ [] in
       let down : List (Event (List ℕ)) = cond (m.goes_on (m.step q label)) (visit m (m.step q label) (child_place (p ++ k ∷ [])) kids) [] in
-      binding_append (BelowPlace gs) here (down ++ visit m q (place_behind (p ++ k ∷ [])) rest)
+      binding_append (BelowPlace gs) here (down ++ visit m q (place_after (p ++ k ∷ [])) rest)
       (binding_weaker (BelowPlace own) (BelowPlace gs) (λ x b. below_left own (taken ++ later) x b) here (own_kinds (m.step q label) p k label kids rest own at h))
-      (binding_append (BelowPlace gs) down (visit m q (place_behind (p ++ k ∷ [])) rest)
+      (binding_append (BelowPlace gs) down (visit m q (place_after (p ++ k ∷ [])) rest)
       (binding_weaker (BelowPlace taken) (BelowPlace gs) (λ x b. below_right own (taken ++ later) x (below_left taken later x b)) down (deep_kinds (m.step q label) p k label kids rest deep at d))
-      (subst (λ (z : List ℕ). EachBinding (BelowPlace gs) (visit m q z rest)) (sym (behind_push p k))
+      (subst (λ (z : List ℕ). EachBinding (BelowPlace gs) (visit m q z rest)) (sym (after_push p k))
       (binding_weaker (BelowPlace later) (BelowPlace gs) (λ x b. below_right own (taken ++ later) x (below_right taken later x b)) (visit m q (p ++ (k + 1) ∷ []) rest)
-      (l (trees_next whole p k ∙ ap behind at)))))
+      (l (trees_next whole p k ∙ ap after_first at)))))
 
   nothing_found : (q : ℕ) (gs : List Layout) (at : List ℕ) (f : Forest) → IsNone f → EachBinding (BelowPlace gs) (visit m q at f)
   nothing_found q gs at none h = tt

@@ -51,7 +51,7 @@ sort_found m labels shape MaybeValue = value_found m labels m.start
 sort_found m labels shape Leaf = no_sorts
 sort_found m labels shape Anything = only Anything
 
--- below nodes of a set, behind others
+-- below nodes of a set, after others
 abbrev pub found_from : Machine → List (List ℕ) → Shape → Sorts → Sorts → List Sort → Sorts
 found_from m labels shape k before [] = before
 found_from m labels shape k before (s ∷ ss) = found_from m labels shape k (both before (if_taken (has_sort k s) (sort_found m labels shape s))) ss
@@ -78,7 +78,7 @@ the_profile (Some p) = p
 abbrev pub sort_profile : Machine → List (List ℕ) → Shape → Sort → Profile
 sort_profile m labels shape s = visit_profile m labels m.start (sort_layout shape s)
 
--- those of a set, behind others
+-- those of a set, after others
 abbrev pub profiles_from : Machine → List (List ℕ) → Shape → Sorts → Option Profile → List Sort → Option Profile
 profiles_from m labels shape k found [] = found
 profiles_from m labels shape k found (s ∷ ss) = profiles_from m labels shape k (with_profile found (has_sort k s) (sort_profile m labels shape s)) ss

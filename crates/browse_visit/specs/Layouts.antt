@@ -4,7 +4,7 @@ use Rattle.mix_base.specs.Ascents.{Among}
 use Rattle.mix_tree.specs.Forest.{Forest, none, tree}
 use Rattle.mix_tree.specs.Nodes.{Documents, Node, kids_at}
 
--- a layout: no trees; a tree of a label with trees below it, and trees behind it; one leaf of any label; any number of trees of a
+-- a layout: no trees; a tree of a label with trees below it, and trees after it; one leaf of any label; any number of trees of a
 -- label with trees below each; either of two; any trees
 pub data Layout : Type 0 where
   no_trees : Layout
@@ -24,7 +24,7 @@ abbrev pub IsNone : Forest → Type 0
 IsNone none = Unit {0}
 IsNone (tree label kids rest) = ⊥
 
--- the first tree has this label, below it and behind it is what is said
+-- the first tree has this label, below it and after it is what is said
 abbrev pub HasFirst : List ℕ → (Forest → Type 0) → (Forest → Type 0) → Forest → Type 0
 HasFirst label below rest none = ⊥
 HasFirst label below rest (tree l kids later) = (l ≡ label) × below kids × rest later

@@ -7,7 +7,7 @@ written [] = []
 written (None ∷ ts) = written ts
 written (Some l ∷ ts) = l ∷ written ts
 
--- labels, one behind another
+-- labels, one after another
 abbrev pub all_bytes : List (List ℕ) → List ℕ
 all_bytes [] = []
 all_bytes (l ∷ ls) = l ++ all_bytes ls

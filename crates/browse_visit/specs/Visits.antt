@@ -15,7 +15,7 @@ AreSamples m labels = (l : List ℕ) → (x : List ℕ) × Among x labels × ((q
 abbrev pub own_profile : Machine → ℕ → Profile
 own_profile m q = cond (m.accepts q) one_binding one_skip
 
--- the events at a tree, the states behind its label, and below it
+-- the events at a tree, the states after its label, and below it
 abbrev pub tree_profile : Machine → ℕ → Profile → Profile
 tree_profile m q below = cond (m.goes_on q) (in_turn (own_profile m q) below) (own_profile m q)
 

@@ -92,7 +92,7 @@ fn columns_found(automaton: &Auto, labels: &[Label], states: StateSet, shape: &S
     }
 }
 
-// The states behind the name of a shape.
+// The states after the name of a shape.
 fn name_step(automaton: &Auto, row: &Label, states: StateSet, shape: &Shape) -> StateSet
     requires { row.now ≡ row_label }
     ensures { result ≡ (machine_of automaton.now).step states (name_of shape.now) }

@@ -9,7 +9,7 @@ use path_expr::{Node, Path};
 use std::alloc::{AllocError, Global};
 use std::str;
 
-// Writes a label's text behind others.
+// Writes a label's text after others.
 fn push_text(all: &mut String, label: &Label) -> Result<(), AllocError>
     ensures { OnOk result (string_bytes all.new ≡ string_bytes all.old ++ label.now) }
 {
@@ -19,7 +19,7 @@ fn push_text(all: &mut String, label: &Label) -> Result<(), AllocError>
     }
 }
 
-// Puts the labels that a path writes behind others.
+// Puts the labels that a path writes after others.
 #[cycle(names)]
 #[tactic(auto, using(crate::proofs::SampleLaws::names_alone))]
 fn push_names(alloc: Global, path: &Path, labels: &mut Vec<Label>) -> Result<(), AllocError>

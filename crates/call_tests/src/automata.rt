@@ -6,7 +6,7 @@ use path_expr::{Node, Path, PathFault, read_path};
 use std::alloc::Global;
 use std::test::Fail;
 
-// What the automaton of a path tells behind labels of one byte each: whether the path describes them, and whether it
+// What the automaton of a path tells after labels of one byte each: whether the path describes them, and whether it
 // describes some longer list.
 fn told(alloc: Global, path: &[u8], labels: &[u8]) -> Result<(bool, bool), PathFault> {
     let path = read_path(alloc, path)?;

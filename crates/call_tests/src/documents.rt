@@ -24,7 +24,7 @@ pub fn source(alloc: Global, text: &str) -> Result<MemSources, Fail>
     Ok(MemSources::new(alloc, docs, Vec::new(alloc), Vec::new(alloc), true)?)
 }
 
-/// Labels, one behind another.
+/// Labels, one after another.
 pub fn joined(alloc: Global, labels: &[Label]) -> Result<Vec<u8>, AllocError> {
     let mut out = Vec::new(alloc);
     for label in labels {

@@ -42,7 +42,7 @@ fn kept(alloc: Global, input: u32, first: u32, second: u32) -> Result<Op, AllocE
     })
 }
 
-// A join of the nodes of the first source with those of another side, whose numbers are these; behind it what is below the other side's nodes, the groups of
+// A join of the nodes of the first source with those of another side, whose numbers are these; after it what is below the other side's nodes, the groups of
 // that by two pairs of nodes, and the join's bindings with both nodes alone.
 fn over_join(
     alloc: Global,

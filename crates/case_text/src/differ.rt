@@ -18,7 +18,7 @@ fn push_piece(alloc: Global, text: &mut String, line: &[u8]) -> Result<(), Fault
         return Ok(());
     }
     let (mark, line) = match line {
-        [front @ .., b'\n'] => ("|", front),
+        [prefix @ .., b'\n'] => ("|", prefix),
         _ => ("'", line),
     };
     text.push_str(mark)?;

@@ -6,11 +6,11 @@ use crate::part::{Part, has_part, is_head};
 #[derive(Clone, Copy, PartialEq, Eq)]
 pub enum Shape {
     Nothing,
-    /// Words behind it.
+    /// Words after it.
     Words,
     /// Pieces that follow.
     Pieces,
-    /// Words behind it, and pieces that follow.
+    /// Words after it, and pieces that follow.
     WordsAndPieces,
 }
 
@@ -18,7 +18,7 @@ pub enum Shape {
 #[derive(Clone, Copy, PartialEq, Eq)]
 pub enum Times {
     Once,
-    /// Once with the same words behind it.
+    /// Once with the same words after it.
     OnceEach,
     Often,
 }
@@ -49,7 +49,7 @@ fn is_again(part: &Part<'_>, times: Times, before: &[Part<'_>]) -> bool {
     }
 }
 
-// Refuses a part that has none of these forms, behind those before it.
+// Refuses a part that has none of these forms, after those before it.
 fn check_part(part: &Part<'_>, before: &[Part<'_>], forms: &[Form]) -> Result<(), Fault> {
     let Some(Form(_, shape, times)) = forms.iter().find(|form| form.0 == part.word) else {
         return Err(part.wrong(Defect::Word));
@@ -71,7 +71,7 @@ pub fn check_parts(parts: &[Part<'_>], forms: &[Form]) -> Result<(), Fault> {
     Ok(())
 }
 
-// Refuses a part of a text, behind those before it, that no case, setting or text can have.
+// Refuses a part of a text, after those before it, that no case, setting or text can have.
 fn check_place(part: &Part<'_>, before: &[Part<'_>]) -> Result<(), Fault> {
     if is_head(part.word) {
         if part.rest.is_empty() || has_part(before, part.word, part.rest) {

@@ -1,4 +1,4 @@
-// Pieces: the lines behind a part, which spell its bytes.
+// Pieces: the lines after a part, which spell its bytes.
 use crate::fault::Fault;
 use crate::part::{Part, number};
 use std::alloc::Global;
@@ -60,9 +60,9 @@ fn push_numbered(
     repeated: &str,
 ) -> Result<(), Fault> {
     let (times, one) = repeated.split_once(' ').ok_or(Fault::Form)?;
-    let (before, behind) = one.split_once('%').ok_or(Fault::Form)?;
+    let (before, after) = one.split_once('%').ok_or(Fault::Form)?;
     for each in 0..number(times)? {
-        let piece = format!(in alloc; "{before}{}{behind}", each.saturating_add(1))?;
+        let piece = format!(in alloc; "{before}{}{after}", each.saturating_add(1))?;
         push_one(bytes, parts, &piece)?;
     }
     Ok(())

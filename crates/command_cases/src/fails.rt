@@ -64,7 +64,7 @@ fn lines_before(lines: &[u8], number: u64) -> &[u8] {
     lines
 }
 
-// Each write fails in turn: the lines before it are written, and half of its own. A write behind the last is none.
+// Each write fails in turn: the lines before it are written, and half of its own. A write after the last is none.
 fn writes_fail(
     alloc: Global,
     parts: &[Part<'_>],
@@ -88,7 +88,7 @@ fn writes_fail(
     )
 }
 
-// Each read fails in turn, and the one line names its file: `paths` has that of each. A read behind the last is none.
+// Each read fails in turn, and the one line names its file: `paths` has that of each. A read after the last is none.
 fn reads_fail(
     alloc: Global,
     parts: &[Part<'_>],
@@ -143,7 +143,7 @@ fn first_lines(lines: &[u8], count: u64) -> &[u8] {
     lines
 }
 
-// Each take fails in turn, that which tells the end too: all whole lines before it are answered. A take behind that is none.
+// Each take fails in turn, that which tells the end too: all whole lines before it are answered. A take after that is none.
 fn takes_fail(
     alloc: Global,
     parts: &[Part<'_>],
@@ -156,8 +156,8 @@ fn takes_fail(
     let takes = (input.bytes.len() as u64).div_ceil(most).saturating_add(1);
     for number in 0..takes {
         let come = number.saturating_mul(most) as usize;
-        let front = input.bytes.get(..come).unwrap_or(&input.bytes);
-        let answers = first_lines(whole.written, count_answers(front, &silent));
+        let prefix = input.bytes.get(..come).unwrap_or(&input.bytes);
+        let answers = first_lines(whole.written, count_answers(prefix, &silent));
         let call = ("takes", number.saturating_add(1));
         if !call_fails(alloc, parts, call, &ended(10, answers), report)? {
             return Ok(false);

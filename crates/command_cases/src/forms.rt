@@ -21,6 +21,6 @@ pub const FORMS: [Form; 18] = [
     Form("each-read", Words, Once),
     Form("each-take", Words, Once),
     Form("each-write", Nothing, Once),
-    Form("fronts", Words, Once),
+    Form("prefixes", Words, Once),
     Form("pairs", WordsAndPieces, Once),
 ];

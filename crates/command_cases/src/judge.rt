@@ -1,19 +1,19 @@
-// Whether a case of a command is answered as it is wanted: as it stands, with each front of a file, or with each text of a list.
+// Whether a case of a command is answered as it is wanted: as it stands, with each prefix of a file, or with each text of a list.
 use crate::fails::{ended, failures, tell_run};
 use crate::run::{Wanted, read_wanted, runs};
 use crate::setting::Twist;
 use case_text::{Defect, Fault, Part, has_part, number, part_of};
 use std::alloc::Global;
 
-// The path of a file and two numbers, which stand behind a word.
+// The path of a file and two numbers, which stand after a word.
 fn path_and_numbers(words: &str) -> Result<(&str, u64, u64), Fault> {
     let (path, numbers) = words.split_once(' ').ok_or(Fault::Form)?;
     let (first, last) = numbers.split_once(' ').ok_or(Fault::Form)?;
     Ok((path, number(first)?, number(last)?))
 }
 
-// Whether each front of a file, from so many bytes to so many, comes to what the case wants.
-fn fronts_are_right(
+// Whether each prefix of a file, from so many bytes to so many, comes to what the case wants.
+fn prefixes_are_right(
     alloc: Global,
     parts: &[Part<'_>],
     words: &str,
@@ -26,7 +26,7 @@ fn fronts_are_right(
     }
     for end in first..last.saturating_add(1) {
         if !runs(alloc, parts, Twist::Ends(path, end), whole, report)? {
-            tell_run(alloc, report, "front", end)?;
+            tell_run(alloc, report, "prefix", end)?;
             return Ok(false);
         }
     }
@@ -43,13 +43,13 @@ fn with_line(alloc: Global, lines: &[u8], line: &[u8]) -> Result<Vec<u8>, Fault>
 
 // The lines of pairs.
 fn lines_of<'p>(alloc: Global, pairs: &'p Part<'_>) -> Result<Vec<&'p [u8]>, Fault> {
-    let [front @ .., b'\n'] = pairs.bytes.as_slice() else {
+    let [prefix @ .., b'\n'] = pairs.bytes.as_slice() else {
         return Err(pairs.wrong(Defect::Form));
     };
-    Ok(front.split(|byte| *byte == b'\n').collect(alloc)?)
+    Ok(prefix.split(|byte| *byte == b'\n').collect(alloc)?)
 }
 
-// Whether each line of some pairs, as the text of a file, is answered by the line behind it.
+// Whether each line of some pairs, as the text of a file, is answered by the line after it.
 fn pairs_are_right(
     alloc: Global,
     parts: &[Part<'_>],
@@ -88,10 +88,10 @@ fn check_alone(parts: &[Part<'_>], part: &Part<'_>, others: &[&str]) -> Result<(
 fn is_right(alloc: Global, parts: &[Part<'_>], report: &mut String) -> Result<bool, Fault> {
     let whole = read_wanted(parts)?;
     let others = ["each-read", "each-take", "each-write", "asked"];
-    if let Some(part) = part_of(parts, "fronts") {
+    if let Some(part) = part_of(parts, "prefixes") {
         check_alone(parts, part, &others)?;
         check_alone(parts, part, &["pairs"])?;
-        return fronts_are_right(alloc, parts, part.rest, &whole, report);
+        return prefixes_are_right(alloc, parts, part.rest, &whole, report);
     }
     if let Some(part) = part_of(parts, "pairs") {
         check_alone(parts, part, &others)?;

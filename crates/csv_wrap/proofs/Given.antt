@@ -23,10 +23,10 @@ by_test P false x y h k = k refl
 row_forest-append : (columns : List (List ℕ)) (xs ys : List (List (List ℕ))) → row_forest columns (xs ++ ys) ≡ followed (row_forest columns xs) (row_forest columns ys)
 row_forest-append columns xs ys = ap forest_of (map-append (row_tree columns) xs ys) ∙ forest_of-append (map (row_tree columns) xs) (map (row_tree columns) ys)
 
--- holes stay apart behind trees without holes
-apart_behind : (f : Forest) (o : Open) → IsApart o → IsApart (open_followed (without_holes f) o)
-apart_behind none o h = h
-apart_behind (tree label kids rest) o h = (IsApart-without_holes kids, apart_behind rest o h)
+-- holes stay apart after trees without holes
+apart_after : (f : Forest) (o : Open) → IsApart o → IsApart (open_followed (without_holes f) o)
+apart_after none o h = h
+apart_after (tree label kids rest) o h = (IsApart-without_holes kids, apart_after rest o h)
 
 -- rows before a list that is empty where they are none: a node at the top, and no hole first
 top_of : (columns : List (List ℕ)) (rows : List (List (List ℕ))) (o : Open) → (rows ≡ [] → o ≡ nil)
@@ -36,7 +36,7 @@ top_of columns [] o h = (λ k. absurd (cc (h refl, k)), cc (h refl))
 top_of columns (r ∷ rows) o h = (λ k. refl, refl)
 
 module _ (d : CsvDoc) where
-  -- behind the last row nothing is left
+  -- after the last row nothing is left
   pub rest_none : (first : ℕ) → length (rows_of d) ≤ first → rest_given d first ≡ nil
   rest_none first h = nothing (nat_lt first (length (rows_of d))) (past (length (rows_of d)) first h)
     where
@@ -58,7 +58,7 @@ module _ (d : CsvDoc) where
       some true e = refl
       some false e = cc e
 
-  -- what is left behind a chunk is left behind its end, or the end of all rows
+  -- what is left after a chunk is left after its end, or the end of all rows
   pub rest_same : (last end : ℕ) → last ≡ min end (length (rows_of d)) → rest_given d last ≡ rest_given d end
   rest_same last end e = by_case (less end (length (rows_of d)))
     where
@@ -111,7 +111,7 @@ module _ (d : CsvDoc) where
       record {
         top = (top_of (columns_of d) rows (rest_given d (first + d.chunk)) (none_left first)).0;
         apart =
-            apart_behind (row_forest (columns_of d) rows) (rest_given d (first + d.chunk))
+            apart_after (row_forest (columns_of d) rows) (rest_given d (first + d.chunk))
             (by_test IsApart (nat_lt (first + d.chunk) (length (rows_of d))) (hole (hole_of (RowsFrom (first + d.chunk))) nil) nil (λ k. (refl, tt)) (λ k. tt));
       }
 

@@ -1,5 +1,5 @@
 pub mod FieldFacts
-pub mod FrontFacts
+pub mod PrefixFacts
 pub mod Given
 pub mod ReachFacts
 pub mod RowFacts

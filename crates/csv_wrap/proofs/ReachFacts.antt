@@ -58,13 +58,13 @@ reached_short cfg s s2 xs ys (r ∷ rs) h =
     ]
 
 -- the records of a text begin with those that were reached
-pub reached_front : (cfg : Config) (n : ℕ) (s s2 : State) (xs ys : List ℕ) (rows : List (List (List ℕ))) → Reached cfg s xs rows s2 ys → length rows ≤ n
+pub reached_prefix : (cfg : Config) (n : ℕ) (s s2 : State) (xs ys : List ℕ) (rows : List (List (List ℕ))) → Reached cfg s xs rows s2 ys → length rows ≤ n
     → (after : List (List (List ℕ))) × (records_from cfg n s xs ≡ rows ++ after)
 unfolding Reached records_from
-reached_front cfg n s s2 xs ys [] h l = (records_from cfg n s xs, refl)
-reached_front cfg zero s s2 xs ys (r ∷ rs) h l = absurd (omega arith)
-reached_front cfg (suc n) s s2 xs ys (r ∷ rs) h l =
-    let more = reached_front cfg n h.0.1 s2 h.0.2 ys rs h.3 (omega arith) in
+reached_prefix cfg n s s2 xs ys [] h l = (records_from cfg n s xs, refl)
+reached_prefix cfg zero s s2 xs ys (r ∷ rs) h l = absurd (omega arith)
+reached_prefix cfg (suc n) s s2 xs ys (r ∷ rs) h l =
+    let more = reached_prefix cfg n h.0.1 s2 h.0.2 ys rs h.3 (omega arith) in
     (more.0, rw (h.1, h.2, more.1) refl)
 
 -- and are those where nothing is left
@@ -80,9 +80,9 @@ pub text_all : (text : List ℕ) (rows : List (List (List ℕ))) (s2 : State) (y
     → records default_config text ≡ rows
 text_all text rows s2 ys h e = reached_all default_config (length text + 1) st.StartRecord s2 text ys rows h e (reached_short default_config st.StartRecord s2 text ys rows h)
 
-pub text_front : (text : List ℕ) (rows : List (List (List ℕ))) (s2 : State) (ys : List ℕ) → Reached default_config st.StartRecord text rows s2 ys
+pub text_prefix : (text : List ℕ) (rows : List (List (List ℕ))) (s2 : State) (ys : List ℕ) → Reached default_config st.StartRecord text rows s2 ys
     → (after : List (List (List ℕ))) × (records default_config text ≡ rows ++ after)
-text_front text rows s2 ys h = reached_front default_config (length text + 1) st.StartRecord s2 text ys rows h (reached_short default_config st.StartRecord s2 text ys rows h)
+text_prefix text rows s2 ys h = reached_prefix default_config (length text + 1) st.StartRecord s2 text ys rows h (reached_short default_config st.StartRecord s2 text ys rows h)
 
 -- a header, rows and one more record
 pub file_row : (bytes : List ℕ) (header : List (List ℕ)) (rows : List (List (List ℕ))) (f : List (List ℕ)) (s2 : State) (ys : List ℕ)
@@ -90,13 +90,13 @@ pub file_row : (bytes : List ℕ) (header : List (List ℕ)) (rows : List (List 
     → (after : List (List (List ℕ))) × (file_records bytes ≡ header ∷ (rows ++ (f ∷ after)))
 unfolding file_records
 file_row bytes header rows f s2 ys h =
-    let front = text_front (without_marks bytes) ((header ∷ rows) ++ f ∷ []) s2 ys h in
-    (front.0, front.1 ∙ ap (λ (t : List (List (List ℕ))). header ∷ t) (append_assoc rows (f ∷ []) front.0))
+    let prefix = text_prefix (without_marks bytes) ((header ∷ rows) ++ f ∷ []) s2 ys h in
+    (prefix.0, prefix.1 ∙ ap (λ (t : List (List (List ℕ))). header ∷ t) (append_assoc rows (f ∷ []) prefix.0))
 
 pub file_header : (bytes : List ℕ) (f : List (List ℕ)) (s2 : State) (ys : List ℕ) → Reached default_config st.StartRecord (without_marks bytes) ([] ++ f ∷ []) s2 ys
     → (after : List (List (List ℕ))) × (file_records bytes ≡ f ∷ after)
 unfolding file_records
-file_header bytes f s2 ys h = text_front (without_marks bytes) (f ∷ []) s2 ys h
+file_header bytes f s2 ys h = text_prefix (without_marks bytes) (f ∷ []) s2 ys h
 
 -- the start of a text, and one more read
 pub start_at : (text : List ℕ) (r : Reader (Bor (List ℕ))) → reader_trim r ≡ trim.None → names_headers r ≡ false → reader_headers r ≡ None → reader_config r ≡ default_config

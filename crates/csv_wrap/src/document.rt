@@ -13,7 +13,7 @@ use std::alloc::Global;
 /// The document of a CSV file, which is given so many rows at a time.
 ///
 /// The root's hole stands for the source's name. Its list is the name, with one hole below it, also where there are no rows.
-/// That hole stands for all rows. The list of a hole for rows has the next of them, at most a chunk, each whole, and behind
+/// That hole stands for all rows. The list of a hole for rows has the next of them, at most a chunk, each whole, and after
 /// these one hole exactly where more remain. No list begins with a hole. The columns are kept once, and a row's nodes are made
 /// when they are given.
 #[derive(Drop)]

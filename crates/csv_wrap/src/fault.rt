@@ -5,7 +5,7 @@ ghost use Rattle.csv_wrap.specs.declared.fault.CsvFault.TheVariants.{OutOfMemory
 use std::alloc::AllocError;
 use thiserror::Error;
 
-/// Why a CSV file is no source with the declared columns (docs/FORMATS.md, "CSV files"). Rows are counted from 1 behind the
+/// Why a CSV file is no source with the declared columns (docs/FORMATS.md, "CSV files"). Rows are counted from 1 after the
 /// header, columns from 0. Of two rows with faults the first one is named, and of one row its length before its bytes.
 #[derive(Clone, Copy, Debug, PartialEq, Eq, Error)]
 pub enum CsvFault {

@@ -114,7 +114,7 @@ impl CsvDoc {
         ensures { IfOk result (λ list. plain list.items ≡ part_given self.now (Some (Part.RowsFrom first))) }
     {
         let last = self.chunk_end(first);
-        // A hole behind the rows takes the place of one more.
+        // A hole after the rows takes the place of one more.
         let mut list = Vec::with_capacity(alloc, last - first + 1)?;
         'rows: for row in first..last {
             let label = Label::of_text(alloc, b"row")?;

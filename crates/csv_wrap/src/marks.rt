@@ -10,7 +10,7 @@ fn is_marked(bytes: &[u8]) -> bool
 }
 
 /// The bytes after all byte order marks with which they begin.
-#[tactic(auto, using(crate::proofs::FrontFacts::marked_drop, crate::proofs::FrontFacts::marked_len, crate::proofs::FrontFacts::unmarked))]
+#[tactic(auto, using(crate::proofs::PrefixFacts::marked_drop, crate::proofs::PrefixFacts::marked_len, crate::proofs::PrefixFacts::unmarked))]
 pub fn without_marks(bytes: &[u8]) -> &[u8]
     ensures { result.now ≡ without_marks bytes.now }
 {

@@ -69,7 +69,7 @@ fn hole_of(words: &str) -> Result<HoleId, Fault> {
     })
 }
 
-// The hole that is asked: `?N` one that came, a source's number alone that of its root, and with three words behind it the one of these.
+// The hole that is asked: `?N` one that came, a source's number alone that of its root, and with three words after it the one of these.
 // None, where there is no such source.
 fn asked_of<S: Sources>(s: &S, given: &Given, words: &str) -> Result<Option<Asked>, Fault> {
     if let Some(came) = words.strip_prefix('?') {

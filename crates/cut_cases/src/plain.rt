@@ -24,7 +24,7 @@ struct Open<'t> {
     number: u64,
 }
 
-// Puts a move to a new name behind a course, and gives the name's number.
+// Puts a move to a new name after a course, and gives the name's number.
 fn push_move(alloc: Global, course: &mut Course, way: &str, from: u64) -> Result<u64, Fault> {
     let number = course.named;
     course.named = number.saturating_add(1);
@@ -34,7 +34,7 @@ fn push_move(alloc: Global, course: &mut Course, way: &str, from: u64) -> Result
     Ok(number)
 }
 
-// Puts the print of a node behind a course.
+// Puts the print of a node after a course.
 fn push_print(alloc: Global, course: &mut Course, node: Open<'_>) -> Result<(), Fault> {
     let line = format!(in alloc; "print n{}\n", node.number)?;
     course.script.push_str(&line)?;
@@ -46,7 +46,7 @@ fn push_print(alloc: Global, course: &mut Course, node: Open<'_>) -> Result<(), 
     Ok(())
 }
 
-// Puts a move to each child of a node behind a course; the children are to be printed then.
+// Puts a move to each child of a node after a course; the children are to be printed then.
 fn push_children<'t>(
     alloc: Global,
     course: &mut Course,

@@ -46,7 +46,7 @@ trees_enough ns (suc most) (suc more) from to h k =
     ∙ ap (λ f. cond (fits ns from to) (tree (node_at ns (to - 1)).label (trees ns more (before ns (to - 1)) (to - 1)) f) none)
     (trees_enough ns most more from (before ns i) (omega arith) (omega arith))
 
--- the trees between two positions are the first one and those behind it
+-- the trees between two positions are the first one and those after it
 between_step : (ns : List LaidNode) (from to : ℕ)
     → between ns from to ≡ cond (fits ns from to) (tree (node_at ns (to - 1)).label (between ns (before ns (to - 1)) (to - 1)) (between ns from (before ns (to - 1)))) none
 between_step ns from zero = sym (chosen_none (fits ns from 0) _ (fits_none ns from 0 (omega arith)))

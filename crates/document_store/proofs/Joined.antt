@@ -8,7 +8,7 @@ use Rattle.mix_base.proofs.Lists.{append_nil}
 use Rattle.document_store.specs.Texts.{texts_from, ends_from, begin_at, KeepsTexts, AreKept}
 use Rattle.document_store.proofs.Kept.{piece}
 
--- texts behind some bytes are shown from there on
+-- texts after some bytes are shown from there on
 shown_from : (before : List ℕ) (ts : List (List ℕ)) → texts_from (before ++ concat ts) (length before) (ends_from (length before) ts) ≡ ts
 shown_from before [] = refl
 shown_from before (t ∷ ts) =

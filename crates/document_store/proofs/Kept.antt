@@ -9,14 +9,14 @@ use Rattle.std.proofs.Math.Seq.{get_or-append_seam}
 use Rattle.document_store.specs.Laid.{LaidNode, node_at, longer}
 use Rattle.document_store.specs.Spots.{end_of, spot_of, end_at, nodes_in, bytes_of, spots_of, AreTexts, Keeps, IsKept}
 
--- the front of a list
-front : (l more : List ℕ) → take (length l) (l ++ more) ≡ l
-front [] more = refl
-front (x ∷ l) more = ap (λ r. x ∷ r) (front l more)
+-- the prefix of a list
+prefix : (l more : List ℕ) → take (length l) (l ++ more) ≡ l
+prefix [] more = refl
+prefix (x ∷ l) more = ap (λ r. x ∷ r) (prefix l more)
 
 -- the middle of a list
 middle : (a l more : List ℕ) → take (length l) (drop (length a) (a ++ (l ++ more))) ≡ l
-middle [] l more = front l more
+middle [] l more = prefix l more
 middle (x ∷ a) l more = middle a l more
 
 -- the same, between two places
@@ -127,12 +127,12 @@ split (n ∷ v) place h = by_place (same_or_less place (length v) (omega arith))
     by_place (inl k) more = let s = more k in record { xs = n ∷ s.xs; node = s.node; ys = s.ys; parts = ap (λ r. n ∷ r) s.parts; size = s.size }
     by_place (inr e) more = record { xs = []; node = n; ys = v; parts = refl; size = sym e }
 
--- the bytes of some nodes behind others
+-- the bytes of some nodes after others
 abbrev pub bytes_on : List LaidNode → List ℕ → List ℕ
 bytes_on [] base = base
 bytes_on (x ∷ xs) base = bytes_on xs base ++ x.label
 
--- what is kept of some nodes behind others
+-- what is kept of some nodes after others
 abbrev pub tops : List LaidNode → List ℕ → List Spot
 tops [] base = []
 tops (x ∷ xs) base = record { end = length (bytes_on xs base ++ x.label); below = x.below } ∷ tops xs base

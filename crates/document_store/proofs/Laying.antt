@@ -33,12 +33,12 @@ laid-alone label kids above others e =
     let last : ℕ → List LaidNode → List LaidNode = λ n r. record { label = label; below = n } ∷ r in
     ap (λ n. laid kids ++ last n others) e ∙ sym (append_assoc (laid kids) (last (nodes_of kids) []) others)
 
--- a node that is closed behind its children is a tree
+-- a node that is closed after its children is a tree
 pub closes_tree : (old new others : List LaidNode) (place : ℕ) (label : List ℕ) (kids : Forest) → Closes old place new → old ≡ laid kids ++ bare_node label ∷ others → place ≡ length others
     → new ≡ laid (alone (record { label = label; kids = kids })) ++ others
 closes_tree old new others place label kids c e p =
     c (laid kids) others (bare_node label) e (sym p) ∙ laid-alone label kids (length (laid kids)) others (length-laid kids)
 
--- a tree more behind others
+-- a tree more after others
 pub laid_more : (ts : List LabelledTree) (t : LabelledTree) (others : List LaidNode) → laid (alone t) ++ (laid (forest_of ts) ++ others) ≡ laid (forest_of (ts ++ t ∷ [])) ++ others
 laid_more ts t others = sym (append_assoc (laid (alone t)) (laid (forest_of ts)) others) ∙ ap (λ ns. ns ++ others) (sym (laid-last ts t))

@@ -82,7 +82,7 @@ same_tree u t l k =
     let made : List ℕ → Forest → LabelledTree = λ m f. record { label = m; kids = f } in
     ap (λ m. made m u.kids) l ∙ ap (made t.label) k
 
--- the first of the trees between two positions, behind others
+-- the first of the trees between two positions, after others
 pub tree_more : (ns : List LaidNode) (items more : List LabelledTree) (t : LabelledTree) (from to i : ℕ) → fits ns from to ≡ true → i + 1 ≡ to → more ≡ items ++ t ∷ []
     → t.label ≡ (node_at ns i).label → t.kids ≡ between ns (before ns i) i
     → followed (forest_of more) (between ns from (before ns i)) ≡ followed (forest_of items) (between ns from to)

@@ -7,11 +7,11 @@ use Rattle.document_store.specs.Laid.{LaidNode, node_at, below}
 abbrev pub before : List LaidNode → ℕ → ℕ
 before ns i = i - below ns i
 
--- whether the node that ends at a position lies, with those below it, behind another position
+-- whether the node that ends at a position lies, with those below it, after another position
 abbrev pub fits : List LaidNode → ℕ → ℕ → Bool
 fits ns from to = nat_lt (below ns (to - 1)) (to - from)
 
--- the trees between two positions, of which there are at most so many one below or behind another
+-- the trees between two positions, of which there are at most so many one below or after another
 abbrev pub trees : List LaidNode → ℕ → ℕ → ℕ → Forest
 trees ns zero from to = none
 trees ns (suc most) from to =

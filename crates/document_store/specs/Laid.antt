@@ -32,7 +32,7 @@ abbrev pub longer : List ℕ → List LaidNode → List LaidNode
 longer piece [] = []
 longer piece (n ∷ v) = record { label = n.label ++ piece; below = n.below } ∷ v
 
--- the node before which so many stand in document order gets all nodes behind it
+-- the node before which so many stand in document order gets all nodes after it
 abbrev pub Closes : List LaidNode → ℕ → List LaidNode → Type 0
 Closes old place new = (xs ys : List LaidNode) (n : LaidNode) → old ≡ xs ++ n ∷ ys → length ys ≡ place → new ≡ xs ++ record { label = n.label; below = length xs } ∷ ys
 

@@ -20,7 +20,7 @@ fn grow<T>(list: &mut Vec<T>, more: usize) -> Result<(), AllocError>
     Ok(())
 }
 
-/// Makes room for more items behind a list. Where it has none, it gets an eighth of its length more than is asked for: a
+/// Makes room for more items after a list. Where it has none, it gets an eighth of its length more than is asked for: a
 /// list that grows item by item never has twice its room.
 #[inline]
 pub fn make_room<T>(list: &mut Vec<T>, more: usize) -> Result<(), AllocError>

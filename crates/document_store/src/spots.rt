@@ -17,7 +17,7 @@ pub struct Spot {
 /// The most nodes, and the most bytes of labels.
 pub const MOST: usize = 4_294_967_295;
 
-/// Puts a node without children behind others; nothing where there is no room.
+/// Puts a node without children after others; nothing where there is no room.
 #[inline(always)]
 pub fn add(bytes: &mut Vec<u8>, spots: &mut Vec<Spot>, label: &[u8]) -> Result<(), AllocError>
     ensures bytes { OnOk result (bytes.new.items ≡ bytes.old.items ++ label.now) }
@@ -40,7 +40,7 @@ pub fn add(bytes: &mut Vec<u8>, spots: &mut Vec<Spot>, label: &[u8]) -> Result<(
     Ok(())
 }
 
-/// What is kept of the node behind which so many stand; zeros where there are not so many.
+/// What is kept of the node after which so many stand; zeros where there are not so many.
 #[inline]
 pub fn spot_at(spots: &[Spot], i: usize) -> Spot
     ensures { result ≡ spot_of (reverse spots.now) i }
@@ -62,7 +62,7 @@ pub fn part(bytes: &[u8], from: usize, to: usize) -> &[u8]
     &bytes[from..to]
 }
 
-/// The label of the node behind which so many stand.
+/// The label of the node after which so many stand.
 #[inline]
 pub fn label_at<'a>(bytes: &'a [u8], spots: &[Spot], i: usize) -> &'a [u8]
     requires kept { IsKept bytes.now spots.now }

@@ -59,7 +59,7 @@ impl Store {
         Ok(())
     }
 
-    /// Puts bytes behind the label of the last node. It fails as `push` does, and leaves the document as it was then.
+    /// Puts bytes after the label of the last node. It fails as `push` does, and leaves the document as it was then.
     pub fn extend(&mut self, piece: &[u8]) -> Result<(), AllocError>
         requires utf8 { IsUtf8 piece.now }
         requires some { 0 < length self.old }
@@ -76,7 +76,7 @@ impl Store {
         Ok(())
     }
 
-    /// All nodes behind a place in document order are below the node there.
+    /// All nodes after a place in document order are below the node there.
     pub fn close(&mut self, place: usize)
         ensures { Closes self.old place self.new }
     {
@@ -94,7 +94,7 @@ impl Store {
         self.spots.shrink_to_fit();
     }
 
-    /// How many nodes are below the node behind which so many stand.
+    /// How many nodes are below the node after which so many stand.
     #[inline]
     pub fn below(&self, i: usize) -> usize
         requires { i < length self.now }
@@ -103,7 +103,7 @@ impl Store {
         spot_at(&self.spots, i).below as usize
     }
 
-    /// The label of the node behind which so many stand.
+    /// The label of the node after which so many stand.
     #[inline]
     pub fn label(&self, i: usize) -> &[u8]
         requires { i < length self.now }

@@ -27,7 +27,7 @@ impl Model for Texts {
     ghost invariant = { λ t. AreKept t.bytes.items t.ends.items };
 }
 
-// Puts a text's bytes and its end behind others; nothing where there is no room.
+// Puts a text's bytes and its end after others; nothing where there is no room.
 #[inline]
 fn add(bytes: &mut Vec<u8>, ends: &mut Vec<u32>, text: &[u8]) -> Result<(), AllocError>
     ensures bytes { OnOk result (bytes.new.items ≡ bytes.old.items ++ text.now) }
@@ -89,7 +89,7 @@ impl Texts {
         self.ends.len()
     }
 
-    /// Puts a text behind the others. It fails where memory runs out and where the texts have 4 GB, and leaves them as they were
+    /// Puts a text after the others. It fails where memory runs out and where the texts have 4 GB, and leaves them as they were
     /// then.
     #[inline]
     pub fn push(&mut self, text: &[u8]) -> Result<(), AllocError>

@@ -1,4 +1,4 @@
-// The trees of a document. A node is named by how many nodes stand behind it.
+// The trees of a document. A node is named by how many nodes stand after it.
 ghost use Rattle.std.specs.Prelude.{◌≡◌, ◌<◌, ◌≤◌, ◌+◌, true, false, length, IfOk, MatchOption};
 ghost use Rattle.mix_tree.specs.Forest.{LabelledTree, forest_of};
 ghost use Rattle.document_store.specs.Laid.{node_at, below, IsDocument};

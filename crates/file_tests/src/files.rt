@@ -100,7 +100,7 @@ fn reads_and_writes_the_system(rt: HostRuntime) -> Result<(), Fail> {
 }
 
 #[test]
-fn a_pipe_is_read_from_its_front_on(rt: HostRuntime) -> Result<(), Fail> {
+fn a_pipe_is_read_from_its_beginning_on(rt: HostRuntime) -> Result<(), Fail> {
     let alloc = rt.alloc();
     let (reader, mut writer) = io::pipe(&rt)?;
     writer.write_all(b"abcdef")?;

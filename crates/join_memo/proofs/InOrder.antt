@@ -15,7 +15,7 @@ module _ (labels : List (List ℕ)) (key : List ℕ) where
   -- what is found from the place of this number on, where those before it lie before
   record IsFrom (from k : ℕ) : Type 0 where
     before : (i : ℕ) → i < k → i < length (places key 0 labels) → get_or (places key 0 labels) i 0 < from
-    behind : (i : ℕ) → k ≤ i → i < length (places key 0 labels) → from ≤ get_or (places key 0 labels) i 0
+    after : (i : ℕ) → k ≤ i → i < length (places key 0 labels) → from ≤ get_or (places key 0 labels) i 0
 
   -- the first one found is the place of that number
   first_is : (from k p : ℕ) → IsFrom from k → IsFirstFrom labels key from p → HasPlace (places key 0 labels) p → (k < length (places key 0 labels)) × (get_or (places key 0 labels) k 0 ≡ p)
@@ -23,19 +23,19 @@ module _ (labels : List (List ℕ)) (key : List ℕ) where
     where
       rest : k ≤ q.number → get_or (places key 0 labels) k 0 < p ⊎ p ≤ get_or (places key 0 labels) k 0 → (k < length (places key 0 labels)) × (get_or (places key 0 labels) k 0 ≡ p)
       rest l (inl u) = (let w : k < length (places key 0 labels) = omega (arith, l, q.within) in
-          absurd (h.before (get_or (places key 0 labels) k 0) (x.behind k (omega arith) w) u (has_label k w)))
+          absurd (h.before (get_or (places key 0 labels) k 0) (x.after k (omega arith) w) u (has_label k w)))
       rest l (inr u) = (let w : k < length (places key 0 labels) = omega (arith, l, q.within) in
           (w, omega (arith, u, not_falling (places key 0 labels) (places_ascend key 0 labels) k q.number l q.within, q.is)))
 
       by_case : (q.number < k) ⊎ (k ≤ q.number) → (k < length (places key 0 labels)) × (get_or (places key 0 labels) k 0 ≡ p)
-      by_case (inl u) = absurd (omega (arith, x.before q.number u q.within, q.is, h.behind))
+      by_case (inl u) = absurd (omega (arith, x.before q.number u q.within, q.is, h.after))
       by_case (inr l) = rest l (below_or (get_or (places key 0 labels) k 0) p)
 
-  -- what is left behind it
+  -- what is left after it
   next_from : (from k p : ℕ) → k < length (places key 0 labels) → get_or (places key 0 labels) k 0 ≡ p → IsFrom (suc p) (suc k)
   next_from from k p w e = record {
     before = λ i l v. omega (arith, not_falling (places key 0 labels) (places_ascend key 0 labels) i k (omega (arith, l)) w, e);
-    behind = λ i l v. omega (arith, places_ascend key 0 labels k i (omega (arith, l)) v, e);
+    after = λ i l v. omega (arith, places_ascend key 0 labels k i (omega (arith, l)) v, e);
   }
 
   -- look-ups from there on find the places from that number on
@@ -43,7 +43,7 @@ module _ (labels : List (List ℕ)) (key : List ℕ) where
   found_from [] from k x h = by_case (below_or k (length (places key 0 labels)))
     where
       by_case : (k < length (places key 0 labels)) ⊎ (length (places key 0 labels) ≤ k) → [] ≡ drop k (places key 0 labels)
-      by_case (inl w) = absurd (h (get_or (places key 0 labels) k 0) (x.behind k (omega arith) w) (has_label k w))
+      by_case (inl w) = absurd (h (get_or (places key 0 labels) k 0) (x.after k (omega arith) w) (has_label k w))
       by_case (inr l) = sym (drop_all k (places key 0 labels) l)
   found_from (p ∷ found) from k x h =
       let q = has_place key 0 labels p h.0.label.within h.0.label.is in
@@ -53,4 +53,4 @@ module _ (labels : List (List ℕ)) (key : List ℕ) where
 
 -- from the first place on they find all
 pub finds_all : (labels : List (List ℕ)) (key : List ℕ) (found : List ℕ) → AreFound labels key 0 found → found ≡ places key 0 labels
-finds_all labels key found h = found_from labels key found 0 0 (record { before = λ i l w. absurd (omega (arith, l)); behind = λ i l w. omega arith }) h
+finds_all labels key found h = found_from labels key found 0 0 (record { before = λ i l w. absurd (omega (arith, l)); after = λ i l w. omega arith }) h

@@ -11,7 +11,7 @@ use Rattle.std.proofs.lemmas.Grind.{common_steps}
 use Rattle.smallvec.specs.SmallVec.{SmallVec}
 use Rattle.join_memo.specs.Places.{places, IsKnown, IsIndex}
 
--- the place of a label behind others
+-- the place of a label after others
 pub places_then : (key : List ℕ) (n : ℕ) (labels : List (List ℕ)) (label : List ℕ)
     → places key n (labels ++ label ∷ []) ≡ places key n labels ++ cond (bytes_eq key label) ((n + length labels) ∷ []) []
 places_then key n [] label = by_case (bytes_eq key label)

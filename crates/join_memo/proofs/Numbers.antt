@@ -9,8 +9,8 @@ use Rattle.indexmap.specs.IndexSet.{insert_key}
 use Rattle.mix_base.proofs.Choices.{some_is}
 use Rattle.join_memo.specs.Places.{IsKnown, IsNumber, IsPut}
 
-known_behind : (x : List ℕ) (ks : List (List ℕ)) (key : List ℕ) (i : ℕ) → IsKnown ks key i → IsKnown (x ∷ ks) key (suc i)
-known_behind x ks key i h = record { within = omega (arith, h.within); is = h.is }
+known_after : (x : List ℕ) (ks : List (List ℕ)) (key : List ℕ) (i : ℕ) → IsKnown ks key i → IsKnown (x ∷ ks) key (suc i)
+known_after x ks key i h = record { within = omega (arith, h.within); is = h.is }
 
 -- the first place at which it passes is its number
 pub number_here : (key : List ℕ) (ks : List (List ℕ)) → position_or_len (bytes_eq key) ks < length ks → IsKnown ks key (position_or_len (bytes_eq key) ks)
@@ -21,7 +21,7 @@ number_here key (x ∷ ks) h = by_case (number_here key ks) (bytes_eq key x) ref
         → (b : Bool) → bytes_eq key x ≡ b → position_or_len (bytes_eq key) (x ∷ ks) < length (x ∷ ks)
         → IsKnown (x ∷ ks) key (position_or_len (bytes_eq key) (x ∷ ks))
     by_case more true e h = rw e (record { within = omega arith; is = (let d : key ≡ x = grind (arith, bytes_eq-Decides key x, e) in sym d) })
-    by_case more false e h = rw e (subst (λ n. IsKnown (x ∷ ks) key n) (omega arith) (known_behind x ks key (position_or_len (bytes_eq key) ks) (more (omega (arith, (rw e at h))))))
+    by_case more false e h = rw e (subst (λ n. IsKnown (x ∷ ks) key n) (omega arith) (known_after x ks key (position_or_len (bytes_eq key) ks) (more (omega (arith, (rw e at h))))))
 
 -- where it passes nowhere, it is none of them
 pub number_nowhere : (key : List ℕ) (ks : List (List ℕ)) → length ks ≤ position_or_len (bytes_eq key) ks → (i : ℕ) → IsKnown ks key i → ⊥
@@ -81,4 +81,4 @@ put_is key ks after i new e f g = by_case (list_any (bytes_eq key) ks) refl
 pub known_at : (ks : List (List ℕ)) (key x : List ℕ) (i : ℕ) → slice_get ks i ≡ Some x → bytes_eq x key ≡ true → IsKnown ks key i
 known_at [] key x i e same = cc
 known_at (k ∷ ks) key x zero e same = record { within = omega arith; is = some_is k x e ∙ (let d : x ≡ key = grind (arith, bytes_eq-Decides x key, same) in d) }
-known_at (k ∷ ks) key x (suc i) e same = known_behind k ks key i (known_at ks key x i e same)
+known_at (k ∷ ks) key x (suc i) e same = known_after k ks key i (known_at ks key x i e same)

@@ -31,7 +31,7 @@ least_here ps from i h at = record {
   number = i;
   within = at.0;
   is = at.1;
-  behind = omega arith;
+  after = omega arith;
   before = λ k l. omega (arith, h k i l at.0, at.1);
 }
 
@@ -42,7 +42,7 @@ least_next ps from i p gap w e = record {
   number = i;
   within = w;
   is = e;
-  behind = omega (arith, gap.2 i (omega arith) w, e);
+  after = omega (arith, gap.2 i (omega arith) w, e);
   before = gap.1;
 }
 
@@ -109,10 +109,10 @@ places_ascend key n (x ∷ labels) i j l w = by_case (places_ascend key (suc n) 
     by_case more false i j l w = more i j l w
 
 module _ (key : List ℕ) (labels : List (List ℕ)) (from : ℕ) where
-  -- the first place at or behind one
+  -- the first place at or after one
   first_place : (p : ℕ) → IsLeast (places key 0 labels) from p → IsFirstFrom labels key from p
   first_place p h = record {
-    behind = h.behind;
+    after = h.after;
     label = (let q = place_is key 0 labels h.number h.within in
         let e : q.index ≡ p = omega (arith, q.is, h.is) in subst (λ m. HasLabel labels key m) e q.label);
     before = λ j f l at. (let q = has_place key 0 labels j at.within at.is in clash j f l q);
@@ -165,7 +165,7 @@ label_there {T} pairs i x w e = record {
 -- where the last label is the one that is looked up
 pub last_has : (labels : List (List ℕ)) (x key : List ℕ) (last : ℕ) → HasLabel labels x last → bytes_eq x key ≡ true → IsFirstFrom labels key last last
 last_has labels x key last h e = record {
-  behind = omega arith;
+  after = omega arith;
   label = record { within = h.within; is = h.is ∙ (let d : x ≡ key = grind (arith, bytes_eq-Decides x key, e) in d) };
   before = λ j f l at. absurd (omega (arith, f, l));
 }

@@ -15,17 +15,17 @@ pub record HasLabel (labels : List (List ℕ)) (key : List ℕ) (i : ℕ) : Type
   pub within : i < length labels
   pub is : slice_index_or labels i [] ≡ key
 
--- the first place with this label, at or behind one
+-- the first place with this label, at or after one
 pub record IsFirstFrom (labels : List (List ℕ)) (key : List ℕ) (from i : ℕ) : Type 0 where
-  pub behind : from ≤ i
+  pub after : from ≤ i
   pub label : HasLabel labels key i
   pub before : (j : ℕ) → from ≤ j → j < i → HasLabel labels key j → ⊥
 
--- no place at or behind one has this label, or it is the first that has
+-- no place at or after one has this label, or it is the first that has
 abbrev pub IsFound : List (List ℕ) → List ℕ → ℕ → Option ℕ → Type 0
 IsFound labels key from r = MatchOption r ((j : ℕ) → from ≤ j → HasLabel labels key j → ⊥) (IsFirstFrom labels key from)
 
--- what look-ups find one after another, the first from one place on and each further one from behind what the one before found, until nothing is found
+-- what look-ups find one after another, the first from one place on and each further one from after what the one before found, until nothing is found
 abbrev pub AreFound : List (List ℕ) → List ℕ → ℕ → List ℕ → Type 0
 AreFound labels key from [] = IsFound labels key from None
 AreFound labels key from (p ∷ ps) = IsFound labels key from (Some p) × AreFound labels key (suc p) ps

@@ -16,7 +16,7 @@ pub record IsKnown (known : List (List ℕ)) (key : List ℕ) (i : ℕ) : Type 0
 abbrev pub IsNumber : List (List ℕ) → List ℕ → Option ℕ → Type 0
 IsNumber known key r = MatchOption r ((i : ℕ) → IsKnown known key i → ⊥) (IsKnown known key)
 
--- putting a label among the known gives its number, and whether it was none of them: then it stands behind them
+-- putting a label among the known gives its number, and whether it was none of them: then it stands after them
 abbrev pub IsPut : List (List ℕ) → List ℕ → ℕ → Bool → List (List ℕ) → Type 0
 IsPut known key i false after = IsKnown known key i × (after ≡ known)
 IsPut known key i true after = ((j : ℕ) → IsKnown known key j → ⊥) × (after ≡ known ++ key ∷ [])
@@ -32,14 +32,14 @@ pub record IsIndex (known groups : List (List ℕ)) (labels : List (List ℕ)) :
 abbrev pub IsAscending : List ℕ → Type 0
 IsAscending ps = (i j : ℕ) → i < j → j < length ps → slice_index_or ps i 0 < slice_index_or ps j 0
 
--- the first of ascending places, at or behind one
+-- the first of ascending places, at or after one
 pub record IsLeast (ps : List ℕ) (from p : ℕ) : Type 0 where
   pub number : ℕ
   pub within : number < length ps
   pub is : slice_index_or ps number 0 ≡ p
-  pub behind : from ≤ p
+  pub after : from ≤ p
   pub before : (k : ℕ) → k < number → slice_index_or ps k 0 < from
 
--- none of the places is at or behind one, or this is the first that is
+-- none of the places is at or after one, or this is the first that is
 abbrev pub IsLeastOf : List ℕ → ℕ → Option ℕ → Type 0
 IsLeastOf ps from r = MatchOption r ((k : ℕ) → k < length ps → slice_index_or ps k 0 < from) (IsLeast ps from)

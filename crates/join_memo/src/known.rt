@@ -48,7 +48,7 @@ impl KnownLabels {
         }
     }
 
-    /// The number of a label, and whether it is new: then it comes behind the others.
+    /// The number of a label, and whether it is new: then it comes after the others.
     pub(crate) fn put(&mut self, alloc: Global, key: &Label) -> Result<(usize, bool), AllocError>
         ensures ok { IfOk result (λ r. IsPut self.old key.now r.0 r.1 self.new) }
         ensures err { OnErr result (self.new ≡ self.old) }

@@ -19,7 +19,7 @@ pub struct Memo<T> {
     pairs: Vec<(Label, T)>,
     known: KnownLabels,
     groups: Vec<Group>,
-    // The number of each pair's label, by which a look-up behind the pair begins. Nothing is promised of it.
+    // The number of each pair's label, by which a look-up after the pair begins. Nothing is promised of it.
     numbers: Vec<usize>,
     ended: bool,
 }
@@ -111,7 +111,7 @@ impl<T: Drop> Memo<T> {
         }
     }
 
-    /// One more pair, behind the others. The only error is want of memory: it hands the pair back and leaves the memo as it was.
+    /// One more pair, after the others. The only error is want of memory: it hands the pair back and leaves the memo as it was.
     pub fn push(&mut self, alloc: Global, key: Label, item: T) -> Result<(), PushRefused<T>>
         requires { self.old.ended ≡ false }
         ensures ok { OnOk result (self.new ≡ record { pairs = self.old.pairs ++ (key, item) ∷ []; ended = false }) }
@@ -159,7 +159,7 @@ impl<T: Drop> Memo<T> {
         self.pairs.len()
     }
 
-    /// The item of the pair at a place, counted from 0; `None` exactly behind the last one.
+    /// The item of the pair at a place, counted from 0; `None` exactly after the last one.
     pub fn get(&self, i: usize) -> Option<&T>
         ensures { option_copied result ≡ option_map (λ p. p.1) (slice_get self.now.pairs i) }
     {
@@ -180,7 +180,7 @@ impl<T: Drop> Memo<T> {
         }
     }
 
-    /// The least place at or behind `from` at which a pair has this label; `None` exactly where no pair so far has it there. It takes no memory.
+    /// The least place at or after `from` at which a pair has this label; `None` exactly where no pair so far has it there. It takes no memory.
     pub fn find(&self, key: &Label, from: usize) -> Option<usize>
         ensures { IsFound (labels_of self.now.pairs) key.now from result }
     {

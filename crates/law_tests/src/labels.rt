@@ -71,7 +71,7 @@ fn labels_are_spelled_bare_or_quoted(rt: HostRuntime) {
     }
 }
 
-// A label with the place behind its spelling; or the byte that does not fit, if the text does not end there.
+// A label with the place after its spelling; or the byte that does not fit, if the text does not end there.
 type Spelled = Result<(&'static str, usize), Option<usize>>;
 
 // Whether this is what stands at a place of a text.

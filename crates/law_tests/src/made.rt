@@ -16,15 +16,15 @@ pub fn made(alloc: Global, parts: &Parts, times: usize) -> Result<Vec<u8>, Alloc
     Ok(text)
 }
 
-// A front, what stands before and behind each number from 0 on, and an end.
+// A prefix, what stands before and after each number from 0 on, and an end.
 pub type Numbered = [&'static str; 4];
 
 // The text of these parts with so many numbers.
 pub fn numbered(alloc: Global, parts: &Numbered, numbers: u32) -> Result<String, AllocError> {
-    let [front, before, behind, end] = *parts;
-    let mut text = String::from_str(alloc, front)?;
+    let [prefix, before, after, end] = *parts;
+    let mut text = String::from_str(alloc, prefix)?;
     for number in 0..numbers {
-        text.push_str(format!(in alloc; "{before}{number}{behind}")?.as_str())?;
+        text.push_str(format!(in alloc; "{before}{number}{after}")?.as_str())?;
     }
     text.push_str(end)?;
     Ok(text)

@@ -11,7 +11,7 @@ use Rattle.plan_core.specs.Plans.{Operator}
 use Rattle.plan_core.specs.Events.{RowEvents, events}
 use Rattle.plan_core.specs.TolledRows.{TolledRow, KeyValue, by_node, by_label, key_values, same_value, same_values, is_seen}
 use Rattle.plan_core.proofs.Found.{found-only_yes}
-use Rattle.lazy_binding.specs.Cursors.{behind_found, behind_first, IsBindingOf, NoneBefore, IsFirstBy}
+use Rattle.lazy_binding.specs.Cursors.{after_found, past_first, IsBindingOf, NoneBefore, IsFirstBy}
 
 -- values of keys that compare as the same are equal
 same_value-true : (a b : KeyValue) → same_value a b ≡ true → a ≡ b
@@ -77,14 +77,14 @@ module _ (ops : List Operator) (i : ℕ) (keys : List Key) {d e : Documents} (do
   -- a binding among events stays one
   pub binding_of_kept : {r q : TolledRow} → q ≡ r → {l m : RowEvents} → m ≡ l → IsBindingOf (events d ops i) r l → IsBindingOf (events e ops i) q m
   binding_of_kept {r} {q} row {l} {m} later h =
-      (h.0, ap (λ (y : Documents). found (behind_first h.0 (events y ops i))) docs ∙ h.1 ∙ ap (λ (y : TolledRow). finds y l) (sym row) ∙ ap (finds q) (sym later))
+      (h.0, ap (λ (y : Documents). found (past_first h.0 (events y ops i))) docs ∙ h.1 ∙ ap (λ (y : TolledRow). finds y l) (sym row) ∙ ap (finds q) (sym later))
 
 -- BINDINGS THAT ARE ALL DIFFERENT
 
 -- the events after the first k + 1 bindings are those after the first k of what comes after the first binding
-behind_next : (k : ℕ) (es : RowEvents) → behind_first (suc k) es ≡ behind_first k (behind_found (found es))
-behind_next zero es = refl
-behind_next (suc k) es = ap (λ (z : RowEvents). behind_found (found z)) (behind_next k es)
+after_next : (k : ℕ) (es : RowEvents) → past_first (suc k) es ≡ past_first k (after_found (found es))
+after_next zero es = refl
+after_next (suc k) es = ap (λ (z : RowEvents). after_found (found z)) (after_next k es)
 
 module _ (P : TolledRow → Type 0) where
   -- a property of each binding among events is one of the first binding
@@ -94,15 +94,15 @@ module _ (P : TolledRow → Type 0) where
   each_found (bind b ∷ es) row later h e = (let z : b ≡ row = cc in subst P z h.0)
 
   -- a property of each binding among events is one of each after the first
-  each_left : (es : RowEvents) → EachBinding P es → EachBinding P (behind_found (found es))
+  each_left : (es : RowEvents) → EachBinding P es → EachBinding P (after_found (found es))
   each_left [] h = tt
   each_left (skip ∷ es) h = each_left es h
   each_left (bind b ∷ es) h = h.1
 
   -- a property of each binding among events is one of each after the first few
-  each_behind : (k : ℕ) (es : RowEvents) → EachBinding P es → EachBinding P (behind_first k es)
-  each_behind zero es h = h
-  each_behind (suc k) es h = each_left (behind_first k es) (each_behind k es h)
+  each_after : (k : ℕ) (es : RowEvents) → EachBinding P es → EachBinding P (past_first k es)
+  each_after zero es h = h
+  each_after (suc k) es h = each_left (past_first k es) (each_after k es h)
 
 module _ (docs : Documents) (keys : List Key) (row : TolledRow) (later : RowEvents) where
   -- whether a binding has the keys of this one
@@ -110,13 +110,13 @@ module _ (docs : Documents) (keys : List Key) (row : TolledRow) (later : RowEven
   has_keys r = same_values (key_values docs keys row) (key_values docs keys r)
 
   -- among bindings of which no two agree by keys, each is the first one with its keys
-  first_at : (k : ℕ) (es : RowEvents) → AreApart docs keys es → found (behind_first k es) ≡ finds row later → IsFirstBy docs keys es row later
+  first_at : (k : ℕ) (es : RowEvents) → AreApart docs keys es → found (past_first k es) ≡ finds row later → IsFirstBy docs keys es row later
   first_at zero es h e = found-only_yes has_keys es row later e (same_values-refl (key_values docs keys row))
-  first_at (suc k) [] h e = first_at k [] h (sym (ap found (behind_next k [])) ∙ e)
-  first_at (suc k) (skip ∷ es) h e = first_at (suc k) es h (ap found (behind_next k es) ∙ sym (ap found (behind_next k (skip ∷ es))) ∙ e)
+  first_at (suc k) [] h e = first_at k [] h (sym (ap found (after_next k [])) ∙ e)
+  first_at (suc k) (skip ∷ es) h e = first_at (suc k) es h (ap found (after_next k es) ∙ sym (ap found (after_next k (skip ∷ es))) ∙ e)
   first_at (suc k) (bind b ∷ es) h e =
-      let there : found (behind_first k es) ≡ finds row later = sym (ap found (behind_next k (bind b ∷ es))) ∙ e in
-      let other = each_found (Differ docs keys b) (behind_first k es) row later (each_behind (Differ docs keys b) k es h.0) there in
+      let there : found (past_first k es) ≡ finds row later = sym (ap found (after_next k (bind b ∷ es))) ∙ e in
+      let other = each_found (Differ docs keys b) (past_first k es) row later (each_after (Differ docs keys b) k es h.0) there in
       let differs : has_keys b ≡ false = not_both (has_keys b) (λ t.
       let z : true ≡ false = sym (same_values-refl (key_values docs keys b)) ∙ ap (same_values (key_values docs keys b)) (sym (same_values-true (key_values docs keys row) (key_values docs keys b) t)) ∙ other in cc) in
       rw differs (first_at k es h.1 there)

@@ -1,4 +1,4 @@
--- Members of groups that were found stay at their places, and what comes behind one of them.
+-- Members of groups that were found stay at their places, and what comes after one of them.
 use Rattle.std.proofs.Common.{◌≡◌, ◌<◌, ◌≤◌, ◌-◌, ◌⊎◌, inl, inr, ℕ, zero, suc, List, [], ◌∷◌, ◌++◌, Option, Some, None, length, refl, ◌∙◌, sym, ap, subst, arith}
 use Rattle.std.specs.Prelude.{IsTrue, slice_get, slice_index_or}
 use Rattle.std.specs.declared.alloc.Global.{Global}
@@ -25,10 +25,10 @@ use Rattle.lazy_binding.proofs.Gathering.{next_at, last_past}
 -- HOW LISTS GROW
 
 -- what stands at a place of a list stands there in a longer one
-get-front : {X : Type 0} (xs ys : List X) (k : ℕ) (x : X) → slice_get xs k ≡ Some x → slice_get (xs ++ ys) k ≡ Some x
-get-front [] ys k x e = cc
-get-front (y ∷ xs) ys zero x e = e
-get-front (y ∷ xs) ys (suc k) x e = get-front xs ys k x e
+get-prefix : {X : Type 0} (xs ys : List X) (k : ℕ) (x : X) → slice_get xs k ≡ Some x → slice_get (xs ++ ys) k ≡ Some x
+get-prefix [] ys k x e = cc
+get-prefix (y ∷ xs) ys zero x e = e
+get-prefix (y ∷ xs) ys (suc k) x e = get-prefix xs ys k x e
 
 -- a place of a list of lists where something stands is one of it
 inside : {X : Type 0} (xs : List (List X)) (j place : ℕ) (x : X) → slice_get (slice_index_or xs j []) place ≡ Some x → j < length xs
@@ -44,7 +44,7 @@ module _ (old new : List (List (Rc Position Global))) (r : Rc Position Global) (
       by_place : (j ≡ k) ⊎ (j ≡ k → ⊥) → slice_get (slice_index_or new j []) place ≡ Some m
       by_place (inl z) =
           ap (λ (x : ℕ). slice_get (slice_index_or new x []) place) z ∙ ap (λ (xs : List (Rc Position Global)). slice_get xs place) h.here
-          ∙ get-front (slice_index_or old k []) (r ∷ []) place m (ap (λ (x : ℕ). slice_get (slice_index_or old x []) place) (sym z) ∙ e)
+          ∙ get-prefix (slice_index_or old k []) (r ∷ []) place m (ap (λ (x : ℕ). slice_get (slice_index_or old x []) place) (sym z) ∙ e)
       by_place (inr ne) = ap (λ (xs : List (Rc Position Global)). slice_get xs place) (h.others j ne) ∙ e
 
   -- one more group leaves all members of the others at their places
@@ -167,7 +167,7 @@ module _ (w : World) (ops : List Operator) (n i : ℕ) (keys : List Key) (group 
         (subst (IsNextMember w ops i keys (binding w ops i ms.one.value) (at_place ms.one.value ms.others place) (suc place)) there
         (next_at w ops i keys (binding w ops i ms.one.value) last ms.one.value 1 ms.others place (suc place) (omega (arith, l)) (omega arith) ms.come)))
 
-    -- where none was found at the next place, the group goes on behind the binding that was walked to, at no greater cost
+    -- where none was found at the next place, the group goes on after the binding that was walked to, at no greater cost
     pub found_past : member_at w n number (suc place) ≡ None → IsTrue (is_told w ops)
         → IsPast (same_group (docs_of w) keys (binding w ops i first) (ahead w ops i at)) (same_group (docs_of w) keys (binding w ops i first) (ahead w ops i last))
     found_past none t =

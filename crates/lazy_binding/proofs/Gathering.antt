@@ -17,7 +17,7 @@ use Rattle.plan_core.proofs.Found.{found-only_none, found-only_yes, found-only_n
 use Rattle.lazy_binding.specs.declared.position.Position.{Position, First', Seen'}
 use Rattle.lazy_binding.specs.Bench.{IsBench}
 use Rattle.lazy_binding.specs.World.{World, docs_of, is_told, seen_at}
-use Rattle.lazy_binding.specs.Cursors.{binding, ahead, number, up_to, has_row, IsIn, IsOf, IsPast, behind_first}
+use Rattle.lazy_binding.specs.Cursors.{binding, ahead, number, up_to, has_row, IsIn, IsOf, IsPast, past_first}
 use Rattle.lazy_binding.specs.Gathered.{Gathered, at_place}
 use Rattle.lazy_binding.specs.Gathering.{IsNextMember, AreInGroup, IsPassed, HasGroup, AreGathered}
 use Rattle.lazy_binding.specs.Keeping.{Keeps, Stays}
@@ -39,8 +39,8 @@ module _ (a b : World) (ops : List Operator) (bench : IsBench a ops) (k : Keeps 
   same_docs es = ap (λ (z : Documents). same_group z keys row es) (docs_kept k ops bench)
 
   -- the events of a group after an earlier position are the same by the later world
-  same_behind : (c : Position) → IsOf a ops i c → same_group (docs_of b) keys row (ahead b ops i c) ≡ in_group (ahead a ops i c)
-  same_behind c h = same_docs (ahead b ops i c) ∙ ap in_group (cursors_kept a b k ops bench i c h).ahead_is
+  same_after : (c : Position) → IsOf a ops i c → same_group (docs_of b) keys row (ahead b ops i c) ≡ in_group (ahead a ops i c)
+  same_after c h = same_docs (ahead b ops i c) ∙ ap in_group (cursors_kept a b k ops bench i c h).ahead_is
 
   -- sources that are told in the later world were told in the earlier one
   was_told : IsTrue (is_told b ops) → IsTrue (is_told a ops)
@@ -53,8 +53,8 @@ module _ (a b : World) (ops : List Operator) (bench : IsBench a ops) (k : Keeps 
     stands = h.stands;
     few = (let l = here.number_is in let s = size_kept a b k ops bench i in let f = h.few in omega (arith, l, s, f));
     found = λ t.
-        ap found (same_behind at of) ∙ h.found (was_told t) ∙ ap (λ (z : TolledRow). finds z (in_group (ahead a ops i m))) (sym here.binding_is)
-        ∙ ap (finds (binding b ops i m)) (sym (same_behind m h.cursor));
+        ap found (same_after at of) ∙ h.found (was_told t) ∙ ap (λ (z : TolledRow). finds z (in_group (ahead a ops i m))) (sym here.binding_is)
+        ∙ ap (finds (binding b ops i m)) (sym (same_after m h.cursor));
   }
     where
       here : Stays a b ops i m
@@ -67,10 +67,10 @@ module _ (a b : World) (ops : List Operator) (bench : IsBench a ops) (k : Keeps 
     (let x = (cursors_kept a b k ops bench i last l).number_is in let s = size_kept a b k ops bench i in let f = h.0 in omega (arith, x, s, f)),
     λ t. (
         let p = h.1 (was_told t) in
-        let x = ap cost (same_behind at of) in
-        let y = ap cost (same_behind last l) in
+        let x = ap cost (same_after at of) in
+        let y = ap cost (same_after last l) in
         record {
-          found = ap found (same_behind at of) ∙ p.found ∙ sym (ap found (same_behind last l));
+          found = ap found (same_after at of) ∙ p.found ∙ sym (ap found (same_after last l));
           costs = (let z = p.costs in omega (arith, x, y, z));
         }),
   )
@@ -87,11 +87,11 @@ module _ (a b : World) (ops : List Operator) (bench : IsBench a ops) (k : Keeps 
           let p = h.1 (was_told t) in
           let e = there (was_told t) in
           let no = other (was_told t) in
-          let x = ap cost (same_behind at of) in
+          let x = ap cost (same_after at of) in
           let y = ap cost (same_docs (ahead b ops i d)) in
           let z = cost-only_no of_group (ahead a ops i last) (binding b ops i d) (ahead b ops i d) e no in
           record {
-            found = ap found (same_behind at of) ∙ p.found ∙ found-only_no of_group (ahead a ops i last) (binding b ops i d) (ahead b ops i d) e no
+            found = ap found (same_after at of) ∙ p.found ∙ found-only_no of_group (ahead a ops i last) (binding b ops i d) (ahead b ops i d) e no
                 ∙ sym (ap found (same_docs (ahead b ops i d)));
             costs = (let u = p.costs in omega (arith, x, y, z, u));
           }),
@@ -107,7 +107,7 @@ module _ (a b : World) (ops : List Operator) (bench : IsBench a ops) (k : Keeps 
         stands = stands;
         few = (let s = size_kept a b k ops bench i in let f = h.0 in omega (arith, falls, s, f));
         found = λ t.
-            ap found (same_behind at of) ∙ (h.1 (was_told t)).found
+            ap found (same_after at of) ∙ (h.1 (was_told t)).found
             ∙ found-only_yes of_group (ahead a ops i last) (binding b ops i d) (ahead b ops i d) (there (was_told t)) (same (was_told t))
             ∙ ap (finds (binding b ops i d)) (sym (same_docs (ahead b ops i d)));
       }),
@@ -119,9 +119,9 @@ module _ (a b : World) (ops : List Operator) (bench : IsBench a ops) (k : Keeps 
     group_pushed same at n (m ∷ ms) r is of h = (member_kept at n m.value of h.0, group_pushed same m.value (suc n) ms r is h.0.cursor h.1)
 
 module _ (a b : World) (ops : List Operator) (bench : IsBench a ops) (k : Keeps a b) (n i : ℕ) (keys : List Key) (group : Option (Piece × ℕ)) where
-  -- the operator's bindings behind these, with so many keys seen
-  abbrev made_behind : Documents → List (List KeyValue) → RowEvents → RowEvents
-  made_behind docs seen es = distinct docs keys (kept_row docs keys (stops_over ops i keys) group) seen es
+  -- the operator's bindings after these, with so many keys seen
+  abbrev made_after : Documents → List (List KeyValue) → RowEvents → RowEvents
+  made_after docs seen es = distinct docs keys (kept_row docs keys (stops_over ops i keys) group) seen es
 
   -- a binding that was walked to stays one
   pub passed_kept : (c : Position) (m : ℕ) → IsPassed a ops n i keys group c m → IsPassed b ops n i keys group c m
@@ -138,11 +138,11 @@ module _ (a b : World) (ops : List Operator) (bench : IsBench a ops) (k : Keeps 
     before = λ t. none_before_kept ops i keys docs seen here.ahead_is (h.before (told t));
     past = λ t. (
         let p = h.past (told t) in
-        let x = ap (λ (z : Documents). behind_first m (events z ops n)) docs in
-        let y : made_behind (docs_of b) (up_to b n m) (ahead b ops i c) ≡ made_behind (docs_of a) (up_to a n m) (ahead a ops i c) =
-        ap (λ (z : Documents). made_behind z (up_to b n m) (ahead b ops i c)) docs
-        ∙ ap (λ (z : List (List KeyValue)). made_behind (docs_of a) z (ahead b ops i c)) seen
-        ∙ ap (made_behind (docs_of a) (up_to a n m)) here.ahead_is in
+        let x = ap (λ (z : Documents). past_first m (events z ops n)) docs in
+        let y : made_after (docs_of b) (up_to b n m) (ahead b ops i c) ≡ made_after (docs_of a) (up_to a n m) (ahead a ops i c) =
+        ap (λ (z : Documents). made_after z (up_to b n m) (ahead b ops i c)) docs
+        ∙ ap (λ (z : List (List KeyValue)). made_after (docs_of a) z (ahead b ops i c)) seen
+        ∙ ap (made_after (docs_of a) (up_to a n m)) here.ahead_is in
         let u = ap cost x in
         let v = ap cost y in
         record {
@@ -169,7 +169,7 @@ module _ (a b : World) (ops : List Operator) (bench : IsBench a ops) (k : Keeps 
   has_group_kept last m (r ∷ ms) l h = (
     λ q. (first q).cursor,
     λ q t.
-        ap (λ (z : Documents). found (behind_first m (events z ops n))) (docs_kept k ops bench) ∙ h.1 q (subst IsTrue (told-kept k ops) t)
+        ap (λ (z : Documents). found (past_first m (events z ops n))) (docs_kept k ops bench) ∙ h.1 q (subst IsTrue (told-kept k ops) t)
         ∙ ap (λ (z : TolledRow). finds z (ahead a ops n (First' q r.value (suc m)))) (sym (first q).binding_is)
         ∙ ap (finds (binding b ops n (First' q r.value (suc m)))) (sym (first q).ahead_is),
     here.cursor,
@@ -195,14 +195,14 @@ module _ (a b : World) (ops : List Operator) (bench : IsBench a ops) (k : Keeps 
 -- WHAT A LOOK-UP GIVES
 
 module _ (w : World) (ops : List Operator) (i : ℕ) (keys : List Key) (row : TolledRow) (last : Position) where
-  -- behind the member at a place stands the one at the next place
+  -- after the member at a place stands the one at the next place
   pub next_at : (at : Position) (k : ℕ) (ms : List (Rc Position Global)) (p j : ℕ) → p < length ms → j ≡ k + p → AreInGroup w ops i keys row last at k ms
       → IsNextMember w ops i keys row (at_place at ms p) j (at_place at ms (suc p))
   next_at at k [] p j l e h = absurd (omega (arith, l))
   next_at at k (m ∷ ms) zero j l e h = (let z : k ≡ j = omega (arith, e) in subst (λ (x : ℕ). IsNextMember w ops i keys row at x m.value) z h.0)
   next_at at k (m ∷ ms) (suc p) j l e h = next_at m.value (suc k) ms p j (omega (arith, l)) (omega (arith, e)) h.1
 
-  -- behind the last that was found the next one is the next behind the binding that was walked to, at no greater cost
+  -- after the last that was found the next one is the next after the binding that was walked to, at no greater cost
   pub last_past : (at : Position) (k : ℕ) (ms : List (Rc Position Global)) → AreInGroup w ops i keys row last at k ms → IsTrue (is_told w ops)
       → IsPast (same_group (docs_of w) keys row (ahead w ops i (at_place at ms (length ms)))) (same_group (docs_of w) keys row (ahead w ops i last))
   last_past at k [] h t = h.1 t

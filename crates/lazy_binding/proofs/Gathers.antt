@@ -14,7 +14,7 @@ use Rattle.plan_core.specs.TolledRows.{TolledRow, key_values, same_values}
 use Rattle.lazy_binding.specs.declared.position.Position.{Position, First'}
 use Rattle.lazy_binding.specs.Bench.{IsBench}
 use Rattle.lazy_binding.specs.World.{World, docs_of, is_told, seen_at}
-use Rattle.lazy_binding.specs.Cursors.{binding, ahead, number, has_row, IsOf, behind_first}
+use Rattle.lazy_binding.specs.Cursors.{binding, ahead, number, has_row, IsOf, past_first}
 use Rattle.lazy_binding.specs.Gathered.{Gathered, IsJoined, IsBegun}
 use Rattle.lazy_binding.specs.Gathering.{AreInGroup, IsPassed, HasGroup, AreGathered}
 use Rattle.lazy_binding.specs.Keeping.{Keeps, Stays}
@@ -30,13 +30,13 @@ HasKeys a b ops i keys at v (m ∷ ms) = IsTrue (is_told a ops) → same_values 
 module _ (a b : World) (ops : List Operator) (bench : IsBench a ops) (k : Keeps a b) (n i : ℕ) (keys : List Key) (group : Option (Piece × ℕ)) (g : Gathered)
     (h : AreGathered a ops n i keys group g) (r : Rc Position Global) (cursor : IsOf b ops i r.value) (stands : IsTrue (has_row r.value)) (falls : number b ops i r.value < number a ops i g.last)
     (there : IsTrue (is_told a ops) → found (ahead a ops i g.last) ≡ finds (binding b ops i r.value) (ahead b ops i r.value)) where
-  -- a group with other members behind its first
+  -- a group with other members after its first
   has_group_with : (j : ℕ) (m : Rc Position Global) (ms later : List (Rc Position Global)) → HasGroup a ops n i keys g.last j (m ∷ ms)
       → AreInGroup b ops i keys (binding a ops i m.value) r.value m.value 1 later → HasGroup b ops n i keys r.value j (m ∷ later)
   has_group_with j m ms later x y = (
     λ q. (first q).cursor,
     λ q t.
-        ap (λ (z : Documents). found (behind_first j (events z ops n))) (docs_kept k ops bench) ∙ x.1 q (subst IsTrue (told-kept k ops) t)
+        ap (λ (z : Documents). found (past_first j (events z ops n))) (docs_kept k ops bench) ∙ x.1 q (subst IsTrue (told-kept k ops) t)
         ∙ ap (λ (z : TolledRow). finds z (ahead a ops n (First' q m.value (suc j)))) (sym (first q).binding_is)
         ∙ ap (finds (binding b ops n (First' q m.value (suc j)))) (sym (first q).ahead_is),
     here.cursor,
@@ -82,7 +82,7 @@ module _ (a b : World) (ops : List Operator) (bench : IsBench a ops) (k : Keeps 
   pub gathered_begun : (later : List (List (Rc Position Global))) → IsBegun g.groups later r → length (seen_at b n) ≡ suc (length (seen_at a n))
       → IsPassed b ops n i keys group r.value (suc (length g.groups)) → ((j : ℕ) → j < length g.groups → HasKeys a b ops i keys r.value false (slice_index_or g.groups j []))
       → ((q : Rc (Unit {0}) Global) → IsOf b ops n (First' q r.value (suc (length g.groups))))
-      → ((q : Rc (Unit {0}) Global) → IsTrue (is_told b ops) → found (behind_first (length g.groups) (events (docs_of b) ops n))
+      → ((q : Rc (Unit {0}) Global) → IsTrue (is_told b ops) → found (past_first (length g.groups) (events (docs_of b) ops n))
       ≡ finds (binding b ops n (First' q r.value (suc (length g.groups)))) (ahead b ops n (First' q r.value (suc (length g.groups)))))
       → AreGathered b ops n i keys group (record { groups = later; last = r.value; ended = false })
   gathered_begun later begun more passed other_keys first next = record {

@@ -63,7 +63,7 @@ nth_items m no_more k p h = cc
 nth_items m (one_more q c rest) zero p h = ap (λ (z : Option (Rc Position Global)). elim z as (λ _. Position) [ Some y ↦ y.value | None ↦ c ]) h
 nth_items m (one_more q c rest) (suc k) p h = nth_items _ rest k p h
 
--- behind the end there is none
+-- after the end there is none
 nth_past : (m : _) (row : Row m) (k : ℕ) → slice_get (items m row) k ≡ None → nth row k ≡ Start
 nth_past m no_more k h = refl
 nth_past m (one_more q c rest) zero h = cc
@@ -76,7 +76,7 @@ module _ (ops : List Operator) (i v : ℕ) where
   spot_items m (one_more q c rest) zero p h = ap (λ (z : Option (Rc Position Global)). elim z as (λ _. Option (ℕ × Spot)) [ Some y ↦ spot_in ops i y.value v | None ↦ None ]) h
   spot_items m (one_more q c rest) (suc k) p h = spot_items _ rest k p h
 
-  -- behind the end it has none
+  -- after the end it has none
   spot_past : (m : _) (row : Row m) (k : ℕ) → slice_get (items m row) k ≡ None → spot_nth ops i row k v ≡ None
   spot_past m no_more k h = refl
   spot_past m (one_more q c rest) zero h = cc

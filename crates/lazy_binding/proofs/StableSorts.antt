@@ -10,7 +10,7 @@ use Rattle.plan_core.specs.Sorted.{insert_by, sorted_by}
 use Rattle.plan_core.specs.Unary.{comes_before}
 
 module _ {X : Type 0} (lt : X → X → Bool) (o : IsStrictWeakOrder lt) where
-  -- no element is before one that stands in front of it
+  -- no element is before one that stands before it
   abbrev pub Rises : List X → Type 0
   Rises [] = Unit {0}
   Rises (x ∷ xs) = AllByRecursion (λ y. lt y x ≡ false) xs × Rises xs
@@ -33,7 +33,7 @@ module _ {X : Type 0} (lt : X → X → Bool) (o : IsStrictWeakOrder lt) where
   ties_self : (x : X) → ties lt x x ≡ true
   ties_self x = rw (self x) refl
 
-  -- one that is before another ties with none behind that one
+  -- one that is before another ties with none after that one
   apart : (x y : X) (zs : List X) → lt x y ≡ true → AllByRecursion (λ z. lt z y ≡ false) zs → filter (ties lt x) zs ≡ []
   apart x y [] h a = refl
   apart x y (z ∷ zs) h a =
@@ -134,7 +134,7 @@ module _ {X : Type 0} (lt : X → X → Bool) (o : IsStrictWeakOrder lt) where
       first_false true u h = cc
       first_false false u h = refl
 
-  -- one of two that don't both pass, in front of or behind the other
+  -- one of two that don't both pass, before or after the other
   swapped : (s t : Bool) (x y : X) (xs : List X) → (s ≡ true → t ≡ false) → cond t (y ∷ cond s (x ∷ xs) xs) (cond s (x ∷ xs) xs) ≡ cond s (x ∷ cond t (y ∷ xs) xs) (cond t (y ∷ xs) xs)
   swapped true true x y xs h = let c : true ≡ false = h refl in cc
   swapped true false x y xs h = refl

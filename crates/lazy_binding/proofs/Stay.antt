@@ -24,7 +24,7 @@ use Rattle.lazy_binding.specs.declared.key.KeyPart.TheVariants.{Node as node_par
 use Rattle.lazy_binding.specs.declared.position.Position.{Position, Start, Top, Whole, Found', Pass', First', Seen', Pair', Sorted', Row_of-Position-Sorted-0-1 as Row, end_of-Position-Sorted-0-1 as no_more, more_of-Position-Sorted-0-1 as one_more}
 use Rattle.lazy_binding.specs.Bench.{IsBench}
 use Rattle.lazy_binding.specs.World.{World, docs_of, of_buffer, buffer_at, IsMatchIn, match_place, match_ahead, match_number, bound_of, seen_at, part_value, seen_values, last_of, IsPart}
-use Rattle.lazy_binding.specs.Cursors.{Standing, standing, stands, binding, ahead, size, number, weighs, IsIn, AreIn, rows_in, visit_ahead, left_ahead, up_to, behind_first, IsPast}
+use Rattle.lazy_binding.specs.Cursors.{Standing, standing, stands, binding, ahead, size, number, weighs, IsIn, AreIn, rows_in, visit_ahead, left_ahead, up_to, past_first, IsPast}
 use Rattle.lazy_binding.specs.Keeping.{Keeps, StaysIn, KeepsCursors}
 use Rattle.lazy_binding.proofs.Keep.{told-kept, docs_kept, bound_kept, spot_kept, place_kept, node_kept}
 use Rattle.lazy_binding.proofs.FirstMembers.{none_before_kept, first_by_kept, binding_of_kept}
@@ -48,12 +48,12 @@ module _ (a b : World) (k : Keeps a b) (ops : List Operator) (bench : IsBench a 
 
   -- a cursor of a visit is one still
   match_kept : (s : ℕ) (d : DescCursor) → IsMatchIn a s d → IsMatchIn b s d
-  match_kept s d h = record { buffer = (k.goes s h.buffer h.there).later; there = (k.goes s h.buffer h.there).there; cursor = (stays_in s d h (machine_of (record { labels = []; behind = []; live = 0; first = 0 }))).cursor }
+  match_kept s d h = record { buffer = (k.goes s h.buffer h.there).later; there = (k.goes s h.buffer h.there).there; cursor = (stays_in s d h (machine_of (record { labels = []; after = []; live = 0; first = 0 }))).cursor }
 
   -- a cursor of a visit stands at the same place after a call
   match_place-kept : (s : ℕ) (d : DescCursor) → IsMatchIn a s d → match_place b s d ≡ match_place a s d
   match_place-kept s d h =
-      at_new [] (λ c. place_at c d) s d h ∙ (stays_in s d h (machine_of (record { labels = []; behind = []; live = 0; first = 0 }))).place ∙ sym (at_old [] (λ c. place_at c d) s d h)
+      at_new [] (λ c. place_at c d) s d h ∙ (stays_in s d h (machine_of (record { labels = []; after = []; live = 0; first = 0 }))).place ∙ sym (at_old [] (λ c. place_at c d) s d h)
 
   -- a cursor of a visit has the same events after it once a call was made
   match_ahead-kept : (s : ℕ) (m : Machine) (d : DescCursor) → IsMatchIn a s d → match_ahead b s m d ≡ match_ahead a s m d
@@ -65,7 +65,7 @@ module _ (a b : World) (k : Keeps a b) (ops : List Operator) (bench : IsBench a 
   match_number-kept s d h =
       let e = at_new 0 (λ c. number_of_match b.view c d) s d h in
       let f = at_old 0 (λ c. number_of_match a.view c d) s d h in
-      let l = (stays_in s d h (machine_of (record { labels = []; behind = []; live = 0; first = 0 }))).number in
+      let l = (stays_in s d h (machine_of (record { labels = []; after = []; live = 0; first = 0 }))).number in
       omega (arith, e, f, l)
 
   -- the events of a visit that are ahead
@@ -232,7 +232,7 @@ module _ (a b : World) (k : Keeps a b) (ops : List Operator) (bench : IsBench a 
       λ t.
           ap (λ (z : Standing). z.ahead) (standing_kept n (passes_on i (first_by_keys keys group)) (First' q c m) h)
           ∙ h.9 (subst IsTrue (told-kept k ops) t)
-          ∙ ap (λ (z : Documents). behind_first m (events z ops n)) (sym (docs_kept k ops bench)),
+          ∙ ap (λ (z : Documents). past_first m (events z ops n)) (sym (docs_kept k ops bench)),
       h.10,
       λ e. k.found n m 0 c (h.11 e),
     )
@@ -248,7 +248,7 @@ module _ (a b : World) (k : Keeps a b) (ops : List Operator) (bench : IsBench a 
           ∙ ap (λ (z : Documents). drop m (keys_seen z keys [] (events z ops i))) (sym (docs_kept k ops bench)),
       λ t. none_before_kept ops i keys (docs_kept k ops bench) (seen_kept n m h.2) (ap (λ (z : Standing). z.ahead) (standing_kept i (shape_at ops i) c h.0)) (h.4 (subst IsTrue (told-kept k ops) t)),
       (let e = size_kept i in let l = number_kept i (shape_at ops i) c h.0 in omega (arith, e, l, h.5)),
-      λ t. past_kept (ap (λ (z : Documents). behind_first m (events z ops n)) (docs_kept k ops bench))
+      λ t. past_kept (ap (λ (z : Documents). past_first m (events z ops n)) (docs_kept k ops bench))
           (ap (λ (z : Standing). z.ahead) (standing_kept n (passes_on i (first_by_keys keys group)) (Seen' q c m) h)) (h.6 (subst IsTrue (told-kept k ops) t)),
       h.7,
       h.8,

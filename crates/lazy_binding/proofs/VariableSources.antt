@@ -139,7 +139,7 @@ either_source None k None q e f g = g e
 kept_source : (keys : List Key) (kinds : Kinds) (of : ℕ → Option ℕ) (v : ℕ) → kept keys kinds v ≡ Some a_node → (kinds v ≡ Some a_node → (s : ℕ) × (of v ≡ Some s)) → (s : ℕ) × (cond (has_var keys v) (of v) None ≡ Some s)
 kept_source keys kinds of v e f = elim (has_var keys v) as (λ t. cond t (kinds v) None ≡ Some a_node → (z : ℕ) × (cond t (of v) None ≡ Some z)) [ true ↦ λ g. f g | false ↦ λ g. cc ] e
 
--- what holds a node behind a stage is of a source, where that is so of the input
+-- what holds a node after a stage is of a source, where that is so of the input
 stage_kind : (f : Stage) (kinds : Kinds) (of : ℕ → Option ℕ) → ((v : ℕ) → kinds v ≡ Some a_node → (s : ℕ) × (of v ≡ Some s)) → (v : ℕ) → stage_kinds f kinds v ≡ Some a_node → (s : ℕ) × (stage_source f of v ≡ Some s)
 stage_kind (filters test) kinds of h v e = h v e
 stage_kind (extends out made) kinds of h v e = h v (with_other out v (made_kind made) kinds (no_node made) e).1

@@ -26,18 +26,18 @@ pub record Standing : Type 0 where
   pub ahead : RowEvents
 
 -- the events after the binding that was found; none where none was found
-abbrev pub behind_found : Find TolledRow → RowEvents
-behind_found nothing = []
-behind_found (finds row es) = es
+abbrev pub after_found : Find TolledRow → RowEvents
+after_found nothing = []
+after_found (finds row es) = es
 
 -- the events after the first k bindings among these events
-abbrev pub behind_first : ℕ → RowEvents → RowEvents
-behind_first zero es = es
-behind_first (suc k) es = behind_found (found (behind_first k es))
+abbrev pub past_first : ℕ → RowEvents → RowEvents
+past_first zero es = es
+past_first (suc k) es = after_found (found (past_first k es))
 
 -- a row is one of the bindings among these events, and `later` are the events after it
 abbrev pub IsBindingOf : RowEvents → TolledRow → RowEvents → Type 0
-IsBindingOf es row later = (k : ℕ) × (found (behind_first k es) ≡ finds row later)
+IsBindingOf es row later = (k : ℕ) × (found (past_first k es) ≡ finds row later)
 
 -- the next binding in `later` is the next one in `es`, and `later` costs no more
 pub record IsPast (es later : RowEvents) : Type 0 where
@@ -83,7 +83,7 @@ count no_more = 0
 count (one_more q c rest) = suc (count rest)
 
 abbrev mutual
-  -- what a position of operator n in this shape stands for: its binding, and the events behind it
+  -- what a position of operator n in this shape stands for: its binding, and the events after it
   pub stands : World → List Operator → ℕ → Shape → Position → Standing
   stands w ops n f Start = record { row = []; ahead = events (docs_of w) ops n }
   stands w ops n (one_source s out) (Top t x) = record { row = (out, of_source (spot_node w t x)) ∷ []; ahead = [] }
@@ -208,14 +208,14 @@ abbrev mutual
       × (IsTrue (is_told w ops) → IsFirstBy (docs_of w) keys (events (docs_of w) ops i) (binding w ops i c) (ahead w ops i c))
       × (0 < k) × (number w ops i c + k ≤ size w ops i)
       × (IsTrue (is_told w ops) → last_or None (up_to w n k) ≡ Some (key_values (docs_of w) keys (binding w ops i c)))
-      × (IsTrue (is_told w ops) → (stands w ops n (passes_on i (first_by_keys keys group)) (First' q c k)).ahead ≡ behind_first k (events (docs_of w) ops n))
+      × (IsTrue (is_told w ops) → (stands w ops n (passes_on i (first_by_keys keys group)) (First' q c k)).ahead ≡ past_first k (events (docs_of w) ops n))
       × (shape_apart ops (passes_on i (first_by_keys keys group)) ≡ false)
       × (gathers_by ops (passes_on i (first_by_keys keys group)) ≡ true → IsFound w n k 0 c)
   IsIn w ops n (passes_on i (first_by_keys keys group)) (Seen' q c k) = IsIn w ops i (shape_at ops i) c × IsTrue (has_row c) × (k ≤ length (seen_at w n))
       × (IsTrue (is_told w ops) → keys_seen (docs_of w) keys (up_to w n k) (ahead w ops i c) ≡ drop k (keys_seen (docs_of w) keys [] (events (docs_of w) ops i)))
       × (IsTrue (is_told w ops) → NoneBefore (docs_of w) keys (events (docs_of w) ops i) (up_to w n k) (ahead w ops i c))
       × (number w ops i c + k ≤ size w ops i)
-      × (IsTrue (is_told w ops) → IsPast (behind_first k (events (docs_of w) ops n)) (stands w ops n (passes_on i (first_by_keys keys group)) (Seen' q c k)).ahead)
+      × (IsTrue (is_told w ops) → IsPast (past_first k (events (docs_of w) ops n)) (stands w ops n (passes_on i (first_by_keys keys group)) (Seen' q c k)).ahead)
       × (shape_apart ops (passes_on i (first_by_keys keys group)) ≡ false) × (gathers_by ops (passes_on i (first_by_keys keys group)) ≡ false)
   IsIn w ops n (pairs_up l r tests) (Pair' q x q' y k) = IsIn w ops l (shape_at ops l) x × IsTrue (has_row x) × IsIn w ops r (shape_at ops r) y
       × (k ≤ length (memo_at w n).pairs) × (passed (memo_at w n).pairs k ≡ y)
@@ -231,6 +231,6 @@ abbrev mutual
 abbrev pub IsOf : World → List Operator → ℕ → Position → Type 0
 IsOf w ops n c = IsIn w ops n (shape_at ops n) c
 
--- a binding of the input of operator n whose keys are among the first k that the operator has seen, and so are those of all bindings behind the one that had the last of them first
+-- a binding of the input of operator n whose keys are among the first k that the operator has seen, and so are those of all bindings after the one that had the last of them first
 abbrev pub HasSeen : World → List Operator → ℕ → Position → ℕ → Type 0
 HasSeen w ops n c k = (q : _) → IsOf w ops n (Seen' q c k)

@@ -11,7 +11,7 @@ use Rattle.plan_core.specs.Fronts.{stops_over}
 use Rattle.plan_core.specs.Events.{events, distinct, keys_seen, kept_row, same_group}
 use Rattle.lazy_binding.specs.declared.position.Position.{Position, First'}
 use Rattle.lazy_binding.specs.World.{World, docs_of, is_told, seen_at}
-use Rattle.lazy_binding.specs.Cursors.{binding, ahead, number, size, up_to, IsOf, IsPast, NoneBefore, has_row, behind_first}
+use Rattle.lazy_binding.specs.Cursors.{binding, ahead, number, size, up_to, IsOf, IsPast, NoneBefore, has_row, past_first}
 use Rattle.lazy_binding.specs.Gathered.{Gathered}
 
 -- position m of operator i stands at the next binding with the keys of a row after position `at`, before which k of them come
@@ -37,14 +37,14 @@ pub record IsPassed (w : World) (ops : List Operator) (n i : ℕ) (keys : List K
   pub seen : IsTrue (is_told w ops)
       → keys_seen (docs_of w) keys (up_to w n k) (ahead w ops i c) ≡ drop k (keys_seen (docs_of w) keys [] (events (docs_of w) ops i))
   pub before : IsTrue (is_told w ops) → NoneBefore (docs_of w) keys (events (docs_of w) ops i) (up_to w n k) (ahead w ops i c)
-  pub past : IsTrue (is_told w ops) → IsPast (behind_first k (events (docs_of w) ops n))
+  pub past : IsTrue (is_told w ops) → IsPast (past_first k (events (docs_of w) ops n))
       (distinct (docs_of w) keys (kept_row (docs_of w) keys (stops_over ops i keys) group) (up_to w n k) (ahead w ops i c))
 
 -- these are the members of group k, counted from 0, of operator n: the binding of operator n after k others is made of the first, and the others come one after another
 abbrev pub HasGroup : World → List Operator → ℕ → ℕ → List Key → Position → ℕ → List (Rc Position Global) → Type 0
 HasGroup w ops n i keys last k [] = ⊥
 HasGroup w ops n i keys last k (m ∷ ms) = ((q : Rc (Unit {0}) Global) → IsOf w ops n (First' q m.value (suc k)))
-    × ((q : Rc (Unit {0}) Global) → IsTrue (is_told w ops) → found (behind_first k (events (docs_of w) ops n))
+    × ((q : Rc (Unit {0}) Global) → IsTrue (is_told w ops) → found (past_first k (events (docs_of w) ops n))
     ≡ finds (binding w ops n (First' q m.value (suc k))) (ahead w ops n (First' q m.value (suc k))))
     × IsOf w ops i m.value × AreInGroup w ops i keys (binding w ops i m.value) last m.value 1 ms
 

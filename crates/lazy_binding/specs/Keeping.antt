@@ -33,7 +33,7 @@ pub record Keeps (old new : World) : Type 0 where
   pub members : (n k : ℕ) → k ≤ length (memo_at old n).pairs → take k (memo_at new n).pairs ≡ take k (memo_at old n).pairs
   pub found : FoundStay old new
 
--- an earlier position of operator n, in this shape, stands for the same binding, with the same events behind it, and its number did not rise
+-- an earlier position of operator n, in this shape, stands for the same binding, with the same events after it, and its number did not rise
 pub record StaysIn (old new : World) (ops : List Operator) (n : ℕ) (f : Shape) (c : Position) : Type 0 where
   pub cursor : IsIn new ops n f c
   pub binding_is : (stands new ops n f c).row ≡ (stands old ops n f c).row

@@ -103,8 +103,8 @@ impl Gathered {
         }
     }
 
-    /// The member at the place behind one of a group, both counted from 0; `None` exactly where none was found there yet.
-    pub fn behind(&self, group: usize, place: usize) -> Option<&Rc<Position>>
+    /// The member at the place after one of a group, both counted from 0; `None` exactly where none was found there yet.
+    pub fn after(&self, group: usize, place: usize) -> Option<&Rc<Position>>
         ensures { option_copied result ≡ slice_get (slice_index_or self.now.groups group []) (suc place) }
     {
         match self.groups.get(group) {

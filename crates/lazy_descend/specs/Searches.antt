@@ -13,7 +13,7 @@ pub record TellsOn (old new : Telling) : Type 0 where
   pub told : new.told ≡ old.told
   pub forward : new.forward ≡ old.forward
 
--- cursors among events: which are good, and which of these may stand at a binding; that binding, the events behind it, and a number that falls
+-- cursors among events: which are good, and which of these may stand at a binding; that binding, the events after it, and a number that falls
 pub record Cursors (C B : Type 0) : Type 1 where
   pub IsCursor : C → Type 0
   pub HasRow : C → Type 0
@@ -29,7 +29,7 @@ AsksAtMost old new most = IsTrue old.told → IsTrue old.forward → new.fills �
 abbrev pub FindsNone : {B : Type 0} → Telling → List (Event B) → Type 0
 FindsNone old es = IsTrue old.told → found es ≡ nothing
 
--- over told sources this is the first binding of these events, with those behind it
+-- over told sources this is the first binding of these events, with those after it
 abbrev pub FindsAt : {B : Type 0} → Telling → List (Event B) → B → List (Event B) → Type 0
 FindsAt old es row later = IsTrue old.told → found es ≡ finds row later
 

@@ -21,7 +21,7 @@ use Rattle.lazy_binding.specs.World.{World, docs_of, is_told, is_forward, gather
 use Rattle.lazy_binding.proofs.FoundMembers.{found_of, found_past}
 use Rattle.lazy_binding.proofs.Keep.{docs_kept, keeps_same, keeps_then}
 use Rattle.lazy_binding.proofs.Stay.{cursors_kept}
-use Rattle.lazy_steps.specs.Gathers.{IsFurther, members_behind}
+use Rattle.lazy_steps.specs.Gathers.{IsFurther, members_after}
 use Rattle.lazy_steps.specs.Steps.{Asks, telling}
 use Rattle.lazy_steps.proofs.Goes.{asks_nothing, tells_on, untouched_then}
 
@@ -35,26 +35,26 @@ fewer (bind b ∷ es) r rest e = (let same : es ≡ rest = cc in let l = ap leng
 not_again : (es : RowEvents) (r : TolledRow) → found es ≡ finds r es → ⊥
 not_again es r e = (let l = fewer es r es e in omega (arith, l))
 
--- a walk for the member behind one of a group has come so far: while it isn't there, what the walk of all groups has left costs no more than what was ahead
-pub record ComesBehind (ops : List Operator) (n i : ℕ) (keys : List Key) (count place : ℕ) (first at : Position) (a b : World) : Type 0 where
-  pub asks : Asks a b ops n (members_behind a ops i keys first at)
+-- a walk for the member after one of a group has come so far: while it isn't there, what the walk of all groups has left costs no more than what was ahead
+pub record ComesAfter (ops : List Operator) (n i : ℕ) (keys : List Key) (count place : ℕ) (first at : Position) (a b : World) : Type 0 where
+  pub asks : Asks a b ops n (members_after a ops i keys first at)
   pub costs : member_at b n count (suc place) ≡ None → IsTrue (is_told a ops) → IsTrue (is_forward a ops)
-      → b.view.fills + cost (members_behind b ops i keys first (gathered_at b n).last) ≤ a.view.fills + cost (members_behind a ops i keys first at)
+      → b.view.fills + cost (members_after b ops i keys first (gathered_at b n).last) ≤ a.view.fills + cost (members_after a ops i keys first at)
 
 module _ (ops : List Operator) (n i : ℕ) (keys : List Key) (made : Piece × ℕ) (is : shape_at ops n ≡ passes_on i (first_by_keys keys (Some made)))
     (by : gathers_by ops (passes_on i (first_by_keys keys (Some made))) ≡ true) (a : World) (bench : IsBench a ops) (count place : ℕ) (first at : Position)
     (begun : IsFound a n count 0 first) (here : IsFound a n count place at) where
   -- the events of the group that are ahead of the member
   abbrev whole : RowEvents
-  whole = members_behind a ops i keys first at
+  whole = members_after a ops i keys first at
 
   -- the events of a group that the walk over the input has left, in a later world
   abbrev left : World → RowEvents
-  left w = members_behind w ops i keys first (gathered_at w n).last
+  left w = members_after w ops i keys first (gathered_at w n).last
 
   -- how far a walk for the next member has come
   abbrev Comes : World → Type 0
-  Comes w = ComesBehind ops n i keys count place first at a w
+  Comes w = ComesAfter ops n i keys count place first at a w
 
   -- what was gathered
   good : (w : World) → IsBench w ops → AreGathered w ops n i keys (Some made) (gathered_at w n)
@@ -81,7 +81,7 @@ module _ (ops : List Operator) (n i : ℕ) (keys : List Key) (made : Piece × �
     of_group r = same_values (key_values (docs_of b) keys (binding b ops i first)) (key_values (docs_of b) keys r)
 
     -- the events of the group are the same
-    pub whole_is : members_behind b ops i keys first at ≡ whole
+    pub whole_is : members_after b ops i keys first at ≡ whole
     whole_is =
         ap (λ (z : Documents). same_group z keys (binding b ops i first) (ahead b ops i at)) (docs_kept kept ops bench)
         ∙ ap (λ (z : TolledRow). same_group (docs_of a) keys z (ahead b ops i at)) (cursors_kept a b kept ops bench i first first_of).binding_is
@@ -101,8 +101,8 @@ module _ (ops : List Operator) (n i : ℕ) (keys : List Key) (made : Piece × �
 
   module _ (b : World) (late : IsBench b ops) (come : Comes b) (none : member_at b n count (suc place) ≡ None) (e : World) (k : Asks b e ops n (ahead b ops i (gathered_at b n).last)) where
     -- what both calls asked
-    pub behind_asks : Asks a e ops n whole
-    behind_asks = record {
+    pub after_asks : Asks a e ops n whole
+    after_asks = record {
       kept = keeps_then come.asks.kept k.kept;
       above = λ j l. untouched_then a b e j (come.asks.above j l) (k.above j l);
       lazy = λ t f.
@@ -114,9 +114,9 @@ module _ (ops : List Operator) (n i : ℕ) (keys : List Key) (made : Piece × �
     }
 
     -- a walk to the next member goes on by one more member of some group
-    pub behind_on : IsBench e ops → IsFurther b e ops n i keys → Comes e
-    behind_on last m = record {
-      asks = behind_asks;
+    pub after_on : IsBench e ops → IsFurther b e ops n i keys → Comes e
+    after_on last m = record {
+      asks = after_asks;
       costs = λ still t f.
           let u = still_told (tells_on come.asks.kept ops) t in
           let x = come.costs none t f in
@@ -137,7 +137,7 @@ module _ (ops : List Operator) (n i : ℕ) (keys : List Key) (made : Piece × �
         -- what the walk has left now, by what was known before
         left_is : left e ≡ same_group (docs_of b) keys (binding b ops i first) (ahead e ops i m.next)
         left_is =
-            ap (λ (z : Position). members_behind e ops i keys first z) last_is
+            ap (λ (z : Position). members_after e ops i keys first z) last_is
             ∙ ap (λ (z : Documents). same_group z keys (binding e ops i first) (ahead e ops i m.next)) (docs_kept k.kept ops late)
             ∙ ap (λ (z : TolledRow). same_group (docs_of b) keys z (ahead e ops i m.next)) (cursors_kept b e k.kept ops late i first first_then).binding_is
 

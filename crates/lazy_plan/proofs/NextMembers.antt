@@ -25,7 +25,7 @@ use Rattle.lazy_binding.specs.World.{World, docs_of, IsFound}
 use Rattle.lazy_binding.proofs.FoundMembers.{found_next}
 use Rattle.lazy_binding.proofs.Stay.{cursors_kept, size_kept}
 use Rattle.lazy_plan.specs.Bench.{told_by, AsksAtMost}
-use Rattle.lazy_steps.specs.Gathers.{members_behind}
+use Rattle.lazy_steps.specs.Gathers.{members_after}
 use Rattle.lazy_plan.specs.Groups.{stops_at, group_ahead, IsGroup, members_of}
 use Rattle.lazy_steps.specs.Steps.{Asks, telling}
 use Rattle.lazy_steps.proofs.Goes.{tells_on}
@@ -67,14 +67,14 @@ module _ (a : World) (p : Plan) (op m place : ℕ) (first at : Position) (is : f
   first_found = (subst (λ (z : Shape). IsIn a ops op z (First' some first m)) next_shape (g.begins some)).11 next_gathers
 
   -- the events of the group are those that have the keys of its first member
-  events_are : (w : World) (x : Position) → group_ahead (record { world = w; plan = p }) op first x ≡ members_behind w ops i keys first x
+  events_are : (w : World) (x : Position) → group_ahead (record { world = w; plan = p }) op first x ≡ members_after w ops i keys first x
   events_are w x = ap (λ (v : Bool). passing v (λ row. same_values (key_values (docs_of w) keys (binding w ops i first)) (key_values (docs_of w) keys row)) (ahead w ops i x)) among
 
   -- where none of the events after a member is of its group, the group has no more members
-  pub next_none : FindsNone (telling a ops) (members_behind a ops i keys first at) → FindsNone (telling a ops) (group_ahead (record { world = a; plan = p }) op first at)
+  pub next_none : FindsNone (telling a ops) (members_after a ops i keys first at) → FindsNone (telling a ops) (group_ahead (record { world = a; plan = p }) op first at)
   next_none h t = ap found (events_are a at) ∙ h t
 
-  module _ (b : World) (k : Asks a b ops op (members_behind a ops i keys first at)) where
+  module _ (b : World) (k : Asks a b ops op (members_after a ops i keys first at)) where
     -- what is asked is within what is allowed
     pub next_lazy : AsksAtMost (record { world = a; plan = p }) (record { world = b; plan = p }) (cost (group_ahead (record { world = a; plan = p }) op first at))
     next_lazy t f = (let x = k.lazy t f in let y = ap cost (events_are a at) in omega (arith, x, y))

@@ -8,7 +8,7 @@ use Rattle.lxp_core.specs.declared.fault.WalkFault.{WalkFault}
 use Rattle.plan_core.specs.Plans.{Operator}
 use Rattle.plan_core.specs.ByNumber.{op_at}
 use Rattle.plan_core.specs.Fronts.{op_stops}
-use Rattle.plan_core.specs.Events.{RowEvents, group_behind}
+use Rattle.plan_core.specs.Events.{RowEvents, group_after}
 use Rattle.plan_core.specs.TolledRows.{TolledRow}
 use Rattle.lazy_binding.specs.declared.position.Position.{Position, First'}
 use Rattle.lazy_binding.specs.Cursors.{IsOf, HasSeen}
@@ -28,7 +28,7 @@ stops_at ops op = op_stops ops (op_at ops op)
 abbrev pub group_ahead : BenchState → ℕ → Position → Position → RowEvents
 group_ahead st op first at =
     let input = input_at (ops_of st) op in
-    group_behind (documents st) (keys_of (op_at (ops_of st) op)) (stops_at (ops_of st) op) (binding_at st input first) (ahead_at st input at)
+    group_after (documents st) (keys_of (op_at (ops_of st) op)) (stops_at (ops_of st) op) (binding_at st input first) (ahead_at st input at)
 
 -- the group with this number among those of operator op, counted from 1, begins at a cursor of its input
 abbrev pub BeginsGroup : BenchState → ℕ → ℕ → Position → Type 0

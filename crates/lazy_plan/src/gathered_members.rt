@@ -35,7 +35,7 @@ fn next_found<S: Sources>(
     let number = group.number.saturating_sub(1);
     'members: loop {
         let gathered = &growing.walked.gathered[gathers.walk.op];
-        match gathered.behind(number, group.place) {
+        match gathered.after(number, group.place) {
             Some(member) => return Ok(Some(share(member)?)),
             None => {
                 if !gathers.grow(alloc, growing, s)? {
@@ -53,7 +53,7 @@ impl Bench {
     ghost use Rattle.lazy_plan.specs.Bench.{state_of, plan_of, IsBenchOf};
     ghost use Rattle.lazy_plan.specs.Groups.{stops_at, IsGroup, MemberWalked};
 
-    /// The next member of a group behind another, where members of other groups may stand between them; `None` where there is none. `Failed`:
+    /// The next member of a group after another, where members of other groups may stand between them; `None` where there is none. `Failed`:
     /// this source failed. Every earlier cursor and spot stays, whatever is answered. What was found of any group is not walked again.
     pub fn next_gathered<S: Sources>(
         &mut self,

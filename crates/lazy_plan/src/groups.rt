@@ -51,8 +51,8 @@ impl Bench {
         Ok((first, seen_up_to(&c.position)))
     }
 
-    /// The next member of a group behind another, where the groups of its operator end at the first other key; `None` where there is none.
-    /// `Failed`: this source failed. Every earlier cursor and spot stays, whatever is answered. The operator's next binding is looked for behind
+    /// The next member of a group after another, where the groups of its operator end at the first other key; `None` where there is none.
+    /// `Failed`: this source failed. Every earlier cursor and spot stays, whatever is answered. The operator's next binding is looked for after
     /// the last member that was found.
     pub fn next_member<S: Sources>(
         &mut self,

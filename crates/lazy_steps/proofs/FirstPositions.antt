@@ -80,7 +80,7 @@ module _ (ops : List Operator) (n i : ℕ) (keys : List Key) (group : Option (Pi
   firsts_count w c h = absurd h
 
   module _ (typed : IsTyped ops) (within : n < length ops) (is : shape_at ops n ≡ F) where
-    -- the events behind it are those of the input whose keys were not seen up to it
+    -- the events after it are those of the input whose keys were not seen up to it
     pub firsts_ahead_is : (w : World) (c : Position) → IsIn w ops n F c → (stands w ops n F c).ahead ≡ distinct (docs_of w) keys (kept_row (docs_of w) keys (stops_over ops i keys) group) (up_to w n (count_of c)) (ahead w ops i (below c))
     firsts_ahead_is w Start h = events_at ops typed n within F is (docs_of w)
     firsts_ahead_is w (First' q c k) h = refl

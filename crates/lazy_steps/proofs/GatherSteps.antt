@@ -27,7 +27,7 @@ use Rattle.lazy_binding.specs.declared.parts.Walked.{Walked}
 use Rattle.lazy_binding.specs.declared.position.Position.{Position, First'}
 use Rattle.lazy_binding.specs.declared.position.Reached.{Reached}
 use Rattle.lazy_binding.specs.Bench.{IsBench, HasGathered}
-use Rattle.lazy_binding.specs.Cursors.{stands, binding, ahead, number, behind_first, gathers_by, IsIn, IsOf}
+use Rattle.lazy_binding.specs.Cursors.{stands, binding, ahead, number, past_first, gathers_by, IsIn, IsOf}
 use Rattle.lazy_binding.specs.Gathered.{Gathered, IsGatheredBy, Joins, Begins, MembersStay, no_groups}
 use Rattle.lazy_binding.specs.Gathering.{IsPassed, HasGroup, AreGathered}
 use Rattle.lazy_binding.specs.Growth.{OthersGathered, groups_in}
@@ -257,10 +257,10 @@ module _ (a c : World) (ops : List Operator) (n i : ℕ) (keys : List Key) (made
             (λ j l. keyed false j l (nowhere key (seen_at c n) j (omega (arith, l, few_is)) y.fresh))
             (λ q. subst (λ (z : Position). IsOf now ops n (First' q z (suc few))) (sym goes.1) (subst (λ (z : Shape). IsIn now ops n z (First' q d (suc few))) (sym is) (new q)))
             (λ q t.
-            subst (λ (z : Position). found (behind_first few (events (docs_of now) ops n)) ≡ finds (binding now ops n (First' q z (suc few))) (ahead now ops n (First' q z (suc few)))) (sym goes.1)
-            (subst (λ (z : Shape). found (behind_first few (events (docs_of now) ops n)) ≡ finds (stands now ops n z (First' q d (suc few))).row (stands now ops n z (First' q d (suc few))).ahead) (sym is)
+            subst (λ (z : Position). found (past_first few (events (docs_of now) ops n)) ≡ finds (binding now ops n (First' q z (suc few))) (ahead now ops n (First' q z (suc few)))) (sym goes.1)
+            (subst (λ (z : Shape). found (past_first few (events (docs_of now) ops n)) ≡ finds (stands now ops n z (First' q d (suc few))).row (stands now ops n z (First' q d (suc few))).ahead) (sym is)
             (let u = subst IsTrue (told-kept (keeps_then k.kept gathered_keeps) ops) t in
-            ap (λ (z : Documents). found (behind_first few (events z ops n))) (docs_kept (keeps_then k.kept gathered_keeps) ops bench)
+            ap (λ (z : Documents). found (past_first few (events z ops n))) (docs_kept (keeps_then k.kept gathered_keeps) ops bench)
             ∙ (gathered_good.walked.past u).found
             ∙ first_next ops n i keys group is a g.last few gathered_good.walked c bench k.kept d f late key parts val ones seen walked grows pushed others.reached gathered_found fresh low q u)))
 
@@ -294,7 +294,7 @@ module _ (a c : World) (ops : List Operator) (n i : ℕ) (keys : List Key) (made
           goes = subst (λ (z : List (List KeyPart)). IsGatheredBy g (groups_in walked n) z (slice_index_or seen n []) key d) untouched.1 goes;
         }
 
-    -- where nothing is behind the last binding, the walk has ended
+    -- where nothing is after the last binding, the walk has ended
     module _ (walked : Walked) (others : OthersGathered c.walked walked n) (ended : groups_in walked n ≡ record { groups = (groups_in c.walked n).groups; last = (groups_in c.walked n).last; ended = true })
         (none : FindsNone (telling a ops) (ahead a ops i g.last)) where
       -- what is left

@@ -21,7 +21,7 @@ use Rattle.tree_buffer.specs.Law.{SpotsAreOne}
 use Rattle.lazy_binding.specs.declared.key.KeyPart.{KeyPart}
 use Rattle.lazy_binding.specs.declared.position.Position.{Position, Start, First', Seen'}
 use Rattle.lazy_binding.specs.Bench.{IsBench}
-use Rattle.lazy_binding.specs.Cursors.{up_to, ahead, number, stands, weighs, behind_first, gathers_by, IsIn}
+use Rattle.lazy_binding.specs.Cursors.{up_to, ahead, number, stands, weighs, past_first, gathers_by, IsIn}
 use Rattle.lazy_binding.specs.Gathering.{IsPassed, HasGroup, AreGathered}
 use Rattle.lazy_binding.specs.Keys.{was_seen}
 use Rattle.lazy_binding.specs.Reading.{count_of}
@@ -42,9 +42,9 @@ is_below x y v = grind (arith, nat_tests, v)
 not_below : (x y : ℕ) → nat_lt x y ≡ false → y ≤ x
 not_below x y v = grind (arith, nat_tests, v)
 
--- the bindings of operator n behind the first few, by the binding of its input that was walked to
-abbrev pub left_behind : List Operator → ℕ → ℕ → List Key → Piece × ℕ → World → ℕ → RowEvents
-left_behind ops n i keys made w few = first_events ops n i keys (Some made) (docs_of w) (up_to w n few) (ahead w ops i (gathered_at w n).last)
+-- the bindings of operator n after the first few, by the binding of its input that was walked to
+abbrev pub left_after : List Operator → ℕ → ℕ → List Key → Piece × ℕ → World → ℕ → RowEvents
+left_after ops n i keys made w few = first_events ops n i keys (Some made) (docs_of w) (up_to w n few) (ahead w ops i (gathered_at w n).last)
 
 -- the events ahead of a position of an operator that gathers
 abbrev pub whole_ahead : List Operator → ℕ → ℕ → List Key → Piece × ℕ → World → Position → RowEvents
@@ -53,9 +53,9 @@ whole_ahead ops n i keys made w c = (stands w ops n (passes_on i (first_by_keys 
 -- a step from a position has come so far: where there are no more groups than were counted up to it, what the walk has left is what was ahead of it
 pub record ComesTo (ops : List Operator) (n i : ℕ) (keys : List Key) (made : Piece × ℕ) (a b : World) (c : Position) : Type 0 where
   pub asks : Asks a b ops n (whole_ahead ops n i keys made a c)
-  pub same : length (gathered_at b n).groups ≡ count_of c → IsTrue (is_told a ops) → found (whole_ahead ops n i keys made a c) ≡ found (left_behind ops n i keys made b (count_of c))
+  pub same : length (gathered_at b n).groups ≡ count_of c → IsTrue (is_told a ops) → found (whole_ahead ops n i keys made a c) ≡ found (left_after ops n i keys made b (count_of c))
   pub costs : length (gathered_at b n).groups ≡ count_of c → IsTrue (is_told a ops) → IsTrue (is_forward a ops)
-      → b.view.fills + cost (left_behind ops n i keys made b (count_of c)) ≤ a.view.fills + cost (whole_ahead ops n i keys made a c)
+      → b.view.fills + cost (left_after ops n i keys made b (count_of c)) ≤ a.view.fills + cost (whole_ahead ops n i keys made a c)
 
 module _ (ops : List Operator) (n i : ℕ) (keys : List Key) (made : Piece × ℕ) (typed : IsTyped ops) (within : n < length ops)
     (is : shape_at ops n ≡ passes_on i (first_by_keys keys (Some made))) (by : gathers_by ops (passes_on i (first_by_keys keys (Some made))) ≡ true) where
@@ -69,7 +69,7 @@ module _ (ops : List Operator) (n i : ℕ) (keys : List Key) (made : Piece × �
 
   -- what the walk has left
   abbrev left : World → ℕ → RowEvents
-  left w few = left_behind ops n i keys made w few
+  left w few = left_after ops n i keys made w few
 
   -- what was gathered
   good : (w : World) → IsBench w ops → AreGathered w ops n i keys group (gathered_at w n)
@@ -88,8 +88,8 @@ module _ (ops : List Operator) (n i : ℕ) (keys : List Key) (made : Piece × �
     count_low : count_of c ≤ length (seen_at a n)
     count_low = firsts_count ops n i keys group refl a c h
 
-    -- the bindings ahead of it are those behind as many as were counted
-    whole_is : IsTrue (is_told a ops) → (z : Position) → IsIn a ops n F z → (stands a ops n F z).ahead ≡ behind_first (count_of z) (events (docs_of a) ops n)
+    -- the bindings ahead of it are those after as many as were counted
+    whole_is : IsTrue (is_told a ops) → (z : Position) → IsIn a ops n F z → (stands a ops n F z).ahead ≡ past_first (count_of z) (events (docs_of a) ops n)
     whole_is t Start k = refl
     whole_is t (First' q x m) k = k.9 t
     whole_is t (Seen' q x m) k = (let z : true ≡ false = sym by ∙ k.8 in cc)
@@ -101,12 +101,12 @@ module _ (ops : List Operator) (n i : ℕ) (keys : List Key) (made : Piece × �
       asks = asks_nothing a ops n (keeps_same a ops bench) (stands a ops n F c).ahead;
       same = λ e t.
           let p = (good a bench).walked.past t in
-          ap found (whole_is t c h) ∙ ap (λ (z : ℕ). found (behind_first z (events (docs_of a) ops n))) (sym e) ∙ p.found
+          ap found (whole_is t c h) ∙ ap (λ (z : ℕ). found (past_first z (events (docs_of a) ops n))) (sym e) ∙ p.found
           ∙ ap (λ (z : ℕ). found (left a z)) e;
       costs = λ e t f.
           let p = ((good a bench).walked.past t).costs in
           let x = ap cost (whole_is t c h) in
-          let y = ap (λ (z : ℕ). cost (behind_first z (events (docs_of a) ops n))) e in
+          let y = ap (λ (z : ℕ). cost (past_first z (events (docs_of a) ops n))) e in
           let z = ap (λ (z : ℕ). cost (left a z)) e in
           omega (arith, p, x, y, z);
     }
@@ -161,8 +161,8 @@ module _ (ops : List Operator) (n i : ℕ) (keys : List Key) (made : Piece × �
                         (firsts_over_next ops n i keys group refl typed within is a c h (let l = cursor.7 in omega (arith, l, same)));
                     found = λ t.
                         ap found (whole_is t c h)
-                        ∙ ap (λ (z : Documents). found (behind_first (count_of c) (events z ops n))) (sym (docs_kept come.asks.kept ops bench))
-                        ∙ subst (λ (z : Shape). found (behind_first (count_of c) (events (docs_of b) ops n)) ≡ finds (stands b ops n z (First' q x.value (suc (count_of c)))).row (stands b ops n z (First' q x.value (suc (count_of c)))).ahead) is
+                        ∙ ap (λ (z : Documents). found (past_first (count_of c) (events z ops n))) (sym (docs_kept come.asks.kept ops bench))
+                        ∙ subst (λ (z : Shape). found (past_first (count_of c) (events (docs_of b) ops n)) ≡ finds (stands b ops n z (First' q x.value (suc (count_of c)))).row (stands b ops n z (First' q x.value (suc (count_of c)))).ahead) is
                         (has.1 q (told_then t));
                   }
 
@@ -193,8 +193,8 @@ module _ (ops : List Operator) (n i : ℕ) (keys : List Key) (made : Piece × �
               let q = (good e last).walked.past (still_told (tells_on k.kept ops) (told_then t)) in
               come.same count t
               ∙ ap (λ (z : ℕ). found (left b z)) (sym count) ∙ sym p.found
-              ∙ ap (λ (z : ℕ). found (behind_first z (events (docs_of b) ops n))) (count ∙ sym x)
-              ∙ ap (λ (z : Documents). found (behind_first (length (gathered_at e n).groups) (events z ops n))) (sym (docs_kept k.kept ops late))
+              ∙ ap (λ (z : ℕ). found (past_first z (events (docs_of b) ops n))) (count ∙ sym x)
+              ∙ ap (λ (z : Documents). found (past_first (length (gathered_at e n).groups) (events z ops n))) (sym (docs_kept k.kept ops late))
               ∙ q.found ∙ ap (λ (z : ℕ). found (left e z)) x;
           costs = λ x t f.
               let was = known x in

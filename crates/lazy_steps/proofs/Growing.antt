@@ -65,7 +65,7 @@ pub take_none : (ms : List Member) → passed ms 0 ≡ Start
 take_none [] = refl
 take_none (m ∷ ms) = refl
 
--- the one behind them
+-- the one after them
 pub take_more : (at : Position) (ms : List Member) (m : Member) (n : ℕ) → n ≡ length ms → last_of at (take (suc n) (ms ++ m ∷ [])) ≡ m.1.value
 take_more at [] m zero e = refl
 take_more at [] m (suc n) e = absurd (omega (arith, e))
@@ -73,7 +73,7 @@ take_more at (x ∷ ms) m zero e = absurd (omega (arith, e))
 take_more at (x ∷ ms) m (suc n) e = take_more x.1.value ms m n (omega (arith, e))
 
 module _ {w : World} {ops : List Operator} {i : ℕ} {by : Option Link} {m : Kept (Rc Position Global)} (h : AreMembers w ops i by m) where
-  -- the member at a place stands at the next binding behind those before it
+  -- the member at a place stands at the next binding after those before it
   pub member_at : (p : ℕ) → p < length m.pairs → IsMember w ops i by (passed m.pairs p) p (get_or (labels_of m.pairs) p []) (passed m.pairs (suc p))
   member_at p l =
       subst (λ (z : ℕ). IsMember w ops i by (passed m.pairs p) z (get_or (labels_of m.pairs) p []) (passed m.pairs (suc p))) (omega arith) (member_in w ops i by Start 0 m.pairs p h.next l)
@@ -126,7 +126,7 @@ memo_read v g ops bench n within m e = e ∙ get_or_default g.memos.items n m no
 
 module _ (b : World) (memos : List (Kept (Rc Position Global))) (n : ℕ) (stay : OthersStay b.memos memos n)
     (more : length (memo_at b n).pairs ≤ length (slice_index_or memos n no_pairs).pairs)
-    (front : (k : ℕ) → k ≤ length (memo_at b n).pairs → take k (slice_index_or memos n no_pairs).pairs ≡ take k (memo_at b n).pairs) where
+    (prefix : (k : ℕ) → k ≤ length (memo_at b n).pairs → take k (slice_index_or memos n no_pairs).pairs ≡ take k (memo_at b n).pairs) where
   -- one more member of one memo leaves what every call keeps
   pub memo_keeps : Keeps b (world b.view b.buffers b.seen memos b.walked)
   memo_keeps = record {
@@ -138,7 +138,7 @@ module _ (b : World) (memos : List (Kept (Rc Position Global))) (n : ℕ) (stay 
     seen = λ j k h. refl;
     memos = stay.lists;
     more = λ j. more_at j (cases_eq j n);
-    members = λ j k h. front_at j k h (cases_eq j n);
+    members = λ j k h. prefix_at j k h (cases_eq j n);
     found = λ m number place c f. f;
   }
     where
@@ -146,10 +146,10 @@ module _ (b : World) (memos : List (Kept (Rc Position Global))) (n : ℕ) (stay 
       more_at j (inl z) = subst (λ (m : ℕ). length (memo_at b m).pairs ≤ length (slice_index_or memos m no_pairs).pairs) (sym z) more
       more_at j (inr ne) = omega (arith, ap (λ (m : Kept (Rc Position Global)). length m.pairs) (stay.others j ne))
 
-      front_at : (j k : ℕ) → k ≤ length (memo_at b j).pairs → (j ≡ n) ⊎ (j ≡ n → ⊥) → take k (slice_index_or memos j no_pairs).pairs ≡ take k (memo_at b j).pairs
-      front_at j k h (inl z) =
-          subst (λ (m : ℕ). k ≤ length (memo_at b m).pairs → take k (slice_index_or memos m no_pairs).pairs ≡ take k (memo_at b m).pairs) (sym z) (front k) h
-      front_at j k h (inr ne) = ap (λ (m : Kept (Rc Position Global)). take k m.pairs) (stay.others j ne)
+      prefix_at : (j k : ℕ) → k ≤ length (memo_at b j).pairs → (j ≡ n) ⊎ (j ≡ n → ⊥) → take k (slice_index_or memos j no_pairs).pairs ≡ take k (memo_at b j).pairs
+      prefix_at j k h (inl z) =
+          subst (λ (m : ℕ). k ≤ length (memo_at b m).pairs → take k (slice_index_or memos m no_pairs).pairs ≡ take k (memo_at b m).pairs) (sym z) (prefix k) h
+      prefix_at j k h (inr ne) = ap (λ (m : Kept (Rc Position Global)). take k m.pairs) (stay.others j ne)
 
   module _ (ops : List Operator) (l r : ℕ) (tests : List Test) (is : shape_at ops n ≡ pairs_up l r tests) (bench : IsBench b ops) (m : Kept (Rc Position Global))
       (here : slice_index_or memos n no_pairs ≡ m) (good : AreMembers b ops r (link_at ops n) m) where

@@ -8,7 +8,7 @@ use Rattle.lazy_binding.specs.declared.parts.Walked.{Walked}
 use Rattle.lazy_binding.specs.World.{World, world, seen_at}
 use Rattle.lazy_binding.specs.Keeping.{Keeps, FoundStay}
 use Rattle.lazy_steps.specs.Steps.{GrowsAt}
-use Rattle.lazy_binding.proofs.FirstLists.{take_front}
+use Rattle.lazy_binding.proofs.FirstLists.{take_prefix}
 use Rattle.lazy_binding.proofs.Keep.{goes_idle}
 
 -- the keys of one operator as they were, or with one more, where groups were walked on
@@ -37,5 +37,5 @@ grows_keeps b seen walked n key g stay = record {
     seen_there j k h (inl z) =
         let l : k ≤ length (seen_at b n) = subst (λ (m : ℕ). k ≤ length (seen_at b m)) z h in
         subst (λ (m : ℕ). take k (slice_index_or seen m []) ≡ take k (seen_at b m)) (sym z)
-        (elim g.here [ inl y ↦ ap (take k) y | inr y ↦ ap (take k) y ∙ take_front (seen_at b n) (key ∷ []) k l ])
+        (elim g.here [ inl y ↦ ap (take k) y | inr y ↦ ap (take k) y ∙ take_prefix (seen_at b n) (key ∷ []) k l ])
     seen_there j k h (inr ne) = ap (take k) (g.others j ne)

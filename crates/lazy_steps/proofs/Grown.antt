@@ -20,7 +20,7 @@ use Rattle.plan_forms.specs.Links.{link_at}
 use Rattle.lazy_binding.specs.Members.{member_label, AreMembers}
 use Rattle.lazy_binding.specs.Parts.{operators, world_of, IsFixed}
 use Rattle.lazy_binding.proofs.Bound.{inputs_at}
-use Rattle.lazy_binding.proofs.FirstLists.{take_front}
+use Rattle.lazy_binding.proofs.FirstLists.{take_prefix}
 use Rattle.lazy_binding.specs.Growth.{OthersStay}
 use Rattle.lazy_steps.specs.Beside.{last_at, IsGrown}
 use Rattle.lazy_steps.specs.Steps.{telling, Finds, Ran, CanStep}
@@ -64,19 +64,19 @@ module _ {S : Type 0} {view : S → View} {came_from : S → S → Type 0} {s t 
 
   -- what is left of memos of which this one is another
   module _ (memos : Vec (Kept (Rc Position Global)) Global) (stay : OthersStay h.memos.items memos.items n) (m : Kept (Rc Position Global)) (here : slice_index_or memos.items n no_pairs ≡ m)
-      (more : length (memo_at b n).pairs ≤ length m.pairs) (front : (k : ℕ) → k ≤ length (memo_at b n).pairs → take k m.pairs ≡ take k (memo_at b n).pairs)
+      (more : length (memo_at b n).pairs ≤ length m.pairs) (prefix : (k : ℕ) → k ≤ length (memo_at b n).pairs → take k m.pairs ≡ take k (memo_at b n).pairs)
       (good : AreMembers b (operators p) r (link_at (operators p) n) m) where
     keeps : Keeps b (world (view t) h.buffers.items h.seen.items memos.items h.walked)
     keeps =
         memo_keeps b memos.items n stay (subst (λ (z : Kept (Rc Position Global)). length (memo_at b n).pairs ≤ length z.pairs) (sym here) more)
-        (λ k l. ap (λ (z : Kept (Rc Position Global)). take k z.pairs) here ∙ front k l)
+        (λ k l. ap (λ (z : Kept (Rc Position Global)). take k z.pairs) here ∙ prefix k l)
 
     -- a bench
     memos_ran : Ran view came_from (operators p) n (ahead a (operators p) r (last_at a n)) s g t (record { buffers = h.buffers; seen = h.seen; memos = memos; walked = h.walked })
     memos_ran =
         ran_memo memos stay keeps
         (memo_bench b memos.items n stay (subst (λ (z : Kept (Rc Position Global)). length (memo_at b n).pairs ≤ length z.pairs) (sym here) more)
-        (λ k l. ap (λ (z : Kept (Rc Position Global)). take k z.pairs) here ∙ front k l) (operators p) l r tests is ran.bench m here good) grow_ran
+        (λ k l. ap (λ (z : Kept (Rc Position Global)). take k z.pairs) here ∙ prefix k l) (operators p) l r tests is ran.bench m here good) grow_ran
 
   -- refused memory leaves the memo as it was
   pub refused_ran : (memos : Vec (Kept (Rc Position Global)) Global) → OthersStay h.memos.items memos.items n → slice_index_or memos.items n no_pairs ≡ memo_at b n
@@ -103,8 +103,8 @@ module _ {S : Type 0} {view : S → View} {came_from : S → S → Type 0} {s t 
     longer : length (memo_at b n).pairs ≤ length ((memo_at b n).pairs ++ (label, d) ∷ [])
     longer = omega (arith, length-append (memo_at b n).pairs ((label, d) ∷ []))
 
-    fronts : (k : ℕ) → k ≤ length (memo_at b n).pairs → take k ((memo_at b n).pairs ++ (label, d) ∷ []) ≡ take k (memo_at b n).pairs
-    fronts k l = take_front (memo_at b n).pairs ((label, d) ∷ []) k l
+    prefixes : (k : ℕ) → k ≤ length (memo_at b n).pairs → take k ((memo_at b n).pairs ++ (label, d) ∷ []) ≡ take k (memo_at b n).pairs
+    prefixes k l = take_prefix (memo_at b n).pairs ((label, d) ∷ []) k l
 
     good : AreMembers b (operators p) r (link_at (operators p) n) (record { pairs = (memo_at b n).pairs ++ (label, d) ∷ []; ended = false })
     good =
@@ -112,12 +112,12 @@ module _ {S : Type 0} {view : S → View} {came_from : S → S → Type 0} {s t 
         (members_push ran.asks.kept (operators p) bench r (link_at (operators p) n) (memo_at a n) old_good label d f label_is)
 
     pub pushed_ran : Ran view came_from (operators p) n (ahead a (operators p) r (last_at a n)) s g t (record { buffers = h.buffers; seen = h.seen; memos = memos; walked = h.walked })
-    pushed_ran = memos_ran memos stay (record { pairs = (memo_at b n).pairs ++ (label, d) ∷ []; ended = false }) here longer fronts good
+    pushed_ran = memos_ran memos stay (record { pairs = (memo_at b n).pairs ++ (label, d) ∷ []; ended = false }) here longer prefixes good
 
     pub pushed_grown : IsGrown a (world (view t) h.buffers.items h.seen.items memos.items h.walked) (operators p) n r true
     pushed_grown = (
       (label, d),
       here ∙ ap (λ (z : Kept (Rc Position Global)). record { pairs = z.pairs ++ (label, d) ∷ []; ended = false }) same_memo,
       finds_then a b (world (view t) h.buffers.items h.seen.items memos.items h.walked)
-          (keeps memos stay (record { pairs = (memo_at b n).pairs ++ (label, d) ∷ []; ended = false }) here longer fronts good) ran.bench f,
+          (keeps memos stay (record { pairs = (memo_at b n).pairs ++ (label, d) ∷ []; ended = false }) here longer prefixes good) ran.bench f,
     )

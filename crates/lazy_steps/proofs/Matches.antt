@@ -63,7 +63,7 @@ visit_same w ops bench s x k m n e =
     ∙ ap (visit_below m (tree [] (docs_of w s) none)) (sym (ap (of_buffer [] (λ (b : Buffer). place_of b x)) k.there))
     ∙ ap (λ (z : Machine). visit_below z (tree [] (docs_of w s) none) (place_in w s x)) (sym e)
 
--- the events behind a match
+-- the events after a match
 pub ahead_same : (w : World) (s : ℕ) (d : DescCursor) (k : IsMatchIn w s d) (m n : Machine) → n ≡ m → ahead_of w.view k.buffer m d ≡ match_ahead w s n d
 ahead_same w s d k m n e =
     ap (λ (z : Machine). ahead_of w.view k.buffer z d) (sym e) ∙ sym (ap (of_buffer [] (λ (b : Buffer). ahead_of w.view b n d)) k.there)

@@ -71,7 +71,7 @@ length-found [] b rest h = cc
 length-found (skip ∷ es) b rest h = let l = length-found es b rest h in omega (arith, l)
 length-found (bind a ∷ es) b rest h = let e : es ≡ rest = cc in let l = ap length e in omega (arith, l)
 
--- what stands behind a skip for each event is found first
+-- what stands after a skip for each event is found first
 found-skips : (es : RowEvents) (xs : RowEvents) → found (skips es ++ xs) ≡ found xs
 found-skips [] xs = refl
 found-skips (e ∷ es) xs = found-skips es xs
@@ -240,7 +240,7 @@ module _ (a b : World) (ops : List Operator) (n i v : ℕ) (desc : Bool) where
         )
     sorted_steps es top k (On d) h same l = absurd h
 
--- the position behind one of a sorted list, as a step comes to it
+-- the position after one of a sorted list, as a step comes to it
 pub order_next : (w : World) (ops : List Operator) (n i v : ℕ) (desc : Bool) (list : Rc (Vec (Rc Position Global) Global) Global) (k : ℕ) → IsIn w ops n (sorts i v desc) (Sorted list k) → (r : Step)
     → IsSortedAt list.value (k + 1) r → Steps w w ops n (sorts i v desc) (stands w ops n (sorts i v desc) (Sorted list k)).ahead (weighs w ops n (sorts i v desc) (Sorted list k)) r
 order_next w ops n i v desc list k of r h =

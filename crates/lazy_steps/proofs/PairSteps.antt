@@ -61,7 +61,7 @@ module _ (ops : List Operator) (n l r : ℕ) (tests : List Test) where
         (goes_same (keeps_same w ops bench) (events_at ops typed n within (pairs_up l r tests) is (docs_of w)) (size_at ops typed n within (pairs_up l r tests) is w))
 
     module _ (a b : World) (bench : IsBench a ops) where
-      -- the events of the left bindings behind, under the documents afterwards
+      -- the events of the left bindings after, under the documents afterwards
       left_same : Keeps a b → (es : RowEvents) → left_ahead a ops r tests es ≡ left_ahead b ops r tests es
       left_same k es = ap (λ (z : Documents). expand (pairs z tests (events z ops r)) es) (sym (docs_kept k ops bench))
 
@@ -101,12 +101,12 @@ module _ (ops : List Operator) (n l r : ℕ) (tests : List Test) where
         stays : Stays a b ops l x
         stays = cursors_kept a b k.kept ops bench l x here
 
-        -- the right side's events beside this binding, and those behind them
+        -- the right side's events beside this binding, and those after them
         abbrev beside : RowEvents
         beside = pairs (docs_of a) tests (ahead a ops r y) (binding a ops l x)
 
-        abbrev behind : RowEvents
-        behind = left_ahead a ops r tests (ahead a ops l x)
+        abbrev after : RowEvents
+        after = left_ahead a ops r tests (ahead a ops l x)
 
         -- what a call of it may cost on the right, it may cost here
         pub beside_asks : Asks a b ops n (beside_events a ops l r tests x y)
@@ -116,7 +116,7 @@ module _ (ops : List Operator) (n l r : ℕ) (tests : List Test) where
           lazy = λ t w.
               let asked = k.lazy t w in
               let c = cost-pairs_le (docs_of a) tests (ahead a ops r y) (binding a ops l x) in
-              let d = cost-append_le beside behind in
+              let d = cost-append_le beside after in
               omega (arith, asked, c, d);
           none = k.none;
         }
@@ -136,10 +136,10 @@ module _ (ops : List Operator) (n l r : ℕ) (tests : List Test) where
           comes = record {
             tells = tells_on k.kept ops;
             falls = omega (arith, left_falls);
-            found = λ t. found-append_none beside behind (found-pairs_none (docs_of a) tests (ahead a ops r y) (binding a ops l x) (f t)) ∙ ap found later;
+            found = λ t. found-append_none beside after (found-pairs_none (docs_of a) tests (ahead a ops r y) (binding a ops l x) (f t)) ∙ ap found later;
             lazy = λ t w.
                 let asked = k.lazy t w in
-                let whole = cost-append_none beside behind (found-pairs_none (docs_of a) tests (ahead a ops r y) (binding a ops l x) (f t)) in
+                let whole = cost-append_none beside after (found-pairs_none (docs_of a) tests (ahead a ops r y) (binding a ops l x) (f t)) in
                 let c = cost-pairs_le (docs_of a) tests (ahead a ops r y) (binding a ops l x) in
                 let same = ap cost later in
                 omega (arith, asked, whole, c, same);
@@ -147,7 +147,7 @@ module _ (ops : List Operator) (n l r : ℕ) (tests : List Test) where
           none = k.none;
         }
           where
-            later : behind ≡ left_events b ops l r tests x
+            later : after ≡ left_events b ops l r tests x
             later = left_same k.kept (ahead a ops l x) ∙ ap (left_ahead b ops r tests) (sym stays.ahead_is)
 
         -- the next binding on the right, which is the member at a place
@@ -165,8 +165,8 @@ module _ (ops : List Operator) (n l r : ℕ) (tests : List Test) where
               ap (λ (z : Documents). passes_all z tests (binding a ops l x ++ binding b ops r d)) (sym (docs_kept k.kept ops bench))
               ∙ ap (λ (z : TolledRow). passes_all (docs_of b) tests (z ++ binding b ops r d)) (sym stays.binding_is) ∙ h
 
-          -- the events behind the pair
-          pair_ahead : pairs (docs_of a) tests (ahead b ops r d) (binding a ops l x) ++ behind ≡ beside_events b ops l r tests x d
+          -- the events after the pair
+          pair_ahead : pairs (docs_of a) tests (ahead b ops r d) (binding a ops l x) ++ after ≡ beside_events b ops l r tests x d
           pair_ahead =
               ap (λ (z : Documents). pairs z tests (ahead b ops r d) (binding a ops l x) ++ expand (pairs z tests (events z ops r)) (ahead a ops l x)) (sym (docs_kept k.kept ops bench))
               ∙ ap (λ (z : TolledRow). pairs (docs_of b) tests (ahead b ops r d) z ++ left_ahead b ops r tests (ahead a ops l x)) (sym stays.binding_is)
@@ -180,9 +180,9 @@ module _ (ops : List Operator) (n l r : ℕ) (tests : List Test) where
             row = at;
             falls = past_falls;
             found = λ t.
-                found-append_some beside behind _ _
+                found-append_some beside after _ _
                 (found-pairs_yes (docs_of a) tests (ahead a ops r y) (binding a ops l x) (binding b ops r d) (ahead b ops r d) (next t) (lets_old true (h (still_told (tells_on k.kept ops) t))))
-                ∙ ap (λ (z : TolledRow). finds (z ++ binding b ops r d) (pairs (docs_of a) tests (ahead b ops r d) (binding a ops l x) ++ behind)) (sym stays.binding_is)
+                ∙ ap (λ (z : TolledRow). finds (z ++ binding b ops r d) (pairs (docs_of a) tests (ahead b ops r d) (binding a ops l x) ++ after)) (sym stays.binding_is)
                 ∙ ap (finds (binding b ops l x ++ binding b ops r d)) pair_ahead;
           }
 
@@ -195,10 +195,10 @@ module _ (ops : List Operator) (n l r : ℕ) (tests : List Test) where
             comes = record {
               tells = tells_on k.kept ops;
               falls = omega (arith, past_falls);
-              found = λ t. found-append_both beside (pairs (docs_of a) tests (ahead b ops r d) (binding a ops l x)) behind (past t).0 ∙ ap found pair_ahead;
+              found = λ t. found-append_both beside (pairs (docs_of a) tests (ahead b ops r d) (binding a ops l x)) after (past t).0 ∙ ap found pair_ahead;
               lazy = λ t w.
                   let asked = k.lazy t w in
-                  let whole = cost-append_both beside (pairs (docs_of a) tests (ahead b ops r d) (binding a ops l x)) behind (cost (ahead a ops r y)) (past t).0 (past t).1 in
+                  let whole = cost-append_both beside (pairs (docs_of a) tests (ahead b ops r d) (binding a ops l x)) after (cost (ahead a ops r y)) (past t).0 (past t).1 in
                   let same = ap cost pair_ahead in
                   omega (arith, asked, whole, same);
             };

@@ -23,7 +23,7 @@ use Rattle.plan_core.proofs.Typed.{valid_is_typed}
 use Rattle.lazy_binding.specs.declared.position.Position.{Position, Start, Pass', First', Seen'}
 use Rattle.lazy_binding.specs.Bench.{IsBench}
 use Rattle.lazy_binding.specs.World.{World, docs_of, is_told}
-use Rattle.lazy_binding.specs.Cursors.{Standing, behind_found, behind_first, binding, ahead, number, stands, weighs, IsIn, IsOf}
+use Rattle.lazy_binding.specs.Cursors.{Standing, after_found, past_first, binding, ahead, number, stands, weighs, IsIn, IsOf}
 use Rattle.lazy_binding.specs.Reading.{below}
 use Rattle.lxp_core.specs.View.{View}
 use Rattle.lazy_binding.specs.declared.parts.Growing.{Growing}
@@ -47,7 +47,7 @@ module _ (ops : List Operator) (typed : IsTyped ops) (n : ℕ) (within : n < len
     filter_below w (Pass' q c) h = h.0
     filter_below w c h = absurd h
 
-    -- the events behind it are those of the input
+    -- the events after it are those of the input
     filter_ahead : (w : World) (c : Position) → IsIn w ops n (passes_on i (filters test)) c → (stands w ops n (passes_on i (filters test)) c).ahead ≡ kept_events (docs_of w) (ahead w ops i (below c))
     filter_ahead w Start h = events_at ops typed n within (passes_on i (filters test)) is (docs_of w)
     filter_ahead w (Pass' q c) h = refl
@@ -77,7 +77,7 @@ module _ (ops : List Operator) (typed : IsTyped ops) (n : ℕ) (within : n < len
         test_old : (v : Bool) → passes (docs_of b) test (row_node (binding b ops i d)) ≡ v → passes (docs_of a) test (row_node (binding b ops i d)) ≡ v
         test_old v e = subst (λ (z : Documents). passes z test (row_node (binding b ops i d)) ≡ v) (docs_kept k.kept ops bench) e
 
-        -- the events behind, under the documents afterwards
+        -- the events after, under the documents afterwards
         later : kept_events (docs_of a) (ahead b ops i d) ≡ kept_events (docs_of b) (ahead b ops i d)
         later = ap (λ (z : Documents). kept_events z (ahead b ops i d)) (sym (docs_kept k.kept ops bench))
 
@@ -137,7 +137,7 @@ module _ (p : PlanValue) (valid : IsValid p) (n : ℕ) (within : n < length p.op
   typed : IsTyped p.ops
   typed = valid_is_typed p valid
 
-  -- a position stands over one of the input: the events behind it are made of those of the input, and its number is not below that one's
+  -- a position stands over one of the input: the events after it are made of those of the input, and its number is not below that one's
   record IsEach (w : World) (stage : Stage) (c : Position) : Type 0 where
     input : IsOf w p.ops i (below c)
     ahead_is : (stands w p.ops n (passes_on i stage) c).ahead ≡ each_row (passed_row (docs_of w) stage) (ahead w p.ops i (below c))
@@ -165,9 +165,9 @@ module _ (p : PlanValue) (valid : IsValid p) (n : ℕ) (within : n < length p.op
 
   -- what comes next below is a binding of the input
   next_among : (keys : List Key) → apart_over p.ops i keys ≡ true → (w : World) (c : Position) → IsIn w p.ops n (passes_on i (first_by_keys keys None)) c → IsTrue (is_told w p.ops)
-      → (k : ℕ) × (found (behind_first k (events (docs_of w) p.ops i)) ≡ found (ahead w p.ops i (below c)))
+      → (k : ℕ) × (found (past_first k (events (docs_of w) p.ops i)) ≡ found (ahead w p.ops i (below c)))
   next_among keys e w Start h t = (0, refl)
-  next_among keys e w (Pass' q c) h t = (let z = h.3 t in (suc z.0, ap (λ (f : Find TolledRow). found (behind_found f)) z.1))
+  next_among keys e w (Pass' q c) h t = (let z = h.3 t in (suc z.0, ap (λ (f : Find TolledRow). found (after_found f)) z.1))
   next_among keys e w (First' q c k) h t = (let z : true ≡ false = sym e ∙ h.10 in cc)
   next_among keys e w (Seen' q c k) h t = (let z : true ≡ false = sym e ∙ h.7 in cc)
   next_among keys e w c h t = absurd h
@@ -203,7 +203,7 @@ module _ (p : PlanValue) (valid : IsValid p) (n : ℕ) (within : n < length p.op
       λ t.
           let told = subst IsTrue (told-kept k.kept p.ops) t in
           let z = next_among keys e a c h told in
-          (z.0, ap (λ (y : Documents). found (behind_first z.0 (events y p.ops i))) (docs_kept k.kept p.ops bench) ∙ z.1 ∙ f.found told),
+          (z.0, ap (λ (y : Documents). found (past_first z.0 (events y p.ops i))) (docs_kept k.kept p.ops bench) ∙ z.1 ∙ f.found told),
     )
     pass_in stage e h q = absurd e
 

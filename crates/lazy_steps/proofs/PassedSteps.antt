@@ -28,7 +28,7 @@ use Rattle.lazy_binding.specs.declared.position.Position.{Position, First'}
 use Rattle.lazy_binding.specs.Bench.{drops_by, IsBench, HasGathered}
 use Rattle.lazy_binding.specs.Gathering.{IsPassed}
 use Rattle.lazy_binding.specs.World.{World, world, docs_of, is_told, seen_at, part_value, seen_values, IsPart, IsFound}
-use Rattle.lazy_binding.specs.Cursors.{NoneBefore, IsFirstBy, up_to, binding, ahead, number, size, stands, IsIn, IsPast, behind_first, behind_found, gathers_by}
+use Rattle.lazy_binding.specs.Cursors.{NoneBefore, IsFirstBy, up_to, binding, ahead, number, size, stands, IsIn, IsPast, past_first, after_found, gathers_by}
 use Rattle.lazy_binding.specs.Keys.{was_seen}
 use Rattle.lazy_binding.specs.Keeping.{Keeps, FoundStay, Stays}
 use Rattle.lazy_steps.specs.Steps.{Finds, GrowsAt}
@@ -57,7 +57,7 @@ module _ (ops : List Operator) (n i : ℕ) (keys : List Key) (group : Option (Pi
   abbrev next_keys : Documents → List (List KeyValue) → RowEvents → List (List KeyValue)
   next_keys docs seen es = keys_seen docs keys seen es
 
-  -- a new binding, and the events behind it
+  -- a new binding, and the events after it
   abbrev first_found : Documents → List (List KeyValue) → TolledRow → RowEvents → Find TolledRow
   first_found docs seen row es = finds (kept_row docs keys (stops_over ops i keys) group row es) (first_events docs seen es)
 
@@ -92,7 +92,7 @@ module _ (ops : List Operator) (n i : ℕ) (keys : List Key) (group : Option (Pi
           ∙ ap (is_seen (map (part_value b) key)) (sym same_seen)
           ∙ sym (was_seen-is ones b key (take few (seen_at b n)) parts (all_take (AllByRecursion (IsPart b)) (seen_at b n) few (late.parts n)))
 
-      -- the events behind the binding, with no new key
+      -- the events after the binding, with no new key
       pub later_same : first_events (docs_of b) (up_to b n few) (ahead b ops i d) ≡ first_events (docs_of a) (up_to a n few) (ahead b ops i d)
       later_same =
           ap (λ (z : Documents). first_events z (up_to b n few) (ahead b ops i d)) same_docs
@@ -116,14 +116,14 @@ module _ (ops : List Operator) (n i : ℕ) (keys : List Key) (group : Option (Pi
       abbrev has_keys : TolledRow → TolledRow → Bool
       has_keys row r = same_values (key_values (docs_of a) keys row) (key_values (docs_of a) keys r)
 
-      -- behind a binding whose key was seen, no event has other keys
+      -- after a binding whose key was seen, no event has other keys
       still_before : IsTrue (is_told a ops) → was_seen key (take few (seen_at b n)) ≡ true → NoneBefore (docs_of a) keys (events (docs_of a) ops i) (up_to a n few) (ahead b ops i d)
       still_before t m = λ row e.
           h.before t row e
           ∙ found-only_no (has_keys row) (ahead a ops i c) (binding b ops i d) (ahead b ops i d) (f.found t)
           (other_key (key_values (docs_of a) keys row) (key_values (docs_of a) keys (binding b ops i d)) (up_to a n few) (same_test t ∙ m) e)
 
-      -- nor behind one whose key was not, with that key
+      -- nor after one whose key was not, with that key
       also_before : IsTrue (is_told a ops)
           → NoneBefore (docs_of a) keys (events (docs_of a) ops i) (up_to a n few ++ key_values (docs_of a) keys (binding b ops i d) ∷ []) (ahead b ops i d)
       also_before t = λ row e.
@@ -140,12 +140,12 @@ module _ (ops : List Operator) (n i : ℕ) (keys : List Key) (group : Option (Pi
       pub same_size : size b ops i ≡ size a ops i
       same_size = size_kept a b kept ops bench i
 
-      -- behind a binding whose key was seen the next one is the same, and costs no more
+      -- after a binding whose key was seen the next one is the same, and costs no more
       past_old : IsTrue (is_told a ops) → was_seen key (take few (seen_at b n)) ≡ true
-          → IsPast (behind_first few (events (docs_of b) ops n)) (first_events (docs_of b) (up_to b n few) (ahead b ops i d))
+          → IsPast (past_first few (events (docs_of b) ops n)) (first_events (docs_of b) (up_to b n few) (ahead b ops i d))
       past_old t m =
           let past = h.past t in
-          let docs = ap (λ (z : Documents). behind_first few (events z ops n)) same_docs in
+          let docs = ap (λ (z : Documents). past_first few (events z ops n)) same_docs in
           let l = ap cost docs in
           let o = ap cost later_same in
           record {
@@ -169,7 +169,7 @@ module _ (ops : List Operator) (n i : ℕ) (keys : List Key) (group : Option (Pi
         past = λ t. past_old (was_told t) m;
       }
 
-      -- the keys behind those that were seen up to the position begin with a new one
+      -- the keys after those that were seen up to the position begin with a new one
       next_key : IsTrue (is_told b ops) → was_seen key (take few (seen_at b n)) ≡ false
           → drop few (next_keys (docs_of b) [] (events (docs_of b) ops i))
           ≡ map (part_value b) key ∷ next_keys (docs_of b) (up_to b n few ++ map (part_value b) key ∷ []) (ahead b ops i d)
@@ -322,8 +322,8 @@ module _ (ops : List Operator) (n i : ℕ) (keys : List Key) (group : Option (Pi
                 ap (last_or None) (list_head t) ∙ last_push (up_to b n few) (map (part_value b) key)
                 ∙ ap Some (val t ∙ ap (key_values (docs_of b) keys) (sym stay.binding_is)),
             λ t. sym (
-                ap (λ (z : Documents). behind_found (found (behind_first few (events z ops n)))) same_docs
-                ∙ ap behind_found ((h.past (was_told t)).found ∙ first_next q (was_told t))),
+                ap (λ (z : Documents). after_found (found (past_first few (events z ops n)))) same_docs
+                ∙ ap after_found ((h.past (was_told t)).found ∙ first_next q (was_told t))),
             some,
             gathered,
           )

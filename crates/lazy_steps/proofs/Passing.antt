@@ -129,10 +129,10 @@ module _ (ops : List Operator) (n l r : ℕ) (tests : List Test) (typed : IsType
       let fails = other_fails (passed ms (suc k)) m.cursor m.row (λ f. other (m.label_is t ∙ f)) in
       let f = found-pairs_no (docs_of w) tests (ahead w ops r (passed ms k)) (binding w ops l x) (binding w ops r (passed ms (suc k))) (ahead w ops r (passed ms (suc k))) (m.found t) fails in
       let c = cost-pairs_no (docs_of w) tests (ahead w ops r (passed ms k)) (binding w ops l x) (binding w ops r (passed ms (suc k))) (ahead w ops r (passed ms (suc k))) (m.found t) fails in
-      let front : RowEvents = pairs (docs_of w) tests (ahead w ops r (passed ms k)) (binding w ops l x) in
+      let prefix : RowEvents = pairs (docs_of w) tests (ahead w ops r (passed ms k)) (binding w ops l x) in
       let later : RowEvents = pairs (docs_of w) tests (ahead w ops r (passed ms (suc k))) (binding w ops l x) in (
-        found-append_both front later (left_events w ops l r tests x) f,
-        omega (arith, cost-append_both front later (left_events w ops l r tests x) (cost (ahead w ops r (passed ms k))) f c),
+        found-append_both prefix later (left_events w ops l r tests x) f,
+        omega (arith, cost-append_both prefix later (left_events w ops l r tests x) (cost (ahead w ops r (passed ms k))) f c),
       )
 
   -- members without the label that is looked up are passed, one after another
@@ -190,7 +190,7 @@ module _ (ops : List Operator) (n l r : ℕ) (tests : List Test) (typed : IsType
       (IfOk-weaker res _ _ (λ s g. member_steps ops n l r tests typed within is w w bench x (passed ms p) here row (asks_nothing w ops n (keeps_same w ops bench) (ahead w ops r (passed ms p))) (passed ms (suc p)) p m.cursor m.row m.found
       (let few = m.few in omega (arith, few)) (omega (arith, at.1)) refl s g) h)
 
-  -- where no member from one place on has the label, a step goes on behind all of them
+  -- where no member from one place on has the label, a step goes on after all of them
   pub pass_all : (k : ℕ) → k ≤ length ms → (IsTrue (is_told w ops) → NoneBetween ms (sought_label w ops l (link_at ops n) x) k (length ms))
       → Goes w w ops n (beside_events w ops l r tests x (passed ms k)) (beside_events w ops l r tests x (last_at w n)) (beside_number w ops l r x k) (beside_number w ops l r x (length ms))
   pass_all k le other =
@@ -228,7 +228,7 @@ module _ (ops : List Operator) (n l r : ℕ) (tests : List Test) (typed : IsType
         let f = g.2 in
         member_steps ops n l r tests typed within is w b bench x (last_at w n) here row k g.0.1.value (length ms) f.cursor f.row f.found grown_few (omega (arith, grown_length)) there s h
 
-    -- the events behind it, where the comparisons don't let it through
+    -- the events after it, where the comparisons don't let it through
     pub grown_past : (IsTrue (is_told b ops) → lets b ops l r tests x (passed (memo_at b n).pairs (suc (length ms))) ≡ false)
         → Goes w b ops n (beside_events w ops l r tests x (last_at w n)) (beside_events b ops l r tests x (last_at b n)) (beside_number w ops l r x (length ms))
         (beside_number b ops l r x (length (memo_at b n).pairs))
@@ -241,11 +241,11 @@ module _ (ops : List Operator) (n l r : ℕ) (tests : List Test) (typed : IsType
         (right_past ops n l r tests typed within is w b bench x (last_at w n) here row k g.0.1.value (length ms) f.cursor f.row f.found grown_few (omega (arith, grown_length)) there
         (λ t. ap (lets b ops l r tests x) (sym there) ∙ h t)))
 
--- a call that brought one more member beside a left position, behind k of them
+-- a call that brought one more member beside a left position, after k of them
 module _ {S : Type 0} {view : S → View} {came_from : S → S → Type 0} {s t : S} {g h : Growing} {p : Fixed} {x : Position} (l r n : ℕ) (tests : List Test) (can : CanStep (view s) g p l x)
     (row : IsTrue (has_row x)) (within : n < length (operators p)) (is : shape_at (operators p) n ≡ pairs_up l r tests)
     (ran : Ran view came_from (operators p) n (ahead (world_of (view s) g) (operators p) r (last_at (world_of (view s) g) n)) s g t h)
-    (grown : IsGrown (world_of (view s) g) (world_of (view t) h) (operators p) n r true) (k : ℕ) (behind : k ≡ length (memo_at (world_of (view s) g) n).pairs) where
+    (grown : IsGrown (world_of (view s) g) (world_of (view t) h) (operators p) n r true) (k : ℕ) (after : k ≡ length (memo_at (world_of (view s) g) n).pairs) where
   abbrev a : World
   a = world_of (view s) g
 
@@ -253,20 +253,20 @@ module _ {S : Type 0} {view : S → View} {came_from : S → S → Type 0} {s t 
   b = world_of (view t) h
 
   one_more : length (memo_at b n).pairs ≡ suc k
-  one_more = omega (arith, grown_length (operators p) n l r tests can.fixed.typed within is a can.bench x can.cursor row b ran.asks grown, behind)
+  one_more = omega (arith, grown_length (operators p) n l r tests can.fixed.typed within is a can.bench x can.cursor row b ran.asks grown, after)
 
   -- the member that was found is the only one that a look-up may find
   only : (j : ℕ) → (k ≤ j) × (j < length (memo_at b n).pairs) → j ≡ length (memo_at a n).pairs
-  only j there = omega (arith, there.0, there.1, one_more, behind)
+  only j there = omega (arith, there.0, there.1, one_more, after)
 
-  -- where it isn't found, the events behind it are ahead
+  -- where it isn't found, the events after it are ahead
   pub more_goes : (res : Option ℕ) → ((j : ℕ) → res ≡ Some j → ⊥)
       → (IsTrue (is_told b (operators p)) → IsNextPlace (memo_at b n).pairs (sought_label b (operators p) l (link_at (operators p) n) x) k res)
       → Goes a b (operators p) n (beside_events a (operators p) l r tests x (last_at a n)) (beside_events b (operators p) l r tests x (last_at b n))
       (beside_number a (operators p) l r x (length (memo_at a n).pairs)) (beside_number b (operators p) l r x (length (memo_at b n).pairs))
   more_goes res never next =
       grown_past (operators p) n l r tests can.fixed.typed within is a can.bench x can.cursor row b ran.asks grown
-      (λ u. subst (λ (i : ℕ). lets b (operators p) l r tests x (passed (memo_at b n).pairs (suc i)) ≡ false) behind (fails u))
+      (λ u. subst (λ (i : ℕ). lets b (operators p) l r tests x (passed (memo_at b n).pairs (suc i)) ≡ false) after (fails u))
     where
       less : k < length (memo_at b n).pairs
       less = omega (arith, one_more)
@@ -285,7 +285,7 @@ module _ {S : Type 0} {view : S → View} {came_from : S → S → Type 0} {s t 
   more_falls =
       let same = size_kept a b ran.asks.kept (operators p) can.bench r in
       let few = grown_few (operators p) n l r tests can.fixed.typed within is a can.bench x can.cursor row b ran.asks grown in
-      omega (arith, same, few, one_more, behind)
+      omega (arith, same, few, one_more, after)
 
   -- the event at its pair, as a step comes to it
   pub more_steps : (j : ℕ) → (k ≤ j) × (j < length (memo_at b n).pairs) → (res : Result Step WalkFault) → IfOk res (IsMemberStep b (operators p) l r tests (memo_at b n).pairs x j)
@@ -311,7 +311,7 @@ module _ {v : View} {g : Growing} {p : Fixed} {n : ℕ} {c : Position} (can : Ca
         (beside_number (world_of v g) (operators p) l r x k))) in_pair.4
         (known_steps (operators p) n l r tests can.fixed.typed can.op is (world_of v g) can.bench x in_pair.0 in_pair.1 k j there none res h)
 
-    -- where none is known, a step goes on behind all members
+    -- where none is known, a step goes on after all members
     pub at_none : (IsTrue (is_told (world_of v g) (operators p))
         → NoneBetween (memo_at (world_of v g) n).pairs (sought_label (world_of v g) (operators p) l (link_at (operators p) n) x) k (length (memo_at (world_of v g) n).pairs))
         → Goes (world_of v g) (world_of v g) (operators p) n (stands (world_of v g) (operators p) n (pairs_up l r tests) (Pair' q x q' y k)).ahead

@@ -106,7 +106,7 @@ module _ (ops : List Operator) (n i start : ℕ) (path : Form) (out : ℕ) where
       pub visits_done : (FindsNone (telling a ops) (ahead a ops i c)) → FindsNone (telling a ops) (visit_events a ops i start path out c)
       visits_done f t = found-expand_none (descendants (docs_of a) start path out) (ahead a ops i c) (f t)
 
-      -- a binding below: what is ahead are the events of its visit and those behind
+      -- a binding below: what is ahead are the events of its visit and those after
       pub visits_on : Asks a b ops i (ahead a ops i c) → (d : Position) → Finds a b ops i (shape_at ops i) (ahead a ops i c) (number a ops i c) d
           → Goes a b ops n (visit_events a ops i start path out c) (descendants (docs_of b) start path out (binding b ops i d) ++ visit_events b ops i start path out d)
           (visit_number a ops i c) (visit_number b ops i d + suc (bound_of b))
@@ -138,7 +138,7 @@ module _ (ops : List Operator) (n i start : ℕ) (path : Form) (out : ℕ) where
     -- a call of the visit from a binding of the input, over these places of it
     module _ (a b : World) (k : Keeps a b) (bench : IsBench a ops) (c : Position) (of : IsOf a ops i c) (row : IsTrue (has_row c)) (s : ℕ) (source : (row_node (binding a ops i c) start).source ≡ s)
         (read : IsRead ops s) (places : List (Event (List ℕ))) (lazy : AsksAtMost (telling a ops) (telling b ops) (cost places)) (untouched : (j : ℕ) → IsUntouched a b j) where
-      -- the events of the visit that are ahead, those behind it, and all
+      -- the events of the visit that are ahead, those after it, and all
       abbrev visit : RowEvents
       visit = nodes_found out (row_node (binding a ops i c) start) (binding a ops i c) places
 
@@ -275,7 +275,7 @@ module _ {S : Type 0} {view : S → View} {came_from : S → S → Type 0} {s t 
       subst (Finds (world_of (view s) g) (world_of (view t) h) (operators p) n (visits_below i start path out) visit_whole (visit_number (world_of (view s) g) (operators p) i x + top)) (sym made)
       (visit_at (operators p) n i start path out can.fixed.typed op is (world_of (view s) g) (world_of (view t) h) asked.kept can.bench x can.cursor row src source read places asked.lazy asked.untouched top m f u)
 
--- a call of the visit behind a match
+-- a call of the visit after a match
 module _ {S : Type 0} {view : S → View} {came_from : S → S → Type 0} {s t : S} {g h : Growing} {p : Fixed} {n : ℕ} {c : Position} (can : CanStep (view s) g p n c)
     (i start : ℕ) (path : Form) (out : ℕ) (is : shape_at (operators p) n ≡ visits_below i start path out) (q : _) (x : Position) (src : ℕ) (d : DescCursor) (e : c ≡ Found' src q x d)
     (asked : Asked view came_from (operators p) (match_ahead (world_of (view s) g) src (machine_of (table_of path)) d) s g t h) where

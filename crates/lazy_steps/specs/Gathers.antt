@@ -49,8 +49,8 @@ pub record GrewGroups {S : Type 0} (view : S → View) (came_from : S → S → 
   pub answer : IfOk result (IsGathered (world_of (view s) g) (world_of (view s') g') (operators k.walk.fixed.now) k.walk.op k.input k.keys.now)
 
 -- the events of the group of a first member, after a position of the input
-abbrev pub members_behind : World → List Operator → ℕ → List Key → Position → Position → RowEvents
-members_behind w ops i keys first at = same_group (docs_of w) keys (binding w ops i first) (ahead w ops i at)
+abbrev pub members_after : World → List Operator → ℕ → List Key → Position → Position → RowEvents
+members_after w ops i keys first at = same_group (docs_of w) keys (binding w ops i first) (ahead w ops i at)
 
 -- the group with number k, counted from 0, has no member, or a position stands at its first one
 abbrev pub IsNextGroup : Gathered → ℕ → Option Position → Type 0

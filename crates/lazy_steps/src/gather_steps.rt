@@ -90,7 +90,7 @@ impl<'a> Gather<'a> {
         }
     }
 
-    /// The position at the group behind so many, where its first member was found; `None` exactly where it wasn't yet.
+    /// The position at the group after so many, where its first member was found; `None` exactly where it wasn't yet.
     fn next_known(&self, growing: &Growing, count: usize) -> Result<Option<Position>, WalkFault>
         requires { self.now.walk.op < length growing.now.walked.gathered.items }
         ensures err { IfErr result (λ e. e ≡ OutOfMemory) }

@@ -61,7 +61,7 @@ impl<'a> Join<'a> {
         }
     }
 
-    /// Beside a binding of the left side and behind all members so far: one more member after another, up to one that a look-up finds; where no more
+    /// Beside a binding of the left side and after all members so far: one more member after another, up to one that a look-up finds; where no more
     /// come, the next binding of the left.
     #[cycle(walk)]
     fn next_new<S: Sources>(

@@ -23,7 +23,7 @@ use std::alloc::{AllocError, Global};
 use std::rc::Rc;
 
 impl Join<'_> {
-    /// The place of the next member beside a binding of the left side, at or behind one: the next of the label that is looked up, or whichever
+    /// The place of the next member beside a binding of the left side, at or after one: the next of the label that is looked up, or whichever
     /// is next; `None` where none is known yet. No fill is asked.
     pub(crate) fn next_known(
         &self,

@@ -24,7 +24,7 @@ impl<'a> DocumentScan<'a> {
         DocumentScan { walk, source }
     }
 
-    /// A source has its document node, and nothing behind it.
+    /// A source has its document node, and nothing after it.
     pub(crate) fn step<S: Sources>(
         &self,
         growing: &mut Growing,

@@ -14,7 +14,7 @@ use plan_core::Op;
 use std::alloc::Global;
 use std::rc::Rc;
 
-/// The first binding behind a position, step by step.
+/// The first binding after a position, step by step.
 #[cycle(walk)]
 pub fn advance<S: Sources>(
     alloc: Global,
@@ -29,13 +29,13 @@ pub fn advance<S: Sources>(
     match next_event(alloc, walk, growing, s, from)? {
         Step::Done => Ok(None),
         Step::At(found) => Ok(Some(put(alloc, found)?)),
-        Step::On(later) => advance_behind(alloc, walk, growing, s, later),
+        Step::On(later) => advance_after(alloc, walk, growing, s, later),
     }
 }
 
-/// The first binding behind an event, step by step.
+/// The first binding after an event, step by step.
 #[cycle(walk)]
-fn advance_behind<S: Sources>(
+fn advance_after<S: Sources>(
     alloc: Global,
     walk: Walk<'_>,
     growing: &mut Growing,
@@ -47,7 +47,7 @@ fn advance_behind<S: Sources>(
 {
     let mut at = from;
     'events: loop {
-        match event_behind(alloc, walk, growing, s, at)? {
+        match event_after(alloc, walk, growing, s, at)? {
             Step::Done => return Ok(None),
             Step::At(found) => return Ok(Some(put(alloc, found)?)),
             Step::On(later) => at = later,
@@ -55,9 +55,9 @@ fn advance_behind<S: Sources>(
     }
 }
 
-/// The next event behind one that is let go.
+/// The next event after one that is let go.
 #[cycle(walk)]
-fn event_behind<S: Sources>(
+fn event_after<S: Sources>(
     alloc: Global,
     walk: Walk<'_>,
     growing: &mut Growing,
@@ -70,7 +70,7 @@ fn event_behind<S: Sources>(
     next_event(alloc, walk, growing, s, &at)
 }
 
-/// The next event behind a position, or a later one with no binding between.
+/// The next event after a position, or a later one with no binding between.
 #[cycle(walk)]
 fn next_event<S: Sources>(
     alloc: Global,

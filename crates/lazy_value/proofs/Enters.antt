@@ -1,4 +1,4 @@
--- Values and what is behind them.
+-- Values and what is after them.
 use Rattle.std.specs.declared.alloc.Global.{Global}
 use Rattle.std.specs.declared.rc.Rc.{Rc}
 use Rattle.std.proofs.Common.{refl, ◌≡◌, ◌+◌, ℕ, suc, None, ◌∙◌, sym, ap, subst, arith}
@@ -24,64 +24,64 @@ use Rattle.lazy_value.specs.declared.ids.Site.TheVariants.{Item}
 use Rattle.lazy_value.proofs.Laws.{dearer_zero, all_followed, piece_followed, collected_followed}
 use Rattle.lazy_value.proofs.Turns.{on_same}
 
-module _ (st : BenchState) (behind : Rest) (h : IsRest st behind) where
+module _ (st : BenchState) (after : Rest) (h : IsRest st after) where
   -- no trees before others are those
-  nothing_before : tolled_followed (ends 0) (rest_trees st behind) ≡ rest_trees st behind
-  nothing_before = dearer_zero (rest_trees st behind)
+  nothing_before : tolled_followed (ends 0) (rest_trees st after) ≡ rest_trees st after
+  nothing_before = dearer_zero (rest_trees st after)
 
   enter_joined : (op : ℕ) (at : Position) (ways : Ways) (q : _) → Stands st op makes_list at → IsWays st (input_at (ops_of st) op) at ways
-      → GoesOn st st (value_trees (documents st) (value_of st (Joined op at)) (rest_trees st behind)) (suc (origin_size st (Joined op at) + weight st behind)) (Pieces' op at 0 ways q behind)
+      → GoesOn st st (value_trees (documents st) (value_of st (Joined op at)) (rest_trees st after)) (suc (origin_size st (Joined op at) + weight st after)) (Pieces' op at 0 ways q after)
   enter_joined op at ways q s along =
-      on_same st _ _ (Pieces' op at 0 ways q behind) (s, omega arith, along, h) (omega arith)
-      (all_followed (documents st) (pieces_of (op_at (ops_of st) op)) (binding_at st (input_at (ops_of st) op) at) (ends 0) (rest_trees st behind)
+      on_same st _ _ (Pieces' op at 0 ways q after) (s, omega arith, along, h) (omega arith)
+      (all_followed (documents st) (pieces_of (op_at (ops_of st) op)) (binding_at st (input_at (ops_of st) op) at) (ends 0) (rest_trees st after)
       ∙ ap (all_items (documents st) (pieces_of (op_at (ops_of st) op)) (binding_at st (input_at (ops_of st) op) at)) nothing_before)
 
   enter_all : (op : ℕ) (q : _) → GathersAll st op
-      → GoesOn st st (value_trees (documents st) (value_of st (All op)) (rest_trees st behind)) (suc (origin_size st (All op) + weight st behind)) (Members' op None q behind)
+      → GoesOn st st (value_trees (documents st) (value_of st (All op)) (rest_trees st after)) (suc (origin_size st (All op) + weight st after)) (Members' op None q after)
   enter_all op q s =
-      on_same st _ _ (Members' op None q behind) (s, tt, h) (omega arith)
-      (collected_followed (documents st) (piece_of (ops_of st) op) (events_of st (input_at (ops_of st) op)) (ends 0) (rest_trees st behind)
+      on_same st _ _ (Members' op None q after) (s, tt, h) (omega arith)
+      (collected_followed (documents st) (piece_of (ops_of st) op) (events_of st (input_at (ops_of st) op)) (ends 0) (rest_trees st after)
       ∙ ap (collected (documents st) (piece_of (ops_of st) op) (events_of st (input_at (ops_of st) op))) nothing_before)
 
   group_before : (op : ℕ) (c : Position) (number : ℕ)
-      → value_trees (documents st) (value_of st (Same op c number)) (rest_trees st behind) ≡ member_trees st op c (group_trees st op c c (rest_trees st behind))
+      → value_trees (documents st) (value_of st (Same op c number)) (rest_trees st after) ≡ member_trees st op c (group_trees st op c c (rest_trees st after))
   group_before op c number =
-      piece_followed (documents st) (piece_of (ops_of st) op) (binding_at st (input_at (ops_of st) op) c) (group_trees st op c c (ends 0)) (rest_trees st behind)
-      ∙ ap (member_trees st op c) (collected_followed (documents st) (piece_of (ops_of st) op) (group_ahead st op c c) (ends 0) (rest_trees st behind)
+      piece_followed (documents st) (piece_of (ops_of st) op) (binding_at st (input_at (ops_of st) op) c) (group_trees st op c c (ends 0)) (rest_trees st after)
+      ∙ ap (member_trees st op c) (collected_followed (documents st) (piece_of (ops_of st) op) (group_ahead st op c c) (ends 0) (rest_trees st after)
       ∙ ap (group_trees st op c c) nothing_before)
 
-module _ (st : BenchState) (origin : Origin) (behind x : Rest) (o : IsOrigin st origin) (h : IsRest st behind) where
-  -- a concatenation, and what is behind it
-  pub joined_goes : (op input : ℕ) (at : Position) (ways : Ways) (q : _) → origin ≡ Joined op at → x ≡ Pieces' op at 0 ways q behind → input ≡ input_at (ops_of st) op
+module _ (st : BenchState) (origin : Origin) (after x : Rest) (o : IsOrigin st origin) (h : IsRest st after) where
+  -- a concatenation, and what is after it
+  pub joined_goes : (op input : ℕ) (at : Position) (ways : Ways) (q : _) → origin ≡ Joined op at → x ≡ Pieces' op at 0 ways q after → input ≡ input_at (ops_of st) op
       → ways.last.value ≡ Top input at → ways.lowest.value ≡ Top input at
-      → GoesOn st st (value_trees (documents st) (value_of st origin) (rest_trees st behind)) (suc (origin_size st origin + weight st behind)) x
+      → GoesOn st st (value_trees (documents st) (value_of st origin) (rest_trees st after)) (suc (origin_size st origin + weight st after)) x
   joined_goes op input at ways q e f i last lowest =
-      subst (λ (r : Rest). GoesOn st st (value_trees (documents st) (value_of st origin) (rest_trees st behind)) (suc (origin_size st origin + weight st behind)) r) (sym f)
-      (subst (λ (w : Origin). GoesOn st st (value_trees (documents st) (value_of st w) (rest_trees st behind)) (suc (origin_size st w + weight st behind)) (Pieces' op at 0 ways q behind)) (sym e)
-      (enter_joined st behind h op at ways q (subst (λ (w : Origin). IsOrigin st w) e o) (start ways.last.value last, start ways.lowest.value lowest)))
+      subst (λ (r : Rest). GoesOn st st (value_trees (documents st) (value_of st origin) (rest_trees st after)) (suc (origin_size st origin + weight st after)) r) (sym f)
+      (subst (λ (w : Origin). GoesOn st st (value_trees (documents st) (value_of st w) (rest_trees st after)) (suc (origin_size st w + weight st after)) (Pieces' op at 0 ways q after)) (sym e)
+      (enter_joined st after h op at ways q (subst (λ (w : Origin). IsOrigin st w) e o) (start ways.last.value last, start ways.lowest.value lowest)))
     where
       start : (w : Way) → w ≡ Top input at → IsWay st (input_at (ops_of st) op) at w
       start w g = subst (λ (x : Way). IsWay st (input_at (ops_of st) op) at x) (sym g) (i, refl)
 
-  -- a list of all bindings, and what is behind it
-  pub all_goes : (op : ℕ) (q : _) (up : Rest) → origin ≡ All op → x ≡ Members' op None q up → up ≡ behind
-      → GoesOn st st (value_trees (documents st) (value_of st origin) (rest_trees st behind)) (suc (origin_size st origin + weight st behind)) x
+  -- a list of all bindings, and what is after it
+  pub all_goes : (op : ℕ) (q : _) (up : Rest) → origin ≡ All op → x ≡ Members' op None q up → up ≡ after
+      → GoesOn st st (value_trees (documents st) (value_of st origin) (rest_trees st after)) (suc (origin_size st origin + weight st after)) x
   all_goes op q up e f g =
-      let z : x ≡ Members' op None q behind = f ∙ ap (λ (r : Rest). Members' op None q r) g in
-      subst (λ (r : Rest). GoesOn st st (value_trees (documents st) (value_of st origin) (rest_trees st behind)) (suc (origin_size st origin + weight st behind)) r) (sym z)
-      (subst (λ (w : Origin). GoesOn st st (value_trees (documents st) (value_of st w) (rest_trees st behind)) (suc (origin_size st w + weight st behind)) (Members' op None q behind)) (sym e)
-      (enter_all st behind h op q (subst (λ (w : Origin). IsOrigin st w) e o)))
+      let z : x ≡ Members' op None q after = f ∙ ap (λ (r : Rest). Members' op None q r) g in
+      subst (λ (r : Rest). GoesOn st st (value_trees (documents st) (value_of st origin) (rest_trees st after)) (suc (origin_size st origin + weight st after)) r) (sym z)
+      (subst (λ (w : Origin). GoesOn st st (value_trees (documents st) (value_of st w) (rest_trees st after)) (suc (origin_size st w + weight st after)) (Members' op None q after)) (sym e)
+      (enter_all st after h op q (subst (λ (w : Origin). IsOrigin st w) e o)))
 
-  -- a group, and what is behind it
+  -- a group, and what is after it
   pub group_stands : (op : ℕ) (c : Position) (number : ℕ) (n : Site) → origin ≡ Same op c number
-      → (Stands st op gathers_groups c → Stands st op gathers_groups c → IsGroup st op number c c 0 → IsRest st behind → StandsFor st st (member_trees st op c (group_trees st op c c (rest_trees st behind))) n)
-      → StandsFor st st (value_trees (documents st) (value_of st origin) (rest_trees st behind)) n
+      → (Stands st op gathers_groups c → Stands st op gathers_groups c → IsGroup st op number c c 0 → IsRest st after → StandsFor st st (member_trees st op c (group_trees st op c c (rest_trees st after))) n)
+      → StandsFor st st (value_trees (documents st) (value_of st origin) (rest_trees st after)) n
   group_stands op c number n e k =
       let s = subst (λ (w : Origin). IsOrigin st w) e o in
-      subst (λ (w : Origin). StandsFor st st (value_trees (documents st) (value_of st w) (rest_trees st behind)) n) (sym e)
-      (subst (λ (f : Tolled). StandsFor st st f n) (sym (group_before st behind h op c number)) (k s.0 s.0 s.1 h))
+      subst (λ (w : Origin). StandsFor st st (value_trees (documents st) (value_of st w) (rest_trees st after)) n) (sym e)
+      (subst (λ (f : Tolled). StandsFor st st f n) (sym (group_before st after h op c number)) (k s.0 s.0 s.1 h))
 
--- a member of a group, and what is behind it
+-- a member of a group, and what is after it
 pub member_stands : (st : BenchState) (op number : ℕ) (first at : Position) (place : ℕ) (q : _) (up : Rest) (x : Head) → IsHeadOf st op 0 at x → IsRest st (Group' op first number at place q up)
     → (r : Rc Rest Global) → r.value ≡ Group' op first number at place q up → StandsFor st st (member_trees st op at (group_trees st op first at (rest_trees st up))) (Item x r)
 member_stands st op number first at place q up x h rest r e =

@@ -19,7 +19,7 @@ use Rattle.lazy_value.specs.declared.ids.Rest.{Rest}
 use Rattle.lazy_value.specs.declared.ids.Site.{Site}
 use Rattle.lazy_value.proofs.Keep.{ops_kept, input_kept, rest_trees-kept, IsRest-kept, left-kept, GathersAll-kept, Stands-kept}
 use Rattle.lazy_value.proofs.Laws.{collected_nothing, collected_finds, toll_collected}
-use Rattle.lazy_value.proofs.Turns.{on_end, at_behind}
+use Rattle.lazy_value.proofs.Turns.{on_end, at_after}
 
 -- what asks less than is allowed
 walked_less : {S : Type 0} {view : S → View} {came_from : S → S → Type 0} {s t : S} {b d : Bench} (m n : ℕ) → Walked view came_from s b t d m → m ≤ n → Walked view came_from s b t d n
@@ -90,7 +90,7 @@ module _ {S : Type 0} {view : S → View} {came_from : S → S → Type 0} (s t 
       pub members_stand : (n : Site) → StandsFor (state_of (view t) d) (state_of (view t) d) (member_trees (state_of (view t) d) op p (members_trees (state_of (view t) d) op (Some p) (rest_trees (state_of (view t) d) up))) n
           → StandsFor (state_of (view s) b) (state_of (view t) d) (members_trees (state_of (view s) b) op at (rest_trees (state_of (view s) b) up)) n
       members_stand n w =
-          at_behind (state_of (view s) b) (state_of (view t) d) walked.kept (cost (ahead_from (state_of (view s) b) (input_at (ops_of (state_of (view s) b)) op) at)) _ _
+          at_after (state_of (view s) b) (state_of (view t) d) walked.kept (cost (ahead_from (state_of (view s) b) (input_at (ops_of (state_of (view s) b)) op) at)) _ _
           (λ y. gathers_some (state_of (view s) b) (state_of (view t) d) walked.kept op up h (ahead_from (state_of (view s) b) (input_at (ops_of (state_of (view s) b)) op) at) _ _ (first_there.found y)) n w
 
       pub members_fall : (m : ℕ) → m ≡ number_at (state_of (view t) d) (input_at (ops_of (state_of (view t) d)) op) p + left (state_of (view t) d) up
@@ -123,7 +123,7 @@ module _ {S : Type 0} {view : S → View} {came_from : S → S → Type 0} (s t 
       pub group_stand : (n : Site) → StandsFor (state_of (view t) d) (state_of (view t) d) (member_trees (state_of (view t) d) op p (group_trees (state_of (view t) d) op first p (rest_trees (state_of (view t) d) up))) n
           → StandsFor (state_of (view s) b) (state_of (view t) d) (group_trees (state_of (view s) b) op first at (rest_trees (state_of (view s) b) up)) n
       group_stand n w =
-          at_behind (state_of (view s) b) (state_of (view t) d) walked.kept (cost (group_ahead (state_of (view s) b) op first at)) _ _
+          at_after (state_of (view s) b) (state_of (view t) d) walked.kept (cost (group_ahead (state_of (view s) b) op first at)) _ _
           (λ y. gathers_some (state_of (view s) b) (state_of (view t) d) walked.kept op up h (group_ahead (state_of (view s) b) op first at) _ _ (f.found y)) n w
 
       -- the member that was found is in the group, at the next place

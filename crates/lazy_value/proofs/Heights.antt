@@ -59,7 +59,7 @@ rest_ranked x up op t e h = h (rest_rank x) (subst (λ (n : ℕ). op ≤ n) (sym
 pub put_ranked : (x up : Rest) (op k : ℕ) → rest_rank x ≡ max op (rest_rank up) → op ≤ k → rest_rank up ≤ k → rest_rank x ≤ k
 put_ranked x up op k e l m = subst (λ (n : ℕ). n ≤ k) (sym e) (max-le l m)
 
--- a member of an operator's list, with those behind it
+-- a member of an operator's list, with those after it
 pub member_ranked : (x : Head) (r : Rc Rest Global) (op : ℕ) (up : Rest) → head_rank x ≤ op → rest_rank r.value ≡ max op (rest_rank up) → KeepsRank op up (At (Item x r))
 member_ranked x r op up h e k l m = (omega (arith, h, l), put_ranked r.value up op k e l m)
 
@@ -111,12 +111,12 @@ pub lower_more : (b : BenchState) (m n : ℕ) → m ≤ n → (r : Option Site) 
 lower_more b m n l None h = tt
 lower_more b m n l (Some x) h = omega (arith, l, h)
 
--- the trees behind a member
-pub ranked_behind : (a b : BenchState) (x : Head) (k : ℕ) → roots_of b ≡ roots_of a → (r : Option Site) → GivesRanked k r → IsNoHigher (roots_of a + max (head_rank x) k) b r
-ranked_behind a b x k e None h = tt
-ranked_behind a b x k e (Some Root) h = absurd h
-ranked_behind a b x k e (Some (Inside s p)) h = absurd h
-ranked_behind a b x k e (Some (Item y r)) h = let m = max-le h.0 h.1 in let n = le-max_right (head_rank x) k in omega (arith, e, m, n)
+-- the trees after a member
+pub ranked_after : (a b : BenchState) (x : Head) (k : ℕ) → roots_of b ≡ roots_of a → (r : Option Site) → GivesRanked k r → IsNoHigher (roots_of a + max (head_rank x) k) b r
+ranked_after a b x k e None h = tt
+ranked_after a b x k e (Some Root) h = absurd h
+ranked_after a b x k e (Some (Inside s p)) h = absurd h
+ranked_after a b x k e (Some (Item y r)) h = let m = max-le h.0 h.1 in let n = le-max_right (head_rank x) k in omega (arith, e, m, n)
 
 -- what is lower is no higher
 pub lower_no_higher : (b : BenchState) (m n : ℕ) → m ≤ n → (r : Option Site) → IsLower m b r → IsNoHigher n b r

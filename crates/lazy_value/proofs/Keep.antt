@@ -1,7 +1,7 @@
 -- Each earlier identifier stays.
 use Rattle.std.proofs.Common.{◌≡◌, ◌<◌, ◌≤◌, ◌+◌, ℕ, suc, List, Option, Some, None, length, drop, refl, ◌∙◌, sym, ap, subst, arith}
 use Rattle.std.specs.Prelude.{IsTrue, MatchOption}
-use Rattle.mix_tree.specs.Forest.{Forest, first_kids, behind}
+use Rattle.mix_tree.specs.Forest.{Forest, first_kids, after_first}
 use Rattle.mix_tree.specs.Nodes.{Documents, Node, label_at, kids_at, label_of_first, node_trees}
 use Rattle.plan_core.specs.declared.plan.Plan.{Plan}
 use Rattle.plan_core.specs.PlanMade.{plan_value}
@@ -9,7 +9,7 @@ use Rattle.plan_core.specs.Plans.{Operator}
 use Rattle.plan_core.specs.ByNumber.{op_at}
 use Rattle.plan_core.specs.Tolled.{Tolled, ends, item, charged}
 use Rattle.plan_core.specs.TolledRows.{TolledRow, piece_items, all_items, collected}
-use Rattle.plan_core.specs.Events.{RowEvents, events, group_behind, tolled_document}
+use Rattle.plan_core.specs.Events.{RowEvents, events, group_after, tolled_document}
 use Rattle.lazy_plan.specs.Bench.{BenchState, ops_of, documents, events_of, size_of, IsCursor, CursorStays, binding_at, ahead_at, number_at, IsSpotAt, node_at, KeepsBench}
 use Rattle.lazy_plan.specs.Groups.{stops_at, group_ahead, IsGroup}
 use Rattle.lazy_binding.specs.declared.position.Position.{Position, First', Seen'}
@@ -100,13 +100,13 @@ module _ (a b : BenchState) (k : KeepsBench a b) where
 
   pub group_ahead-kept : (op : ℕ) (first at : Position) → Stands a op gathers_groups first → Stands a op gathers_groups at → group_ahead b op first at ≡ group_ahead a op first at
   group_ahead-kept op first at h i =
-      ap (λ (d : Documents). behind d (ops_of b) (binding_at b (input_at (ops_of b) op) first) (ahead_at b (input_at (ops_of b) op) at)) k.documents
-      ∙ ap (λ (ops : List Operator). behind (documents a) ops (binding_at b (input_at (ops_of b) op) first) (ahead_at b (input_at (ops_of b) op) at)) ops_kept
-      ∙ ap (λ (row : TolledRow). behind (documents a) (ops_of a) row (ahead_at b (input_at (ops_of b) op) at)) (binding_kept op first h.cursor)
-      ∙ ap (λ (z : RowEvents). behind (documents a) (ops_of a) (binding_at a (input_at (ops_of a) op) first) z) (ahead_kept op at i.cursor)
+      ap (λ (d : Documents). after_first d (ops_of b) (binding_at b (input_at (ops_of b) op) first) (ahead_at b (input_at (ops_of b) op) at)) k.documents
+      ∙ ap (λ (ops : List Operator). after_first (documents a) ops (binding_at b (input_at (ops_of b) op) first) (ahead_at b (input_at (ops_of b) op) at)) ops_kept
+      ∙ ap (λ (row : TolledRow). after_first (documents a) (ops_of a) row (ahead_at b (input_at (ops_of b) op) at)) (binding_kept op first h.cursor)
+      ∙ ap (λ (z : RowEvents). after_first (documents a) (ops_of a) (binding_at a (input_at (ops_of a) op) first) z) (ahead_kept op at i.cursor)
     where
-      behind : Documents → List Operator → TolledRow → RowEvents → RowEvents
-      behind d ops row es = group_behind d (keys_of (op_at ops op)) (stops_at ops op) row es
+      after : Documents → List Operator → TolledRow → RowEvents → RowEvents
+      after_first d ops row es = group_after d (keys_of (op_at ops op)) (stops_at ops op) row es
 
   -- whole numbers of inputs are the same
   size_same : (op : ℕ) → size_of b (input_at (ops_of b) op) ≡ size_of a (input_at (ops_of a) op)
@@ -181,7 +181,7 @@ module _ (a b : BenchState) (k : KeepsBench a b) where
 
   -- a place inside a source
   abbrev inside : Forest → Tolled
-  inside f = item 0 (label_of_first f) (charged (first_kids f)) (charged (behind f))
+  inside f = item 0 (label_of_first f) (charged (first_kids f)) (charged (after_first f))
 
   here-kept : (n : Site) → IsSite a n → here b n ≡ here a n
   here-kept Root h = ap (λ (d : Documents). tolled_document d (ops_of b)) k.documents ∙ ap (tolled_document (documents a)) ops_kept

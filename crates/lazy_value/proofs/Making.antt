@@ -19,7 +19,7 @@ use Rattle.plan_core.specs.Valid.{Kind, a_node, an_element, a_list, Kinds, kinds
 use Rattle.plan_core.proofs.Groups.{group_kinds}
 use Rattle.plan_core.specs.Tolled.{ends}
 use Rattle.plan_core.specs.TolledRows.{TolledRow, element, trees, tolled_value, piece_items, all_items, collected}
-use Rattle.plan_core.specs.Events.{RowEvents, group_row, group_behind}
+use Rattle.plan_core.specs.Events.{RowEvents, group_row, group_after}
 use Rattle.plan_core.specs.Fronts.{op_stops, stops_over}
 use Rattle.lazy_plan.specs.Bench.{BenchState, ops_of, documents, events_of, size_of, IsCursor, binding_at, ahead_at, IsSpotOf, IsUnder, IsMadeOf}
 use Rattle.lazy_plan.specs.Groups.{IsGroup}
@@ -172,7 +172,7 @@ module _ (st : BenchState) (typed : IsTyped (ops_of st)) (n : ℕ) (within : n <
         origin = (stands_over o gathers_groups d e (groups_form i keys piece out some) u.cursor, group);
         value = ap (λ (r : TolledRow). tolled_value r v) (by_keys (binding_at st n c) (binding_at st i d) (ahead_at st i d) i keys piece out some (made_by o d e u)) ∙ cond_true (out == v) _ _ t
             ∙ ap (λ (p : Operator). trees (piece_items (documents st) (slice_index_or (pieces_of p) 0 (text_piece [])) (binding_at st (input_of p) d)
-            (collected (documents st) (slice_index_or (pieces_of p) 0 (text_piece [])) (group_behind (documents st) (keys_of p) (op_stops (ops_of st) p) (binding_at st (input_of p) d) (ahead_at st (input_of p) d)) (ends 0)))) e;
+            (collected (documents st) (slice_index_or (pieces_of p) 0 (text_piece [])) (group_after (documents st) (keys_of p) (op_stops (ops_of st) p) (binding_at st (input_of p) d) (ahead_at st (input_of p) d)) (ends 0)))) e;
         kind = k ∙ cond_true (out == v) _ _ t;
         size = omega (arith, s);
         extent = (let y : size_of st (input_at (ops_of st) n) ≡ size_of st i = ap (λ (p : Operator). size_of st (input_of p)) (sym e) in omega (arith, x, y));

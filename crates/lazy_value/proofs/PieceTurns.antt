@@ -56,7 +56,7 @@ module _ (st : BenchState) (op next : ℕ) (at : Position) (up : Rest) (there : 
   count_on : (of : ℕ → ℕ) → pieces_count of (drop next (pieces_of (op_at (ops_of st) op))) ≡ piece_count of (piece_at (ops_of st) op next) + pieces_count of (drop (next + 1) (pieces_of (op_at (ops_of st) op)))
   count_on of = ap (pieces_count of) pieces_on
 
-  -- what is behind this one is a rest
+  -- what is after this one is a rest
   pub rest_on : IsRest st (Pieces' op at (next + 1) ways q up)
   rest_on = (s, omega (arith, there), along, h)
 
@@ -122,7 +122,7 @@ module _ (st : BenchState) (op next : ℕ) (at : Position) (up : Rest) (there : 
         one (label_piece v) f = refl
         one (text_piece l) f = refl
 
--- a piece that is not behind the last one
+-- a piece that is not after the last one
 pub there_is : (n m r k : ℕ) → n ≤ m → r ≡ k → k ≡ m → (n ≡ r → ⊥) → n < m
 there_is n m r k l e p d = omega (arith, l, e, p, d)
 
@@ -131,9 +131,9 @@ pub rest_turns : (st : BenchState) (x : Rest) (from : PiecesFrom) (ways : Ways) 
     → TurnsPieces st from ways up t → Turns st st (rest_trees st x) (weight st x) t
 rest_turns st x from ways q up t e h f =
     let k = subst (λ (r : Rest). IsRest st r) e h in
-    subst (λ (r : Rest). Turns st st (rest_trees st r) (weight st r) t) (sym e) (f (record { stands = k.0; next = k.1; along = k.2; behind = k.3 }))
+    subst (λ (r : Rest). Turns st st (rest_trees st r) (weight st r) t) (sym e) (f (record { stands = k.0; next = k.1; along = k.2; after = k.3 }))
 
--- behind the last piece comes what is behind them all
+-- after the last piece comes what is after them all
 pub over_pieces : (st : BenchState) (op next : ℕ) (at : Position) (up r : Rest) → next ≡ length (pieces_of (op_at (ops_of st) op)) → r ≡ up → IsRest st up
     → GoesOn st st (pieces_trees st op at next (rest_trees st up)) (suc (pieces_size st op next + weight st up)) r
 over_pieces st op next at up r n e h =

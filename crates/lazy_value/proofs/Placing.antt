@@ -8,7 +8,7 @@ use Rattle.mix_tree.specs.Nodes.{Documents}
 use Rattle.plan_core.specs.declared.plan.Plan.{Plan}
 use Rattle.plan_core.specs.PlanMade.{plan_value}
 use Rattle.plan_core.specs.Plans.{Operator, source, get_descendants, join, over, tuple_destroy, document}
-use Rattle.plan_core.specs.Tolled.{Tolled, ends, item, toll, is_item, item_label, trees_below, trees_behind, paid, plain, trees_from, tolled_at}
+use Rattle.plan_core.specs.Tolled.{Tolled, ends, item, toll, is_item, item_label, trees_below, trees_after, paid, plain, trees_from, tolled_at}
 use Rattle.plan_core.specs.TolledRows.{TolledValue, of_source, element, trees}
 use Rattle.plan_core.specs.Events.{RowEvents, events, visited, element_alone, tolled_destroyed, tolled_document}
 use Rattle.lazy_plan.specs.Bench.{BenchState, ops_of, documents, told, KeepsBench, AsksAtMost}
@@ -23,14 +23,14 @@ use Rattle.lazy_value.proofs.Keep.{keeps_sites}
 
 -- LISTS OF TREES BY PLACES
 
--- what is below and behind a tree doesn't change when it is reached
+-- what is below and after a tree doesn't change when it is reached
 below_paid : (f : Tolled) → trees_below (paid f) ≡ trees_below f
 below_paid (ends t) = refl
 below_paid (item t x d r) = refl
 
-behind_paid : (f : Tolled) → trees_behind (paid f) ≡ trees_behind f
-behind_paid (ends t) = refl
-behind_paid (item t x d r) = refl
+after_paid : (f : Tolled) → trees_after (paid f) ≡ trees_after f
+after_paid (ends t) = refl
+after_paid (item t x d r) = refl
 
 is_item_paid : (f : Tolled) → is_item (paid f) ≡ is_item f
 is_item_paid (ends t) = refl
@@ -45,20 +45,20 @@ at_down : (f : Tolled) (p : List ℕ) → tolled_at f (child_place p) ≡ trees_
 at_down f [] = refl
 at_down f (k ∷ p) = at_down (trees_from k (trees_below f)) p
 
-from_behind : (k : ℕ) (f : Tolled) → trees_from k (trees_behind f) ≡ trees_behind (trees_from k f)
-from_behind zero f = refl
-from_behind (suc k) f = from_behind k (trees_behind f)
+from_after : (k : ℕ) (f : Tolled) → trees_from k (trees_after f) ≡ trees_after (trees_from k f)
+from_after zero f = refl
+from_after (suc k) f = from_after k (trees_after f)
 
--- the next sibling is the first of the trees behind
-at_right : (f : Tolled) (p q : List ℕ) → next_place p ≡ Some q → tolled_at f q ≡ trees_behind (tolled_at f p)
+-- the next sibling is the first of the trees after
+at_right : (f : Tolled) (p q : List ℕ) → next_place p ≡ Some q → tolled_at f q ≡ trees_after (tolled_at f p)
 at_right f [] q e = cc
 at_right f (i ∷ []) q e =
     let d : q ≡ suc i ∷ [] = rw add-one at (let z : q ≡ (i + 1) ∷ [] = cc in z) in
-    rw d (from_behind i (trees_below f))
+    rw d (from_after i (trees_below f))
 at_right f (i ∷ j ∷ p) q e = deeper (next_place (j ∷ p)) (λ r z. at_right (trees_from i (trees_below f)) (j ∷ p) r z) refl e
   where
-    deeper : (o : Option (List ℕ)) → ((r : List ℕ) → next_place (j ∷ p) ≡ Some r → tolled_at (trees_from i (trees_below f)) r ≡ trees_behind (tolled_at f (i ∷ j ∷ p)))
-        → next_place (j ∷ p) ≡ o → option_map (λ r. i ∷ r) o ≡ Some q → tolled_at f q ≡ trees_behind (tolled_at f (i ∷ j ∷ p))
+    deeper : (o : Option (List ℕ)) → ((r : List ℕ) → next_place (j ∷ p) ≡ Some r → tolled_at (trees_from i (trees_below f)) r ≡ trees_after (tolled_at f (i ∷ j ∷ p)))
+        → next_place (j ∷ p) ≡ o → option_map (λ r. i ∷ r) o ≡ Some q → tolled_at f q ≡ trees_after (tolled_at f (i ∷ j ∷ p))
     deeper None h z d = cc
     deeper (Some r) h z d = let y : q ≡ i ∷ r = cc in rw y (h r z)
 
@@ -67,8 +67,8 @@ never_none : (c : ℕ) (r : List ℕ) → next_place (c ∷ r) ≡ None → ⊥
 never_none c [] e = absurd cc
 never_none c (d ∷ r) e = elim (next_place (d ∷ r)) as (λ o. next_place (d ∷ r) ≡ o → option_map (λ s. c ∷ s) o ≡ None → ⊥) [ None ↦ λ u v. never_none d r u | Some s ↦ λ u v. cc ] refl e
 
--- a tree with nothing behind it has none
-alone_place : (r : List ℕ) → next_place r ≡ None → (f : Tolled) → trees_behind f ≡ ends 0 → is_item (trees_behind (tolled_at f r)) ≡ true → ⊥
+-- a tree with nothing after it has none
+alone_place : (r : List ℕ) → next_place r ≡ None → (f : Tolled) → trees_after f ≡ ends 0 → is_item (trees_after (tolled_at f r)) ≡ true → ⊥
 alone_place [] e f g j = let c : false ≡ true = ap is_item (sym g) ∙ j in cc
 alone_place (c ∷ r) e f g j = never_none c r e
 
@@ -98,8 +98,8 @@ plain_label : (f : Tolled) → is_item f ≡ true → (u : LabelledTree) × (fir
 plain_label (ends t) h = cc
 plain_label (item t x d r) h = (record { label = x; kids = plain d }, refl, refl)
 
--- a tree with nothing behind it
-plain_alone : (f : Tolled) → trees_behind f ≡ ends 0 → (t : LabelledTree) → first_tree (plain f) ≡ Some t → plain f ≡ alone t
+-- a tree with nothing after it
+plain_alone : (f : Tolled) → trees_after f ≡ ends 0 → (t : LabelledTree) → first_tree (plain f) ≡ Some t → plain f ≡ alone t
 plain_alone (ends u) b t e = cc
 plain_alone (item u x d r) b t e =
     let i : record { label = x; kids = plain d } ≡ t = cc in
@@ -107,12 +107,12 @@ plain_alone (item u x d r) b t e =
 
 -- THE DOCUMENT
 
-alone_value : (v : TolledValue) → trees_behind (element_alone v) ≡ ends 0
+alone_value : (v : TolledValue) → trees_after (element_alone v) ≡ ends 0
 alone_value (of_source n) = refl
 alone_value (element x k) = refl
 alone_value (trees f) = refl
 
-alone_last : (of : ℕ → RowEvents) (o : Option Operator) → trees_behind (tolled_destroyed of o) ≡ ends 0
+alone_last : (of : ℕ → RowEvents) (o : Option Operator) → trees_after (tolled_destroyed of o) ≡ ends 0
 alone_last of None = refl
 alone_last of (Some (source s out)) = refl
 alone_last of (Some (get_descendants i start path out)) = refl
@@ -202,16 +202,16 @@ module _ (st : BenchState) (law : IsTolled st) (n : NodeId) (p : List ℕ) (h : 
   pub below_at : IsTrue (told st) → trees_below (here st n.site) ≡ tolled_at (tolled st) (child_place p)
   below_at y = ap trees_below (h.here y) ∙ below_paid (tolled_at (tolled st) p) ∙ sym (at_down (tolled st) p)
 
-  behind_here : IsTrue (told st) → trees_behind (here st n.site) ≡ trees_behind (tolled_at (tolled st) p)
-  behind_here y = ap trees_behind (h.here y) ∙ behind_paid (tolled_at (tolled st) p)
+  after_here : IsTrue (told st) → trees_after (here st n.site) ≡ trees_after (tolled_at (tolled st) p)
+  after_here y = ap trees_after (h.here y) ∙ after_paid (tolled_at (tolled st) p)
 
   -- what is asked for the trees below is the toll of the place
   pub down_asks : (b : BenchState) → AsksAtMost st b (toll (trees_below (here st n.site))) → AsksAtMost st b (down_toll (documents st) (ops_of st) p)
   down_asks b k y w = let e = ap toll (ap trees_below (h.here y) ∙ below_paid (tolled_at (tolled st) p)) in let i = k y w in omega (arith, e, i)
 
   -- a step to the right asks no more than its toll at the place of the document
-  pub right_asks : (b : BenchState) → AsksAtMost st b (toll (trees_behind (here st n.site))) → AsksAtMost st b (right_toll (documents st) (ops_of st) p)
-  right_asks b k y w = let e = ap toll (behind_here y) in let i = k y w in omega (arith, e, i)
+  pub right_asks : (b : BenchState) → AsksAtMost st b (toll (trees_after (here st n.site))) → AsksAtMost st b (right_toll (documents st) (ops_of st) p)
+  right_asks b k y w = let e = ap toll (after_here y) in let i = k y w in omega (arith, e, i)
 
   -- the label of an identifier is that at its place
   pub label_there : IsTrue (told st) → (l : List ℕ) → (IsTrue (is_item (here st n.site)) → l ≡ item_label (here st n.site)) → IsLabelAt st p l
@@ -249,16 +249,16 @@ module _ (a b : BenchState) (k : KeepsBench a b) (law : IsTolled a) (n : NodeId)
   down_some x m z i y = reached_there a b k law (trees_below (here a n.site)) (child_place p) y (below_at a law n p h y) x m z i
 
   -- no next sibling
-  pub right_none : Reaches a b (trees_behind (here a n.site)) None → IsTrue (told a) → HasNoPlace a (next_place p)
-  right_none i y t d q z = reached_none a b k law (trees_behind (here a n.site)) q y (behind_here a law n p h y ∙ sym (at_right (tolled a) p q z)) (i y) t d q refl
+  pub right_none : Reaches a b (trees_after (here a n.site)) None → IsTrue (told a) → HasNoPlace a (next_place p)
+  right_none i y t d q z = reached_none a b k law (trees_after (here a n.site)) q y (after_here a law n p h y ∙ sym (at_right (tolled a) p q z)) (i y) t d q refl
 
   -- the next sibling
-  pub right_some : (x : Site) (m : NodeId) → m.site ≡ x → StandsFor a b (trees_behind (here a n.site)) x → IsTrue (told a) → IsThere a b (next_place p) m
+  pub right_some : (x : Site) (m : NodeId) → m.site ≡ x → StandsFor a b (trees_after (here a n.site)) x → IsTrue (told a) → IsThere a b (next_place p) m
   right_some x m z i y = goes (next_place p) refl
     where
-      tree_there : is_item (trees_behind (tolled_at (tolled a) p)) ≡ true
-      tree_there = ap is_item (sym (behind_here a law n p h y)) ∙ i.tree y
+      tree_there : is_item (trees_after (tolled_at (tolled a) p)) ≡ true
+      tree_there = ap is_item (sym (after_here a law n p h y)) ∙ i.tree y
 
       goes : (o : Option (List ℕ)) → next_place p ≡ o → IsThere a b o m
       goes None u = absurd (alone_place p u (tolled a) (alone_last (events (documents a) (ops_of a)) (last_or None (ops_of a))) tree_there)
-      goes (Some q) u = reached_there a b k law (trees_behind (here a n.site)) q y (behind_here a law n p h y ∙ sym (at_right (tolled a) p q u)) x m z i
+      goes (Some q) u = reached_there a b k law (trees_after (here a n.site)) q y (after_here a law n p h y ∙ sym (at_right (tolled a) p q u)) x m z i

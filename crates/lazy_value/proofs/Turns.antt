@@ -83,7 +83,7 @@ walked_then {S} {view} after {s} {t} {u} {b} {c} {d} came paid walked = record {
 pub on_same : (s : BenchState) (f : Tolled) (w : ℕ) (r : Rest) → IsRest s r → weight s r < w → f ≡ rest_trees s r → GoesOn s s f w r
 on_same s f w r h l e = record { rest = h; falls = l; trees = λ y. (0, e ∙ sym (dearer_zero (rest_trees s r)), λ v. omega arith) }
 
--- what is behind a list that is at its end
+-- what is after a list that is at its end
 pub on_end : (a b : BenchState) (k : KeepsBench a b) (m : ℕ) → AsksAtMost a b m → (f : Tolled) (r : Rest) → IsRest a r → (IsTrue (told a) → f ≡ dearer m (rest_trees a r)) → GoesOn a b f (suc (weight a r)) r
 on_end a b k m asks f r h e = record {
   rest = IsRest-kept a b k r h;
@@ -91,9 +91,9 @@ on_end a b k m asks f r h e = record {
   trees = λ y. (m, e y ∙ ap (dearer m) (sym (rest_trees-kept a b k r h)), λ v. asks y v);
 }
 
--- a node behind a toll
-pub at_behind : (a b : BenchState) → KeepsBench a b → (m : ℕ) (f g : Tolled) → (IsTrue (told a) → f ≡ dearer m g) → (n : Site) → StandsFor b b g n → StandsFor a b f n
-at_behind a b k m f g e n h = record {
+-- a node after a toll
+pub at_after : (a b : BenchState) → KeepsBench a b → (m : ℕ) (f g : Tolled) → (IsTrue (told a) → f ≡ dearer m g) → (n : Site) → StandsFor b b g n → StandsFor a b f n
+at_after a b k m f g e n h = record {
   node = h.node;
   here = λ y. h.here (still_told (tells_on k) y) ∙ sym (ap paid (e y) ∙ paid_dearer m g);
   tree = λ y. ap is_item (e y) ∙ is_item_dearer m g ∙ h.tree (still_told (tells_on k) y);

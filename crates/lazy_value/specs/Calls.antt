@@ -1,7 +1,7 @@
 -- What contracts say of the states of a bench, each state named once.
 use Rattle.std.specs.Prelude.{◌≡◌, ℕ, suc, ◌+◌, ◌-◌, ◌<◌, ◌≤◌, length, Option, Some, MatchOption}
 use Rattle.mix_base.specs.Events.{cost}
-use Rattle.mix_tree.specs.Forest.{first_kids, behind}
+use Rattle.mix_tree.specs.Forest.{first_kids, after_first}
 use Rattle.lxp_core.specs.View.{View}
 use Rattle.plan_core.specs.ByNumber.{op_at}
 use Rattle.plan_core.specs.Events.{RowEvents}
@@ -59,8 +59,8 @@ abbrev pub kids_of_spot : BenchState → ℕ → Spot → Tolled
 kids_of_spot st s p = charged (first_kids (trees_at_spot st s p))
 
 -- the trees after a source's node, each with the tolls of a source
-abbrev pub behind_spot : BenchState → ℕ → Spot → Tolled
-behind_spot st s p = charged (behind (trees_at_spot st s p))
+abbrev pub after_spot : BenchState → ℕ → Spot → Tolled
+after_spot st s p = charged (after_first (trees_at_spot st s p))
 
 -- VALUES AND PIECES
 
@@ -78,7 +78,7 @@ pub record InPieces (st : BenchState) (p : PiecesFrom) (ways : Ways) (up : Rest)
   pub stands : Stands st p.op makes_list p.at.now
   pub next : p.next ≤ length (pieces_of (op_at (ops_of st) p.op))
   pub along : IsWays st (input_at (ops_of st) p.op) p.at.now ways
-  pub behind : IsRest st up
+  pub after : IsRest st up
 
 -- what a turn over the pieces of a concatenation comes to
 abbrev pub TurnsPieces : BenchState → PiecesFrom → Ways → Rest → Turn → Type 0
@@ -117,12 +117,12 @@ IsListMember st op at up n =
     Stands st op gathers_all at → IsRest st up → StandsFor st st (member_trees st op at (members_trees st op (Some at) (rest_trees st up))) n
 
 -- how many trees come after the member at a cursor at most, with this rest after the list
-abbrev pub behind_member : BenchState → ℕ → Position → Rest → ℕ
-behind_member st op at up = number_at st (input_at (ops_of st) op) at + left st up
+abbrev pub after_member : BenchState → ℕ → Position → Rest → ℕ
+after_member st op at up = number_at st (input_at (ops_of st) op) at + left st up
 
 -- how many trees are in a list of all bindings after a cursor at most, or in all of it, with this rest after it
-abbrev pub behind_members : BenchState → MembersFrom → Rest → ℕ
-behind_members st l up = number_from st (input_at (ops_of st) l.op) l.at.now + left st up
+abbrev pub after_members : BenchState → MembersFrom → Rest → ℕ
+after_members st l up = number_from st (input_at (ops_of st) l.op) l.at.now + left st up
 
 -- a call answers the first binding of operator op after a cursor, or of all where there is no cursor, or that there is none
 abbrev pub GivesFrom : BenchState → BenchState → ℕ → Option Position → Option Position → Type 0
@@ -145,5 +145,5 @@ abbrev pub TurnsGroup : BenchState → BenchState → GroupFrom → Rest → Tur
 TurnsGroup old new g up t = Turns old new (trees_of_group old g up) (suc (weight old up)) t
 
 -- how many trees come after the member from which a group is walked at most, with this rest after the group
-abbrev pub behind_group : BenchState → GroupFrom → Rest → ℕ
-behind_group st g up = (size_of st (input_at (ops_of st) g.op) - g.place) + left st up
+abbrev pub after_group : BenchState → GroupFrom → Rest → ℕ
+after_group st g up = (size_of st (input_at (ops_of st) g.op) - g.place) + left st up

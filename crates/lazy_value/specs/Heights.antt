@@ -54,7 +54,7 @@ TurnsRanked k (On r) = rest_rank r.value ≤ k
 
 -- a turn over trees of this rank, with a rest after them, leaves nothing of a greater rank than these have
 abbrev pub KeepsRank : ℕ → Rest → Turn → Type 0
-KeepsRank rank behind t = (k : ℕ) → rank ≤ k → rest_rank behind ≤ k → TurnsRanked k t
+KeepsRank rank after t = (k : ℕ) → rank ≤ k → rest_rank after ≤ k → TurnsRanked k t
 
 -- HEIGHTS
 

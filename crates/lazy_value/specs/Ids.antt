@@ -1,6 +1,6 @@
 -- What an identifier stands for.
 use Rattle.std.specs.Prelude.{◌≡◌, ℕ, suc, ◌+◌, ◌-◌, ◌<◌, ◌≤◌, IsTrue, Option, Some, None, List, length, drop, MatchOption}
-use Rattle.mix_tree.specs.Forest.{first_kids, behind}
+use Rattle.mix_tree.specs.Forest.{first_kids, after_first}
 use Rattle.mix_tree.specs.Nodes.{label_at, kids_at, label_of_first}
 use Rattle.plan_core.specs.ByNumber.{op_at}
 use Rattle.plan_core.specs.Tolled.{Tolled, ends, item, charged}
@@ -124,7 +124,7 @@ IsRest st (Group' op first number at place q up) =
 -- the tree of the node at which an identifier stands, which was reached already, and the trees after it
 abbrev pub here : BenchState → Site → Tolled
 here st Root = tolled_document (documents st) (ops_of st)
-here st (Inside s p) = item 0 (label_of_first (trees_at_spot st s p)) (charged (first_kids (trees_at_spot st s p))) (charged (behind (trees_at_spot st s p)))
+here st (Inside s p) = item 0 (label_of_first (trees_at_spot st s p)) (charged (first_kids (trees_at_spot st s p))) (charged (after_first (trees_at_spot st s p)))
 here st (Item head rest) = item 0 (head_label st head) (head_trees st head) (rest_trees st rest.value)
 
 -- the place at which an identifier stands is one of the bench

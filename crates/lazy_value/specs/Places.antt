@@ -4,7 +4,7 @@ use Rattle.mix_tree.specs.Forest.{LabelledTree, alone}
 use Rattle.mix_tree.specs.Place.{has_place, tree_at}
 use Rattle.mix_tree.specs.Nodes.{Documents}
 use Rattle.plan_core.specs.Plans.{Operator, document}
-use Rattle.plan_core.specs.Tolled.{toll, trees_below, trees_behind, paid, tolled_at}
+use Rattle.plan_core.specs.Tolled.{toll, trees_below, trees_after, paid, tolled_at}
 use Rattle.plan_core.specs.Events.{visited, tolled_document}
 use Rattle.lazy_plan.specs.Bench.{BenchState, ops_of, documents, told}
 use Rattle.lazy_value.specs.Ids as ids
@@ -20,7 +20,7 @@ down_toll docs ops p = toll (trees_below (tolled_at (tolled_document docs ops) p
 
 -- what it costs to come to the next sibling of the node at a place of the document, or to learn that it has none
 abbrev pub right_toll : Documents → List Operator → List ℕ → ℕ
-right_toll docs ops p = toll (trees_behind (tolled_at (tolled_document docs ops) p))
+right_toll docs ops p = toll (trees_after (tolled_at (tolled_document docs ops) p))
 
 -- the plan's document has a node at this place
 abbrev pub HasPlace : BenchState → List ℕ → Type 0
@@ -38,7 +38,7 @@ IsLabelAt st p label = (t : LabelledTree) → plan_document st ≡ Some t → (u
 abbrev pub IsNode : BenchState → NodeId → Type 0
 IsNode st n = ids.IsSite st n.site
 
--- an identifier stands at a place of the plan's document, where the sources are told: the tree there and those behind it, with their tolls, are
+-- an identifier stands at a place of the plan's document, where the sources are told: the tree there and those after it, with their tolls, are
 -- those that the identifier stands for
 pub record IsAt (st : BenchState) (n : NodeId) (p : List ℕ) : Type 0 where
   pub node : IsNode st n

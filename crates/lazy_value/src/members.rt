@@ -7,7 +7,7 @@ ghost use Rattle.lazy_value.specs.Ids.{Stands, GathersAll, IsRest, left, ahead_f
 ghost use Rattle.lazy_value.specs.Steps.{Falls};
 ghost use Rattle.lazy_value.specs.Heights.{KeepsRank};
 ghost use Rattle.lazy_plan.specs.Groups.{GivesMember, IsGroup, group_events};
-ghost use Rattle.lazy_value.specs.Calls.{Between, GivesFrom, TurnsGroup, TurnsMembers, WalkedOver, WalkedTo, behind_group, behind_members, trees_of_group, trees_of_members};
+ghost use Rattle.lazy_value.specs.Calls.{Between, GivesFrom, TurnsGroup, TurnsMembers, WalkedOver, WalkedTo, after_group, after_members, trees_of_group, trees_of_members};
 
 use crate::entering::{group_member, list_member};
 use crate::ids::{MembersFrom, Rest, Turn, share};
@@ -40,14 +40,14 @@ fn next_of_group<S: Sources>(
 }
 
 /// The next place of a group; it fails only where counts are exhausted.
-fn place_behind(place: usize) -> Result<usize, AllocError>
+fn place_after(place: usize) -> Result<usize, AllocError>
     ensures { IfOk result (λ next. next ≡ suc place) }
 {
     place.checked_add(1).ok_or(AllocError)
 }
 
 /// The first binding of an operator, or the next one after a cursor.
-fn behind<S: Sources>(
+fn after<S: Sources>(
     alloc: Global,
     bench: &mut Bench,
     s: &mut S,
@@ -83,11 +83,11 @@ pub(crate) fn members<S: Sources>(
     ensures walked { WalkedTo S.view S.came_from s.old bench.old s.new bench.new (λ st. trees_of_members st list.now up.now.value) }
     ensures cause { HasCause (ops_of (state_of (S.view s.old) bench.old)) (S.view s.old) (S.view s.new) result }
     ensures answer { Between S.view s.old bench.old s.new bench.new (λ old new. IfOk result (TurnsMembers old new list.now up.now.value)) }
-    ensures left { Between S.view s.old bench.old s.new bench.new (λ old new. IfOk result (Falls (behind_members old list.now up.now.value) new)) }
+    ensures left { Between S.view s.old bench.old s.new bench.new (λ old new. IfOk result (Falls (after_members old list.now up.now.value) new)) }
     ensures rank { IfOk result (KeepsRank list.now.op up.now.value) }
 {
     let input = input_of(bench.plan(), list.op);
-    match behind(alloc, bench, s, input, list.at)? {
+    match after(alloc, bench, s, input, list.at)? {
         None => Ok(Turn::On(share(up)?)),
         Some(c) => Ok(Turn::At(list_member(alloc, bench, list.op, &c, up)?)),
     }
@@ -109,13 +109,13 @@ pub(crate) fn group<S: Sources>(
     ensures walked { WalkedTo S.view S.came_from s.old bench.old s.new bench.new (λ st. trees_of_group st group.now up.now.value) }
     ensures cause { HasCause (ops_of (state_of (S.view s.old) bench.old)) (S.view s.old) (S.view s.new) result }
     ensures answer { Between S.view s.old bench.old s.new bench.new (λ old new. IfOk result (TurnsGroup old new group.now up.now.value)) }
-    ensures left { Between S.view s.old bench.old s.new bench.new (λ old new. IfOk result (Falls (behind_group old group.now up.now.value) new)) }
+    ensures left { Between S.view s.old bench.old s.new bench.new (λ old new. IfOk result (Falls (after_group old group.now up.now.value) new)) }
     ensures rank { IfOk result (KeepsRank group.now.op up.now.value) }
 {
     match next_of_group(alloc, bench, s, group)? {
         None => Ok(Turn::On(share(up)?)),
         Some(c) => {
-            let place = place_behind(group.place)?;
+            let place = place_after(group.place)?;
             let member = GroupFrom {
                 at: &c,
                 place,

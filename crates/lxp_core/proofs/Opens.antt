@@ -1,4 +1,4 @@
--- Lists with holes: one behind another, and what their holes stand for changed.
+-- Lists with holes: one after another, and what their holes stand for changed.
 use Rattle.std.proofs.Common.{◌≡◌, ℕ, ◌+◌, Bool, true, false, List, [], ◌∷◌, ◌++◌, refl, ap, sym, ◌∙◌, arith}
 use Rattle.mix_tree.specs.Forest.{Forest, none, tree, followed, LabelledTree, forest_of}
 use Rattle.mix_tree.specs.Weight.{nodes_of}
@@ -82,7 +82,7 @@ pub IsApart-without_holes : (f : Forest) → IsApart (without_holes f)
 IsApart-without_holes none = tt
 IsApart-without_holes (tree label kids rest) = (IsApart-without_holes kids, IsApart-without_holes rest)
 
--- the trees of two lists, one behind another
+-- the trees of two lists, one after another
 pub forest_of-append : (xs ys : List LabelledTree) → forest_of (xs ++ ys) ≡ followed (forest_of xs) (forest_of ys)
 forest_of-append [] ys = refl
 forest_of-append (x ∷ xs) ys = ap (tree x.label x.kids) (forest_of-append xs ys)

@@ -37,12 +37,12 @@ put_step-open_followed : (x : OpenTree-F (Open → Open)) (rest : Open) → put_
 put_step-open_followed (Node label kids) rest = refl
 put_step-open_followed (Hole h) rest = refl
 
--- a tree before a list is that tree alone and the list behind it
+-- a tree before a list is that tree alone and the list after it
 pub put-open_followed : (t : OpenTree) (rest : Open) → put t rest ≡ open_followed (put t nil) rest
 put-open_followed t rest =
     subst (λ f. f rest ≡ open_followed (f nil) rest) (sym (fold_out-OpenTree (Open → Open) put_step t)) (put_step-open_followed _ rest)
 
--- trees before a list are those trees alone and the list behind them
+-- trees before a list are those trees alone and the list after them
 pub put_all-open_followed : (ts : List OpenTree) (rest : Open) → put_all ts rest ≡ open_followed (plain ts) rest
 put_all-open_followed [] rest = refl
 put_all-open_followed (t ∷ ts) rest =
@@ -55,11 +55,11 @@ pub put_all-append : (a b : List OpenTree) (rest : Open) → put_all (a ++ b) re
 put_all-append [] b rest = refl
 put_all-append (t ∷ a) b rest = ap (put t) (put_all-append a b rest)
 
--- a hole put behind trees stands behind them, before the list
+-- a hole put after trees stands after them, before the list
 pub put_all-push_hole : (ts : List OpenTree) (h : HoleId) (rest : Open) → put_all (ts ++ made_hole h ∷ []) rest ≡ put_all ts (hole h rest)
 put_all-push_hole ts h rest = put_all-append ts (made_hole h ∷ []) rest ∙ ap (put_all ts) (put-hole h rest)
 
--- a node put behind trees stands behind them, before the list
+-- a node put after trees stands after them, before the list
 pub put_all-push_node : (ts : List OpenTree) (label : List ℕ) (kids : _) (rest : Open) → put_all (ts ++ made_node label kids ∷ []) rest ≡ put_all ts (node label (plain kids.items) rest)
 put_all-push_node ts label kids rest = put_all-append ts (made_node label kids ∷ []) rest ∙ ap (put_all ts) (put-node label kids rest)
 

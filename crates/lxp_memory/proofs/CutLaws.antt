@@ -80,7 +80,7 @@ has_children ns p e = record { node = grind (arith, nat_tests); order = grind (a
 has_span-of : (ns : List DocNode) (p : Span) → HasChildren ns p → has_span ns p ≡ true
 has_span-of ns p h = let a = h.node in let b = h.order in let c = h.count in grind (arith, nat_tests)
 
--- three runs, one behind another, are one
+-- three runs, one after another, are one
 three_runs : (ns : List DocNode) (f a m e b : ℕ) → a ≤ m → m ≤ e → e ≤ b
     → followed (run ns (f + a) (m - a)) (followed (run ns (f + m) (e - m)) (run ns (f + e) (b - e))) ≡ run ns (f + a) (b - a)
 three_runs ns f a m e b am me eb =

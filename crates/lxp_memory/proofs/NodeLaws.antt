@@ -22,7 +22,7 @@ part-append a c xs ys h =
 within-rest : (n : DocNode) (ns : List DocNode) (further : ℕ) → AreWithin (n ∷ ns) further → AreWithin ns further
 within-rest n ns further h i lt = omega (arith, h (suc i) (omega arith))
 
--- further trees behind those that the nodes need change no tree
+-- further trees after those that the nodes need change no tree
 trees_before-append : (ns : List DocNode) (xs ys : List LabelledTree) → AreWithin ns (length xs) → trees_before ns (xs ++ ys) ≡ trees_before ns xs ++ ys
 trees_before-append [] xs ys h = refl
 trees_before-append (n ∷ ns) xs ys h =
@@ -143,7 +143,7 @@ node_at (x ∷ ns) (suc i) n h e =
     let rest = node_at ns i n (omega arith) e in
     record { first = omega (arith, rest.first); count = rest.count; label = rest.label }
 
--- the trees of nodes side by side: the first one's, its children being a run themselves, and those behind it
+-- the trees of nodes side by side: the first one's, its children being a run themselves, and those after it
 pub run-suc : (ns : List DocNode) (i m : ℕ) → i < length ns → run ns i (suc m) ≡ tree (label_of ns i) (run ns (first_of ns i) (count_of ns i)) (run ns (suc i) m)
 run-suc [] i m h = absurd (omega arith)
 run-suc (n ∷ ns) zero m h = refl

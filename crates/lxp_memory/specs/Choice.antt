@@ -21,7 +21,7 @@ choice_of byte forward = record {
   whole = byte / 4 % 2 == 1;
 }
 
--- lists of at most so many children, whole or not, with a hole behind them where more remain
+-- lists of at most so many children, whole or not, with a hole after them where more remain
 abbrev pub in_chunks : ℕ → Bool → Choice
 in_chunks most whole = record { leads = false; skipped = 0; most = most; trails = false; whole = whole }
 

@@ -27,7 +27,7 @@ children ns choice i (suc count) rest = node (label_of ns i) (kids_of ns choice 
 abbrev pub shown_from : Choice → Span → ℕ
 shown_from choice span = span.from + min choice.skipped (span.to - span.from - 1)
 
--- the index behind the last child that a list shows
+-- the index after the last child that a list shows
 abbrev pub shown_to : Choice → Span → ℕ
 shown_to choice span = shown_from choice span + min choice.most (span.to - shown_from choice span)
 

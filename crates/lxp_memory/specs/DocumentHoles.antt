@@ -31,7 +31,7 @@ abbrev pub document_weight : Document → HoleId → ℕ
 document_weight d h = nodes_of (document_forest d h)
 
 -- the list of a hole: the next children, at most a chunk, each whole or with one hole below it where it has children, and
--- a hole behind them exactly where more remain
+-- a hole after them exactly where more remain
 abbrev pub document_list : Document → ℕ → Bool → HoleId → Open
 document_list d chunk whole h = cut d.nodes.items (in_chunks chunk whole) (hole_span h)
 

@@ -1,11 +1,11 @@
--- How a document lies in memory: its nodes level by level, the children of each side by side behind it.
+-- How a document lies in memory: its nodes level by level, the children of each side by side after it.
 use Rattle.std.specs.Prelude.{◌≡◌, ℕ, zero, suc, ◌+◌, ◌<◌, ◌≤◌, List, [], ◌∷◌, ◌++◌, length, take, drop}
 use Rattle.mix_tree.specs.Forest.{Forest, LabelledTree, forest_of}
 use Rattle.lxp_memory.specs.declared.document.DocNode.{DocNode}
 
--- the tree of a node, before the trees of the nodes behind it, among which its children are
+-- the tree of a node, before the trees of the nodes after it, among which its children are
 abbrev pub with_node : DocNode → List LabelledTree → List LabelledTree
-with_node n behind = record { label = n.label; kids = forest_of (take n.count (drop n.ahead behind)) } ∷ behind
+with_node n after = record { label = n.label; kids = forest_of (take n.count (drop n.ahead after)) } ∷ after
 
 -- the tree of each node, before further trees
 abbrev pub trees_before : List DocNode → List LabelledTree → List LabelledTree
@@ -38,7 +38,7 @@ run ns i count = forest_of (take count (drop i (trees_before ns [])))
 abbrev pub AreWithin : List DocNode → ℕ → Type 0
 AreWithin ns further = (i : ℕ) → i < length ns → first_of ns i + count_of ns i ≤ length ns + further
 
--- a tree's root stands behind the nodes, and its children stand behind the trees that are still to be placed
+-- a tree's root stands after the nodes, and its children stand after the trees that are still to be placed
 pub record IsPlaced (t : LabelledTree) (nodes : List DocNode) (queue : List LabelledTree) (nodes' : List DocNode) (queue' : List LabelledTree) : Type 0 where
   pub node : DocNode
   pub kids : List LabelledTree

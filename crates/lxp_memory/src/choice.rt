@@ -33,7 +33,7 @@ impl Choice {
         }
     }
 
-    /// Lists of at most so many children, with a hole behind them where more remain.
+    /// Lists of at most so many children, with a hole after them where more remain.
     pub fn in_chunks(most: usize, whole: bool) -> Choice
         ensures { result ≡ in_chunks most whole }
     {

@@ -26,7 +26,7 @@ impl Document {
     }
 
     /// The list of a hole, which stands for the children of a node from an index on: the next children, at most a chunk,
-    /// and a hole behind them exactly where more remain. Where it is to be whole, each child is given whole. Else a child
+    /// and a hole after them exactly where more remain. Where it is to be whole, each child is given whole. Else a child
     /// that has children has one hole below it. `UnknownHole`: the document doesn't know the hole. It never answers
     /// `Failed`.
     pub fn fill(

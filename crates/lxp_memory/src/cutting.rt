@@ -12,7 +12,7 @@ use crate::span::Span;
 use lxp_core::OpenTree;
 use std::alloc::{AllocError, Global};
 
-// Puts a hole behind a list, where one is wanted.
+// Puts a hole after a list, where one is wanted.
 fn push_hole_if(list: &mut Vec<OpenTree>, wanted: bool, span: Span) -> Result<(), AllocError>
     ensures { OnOk result ((rest : Open) →
         put_all list.new.items rest ≡ put_all list.old.items (hole_if wanted span rest)) }
@@ -24,7 +24,7 @@ fn push_hole_if(list: &mut Vec<OpenTree>, wanted: bool, span: Span) -> Result<()
 }
 
 impl Document {
-    // Puts a node behind a list, above a list of its own.
+    // Puts a node after a list, above a list of its own.
     fn push_node(
         &self,
         alloc: Global,

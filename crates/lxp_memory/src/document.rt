@@ -18,7 +18,7 @@ pub struct DocNode {
     pub count: usize,
 }
 
-/// The nodes of a document, level by level, so that the children of each stand side by side behind it. The first one is
+/// The nodes of a document, level by level, so that the children of each stand side by side after it. The first one is
 /// the document node, whose only child is the root.
 #[derive(Drop)]
 pub struct Document {
@@ -35,7 +35,7 @@ fn above(alloc: Global, root: Tree) -> Result<Tree, AllocError>
     Ok(Tree::new(label, vec![in alloc; root]?))
 }
 
-// Places a tree's root behind the nodes, and its children behind the trees that are still to be placed.
+// Places a tree's root after the nodes, and its children after the trees that are still to be placed.
 fn place(nodes: &mut Vec<DocNode>, queue: &mut VecDeque<Tree>, tree: Tree) -> Result<(), AllocError>
     ensures { OnOk result (IsPlaced tree nodes.old.items queue.old.items nodes.new.items queue.new.items) }
 {
@@ -84,7 +84,7 @@ impl Document {
     pub(crate) fn first(&self, node: usize) -> usize
         requires { node < length self.now.nodes.items }
         ensures first { result ≡ first_of self.now.nodes.items node }
-        ensures behind { node < result }
+        ensures after { node < result }
         ensures within { result + count_of self.now.nodes.items node ≤ length self.now.nodes.items }
     {
         node + 1 + self.nodes[node].ahead

@@ -5,16 +5,16 @@ use Rattle.mix_base.specs.Runs.{run_by, LeadsTo}
 use Rattle.mix_base.proofs.Choices.{some_is, none_some}
 
 module _ {S : Type 0} (step : S → ℕ → Option S) where
-  -- a run over two parts, behind a first byte
-  behind : (x y : List ℕ) → ((t : S) → run_by step t (x ++ y) ≡ option_and_then (λ u. run_by step u y) (run_by step t x)) → (o : Option S)
+  -- a run over two parts, after a first byte
+  after : (x y : List ℕ) → ((t : S) → run_by step t (x ++ y) ≡ option_and_then (λ u. run_by step u y) (run_by step t x)) → (o : Option S)
       → option_and_then (λ t. run_by step t (x ++ y)) o ≡ option_and_then (λ t. run_by step t y) (option_and_then (λ t. run_by step t x) o)
-  behind x y h None = refl
-  behind x y h (Some t) = h t
+  after x y h None = refl
+  after x y h (Some t) = h t
 
   -- a run over two parts
   pub run_append : (x y : List ℕ) (s : S) → run_by step s (x ++ y) ≡ option_and_then (λ t. run_by step t y) (run_by step s x)
   run_append [] y s = refl
-  run_append (b ∷ x) y s = behind x y (λ t. run_append x y t) (step s b)
+  run_append (b ∷ x) y s = after x y (λ t. run_append x y t) (step s b)
 
   -- a run goes on from where it came to
   pub run_then : (x y : List ℕ) (s t : S) → run_by step s x ≡ Some t → run_by step s (x ++ y) ≡ run_by step t y
@@ -29,7 +29,7 @@ module _ {S : Type 0} (step : S → ℕ → Option S) where
   run_one None = refl
   run_one (Some t) = refl
 
--- a front with one more byte
+-- a prefix with one more byte
 pub take_next : (x : List ℕ) (i : ℕ) → i < length x → take (i + 1) x ≡ take i x ++ slice_index x i ∷ []
 take_next x i h = take_more x i 0 h
 
@@ -41,18 +41,18 @@ kept_none kept (Some s) e = none_some _ (sym e)
 -- a scan that keeps something of a machine's state, and goes on by that alone where the machine stands in such a state
 module _ {S T : Type 0} (step : S → ℕ → Option S) (kept : S → T) (scan : T → ℕ → Option T) where
   -- one byte more, from an option
-  pub scan_behind : (o : Option S) (t : T) (b : ℕ) → ((s : S) → o ≡ Some s → option_map kept (step s b) ≡ scan (kept s) b) → option_map kept o ≡ Some t
+  pub scan_after : (o : Option S) (t : T) (b : ℕ) → ((s : S) → o ≡ Some s → option_map kept (step s b) ≡ scan (kept s) b) → option_map kept o ≡ Some t
       → option_map kept (option_and_then (λ s. run_by step s (b ∷ [])) o) ≡ scan t b
-  scan_behind None t b alike e = none_some t e
-  scan_behind (Some s) t b alike e = ap (option_map kept) (run_one step (step s b)) ∙ alike s refl ∙ ap (λ u. scan u b) (some_is _ _ e)
+  scan_after None t b alike e = none_some t e
+  scan_after (Some s) t b alike e = ap (option_map kept) (run_one step (step s b)) ∙ alike s refl ∙ ap (λ u. scan u b) (some_is _ _ e)
 
   -- one byte more
   pub scan_more : (first : S) (x : List ℕ) (t : T) (b : ℕ) → ((s : S) → run_by step first x ≡ Some s → option_map kept (step s b) ≡ scan (kept s) b)
       → LeadsTo step kept first x t → option_map kept (run_by step first (x ++ b ∷ [])) ≡ scan t b
-  scan_more first x t b alike e = ap (option_map kept) (run_append step x (b ∷ []) first) ∙ scan_behind (run_by step first x) t b alike e
+  scan_more first x t b alike e = ap (option_map kept) (run_append step x (b ∷ []) first) ∙ scan_after (run_by step first x) t b alike e
 
   -- one byte more of a text
-  pub scan_front : (first : S) (x : List ℕ) (i : ℕ) (t : T) → ((s : S) (b : ℕ) → run_by step first (take i x) ≡ Some s → option_map kept (step s b) ≡ scan (kept s) b)
+  pub scan_prefix : (first : S) (x : List ℕ) (i : ℕ) (t : T) → ((s : S) (b : ℕ) → run_by step first (take i x) ≡ Some s → option_map kept (step s b) ≡ scan (kept s) b)
       → i < length x → LeadsTo step kept first (take i x) t → option_map kept (run_by step first (take (i + 1) x)) ≡ scan t (slice_index x i)
-  scan_front first x i t alike h e =
+  scan_prefix first x i t alike h e =
       ap (λ y. option_map kept (run_by step first y)) (take_next x i h) ∙ scan_more first (take i x) t (slice_index x i) (λ s. alike s (slice_index x i)) e

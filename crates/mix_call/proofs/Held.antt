@@ -9,7 +9,7 @@ use Rattle.mix_talk.specs.declared.fault.TalkFault.TheVariants.{InputFailed, Sin
 use Rattle.mix_talk.proofs.Taken.{took_none}
 use Rattle.table_keep.specs.Views.{TablesView}
 use Rattle.xmas_rule.specs.RuleMade.{rule_of}
-use Rattle.mix_top.specs.Ends.{Ends, TookFront}
+use Rattle.mix_top.specs.Ends.{Ends, TookPrefix}
 use Rattle.mix_top.specs.Outside.{outside}
 use Rattle.mix_top.specs.Running.{question_of}
 use Rattle.mix_top.specs.declared.refusal.Refusal.{Refusal}
@@ -80,14 +80,14 @@ refused old new tables view catalog input before after r status cause ends = inl
     lines_are : (s : ℕ) (lines : List ℕ) → Line s lines → Refused s lines
     lines_are s lines l = subst (λ (n : ℕ). Refused n lines) (sym l.0) (subst (Refused r.status) (sym l.1) cause)
 
-    front : TookFront Line before after → TookFront Refused before after
-    front f = (f.0, f.1, lines_are f.0 f.1 f.2, f.3)
+    prefix : TookPrefix Line before after → TookPrefix Refused before after
+    prefix f = (f.0, f.1, lines_are f.0 f.1 f.2, f.3)
 
     ended : Ends Line before after status → Ends Refused before after status
     ended (inl w) = inl (record { lines = w.lines; course = lines_are status w.lines w.course; written = w.written })
-    ended (inr (inl w)) = inr (inl (record { five = w.five; cause = w.cause; front = front w.front }))
-    ended (inr (inr w)) = inr (inr (record { six = w.six; front = elim w.front [ inl same ↦ inl same | inr f ↦ inr (front f) ] }))
+    ended (inr (inl w)) = inr (inl (record { five = w.five; cause = w.cause; prefix = prefix w.prefix }))
+    ended (inr (inr w)) = inr (inr (record { six = w.six; prefix = elim w.prefix [ inl same ↦ inl same | inr f ↦ inr (prefix f) ] }))
 
 -- a talk was stopped before it began, since memory ran out
 pub unbegun : (old new : FilesView) (tables : TablesView) (view catalog : List ℕ) (input : InputView) (before : SinkView) → TalkEnds (outside old tables) (outside new tables) view catalog input input before before 6
-unbegun old new tables view catalog input before = inl (refl, inr (inr (record { six = refl; front = inl refl })))
+unbegun old new tables view catalog input before = inl (refl, inr (inr (record { six = refl; prefix = inl refl })))

@@ -16,7 +16,7 @@ use Rattle.mix_top.proofs.Readiness.{rule_before, source_refused_before}
 use Rattle.mix_call.specs.Over.{IsReadyStop}
 use Rattle.mix_call.specs.Talks.{TalkMayRead}
 
--- the file of a source is refused, behind a view that is accepted
+-- the file of a source is refused, after a view that is accepted
 pub sources_unready : (old mid new : FilesView) (view catalog : List ℕ) (sources : List SourceSpec) (v : RuleValue) (stop : Stop) → IsSteady old mid
     → IsCatalogFile old catalog sources → IsRuleFile old view (names_of_sources sources) v → IsMountStop mid new v sources stop → IsReadyStop old new view catalog stop
 sources_unready old mid new view catalog sources v (Refused r) steady cat rule h = inr (sources, cat, inr (v, rule, source_refused_before old mid new v sources r.status (string_bytes r.line) steady h))

@@ -24,12 +24,12 @@ use Rattle.mix_talk.specs.declared.fault.TalkFault.{TalkFault}
 use Rattle.mix_talk.specs.declared.fault.TalkFault.TheVariants.{InputFailed, SinkFailed, OutOfMemory}
 use Rattle.mix_talk.proofs.Telling.{spoken_append, spoken_more, spoken_on}
 use Rattle.mix_top.specs.Answered.{IsAnsweredIn, all_told}
-use Rattle.mix_top.specs.Ends.{TookFront}
+use Rattle.mix_top.specs.Ends.{TookPrefix}
 use Rattle.mix_top.specs.Mounting.{AreMounted}
 use Rattle.mix_top.specs.Question.{Question}
 use Rattle.mix_top.specs.Running.{documents_of, question_of}
 use Rattle.mix_top.specs.Stops.{IsDoneWith, outcome_of, outcome_status}
-use Rattle.mix_top.proofs.Answering.{Frugal, IsAnswering, IsManner, answering, front_of}
+use Rattle.mix_top.proofs.Answering.{Frugal, IsAnswering, IsManner, answering, prefix_of}
 use Rattle.mix_top.proofs.LinesEnd.{outcome_is}
 use Rattle.mix_call.specs.Ends.{EndsSo, TalkedAlong}
 use Rattle.mix_call.specs.Over.{TalkOver}
@@ -74,21 +74,21 @@ module _ (files : FilesView) (a b : Mounting) (came : CameFrom a b) (basis : Bas
     run : IsAnswering (in_talk asked q) a b basis.catalog (rule_of basis.rule) steps st t before after
     run = answering files a b came basis.catalog (rule_of basis.rule) steps mounted accepted (in_talk asked q) st same docs_are ahead t document_is unasked few before after (in_talk_is_manner asked q)
 
-    -- the lines of the first that was heard are a front of all lines
+    -- the lines of the first that was heard are a prefix of all lines
     took : (answers : List Answer) → Are answers → Frugal (in_talk asked q) a b q before after answers → (lines rest : List ℕ) → lines ++ rest ≡ spoken names asked answers
-        → (n : ℕ) → Appends before.written after.written (take n lines) → TookFront (Course asked before after) before after
+        → (n : ℕ) → Appends before.written after.written (take n lines) → TookPrefix (Course asked before after) before after
     took answers are less lines rest begin n h =
-        let f = run.front answers are less in
+        let f = run.prefix answers are less in
         let whole : lines ++ (rest ++ f.rest) ≡ f.lines = sym (append_assoc lines rest f.rest) ∙ ap (λ l. l ++ f.rest) begin ∙ f.begun in
-        (f.status, f.lines, (t, finished, f.is), front_of before.written after.written n lines (rest ++ f.rest) f.lines whole h)
+        (f.status, f.lines, (t, finished, f.is), prefix_of before.written after.written n lines (rest ++ f.rest) f.lines whole h)
 
-    -- they are, and what comes behind them
+    -- they are, and what comes after them
     spoken_parts : (done later : List Heard) (answers last : List Answer) → asked ≡ done ++ later → length answers ≡ length (steps_in done)
         → spoken names done answers ++ spoken names later last ≡ spoken names asked (answers ++ last)
     spoken_parts done later answers last parts all = sym (ap (λ (h : List Heard). spoken names h (answers ++ last)) parts ∙ spoken_append names done later answers last all)
 
     -- between two lines
-    between : StopsBetween Are Cost names asked before after → TookFront (Course asked before after) before after
+    between : StopsBetween Are Cost names asked before after → TookPrefix (Course asked before after) before after
     between w =
         let lines = spoken names w.done w.answers in
         let less = run.frugal w.answers [] lines w.cost (w.done, w.later, w.parts, w.all, [], sym (append_nil lines)) w.written in
@@ -97,7 +97,7 @@ module _ (files : FilesView) (a b : Mounting) (came : CameFrom a b) (basis : Bas
         (subst (Appends before.written after.written) (sym (take_all (length lines) lines (omega arith))) w.written)
 
     -- within a line
-    within : StopsWithin Are Cost names asked before after → TookFront (Course asked before after) before after
+    within : StopsWithin Are Cost names asked before after → TookPrefix (Course asked before after) before after
     within w =
         let lines = spoken names w.done w.answers in
         let line = spoken names (w.next ∷ []) w.last in

@@ -10,7 +10,7 @@ use Rattle.mix_talk.specs.declared.fault.TalkFault.{TalkFault}
 use Rattle.mix_talk.specs.declared.fault.TalkFault.TheVariants.{InputFailed, SinkFailed, OutOfMemory}
 use Rattle.mix_top.specs.Commands.{command_of}
 use Rattle.mix_top.specs.Course.{IsCourse}
-use Rattle.mix_top.specs.Ends.{Ends, EndsAlong, TookFront, TookAtMost}
+use Rattle.mix_top.specs.Ends.{Ends, EndsAlong, TookPrefix, TookAtMost}
 use Rattle.mix_top.specs.Outside.{Outside}
 use Rattle.mix_top.specs.Stops.{IsDoneAlong, IsDoneWith, outcome_of, outcome_status}
 use Rattle.mix_call.specs.Talks.{IsTalkRefused, Talks}
@@ -19,7 +19,7 @@ use Rattle.mix_call.specs.Talks.{IsTalkRefused, Talks}
 abbrev pub EndsSo : (SinkView → SinkView → ℕ → List ℕ → Type 0) → InputView → InputView → SinkView → SinkView → Result Bool TalkFault → Type 0
 EndsSo Course input input' sink sink' (Ok marked) = IsAtEnd input' × IsDoneAlong Course sink sink' (outcome_of marked)
 EndsSo Course input input' sink sink' (Err InputFailed) = HasRisen input.faults input'.faults × (status : ℕ) × IsDoneWith (Course sink sink') status sink sink'
-EndsSo Course input input' sink sink' (Err SinkFailed) = HasRisen sink.faults sink'.faults × TookFront (Course sink sink') sink sink'
+EndsSo Course input input' sink sink' (Err SinkFailed) = HasRisen sink.faults sink'.faults × TookPrefix (Course sink sink') sink sink'
 EndsSo Course input input' sink sink' (Err OutOfMemory) = TookAtMost (Course sink sink') sink sink'
 
 -- bytes were taken of an input, and the lines end whose course is given by what these bytes ask for

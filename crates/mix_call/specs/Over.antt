@@ -15,7 +15,7 @@ use Rattle.xmas_read.specs.Results.{names_of_sources}
 use Rattle.mix_top.specs.Answered.{IsAnsweredIn}
 use Rattle.mix_top.specs.Course.{IsCatalogFile, IsRuleFile, IsSourceRefused}
 use Rattle.mix_top.specs.Mounting.{AreMounted}
-use Rattle.mix_top.specs.Running.{IsStopBehind, documents_of, question_of}
+use Rattle.mix_top.specs.Running.{IsStopAfter, documents_of, question_of}
 use Rattle.mix_top.specs.declared.refusal.Stop.{Stop}
 use Rattle.mix_call.specs.Ends.{TalkedAlong}
 use Rattle.mix_call.specs.Talks.{in_talk}
@@ -32,7 +32,7 @@ pub record IsReady (files : FilesView) (view catalog : List ℕ) (r : Ready) : T
 
 -- a file of a talk is refused, or memory ran out
 abbrev pub IsReadyStop : FilesView → FilesView → List ℕ → List ℕ → Stop → Type 0
-IsReadyStop old new view catalog = IsStopBehind (λ sources v. IsSourceRefused old new v sources) old new view catalog
+IsReadyStop old new view catalog = IsStopAfter (λ sources v. IsSourceRefused old new v sources) old new view catalog
 
 -- given lines answer what was heard on the rule's finished document over what is mounted, by a number of fills
 abbrev pub TalkOver : ℕ → TablesView → TablesView → List Mount → Basis → List Heard → SinkView → SinkView → ℕ → List ℕ → Type 0

@@ -6,18 +6,18 @@ use Rattle.mix_talk.specs.Lines.{spoken, talk_transcript}
 use Rattle.xmas_rule.specs.Meaning.{IsFinished}
 use Rattle.xmas_read.specs.Results.{names_of_sources}
 use Rattle.mix_top.specs.Answered.{IsAnsweredIn, Manner}
-use Rattle.mix_top.specs.Course.{AreDocuments, IsCatalogFile, IsRefusedBehind, IsRuleFile, IsSourceRefused}
-use Rattle.mix_top.specs.FilesRead.{MayReadBehind, SourceMayRead}
+use Rattle.mix_top.specs.Course.{AreDocuments, IsCatalogFile, IsRefusedAfter, IsRuleFile, IsSourceRefused}
+use Rattle.mix_top.specs.FilesRead.{MayReadAfter, SourceMayRead}
 use Rattle.mix_top.specs.Outside.{Outside}
 use Rattle.mix_top.specs.Question.{Question}
 
 -- a file of a talk is refused, the first in this order: the catalog, the view, and the files of the sources that the view names
 abbrev pub IsTalkRefused : FilesView → FilesView → List ℕ → List ℕ → ℕ → List ℕ → Type 0
-IsTalkRefused old new view catalog = IsRefusedBehind (λ sources v. IsSourceRefused old new v sources) old new view catalog
+IsTalkRefused old new view catalog = IsRefusedAfter (λ sources v. IsSourceRefused old new v sources) old new view catalog
 
 -- a talk may read the catalog, the view, and then the files of the sources that the view names
 abbrev pub TalkMayRead : FilesView → List ℕ → List ℕ → List ℕ → Type 0
-TalkMayRead files view catalog = MayReadBehind (λ sources v. SourceMayRead files v sources) files view catalog
+TalkMayRead files view catalog = MayReadAfter (λ sources v. SourceMayRead files v sources) files view catalog
 
 -- what a talk asks whose files were all accepted: its catalog, rule, documents and tree, and the steps that were heard
 pub record IsTalk (before : Outside) (view catalog : List ℕ) (asked : List Heard) (q : Question) : Type 0 where

@@ -29,12 +29,12 @@ fn read_talk(words: &[String]) -> Option<Talking<'_>>
     }
 }
 
-/// Does what the words behind the program's name ask for, and answers the exit status and the tables. All lines, those of refusals too,
+/// Does what the words after the program's name ask for, and answers the exit status and the tables. All lines, those of refusals too,
 /// go to the streams' `out`, each by one write; a talk alone takes bytes of their `input`.
 ///
 /// Status 0: all was done, and no line is a fault line. 1: all was done, and some line is a fault line. 2: the words are of no form. 3: a
 /// file is not accepted. 4: a file can't be read. 5: `out` failed. 6: memory ran out. 7: a file is longer than 67,108,864 bytes. 10: the
-/// input failed. A run or a talk that ends with 5 or 6 has written a front of its lines; a talk that ends with 10 has answered all whole
+/// input failed. A run or a talk that ends with 5 or 6 has written a prefix of its lines; a talk that ends with 10 has answered all whole
 /// lines that it took before. The tables are handed back whatever the status is (docs/FORMATS.md, "Commands", "Talks").
 pub fn mixq<F: Files, T: Tables, I: Input, K: Sink>(
     alloc: Global,
@@ -48,7 +48,7 @@ pub fn mixq<F: Files, T: Tables, I: Input, K: Sink>(
         WordsEnd (talk_of words) words (outside (F.view files.old) (T.view tables)) (outside (F.view files.new) (T.view result.1))
         (I.view streams.old.input) (I.view streams.new.input) (K.view streams.old.out) (K.view streams.new.out) result.0 }
 
-    // Which files it may have read: none behind one that is refused.
+    // Which files it may have read: none after one that is refused.
     ensures reads { let old = F.view files.old in let words = map string_bytes words.now in
         ReadsAmong (WordsMayRead old (talk_of words) (command_of words)) old (F.view files.new) }
 

@@ -18,7 +18,7 @@ pub Accepts-more : (lines : List (List ℕ)) (i : ℕ) (line : List ℕ) (middle
 Accepts-more lines i line middle after inside same accepted adds =
     subst (λ ls. Accepts [] ls after) (ap (λ l. take i lines ++ l ∷ []) same ∙ sym (take_more lines i [] inside)) (Accepts-push [] (take i lines) line middle after accepted adds)
 
--- the fault of a line behind accepted ones is the first
+-- the fault of a line after accepted ones is the first
 first_fault : (text : List ℕ) (lines : List (List ℕ)) (i : ℕ) (line : List ℕ) (before : List SourceSpec) (e : CatalogFault) → lines ≡ lines_of text → i < length lines → line ≡ get_or lines i []
     → Accepts [] (take i lines) before → IsFault before line (i + 1) e → IsFirstFault (lines_of text) e
 first_fault text lines i line before e cut inside same accepted fault =

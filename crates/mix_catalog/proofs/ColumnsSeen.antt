@@ -8,15 +8,15 @@ use Rattle.mix_tree.specs.declared.label_read.LabelRead.{LabelRead}
 use Rattle.mix_tree.specs.declared.label_read.LabelRead.TheVariants.{Got, Unexpected, Ends}
 use Rattle.mix_catalog.specs.Columns.{Seen, ended, with_last, or_stop, after_label, columns_from, has_comma}
 
--- what is seen behind a column that ends at a place
-abbrev pub behind_column : List (List ℕ) → List ℕ → ℕ → List ℕ → Option Seen
-behind_column done l j y = cond (has_comma y) (columns_from (with_last done l) start (j + 1) (drop 1 y)) (Some (ended (with_last done l) j y))
+-- what is seen after a column that ends at a place
+abbrev pub after_column : List (List ℕ) → List ℕ → ℕ → List ℕ → Option Seen
+after_column done l j y = cond (has_comma y) (columns_from (with_last done l) start (j + 1) (drop 1 y)) (Some (ended (with_last done l) j y))
 
 -- a label that is seen is the next column
-pub column_seen : (x : List ℕ) (done : List (List ℕ)) (s : Spot) (i : ℕ) (l : List ℕ) (j : ℕ) (y : List ℕ) → seen_from s i x ≡ got l j y → columns_from done s i x ≡ behind_column done l j y
+pub column_seen : (x : List ℕ) (done : List (List ℕ)) (s : Spot) (i : ℕ) (l : List ℕ) (j : ℕ) (y : List ℕ) → seen_from s i x ≡ got l j y → columns_from done s i x ≡ after_column done l j y
 column_seen [] done s i l j y e = at_end (label_in s) e
   where
-    at_end : (o : Option (List ℕ)) → label.seen_at_end i o ≡ got l j y → option_map (λ k. ended (with_last done k) i []) o ≡ behind_column done l j y
+    at_end : (o : Option (List ℕ)) → label.seen_at_end i o ≡ got l j y → option_map (λ k. ended (with_last done k) i []) o ≡ after_column done l j y
     at_end None h = cc h
     at_end (Some k) h =
         let p : k ≡ l = cc h in
@@ -26,8 +26,8 @@ column_seen [] done s i l j y e = at_end (label_in s) e
 column_seen (b ∷ x) done s i l j y e = by_step (step s b) (label_in s) e (λ t h. column_seen x done t (i + 1) l j y h)
   where
     by_step : (o : Option Spot) (k : Option (List ℕ)) → label.or_stop (λ t. seen_from t (i + 1) x) (seen_at i (b ∷ x) k) o ≡ got l j y
-        → ((t : Spot) → seen_from t (i + 1) x ≡ got l j y → columns_from done t (i + 1) x ≡ behind_column done l j y)
-        → or_stop (λ t. columns_from done t (i + 1) x) (after_label done (λ next. columns_from next start (i + 1) x) i b x k) o ≡ behind_column done l j y
+        → ((t : Spot) → seen_from t (i + 1) x ≡ got l j y → columns_from done t (i + 1) x ≡ after_column done l j y)
+        → or_stop (λ t. columns_from done t (i + 1) x) (after_label done (λ next. columns_from next start (i + 1) x) i b x k) o ≡ after_column done l j y
     by_step (Some t) k h more = more t h
     by_step None None h more = cc h
     by_step None (Some k) h more =
@@ -60,9 +60,9 @@ unread line seen (Unexpected at) e never m j y h = cc (sym e ∙ h)
 unread line seen Ends e never m j y h = cc (sym e ∙ h)
 
 -- a byte in front that is a comma
-pub comma_in_front : (x : List ℕ) → IsTrue (get_or x 0 0 == 44) → has_comma x ≡ true
-comma_in_front [] h = cc h
-comma_in_front (b ∷ x) h = h
+pub comma_first : (x : List ℕ) → IsTrue (get_or x 0 0 == 44) → has_comma x ≡ true
+comma_first [] h = cc h
+comma_first (b ∷ x) h = h
 
 -- a comma at a place is a byte of the text, below 128
 pub comma_inside : (x : List ℕ) (at : ℕ) → has_comma (drop at x) ≡ true → (at < length x) × (get_or x at 0 < 128)

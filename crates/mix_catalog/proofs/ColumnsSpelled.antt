@@ -31,7 +31,7 @@ columns_begin (l ∷ ls) x (spelled, others, s, rest, parts) =
     let first = spelling_begins spelled l s in
     record { byte = first.byte; rest = first.rest ++ others; parts = parts ∙ ap (λ t. t ++ others) first.parts; other = first.other }
 
--- columns that are spelled are seen, behind others
+-- columns that are spelled are seen, after others
 pub spelled_seen : (ls : List (List ℕ)) (x y : List ℕ) (done : List (List ℕ)) (i : ℕ) → SpellsColumns ls x → IsTrue (ends_word y)
     → columns_from done start i (x ++ y) ≡ Some (ended (done ++ ls) (i + length x) y)
 spelled_seen [] x y done i h last = absurd h
@@ -50,15 +50,15 @@ spelled_seen (l ∷ k ∷ ls) x y done i (spelled, others, s, (more, rest, comma
     ∙ ap (λ labels. Some (ended labels (i + length spelled + 1 + length more) y)) (append_assoc done (l ∷ []) (k ∷ ls))
     ∙ ap (λ j. Some (ended (done ++ l ∷ k ∷ ls) j y)) end
 
--- columns that were seen in front of a text, behind others
+-- columns that were seen before a text, after others
 pub record Found (x : List ℕ) (done : List (List ℕ)) (seen : Seen) : Type 0 where
   pub labels : List (List ℕ)
   pub spelling : List ℕ
   pub are : seen.labels ≡ done ++ labels
   pub spells : SpellsColumns labels spelling
-  pub parts : x ≡ spelling ++ seen.behind
+  pub parts : x ≡ spelling ++ seen.after
 
--- a comma and columns stand behind another column
+-- a comma and columns stand after another column
 pub others_of : {C : Type 0} (S : List ℕ → C → Type 0) (cs : List C) (x : List ℕ) → SpellsEach S cs x → SpellsOthers cs (SpellsEach S cs) (44 ∷ x)
 others_of S [] x h = absurd h
 others_of S (c ∷ cs) x h = (x, h, refl)
@@ -70,7 +70,7 @@ found_last x spelled y l done j seen s parts e = record {
   spelling = spelled;
   are = ap (λ (z : Seen). z.labels) (sym e);
   spells = (spelled, [], s, refl, sym (append_nil spelled));
-  parts = parts ∙ ap (λ (z : Seen). spelled ++ z.behind) e;
+  parts = parts ∙ ap (λ (z : Seen). spelled ++ z.after) e;
 }
 
 -- or others follow
@@ -80,7 +80,7 @@ found_more x spelled y l done seen s parts comma h = record {
   spelling = spelled ++ (44 ∷ h.spelling);
   are = h.are ∙ append_assoc done (l ∷ []) h.labels;
   spells = (spelled, 44 ∷ h.spelling, s, others_of SpellsLabel h.labels h.spelling h.spells, refl);
-  parts = parts ∙ ap (λ r. spelled ++ r) (comma_first y comma ∙ ap (λ r. 44 ∷ r) h.parts) ∙ sym (append_assoc spelled (44 ∷ h.spelling) seen.behind);
+  parts = parts ∙ ap (λ r. spelled ++ r) (comma_first y comma ∙ ap (λ r. 44 ∷ r) h.parts) ∙ sym (append_assoc spelled (44 ∷ h.spelling) seen.after);
 }
 
 -- columns that are seen are spelled, in a text that is no longer than n

@@ -6,9 +6,9 @@ use Rattle.std.specs.Str.{bytes_eq}
 use Rattle.mix_base.proofs.Choices.{and_parts, some_is, none_some}
 use Rattle.mix_words.specs.Words.{words_of, ends_word}
 use Rattle.mix_catalog.specs.declared.form.Cutting.{Cutting}
-use Rattle.mix_catalog.specs.Forms.{number_behind, number_of, chunk_form, chunk_of, chunk_behind, cutting_with, cutting_form, cutting_of, is_columns_word}
+use Rattle.mix_catalog.specs.Forms.{number_after, number_of, chunk_form, chunk_of, chunk_after, cutting_with, cutting_form, cutting_of, is_columns_word}
 use Rattle.mix_catalog.specs.Grammar.{IsNumber, cutting_words, SpellsCutting}
-use Rattle.mix_catalog.proofs.Digits.{number_behind-found, number_behind-given}
+use Rattle.mix_catalog.proofs.Digits.{number_after-found, number_after-given}
 
 -- bytes of which the test says that they are equal
 pub same_bytes : (x y : List ℕ) → IsTrue (bytes_eq x y) → x ≡ y
@@ -23,12 +23,12 @@ mapped_some f (Some x) y e = (x, refl, some_is (f x) y e)
 number_of-found : (digits : List ℕ) (n : ℕ) → number_of digits ≡ Some n → IsNumber digits n
 number_of-found digits n e = by_case (nat_le 1 (length digits) && nat_le (length digits) 9) refl e
   where
-    by_case : (t : Bool) → (nat_le 1 (length digits) && nat_le (length digits) 9) ≡ t → cond t (number_behind 0 digits) None ≡ Some n → IsNumber digits n
+    by_case : (t : Bool) → (nat_le 1 (length digits) && nat_le (length digits) 9) ≡ t → cond t (number_after 0 digits) None ≡ Some n → IsNumber digits n
     by_case true h f =
         let parts = and_parts (nat_le 1 (length digits)) (nat_le (length digits) 9) h in
         let some : nat_le 1 (length digits) ≡ true = parts.0 in
         let short : nat_le (length digits) 9 ≡ true = parts.1 in
-        let written = number_behind-found digits 0 n f in
+        let written = number_after-found digits 0 n f in
         record { digits = written.0; some = grind (arith, nat_tests); short = grind (arith, nat_tests); means = written.1 }
     by_case false h f = none_some n f
 
@@ -37,7 +37,7 @@ pub number_of-given : (digits : List ℕ) (n : ℕ) → IsNumber digits n → nu
 number_of-given digits n h =
     let some : nat_le 1 (length digits) ≡ true = (let k : 1 ≤ length digits = h.some in grind (arith, nat_tests)) in
     let short : nat_le (length digits) 9 ≡ true = (let k : length digits ≤ 9 = h.short in grind (arith, nat_tests)) in
-    rw (some, short) (number_behind-given digits 0 h.digits ∙ ap Some h.means)
+    rw (some, short) (number_after-given digits 0 h.digits ∙ ap Some h.means)
 
 -- chunk and digits
 chunk_form-found : (a b : List ℕ) (n : ℕ) → chunk_form a b ≡ Some n → (a ≡ codes "chunk") × IsNumber b n
@@ -60,7 +60,7 @@ two_words a b cutting e =
     let parts = chunk_form-found a b m.0 m.1 in
     subst (CuttingIs (a ∷ b ∷ [])) m.2 (record { digits = b; are = ap (λ w. w ∷ b ∷ []) parts.0; numbered = parts.1 })
 
--- with deep behind them
+-- with deep after them
 deep_words : (a b c : List ℕ) (cutting : Cutting) (t : Bool) → bytes_eq c (codes "deep") ≡ t → cond t (cutting_form a b true) None ≡ Some cutting → CuttingIs (a ∷ b ∷ c ∷ []) cutting
 deep_words a b c cutting true h e =
     let m = mapped_some (cutting_with true) (chunk_form a b) cutting e in
@@ -93,8 +93,8 @@ chunk_of-found (a ∷ []) n e = none_some n e
 chunk_of-found (a ∷ b ∷ []) n e = let parts = chunk_form-found a b n e in (b, ap (λ w. w ∷ b ∷ []) parts.0, parts.1)
 chunk_of-found (a ∷ b ∷ c ∷ words) n e = none_some n e
 
--- a text that gives a chunk behind columns spells it
-pub chunk_found : (text : List ℕ) (n : ℕ) → chunk_behind text ≡ Some n → IsTrue (ends_word text) × SpellsCutting n false text
+-- a text that gives a chunk after columns spells it
+pub chunk_found : (text : List ℕ) (n : ℕ) → chunk_after text ≡ Some n → IsTrue (ends_word text) × SpellsCutting n false text
 chunk_found text n e = by_case (ends_word text) refl e
   where
     by_case : (t : Bool) → ends_word text ≡ t → cond t (chunk_of (words_of text)) None ≡ Some n → IsTrue (ends_word text) × SpellsCutting n false text
@@ -102,7 +102,7 @@ chunk_found text n e = by_case (ends_word text) refl e
     by_case false h f = none_some n f
 
 -- and a text that spells a chunk gives it there
-pub chunk_given : (text : List ℕ) (n : ℕ) → IsTrue (ends_word text) → SpellsCutting n false text → chunk_behind text ≡ Some n
+pub chunk_given : (text : List ℕ) (n : ℕ) → IsTrue (ends_word text) → SpellsCutting n false text → chunk_after text ≡ Some n
 chunk_given text n ends h = ap (λ t. cond t (chunk_of (words_of text)) None) ends ∙ ap chunk_of h.words ∙ number_of-given h.digits n h.numbered
 
 -- the only word is columns

@@ -7,7 +7,7 @@ use Rattle.std.specs.List.{list_all}
 use Rattle.std.specs.Str.Parse.{digits_value_after}
 use Rattle.mix_base.proofs.Choices.{some_is, none_some, and_both, and_parts}
 use Rattle.mix_tree.specs.LabelOrder.{is_digit}
-use Rattle.mix_catalog.specs.Forms.{digit_of, number_behind}
+use Rattle.mix_catalog.specs.Forms.{digit_of, number_after}
 
 -- up to 8 digits mean a number that fits with one more
 pub number_fits : (n i : ℕ) → n < 10 ^ i → i ≤ 8 → n < 100000000
@@ -32,27 +32,27 @@ digit_value_is b h =
     let high : nat_lt b 58 ≡ true = grind (arith, nat_tests) in
     rw (low, high) refl
 
--- the number that a digit writes behind others
-digit_behind : (n b : ℕ) → is_digit b ≡ true → n * 10 + digit_value b ≡ 10 * n + (b - 48)
-digit_behind n b h = omega (arith, digit_value_is b h)
+-- the number that a digit writes after others
+digit_after : (n b : ℕ) → is_digit b ≡ true → n * 10 + digit_value b ≡ 10 * n + (b - 48)
+digit_after n b h = omega (arith, digit_value_is b h)
 
 -- what means a number is digits that write it
-pub number_behind-found : (x : List ℕ) (n m : ℕ) → number_behind n x ≡ Some m → IsTrue (list_all is_digit x) × (digits_value_after 10 n x ≡ m)
-number_behind-found [] n m e = (refl, some_is n m e)
-number_behind-found (b ∷ x) n m e = by_case (is_digit b) refl e (number_behind-found x (10 * n + (b - 48)) m)
+pub number_after-found : (x : List ℕ) (n m : ℕ) → number_after n x ≡ Some m → IsTrue (list_all is_digit x) × (digits_value_after 10 n x ≡ m)
+number_after-found [] n m e = (refl, some_is n m e)
+number_after-found (b ∷ x) n m e = by_case (is_digit b) refl e (number_after-found x (10 * n + (b - 48)) m)
   where
-    by_case : (t : Bool) → is_digit b ≡ t → option_and_then (λ d. number_behind (10 * n + d) x) (cond t (Some (b - 48)) None) ≡ Some m
-        → (number_behind (10 * n + (b - 48)) x ≡ Some m → IsTrue (list_all is_digit x) × (digits_value_after 10 (10 * n + (b - 48)) x ≡ m))
+    by_case : (t : Bool) → is_digit b ≡ t → option_and_then (λ d. number_after (10 * n + d) x) (cond t (Some (b - 48)) None) ≡ Some m
+        → (number_after (10 * n + (b - 48)) x ≡ Some m → IsTrue (list_all is_digit x) × (digits_value_after 10 (10 * n + (b - 48)) x ≡ m))
         → IsTrue (list_all is_digit (b ∷ x)) × (digits_value_after 10 n (b ∷ x) ≡ m)
     by_case true h f more =
         let rest = more f in
-        (and_both (is_digit b) (list_all is_digit x) h rest.0, ap (λ k. digits_value_after 10 k x) (digit_behind n b h) ∙ rest.1)
+        (and_both (is_digit b) (list_all is_digit x) h rest.0, ap (λ k. digits_value_after 10 k x) (digit_after n b h) ∙ rest.1)
     by_case false h f more = none_some m f
 
 -- digits mean the number that they write
-pub number_behind-given : (x : List ℕ) (n : ℕ) → IsTrue (list_all is_digit x) → number_behind n x ≡ Some (digits_value_after 10 n x)
-number_behind-given [] n h = refl
-number_behind-given (b ∷ x) n h =
+pub number_after-given : (x : List ℕ) (n : ℕ) → IsTrue (list_all is_digit x) → number_after n x ≡ Some (digits_value_after 10 n x)
+number_after-given [] n h = refl
+number_after-given (b ∷ x) n h =
     let parts = and_parts (is_digit b) (list_all is_digit x) h in
-    ap (λ t. option_and_then (λ d. number_behind (10 * n + d) x) (cond t (Some (b - 48)) None)) parts.0
-    ∙ number_behind-given x (10 * n + (b - 48)) parts.1 ∙ ap (λ k. Some (digits_value_after 10 k x)) (sym (digit_behind n b parts.0))
+    ap (λ t. option_and_then (λ d. number_after (10 * n + d) x) (cond t (Some (b - 48)) None)) parts.0
+    ∙ number_after-given x (10 * n + (b - 48)) parts.1 ∙ ap (λ k. Some (digits_value_after 10 k x)) (sym (digit_after n b parts.0))

@@ -48,7 +48,7 @@ AreNamed-push es key s named same =
     map-append (λ e. e.0.items) es ((key, s) ∷ []) ∙ ap (λ xs. xs ++ key.items ∷ []) named ∙ ap (λ n. map (λ e. e.1.name) es ++ n ∷ []) same
     ∙ sym (map-append (λ e. e.1.name) es ((key, s) ∷ []))
 
--- entries are kept with a source of a new name behind them
+-- entries are kept with a source of a new name after them
 pub IsKept-push : (es new : List (Vec ℕ Global × SourceSpec)) (key : Vec ℕ Global) (s : SourceSpec) → new ≡ es ++ (key, s) ∷ [] → key.items ≡ s.name → IsKept es → length es < 32 → IsName s.name
     → source_named (map (λ e. e.1) es) s.name ≡ None → IsKept new
 IsKept-push es new key s parts same kept few named none =

@@ -12,16 +12,16 @@ use Rattle.mix_tree.specs.Names.{IsName}
 use Rattle.mix_catalog.specs.declared.source.SourceSpec.{SourceSpec}
 use Rattle.mix_catalog.specs.Sources.{source_named, AreNumbered}
 
--- a member of a list with one more behind it is one of the list, or the last
+-- a member of a list with one more after it is one of the list, or the last
 slice_get-push : {X : Type 0} (xs : List X) (y t : X) (i : ℕ) → slice_get (xs ++ y ∷ []) i ≡ Some t → (slice_get xs i ≡ Some t) ⊎ ((i ≡ length xs) × (y ≡ t))
 slice_get-push [] y t zero e = inr (refl, some_is y t e)
 slice_get-push [] y t (suc i) e = none_some t e
 slice_get-push (x ∷ xs) y t zero e = inl e
-slice_get-push (x ∷ xs) y t (suc i) e = behind (slice_get-push xs y t i e)
+slice_get-push (x ∷ xs) y t (suc i) e = after (slice_get-push xs y t i e)
   where
-    behind : (slice_get xs i ≡ Some t) ⊎ ((i ≡ length xs) × (y ≡ t)) → (slice_get xs i ≡ Some t) ⊎ ((suc i ≡ length (x ∷ xs)) × (y ≡ t))
-    behind (inl h) = inl h
-    behind (inr (h, same)) = inr (omega arith, same)
+    after : (slice_get xs i ≡ Some t) ⊎ ((i ≡ length xs) × (y ≡ t)) → (slice_get xs i ≡ Some t) ⊎ ((suc i ≡ length (x ∷ xs)) × (y ≡ t))
+    after (inl h) = inl h
+    after (inr (h, same)) = inr (omega arith, same)
 
 -- the first place that passes
 at_first : {X : Type 0} (p : X → Bool) (xs : List X) (i : ℕ) → position_or_len p xs ≡ i → i < length xs → position p xs ≡ Some i
@@ -52,7 +52,7 @@ next_first p xs y e passes = by_case (nat_lt (position_or_len p xs) (length xs))
         position_or_len_push p xs y ∙ ap (λ b. cond b (length xs + cond (p y) 0 1) (position_or_len p xs)) all ∙ ap (λ b. length xs + cond b 0 1) passes in
         at_first p (xs ++ y ∷ []) (length xs) (omega (arith, same)) (omega (arith, length-append xs (y ∷ [])))
 
--- a source of a new name behind others
+-- a source of a new name after others
 pub AreNumbered-push : (sources : List SourceSpec) (s : SourceSpec) → AreNumbered sources → IsName s.name → source_named sources s.name ≡ None → AreNumbered (sources ++ s ∷ [])
 AreNumbered-push sources s numbered named none i t at = by_case (slice_get-push sources s t i at)
   where

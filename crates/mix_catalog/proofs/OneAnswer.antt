@@ -32,20 +32,20 @@ Accepts-one : (lines : List (List ℕ)) (before a b : List SourceSpec) → Accep
 Accepts-one [] before a b e f = e ∙ sym f
 Accepts-one (line ∷ lines) before a b (n, h, k) (m, i, j) = Accepts-one lines m a b (subst (λ x. Accepts x lines a) (Adds-one before line n m h i) k) j
 
--- the sources before and behind the line at a place
+-- the sources before and after the line at a place
 pub record AddsAt (before : List SourceSpec) (lines : List (List ℕ)) (i : ℕ) : Type 0 where
   pub middle : List SourceSpec
   pub next : List SourceSpec
   pub accepted : Accepts before (take i lines) middle
   pub adds : Adds middle (get_or lines i []) next
 
--- accepted lines have accepted fronts
-Accepts-front : (lines : List (List ℕ)) (before sources : List SourceSpec) (i : ℕ) → i < length lines → Accepts before lines sources → AddsAt before lines i
-Accepts-front [] before sources i inside h = absurd (omega arith)
-Accepts-front (line ∷ lines) before sources zero inside (next, adds, rest) = record { middle = before; next = next; accepted = refl; adds = adds }
-Accepts-front (line ∷ lines) before sources (suc i) inside (next, adds, rest) =
-    let behind = Accepts-front lines next sources i (omega arith) rest in
-    record { middle = behind.middle; next = behind.next; accepted = (next, adds, behind.accepted); adds = behind.adds }
+-- accepted lines have accepted prefixes
+Accepts-prefix : (lines : List (List ℕ)) (before sources : List SourceSpec) (i : ℕ) → i < length lines → Accepts before lines sources → AddsAt before lines i
+Accepts-prefix [] before sources i inside h = absurd (omega arith)
+Accepts-prefix (line ∷ lines) before sources zero inside (next, adds, rest) = record { middle = before; next = next; accepted = refl; adds = adds }
+Accepts-prefix (line ∷ lines) before sources (suc i) inside (next, adds, rest) =
+    let after = Accepts-prefix lines next sources i (omega arith) rest in
+    record { middle = after.middle; next = after.next; accepted = (next, adds, after.accepted); adds = after.adds }
 
 -- a source that is taken is not refused
 taken_or_refused : (before : List SourceSpec) (s : SourceSpec) (number : ℕ) (e : CatalogFault) → IsTakenBy before s → RefusesSource before s number e → IsWantOfMemory e
@@ -81,7 +81,7 @@ adds_or_fault before line number OutOfMemory next h fault = tt
 -- accepted lines have no fault
 accepted_or_fault : (lines : List (List ℕ)) (sources : List SourceSpec) (e : CatalogFault) → Accepts [] lines sources → IsFirstFault lines e → IsWantOfMemory e
 accepted_or_fault lines sources e h f =
-    let at = Accepts-front lines [] sources f.place f.inside h in
+    let at = Accepts-prefix lines [] sources f.place f.inside h in
     let same = Accepts-one (take f.place lines) [] at.middle f.before at.accepted f.accepted in
     adds_or_fault f.before (get_or lines f.place []) (f.place + 1) e at.next (subst (λ x. Adds x (get_or lines f.place []) at.next) same at.adds) f.fault
 
@@ -171,7 +171,7 @@ fault_once before line number e f h k = by_cases (fault_says before line number 
     by_cases (inr (inr (q, t, k, u))) (inr (inl j)) = absurd (j.1 t k)
     by_cases (inr (inr i)) (inr (inr j)) = not_taken_once before line number e f i j
 
--- a front of a front
+-- a prefix of a prefix
 take_twice : {X : Type 0} (xs : List X) (i j : ℕ) → i ≤ j → take i (take j xs) ≡ take i xs
 take_twice xs zero j h = refl
 take_twice [] (suc i) zero h = refl
@@ -183,13 +183,13 @@ take_twice (x ∷ xs) (suc i) (suc j) h = ap (λ r. x ∷ r) (take_twice xs i j 
 earlier_fault : (lines : List (List ℕ)) (e f : CatalogFault) (h : IsFirstFault lines e) (k : IsFirstFault lines f) → h.place < k.place → IsWantOfMemory e
 earlier_fault lines e f h k before =
     let same : get_or (take k.place lines) h.place [] ≡ get_or lines h.place [] = get_or-take k.place lines h.place [] before in
-    let fronts : take h.place (take k.place lines) ≡ take h.place lines = take_twice lines h.place k.place (omega arith) in
+    let prefixes : take h.place (take k.place lines) ≡ take h.place lines = take_twice lines h.place k.place (omega arith) in
     let inside : h.place < length (take k.place lines) = (let n : k.place ≤ length lines = (let i : k.place < length lines = k.inside in omega arith) in omega (arith, length-take-le k.place lines n)) in
     accepted_or_fault (take k.place lines) k.before e k.accepted (record {
       place = h.place;
       before = h.before;
       inside = inside;
-      accepted = subst (λ x. Accepts [] x h.before) (sym fronts) h.accepted;
+      accepted = subst (λ x. Accepts [] x h.before) (sym prefixes) h.accepted;
       fault = subst (λ x. IsFault h.before x (h.place + 1) e) (sym same) h.fault;
     })
 

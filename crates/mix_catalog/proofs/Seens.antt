@@ -1,11 +1,11 @@
--- What is seen of a spelling behind which no spelling goes on.
+-- What is seen of a spelling after which no spelling goes on.
 use Rattle.std.proofs.Common.{◌≡◌, ◌+◌, ◌∙◌, ℕ, Bool, true, false, not, IsTrue, List, [], ◌∷◌, ◌++◌, Option, Some, None, refl, ap, arith, length, option_and_then, inl, inr}
 use Rattle.std.proofs.lemmas.Bool.Decides.{nat_tests}
 use Rattle.mix_base.proofs.Choices.{and_parts, some_is, none_some}
 use Rattle.std.specs.List.{list_all}
 use Rattle.mix_tree.specs.Spelling.{is_bare, is_bare_label}
 use Rattle.mix_tree.specs.LabelGrammar.{SpellsLabel}
-use Rattle.mix_tree.specs.LabelMachine.{Spot, start, in_bare, in_quotes, in_escape, behind_quote, step, run, label_in, got, seen_at, seen_at_end, or_stop, seen_from}
+use Rattle.mix_tree.specs.LabelMachine.{Spot, start, in_bare, in_quotes, in_escape, after_quote, step, run, label_in, got, seen_at, seen_at_end, or_stop, seen_from}
 use Rattle.mix_tree.proofs.LabelComplete.{spelled_reads}
 use Rattle.mix_tree.proofs.LabelTaken.{seen_byte}
 use Rattle.mix_words.specs.Words.{is_blank, ends_word}
@@ -35,15 +35,15 @@ pub spelling_begins : (x l : List ℕ) → SpellsLabel x l → Begins x
 spelling_begins x l (inl (bare, e)) = bare_begins x bare
 spelling_begins x l (inr (ps, are, e, m)) = record { byte = 34; rest = _; parts = e; other = refl }
 
--- what is seen behind a text that was run over
+-- what is seen after a text that was run over
 seen_run : (x y : List ℕ) (s t : Spot) (i : ℕ) → run s x ≡ Some t → seen_from s i (x ++ y) ≡ seen_from t (i + length x) y
 seen_run [] y s t i e = let here : i ≡ i + 0 = omega arith in ap (λ u. seen_from u i y) (some_is s t e) ∙ ap (λ j. seen_from t j y) here
-seen_run (b ∷ x) y s t i e = behind (step s b) refl e (λ u h. seen_run x y u t (i + 1) h)
+seen_run (b ∷ x) y s t i e = after (step s b) refl e (λ u h. seen_run x y u t (i + 1) h)
   where
-    behind : (o : Option Spot) → step s b ≡ o → option_and_then (λ u. run u x) o ≡ Some t → ((u : Spot) → run u x ≡ Some t → seen_from u (i + 1) (x ++ y) ≡ seen_from t (i + 1 + length x) y)
+    after : (o : Option Spot) → step s b ≡ o → option_and_then (λ u. run u x) o ≡ Some t → ((u : Spot) → run u x ≡ Some t → seen_from u (i + 1) (x ++ y) ≡ seen_from t (i + 1 + length x) y)
         → seen_from s i (b ∷ x ++ y) ≡ seen_from t (i + length (b ∷ x)) y
-    behind None f h more = none_some t h
-    behind (Some u) f h more = let here : i + 1 + length x ≡ i + length (b ∷ x) = omega arith in seen_byte s u i b (x ++ y) f ∙ more u h ∙ ap (λ j. seen_from t j y) here
+    after None f h more = none_some t h
+    after (Some u) f h more = let here : i + 1 + length x ≡ i + length (b ∷ x) = omega arith in seen_byte s u i b (x ++ y) f ∙ more u h ∙ ap (λ j. seen_from t j y) here
 
 -- no spelling goes on with these bytes where it may end
 abbrev pub stops : List ℕ → Bool
@@ -61,7 +61,7 @@ byte_stops start b l e h = none_some l e
 byte_stops (in_bare k) b l e h = rw h refl
 byte_stops (in_quotes k) b l e h = none_some l e
 byte_stops (in_escape k) b l e h = none_some l e
-byte_stops (behind_quote k) b l e h = refl
+byte_stops (after_quote k) b l e h = refl
 
 -- a test that fails
 test_fails : (b : Bool) → IsTrue (not b) → b ≡ false

@@ -11,10 +11,10 @@ use Rattle.mix_base.proofs.Choices.{and_parts, and_both, some_is, none_some, num
 use Rattle.mix_base.proofs.Lists.{append_nil}
 use Rattle.mix_words.specs.Words.{is_letter, is_script_byte, is_sql_name}
 use Rattle.mix_catalog.specs.declared.column.Column.{Column}
-use Rattle.mix_catalog.specs.declared.table.TableBehind.{TableBehind}
+use Rattle.mix_catalog.specs.declared.table.TableAfter.{TableAfter}
 use Rattle.mix_catalog.specs.Forms.{number_of, chunk_of}
 use Rattle.mix_catalog.specs.Grammar.{AreTableWords}
-use Rattle.mix_catalog.specs.Tables.{mark, SpellsColumn, SpellsTableColumns, column_named, column_of, columns_behind, columns_in, table_with, table_form, table_of}
+use Rattle.mix_catalog.specs.Tables.{mark, SpellsColumn, SpellsTableColumns, column_named, column_of, columns_after, columns_in, table_with, table_form, table_of}
 use Rattle.mix_catalog.proofs.ColumnsSpelled.{others_of}
 use Rattle.mix_catalog.proofs.Cuttings.{same_bytes, mapped_some, number_of-given, chunk_of-found}
 
@@ -37,7 +37,7 @@ sql_bytes (b ∷ bs) h =
     let parts = and_parts (is_letter b || b == 95) (list_all is_script_byte bs) h in
     and_both (is_script_byte b) (list_all is_script_byte bs) (first_in_name b parts.0) parts.1
 
--- no comma stands in a name, nor in what is behind it
+-- no comma stands in a name, nor in what is after it
 no_commas : (xs ys : List ℕ) → IsTrue (list_all is_script_byte xs) → All (λ b. b == 44 ≡ false) ys → All (λ b. b == 44 ≡ false) (xs ++ ys)
 no_commas [] ys h k = k
 no_commas (b ∷ bs) ys h k =
@@ -64,9 +64,9 @@ name_given : (x name : List ℕ) (never_null : Bool) → is_sql_name name ≡ tr
 name_given x name true named e =
     let long : length x - 1 ≡ length name = omega (arith, ap length e ∙ length-append name (33 ∷ [])) in
     let last : get_or x (length x - 1) 0 ≡ 33 = ap (λ n. get_or x n 0) long ∙ ap (λ y. get_or y (length name) 0) e ∙ get_or-append_seam name 33 [] 0 in
-    let front : take (length x - 1) x ≡ name = ap (λ n. take n x) long ∙ ap (take (length name)) e ∙ take_at name (33 ∷ []) (length name) refl in
+    let prefix : take (length x - 1) x ≡ name = ap (λ n. take n x) long ∙ ap (take (length name)) e ∙ take_at name (33 ∷ []) (length name) refl in
     let marked : get_or x (length x - 1) 0 == 33 ≡ true = ap (λ b. b == 33) last in
-    ap (λ t. cond t (column_named (take (length x - 1) x) true) (column_named x false)) marked ∙ ap (λ y. column_named y true) front
+    ap (λ t. cond t (column_named (take (length x - 1) x) true) (column_named x false)) marked ∙ ap (λ y. column_named y true) prefix
     ∙ ap (λ t. cond t (Some (record { name = name; never_null = true })) None) named
 name_given x name false named e =
     let same : x ≡ name = e ∙ append_nil name in
@@ -105,44 +105,44 @@ column_found x c e = by_case (get_or x (length x - 1) 0 == 33) refl e
     by_case true h f = let m = named_found (take (length x - 1) x) true c f in subst (SpellsColumn x) m.1 (m.0, marked_parts x h)
     by_case false h f = let m = named_found x false c f in subst (SpellsColumn x) m.1 (m.0, sym (append_nil x))
 
--- columns that are spelled are found in the pieces, behind others
-pieces_given : (cs : List Column) (x : List ℕ) (done : List Column) → SpellsTableColumns cs x → columns_behind done (slice_split (λ b. b == 44) x) ≡ Some (done ++ cs)
+-- columns that are spelled are found in the pieces, after others
+pieces_given : (cs : List Column) (x : List ℕ) (done : List Column) → SpellsTableColumns cs x → columns_after done (slice_split (λ b. b == 44) x) ≡ Some (done ++ cs)
 pieces_given [] x done h = absurd h
 pieces_given (c ∷ []) x done (spelled, others, s, none, parts) =
     let whole : x ≡ spelled = parts ∙ ap (λ o. spelled ++ o) none ∙ append_nil spelled in
     let pieces : slice_split (λ b. b == 44) x ≡ spelled ∷ [] = ap (slice_split (λ b. b == 44)) whole ∙ slice_split_none (λ b. b == 44) spelled (column_plain spelled c s) in
-    ap (columns_behind done) pieces ∙ ap (option_and_then (λ d. columns_behind (done ++ d ∷ []) [])) (column_given spelled c s)
+    ap (columns_after done) pieces ∙ ap (option_and_then (λ d. columns_after (done ++ d ∷ []) [])) (column_given spelled c s)
 pieces_given (c ∷ k ∷ cs) x done (spelled, others, s, (more, rest, comma), parts) =
     let cut : x ≡ spelled ++ (44 ∷ more) = parts ∙ ap (λ o. spelled ++ o) comma in
     let pieces : slice_split (λ b. b == 44) x ≡ spelled ∷ slice_split (λ b. b == 44) more =
     ap (slice_split (λ b. b == 44)) cut ∙ slice_split_at (λ b. b == 44) spelled 44 more (column_plain spelled c s) refl in
-    ap (columns_behind done) pieces ∙ ap (option_and_then (λ d. columns_behind (done ++ d ∷ []) (slice_split (λ b. b == 44) more))) (column_given spelled c s)
+    ap (columns_after done) pieces ∙ ap (option_and_then (λ d. columns_after (done ++ d ∷ []) (slice_split (λ b. b == 44) more))) (column_given spelled c s)
     ∙ pieces_given (k ∷ cs) more (done ++ c ∷ []) rest ∙ ap Some (append_assoc done (c ∷ []) (k ∷ cs))
 
 -- the next of pieces
 pub next_piece : (items : List (Bor (List ℕ))) (i : ℕ) (d : Bor (List ℕ)) (done : List Column) (o : Option Column) → i < length items → o ≡ column_of (get_or items i d).now
-    → columns_behind done (drop i (map (λ (piece : Bor (List ℕ)). piece.now) items)) ≡ option_and_then (λ c. columns_behind (done ++ c ∷ []) (drop (i + 1) (map (λ (piece : Bor (List ℕ)). piece.now) items))) o
+    → columns_after done (drop i (map (λ (piece : Bor (List ℕ)). piece.now) items)) ≡ option_and_then (λ c. columns_after (done ++ c ∷ []) (drop (i + 1) (map (λ (piece : Bor (List ℕ)). piece.now) items))) o
 next_piece items i d done o inside e =
     let pieces = map (λ (piece : Bor (List ℕ)). piece.now) items in
     let first : drop i pieces ≡ get_or pieces i [] ∷ drop (suc i) pieces = drop-cons pieces i [] (omega (arith, inside, length-map items (λ (piece : Bor (List ℕ)). piece.now))) in
     let same : column_of (get_or pieces i []) ≡ o = ap column_of (get_or-map (λ (piece : Bor (List ℕ)). piece.now) items i d [] inside) ∙ sym e in
-    let behind : drop (suc i) pieces ≡ drop (i + 1) pieces = ap (λ n. drop n pieces) (sym (add-one i)) in
-    ap (columns_behind done) first ∙ ap (option_and_then (λ c. columns_behind (done ++ c ∷ []) (drop (suc i) pieces))) same
-    ∙ ap (λ ps. option_and_then (λ c. columns_behind (done ++ c ∷ []) ps) o) behind
+    let after : drop (suc i) pieces ≡ drop (i + 1) pieces = ap (λ n. drop n pieces) (sym (add-one i)) in
+    ap (columns_after done) first ∙ ap (option_and_then (λ c. columns_after (done ++ c ∷ []) (drop (suc i) pieces))) same
+    ∙ ap (λ ps. option_and_then (λ c. columns_after (done ++ c ∷ []) ps) o) after
 
 -- what gives nothing is nothing
 pub gives_none : {X : Type 0} (o : Option X) → ((x : X) → o ≡ Some x → ⊥) → o ≡ None
 gives_none None never = refl
 gives_none (Some x) never = absurd (never x refl)
 
--- columns that were found in a text, behind others
+-- columns that were found in a text, after others
 record Pieced (x : List ℕ) (done all : List Column) : Type 0 where
   pub columns : List Column
   pub are : all ≡ done ++ columns
   pub spells : SpellsTableColumns columns x
 
 -- columns that are found in pieces are spelled by them, with commas between them
-pieces_found : (p : List ℕ) (ps : List (List ℕ)) (done all : List Column) → columns_behind done (p ∷ ps) ≡ Some all → Pieced (join_with_byte 44 (p ∷ ps)) done all
+pieces_found : (p : List ℕ) (ps : List (List ℕ)) (done all : List Column) → columns_after done (p ∷ ps) ≡ Some all → Pieced (join_with_byte 44 (p ∷ ps)) done all
 pieces_found p [] done all e = last (column_of p) refl e
   where
     last : (o : Option Column) → column_of p ≡ o → option_and_then (λ c. Some (done ++ c ∷ [])) o ≡ Some all → Pieced p done all
@@ -153,8 +153,8 @@ pieces_found p (q ∷ ps) done all e = more (column_of p) refl e (pieces_found q
     text : List ℕ
     text = join_with_byte 44 (q ∷ ps)
 
-    more : (o : Option Column) → column_of p ≡ o → option_and_then (λ c. columns_behind (done ++ c ∷ []) (q ∷ ps)) o ≡ Some all
-        → ((before behind : List Column) → columns_behind before (q ∷ ps) ≡ Some behind → Pieced text before behind) → Pieced (p ++ (44 ∷ text)) done all
+    more : (o : Option Column) → column_of p ≡ o → option_and_then (λ c. columns_after (done ++ c ∷ []) (q ∷ ps)) o ≡ Some all
+        → ((before after : List Column) → columns_after before (q ∷ ps) ≡ Some after → Pieced text before after) → Pieced (p ++ (44 ∷ text)) done all
     more None h f rest = none_some all f
     more (Some c) h f rest =
         let r = rest (done ++ c ∷ []) all f in
@@ -168,19 +168,19 @@ pieces_found p (q ∷ ps) done all e = more (column_of p) refl e (pieces_found q
 columns_found : (x : List ℕ) (cs : List Column) → columns_in x ≡ Some cs → SpellsTableColumns cs x
 columns_found x cs e = by_pieces (slice_split (λ b. b == 44) x) refl e
   where
-    by_pieces : (ps : List (List ℕ)) → slice_split (λ b. b == 44) x ≡ ps → columns_behind [] ps ≡ Some cs → SpellsTableColumns cs x
+    by_pieces : (ps : List (List ℕ)) → slice_split (λ b. b == 44) x ≡ ps → columns_after [] ps ≡ Some cs → SpellsTableColumns cs x
     by_pieces [] h f = let none = ap length h in let some = length-slice_split (λ b. b == 44) x in absurd (omega (arith, none, some))
     by_pieces (p ∷ ps) h f =
         let m = pieces_found p ps [] cs f in
         let joined : join_with_byte 44 (p ∷ ps) ≡ x = ap (join_with_byte 44) (sym h) ∙ join_with_byte-slice_split 44 x in
         subst (SpellsTableColumns cs) joined (subst (λ ks. SpellsTableColumns ks (join_with_byte 44 (p ∷ ps))) (sym m.are) m.spells)
 
--- what says a table behind its two names are its words
-form_found : (table key columns : List ℕ) (words : List (List ℕ)) (t : TableBehind) → table_form table key columns words ≡ Some t
+-- what says a table after its two names are its words
+form_found : (table key columns : List ℕ) (words : List (List ℕ)) (t : TableAfter) → table_form table key columns words ≡ Some t
     → AreTableWords t.chunk t.table t.key t.columns (table ∷ codes "key" ∷ key ∷ codes "columns" ∷ columns ∷ words)
 form_found table key columns words t e = by_names (is_sql_name table && is_sql_name key) refl e
   where
-    Says : TableBehind → Type 0
+    Says : TableAfter → Type 0
     Says u = AreTableWords u.chunk u.table u.key u.columns (table ∷ codes "key" ∷ key ∷ codes "columns" ∷ columns ∷ words)
 
     by_columns : IsTrue (is_sql_name table) → IsTrue (is_sql_name key) → (o : Option (List Column)) → columns_in columns ≡ o → option_and_then (λ cs. option_map (table_with table key cs) (chunk_of words)) o ≡ Some t → Says t
@@ -203,7 +203,7 @@ form_found table key columns words t e = by_names (is_sql_name table && is_sql_n
     by_names false h f = none_some t f
 
 -- what says a table are its words
-pub table_found : (words : List (List ℕ)) (t : TableBehind) → table_of words ≡ Some t → AreTableWords t.chunk t.table t.key t.columns words
+pub table_found : (words : List (List ℕ)) (t : TableAfter) → table_of words ≡ Some t → AreTableWords t.chunk t.table t.key t.columns words
 table_found [] t e = none_some t e
 table_found (a ∷ []) t e = none_some t e
 table_found (a ∷ b ∷ []) t e = none_some t e
@@ -229,7 +229,7 @@ few_words (a ∷ b ∷ c ∷ []) h = refl
 few_words (a ∷ b ∷ c ∷ d ∷ []) h = refl
 few_words (a ∷ b ∷ c ∷ d ∷ e ∷ items) h = absurd (omega arith)
 
--- what five words and those behind them say
+-- what five words and those after them say
 pub five_words : (items : List (Bor (List ℕ))) (d : Bor (List ℕ)) (t : Bool) → 5 ≤ length items → (bytes_eq (get_or items 1 d).now (codes "key") && bytes_eq (get_or items 3 d).now (codes "columns")) ≡ t
     → table_of (map (λ (word : Bor (List ℕ)). word.now) items)
     ≡ cond t (table_form (get_or items 0 d).now (get_or items 2 d).now (get_or items 4 d).now (map (λ (word : Bor (List ℕ)). word.now) (take (length items - 5) (drop 5 items)))) None

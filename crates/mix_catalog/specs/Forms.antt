@@ -8,7 +8,7 @@ use Rattle.mix_words.specs.Words.{words_of, ends_word}
 use Rattle.mix_catalog.specs.declared.form.Cutting.{Cutting}
 use Rattle.mix_catalog.specs.declared.form.Form.{Form}
 use Rattle.mix_catalog.specs.declared.form.Form.TheVariants.{Bracket, Csv, Table}
-use Rattle.mix_catalog.specs.declared.form.Front.{Front}
+use Rattle.mix_catalog.specs.declared.form.Prefix.{Prefix}
 
 -- whether a word may name a source: one or more ASCII letters, digits, _ and -
 abbrev pub is_source_name : List ℕ → Bool
@@ -19,33 +19,33 @@ abbrev pub form_of : List ℕ → Option Form
 form_of word = cond (bytes_eq word (codes "bracket")) (Some Bracket) (cond (bytes_eq word (codes "csv")) (Some Csv) (cond (bytes_eq word (codes "table")) (Some Table) None))
 
 -- a name and a form
-abbrev pub front_with : List ℕ → Form → Front
-front_with name form = record { name = name; form = form }
+abbrev pub prefix_with : List ℕ → Form → Prefix
+prefix_with name form = record { name = name; form = form }
 
 -- what source, a name and the word of a form say
-abbrev pub front_form : List ℕ → List ℕ → List ℕ → Option Front
-front_form source name form = cond (bytes_eq source (codes "source") && is_source_name name) (option_map (front_with name) (form_of form)) None
+abbrev pub prefix_form : List ℕ → List ℕ → List ℕ → Option Prefix
+prefix_form source name form = cond (bytes_eq source (codes "source") && is_source_name name) (option_map (prefix_with name) (form_of form)) None
 
--- what the words in front of FILE say
-abbrev pub front_of : List (List ℕ) → Option Front
-front_of [] = None
-front_of (a ∷ []) = None
-front_of (a ∷ b ∷ []) = None
-front_of (source ∷ name ∷ form ∷ []) = front_form source name form
-front_of (a ∷ b ∷ c ∷ d ∷ words) = None
+-- what the words before FILE say
+abbrev pub prefix_of : List (List ℕ) → Option Prefix
+prefix_of [] = None
+prefix_of (a ∷ []) = None
+prefix_of (a ∷ b ∷ []) = None
+prefix_of (source ∷ name ∷ form ∷ []) = prefix_form source name form
+prefix_of (a ∷ b ∷ c ∷ d ∷ words) = None
 
 -- the number that a digit means
 abbrev pub digit_of : ℕ → Option ℕ
 digit_of b = cond (is_digit b) (Some (b - 48)) None
 
--- the number that digits mean behind those that mean n
-abbrev pub number_behind : ℕ → List ℕ → Option ℕ
-number_behind n [] = Some n
-number_behind n (b ∷ bs) = option_and_then (λ d. number_behind (10 * n + d) bs) (digit_of b)
+-- the number that digits mean after those that mean n
+abbrev pub number_after : ℕ → List ℕ → Option ℕ
+number_after n [] = Some n
+number_after n (b ∷ bs) = option_and_then (λ d. number_after (10 * n + d) bs) (digit_of b)
 
 -- the number of 1 to 9 digits, which may begin with zeros
 abbrev pub number_of : List ℕ → Option ℕ
-number_of word = cond (nat_le 1 (length word) && nat_le (length word) 9) (number_behind 0 word) None
+number_of word = cond (nat_le 1 (length word) && nat_le (length word) 9) (number_after 0 word) None
 
 -- the number that is written as chunk and digits
 abbrev pub chunk_form : List ℕ → List ℕ → Option ℕ
@@ -58,9 +58,9 @@ chunk_of (a ∷ []) = None
 chunk_of (chunk ∷ digits ∷ []) = chunk_form chunk digits
 chunk_of (a ∷ b ∷ c ∷ words) = None
 
--- the chunk that is written behind the columns
-abbrev pub chunk_behind : List ℕ → Option ℕ
-chunk_behind behind = cond (ends_word behind) (chunk_of (words_of behind)) None
+-- the chunk that is written after the columns
+abbrev pub chunk_after : List ℕ → Option ℕ
+chunk_after after = cond (ends_word after) (chunk_of (words_of after)) None
 
 -- a chunk, which is deep or not
 abbrev pub cutting_with : Bool → ℕ → Cutting

@@ -14,7 +14,7 @@ use Rattle.mix_catalog.specs.declared.form.Form.{Form}
 use Rattle.mix_catalog.specs.declared.form.Form.TheVariants as form
 use Rattle.mix_catalog.specs.Columns.{SpellsColumns}
 use Rattle.mix_catalog.specs.Tables.{SpellsTableColumns}
-use Rattle.mix_words.specs.Places.{blank_behind}
+use Rattle.mix_words.specs.Places.{ends_blank}
 
 -- 1 to 9 digits write the number; they may begin with zeros
 pub record IsNumber (word : List ℕ) (n : ℕ) : Type 0 where
@@ -33,17 +33,17 @@ pub record SpellsCutting (chunk : ℕ) (deep : Bool) (text : List ℕ) : Type 0 
   pub words : words_of text ≡ cutting_words digits deep
   pub numbered : IsNumber digits chunk
 
--- words, a spelling with blanks on both sides, and what stands behind it
-pub record SpellsBetween (words : List (List ℕ)) (Spelled Behind : List ℕ → Type 0) (text : List ℕ) : Type 0 where
-  pub front : List ℕ
+-- words, a spelling with blanks on both sides, and what stands after it
+pub record SpellsBetween (words : List (List ℕ)) (Spelled After : List ℕ → Type 0) (text : List ℕ) : Type 0 where
+  pub prefix : List ℕ
   pub spelling : List ℕ
-  pub behind : List ℕ
-  pub parts : text ≡ front ++ (spelling ++ behind)
-  pub words_are : words_of front ≡ words
-  pub blank_before : IsTrue (blank_behind true front)
+  pub after : List ℕ
+  pub parts : text ≡ prefix ++ (spelling ++ after)
+  pub words_are : words_of prefix ≡ words
+  pub blank_before : IsTrue (ends_blank true prefix)
   pub spelled : Spelled spelling
-  pub blank_after : IsTrue (ends_word behind)
-  pub rest : Behind behind
+  pub blank_after : IsTrue (ends_word after)
+  pub rest : After after
 
 -- the words of a table: its name, key and a name, columns and these, chunk and a number
 abbrev pub table_words : List ℕ → List ℕ → List ℕ → List ℕ → List (List ℕ)
@@ -83,19 +83,19 @@ columns_of (Bracket file deep) = []
 columns_of (Csv file columns) = columns
 columns_of (Table file table key columns) = map (λ (c : Column). c.name) columns
 
--- what stands behind the file: how a bracket source is cut; the columns of a CSV source, and its chunk; a table, and its chunk
-abbrev pub SpellsBehind : ℕ → SourceKind → List ℕ → Type 0
-SpellsBehind chunk (Bracket file deep) text = SpellsCutting chunk deep text
-SpellsBehind chunk (Csv file columns) text = SpellsBetween (codes "columns" ∷ []) (SpellsColumns columns) (SpellsCutting chunk false) text
-SpellsBehind chunk (Table file table key columns) text = AreTableWords chunk table key columns (words_of text)
+-- what stands after the file: how a bracket source is cut; the columns of a CSV source, and its chunk; a table, and its chunk
+abbrev pub SpellsAfter : ℕ → SourceKind → List ℕ → Type 0
+SpellsAfter chunk (Bracket file deep) text = SpellsCutting chunk deep text
+SpellsAfter chunk (Csv file columns) text = SpellsBetween (codes "columns" ∷ []) (SpellsColumns columns) (SpellsCutting chunk false) text
+SpellsAfter chunk (Table file table key columns) text = AreTableWords chunk table key columns (words_of text)
 
--- the words in front of the file
-abbrev pub front_words : List ℕ → Form → List (List ℕ)
-front_words name form = codes "source" ∷ name ∷ form_word form ∷ []
+-- the words before the file
+abbrev pub prefix_words : List ℕ → Form → List (List ℕ)
+prefix_words name form = codes "source" ∷ name ∷ form_word form ∷ []
 
--- source, the name, the word of a form, the file, and what the form has behind it
+-- source, the name, the word of a form, the file, and what the form has after it
 abbrev pub SpellsKind : List ℕ → ℕ → SourceKind → List ℕ → Type 0
-SpellsKind name chunk kind line = IsName name × SpellsBetween (front_words name (form_in kind)) (λ x. SpellsLabel x (file_of kind)) (SpellsBehind chunk kind) line
+SpellsKind name chunk kind line = IsName name × SpellsBetween (prefix_words name (form_in kind)) (λ x. SpellsLabel x (file_of kind)) (SpellsAfter chunk kind) line
 
 -- the line spells the source
 abbrev pub Spells : List ℕ → SourceSpec → Type 0

@@ -1,17 +1,17 @@
--- The source of a line, as it is found: the words in front of FILE, the label that is seen there, and what stands behind it.
+-- The source of a line, as it is found: the words before FILE, the label that is seen there, and what stands after it.
 use Rattle.std.specs.Prelude.{ℕ, cond, List, Option, Some, None, option_map, option_and_then, take, drop}
 use Rattle.mix_tree.specs.LabelMachine.{Seen, got, unexpected, ends, start, seen_from}
 use Rattle.mix_words.specs.Words.{words_of, ends_word}
 use Rattle.mix_catalog.specs.declared.form.Cutting.{Cutting}
 use Rattle.mix_catalog.specs.declared.form.Form.{Form}
 use Rattle.mix_catalog.specs.declared.form.Form.TheVariants as form
-use Rattle.mix_catalog.specs.declared.form.Front.{Front}
+use Rattle.mix_catalog.specs.declared.form.Prefix.{Prefix}
 use Rattle.mix_catalog.specs.declared.source.SourceSpec.{SourceSpec}
-use Rattle.mix_catalog.specs.declared.table.TableBehind.{TableBehind}
+use Rattle.mix_catalog.specs.declared.table.TableAfter.{TableAfter}
 use Rattle.mix_catalog.specs.declared.source.SourceKind.TheVariants.{Bracket, Csv, Table}
 use Rattle.mix_catalog.specs.Columns.{columns_at}
 use Rattle.mix_catalog.specs.Columns as columns
-use Rattle.mix_catalog.specs.Forms.{front_of, cutting_of, chunk_behind, is_columns_word}
+use Rattle.mix_catalog.specs.Forms.{prefix_of, cutting_of, chunk_after, is_columns_word}
 use Rattle.mix_catalog.specs.Tables.{table_of}
 use Rattle.mix_words.specs.Places.{place_of_word}
 
@@ -24,38 +24,38 @@ abbrev pub csv : List ℕ → List ℕ → List (List ℕ) → ℕ → SourceSpe
 csv name file labels chunk = record { name = name; chunk = chunk; kind = Csv file labels }
 
 -- a table source
-abbrev pub table : List ℕ → List ℕ → TableBehind → SourceSpec
+abbrev pub table : List ℕ → List ℕ → TableAfter → SourceSpec
 table name file t = record { name = name; chunk = t.chunk; kind = Table file t.table t.key t.columns }
 
 -- the CSV source of what is seen of its columns
 abbrev pub columns_seen : List ℕ → List ℕ → Option columns.Seen → Option SourceSpec
 columns_seen name file None = None
-columns_seen name file (Some seen) = option_map (csv name file seen.labels) (chunk_behind seen.behind)
+columns_seen name file (Some seen) = option_map (csv name file seen.labels) (chunk_after seen.after)
 
--- the CSV source whose columns begin at a place behind its file
+-- the CSV source whose columns begin at a place after its file
 abbrev pub csv_at : List ℕ → List ℕ → List ℕ → ℕ → Option SourceSpec
-csv_at name file behind at = cond (is_columns_word (words_of (take at behind))) (columns_seen name file (columns_at behind at)) None
+csv_at name file after at = cond (is_columns_word (words_of (take at after))) (columns_seen name file (columns_at after at)) None
 
--- the source of a form, of what stands behind its file
-abbrev pub form_behind : Form → List ℕ → List ℕ → List ℕ → Option SourceSpec
-form_behind form.Bracket name file behind = option_map (bracket name file) (cutting_of (words_of behind))
-form_behind form.Csv name file behind = option_and_then (csv_at name file behind) (place_of_word 1 behind)
-form_behind form.Table name file behind = option_map (table name file) (table_of (words_of behind))
+-- the source of a form, of what stands after its file
+abbrev pub form_after : Form → List ℕ → List ℕ → List ℕ → Option SourceSpec
+form_after form.Bracket name file after = option_map (bracket name file) (cutting_of (words_of after))
+form_after form.Csv name file after = option_and_then (csv_at name file after) (place_of_word 1 after)
+form_after form.Table name file after = option_map (table name file) (table_of (words_of after))
 
--- the source of what stands in front of its file, of the file, and of what stands behind it
-abbrev pub source_behind : Front → List ℕ → List ℕ → Option SourceSpec
-source_behind front file behind = cond (ends_word behind) (form_behind front.form front.name file behind) None
+-- the source of what stands before its file, of the file, and of what stands after it
+abbrev pub source_after : Prefix → List ℕ → List ℕ → Option SourceSpec
+source_after prefix file after = cond (ends_word after) (form_after prefix.form prefix.name file after) None
 
--- the source of what stands in front of FILE, and of what is seen there
-abbrev pub source_seen : Option Front → Seen → Option SourceSpec
+-- the source of what stands before FILE, and of what is seen there
+abbrev pub source_seen : Option Prefix → Seen → Option SourceSpec
 source_seen None seen = None
-source_seen (Some front) (got file end behind) = source_behind front file behind
-source_seen (Some front) (unexpected at) = None
-source_seen (Some front) ends = None
+source_seen (Some prefix) (got file end after) = source_after prefix file after
+source_seen (Some prefix) (unexpected at) = None
+source_seen (Some prefix) ends = None
 
 -- the source of a line whose FILE begins at a place
 abbrev pub source_at : List ℕ → ℕ → Option SourceSpec
-source_at line at = source_seen (front_of (words_of (take at line))) (seen_from start at (drop at line))
+source_at line at = source_seen (prefix_of (words_of (take at line))) (seen_from start at (drop at line))
 
 -- the source of a line
 abbrev pub line_source : List ℕ → Option SourceSpec

@@ -25,7 +25,7 @@ IsChunk n = (1 ≤ n) × (n ≤ 1000)
 abbrev pub AreColumns : List (List ℕ) → Type 0
 AreColumns columns = (length columns ≤ 200) × (are_apart columns ≡ true)
 
--- a source that may stand behind these: its chunk lies in the range, it has at most 200 columns, none twice, its name is new, and
+-- a source that may stand after these: its chunk lies in the range, it has at most 200 columns, none twice, its name is new, and
 -- there are fewer than 32
 pub record IsTakenBy (before : List SourceSpec) (s : SourceSpec) : Type 0 where
   pub chunk : IsChunk s.chunk
@@ -33,12 +33,12 @@ pub record IsTakenBy (before : List SourceSpec) (s : SourceSpec) : Type 0 where
   pub name : source_named before s.name ≡ None
   pub room : length before < 32
 
--- the sources behind a line: those before it where it is passed over, and else one more
+-- the sources after a line: those before it where it is passed over, and else one more
 abbrev pub Adds : List SourceSpec → List ℕ → List SourceSpec → Type 0
 Adds before line after =
     (IsTrue (is_passed line) × (after ≡ before)) ⊎ ((is_passed line ≡ false) × (s : SourceSpec) × Spells line s × IsTakenBy before s × (after ≡ before ++ s ∷ []))
 
--- lines behind these sources are accepted, and these are the sources in the end
+-- lines after these sources are accepted, and these are the sources in the end
 abbrev pub Accepts : List SourceSpec → List (List ℕ) → List SourceSpec → Type 0
 Accepts before [] sources = sources ≡ before
 Accepts before (line ∷ lines) sources = (after : List SourceSpec) × Adds before line after × Accepts after lines sources
@@ -61,7 +61,7 @@ RefusesSource before s number OutOfMemory = Unit {0}
 abbrev pub IsNotTaken : List SourceSpec → List ℕ → ℕ → CatalogFault → Type 0
 IsNotTaken before line number e = (is_passed line ≡ false) × (s : SourceSpec) × Spells line s × RefusesSource before s number e
 
--- the fault of the line of this number behind these sources
+-- the fault of the line of this number after these sources
 abbrev pub IsFault : List SourceSpec → List ℕ → ℕ → CatalogFault → Type 0
 IsFault before line number (Line n) = (n ≡ number) × (is_passed line ≡ false) × SpellsNone line
 IsFault before line number (Chunk n) = IsNotTaken before line number (Chunk n)

@@ -4,7 +4,7 @@ use Rattle.std.specs.List.{slice_split}
 use Rattle.std.specs.Str.{bytes_eq}
 use Rattle.mix_words.specs.Words.{is_sql_name}
 use Rattle.mix_catalog.specs.declared.column.Column.{Column}
-use Rattle.mix_catalog.specs.declared.table.TableBehind.{TableBehind}
+use Rattle.mix_catalog.specs.declared.table.TableAfter.{TableAfter}
 use Rattle.mix_catalog.specs.Columns.{SpellsEach}
 use Rattle.mix_catalog.specs.Forms.{chunk_of}
 
@@ -12,7 +12,7 @@ use Rattle.mix_catalog.specs.Forms.{chunk_of}
 abbrev pub mark : Bool → List ℕ
 mark never_null = cond never_null (codes "!") []
 
--- the text spells the column: its name, and the mark at once behind it
+-- the text spells the column: its name, and the mark at once after it
 abbrev pub SpellsColumn : List ℕ → Column → Type 0
 SpellsColumn x c = IsTrue (is_sql_name c.name) × (x ≡ c.name ++ mark c.never_null)
 
@@ -28,25 +28,25 @@ column_named name never_null = cond (is_sql_name name) (Some (record { name = na
 abbrev pub column_of : List ℕ → Option Column
 column_of piece = cond (get_or piece (length piece - 1) 0 == 33) (column_named (take (length piece - 1) piece) true) (column_named piece false)
 
--- the columns of pieces, behind others
-abbrev pub columns_behind : List Column → List (List ℕ) → Option (List Column)
-columns_behind done [] = Some done
-columns_behind done (piece ∷ pieces) = option_and_then (λ c. columns_behind (done ++ c ∷ []) pieces) (column_of piece)
+-- the columns of pieces, after others
+abbrev pub columns_after : List Column → List (List ℕ) → Option (List Column)
+columns_after done [] = Some done
+columns_after done (piece ∷ pieces) = option_and_then (λ c. columns_after (done ++ c ∷ []) pieces) (column_of piece)
 
 -- the columns of a word
 abbrev pub columns_in : List ℕ → Option (List Column)
-columns_in word = columns_behind [] (slice_split (λ b. b == 44) word)
+columns_in word = columns_after [] (slice_split (λ b. b == 44) word)
 
 -- a table of this name, key and columns, and a chunk
-abbrev pub table_with : List ℕ → List ℕ → List Column → ℕ → TableBehind
+abbrev pub table_with : List ℕ → List ℕ → List Column → ℕ → TableAfter
 table_with table key columns chunk = record { table = table; key = key; columns = columns; chunk = chunk }
 
--- the table of two names, of the word of its columns, and of the words behind these
-abbrev pub table_form : List ℕ → List ℕ → List ℕ → List (List ℕ) → Option TableBehind
+-- the table of two names, of the word of its columns, and of the words after these
+abbrev pub table_form : List ℕ → List ℕ → List ℕ → List (List ℕ) → Option TableAfter
 table_form table key columns words = cond (is_sql_name table && is_sql_name key) (option_and_then (λ cs. option_map (table_with table key cs) (chunk_of words)) (columns_in columns)) None
 
 -- the table of a name, key and a name, columns and their word, chunk and a number
-abbrev pub table_of : List (List ℕ) → Option TableBehind
+abbrev pub table_of : List (List ℕ) → Option TableAfter
 table_of [] = None
 table_of (a ∷ []) = None
 table_of (a ∷ b ∷ []) = None

@@ -67,7 +67,7 @@ impl Catalog {
         Some(at as u32)
     }
 
-    /// Adds a source behind the others. An error leaves the catalog as it was.
+    /// Adds a source after the others. An error leaves the catalog as it was.
     pub(crate) fn add(&mut self, alloc: Global, spec: SourceSpec) -> Result<(), AllocError>
         requires named { IsName spec.name }
         requires new { source_named self.old spec.name ≡ None }

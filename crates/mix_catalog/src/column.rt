@@ -24,7 +24,7 @@ fn is_named_among(column: &Column, others: &[Column]) -> bool
         .any(|other| same_label(&column.name, &other.name))
 }
 
-/// Whether no column has the name of one behind it.
+/// Whether no column has the name of one after it.
 pub fn are_named_apart(columns: &[Column]) -> bool
     ensures { result ≡ are_apart (map (λ c. c.name) columns.now) }
 {

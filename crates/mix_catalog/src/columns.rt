@@ -7,7 +7,7 @@ ghost use Rattle.mix_catalog.specs.Columns.{are_apart, columns_at, has_comma, se
 use mix_tree::{Label, LabelRead, read_label, same_label};
 use std::alloc::{AllocError, Global};
 
-/// The names of columns, and the place behind their spelling.
+/// The names of columns, and the place after their spelling.
 #[derive(Drop)]
 pub struct Columns {
     pub labels: Vec<Label>,
@@ -56,7 +56,7 @@ fn is_among(column: &Label, others: &[Label]) -> bool
     others.iter().any(|other| same_label(column, other))
 }
 
-/// Whether no column is the same as one behind it.
+/// Whether no column is the same as one after it.
 pub fn are_apart(columns: &[Label]) -> bool
     ensures { result ≡ are_apart columns.now }
 {

@@ -2,7 +2,7 @@
 ghost use Rattle.std.specs.Prelude.{◌≡◌, IfOk, IsTrue, map};
 ghost use Rattle.std.specs.List.{list_all};
 ghost use Rattle.mix_tree.specs.Names.{is_name_byte};
-ghost use Rattle.mix_catalog.specs.Forms.{is_source_name, form_of, front_form, front_of, digit_of, number_of, chunk_form, chunk_of, cutting_form, cutting_of, is_columns_word};
+ghost use Rattle.mix_catalog.specs.Forms.{is_source_name, form_of, prefix_form, prefix_of, digit_of, number_of, chunk_form, chunk_of, cutting_form, cutting_of, is_columns_word};
 
 use mix_tree::Label;
 use std::alloc::{AllocError, Global};
@@ -15,9 +15,9 @@ pub enum Form {
     Table,
 }
 
-/// What stands in front of the file of a line.
+/// What stands before the file of a line.
 #[derive(Drop)]
-pub struct Front {
+pub struct Prefix {
     pub name: Label,
     pub form: Form,
 }
@@ -64,13 +64,13 @@ fn read_form(word: &[u8]) -> Option<Form>
 }
 
 // What `source`, a name and the word of a form say.
-fn read_front_of(
+fn read_prefix_of(
     alloc: Global,
     source: &[u8],
     name: &[u8],
     form: &[u8],
-) -> Result<Option<Front>, AllocError>
-    ensures { IfOk result (λ front. front ≡ front_form source.now name.now form.now) }
+) -> Result<Option<Prefix>, AllocError>
+    ensures { IfOk result (λ prefix. prefix ≡ prefix_form source.now name.now form.now) }
 {
     if source != b"source".as_slice() || !may_be_name(name) {
         return Ok(None);
@@ -79,15 +79,15 @@ fn read_front_of(
         return Ok(None);
     };
     let name = Label::of_text(alloc, name)?;
-    Ok(Some(Front { name, form }))
+    Ok(Some(Prefix { name, form }))
 }
 
-/// What the words in front of the file say: `source`, the name, the word of a form. `None` where they are others.
-pub fn read_front(alloc: Global, words: &[&[u8]]) -> Result<Option<Front>, AllocError>
-    ensures { IfOk result (λ front. front ≡ front_of (map (λ word. word.now) words.now)) }
+/// What the words before the file say: `source`, the name, the word of a form. `None` where they are others.
+pub fn read_prefix(alloc: Global, words: &[&[u8]]) -> Result<Option<Prefix>, AllocError>
+    ensures { IfOk result (λ prefix. prefix ≡ prefix_of (map (λ word. word.now) words.now)) }
 {
     match words {
-        [source, name, form] => read_front_of(alloc, source, name, form),
+        [source, name, form] => read_prefix_of(alloc, source, name, form),
         _ => Ok(None),
     }
 }

@@ -1,7 +1,7 @@
 //! Catalogs: which sources there are, by the lines of a text.
 #![tactic(auto)]
 
-mod behind;
+mod after;
 mod catalog;
 mod column;
 mod columns;

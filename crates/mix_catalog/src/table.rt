@@ -1,4 +1,4 @@
-// The table of a line: what stands behind its file.
+// The table of a line: what stands after its file.
 ghost use Rattle.std.specs.Prelude.{◌≡◌, ◌==◌, ◌&&◌, IfOk, map, codes};
 ghost use Rattle.std.specs.List.{slice_split};
 ghost use Rattle.std.specs.Str.{bytes_eq};
@@ -10,9 +10,9 @@ use mix_tree::Label;
 use mix_words::words::is_sql_name;
 use std::alloc::{AllocError, Global};
 
-/// What stands behind the file of a table: its name, its key, its columns, and the most rows that a fill gives.
+/// What stands after the file of a table: its name, its key, its columns, and the most rows that a fill gives.
 #[derive(Drop)]
-pub struct TableBehind {
+pub struct TableAfter {
     pub table: Label,
     pub key: Label,
     pub columns: TableColumns,
@@ -62,14 +62,14 @@ fn read_columns(alloc: Global, word: &[u8]) -> Result<Option<TableColumns>, Allo
     Ok(Some(TableColumns::new(columns)))
 }
 
-// The table of two names, of the word of its columns, and of the words behind these.
+// The table of two names, of the word of its columns, and of the words after these.
 fn read_table_of(
     alloc: Global,
     table: &[u8],
     key: &[u8],
     columns: &[u8],
     words: &[&[u8]],
-) -> Result<Option<TableBehind>, AllocError>
+) -> Result<Option<TableAfter>, AllocError>
     ensures { IfOk result (λ found. found ≡ table_form table.now key.now columns.now (map (λ word. word.now) words.now)) }
 {
     if !is_sql_name(table) || !is_sql_name(key) {
@@ -83,7 +83,7 @@ fn read_table_of(
     };
     let table = Label::of_text(alloc, table)?;
     let key = Label::of_text(alloc, key)?;
-    Ok(Some(TableBehind {
+    Ok(Some(TableAfter {
         table,
         key,
         columns,
@@ -99,7 +99,7 @@ fn are_key_and_columns(key: &[u8], columns: &[u8]) -> bool
 }
 
 /// The table of these words: its name, `key` and a name, `columns` and these, `chunk` and a number. `None` where they are others.
-pub fn read_table_behind(alloc: Global, words: &[&[u8]]) -> Result<Option<TableBehind>, AllocError>
+pub fn read_table_after(alloc: Global, words: &[&[u8]]) -> Result<Option<TableAfter>, AllocError>
     ensures { IfOk result (λ found. found ≡ table_of (map (λ word. word.now) words.now)) }
 {
     let [table, says_key, key, says_columns, columns, words @ ..] = words else {

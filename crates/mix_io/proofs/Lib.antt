@@ -1,5 +1,5 @@
 mod Calls
-mod Fronts
+mod Prefixes
 mod Indices
 pub mod Keeps
 mod Taking

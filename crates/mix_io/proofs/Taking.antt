@@ -9,7 +9,7 @@ use Rattle.mix_io.specs.Input.{InputView, Gives, IsAtEnd}
 abbrev pub told : List ℕ → ℕ → ℕ → InputView
 told bytes from faults = record { left = Some (drop from bytes); taken = from; faults = faults }
 
--- so many of the bytes from a place on were copied into the front of room
+-- so many of the bytes from a place on were copied into the beginning of room
 pub given : (bytes piece rest : List ℕ) (from count faults : ℕ) → piece ≡ take count (drop from bytes) → from + count ≤ length bytes → length bytes < 2 ^ 64
     → (count ≡ 0 → (length (piece ++ rest) ≡ 0) ⊎ IsAtEnd (told bytes (from + count) faults)) → Gives (told bytes from faults) (told bytes (from + count) faults) count (piece ++ rest)
 given bytes piece rest from count faults is inside few end = record {
@@ -17,10 +17,10 @@ given bytes piece rest from count faults is inside few end = record {
   took = record {
     gone = (
       drop (from + count) bytes,
-      sym (take-append-drop count (drop from bytes)) ∙ ap (λ r. r ++ drop count (drop from bytes)) (sym (front ∙ is)) ∙ ap (λ r. take count (piece ++ rest) ++ r) (drop-drop count from bytes),
+      sym (take-append-drop count (drop from bytes)) ∙ ap (λ r. r ++ drop count (drop from bytes)) (sym (prefix ∙ is)) ∙ ap (λ r. take count (piece ++ rest) ++ r) (drop-drop count from bytes),
       refl,
     );
-    counted = ap (λ n. from + n) (sym (ap (λ r. length r) front ∙ long));
+    counted = ap (λ n. from + n) (sym (ap (λ r. length r) prefix ∙ long));
   };
   few = omega (arith, inside, few);
   end = end;
@@ -29,8 +29,8 @@ given bytes piece rest from count faults is inside few end = record {
     long : length piece ≡ count
     long = ap (λ r. length r) is ∙ length-take-le count (drop from bytes) (omega (arith, inside, length-drop from bytes))
 
-    front : take count (piece ++ rest) ≡ piece
-    front = take_whole piece rest count long
+    prefix : take count (piece ++ rest) ≡ piece
+    prefix = take_whole piece rest count long
 
 -- none were copied where there is no room, or where all were taken
 pub none_left : (bytes : List ℕ) (room from most count : ℕ) → count ≡ min (min (length bytes - from) room) most → 0 < most → count ≡ 0 → (room ≡ 0) ⊎ (drop (from + count) bytes ≡ [])

@@ -3,7 +3,7 @@ use Rattle.std.proofs.Common.{◌+◌, ◌≤◌, ◌∙◌, ℕ, List, ◌++◌
 use Rattle.std.specs.Io.KnownBytes.{Appends}
 use Rattle.mix_base.proofs.Lists.{take_then}
 
--- a front of a piece, and a front of what is left of it, are a longer front
+-- a prefix of a piece, and a prefix of what is left of it, are a longer prefix
 pub grown_more : (before between after : Option (List ℕ)) (piece : List ℕ) (done count : ℕ)
     → done ≤ length piece → Appends before between (take done piece)
     → Appends between after (take count (drop done piece)) → Appends before after (take (done + count) piece)

@@ -19,6 +19,6 @@ Appends None after piece = after ≡ None
 Appends (Some before) after piece = after ≡ Some (before ++ piece)
 
 -- what was written rose by a prefix of a piece at its end, where it is told
-abbrev pub AppendsFront : Option (List ℕ) → Option (List ℕ) → List ℕ → Type 0
-AppendsFront None after piece = after ≡ None
-AppendsFront (Some before) after piece = (count : ℕ) × (after ≡ Some (before ++ take count piece))
+abbrev pub AppendsPrefix : Option (List ℕ) → Option (List ℕ) → List ℕ → Type 0
+AppendsPrefix None after piece = after ≡ None
+AppendsPrefix (Some before) after piece = (count : ℕ) × (after ≡ Some (before ++ take count piece))

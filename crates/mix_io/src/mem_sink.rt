@@ -54,14 +54,14 @@ fn append_half(bytes: &mut Vec<u8>, piece: &[u8]) -> Result<(), AllocError>
 impl Sink for MemSink {
     ghost use Rattle.std.specs.Prelude.{◌≡◌, ◌≤◌, ◌/◌, true, false, length, take, OnOk, OnErr, IsErrOf};
     ghost use Rattle.mix_base.specs.Counts.{HasRisen};
-    ghost use Rattle.mix_io.specs.Contents.{Appends, AppendsFront};
+    ghost use Rattle.mix_io.specs.Contents.{Appends, AppendsPrefix};
     ghost use Rattle.mix_io.specs.Memory.{mem_sink_view, failing_writes, writes_of, next_write, next_fails};
 
     ghost view = { mem_sink_view };
 
     fn write(&mut self, _alloc: Global, piece: &[u8]) -> Result<(), SinkFault>
         ensures ok { OnOk result (Appends (mem_sink_view self.old).written (mem_sink_view self.new).written piece.now) }
-        ensures err { OnErr result (AppendsFront (mem_sink_view self.old).written (mem_sink_view self.new).written piece.now) }
+        ensures err { OnErr result (AppendsPrefix (mem_sink_view self.old).written (mem_sink_view self.new).written piece.now) }
         ensures count { (mem_sink_view self.old).faults ≤ (mem_sink_view self.new).faults }
         ensures failed { IsErrOf result SinkFault.Failed → HasRisen (mem_sink_view self.old).faults (mem_sink_view self.new).faults }
         // Which writes fail: those that the list names, and a failing one takes the first half.

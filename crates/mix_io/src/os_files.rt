@@ -158,7 +158,7 @@ impl OsFiles {
 impl Files for OsFiles {
     ghost view = { os_files_view };
 
-    /// Refuses an offset so far that the end of `room` would stand at 2^64 or behind it.
+    /// Refuses an offset so far that the end of `room` would stand at 2^64 or after it.
     fn read_at(
         &mut self,
         alloc: Global,

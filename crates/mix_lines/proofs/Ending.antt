@@ -2,28 +2,28 @@
 use Rattle.std.proofs.Common.{◌≡◌, ◌∙◌, inl, inr, ℕ, ◌+◌, ◌≤◌, Bool, List, [], ◌∷◌, ◌++◌, Option, Some, None, Err, ap, sym, subst, arith, length, take, append_assoc}
 use Rattle.mix_base.proofs.Lists.{take_append}
 use Rattle.mix_io.specs.Views.{SinkView}
-use Rattle.mix_io.specs.Contents.{Appends, AppendsFront}
+use Rattle.mix_io.specs.Contents.{Appends, AppendsPrefix}
 use Rattle.mix_script.specs.Answers.{line_of}
 use Rattle.mix_script.specs.Allowed.{answer_lines}
 use Rattle.mix_script.specs.declared.step.Step.{Step}
 use Rattle.mix_script.specs.declared.answer.Answer.{Answer}
 use Rattle.mix_lines.specs.declared.fault.LinesFault.{LinesFault}
 use Rattle.mix_lines.specs.declared.fault.LinesFault.TheVariants.{SinkFailed, OutOfMemory}
-use Rattle.mix_lines.specs.Cuts.{WroteFront, IsStepCut}
+use Rattle.mix_lines.specs.Cuts.{WrotePrefix, IsStepCut}
 use Rattle.mix_lines.specs.Lines.{IsWhole, EndsWithin, EndsBy}
 use Rattle.mix_lines.specs.Written.{AreWritten}
 use Rattle.mix_lines.proofs.Stepping.{line_more}
 
--- what was written, with a front of a line
-front : (names : List (List ℕ)) (steps : List Step) (step : Step) (answers : List Answer) (a : Answer) → answer_lines names (answers ++ a ∷ []) steps ≡ answer_lines names answers steps ++ line_of names step.client a
-    → (o now after : Option (List ℕ)) → Appends o now (answer_lines names answers steps) → AppendsFront now after (line_of names step.client a)
+-- what was written, with a prefix of a line
+prefix : (names : List (List ℕ)) (steps : List Step) (step : Step) (answers : List Answer) (a : Answer) → answer_lines names (answers ++ a ∷ []) steps ≡ answer_lines names answers steps ++ line_of names step.client a
+    → (o now after : Option (List ℕ)) → Appends o now (answer_lines names answers steps) → AppendsPrefix now after (line_of names step.client a)
     → (count : ℕ) × Appends o after (take (length (answer_lines names answers steps) + count) (answer_lines names (answers ++ a ∷ []) steps))
-front names steps step answers a more None now after h k = (0, subst (λ (m : Option (List ℕ)). AppendsFront m after (line_of names step.client a)) h k)
-front names steps step answers a more (Some w) now after h k =
+prefix names steps step answers a more None now after h k = (0, subst (λ (m : Option (List ℕ)). AppendsPrefix m after (line_of names step.client a)) h k)
+prefix names steps step answers a more (Some w) now after h k =
     let lines = answer_lines names answers steps in
     let line = line_of names step.client a in
     let cut : (n : ℕ) × (after ≡ Some ((w ++ answer_lines names answers steps) ++ take n (line_of names step.client a))) =
-    subst (λ (m : Option (List ℕ)). AppendsFront m after (line_of names step.client a)) h k in (
+    subst (λ (m : Option (List ℕ)). AppendsPrefix m after (line_of names step.client a)) h k in (
       cut.0,
       cut.1 ∙ ap Some (append_assoc w lines (take cut.0 line) ∙ ap (λ r. w ++ r) (sym (take_append lines line cut.0) ∙ ap (take (length lines + cut.0)) (sym more))),
     )
@@ -45,9 +45,9 @@ module _ (Are Cost : List Answer → Type 0) (names : List (List ℕ)) (steps la
       → sink.faults ≤ mid.faults → (fault : LinesFault) → IsStepCut IsAnswer names step.client mid sink' fault → EndsBy Are Cost names steps sink sink' (Err fault)
   run_cut step so IsAnswer are more cost count SinkFailed h = (omega (arith, h.0, count), within h.1)
     where
-      within : WroteFront IsAnswer names step.client mid sink' → EndsWithin Are Cost names steps sink sink'
+      within : WrotePrefix IsAnswer names step.client mid sink' → EndsWithin Are Cost names steps sink sink'
       within w =
-          let cut = front names steps step answers w.a (line_more names steps step later sink.written mid.written marked answers so w.a) sink.written mid.written sink'.written so.written w.written in
+          let cut = prefix names steps step answers w.a (line_more names steps step later sink.written mid.written marked answers so w.a) sink.written mid.written sink'.written so.written w.written in
           record { answers = answers; last = w.a; are = more w.a w.answer; count = cut.0; written = cut.1; cost = cost }
   run_cut step so IsAnswer are more cost count OutOfMemory (inl e) = inl record {
     answers = answers;
@@ -56,5 +56,5 @@ module _ (Are Cost : List Answer → Type 0) (names : List (List ℕ)) (steps la
     cost = cost;
   }
   run_cut step so IsAnswer are more cost count OutOfMemory (inr w) =
-      let cut = front names steps step answers w.a (line_more names steps step later sink.written mid.written marked answers so w.a) sink.written mid.written sink'.written so.written w.written in
+      let cut = prefix names steps step answers w.a (line_more names steps step later sink.written mid.written marked answers so w.a) sink.written mid.written sink'.written so.written w.written in
       inr record { answers = answers; last = w.a; are = more w.a w.answer; count = cut.0; written = cut.1; cost = cost }

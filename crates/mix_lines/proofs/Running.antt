@@ -28,7 +28,7 @@ far_start m v values names steps before session none = record { session = sessio
 
 module _ {V W : Type 0} (c : Course W) (m m' : Meaning V W) (old v v' : View) (values values' : NamesOf V) (names : List (List ℕ)) (steps : List Step) (before now : Option (List ℕ)) (marked : Bool) (i : ℕ) (step : Step)
     (inside : i < length steps) (at_index : step ≡ get_or steps i step) (begun : IsFar c m old v values names steps before now marked (drop i steps)) where
-  -- the steps behind the one at the index
+  -- the steps after the one at the index
   abbrev later : List Step
   later = drop (i + 1) steps
 

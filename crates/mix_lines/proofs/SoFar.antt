@@ -70,8 +70,8 @@ module _ (May May' : ℕ → Type 0) (more : (s : ℕ) → May s → May' s) whe
   answer_more roots nodes client (Print from) a h = text_more (nodes client from) a h
 
 -- answers, and one more before those to come
-behind : (answers : List Answer) (a : Answer) (more : List Answer) → (answers ++ a ∷ []) ++ more ≡ answers ++ a ∷ more
-behind answers a more = append_assoc answers (a ∷ []) more
+pushed : (answers : List Answer) (a : Answer) (more : List Answer) → (answers ++ a ∷ []) ++ more ≡ answers ++ a ∷ more
+pushed answers a more = append_assoc answers (a ∷ []) more
 
 -- no step was answered yet
 pub so_far_start : {V W : Type 0} (m : Meaning V W) (v : View) (values : NamesOf V) (steps : List Step) → values ≡ no_names → IsSoFar m.course m v v values steps steps []
@@ -149,7 +149,7 @@ module _ {V W : Type 0} (c : Course W) (m m' : Meaning V W) (old v v' : View) (v
         record {
           places = (answered t on.places (mark_of a) step).1;
           hold = subst (λ x. HoldBoth m'.IsAt values' (names_after t on.places step.client step.act x)) both.0 both.1;
-          then = λ more h. subst (λ xs. AreOf t no_names xs steps) (sym (behind answers a more)) (on.then (a ∷ more) (both.0, h));
+          then = λ more h. subst (λ xs. AreOf t no_names xs steps) (sym (pushed answers a more)) (on.then (a ∷ more) (both.0, h));
         }
 
     -- this one may be given
@@ -163,7 +163,7 @@ module _ {V W : Type 0} (c : Course W) (m m' : Meaning V W) (old v v' : View) (v
       course = goes_on_twice so.course done.stays.course;
       nodes = nodes_after so.nodes step.client step.act a;
       hold = (is.allowed so.nodes so.hold).1;
-      allowed = λ more h. subst (λ xs. AreAnswers c.roots c.MayFail no_names xs steps) (sym (behind answers a more)) (so.allowed (a ∷ more) (may, h));
+      allowed = λ more h. subst (λ xs. AreAnswers c.roots c.MayFail no_names xs steps) (sym (pushed answers a more)) (so.allowed (a ∷ more) (may, h));
       told = on_tree;
       counted = λ s. let h = so.counted s in let k = is.counted s in omega (arith, h, k, faults_push s answers a);
       ways = λ ways. (so.ways ways).1;

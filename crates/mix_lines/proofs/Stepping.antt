@@ -38,8 +38,8 @@ pub later_at : (steps : List Step) (i : ℕ) (step : Step) → i < length steps 
 later_at steps i step h is = drop_more steps i step h ∙ ap (λ s. s ∷ drop (i + 1) steps) (sym is)
 
 -- answers, and one more before those to come
-behind : (answers : List Answer) (a : Answer) (more : List Answer) → (answers ++ a ∷ []) ++ more ≡ answers ++ a ∷ more
-behind answers a more = append_assoc answers (a ∷ []) more
+pushed : (answers : List Answer) (a : Answer) (more : List Answer) → (answers ++ a ∷ []) ++ more ≡ answers ++ a ∷ more
+pushed answers a more = append_assoc answers (a ∷ []) more
 
 -- the lines so far, and one more
 lines_push : (xs l ys : List ℕ) → xs ++ (l ++ ys) ≡ (xs ++ (l ++ [])) ++ ys
@@ -55,7 +55,7 @@ module _ (names : List (List ℕ)) (steps : List Step) (step : Step) (later : Li
   written_step after wrote = record {
     count = omega (arith, so.count, length_push answers a);
     lines = λ more.
-        ap (λ xs. answer_lines names xs steps) (behind answers a more) ∙ so.lines (a ∷ more)
+        ap (λ xs. answer_lines names xs steps) (pushed answers a more) ∙ so.lines (a ∷ more)
         ∙ lines_push (answer_lines names answers steps) (line_of names step.client a) (answer_lines names more later)
         ∙ ap (λ l. l ++ answer_lines names more later) (sym (so.lines (a ∷ [])));
     written = subst (Appends before after) (sym line_more) (one_more before now after (answer_lines names answers steps) (line_of names step.client a) so.written wrote);
@@ -69,7 +69,7 @@ pub spent_step : {V W : Type 0} (With With' : V → W → Type 0) (cost : NamesO
 spent_step With With' cost after first asked asked' values values' steps step later answers a so paid hold = record {
   names = after so.names step.client step.act a;
   hold = hold;
-  spent = λ more. let h = so.spent (a ∷ more) in let e = ap (λ xs. begun cost after no_names xs steps) (behind answers a more) in omega (arith, h, paid, e);
+  spent = λ more. let h = so.spent (a ∷ more) in let e = ap (λ xs. begun cost after no_names xs steps) (pushed answers a more) in omega (arith, h, paid, e);
 }
 
 -- what was asked for a step that was begun

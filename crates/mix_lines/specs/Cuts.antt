@@ -2,7 +2,7 @@
 use Rattle.std.specs.Prelude.{◌≡◌, ◌⊎◌, ℕ, Bool, List}
 use Rattle.mix_base.specs.Counts.{HasRisen}
 use Rattle.mix_io.specs.Views.{SinkView}
-use Rattle.mix_io.specs.Contents.{Appends, AppendsFront}
+use Rattle.mix_io.specs.Contents.{Appends, AppendsPrefix}
 use Rattle.mix_io.specs.declared.sink.SinkFault.{SinkFault}
 use Rattle.mix_io.specs.declared.sink.SinkFault.TheVariants as sink
 use Rattle.mix_script.specs.Answers.{line_of}
@@ -24,12 +24,12 @@ pub record WroteLine (IsAnswer : Answer → Type 0) (names : List (List ℕ)) (c
   pub written : Appends before.written after.written (line_of names client a)
 
 -- a prefix of the line of an answer with a given property was written
-pub record WroteFront (IsAnswer : Answer → Type 0) (names : List (List ℕ)) (client : List ℕ) (before after : SinkView) : Type 0 where
+pub record WrotePrefix (IsAnswer : Answer → Type 0) (names : List (List ℕ)) (client : List ℕ) (before after : SinkView) : Type 0 where
   pub a : Answer
   pub answer : IsAnswer a
-  pub written : AppendsFront before.written after.written (line_of names client a)
+  pub written : AppendsPrefix before.written after.written (line_of names client a)
 
 -- a step's line was cut short: the sink failed in the line, or memory ran out before the line or in it
 abbrev pub IsStepCut : (Answer → Type 0) → List (List ℕ) → List ℕ → SinkView → SinkView → LinesFault → Type 0
-IsStepCut IsAnswer names client before after SinkFailed = HasRisen before.faults after.faults × WroteFront IsAnswer names client before after
-IsStepCut IsAnswer names client before after OutOfMemory = (after ≡ before) ⊎ WroteFront IsAnswer names client before after
+IsStepCut IsAnswer names client before after SinkFailed = HasRisen before.faults after.faults × WrotePrefix IsAnswer names client before after
+IsStepCut IsAnswer names client before after OutOfMemory = (after ≡ before) ⊎ WrotePrefix IsAnswer names client before after

@@ -22,7 +22,7 @@ fn marks(answer: &Answer) -> bool
 }
 
 /// Writes the line of a step's answer, in one write. Tells whether it is a fault line. `SinkFailed`: the sink failed. After
-/// either error a front of the line was written, perhaps none of it.
+/// either error a prefix of the line was written, perhaps none of it.
 pub fn write_line<K: Sink>(
     alloc: Global,
     step: &Step,

@@ -21,7 +21,7 @@ use std::alloc::Global;
 /// numbers. True: a fault line was written. The sources are asked piece by piece, as the steps need it (docs/MEANING.md,
 /// "Lines of runs and walks").
 ///
-/// `SinkFailed`: the sink failed. After either error whole lines were written and at most a front of the next.
+/// `SinkFailed`: the sink failed. After either error whole lines were written and at most a prefix of the next.
 pub fn run_lines<S: Sources, K: Sink>(
     alloc: Global,
     s: &mut S,

@@ -33,7 +33,7 @@ line_reads : (i : ℕ) (tail : List ℕ) → i < 2 ^ 32
     → next_record default_config st.StartRecord [] [] (record_line (person i) ++ tail) ≡ Some (person i, st.StartRecord, tail)
 line_reads i tail h = ap (λ x. next_record default_config st.StartRecord [] [] (x ++ tail)) (sym (person_is_line i h)) ∙ read-write (person i) tail
 
--- the lines of people read as their records, and then what stands behind them
+-- the lines of people read as their records, and then what stands after them
 lines_read : (n k : ℕ) (tail : List ℕ) → n ≤ 2 ^ 32
     → records_from default_config (n + k) st.StartRecord (lines n ++ tail) ≡ people n ++ records_from default_config k st.StartRecord tail
 unfolding records_from
@@ -62,7 +62,7 @@ unfolding records_from next_record
 none_read zero = refl
 none_read (suc k) = refl
 
--- the lines of people and nothing behind them
+-- the lines of people and nothing after them
 all_read : (n k : ℕ) → n ≤ 2 ^ 32 → records_from default_config (n + k) st.StartRecord (lines n) ≡ people n
 all_read n k h =
     ap (records_from default_config (n + k) st.StartRecord) (sym (append-nil (lines n))) ∙ lines_read n k [] h

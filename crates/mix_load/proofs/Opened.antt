@@ -12,7 +12,7 @@ abbrev header_of : List (List (List ℕ)) → List (List ℕ)
 header_of [] = []
 header_of (h ∷ rows) = h
 
--- the records behind it
+-- the records after it
 abbrev rows_of : List (List (List ℕ)) → List (List (List ℕ))
 rows_of [] = []
 rows_of (h ∷ rows) = rows

@@ -71,11 +71,11 @@ module _ (roots : Bool) (MayFail : ℕ → Type 0) where
   unmarked nodes (a ∷ answers) [] h none = absurd h
   unmarked nodes (a ∷ answers) (step ∷ steps) h none =
       let first = unmarked_answer nodes step.client step.act a answers h.0 none in
-      let later = unmarked (nodes_after nodes step.client step.act a) answers steps h.1 (λ s may. behind (is_mark_of s (mark_of a)) (faults_of s answers) (none s may)) in
+      let later = unmarked (nodes_after nodes step.client step.act a) answers steps h.1 (λ s may. after (is_mark_of s (mark_of a)) (faults_of s answers) (none s may)) in
       ap (λ m. elim m as (λ _. Bool) [ None ↦ false | Some n ↦ true ] || has_fault answers) first ∙ later
     where
-      behind : (b : Bool) (more : ℕ) → cond b 1 0 + more ≡ 0 → more ≡ 0
-      behind b more e = omega (arith, e)
+      after : (b : Bool) (more : ℕ) → cond b 1 0 + more ≡ 0 → more ≡ 0
+      after b more e = omega (arith, e)
 
 -- the first of two is counted
 counted_first : (b : Bool) (before now : ℕ) → before ≤ now → (b ≡ true → HasRisen before now) → HasRisenBy (cond b 1 0 + 0) before now

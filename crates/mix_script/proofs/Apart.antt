@@ -88,7 +88,7 @@ module _ (t : LabelledTree) (sources : List (List ℕ)) (client : List ℕ) wher
   own_alone names others marks [] same = refl
   own_alone names others marks (step ∷ steps) same = by_client (bytes_eq step.client client) refl (λ after. own_alone (answered t names (first_mark marks) step).1 after (later_marks marks) steps)
     where
-      -- what is said of one step and those behind it, where the step is the client's or not
+      -- what is said of one step and those after it, where the step is the client's or not
       Said : Bool → Type 0
       Said b =
           cond b (line_of sources step.client (answered t names (first_mark marks) step).0 ++ own_lines_from t sources client (answered t names (first_mark marks) step).1 (later_marks marks) steps)

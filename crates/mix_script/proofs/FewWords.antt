@@ -1,4 +1,4 @@
--- A line of at most four words has no label behind them.
+-- A line of at most four words has no label after them.
 use Rattle.std.proofs.Common.{◌≡◌, ◌<◌, ◌≤◌, ◌+◌, ◌-◌, ◌∙◌, ℕ, Bool, true, false, cond, ◌&&◌, not, List, [], ◌∷◌, Some, None, refl, ap, sym, arith, length}
 use Rattle.mix_base.proofs.Choices.{none_some}
 use Rattle.mix_words.specs.Words.{is_blank, words_of, with_first, ends_word}
@@ -33,7 +33,7 @@ goes_on b c cs h k = rw (h, k) refl
 words_on : (b c : ℕ) (cs : List ℕ) → is_blank b ≡ false → is_blank c ≡ false → length (words_of (b ∷ c ∷ cs)) ≡ length (words_of (c ∷ cs))
 words_on b c cs h k = ap length (goes_on b c cs h k) ∙ length-with_first b (words_of (c ∷ cs)) (some_word c cs k)
 
--- no word begins behind as many as there are: at the front of a text, and behind a byte of a word
+-- no word begins after as many as there are: at the beginning of a text, and after a byte of a word
 pub record NoneFrom (xs : List ℕ) : Type 0 where
   pub apart : (n at : ℕ) → length (words_of xs) ≤ n → word_from true n at xs ≡ None
   pub within : (n at b : ℕ) → is_blank b ≡ false → length (words_of (b ∷ xs)) ≤ n + 1 → word_from false n at xs ≡ None

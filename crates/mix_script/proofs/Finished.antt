@@ -27,7 +27,7 @@ lines_of_rest t sources names (a ∷ answers) (step ∷ steps) h =
           ∙ ap (λ x. line_of sources step.client x ++ lines_from t sources (answered t names (mark_of a) step).1 (marks_of answers) steps) h.0,
     )
 
--- the lines of answers to the first steps are a front of the transcript of all steps, under the marks that the answers show
+-- the lines of answers to the first steps are a prefix of the transcript of all steps, under the marks that the answers show
 pub lines_begin_transcript : (t : LabelledTree) (sources : List (List ℕ)) (answers : List Answer) (steps : List Step) → AreOf t no_names answers steps
     → (rest : List ℕ) × (answer_lines sources answers steps ++ rest ≡ transcript t sources (marks_of answers) steps)
 lines_begin_transcript t sources answers steps h = lines_of_rest t sources no_names answers steps h
@@ -103,7 +103,7 @@ same_line sources others client (answer.Text x) e = refl
 same_line sources others client answer.NoNode e = refl
 same_line sources others client (answer.Fault s) e = cc
 
--- where no answer is a fault: the lines of the first answers, and those of the steps behind them, are the transcript's without marks
+-- where no answer is a fault: the lines of the first answers, and those of the steps after them, are the transcript's without marks
 pub unmarked_lines : (t : LabelledTree) (sources others : List (List ℕ)) (names : Names) (answers : List Answer) (steps : List Step) → AreOf t names answers steps → has_fault answers ≡ false
     → (rest : List ℕ) × (answer_lines sources answers steps ++ rest ≡ lines_from t others names [] steps) × (length answers ≡ length steps → rest ≡ [])
 unmarked_lines t sources others names [] [] h none = ([], refl, λ all. refl)

@@ -4,10 +4,10 @@ use Rattle.mix_base.proofs.Choices.{none_some, some_is}
 use Rattle.mix_words.specs.Words.{is_blank, words_of, with_first}
 use Rattle.mix_words.specs.Places.{word_from, place_of_word}
 use Rattle.mix_words.proofs.WordPlaces.{word_from-other, word_from-next, word_from-here}
-use Rattle.mix_script.proofs.LineWords.{blank_front}
+use Rattle.mix_script.proofs.LineWords.{blank_prefix}
 use Rattle.mix_script.proofs.FewWords.{ends_before, goes_on, none_from, some_word}
 use Rattle.mix_script.specs.LineWords.{NoClientFirst}
-use Rattle.mix_script.specs.Lines.{act_in, client_named, client_of, step_behind, step_from, step_in, step_with}
+use Rattle.mix_script.specs.Lines.{act_in, client_named, client_of, step_after, step_from, step_in, step_with}
 
 -- no word stands before the next one
 none_before : (xs : List ℕ) (at place : ℕ) → word_from true 0 at xs ≡ Some place → (k : ℕ) × (place ≡ at + k) × (words_of (take k xs) ≡ [])
@@ -19,12 +19,12 @@ none_before (b ∷ bs) at place h = by_case (is_blank b) refl (none_before bs (a
     by_case true e later =
         let passed = sym (word_from-other true 0 at b bs (ap (λ t. true && not t) e) ∙ ap (λ t. word_from t 0 (at + 1) bs) e) ∙ h in
         let more = later passed in
-        (suc more.0, (let there = more.1 in omega arith), blank_front b (take more.0 bs) e ∙ more.2)
+        (suc more.0, (let there = more.1 in omega arith), blank_prefix b (take more.0 bs) e ∙ more.2)
     by_case false e later =
         let here = some_is at place (sym (word_from-here true 0 at b bs (ap (λ t. true && not t) e) refl) ∙ h) in
         (zero, omega arith, refl)
 
--- behind a byte of a word, that word alone stands before the next one
+-- after a byte of a word, that word alone stands before the next one
 word_before : (xs : List ℕ) (at place b : ℕ) (w : List ℕ) (ws : List (List ℕ)) → is_blank b ≡ false → word_from false 0 at xs ≡ Some place → words_of (b ∷ xs) ≡ w ∷ ws
     → (k : ℕ) × (place ≡ at + k) × (words_of (b ∷ take k xs) ≡ w ∷ [])
 word_before [] at place b w ws f h are = none_some place h
@@ -62,8 +62,8 @@ first_before (b ∷ bs) at place w ws h are = by_case (is_blank b) refl (first_b
         → (k : ℕ) × (place ≡ at + k) × (words_of (take k (b ∷ bs)) ≡ w ∷ [])
     by_case true e later =
         let passed = sym (word_from-other true 1 at b bs (ap (λ t. true && not t) e) ∙ ap (λ t. word_from t 1 (at + 1) bs) e) ∙ h in
-        let more = later passed (sym (blank_front b bs e) ∙ are) in
-        (suc more.0, (let there = more.1 in omega arith), blank_front b (take more.0 bs) e ∙ more.2)
+        let more = later passed (sym (blank_prefix b bs e) ∙ are) in
+        (suc more.0, (let there = more.1 in omega arith), blank_prefix b (take more.0 bs) e ∙ more.2)
     by_case false e later =
         let passed = sym (word_from-next true 1 at b bs (ap (λ t. true && not t) e) (omega arith) ∙ ap (λ t. word_from t 0 (at + 1) bs) e) ∙ h in
         let more = word_before bs (at + 1) place b w ws e passed are in
@@ -79,8 +79,8 @@ no_prefix line first = by_words (words_of line) refl first
     by_place w ws are none (Some at) e =
         let before = first_before line 0 at w ws e are in
         let place : before.0 ≡ at = (let there = before.1 in omega arith) in
-        let front : words_of (take at line) ≡ w ∷ [] = ap (λ k. words_of (take k line)) (sym place) ∙ before.2 in
-        sym (ap (step_from line) e ∙ ap (λ l. step_behind line at (client_of l)) front ∙ ap (step_behind line at) none)
+        let prefix : words_of (take at line) ≡ w ∷ [] = ap (λ k. words_of (take k line)) (sym place) ∙ before.2 in
+        sym (ap (step_from line) e ∙ ap (λ l. step_after line at (client_of l)) prefix ∙ ap (step_after line at) none)
 
     by_words : (ws : List (List ℕ)) → words_of line ≡ ws → NoClientFirst ws → option_map (step_with []) (act_in line) ≡ step_in line
     by_words [] are none = sym (ap (step_from line) ((none_from line).apart 1 0 (omega (arith, ap length are))))

@@ -1,4 +1,4 @@
--- Lines as they are read: prefixes of clients, labels behind words, and texts that are UTF-8.
+-- Lines as they are read: prefixes of clients, labels after words, and texts that are UTF-8.
 use Rattle.std.proofs.Common.{◌≡◌, ◌≢◌, ◌<◌, ◌≤◌, ◌-◌, ◌∙◌, ℕ, suc, Bool, true, false, cond, ◌==◌, List, [], ◌∷◌, Some, None, option_map, option_and_then, refl, sym, ap, arith, length, take, drop, get_or, IsUtf8}
 use Rattle.std.specs.Str.{is_utf8}
 use Rattle.std.proofs.lemmas.Str.{IsUtf8-from_is_utf8, is_utf8-from_IsUtf8}
@@ -11,14 +11,14 @@ use Rattle.mix_script.specs.Forms.{select_of}
 use Rattle.mix_script.specs.Lines.{before_colon, no_words, label_alone, step_in, utf8_step}
 
 -- the last byte of a longer text
-last_behind : (b c : ℕ) (xs : List ℕ) → get_or (b ∷ c ∷ xs) (length (b ∷ c ∷ xs) - 1) 0 ≡ get_or (c ∷ xs) (length (c ∷ xs) - 1) 0
-last_behind b c xs =
+last_after : (b c : ℕ) (xs : List ℕ) → get_or (b ∷ c ∷ xs) (length (b ∷ c ∷ xs) - 1) 0 ≡ get_or (c ∷ xs) (length (c ∷ xs) - 1) 0
+last_after b c xs =
     let e : length (b ∷ c ∷ xs) - 1 ≡ suc (length (c ∷ xs) - 1) = omega arith in
     ap (λ n. get_or (b ∷ c ∷ xs) n 0) e
 
 -- all but the last byte of a longer text
-front_behind : (b c : ℕ) (xs : List ℕ) → take (length (b ∷ c ∷ xs) - 1) (b ∷ c ∷ xs) ≡ b ∷ take (length (c ∷ xs) - 1) (c ∷ xs)
-front_behind b c xs =
+prefix_kept : (b c : ℕ) (xs : List ℕ) → take (length (b ∷ c ∷ xs) - 1) (b ∷ c ∷ xs) ≡ b ∷ take (length (c ∷ xs) - 1) (c ∷ xs)
+prefix_kept b c xs =
     let e : length (b ∷ c ∷ xs) - 1 ≡ suc (length (c ∷ xs) - 1) = omega arith in
     ap (λ n. take n (b ∷ c ∷ xs)) e
 
@@ -27,13 +27,13 @@ pub colon_found : (xs : List ℕ) → 1 ≤ length xs → get_or xs (length xs -
 colon_found [] h e = absurd (omega arith)
 colon_found (b ∷ []) h e = let is : b ≡ 58 = e in rw is refl
 colon_found (b ∷ c ∷ xs) h e =
-    ap (option_map (λ name. b ∷ name)) (colon_found (c ∷ xs) (omega arith) (sym (last_behind b c xs) ∙ e)) ∙ ap Some (sym (front_behind b c xs))
+    ap (option_map (λ name. b ∷ name)) (colon_found (c ∷ xs) (omega arith) (sym (last_after b c xs) ∙ e)) ∙ ap Some (sym (prefix_kept b c xs))
 
 -- nothing does where another byte is the last
 pub no_colon : (xs : List ℕ) → get_or xs (length xs - 1) 0 ≢ 58 → before_colon xs ≡ None
 no_colon [] h = refl
 no_colon (b ∷ []) h = let e : b == 58 ≡ false = grind arith in rw e refl
-no_colon (b ∷ c ∷ xs) h = ap (option_map (λ name. b ∷ name)) (no_colon (c ∷ xs) (λ e. h (last_behind b c xs ∙ e)))
+no_colon (b ∷ c ∷ xs) h = ap (option_map (λ name. b ∷ name)) (no_colon (c ∷ xs) (λ e. h (last_after b c xs ∙ e)))
 
 -- nor in an empty text
 pub empty_colon : (xs : List ℕ) → length xs < 1 → before_colon xs ≡ None
@@ -47,13 +47,13 @@ unread_select line words seen (Got l end) e never = absurd (never l end refl)
 unread_select line words seen (Unexpected at) e never = sym (ap (λ s. option_and_then (select_of words) (label_alone s)) e)
 unread_select line words seen Ends e never = sym (ap (λ s. option_and_then (select_of words) (label_alone s)) e)
 
--- nor where words stand behind it
+-- nor where words stand after it
 pub followed_select : (line : List ℕ) (words : List (List ℕ)) (seen : Seen) (label : List ℕ) (end : ℕ) → seen ≡ got label end (drop end line) → no_words (words_of (drop end line)) ≡ false
     → None ≡ option_and_then (select_of words) (label_alone seen)
 followed_select line words seen label end e some =
     sym (ap (λ s. option_and_then (select_of words) (label_alone s)) e ∙ ap (λ t. option_and_then (select_of words) (cond t (Some label) None)) some)
 
--- the words in front of a label alone say what is asked for
+-- the words before a label alone say what is asked for
 pub alone_select : (line : List ℕ) (words : List (List ℕ)) (seen : Seen) (label : List ℕ) (end : ℕ) → seen ≡ got label end (drop end line) → no_words (words_of (drop end line)) ≡ true
     → select_of words label ≡ option_and_then (select_of words) (label_alone seen)
 alone_select line words seen label end e none =

@@ -7,14 +7,14 @@ use Rattle.mix_words.proofs.Pieces.{Free, Free-rest, rest_whole}
 use Rattle.mix_words.proofs.WordCuts.{word_cut, words_at_end}
 
 -- a blank in front is in no word
-pub blank_front : (b : ℕ) (bs : List ℕ) → is_blank b ≡ true → words_of (b ∷ bs) ≡ words_of bs
-blank_front b bs h = rw h refl
+pub blank_prefix : (b : ℕ) (bs : List ℕ) → is_blank b ≡ true → words_of (b ∷ bs) ≡ words_of bs
+blank_prefix b bs h = rw h refl
 
--- the words from a blank on are those behind it
+-- the words from a blank on are those after it
 pub blank_passed : (text : List ℕ) (at : ℕ) → at < length text → is_blank (slice_index text at) ≡ true → words_of (drop (at + 1) text) ≡ words_of (drop at text)
-blank_passed text at inside h = sym (ap words_of (drop_more text at 0 inside) ∙ blank_front (slice_index text at) (drop (at + 1) text) h)
+blank_passed text at inside h = sym (ap words_of (drop_more text at 0 inside) ∙ blank_prefix (slice_index text at) (drop (at + 1) text) h)
 
--- the words from a place on are the one that begins there and those behind it
+-- the words from a place on are the one that begins there and those after it
 pub word_before_blank : (text : List ℕ) (from end : ℕ) → from ≤ end → Free is_blank (slice_range text from end) → end < length text → is_blank (slice_index text end) ≡ true
     → words_of (drop from text) ≡ unless_empty (slice_range text from end) ++ words_of (drop end text)
 word_before_blank text from end order free inside blank =

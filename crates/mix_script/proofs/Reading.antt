@@ -7,30 +7,30 @@ use Rattle.mix_script.specs.declared.script.ScriptFault.TheVariants.{Line, OutOf
 use Rattle.mix_script.specs.declared.step.Step.{Step}
 use Rattle.mix_script.specs.Steps.{line_steps, with_line, steps_from}
 
--- steps that were read, in front of those to come
+-- steps that were read, before those to come
 abbrev pub after_steps : List Step → Result (List Step) ℕ → Result (List Step) ℕ
-after_steps front (Ok steps) = Ok (front ++ steps)
-after_steps front (Err n) = Err n
+after_steps prefix (Ok steps) = Ok (prefix ++ steps)
+after_steps prefix (Err n) = Err n
 
-after_two : (front new : List Step) (n : ℕ) (rest : Result (List Step) ℕ) → after_steps (front ++ new) rest ≡ after_steps front (with_line (Some new) n rest)
-after_two front new n (Ok steps) = ap Ok (append_assoc front new steps)
-after_two front new n (Err m) = refl
+after_two : (prefix new : List Step) (n : ℕ) (rest : Result (List Step) ℕ) → after_steps (prefix ++ new) rest ≡ after_steps prefix (with_line (Some new) n rest)
+after_two prefix new n (Ok steps) = ap Ok (append_assoc prefix new steps)
+after_two prefix new n (Err m) = refl
 
 at_line : (lines : List (List ℕ)) (i n : ℕ) → i < length lines → steps_from n (drop i lines) ≡ with_line (line_steps (get_or lines i [])) n (steps_from (n + 1) (drop (i + 1) lines))
 at_line lines i n h = ap (steps_from n) (drop_more lines i [] h)
 
 -- the steps of one line more were read
-pub line_taken : (lines : List (List ℕ)) (i n : ℕ) (front new more : List Step) (whole : Result (List Step) ℕ) → i < length lines → line_steps (get_or lines i []) ≡ Some new → more ≡ front ++ new
-    → after_steps front (steps_from n (drop i lines)) ≡ whole → after_steps more (steps_from (n + 1) (drop (i + 1) lines)) ≡ whole
-line_taken lines i n front new more whole h a m e =
-    ap (λ steps. after_steps steps (steps_from (n + 1) (drop (i + 1) lines))) m ∙ after_two front new n (steps_from (n + 1) (drop (i + 1) lines))
-    ∙ ap (after_steps front) (ap (λ o. with_line o n (steps_from (n + 1) (drop (i + 1) lines))) (sym a) ∙ sym (at_line lines i n h)) ∙ e
+pub line_taken : (lines : List (List ℕ)) (i n : ℕ) (prefix new more : List Step) (whole : Result (List Step) ℕ) → i < length lines → line_steps (get_or lines i []) ≡ Some new → more ≡ prefix ++ new
+    → after_steps prefix (steps_from n (drop i lines)) ≡ whole → after_steps more (steps_from (n + 1) (drop (i + 1) lines)) ≡ whole
+line_taken lines i n prefix new more whole h a m e =
+    ap (λ steps. after_steps steps (steps_from (n + 1) (drop (i + 1) lines))) m ∙ after_two prefix new n (steps_from (n + 1) (drop (i + 1) lines))
+    ∙ ap (after_steps prefix) (ap (λ o. with_line o n (steps_from (n + 1) (drop (i + 1) lines))) (sym a) ∙ sym (at_line lines i n h)) ∙ e
 
 -- a line of no form refuses the script
-pub line_refused : (lines : List (List ℕ)) (i n : ℕ) (front : List Step) (whole : Result (List Step) ℕ) → i < length lines → line_steps (get_or lines i []) ≡ None
-    → after_steps front (steps_from n (drop i lines)) ≡ whole → whole ≡ Err n
-line_refused lines i n front whole h a e =
-    sym e ∙ ap (after_steps front) (at_line lines i n h ∙ ap (λ o. with_line o n (steps_from (n + 1) (drop (i + 1) lines))) a)
+pub line_refused : (lines : List (List ℕ)) (i n : ℕ) (prefix : List Step) (whole : Result (List Step) ℕ) → i < length lines → line_steps (get_or lines i []) ≡ None
+    → after_steps prefix (steps_from n (drop i lines)) ≡ whole → whole ≡ Err n
+line_refused lines i n prefix whole h a e =
+    sym e ∙ ap (after_steps prefix) (at_line lines i n h ∙ ap (λ o. with_line o n (steps_from (n + 1) (drop (i + 1) lines))) a)
 
 abbrev fault_in : {T : Type 0} → Result T ScriptFault → ScriptFault
 fault_in (Ok x) = OutOfMemory

@@ -1,4 +1,4 @@
--- A line asks for the select of a label where it spells that label behind its words, and there alone.
+-- A line asks for the select of a label where it spells that label after its words, and there alone.
 use Rattle.std.proofs.Common.{◌≡◌, ◌⊎◌, ◌+◌, ◌∙◌, ℕ, Bool, true, false, cond, ◌&&◌, ◌==◌, List, [], ◌∷◌, ◌++◌, Option, Some, None, option_map, option_and_then, refl, sym, ap, subst, arith, length, take, drop, inl, inr}
 use Rattle.std.specs.Prelude.{IsTrue, codes}
 use Rattle.std.specs.Str.{bytes_eq}
@@ -8,13 +8,13 @@ use Rattle.std.proofs.lemmas.Slice.Eq.{bytes_eq-Decides}
 use Rattle.std.proofs.Math.Seq.{take-append_seam, drop-append_seam}
 use Rattle.mix_base.proofs.Choices.{and_parts, some_is, none_some}
 use Rattle.mix_tree.specs.LabelGrammar.{SpellsLabel}
-use Rattle.mix_tree.specs.LabelMachine.{Spot, start, in_bare, in_quotes, in_escape, behind_quote, step, run, label_in, Seen, got, unexpected, ends, seen_from}
+use Rattle.mix_tree.specs.LabelMachine.{Spot, start, in_bare, in_quotes, in_escape, after_quote, step, run, label_in, Seen, got, unexpected, ends, seen_from}
 use Rattle.mix_tree.proofs.LabelAnswers.{run_writes_some}
 use Rattle.mix_tree.proofs.LabelComplete.{spelled_reads}
 use Rattle.mix_tree.proofs.LabelSeen.{Saw, Stops, saw}
 use Rattle.mix_tree.proofs.LabelSound.{label_spelled}
 use Rattle.mix_tree.proofs.LabelTaken.{seen_byte}
-use Rattle.mix_words.specs.Places.{blank_behind, place_of_word}
+use Rattle.mix_words.specs.Places.{ends_blank, place_of_word}
 use Rattle.mix_words.specs.Words.{is_blank, is_name, words_of, with_first, ends_word}
 use Rattle.mix_words.proofs.WordPlaces.{place_apart, place_found}
 use Rattle.mix_script.specs.Forms.{act_of, act_named, reading_named, is_select_form, select_of, way_named}
@@ -59,7 +59,7 @@ record SelectWords (words : List (List ℕ)) (x y label given : List ℕ) : Type
   names : IsTrue (is_name x) × IsTrue (is_name y)
   label_is : given ≡ label
 
--- such words stand in front of the label
+-- such words stand before the label
 select_words : (words : List (List ℕ)) (x y label given : List ℕ) → select_of words given ≡ Some (Select x y label) → SelectWords words x y label given
 select_words [] x y label given e = none_some _ e
 select_words (a ∷ []) x y label given e = none_some _ e
@@ -86,27 +86,27 @@ select_words (a ∷ is ∷ command ∷ b ∷ []) x y label given e = formed (is_
         }
 select_words (a ∷ b ∷ c ∷ d ∷ f ∷ words) x y label given e = none_some _ e
 
--- such words ask for the select of the label behind them
+-- such words ask for the select of the label after them
 words_select : (x y label : List ℕ) → IsTrue (is_name x) → IsTrue (is_name y) → select_of (x ∷ codes "=" ∷ codes "select" ∷ y ∷ []) label ≡ Some (Select x y label)
 words_select x y label h k = rw (h, k) refl
 
 -- THE LABEL BEHIND THEM
 
--- what is seen behind words with which a line asks for a select
-seen_select : (line : List ℕ) (at : ℕ) (x y label : List ℕ) (seen : Seen) → IsTrue (blank_behind true (take at line)) → Saw start at (drop at line) seen
+-- what is seen after words with which a line asks for a select
+seen_select : (line : List ℕ) (at : ℕ) (x y label : List ℕ) (seen : Seen) → IsTrue (ends_blank true (take at line)) → Saw start at (drop at line) seen
     → option_and_then (select_of (words_of (take at line))) (label_alone seen) ≡ Some (Select x y label) → IsSelectOf line x y label
 seen_select line at x y label (unexpected j) apart saw e = none_some _ e
 seen_select line at x y label ends apart saw e = none_some _ e
-seen_select line at x y label (got given j behind) apart saw e = wordless (words_of behind) refl e
+seen_select line at x y label (got given j after) apart saw e = wordless (words_of after) refl e
   where
-    wordless : (ws : List (List ℕ)) → words_of behind ≡ ws → option_and_then (select_of (words_of (take at line))) (cond (no_words ws) (Some given) None) ≡ Some (Select x y label) → IsSelectOf line x y label
+    wordless : (ws : List (List ℕ)) → words_of after ≡ ws → option_and_then (select_of (words_of (take at line))) (cond (no_words ws) (Some given) None) ≡ Some (Select x y label) → IsSelectOf line x y label
     wordless (w ∷ ws) none h = none_some _ h
     wordless [] none h =
         let s = select_words (words_of (take at line)) x y label given h in
         record {
-          front = take at line;
+          prefix = take at line;
           spelled = saw.spelled;
-          behind = behind;
+          after = after;
           parts = sym (take-append-drop at line) ∙ ap (λ z. take at line ++ z) saw.parts;
           words = s.are;
           names = s.names;
@@ -142,7 +142,7 @@ blank_stops (in_bare k) l b e (inl h) = rw h refl
 blank_stops (in_bare k) l b e (inr h) = rw h refl
 blank_stops (in_quotes k) l b e h = none_some l e
 blank_stops (in_escape k) l b e h = none_some l e
-blank_stops (behind_quote k) l b e h = refl
+blank_stops (after_quote k) l b e h = refl
 
 -- a byte that is no blank begins a word
 word_begins : {Q : Type 0} (b : ℕ) (bs : List ℕ) → is_blank b ≡ false → words_of (b ∷ bs) ≡ [] → Q
@@ -161,7 +161,7 @@ wordless_stops t l (b ∷ bs) e h = (elim (is_blank b) as (λ s. is_blank b ≡ 
   | false ↦ λ k. word_begins b bs k h
 ]) refl
 
--- a label is seen behind its spelling, where that stops
+-- a label is seen after its spelling, where that stops
 seen_spelled : (w : List ℕ) (s t : Spot) (i : ℕ) (l y : List ℕ) → run s w ≡ Some t → label_in t ≡ Some l → Stops t y → seen_from s i (w ++ y) ≡ got l (i + length w) y
 seen_spelled [] s t i l [] r e h =
     let same : s ≡ t = some_is s t r in
@@ -194,17 +194,17 @@ spelled_is_asked line x y label h = spelled h.spelled refl
         none_some label (ap label_in stands ∙ reads.2)
     spelled (c ∷ w) is =
         let reads = spelled_reads (c ∷ w) label (subst (λ z. SpellsLabel z label) is h.spells) in
-        let parts : line ≡ h.front ++ (c ∷ (w ++ h.behind)) = h.parts ∙ ap (λ z. h.front ++ (z ++ h.behind)) is in
-        let many : length (words_of h.front) ≡ 4 = ap length h.words in
-        let place : place_of_word 4 line ≡ Some (length h.front) = ap (place_of_word 4) parts ∙ place_found h.front 4 c (w ++ h.behind) many h.apart (no_blank reads.0 reads.1) in
-        let before : take (length h.front) line ≡ h.front = ap (take (length h.front)) parts ∙ take-append_seam h.front (c ∷ (w ++ h.behind)) in
-        let rest : drop (length h.front) line ≡ c ∷ (w ++ h.behind) = ap (drop (length h.front)) parts ∙ drop-append_seam h.front (c ∷ (w ++ h.behind)) in
-        let seen : seen_from start (length h.front) (drop (length h.front) line) ≡ got label (length h.front + length (c ∷ w)) h.behind =
-        ap (seen_from start (length h.front)) rest
-        ∙ seen_spelled (c ∷ w) start reads.0 (length h.front) label h.behind reads.1 reads.2 (wordless_stops reads.0 label h.behind reads.2 h.alone) in
-        ap (act_from line) place ∙ ap (λ z. option_and_then (select_of (words_of z)) (label_alone (seen_from start (length h.front) (drop (length h.front) line)))) before
-        ∙ ap (λ z. option_and_then (select_of (words_of h.front)) (label_alone z)) seen
-        ∙ ap (λ z. option_and_then (select_of (words_of h.front)) (cond (no_words z) (Some label) None)) h.alone
+        let parts : line ≡ h.prefix ++ (c ∷ (w ++ h.after)) = h.parts ∙ ap (λ z. h.prefix ++ (z ++ h.after)) is in
+        let many : length (words_of h.prefix) ≡ 4 = ap length h.words in
+        let place : place_of_word 4 line ≡ Some (length h.prefix) = ap (place_of_word 4) parts ∙ place_found h.prefix 4 c (w ++ h.after) many h.apart (no_blank reads.0 reads.1) in
+        let before : take (length h.prefix) line ≡ h.prefix = ap (take (length h.prefix)) parts ∙ take-append_seam h.prefix (c ∷ (w ++ h.after)) in
+        let rest : drop (length h.prefix) line ≡ c ∷ (w ++ h.after) = ap (drop (length h.prefix)) parts ∙ drop-append_seam h.prefix (c ∷ (w ++ h.after)) in
+        let seen : seen_from start (length h.prefix) (drop (length h.prefix) line) ≡ got label (length h.prefix + length (c ∷ w)) h.after =
+        ap (seen_from start (length h.prefix)) rest
+        ∙ seen_spelled (c ∷ w) start reads.0 (length h.prefix) label h.after reads.1 reads.2 (wordless_stops reads.0 label h.after reads.2 h.alone) in
+        ap (act_from line) place ∙ ap (λ z. option_and_then (select_of (words_of z)) (label_alone (seen_from start (length h.prefix) (drop (length h.prefix) line)))) before
+        ∙ ap (λ z. option_and_then (select_of (words_of h.prefix)) (label_alone z)) seen
+        ∙ ap (λ z. option_and_then (select_of (words_of h.prefix)) (cond (no_words z) (Some label) None)) h.alone
         ∙ ap (λ z. select_of z label) h.words ∙ words_select x y label h.names.0 h.names.1
       where
         no_blank : (t : Spot) → run start (c ∷ w) ≡ Some t → is_blank c ≡ false

@@ -110,7 +110,7 @@ abbrev pub faults_of : ℕ → List Answer → ℕ
 faults_of s [] = 0
 faults_of s (a ∷ answers) = cond (is_mark_of s (mark_of a)) 1 0 + faults_of s answers
 
--- the sum of what the first of these steps cost, which were answered so, and the step behind them, which was begun, where
+-- the sum of what the first of these steps cost, which were answered so, and the step after them, which was begun, where
 -- names hold this before them; an act's cost and the names after it are given
 abbrev pub begun : {V : Type 0} → (NamesOf V → List ℕ → Act → ℕ) → (NamesOf V → List ℕ → Act → Answer → NamesOf V) → NamesOf V → List Answer → List Step → ℕ
 begun cost after names [] [] = 0

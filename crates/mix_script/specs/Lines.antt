@@ -13,9 +13,9 @@ abbrev pub no_words : List (List ℕ) → Bool
 no_words [] = true
 no_words (w ∷ words) = false
 
--- a label that was seen, where no word stands behind its spelling
+-- a label that was seen, where no word stands after its spelling
 abbrev pub label_alone : Seen → Option (List ℕ)
-label_alone (got label end behind) = cond (no_words (words_of behind)) (Some label) None
+label_alone (got label end after) = cond (no_words (words_of after)) (Some label) None
 label_alone (unexpected at) = None
 label_alone ends = None
 
@@ -42,7 +42,7 @@ before_colon (b ∷ c ∷ bs) = option_map (λ name. b ∷ name) (before_colon (
 abbrev pub name_alone : List ℕ → Option (List ℕ)
 name_alone name = cond (is_name name) (Some name) None
 
--- the client that a word names: a script name with a colon at once behind it
+-- the client that a word names: a script name with a colon at once after it
 abbrev pub client_named : List ℕ → Option (List ℕ)
 client_named word = option_and_then name_alone (before_colon word)
 
@@ -56,15 +56,15 @@ client_of (a ∷ b ∷ words) = None
 abbrev pub step_with : List ℕ → Act → Step
 step_with client act = record { client = client; act = act }
 
--- the step of a line, whose second word begins at a place: behind a client's prefix, or without one
-abbrev pub step_behind : List ℕ → ℕ → Option (List ℕ) → Option Step
-step_behind line at None = option_map (step_with []) (act_in line)
-step_behind line at (Some client) = option_map (step_with client) (act_in (drop at line))
+-- the step of a line, whose second word begins at a place: after a client's prefix, or without one
+abbrev pub step_after : List ℕ → ℕ → Option (List ℕ) → Option Step
+step_after line at None = option_map (step_with []) (act_in line)
+step_after line at (Some client) = option_map (step_with client) (act_in (drop at line))
 
 -- the step of a line, by the place at which its second word begins
 abbrev pub step_from : List ℕ → Option ℕ → Option Step
 step_from line None = option_map (step_with []) (act_in line)
-step_from line (Some at) = step_behind line at (client_of (words_of (take at line)))
+step_from line (Some at) = step_after line at (client_of (words_of (take at line)))
 
 -- the step of a line that is UTF-8
 abbrev pub step_in : List ℕ → Option Step

@@ -16,7 +16,7 @@ steps_read read.Passed = Some []
 steps_read (read.Step step) = Some (step ∷ [])
 steps_read read.NoForm = None
 
--- the steps of a line of this number, and those of the lines behind it
+-- the steps of a line of this number, and those of the lines after it
 abbrev pub with_line : Option (List Step) → ℕ → Result (List Step) ℕ → Result (List Step) ℕ
 with_line None n rest = Err n
 with_line (Some new) n (Ok steps) = Ok (new ++ steps)

@@ -1,7 +1,7 @@
 -- The answers to steps on a finished tree, what names hold after them, and the lines that tell them.
 use Rattle.std.specs.Prelude.{ℕ, Bool, false, IsTrue, cond, List, [], ◌∷◌, ◌++◌, Option, Some, None, is_some, option_and_then}
 use Rattle.std.specs.Str.{bytes_eq}
-use Rattle.mix_tree.specs.Forest.{Forest, none, tree, LabelledTree, alone, behind}
+use Rattle.mix_tree.specs.Forest.{Forest, none, tree, LabelledTree, alone, after_first}
 use Rattle.mix_tree.specs.Place.{has_place, next_place, tree_at, trees_at}
 use Rattle.bracket_text.specs.Canonical.{canon}
 use Rattle.mix_script.specs.Names.{NamesOf, no_names}
@@ -25,7 +25,7 @@ first_labelled label (tree other kids rest) place =
 
 -- the place of the first later sibling of a node with a label
 abbrev pub selected : LabelledTree → List ℕ → List ℕ → Option (List ℕ)
-selected t label place = first_labelled label (behind (trees_at (alone t) place)) place
+selected t label place = first_labelled label (after_first (trees_at (alone t) place)) place
 
 -- the place that an act asks for: the root, or of the node at the place that its operand holds the first child, the next
 -- sibling, or the first later sibling with a label
@@ -86,7 +86,7 @@ abbrev pub first_mark : List (Option ℕ) → Option ℕ
 first_mark [] = None
 first_mark (mark ∷ marks) = mark
 
--- the marks of the steps behind it
+-- the marks of the steps after it
 abbrev pub later_marks : List (Option ℕ) → List (Option ℕ)
 later_marks [] = []
 later_marks (mark ∷ marks) = marks

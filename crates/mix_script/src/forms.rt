@@ -134,11 +134,11 @@ fn is_select(name: &[u8], is: &[u8], command: &[u8], from: &[u8]) -> bool
     is_assigned(name, is) && command == b"select".as_slice() && is_script_name(from)
 }
 
-/// What the words in front of a label ask for, which are `X = select Y`; `None` where they are others.
-pub fn read_select(alloc: Global, front: &[u8], label: Label) -> Result<Option<Act>, AllocError>
-    ensures { IfOk result (λ act. act ≡ select_of (words_of front.now) label) }
+/// What the words before a label ask for, which are `X = select Y`; `None` where they are others.
+pub fn read_select(alloc: Global, prefix: &[u8], label: Label) -> Result<Option<Act>, AllocError>
+    ensures { IfOk result (λ act. act ≡ select_of (words_of prefix.now) label) }
 {
-    match line_words(front) {
+    match line_words(prefix) {
         LineWords::Four(name, is, command, from) if is_select(name, is, command, from) => {
             let name = name_label(alloc, name)?;
             let from = name_label(alloc, from)?;

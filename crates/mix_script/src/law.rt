@@ -7,8 +7,8 @@ pub fn clients_are_apart()
     ensures { ClientsAreApart }
 {}
 
-/// A line without a prefix asks for a `select` of a label exactly where the words `X = select Y` stand in front of a spelling of that label, and
-/// no word behind it (docs/FORMATS.md, "Scripts").
+/// A line without a prefix asks for a `select` of a label exactly where the words `X = select Y` stand before a spelling of that label, and
+/// no word after it (docs/FORMATS.md, "Scripts").
 pub fn selects_are_spelled()
     ensures { SelectsAreSpelled }
 {}

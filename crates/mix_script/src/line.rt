@@ -1,7 +1,7 @@
 // The step of a line.
 ghost use Rattle.std.specs.Prelude.{◌≡◌, ◌<◌, ℕ, List, false, IfOk, IfSome, IsTrue, IsUtf8, length, option_map, take, true};
 ghost use Rattle.mix_words.specs.Words.{is_name, words_of};
-ghost use Rattle.mix_words.specs.Places.{blank_behind};
+ghost use Rattle.mix_words.specs.Places.{ends_blank};
 ghost use Rattle.mix_script.specs.LineWords.{AreWords, NoClientFirst};
 ghost use Rattle.mix_script.specs.Lines.{before_colon, client_named, client_of, select_at, act_in, step_with, step_in, utf8_step};
 
@@ -14,7 +14,7 @@ use mix_words::places::word_place;
 use mix_words::words::is_script_name;
 use std::alloc::{AllocError, Global};
 
-// How many words stand in front of the label of a `select`.
+// How many words stand before the label of a `select`.
 const BEFORE_LABEL: usize = 4;
 
 // What stands before a colon that is the last byte of a word.
@@ -27,7 +27,7 @@ fn before_colon(word: &[u8]) -> Option<&[u8]>
     }
 }
 
-// The client that a word names: a script name with a colon at once behind it.
+// The client that a word names: a script name with a colon at once after it.
 fn client_in(word: &[u8]) -> Option<&[u8]>
     ensures client { option_map (λ name. name.now) result ≡ client_named word.now }
     ensures name { IfSome result (λ name. IsTrue (is_name name.now)) }
@@ -40,12 +40,12 @@ fn client_in(word: &[u8]) -> Option<&[u8]>
 }
 
 // The client of a prefix.
-fn read_client(front: &[u8]) -> Option<&[u8]>
-    ensures client { option_map (λ name. name.now) result ≡ client_of (words_of front.now) }
+fn read_client(prefix: &[u8]) -> Option<&[u8]>
+    ensures client { option_map (λ name. name.now) result ≡ client_of (words_of prefix.now) }
     ensures name { IfSome result (λ name. IsTrue (is_name name.now)) }
 {
-    let (word, behind) = first_word(front)?;
-    if !is_wordless(behind) {
+    let (word, after) = first_word(prefix)?;
+    if !is_wordless(after) {
         return None;
     }
     client_in(word)
@@ -55,7 +55,7 @@ fn read_client(front: &[u8]) -> Option<&[u8]>
 fn read_select_at(alloc: Global, line: &[u8], at: usize) -> Result<Option<Act>, AllocError>
     requires utf8 { IsUtf8 line.now }
     requires inside { at < length line.now }
-    requires apart { IsTrue (blank_behind true (take at line.now)) }
+    requires apart { IsTrue (ends_blank true (take at line.now)) }
     ensures { IfOk result (λ act. act ≡ select_at line.now at) }
 {
     let LabelRead::Got { label, end } = read_label(alloc, line, at)? else {
@@ -82,7 +82,7 @@ fn read_act_in(alloc: Global, line: &[u8], words: LineWords) -> Result<Option<Ac
     }
 }
 
-// The step of a client whose prefix stands in front of a line, which has these words.
+// The step of a client whose prefix stands before a line, which has these words.
 fn read_step(
     alloc: Global,
     client: &[u8],
@@ -101,7 +101,7 @@ fn read_step(
     Ok(Some(Step { client, act }))
 }
 
-// The step of a line, behind a client's prefix or without one.
+// The step of a line, after a client's prefix or without one.
 fn read_prefixed(alloc: Global, line: &[u8], words: LineWords) -> Result<Option<Step>, AllocError>
     requires utf8 { IsUtf8 line.now }
     requires words { AreWords (words_of line.now) words }

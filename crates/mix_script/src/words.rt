@@ -46,7 +46,7 @@ fn word_end(text: &[u8], from: usize) -> usize
     end
 }
 
-/// The first word of a text, and what stands behind it; `None` where the text has no words.
+/// The first word of a text, and what stands after it; `None` where the text has no words.
 #[inline]
 pub fn first_word(text: &[u8]) -> Option<(&[u8], &[u8])>
     ensures { MatchOption result (words_of text.now ≡ []) (λ cut. words_of text.now ≡ cut.0.now ∷ words_of cut.1.now) }

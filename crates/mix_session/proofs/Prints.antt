@@ -2,7 +2,7 @@
 use Rattle.std.proofs.Common.{◌≡◌, ◌∙◌, ◌+◌, ◌≤◌, ℕ, Bool, true, false, cond, List, [], ◌∷◌, ◌++◌, Option, Some, None, Result, Ok, Err, refl, ap, sym, subst, arith, append_assoc, option_map}
 use Rattle.std.specs.Prelude.{is_some, IfSome, OnOk}
 use Rattle.mix_base.proofs.Lists.{append_nil}
-use Rattle.mix_tree.specs.Forest.{Forest, none, tree, LabelledTree, alone, first_tree, first_label, first_kids, behind, followed}
+use Rattle.mix_tree.specs.Forest.{Forest, none, tree, LabelledTree, alone, first_tree, first_label, first_kids, after_first, followed}
 use Rattle.mix_tree.specs.Place.{trees_at, tree_at, has_place, child_place, next_place}
 use Rattle.mix_tree.specs.Spelling.{spelling}
 use Rattle.mix_tree.proofs.Forests.{followed_assoc}
@@ -22,15 +22,15 @@ use Rattle.mix_session.proofs.Walking.{stays_twice, place_toll_less, trees_at-ne
 -- TREES
 
 -- where there is a place there is a tree
-tree_there : (t : LabelledTree) (p : List ℕ) → has_place (alone t) p ≡ true → (u : LabelledTree) × (trees_at (alone t) p ≡ tree u.label u.kids (behind (trees_at (alone t) p)))
+tree_there : (t : LabelledTree) (p : List ℕ) → has_place (alone t) p ≡ true → (u : LabelledTree) × (trees_at (alone t) p ≡ tree u.label u.kids (after_first (trees_at (alone t) p)))
 tree_there t p h = of (trees_at (alone t) p) h
   where
-    of : (f : Forest) → is_some (first_label f) ≡ true → (u : LabelledTree) × (f ≡ tree u.label u.kids (behind f))
+    of : (f : Forest) → is_some (first_label f) ≡ true → (u : LabelledTree) × (f ≡ tree u.label u.kids (after_first f))
     of none e = cc
     of (tree label kids rest) e = (record { label = label; kids = kids }, refl)
 
--- a tree at a place, and those behind it
-trees_of : (t u : LabelledTree) (p : List ℕ) → tree_at t p ≡ Some u → trees_at (alone t) p ≡ tree u.label u.kids (behind (trees_at (alone t) p))
+-- a tree at a place, and those after it
+trees_of : (t u : LabelledTree) (p : List ℕ) → tree_at t p ≡ Some u → trees_at (alone t) p ≡ tree u.label u.kids (after_first (trees_at (alone t) p))
 trees_of t u p h = of (trees_at (alone t) p) h
   where
     at_label : Option LabelledTree → List ℕ
@@ -41,7 +41,7 @@ trees_of t u p h = of (trees_at (alone t) p) h
     at_kids None = none
     at_kids (Some x) = x.kids
 
-    of : (f : Forest) → first_tree f ≡ Some u → f ≡ tree u.label u.kids (behind f)
+    of : (f : Forest) → first_tree f ≡ Some u → f ≡ tree u.label u.kids (after_first f)
     of none e = cc
     of (tree label kids rest) e = ap (λ l. tree l kids rest) (ap at_label e) ∙ ap (λ k. tree u.label k rest) (ap at_kids e)
 
@@ -71,19 +71,19 @@ next_none (i ∷ j ∷ p) e = deeper (next_place (j ∷ p)) (λ z. next_none (j 
     deeper None more h k = let z : j ∷ p ≡ [] = more h in cc
     deeper (Some q) more h k = cc
 
--- nothing stands behind a node that has no next sibling
-behind_none : (t : LabelledTree) (p : List ℕ) → move_answer t (next_place p) ≡ answer.None → behind (trees_at (alone t) p) ≡ none
-behind_none t p h = by_next (next_place p) refl h
+-- nothing stands after a node that has no next sibling
+after_none : (t : LabelledTree) (p : List ℕ) → move_answer t (next_place p) ≡ answer.None → after_first (trees_at (alone t) p) ≡ none
+after_none t p h = by_next (next_place p) refl h
   where
-    by_next : (o : Option (List ℕ)) → next_place p ≡ o → move_answer t o ≡ answer.None → behind (trees_at (alone t) p) ≡ none
-    by_next None e k = ap (λ q. behind (trees_at (alone t) q)) (next_none p e)
+    by_next : (o : Option (List ℕ)) → next_place p ≡ o → move_answer t o ≡ answer.None → after_first (trees_at (alone t) p) ≡ none
+    by_next None e k = ap (λ q. after_first (trees_at (alone t) q)) (next_none p e)
     by_next (Some q) e k = sym (trees_at-next (alone t) p q e) ∙ no_trees t q k
 
 -- TEXTS
 
--- a tree in front of others
-canon_front : (u : LabelledTree) (label : List ℕ) (kids rest : Forest) → canon_trees (tree u.label u.kids (tree label kids rest)) ≡ canon u ++ 44 ∷ canon_trees (tree label kids rest)
-canon_front u label kids rest = refl
+-- a tree before others
+canon_prefix : (u : LabelledTree) (label : List ℕ) (kids rest : Forest) → canon_trees (tree u.label u.kids (tree label kids rest)) ≡ canon u ++ 44 ∷ canon_trees (tree label kids rest)
+canon_prefix u label kids rest = refl
 
 -- a tree alone
 canon_alone : (u : LabelledTree) → canon_trees (tree u.label u.kids none) ≡ canon u
@@ -106,12 +106,12 @@ module _ (toll toll' : Way → List ℕ → ℕ) (less : (way : Way) (p : List �
       from_less more None = omega arith
       from_less more (Some q) = more q
 
--- the toll from a node on is that of its subtree, of the way to the right, and of what stands behind it
+-- the toll from a node on is that of its subtree, of the way to the right, and of what stands after it
 siblings_are : (toll : Way → List ℕ → ℕ) (t : LabelledTree) (p : List ℕ) → has_place (alone t) p ≡ true
-    → siblings_toll toll t p ≡ print_toll toll t p + toll Right p + toll_from (trees_toll toll (behind (trees_at (alone t) p))) (next_place p)
+    → siblings_toll toll t p ≡ print_toll toll t p + toll Right p + toll_from (trees_toll toll (after_first (trees_at (alone t) p))) (next_place p)
 siblings_are toll t p h = of (trees_at (alone t) p) h
   where
-    of : (f : Forest) → is_some (first_label f) ≡ true → trees_toll toll f p ≡ toll Down p + trees_toll toll (first_kids f) (child_place p) + toll Right p + toll_from (trees_toll toll (behind f)) (next_place p)
+    of : (f : Forest) → is_some (first_label f) ≡ true → trees_toll toll f p ≡ toll Down p + trees_toll toll (first_kids f) (child_place p) + toll Right p + toll_from (trees_toll toll (after_first f)) (next_place p)
     of none e = cc
     of (tree label kids rest) e = refl
 
@@ -171,7 +171,7 @@ module _ {V W : Type 0} (m : Meaning V W) (n : V) where
         bracketed x y z =
             append_assoc ((x ++ y) ++ 91 ∷ []) z (93 ∷ []) ∙ append_assoc (x ++ y) (91 ∷ []) (z ++ 93 ∷ []) ∙ append_assoc x y ((91 ∷ z) ++ 93 ∷ [])
 
-    -- what stands below was printed behind the opening bracket
+    -- what stands below was printed after the opening bracket
     pub opened_node : (before mid after : List ℕ) → OpensTree m m' n before mid (Some first) → PrintsBelow m' first mid after → PrintsTree m n before after
     opened_node before mid after o below = prints_node o.label before (before ++ spelling o.label) mid below.inner after o.reads refl o.text below.trees below.text
 
@@ -194,20 +194,20 @@ pub read_there : {V W : Type 0} (m : Meaning V W) (n : V) (label : List ℕ) →
 read_there m n label reads p at t one = let there = reads p at t one in ap (λ o. is_some (first_label o)) (trees_of t there.0 p there.1)
 
 -- the trees from a node on were printed up to a node, which stands here
-pub record IsOnWay {V W : Type 0} (m m' : Meaning V W) (fills fills' : ℕ) (front : Forest) (node : V) (p : List ℕ) (t : LabelledTree) : Type 0 where
+pub record IsOnWay {V W : Type 0} (m m' : Meaning V W) (fills fills' : ℕ) (prefix : Forest) (node : V) (p : List ℕ) (t : LabelledTree) : Type 0 where
   pub here : List ℕ
   pub at : m'.IsAt node here
-  pub trees : trees_at (alone t) p ≡ followed front (trees_at (alone t) here)
+  pub trees : trees_at (alone t) p ≡ followed prefix (trees_at (alone t) here)
   pub cost : m.course.HasTolls → fills' + siblings_toll (place_toll m.course) t here ≤ fills + siblings_toll (place_toll m.course) t p
 
--- so they were, wherever the first one stands; a comma stands behind each
+-- so they were, wherever the first one stands; a comma stands after each
 pub record ArePrinted {V W : Type 0} (m m' : Meaning V W) (fills fills' : ℕ) (before now : List ℕ) (first node : V) : Type 0 where
   pub stays : Stays m m'
   pub is_node : m'.IsNode node
   pub low : m'.height node ≤ m.height first
-  pub front : Forest
-  pub text : (label : List ℕ) (kids rest : Forest) → now ++ canon_trees (tree label kids rest) ≡ before ++ canon_trees (followed front (tree label kids rest))
-  pub place : (p : List ℕ) → m.IsAt first p → (t : LabelledTree) → m.course.IsDocument t → IsOnWay m m' fills fills' front node p t
+  pub prefix : Forest
+  pub text : (label : List ℕ) (kids rest : Forest) → now ++ canon_trees (tree label kids rest) ≡ before ++ canon_trees (followed prefix (tree label kids rest))
+  pub place : (p : List ℕ) → m.IsAt first p → (t : LabelledTree) → m.course.IsDocument t → IsOnWay m m' fills fills' prefix node p t
 
 -- none was printed yet
 pub printed_start : {V W : Type 0} (m : Meaning V W) (first : V) (fills : ℕ) (before : List ℕ) → Stays m m → m.IsNode first → ArePrinted m m fills fills before before first first
@@ -215,15 +215,15 @@ printed_start m first fills before stays node = record {
   stays = stays;
   is_node = node;
   low = omega arith;
-  front = none;
+  prefix = none;
   text = λ label kids rest. refl;
   place = λ p at t one. record { here = p; at = at; trees = refl; cost = λ tolls. omega arith };
 }
 
--- trees behind others are trees
-trees_behind : (front : Forest) (u : LabelledTree) → (label : List ℕ) × (kids : Forest) × (rest : Forest) × (followed front (tree u.label u.kids none) ≡ tree label kids rest)
-trees_behind none u = (u.label, u.kids, none, refl)
-trees_behind (tree label kids rest) u = (label, kids, followed rest (tree u.label u.kids none), refl)
+-- trees after others are trees
+trees_after : (prefix : Forest) (u : LabelledTree) → (label : List ℕ) × (kids : Forest) × (rest : Forest) × (followed prefix (tree u.label u.kids none) ≡ tree label kids rest)
+trees_after none u = (u.label, u.kids, none, refl)
+trees_after (tree label kids rest) u = (label, kids, followed rest (tree u.label u.kids none), refl)
 
 -- a way seen from before a call
 pub step_later : {V W : Type 0} (m m' m'' : Meaning V W) (way : Way) (n : V) (r : Option V) → Stays m m' → m.IsNode n → IsStepTo m' m'' way n r → IsStepTo m m'' way n r
@@ -238,11 +238,11 @@ step_later {V} m m' m'' way n r stays node step = record {
     of Down (Some c) h = let a = stays.height n node in omega (arith, a, h)
     of Right (Some c) h = let a = stays.height n node in let b = stays.left n node in (let x = h.0 in omega (arith, b, x), let y = h.1 in omega (arith, a, y))
 
--- the way behind a tree costs no less than none
+-- the way after a tree costs no less than none
 pub tree_costs : {V W : Type 0} (m : Meaning V W) (n : V) (fills fills' : ℕ) → CostsOn m n fills fills' print_toll → CostsOn m n fills fills' one_toll
 tree_costs m n fills fills' own tolls p at t one = let a = own tolls p at t one in omega (arith, a)
 
--- what a tree and the way behind it cost together
+-- what a tree and the way after it cost together
 pub one_costs : {V W : Type 0} (m m' : Meaning V W) (n : V) (fills fills' fills'' : ℕ) → Stays m m' → CostsOn m n fills fills' print_toll → CostsOn m' n fills' fills'' (λ toll t p. toll Right p) → CostsOn m n fills fills'' one_toll
 one_costs m m' n fills fills' fills'' stays own right tolls p at t one =
     let a = own tolls p at t one in
@@ -254,11 +254,11 @@ module _ {V W : Type 0} (m m' m3 : Meaning V W) (first node : V) (fills fills' f
     (cost : CostsOn m' node fills' fills3 one_toll) where
   -- the next one was printed
   module _ (p : List ℕ) (at : m.IsAt first p) (t : LabelledTree) (one : m.course.IsDocument t) where
-    on : IsOnWay m m' fills fills' so.front node p t
+    on : IsOnWay m m' fills fills' so.prefix node p t
     on = so.place p at t one
 
     paid : m.course.HasTolls
-        → fills3 + toll_from (trees_toll (place_toll m.course) (behind (trees_at (alone t) on.here))) (next_place on.here) ≤ fills + siblings_toll (place_toll m.course) t p
+        → fills3 + toll_from (trees_toll (place_toll m.course) (after_first (trees_at (alone t) on.here))) (next_place on.here) ≤ fills + siblings_toll (place_toll m.course) t p
     paid tolls =
         let own = cost (so.stays.course.tolls tolls) on.here on.at t (so.stays.course.document t one) in
         let so_far = on.cost tolls in
@@ -273,53 +273,53 @@ module _ {V W : Type 0} (m m' m3 : Meaning V W) (first node : V) (fills fills' f
   printed_costs tolls p at t one = let h = paid p at t one tolls in omega (arith, h)
 
   module _ (now' : List ℕ) (tree' : PrintsTree m' node now now') where
-    -- the subtree of the node, and those behind it
+    -- the subtree of the node, and those after it
     own_trees : (p : List ℕ) (at : m.IsAt first p) (t : LabelledTree) (one : m.course.IsDocument t)
-        → trees_at (alone t) (on p at t one).here ≡ tree tree'.subtree.label tree'.subtree.kids (behind (trees_at (alone t) (on p at t one).here))
+        → trees_at (alone t) (on p at t one).here ≡ tree tree'.subtree.label tree'.subtree.kids (after_first (trees_at (alone t) (on p at t one).here))
     own_trees p at t one = trees_of t tree'.subtree (on p at t one).here (tree'.place (on p at t one).here (on p at t one).at t (so.stays.course.document t one))
 
     -- there is no next sibling
     pub printed_all : IsStepTo m' m3 Right node None → PrintsTrees m first before now'
     printed_all step =
         let u = tree'.subtree in
-        let all = trees_behind so.front tree'.subtree in record {
+        let all = trees_after so.prefix tree'.subtree in record {
           label = all.0;
           kids = all.1;
           rest = all.2;
           text = tree'.text ∙ ap (λ x. now ++ x) (sym (canon_alone tree'.subtree)) ∙ so.text tree'.subtree.label tree'.subtree.kids none ∙ ap (λ f. before ++ canon_trees f) all.3;
           place = λ p at t one.
               let here = (on p at t one).here in
-              let last : behind (trees_at (alone t) (on p at t one).here) ≡ none =
-              behind_none t (on p at t one).here (step.place (on p at t one).here (on p at t one).at t (so.stays.course.document t one)) in
-              (on p at t one).trees ∙ ap (followed so.front) (own_trees p at t one ∙ ap (tree tree'.subtree.label tree'.subtree.kids) last) ∙ all.3;
+              let last : after_first (trees_at (alone t) (on p at t one).here) ≡ none =
+              after_none t (on p at t one).here (step.place (on p at t one).here (on p at t one).at t (so.stays.course.document t one)) in
+              (on p at t one).trees ∙ ap (followed so.prefix) (own_trees p at t one ∙ ap (tree tree'.subtree.label tree'.subtree.kids) last) ∙ all.3;
         }
 
-    -- there is one, and a comma was put behind the text
+    -- there is one, and a comma was put after the text
     pub printed_more : (next : V) → IsStepTo m' m3 Right node (Some next) → (now'' : List ℕ) → now'' ≡ now' ++ 44 ∷ [] → ArePrinted m m3 fills fills3 before now'' first next
     printed_more next step now'' comma =
         record {
           stays = stays_twice so.stays stays;
           is_node = step.node;
           low = let a = so.low in let c = step.smaller.1 in omega (arith, a, c);
-          front = followed so.front (tree tree'.subtree.label tree'.subtree.kids none);
+          prefix = followed so.prefix (tree tree'.subtree.label tree'.subtree.kids none);
           text = λ label kids rest.
               ap (λ x. x ++ canon_trees (tree label kids rest)) (comma ∙ ap (λ x. x ++ 44 ∷ []) tree'.text)
               ∙ joined now (canon tree'.subtree) (canon_trees (tree label kids rest))
-              ∙ ap (λ x. now ++ x) (sym (canon_front tree'.subtree label kids rest))
+              ∙ ap (λ x. now ++ x) (sym (canon_prefix tree'.subtree label kids rest))
               ∙ so.text tree'.subtree.label tree'.subtree.kids (tree label kids rest)
-              ∙ ap (λ f. before ++ canon_trees f) (sym (followed_assoc so.front (tree tree'.subtree.label tree'.subtree.kids none) (tree label kids rest)));
+              ∙ ap (λ f. before ++ canon_trees f) (sym (followed_assoc so.prefix (tree tree'.subtree.label tree'.subtree.kids none) (tree label kids rest)));
           place = λ p at t one.
               let moved = (step.place (on p at t one).here (on p at t one).at t (so.stays.course.document t one)).1 in
-              let behind_is : behind (trees_at (alone t) (on p at t one).here) ≡ trees_at (alone t) moved.0 = sym (trees_at-next (alone t) (on p at t one).here moved.0 moved.1) in
+              let after_is : after_first (trees_at (alone t) (on p at t one).here) ≡ trees_at (alone t) moved.0 = sym (trees_at-next (alone t) (on p at t one).here moved.0 moved.1) in
               record {
                 here = moved.0;
                 at = moved.2;
-                trees = (on p at t one).trees ∙ ap (followed so.front) (own_trees p at t one ∙ ap (tree tree'.subtree.label tree'.subtree.kids) behind_is)
-                    ∙ sym (followed_assoc so.front (tree tree'.subtree.label tree'.subtree.kids none) (trees_at (alone t) moved.0));
+                trees = (on p at t one).trees ∙ ap (followed so.prefix) (own_trees p at t one ∙ ap (tree tree'.subtree.label tree'.subtree.kids) after_is)
+                    ∙ sym (followed_assoc so.prefix (tree tree'.subtree.label tree'.subtree.kids none) (trees_at (alone t) moved.0));
                 cost = λ tolls.
                     let h = paid p at t one tolls in
-                    let e = ap (toll_from (trees_toll (place_toll m.course) (behind (trees_at (alone t) (on p at t one).here)))) moved.1 in
-                    let k = ap (λ f. trees_toll (place_toll m.course) f moved.0) behind_is in
+                    let e = ap (toll_from (trees_toll (place_toll m.course) (after_first (trees_at (alone t) (on p at t one).here)))) moved.1 in
+                    let k = ap (λ f. trees_toll (place_toll m.course) f moved.0) after_is in
                     omega (arith, h, e, k);
               };
         }

@@ -2,7 +2,7 @@
 use Rattle.std.proofs.Common.{◌≡◌, ◌∙◌, ◌+◌, ◌≤◌, ℕ, Bool, true, false, cond, List, Option, Some, None, refl, ap, sym, subst, arith}
 use Rattle.std.specs.Prelude.{is_some}
 use Rattle.std.specs.Str.{bytes_eq}
-use Rattle.mix_tree.specs.Forest.{Forest, none, tree, LabelledTree, alone, first_tree, first_label, behind}
+use Rattle.mix_tree.specs.Forest.{Forest, none, tree, LabelledTree, alone, first_tree, first_label, after_first}
 use Rattle.mix_tree.specs.Place.{trees_at, tree_at, has_place, next_place}
 use Rattle.mix_script.specs.Transcript.{move_answer, first_labelled, selected}
 use Rattle.mix_script.specs.declared.answer.Answer.TheVariants as answer
@@ -44,8 +44,8 @@ selected_on t label p = by_next (next_place p) refl
     there (tree other kids rest) q e = rw e refl
 
     by_next : (o : Option (List ℕ)) → next_place p ≡ o → selected t label p ≡ labelled_on t label o
-    by_next None e = nowhere (behind (trees_at (alone t) p)) e
-    by_next (Some q) e = there (behind (trees_at (alone t) p)) q e ∙ ap (λ f. labelled_from label f q) (sym (trees_at-next (alone t) p q e))
+    by_next None e = nowhere (after_first (trees_at (alone t) p)) e
+    by_next (Some q) e = there (after_first (trees_at (alone t) p)) q e ∙ ap (λ f. labelled_from label f q) (sym (trees_at-next (alone t) p q e))
 
 -- and the toll is that of the way to the next sibling and what the search costs from there on
 pub toll_on : (toll : Way → List ℕ → ℕ) (t : LabelledTree) (label p : List ℕ) → select_toll toll t label p ≡ toll Right p + ahead_on toll t label (next_place p)
@@ -64,8 +64,8 @@ toll_on toll t label p = by_next (next_place p) refl
     there (tree other kids rest) q e = rw e refl
 
     by_next : (o : Option (List ℕ)) → next_place p ≡ o → select_toll toll t label p ≡ toll Right p + ahead_on toll t label o
-    by_next None e = nowhere (behind (trees_at (alone t) p)) e
-    by_next (Some q) e = there (behind (trees_at (alone t) p)) q e ∙ ap (λ f. toll Right p + ahead_from toll label f q) (sym (trees_at-next (alone t) p q e))
+    by_next None e = nowhere (after_first (trees_at (alone t) p)) e
+    by_next (Some q) e = there (after_first (trees_at (alone t) p)) q e ∙ ap (λ f. toll Right p + ahead_from toll label f q) (sym (trees_at-next (alone t) p q e))
 
 -- a search from a node on has come to a node
 pub record IsOnWay {V W : Type 0} (m m' : Meaning V W) (fills fills' : ℕ) (label : List ℕ) (first node : V) (p : List ℕ) (t : LabelledTree) : Type 0 where
@@ -102,13 +102,13 @@ own_from : (label : List ℕ) (f : Forest) (x : List ℕ) → HasLabel label tru
 own_from label none x h = absurd h
 own_from label (tree other kids rest) x h = ap (λ b. cond b (Some x) (first_labelled label rest x)) h
 
--- where it has another, the search goes on behind it
-other_from : (label : List ℕ) (f : Forest) (x : List ℕ) → HasLabel label false f → labelled_from label f x ≡ first_labelled label (behind f) x
+-- where it has another, the search goes on after it
+other_from : (label : List ℕ) (f : Forest) (x : List ℕ) → HasLabel label false f → labelled_from label f x ≡ first_labelled label (after_first f) x
 other_from label none x h = absurd h
 other_from label (tree other kids rest) x h = ap (λ b. cond b (Some x) (first_labelled label rest x)) h
 
--- and costs what it costs behind it
-other_toll : (toll : Way → List ℕ → ℕ) (label : List ℕ) (f : Forest) (x : List ℕ) → HasLabel label false f → ahead_from toll label f x ≡ search_toll toll label (behind f) x
+-- and costs what it costs after it
+other_toll : (toll : Way → List ℕ → ℕ) (label : List ℕ) (f : Forest) (x : List ℕ) → HasLabel label false f → ahead_from toll label f x ≡ search_toll toll label (after_first f) x
 other_toll toll label none x h = absurd h
 other_toll toll label (tree other kids rest) x h = ap (λ b. cond b 0 (search_toll toll label rest x)) h
 

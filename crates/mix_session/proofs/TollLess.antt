@@ -1,6 +1,6 @@
 -- Tolls on a course that goes on did not rise.
 use Rattle.std.proofs.Common.{◌≤◌, ℕ, List, Option, Some, None, arith}
-use Rattle.mix_tree.specs.Forest.{LabelledTree, alone, first_kids, behind}
+use Rattle.mix_tree.specs.Forest.{LabelledTree, alone, first_kids, after_first}
 use Rattle.mix_tree.specs.Place.{trees_at, child_place}
 use Rattle.mix_script.specs.Names.{NamesOf}
 use Rattle.mix_script.specs.Transcript.{Names}
@@ -31,7 +31,7 @@ module _ {W : Type 0} (c d : Course W) (goes : GoesOn c d) where
 
   -- that of a search
   select_toll_less : (t : LabelledTree) (label p : List ℕ) → select_toll (place_toll d) t label p ≤ select_toll (place_toll c) t label p
-  select_toll_less t label p = search_less (place_toll c) (place_toll d) (place_toll_less c d goes) label (behind (trees_at (alone t) p)) p
+  select_toll_less t label p = search_less (place_toll c) (place_toll d) (place_toll_less c d goes) label (after_first (trees_at (alone t) p)) p
 
   -- that of a text
   print_toll_less : (t : LabelledTree) (p : List ℕ) → print_toll (place_toll d) t p ≤ print_toll (place_toll c) t p

@@ -1,6 +1,6 @@
 -- Calls of a walker, one after another.
 use Rattle.std.proofs.Common.{◌≡◌, ◌∙◌, ◌+◌, ◌≤◌, ℕ, zero, suc, List, [], ◌∷◌, Option, Some, None, option_map, Result, Ok, Err, refl, ap, subst, arith}
-use Rattle.mix_tree.specs.Forest.{Forest, first_kids, behind, from}
+use Rattle.mix_tree.specs.Forest.{Forest, first_kids, after_first, from}
 use Rattle.mix_tree.specs.Place.{trees_at, next_place}
 use Rattle.mix_base.proofs.Risen.{risen_before}
 use Rattle.lxp_core.specs.declared.fault.WalkFault.{WalkFault}
@@ -48,23 +48,23 @@ cause_before c d g before mid after rises (found.Node n) h = tt
 cause_before c d g before mid after rises found.None h = tt
 cause_before c d g before mid after rises (found.Fault s) h = (g.may s h.0, risen_before (before s) (mid s) (after s) (rises s) h.1)
 
--- the trees at the next place are those behind the first
-pub trees_at-next : (f : Forest) (p q : List ℕ) → next_place p ≡ Some q → trees_at f q ≡ behind (trees_at f p)
+-- the trees at the next place are those after the first
+pub trees_at-next : (f : Forest) (p q : List ℕ) → next_place p ≡ Some q → trees_at f q ≡ after_first (trees_at f p)
 trees_at-next f [] q e = cc
-trees_at-next f (i ∷ []) q e = let is : (i + 1) ∷ [] ≡ q = some_is ((i + 1) ∷ []) q e in subst (λ r. trees_at f r ≡ behind (trees_at f (i ∷ []))) is (one_more i (first_kids f))
+trees_at-next f (i ∷ []) q e = let is : (i + 1) ∷ [] ≡ q = some_is ((i + 1) ∷ []) q e in subst (λ r. trees_at f r ≡ after_first (trees_at f (i ∷ []))) is (one_more i (first_kids f))
   where
     some_is : (x y : List ℕ) → Some x ≡ Some y → x ≡ y
     some_is x y h = cc
 
-    one_more : (k : ℕ) (g : Forest) → from (k + 1) g ≡ behind (from k g)
+    one_more : (k : ℕ) (g : Forest) → from (k + 1) g ≡ after_first (from k g)
     one_more zero g = refl
-    one_more (suc k) g = let e : suc k + 1 ≡ suc (k + 1) = omega arith in ap (λ n. from n g) e ∙ one_more k (behind g)
+    one_more (suc k) g = let e : suc k + 1 ≡ suc (k + 1) = omega arith in ap (λ n. from n g) e ∙ one_more k (after_first g)
 trees_at-next f (i ∷ j ∷ p) q e = deeper (next_place (j ∷ p)) (λ r z. trees_at-next (from i (first_kids f)) (j ∷ p) r z) refl e
   where
-    deeper : (o : Option (List ℕ)) → ((r : List ℕ) → next_place (j ∷ p) ≡ Some r → trees_at (from i (first_kids f)) r ≡ behind (trees_at f (i ∷ j ∷ p)))
-        → next_place (j ∷ p) ≡ o → option_map (λ r. i ∷ r) o ≡ Some q → trees_at f q ≡ behind (trees_at f (i ∷ j ∷ p))
+    deeper : (o : Option (List ℕ)) → ((r : List ℕ) → next_place (j ∷ p) ≡ Some r → trees_at (from i (first_kids f)) r ≡ after_first (trees_at f (i ∷ j ∷ p)))
+        → next_place (j ∷ p) ≡ o → option_map (λ r. i ∷ r) o ≡ Some q → trees_at f q ≡ after_first (trees_at f (i ∷ j ∷ p))
     deeper None more h k = cc
-    deeper (Some r) more h k = let is : i ∷ r ≡ q = cc in subst (λ x. trees_at f x ≡ behind (trees_at f (i ∷ j ∷ p))) is (more r h)
+    deeper (Some r) more h k = let is : i ∷ r ≡ q = cc in subst (λ x. trees_at f x ≡ after_first (trees_at f (i ∷ j ∷ p))) is (more r h)
 
 -- a walk goes on where there is no call
 pub goes_on_same : {W : Type 0} (c : Course W) → GoesOn c c

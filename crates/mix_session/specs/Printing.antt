@@ -28,7 +28,7 @@ FailsBy MayFail before after (Ok x) = Unit {0}
 FailsBy MayFail before after (Err (Failed s)) = MayFail s × HasRisen (before s) (after s)
 FailsBy MayFail before after (Err OutOfMemory) = Unit {0}
 
--- the canonical text of a tree was put behind a text; where a node stands at a place of the document, it is the subtree there
+-- the canonical text of a tree was put after a text; where a node stands at a place of the document, it is the subtree there
 pub record PrintsTree {V W : Type 0} (m : Meaning V W) (n : V) (before after : List ℕ) : Type 0 where
   pub subtree : LabelledTree
   pub text : after ≡ before ++ canon subtree
@@ -71,31 +71,31 @@ IsPrinted m before after n (answer.Text x) = PrintsTree m n [] x
 IsPrinted m before after n answer.NoNode = ⊥
 IsPrinted m before after n (answer.Fault s) = m.course.MayFail s × HasRisen (before s) (after s)
 
--- the mark behind a label: an opening bracket where there is a first child
+-- the mark after a label: an opening bracket where there is a first child
 abbrev pub opening : {V : Type 0} → Option V → List ℕ
 opening None = []
 opening (Some n) = 91 ∷ []
 
--- the mark behind a tree: a comma where there is a next sibling, and a closing bracket where there is none
+-- the mark after a tree: a comma where there is a next sibling, and a closing bracket where there is none
 abbrev pub closing : {V : Type 0} → Option V → List ℕ
 closing None = 93 ∷ []
 closing (Some n) = 44 ∷ []
 
--- the label of a node was put behind a text, and an opening bracket where it has a first child
+-- the label of a node was put after a text, and an opening bracket where it has a first child
 pub record OpensTree {V W : Type 0} (m m' : Meaning V W) (n : V) (before after : List ℕ) (r : Option V) : Type 0 where
   pub label : List ℕ
   pub reads : ReadsLabel m n label
   pub text : after ≡ (before ++ spelling label) ++ opening r
   pub step : IsStepTo m m' Down n r
 
--- the text of the subtree of a node was put behind a text, and the mark behind a tree
+-- the text of the subtree of a node was put after a text, and the mark after a tree
 pub record PrintsOne {V W : Type 0} (m m' : Meaning V W) (n : V) (before after : List ℕ) (r : Option V) : Type 0 where
   pub inner : List ℕ
   pub tree : PrintsTree m n before inner
   pub text : after ≡ inner ++ closing r
   pub step : IsStepTo m m' Right n r
 
--- the texts of the subtrees of a node and of its later siblings were put behind a text, with the closing bracket
+-- the texts of the subtrees of a node and of its later siblings were put after a text, with the closing bracket
 pub record PrintsBelow {V W : Type 0} (m : Meaning V W) (n : V) (before after : List ℕ) : Type 0 where
   pub inner : List ℕ
   pub trees : PrintsTrees m n before inner

@@ -1,7 +1,7 @@
 -- What it costs to search siblings and to print a subtree, where a way from each place of the document has a toll.
 use Rattle.std.specs.Prelude.{ℕ, ◌+◌, cond, List, Option, Some, None}
 use Rattle.std.specs.Str.{bytes_eq}
-use Rattle.mix_tree.specs.Forest.{Forest, none, tree, LabelledTree, alone, first_kids, behind}
+use Rattle.mix_tree.specs.Forest.{Forest, none, tree, LabelledTree, alone, first_kids, after_first}
 use Rattle.mix_tree.specs.Place.{trees_at, child_place, next_place}
 use Rattle.mix_script.specs.declared.step.Way.{Way}
 use Rattle.mix_script.specs.declared.step.Way.TheVariants.{Down, Right}
@@ -12,7 +12,7 @@ toll_from toll None = 0
 toll_from toll (Some x) = toll x
 
 -- the tolls of the ways to the right from a node at a place with these later siblings: up to the first one with a label, or
--- to the last one and the way behind it
+-- to the last one and the way after it
 abbrev pub search_toll : (Way → List ℕ → ℕ) → List ℕ → Forest → List ℕ → ℕ
 search_toll toll label none place = toll Right place
 search_toll toll label (tree other kids rest) place =
@@ -20,7 +20,7 @@ search_toll toll label (tree other kids rest) place =
 
 -- the toll of a search from a place of a tree for the first later sibling with a label
 abbrev pub select_toll : (Way → List ℕ → ℕ) → LabelledTree → List ℕ → List ℕ → ℕ
-select_toll toll t label place = search_toll toll label (behind (trees_at (alone t) place)) place
+select_toll toll t label place = search_toll toll label (after_first (trees_at (alone t) place)) place
 
 -- the tolls of the ways down and to the right from each node of these trees, the first of which stands at a place
 abbrev pub trees_toll : (Way → List ℕ → ℕ) → Forest → List ℕ → ℕ

@@ -38,7 +38,7 @@ fn step<W: Walker, S: Sources>(
     }
 }
 
-// Puts an opening bracket behind a text where there is a first child.
+// Puts an opening bracket after a text where there is a first child.
 fn put_opening<N: Drop>(first: Option<N>, text: &mut Vec<u8>) -> Result<Option<N>, AllocError>
     ensures { IfOk result (λ r. (r ≡ first) × (text.new.items ≡ text.old.items ++ opening first)) }
 {
@@ -48,7 +48,7 @@ fn put_opening<N: Drop>(first: Option<N>, text: &mut Vec<u8>) -> Result<Option<N
     Ok(first)
 }
 
-// Puts behind a tree's text a comma where there is a next sibling, and a closing bracket where there is none.
+// Puts after a tree's text a comma where there is a next sibling, and a closing bracket where there is none.
 fn put_closing<N: Drop>(next: Option<N>, text: &mut Vec<u8>) -> Result<Option<N>, AllocError>
     ensures { IfOk result (λ r. (r ≡ next) × (text.new.items ≡ text.old.items ++ closing next)) }
 {
@@ -56,7 +56,7 @@ fn put_closing<N: Drop>(next: Option<N>, text: &mut Vec<u8>) -> Result<Option<N>
     Ok(next)
 }
 
-// Puts the label of a node behind a text, and an opening bracket where it has children: the first of these.
+// Puts the label of a node after a text, and an opening bracket where it has children: the first of these.
 fn open_tree<W: Walker, S: Sources>(
     alloc: Global,
     s: &mut S,
@@ -79,7 +79,7 @@ fn open_tree<W: Walker, S: Sources>(
     Ok(put_opening(first, text)?)
 }
 
-// The next sibling of a node; a comma was put behind a text where there is one, and a closing bracket where there is none.
+// The next sibling of a node; a comma was put after a text where there is one, and a closing bracket where there is none.
 fn next_tree<W: Walker, S: Sources>(
     alloc: Global,
     s: &mut S,
@@ -100,7 +100,7 @@ fn next_tree<W: Walker, S: Sources>(
     Ok(put_closing(next, text)?)
 }
 
-// Puts the canonical text of the subtree of a node behind a text.
+// Puts the canonical text of the subtree of a node after a text.
 #[cycle(printing)]
 fn print_tree<W: Walker, S: Sources>(
     alloc: Global,
@@ -124,7 +124,7 @@ fn print_tree<W: Walker, S: Sources>(
     }
 }
 
-// Puts the text of the subtree of a node behind a text, and what stands behind it: its next sibling.
+// Puts the text of the subtree of a node after a text, and what stands after it: its next sibling.
 #[cycle(printing)]
 fn print_one<W: Walker, S: Sources>(
     alloc: Global,
@@ -147,7 +147,7 @@ fn print_one<W: Walker, S: Sources>(
     next_tree(alloc, s, walker, n, text)
 }
 
-// Puts the texts of the subtrees of a node and of its later siblings behind a text, with commas between them and a closing bracket.
+// Puts the texts of the subtrees of a node and of its later siblings after a text, with commas between them and a closing bracket.
 #[cycle(printing)]
 fn print_trees<W: Walker, S: Sources>(
     alloc: Global,

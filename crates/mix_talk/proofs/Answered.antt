@@ -2,7 +2,7 @@
 use Rattle.std.proofs.Common.{◌≡◌, ◌∙◌, inl, inr, ◌+◌, ◌<◌, ◌≤◌, ℕ, Bool, ◌||◌, List, [], ◌∷◌, ◌++◌, Option, Result, Err, refl, ap, sym, subst, arith, length, append_assoc, length-append}
 use Rattle.std.specs.declared.alloc.AllocError.{AllocError}
 use Rattle.mix_base.proofs.Lists.{append_nil}
-use Rattle.mix_io.specs.Contents.{Appends, AppendsFront}
+use Rattle.mix_io.specs.Contents.{Appends, AppendsPrefix}
 use Rattle.mix_io.specs.Input.{InputView}
 use Rattle.mix_io.specs.Views.{SinkView}
 use Rattle.mix_io.proofs.Written.{one_more}
@@ -15,7 +15,7 @@ use Rattle.mix_script.specs.declared.answer.Answer.{Answer}
 use Rattle.mix_script.proofs.Answering.{has_fault_push}
 use Rattle.mix_session.specs.Meaning.{Course, Meaning}
 use Rattle.mix_session.specs.Stepped.{IsStep, Stepped}
-use Rattle.mix_lines.specs.Cuts.{WroteFront, IsStepCut}
+use Rattle.mix_lines.specs.Cuts.{WrotePrefix, IsStepCut}
 use Rattle.mix_lines.specs.Lines.{IsRun, IsLazy}
 use Rattle.mix_lines.specs.Written.{IsSoFar}
 use Rattle.mix_lines.specs.declared.fault.LinesFault.{LinesFault}
@@ -28,7 +28,7 @@ use Rattle.mix_talk.specs.Lines.{spoken}
 use Rattle.mix_talk.specs.declared.fault.TalkFault.TheVariants.{SinkFailed, OutOfMemory}
 use Rattle.mix_talk.specs.declared.reader.LineReader.{LineReader}
 use Rattle.mix_talk.proofs.Telling.{steps_append, spoken_append}
-use Rattle.mix_talk.proofs.Talking.{IsTalking, all_asks, all_steps, front, talk_ends}
+use Rattle.mix_talk.proofs.Talking.{IsTalking, all_asks, all_steps, prefix, talk_ends}
 
 module _ {V W : Type 0} (c : Course W) (m : Meaning V W) (old now : View) (values : NamesOf V) (names : List (List ℕ)) (input mid : InputView) (r : LineReader) (sink between : SinkView) (marked : Bool) where
   module _ (s : Step) (far : IsTalking c m old now values names input mid r sink.written between.written marked (step s ∷ [])) where
@@ -92,13 +92,13 @@ module _ {V W : Type 0} (c : Course W) (m : Meaning V W) (old now : View) (value
               marks = ap (λ k. k || is_fault a) far.marks ∙ sym (has_fault_push far.answers a);
             }
 
-        -- a front of its line was written
-        within_line : (sink' : SinkView) → WroteFront (λ x. x ≡ a) names s.client between sink'
+        -- a prefix of its line was written
+        within_line : (sink' : SinkView) → WrotePrefix (λ x. x ≡ a) names s.client between sink'
             → StopsWithin (IsRun c old.faults v'.faults (steps_in (heard far.bytes))) (IsLazy c old.fills v'.fills (steps_in (heard far.bytes))) names (heard far.bytes) sink sink'
         within_line sink' w =
             let line = spoken names (step s ∷ []) (a ∷ []) in
             let whole : line_of names s.client w.a ≡ line = ap (line_of names s.client) w.answer ∙ sym (append_nil (line_of names s.client a)) in
-            let written = front sink.written between.written sink'.written (spoken names far.done far.answers) line far.written (subst (AppendsFront between.written sink'.written) whole w.written) in
+            let written = prefix sink.written between.written sink'.written (spoken names far.done far.answers) line far.written (subst (AppendsPrefix between.written sink'.written) whole w.written) in
             record {
               done = far.done;
               next = step s;

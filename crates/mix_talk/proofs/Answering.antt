@@ -81,7 +81,7 @@ module _ {U P V X : Type 0} (s s' : U) (session session' : P) (view : U → View
 
   module _ (taken : InputView) (reader : LineReader) (far : IsTalking c (means s session) old (view s) (values session) names input taken reader sink.written between.written marked [])
       (read : LineRead) (reads : Reads taken mid reader r (Some read)) where
-    -- a line was read behind those that were answered
+    -- a line was read after those that were answered
     comes : Next (next_asks (Some read))
     comes = talking_read c (means s session) old (view s) (values session) names input taken reader sink between marked mid r (Some read) far reads
 

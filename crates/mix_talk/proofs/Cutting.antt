@@ -56,11 +56,11 @@ some_part part body e = let long = ap (λ (xs : List ℕ). length xs) e ∙ leng
 not_both : {b : Bool} → b ≡ false → b ≡ true → ⊥
 not_both h k = let e : false ≡ true = sym h ∙ k in cc
 
--- a front of a front with more behind it
-front_again : (n : ℕ) (xs ys : List ℕ) → take n (take n xs ++ ys) ≡ take n (xs ++ ys)
-front_again zero xs ys = refl
-front_again (suc n) [] ys = refl
-front_again (suc n) (x ∷ xs) ys = ap (λ r. x ∷ r) (front_again n xs ys)
+-- a prefix of a prefix with more after it
+prefix_again : (n : ℕ) (xs ys : List ℕ) → take n (take n xs ++ ys) ≡ take n (xs ++ ys)
+prefix_again zero xs ys = refl
+prefix_again (suc n) [] ys = refl
+prefix_again (suc n) (x ∷ xs) ys = ap (λ r. x ∷ r) (prefix_again n xs ys)
 
 -- a reader begins with a line
 pub cutting_start : (input : InputView) (r : LineReader) → IsReaderOf input r → IsCutting input input r r []
@@ -81,12 +81,12 @@ module _ (old now : InputView) (r r' : LineReader) (line : List ℕ) (cut : IsCu
   pub kept_length : length line ≤ 1048578
   kept_length = let long = ap (λ (xs : List ℕ). length xs) cut.kept ∙ length-take 1048578 cut.body in omega (arith, long)
 
-  -- what is kept with a part behind it
+  -- what is kept with a part after it
   kept_more : (page line' : List ℕ) (whole : Bool) → (moved : Moved r'.page page line line' whole) → line' ≡ take 1048578 (cut.body ++ moved.part)
   kept_more page line' whole moved =
-      moved.kept ∙ ap (λ l. take 1048578 (l ++ moved.part)) cut.kept ∙ front_again 1048578 cut.body moved.part
+      moved.kept ∙ ap (λ l. take 1048578 (l ++ moved.part)) cut.kept ∙ prefix_again 1048578 cut.body moved.part
 
-  -- what was taken is the body, the part behind it, and what is left of the page
+  -- what was taken is the body, the part after it, and what is left of the page
   cut_more : (page line' : List ℕ) (whole : Bool) → (moved : Moved r'.page page line line' whole) → r.page ++ cut.bytes ≡ (cut.body ++ moved.part) ++ page
   cut_more page line' whole moved = cut.cut ∙ ap (λ p. cut.body ++ p) moved.cut ∙ sym (append_assoc cut.body moved.part page)
 

@@ -1,7 +1,7 @@
--- What lines ask for, of which only a front is kept where they are too long.
+-- What lines ask for, of which only a prefix is kept where they are too long.
 use Rattle.std.proofs.Common.{◌≡◌, ◌<◌, ◌≤◌, ◌+◌, ◌-◌, ◌∙◌, inr, ℕ, zero, suc, Bool, true, false, cond, nat_lt, ◌==◌, List, [], ◌∷◌, ◌++◌, None, refl, ap, sym, subst, arith, length, take, drop, get_or, slice_index, slice_range, append_assoc, length-append}
 use Rattle.std.proofs.lemmas.List.{take_all, take-append-le, length-take-le}
-use Rattle.mix_base.proofs.Lists.{append_nil, front_is}
+use Rattle.mix_base.proofs.Lists.{append_nil, prefix_is}
 use Rattle.mix_words.specs.Lines.{lines_of, without_cr}
 use Rattle.mix_words.proofs.LineCuts.{is_lf, line_cut, last_line}
 use Rattle.mix_words.proofs.Pieces.{Free}
@@ -14,32 +14,32 @@ free : (text : List ℕ) → HasNoLf text → Free is_lf text
 free [] h = tt
 free (b ∷ bs) h = (h.0, free bs h.1)
 
--- one text behind another
+-- one text after another
 pub no_lf_append : (xs ys : List ℕ) → HasNoLf xs → HasNoLf ys → HasNoLf (xs ++ ys)
 no_lf_append [] ys h k = k
 no_lf_append (b ∷ bs) ys h k = (h.0, no_lf_append bs ys h.1 k)
 
--- a front
+-- a prefix
 pub no_lf_take : (n : ℕ) (xs : List ℕ) → HasNoLf xs → HasNoLf (take n xs)
 no_lf_take zero xs h = tt
 no_lf_take (suc n) [] h = tt
 no_lf_take (suc n) (b ∷ bs) h = (h.0, no_lf_take n bs h.1)
 
--- the byte behind a text
-byte_behind : (body more : List ℕ) (b : ℕ) → get_or (body ++ b ∷ more) (length body) 0 ≡ b
-byte_behind [] more b = refl
-byte_behind (c ∷ body) more b = let e : length (c ∷ body) ≡ suc (length body) = omega arith in ap (λ n. get_or (c ∷ body ++ b ∷ more) n 0) e ∙ byte_behind body more b
+-- the byte after a text
+byte_after : (body more : List ℕ) (b : ℕ) → get_or (body ++ b ∷ more) (length body) 0 ≡ b
+byte_after [] more b = refl
+byte_after (c ∷ body) more b = let e : length (c ∷ body) ≡ suc (length body) = omega arith in ap (λ n. get_or (c ∷ body ++ b ∷ more) n 0) e ∙ byte_after body more b
 
--- what stands behind that
-rest_behind : (body more : List ℕ) (b : ℕ) → drop (length body + 1) (body ++ b ∷ more) ≡ more
-rest_behind [] more b = let e : 0 + 1 ≡ 1 = omega arith in ap (λ n. drop n (b ∷ more)) e
-rest_behind (c ∷ body) more b = let e : length (c ∷ body) + 1 ≡ suc (length body + 1) = omega arith in ap (λ n. drop n (c ∷ body ++ b ∷ more)) e ∙ rest_behind body more b
+-- what stands after that
+rest_after : (body more : List ℕ) (b : ℕ) → drop (length body + 1) (body ++ b ∷ more) ≡ more
+rest_after [] more b = let e : 0 + 1 ≡ 1 = omega arith in ap (λ n. drop n (b ∷ more)) e
+rest_after (c ∷ body) more b = let e : length (c ∷ body) + 1 ≡ suc (length body + 1) = omega arith in ap (λ n. drop n (c ∷ body ++ b ∷ more)) e ∙ rest_after body more b
 
 -- the lines of a text with an LF in it
 lines_with_lf : (body more : List ℕ) → HasNoLf body → lines_of (body ++ 10 ∷ more) ≡ without_cr body ∷ lines_of more
 lines_with_lf body more none =
-    sym (line_cut text 0 at [] (without_cr (slice_range text 0 at) ∷ []) (lines_of text) (omega arith) inside (subst (Free is_lf) (sym front) (free body none)) lf refl refl)
-    ∙ ap (λ l. without_cr l ∷ lines_of (drop (at + 1) text)) front ∙ ap (λ l. without_cr body ∷ lines_of l) behind
+    sym (line_cut text 0 at [] (without_cr (slice_range text 0 at) ∷ []) (lines_of text) (omega arith) inside (subst (Free is_lf) (sym prefix) (free body none)) lf refl refl)
+    ∙ ap (λ l. without_cr l ∷ lines_of (drop (at + 1) text)) prefix ∙ ap (λ l. without_cr body ∷ lines_of l) after
   where
     text : List ℕ
     text = body ++ 10 ∷ more
@@ -50,14 +50,14 @@ lines_with_lf body more none =
     inside : at < length text
     inside = omega (arith, length-append body (10 ∷ more))
 
-    front : slice_range text 0 at ≡ body
-    front = front_is body more 10 (at - 0) (omega arith)
+    prefix : slice_range text 0 at ≡ body
+    prefix = prefix_is body more 10 (at - 0) (omega arith)
 
     lf : is_lf (slice_index text at) ≡ true
-    lf = subst (λ b. is_lf b ≡ true) (sym (byte_behind body more 10)) refl
+    lf = subst (λ b. is_lf b ≡ true) (sym (byte_after body more 10)) refl
 
-    behind : drop (at + 1) text ≡ more
-    behind = rest_behind body more 10
+    after : drop (at + 1) text ≡ more
+    after = rest_after body more 10
 
 -- what a text asks for with an LF in it
 pub heard_line : (body more : List ℕ) → HasNoLf body → heard (body ++ 10 ∷ more) ≡ line_asks (without_cr body) ++ heard more
@@ -81,23 +81,23 @@ cr_length [] = omega arith
 cr_length (b ∷ []) = omega arith
 cr_length (b ∷ c ∷ bs) = let h = cr_length (c ∷ bs) in omega (arith, h)
 
--- what stands behind the first LF
-abbrev behind_lf : List ℕ → List ℕ
-behind_lf [] = []
-behind_lf (b ∷ bs) = cond (b == 10) bs (behind_lf bs)
+-- what stands after the first LF
+abbrev after_lf : List ℕ → List ℕ
+after_lf [] = []
+after_lf (b ∷ bs) = cond (b == 10) bs (after_lf bs)
 
 -- a line that is too long asks for one thing, however it goes on
-long_asks : (line more : List ℕ) → HasNoLf line → 1048577 < length line → heard (line ++ more) ≡ no_form ∷ heard (behind_lf more)
+long_asks : (line more : List ℕ) → HasNoLf line → 1048577 < length line → heard (line ++ more) ≡ no_form ∷ heard (after_lf more)
 long_asks line [] none long = ap heard (append_nil line) ∙ heard_last line none (omega (arith, long)) ∙ long_line line (omega (arith, long))
 long_asks line (b ∷ bs) none long = by_lf (b == 10) refl (λ h. long_asks (line ++ b ∷ []) bs h (omega (arith, long, length-append line (b ∷ []))))
   where
-    by_lf : (lf : Bool) → b == 10 ≡ lf → (HasNoLf (line ++ b ∷ []) → heard ((line ++ b ∷ []) ++ bs) ≡ no_form ∷ heard (behind_lf bs)) → heard (line ++ b ∷ bs) ≡ no_form ∷ heard (cond lf bs (behind_lf bs))
+    by_lf : (lf : Bool) → b == 10 ≡ lf → (HasNoLf (line ++ b ∷ []) → heard ((line ++ b ∷ []) ++ bs) ≡ no_form ∷ heard (after_lf bs)) → heard (line ++ b ∷ bs) ≡ no_form ∷ heard (cond lf bs (after_lf bs))
     by_lf true e later =
         let is : b ≡ 10 = grind arith in
         ap (λ c. heard (line ++ c ∷ bs)) is ∙ heard_line line bs none ∙ ap (λ asks. asks ++ heard bs) (long_line (without_cr line) (omega (arith, long, cr_length line)))
     by_lf false e later = ap heard (sym (append_assoc line (b ∷ []) bs)) ∙ later (no_lf_append line (b ∷ []) none (e, tt))
 
--- a text of which a front is kept asks for the same, however it goes on
+-- a text of which a prefix is kept asks for the same, however it goes on
 pub kept_asks : (line more : List ℕ) → HasNoLf line → heard (take 1048578 line ++ more) ≡ heard (line ++ more)
 kept_asks line more none = by_length (nat_lt 1048578 (length line)) refl
   where
@@ -108,7 +108,7 @@ kept_asks line more none = by_length (nat_lt 1048578 (length line)) refl
         long_asks (take 1048578 line) more (no_lf_take 1048578 line none) (omega (arith, kept)) ∙ sym (long_asks line more none (omega (arith, long)))
     by_length false e = let short : length line ≤ 1048578 = grind arith in ap (λ l. heard (l ++ more)) (take_all 1048578 line short)
 
--- a line with its end, of which a front is kept, is one line, and asks for the same
+-- a line with its end, of which a prefix is kept, is one line, and asks for the same
 pub kept_line : (line : List ℕ) → HasNoLf line → IsLine (take 1048578 (line ++ 10 ∷ [])) × (0 < length (take 1048578 (line ++ 10 ∷ [])))
     × ((more : List ℕ) → heard (line ++ 10 ∷ more) ≡ heard (take 1048578 (line ++ 10 ∷ [])) ++ heard more)
 kept_line line none = by_length (nat_lt (length line) 1048578) refl

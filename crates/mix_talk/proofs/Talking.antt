@@ -1,7 +1,7 @@
 -- A talk begins, and reads one line further.
 use Rattle.std.proofs.Common.{◌≡◌, ◌∙◌, inl, inr, ℕ, Bool, true, false, ◌||◌, List, [], ◌∷◌, ◌++◌, Option, Some, None, Result, Err, refl, ap, sym, subst, arith, length, take, append_assoc}
 use Rattle.mix_base.proofs.Lists.{append_nil}
-use Rattle.mix_io.specs.Contents.{Appends, AppendsFront}
+use Rattle.mix_io.specs.Contents.{Appends, AppendsPrefix}
 use Rattle.mix_io.specs.Input.{InputView, Took}
 use Rattle.mix_io.specs.Views.{SinkView}
 use Rattle.lxp_core.specs.View.{View}
@@ -55,19 +55,19 @@ appends_nothing : (before : Option (List ℕ)) → Appends before before []
 appends_nothing None = refl
 appends_nothing (Some w) = ap Some (sym (append_nil w))
 
--- what was written, with a front of a line
-pub front : (o now after : Option (List ℕ)) (lines line : List ℕ) → Appends o now lines → AppendsFront now after line → (count : ℕ) × Appends o after (lines ++ take count line)
-front None now after lines line h k = (0, subst (λ (m : Option (List ℕ)). AppendsFront m after line) h k)
-front (Some w) now after lines line h k =
-    let cut : (n : ℕ) × (after ≡ Some ((w ++ lines) ++ take n line)) = subst (λ (m : Option (List ℕ)). AppendsFront m after line) h k in
+-- what was written, with a prefix of a line
+pub prefix : (o now after : Option (List ℕ)) (lines line : List ℕ) → Appends o now lines → AppendsPrefix now after line → (count : ℕ) × Appends o after (lines ++ take count line)
+prefix None now after lines line h k = (0, subst (λ (m : Option (List ℕ)). AppendsPrefix m after line) h k)
+prefix (Some w) now after lines line h k =
+    let cut : (n : ℕ) × (after ≡ Some ((w ++ lines) ++ take n line)) = subst (λ (m : Option (List ℕ)). AppendsPrefix m after line) h k in
     (cut.0, cut.1 ∙ ap Some (append_assoc w lines (take cut.0 line)))
 
--- a list is empty where it is with another behind it
+-- a list is empty where it is with another after it
 first_none : (xs ys : List ℕ) → xs ++ ys ≡ [] → xs ≡ []
 first_none [] ys e = refl
 first_none (x ∷ xs) ys e = cc
 
--- a text is whole with a whole line behind it
+-- a text is whole with a whole line after it
 whole_more : (text line : List ℕ) → EndsInLf line → AreWhole (text ++ line)
 whole_more text line end = inr (text ++ end.0, ap (λ l. text ++ l) end.1 ∙ sym (append_assoc text end.0 (10 ∷ [])))
 

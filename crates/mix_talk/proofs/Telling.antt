@@ -1,8 +1,8 @@
 -- The lines of a talk over a document that is told.
 use Rattle.std.proofs.Common.{◌≡◌, ◌∙◌, inl, inr, ◌+◌, ℕ, Bool, List, [], ◌∷◌, ◌++◌, Option, Some, None, Result, Ok, Err, refl, ap, sym, subst, arith, length, take, append_assoc, length-append}
-use Rattle.mix_base.proofs.Lists.{append_nil, take_append, take_front}
+use Rattle.mix_base.proofs.Lists.{append_nil, take_append, take_prefix}
 use Rattle.mix_tree.specs.Forest.{LabelledTree}
-use Rattle.mix_io.specs.Contents.{Appends, AppendsFront}
+use Rattle.mix_io.specs.Contents.{Appends, AppendsPrefix}
 use Rattle.mix_io.specs.Input.{InputView}
 use Rattle.mix_io.specs.Views.{SinkView}
 use Rattle.mix_script.specs.Names.{no_names}
@@ -66,16 +66,16 @@ spoken_more sources (step s ∷ asked) (a ∷ answers) more =
     let rest = spoken_more sources asked answers more in
     (rest.0, ap (λ r. line_of sources s.client a ++ r) rest.1 ∙ sym (append_assoc (line_of sources s.client a) (spoken sources asked answers) rest.0))
 
--- a front of lines is a front of those that begin with them
-front_of_more : (before after : Option (List ℕ)) (lines rest whole : List ℕ) (n : ℕ) → lines ++ rest ≡ whole → Appends before after (take n lines) → AppendsFront before after whole
-front_of_more None after lines rest whole n e h = h
-front_of_more (Some b) after lines rest whole n e h =
-    let front = take_front n lines rest in
-    (front.0, h ∙ ap (λ r. Some (b ++ r)) (front.1 ∙ ap (take front.0) e))
+-- a prefix of lines is a prefix of those that begin with them
+prefix_of_more : (before after : Option (List ℕ)) (lines rest whole : List ℕ) (n : ℕ) → lines ++ rest ≡ whole → Appends before after (take n lines) → AppendsPrefix before after whole
+prefix_of_more None after lines rest whole n e h = h
+prefix_of_more (Some b) after lines rest whole n e h =
+    let prefix = take_prefix n lines rest in
+    (prefix.0, h ∙ ap (λ r. Some (b ++ r)) (prefix.1 ∙ ap (take prefix.0) e))
 
--- a whole list is a front of itself
-whole_front : (lines : List ℕ) → lines ≡ take (length lines + 0) lines
-whole_front lines = sym (append_nil lines) ∙ sym (take_append lines [] 0) ∙ ap (take (length lines + 0)) (append_nil lines)
+-- a whole list is a prefix of itself
+whole_prefix : (lines : List ℕ) → lines ≡ take (length lines + 0) lines
+whole_prefix lines = sym (append_nil lines) ∙ sym (take_append lines [] 0) ∙ ap (take (length lines + 0)) (append_nil lines)
 
 module _ (Are Cost : List Answer → Type 0) (t : LabelledTree) (names : List (List ℕ)) (heard : List Heard) (input input' : InputView) (before after : SinkView) (roots : Bool) (MayFail : ℕ → Type 0)
     (allowed : (answers : List Answer) → Are answers → AreAnswers roots MayFail no_names answers (steps_in heard)) (of : (answers : List Answer) → Are answers → AreOf t no_names answers (steps_in heard)) where
@@ -83,7 +83,7 @@ module _ (Are Cost : List Answer → Type 0) (t : LabelledTree) (names : List (L
   on_tree : (answers : List Answer) → Are answers → AreLinesOn roots t names heard (talk_transcript t names (marks_of answers) heard)
   on_tree answers h = record { marks = marks_of answers; allowed = answers_show_marks roots MayFail t answers (steps_in heard) (allowed answers h) (of answers h); are = refl }
 
-  -- what is left of all lines behind those of the first that was heard
+  -- what is left of all lines after those of the first that was heard
   rest_of : (answers : List Answer) → Are answers → (done later : List Heard) → heard ≡ done ++ later → length answers ≡ length (steps_in done)
       → (rest : List ℕ) × (spoken names done answers ++ rest ≡ talk_transcript t names (marks_of answers) heard)
   rest_of answers are done later parts all =
@@ -92,22 +92,22 @@ module _ (Are Cost : List Answer → Type 0) (t : LabelledTree) (names : List (L
       ap (λ h. spoken names h answers) parts ∙ ap (spoken names (done ++ later)) (sym (append_nil answers)) ∙ spoken_append names done later answers [] all in
       (spoken names later [] ++ begin.0, sym (append_assoc (spoken names done answers) (spoken names later []) begin.0) ∙ ap (λ l. l ++ begin.0) (sym lines) ∙ begin.1)
 
-  -- a front of the lines of a tree was written
-  abbrev FrontOn : Type 0
-  FrontOn = (lines : List ℕ) × AreLinesOn roots t names heard lines × AppendsFront before.written after.written lines
+  -- a prefix of the lines of a tree was written
+  abbrev PrefixOn : Type 0
+  PrefixOn = (lines : List ℕ) × AreLinesOn roots t names heard lines × AppendsPrefix before.written after.written lines
 
   -- the lines of the first that was heard were written
-  between : StopsBetween Are Cost names heard before after → FrontOn
+  between : StopsBetween Are Cost names heard before after → PrefixOn
   between w =
       let lines = spoken names w.done w.answers in
       let rest = rest_of w.answers w.are w.done w.later w.parts w.all in (
         talk_transcript t names (marks_of w.answers) heard,
         on_tree w.answers w.are,
-        front_of_more before.written after.written lines rest.0 _ (length lines + 0) rest.1 (subst (Appends before.written after.written) (whole_front lines) w.written),
+        prefix_of_more before.written after.written lines rest.0 _ (length lines + 0) rest.1 (subst (Appends before.written after.written) (whole_prefix lines) w.written),
       )
 
-  -- and a front of the next
-  within : StopsWithin Are Cost names heard before after → FrontOn
+  -- and a prefix of the next
+  within : StopsWithin Are Cost names heard before after → PrefixOn
   within w =
       let answers = w.answers ++ w.last in
       let done = w.done ++ w.next ∷ [] in
@@ -117,7 +117,7 @@ module _ (Are Cost : List Answer → Type 0) (t : LabelledTree) (names : List (L
       let line = spoken names (w.next ∷ []) w.last in (
         talk_transcript t names (marks_of answers) heard,
         on_tree answers w.are,
-        front_of_more before.written after.written (lines ++ line) rest.0 _ (length lines + w.count) (ap (λ l. l ++ rest.0) (sym (spoken_append names w.done (w.next ∷ []) w.answers w.last w.all)) ∙ rest.1)
+        prefix_of_more before.written after.written (lines ++ line) rest.0 _ (length lines + w.count) (ap (λ l. l ++ rest.0) (sym (spoken_append names w.done (w.next ∷ []) w.answers w.last w.all)) ∙ rest.1)
             (subst (Appends before.written after.written) (sym (take_append lines line w.count)) w.written),
       )
     where

@@ -1,7 +1,7 @@
 -- A line of no form in a talk.
 use Rattle.std.proofs.Common.{◌≡◌, ◌∙◌, inr, ◌≤◌, ℕ, Bool, List, [], ◌∷◌, ◌++◌, Option, Err, refl, ap, sym, subst, arith, length, append_assoc}
 use Rattle.mix_base.proofs.Lists.{append_nil}
-use Rattle.mix_io.specs.Contents.{Appends, AppendsFront}
+use Rattle.mix_io.specs.Contents.{Appends, AppendsPrefix}
 use Rattle.mix_io.specs.Input.{InputView}
 use Rattle.mix_io.specs.Views.{SinkView}
 use Rattle.mix_io.proofs.Written.{one_more}
@@ -22,7 +22,7 @@ use Rattle.mix_talk.specs.Lines.{no_form_line, spoken}
 use Rattle.mix_talk.specs.declared.fault.TalkFault.TheVariants.{SinkFailed, OutOfMemory}
 use Rattle.mix_talk.specs.declared.reader.LineReader.{LineReader}
 use Rattle.mix_talk.proofs.Telling.{steps_append, spoken_append}
-use Rattle.mix_talk.proofs.Talking.{IsTalking, all_asks, all_steps, stops, front, talk_ends}
+use Rattle.mix_talk.proofs.Talking.{IsTalking, all_asks, all_steps, stops, prefix, talk_ends}
 
 module _ {V W : Type 0} (c : Course W) (m : Meaning V W) (old now : View) (values : NamesOf V) (names : List (List ℕ)) (input mid : InputView) (r : LineReader) (sink between : SinkView) (marked : Bool) where
   -- a line of no form was answered
@@ -54,11 +54,11 @@ module _ {V W : Type 0} (c : Course W) (m : Meaning V W) (old now : View) (value
       → (fault : LinesFault) → IsNoFormCut between sink' fault → TalkEnds c old now names input mid sink sink' (Err (of_lines fault))
   talking_no_form_cut sink' far rises fault cut = by_fault fault cut
     where
-      within : AppendsFront between.written sink'.written no_form_line
+      within : AppendsPrefix between.written sink'.written no_form_line
           → StopsWithin (IsRun c old.faults now.faults (steps_in (heard far.bytes))) (IsLazy c old.fills now.fills (steps_in (heard far.bytes))) names (heard far.bytes) sink sink'
       within wrote =
           let at = stops c m old now values names input mid r sink between marked (no_form ∷ []) far far.bytes (no_form ∷ heard r.page) (all_asks c m old now values names input mid r sink between marked (no_form ∷ []) far) in
-          let written = front sink.written between.written sink'.written (spoken names far.done far.answers) no_form_line far.written wrote in
+          let written = prefix sink.written between.written sink'.written (spoken names far.done far.answers) no_form_line far.written wrote in
           let Are : List Answer → Type 0 = IsRun c old.faults now.faults (steps_in (heard far.bytes)) in
           record {
             done = far.done;

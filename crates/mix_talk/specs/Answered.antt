@@ -17,7 +17,7 @@ use Rattle.mix_lines.specs.declared.fault.LinesFault.TheVariants.{OutOfMemory}
 use Rattle.mix_talk.specs.Faults.{IsNoFormCut}
 use Rattle.mix_talk.specs.Lines.{no_form_line}
 
--- what was written of an answer to a step: its line, or a front of it; where there is none since memory ran out, nothing
+-- what was written of an answer to a step: its line, or a prefix of it; where there is none since memory ran out, nothing
 abbrev pub IsSaid : List (List ℕ) → List ℕ → SinkView → SinkView → Result Answer AllocError → Result Bool LinesFault → Type 0
 IsSaid names client before after (Ok a) (Ok marked) = WroteLine (λ x. x ≡ a) names client before after marked
 IsSaid names client before after (Ok a) (Err fault) = IsStepCut (λ x. x ≡ a) names client before after fault

@@ -1,6 +1,6 @@
 -- Which end of a talk a fault below it is.
 use Rattle.mix_base.specs.Counts.{HasRisen}
-use Rattle.mix_io.specs.Contents.{AppendsFront}
+use Rattle.mix_io.specs.Contents.{AppendsPrefix}
 use Rattle.mix_io.specs.Views.{SinkView}
 use Rattle.mix_io.specs.declared.input.TakeFault.{TakeFault}
 use Rattle.mix_io.specs.declared.input.TakeFault.TheVariants as take
@@ -22,5 +22,5 @@ of_take take.OutOfMemory = OutOfMemory
 
 -- the line that answers a line of no form was cut short: a prefix of it was written, and the sink failed or memory ran out
 abbrev pub IsNoFormCut : SinkView → SinkView → LinesFault → Type 0
-IsNoFormCut before after lines.SinkFailed = HasRisen before.faults after.faults × AppendsFront before.written after.written no_form_line
-IsNoFormCut before after lines.OutOfMemory = AppendsFront before.written after.written no_form_line
+IsNoFormCut before after lines.SinkFailed = HasRisen before.faults after.faults × AppendsPrefix before.written after.written no_form_line
+IsNoFormCut before after lines.OutOfMemory = AppendsPrefix before.written after.written no_form_line

@@ -51,7 +51,7 @@ pub record TookSome (old new : InputView) (r : LineReader) (fault : TakeFault) :
   pub part : fault ≡ Failed → HasNoLf (r.page ++ bytes)
 
 -- the next line was read of an input, or it has ended: what a reader had and what was taken is the line with its end and what the reader has
--- now. With any bytes behind it the line asks for this, and those for their own; behind the end of the input there are none, and
+-- now. With any bytes after it the line asks for this, and those for their own; after the end of the input there are none, and
 -- nothing is taken there
 pub record Reads (old new : InputView) (r r' : LineReader) (read : Option LineRead) : Type 0 where
   pub bytes : List ℕ

@@ -1,7 +1,7 @@
 -- How a talk ends over a document that is told.
 use Rattle.std.specs.Prelude.{◌≡◌, ℕ, Bool, List, Option, Result, Ok, Err}
 use Rattle.mix_tree.specs.Forest.{LabelledTree}
-use Rattle.mix_io.specs.Contents.{Appends, AppendsFront}
+use Rattle.mix_io.specs.Contents.{Appends, AppendsPrefix}
 use Rattle.mix_script.specs.Names.{no_names}
 use Rattle.mix_script.specs.Transcript.{AreMarks}
 use Rattle.mix_talk.specs.Heard.{Heard, steps_in}
@@ -19,5 +19,5 @@ pub record AreLinesOn (roots : Bool) (t : LabelledTree) (names : List (List ℕ)
 abbrev pub EndsOn : Bool → LabelledTree → List (List ℕ) → List Heard → Option (List ℕ) → Option (List ℕ) → Result Bool TalkFault → Type 0
 EndsOn roots t names heard before after (Ok marked) = (lines : List ℕ) × AreLinesOn roots t names heard lines × Appends before after lines
 EndsOn roots t names heard before after (Err InputFailed) = (lines : List ℕ) × AreLinesOn roots t names heard lines × Appends before after lines
-EndsOn roots t names heard before after (Err SinkFailed) = (lines : List ℕ) × AreLinesOn roots t names heard lines × AppendsFront before after lines
-EndsOn roots t names heard before after (Err OutOfMemory) = (lines : List ℕ) × AreLinesOn roots t names heard lines × AppendsFront before after lines
+EndsOn roots t names heard before after (Err SinkFailed) = (lines : List ℕ) × AreLinesOn roots t names heard lines × AppendsPrefix before after lines
+EndsOn roots t names heard before after (Err OutOfMemory) = (lines : List ℕ) × AreLinesOn roots t names heard lines × AppendsPrefix before after lines

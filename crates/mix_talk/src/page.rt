@@ -49,7 +49,7 @@ impl Page {
     }
 
     /// Drops the first `count` bytes of a page.
-    pub fn drop_front(&mut self, count: usize)
+    pub fn drop_prefix(&mut self, count: usize)
         requires { count ≤ length self.old }
         ensures { self.new ≡ drop count self.old }
     {

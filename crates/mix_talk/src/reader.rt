@@ -37,7 +37,7 @@ fn line_part(bytes: &[u8]) -> (usize, bool)
     (bytes.len(), false)
 }
 
-// Moves the bytes of a page up to its first LF, and with it, behind those of a line, of which no more than `KEPT` are kept. Tells
+// Moves the bytes of a page up to its first LF, and with it, after those of a line, of which no more than `KEPT` are kept. Tells
 // whether there was an LF.
 fn move_line(page: &mut Page, line: &mut Vec<u8>) -> Result<bool, AllocError>
     requires { length line.old.items ≤ 1048578 }
@@ -47,7 +47,7 @@ fn move_line(page: &mut Page, line: &mut Vec<u8>) -> Result<bool, AllocError>
     let (count, whole) = line_part(bytes);
     let kept = count.min(KEPT - line.len());
     line.extend_from_slice(&bytes[..kept])?;
-    page.drop_front(count);
+    page.drop_prefix(count);
     Ok(whole)
 }
 

@@ -93,7 +93,7 @@ fn talk<W: Walker + Drop, S: Sources, I: Input, K: Sink>(
 /// and changes nothing (docs/FORMATS.md, "Talks").
 ///
 /// `InputFailed`: the input failed; all whole lines that were taken of it before are answered. `SinkFailed`: the sink failed. After it, and
-/// where memory ran out, whole lines were written and at most a front of the next.
+/// where memory ran out, whole lines were written and at most a prefix of the next.
 pub fn talk_lines<S: Sources, I: Input, K: Sink>(
     alloc: Global,
     s: &mut S,

@@ -51,7 +51,7 @@ module _ (files : FilesAreLaid) (tables : TablesAreLaid) (before : Outside) (v :
       rows_laid spec.name d f (before.tables.told d) (subst (λ (o : Option Declared). is_table_told before.tables o ≡ true) declares told)
       (declared s d (record { spec = spec; there = at; named = named; declares = declares })) (is.rows d declares)
 
-  -- what stands behind a number
+  -- what stands after a number
   there_laid : (s : ℕ) (f : Forest) → (all_told before.tables v sources ≡ true) → ((spec : SourceSpec) → slice_get sources s ≡ Some spec → HasDocument before v s spec f)
       → IsLaid (layout_in v sources s) f
   there_laid s f all has =

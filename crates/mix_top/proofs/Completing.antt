@@ -110,8 +110,8 @@ marked_counts s a answers e z =
     no_sum (one_if (is_mark_of s (mark_of a))) (faults_of s answers) one z
 
 -- what is not counted at all is not counted in later answers
-behind : (b : Bool) (more : ℕ) → cond b 1 0 + more ≡ 0 → more ≡ 0
-behind b more e = omega (arith, e)
+after : (b : Bool) (more : ℕ) → cond b 1 0 + more ≡ 0 → more ≡ 0
+after b more e = omega (arith, e)
 
 module _ (May Real : ℕ → Type 0) where
   -- where the marked source of an answer that may be given has another property, the answer may be given by that
@@ -150,5 +150,5 @@ module _ (May Real : ℕ → Type 0) where
   answers_may nodes (a ∷ answers) [] w h = absurd h
   answers_may nodes (a ∷ answers) (step ∷ steps) w h = (
     answer_may nodes step.client step.act a (λ s e may. w s may (λ z. marked_counts s a answers e z)) h.0,
-    answers_may (nodes_after nodes step.client step.act a) answers steps (λ s may k. w s may (λ z. k (behind (is_mark_of s (mark_of a)) (faults_of s answers) z))) h.1,
+    answers_may (nodes_after nodes step.client step.act a) answers steps (λ s may k. w s may (λ z. k (after (is_mark_of s (mark_of a)) (faults_of s answers) z))) h.1,
   )

@@ -1,4 +1,4 @@
--- The lines of a run, and those of its counts behind them.
+-- The lines of a run, and those of its counts after them.
 use Rattle.std.proofs.Common.{◌≡◌, ◌∙◌, ◌≤◌, ◌-◌, ◌++◌, inl, inr, ℕ, List, Result, Ok, Err, IfOk, IfErr, ap, sym, subst, length}
 use Rattle.mix_io.specs.Views.{SinkView}
 use Rattle.mix_io.proofs.Written.{one_more}
@@ -15,11 +15,11 @@ use Rattle.mix_top.specs.declared.asked.Asked.{Asked}
 use Rattle.mix_top.specs.Counting.{IsCounted, IsCountStop, lines_of_counts}
 use Rattle.mix_top.specs.Counts.{view_class}
 use Rattle.mix_top.specs.Course.{lines_of_count}
-use Rattle.mix_top.specs.Ends.{TookFront}
+use Rattle.mix_top.specs.Ends.{TookPrefix}
 use Rattle.mix_top.specs.Running.{IsLinesEnd, LinesOver, by_fills, question}
 use Rattle.mix_top.specs.Stops.{IsCut, IsDoneAs, IsStop, outcome_status, stop_for}
 use Rattle.mix_top.proofs.Further.{TookOn, answered_on}
-use Rattle.mix_top.proofs.Lines.{cut_last, cut_on, first_front, nothing_more}
+use Rattle.mix_top.proofs.Lines.{cut_last, cut_on, first_prefix, nothing_more}
 
 -- these are the counts of a run
 pub record AreCounts (tables tables' : TablesView) (asked : Asked) (counts : Counts) : Type 0 where
@@ -38,7 +38,7 @@ module _ (tables tables' : TablesView) (docs : List Mount) (asked : Asked) (coun
   more = lines_of_counts counts
 
   module _ (before mid after : SinkView) (on : TookOn mid after) where
-    -- the answers of a run, and its counts behind them
+    -- the answers of a run, and its counts after them
     with_counts : (status : ℕ) (answers : List ℕ) → Answers before mid status answers → Counted before after status (answers ++ more)
     with_counts status answers h = (h.0, h.1, (counts.spent.fills, answers, answered_on before mid after on tables tables' (question tables docs asked h.0) counts.spent.fills status answers h.2, ap (λ x. answers ++ x) same))
       where
@@ -55,15 +55,15 @@ module _ (tables tables' : TablesView) (docs : List Mount) (asked : Asked) (coun
     cut_counted status all OutOfMemory course h = inr (status, all, course, h)
 
   module _ (before mid after : SinkView) where
-    -- a front of the answers is one of all lines
-    front_counted : TookFront (Answers before mid) before mid → TookFront (Counted before mid) before mid
-    front_counted h = (h.0, h.1 ++ more, with_counts before mid mid (nothing_more mid.written) h.0 h.1 h.2, first_front before.written mid.written h.1 more h.3)
+    -- a prefix of the answers is one of all lines
+    prefix_counted : TookPrefix (Answers before mid) before mid → TookPrefix (Counted before mid) before mid
+    prefix_counted h = (h.0, h.1 ++ more, with_counts before mid mid (nothing_more mid.written) h.0 h.1 h.2, first_prefix before.written mid.written h.1 more h.3)
 
     -- a run that was cut short in its answers
     cut_short : (fault : LinesFault) → IsStop (Answers before mid) before mid (stop_for fault) → IsStop (Counted before mid) before mid (stop_for fault)
-    cut_short lines.SinkFailed h = (h.0, front_counted h.1)
+    cut_short lines.SinkFailed h = (h.0, prefix_counted h.1)
     cut_short lines.OutOfMemory (inl h) = inl h
-    cut_short lines.OutOfMemory (inr h) = inr (front_counted h)
+    cut_short lines.OutOfMemory (inr h) = inr (prefix_counted h)
 
     module _ (count : before.faults ≤ mid.faults) where
       -- answers and counts were written

@@ -10,7 +10,7 @@ use Rattle.xmas_read.specs.Results.{names_of_sources}
 use Rattle.mix_mount.specs.declared.mount.Mount.{Mount}
 use Rattle.mix_top.specs.Course.{AreAccepted, IsCatalogFile, IsRuleFile, IsScript}
 use Rattle.mix_top.specs.Documents.{SpellsTree, StandsFor, IsDocument}
-use Rattle.mix_top.specs.FilesRead.{ReadsAmong, WalkMayRead, ViewMayRead, IsFileFor, MayReadBehind, ScriptMayRead, SourceMayRead, RunMayRead}
+use Rattle.mix_top.specs.FilesRead.{ReadsAmong, WalkMayRead, ViewMayRead, IsFileFor, MayReadAfter, ScriptMayRead, SourceMayRead, RunMayRead}
 use Rattle.mix_top.proofs.MountLaws.{AreMountedTo, document_before}
 
 -- what each of two calls may read, both may
@@ -59,22 +59,22 @@ accepted_before old mid v sources n keeps h = λ k before less at is file.
 
 module _ (Then : List SourceSpec → RuleValue → List ℕ → Type 0) (old : FilesView) (view catalog : List ℕ) where
   -- the catalog was read
-  pub reads_catalog : (new : FilesView) → ReadsOnly catalog old new → ReadsAmong (MayReadBehind Then old view catalog) old new
-  reads_catalog new only = reads_one (MayReadBehind Then old view catalog) catalog old new (inl refl) only
+  pub reads_catalog : (new : FilesView) → ReadsOnly catalog old new → ReadsAmong (MayReadAfter Then old view catalog) old new
+  reads_catalog new only = reads_one (MayReadAfter Then old view catalog) catalog old new (inl refl) only
 
   module _ (sources : List SourceSpec) (cat : IsCatalogFile old catalog sources) where
     -- then the view
-    pub reads_view : (mid new : FilesView) → ReadsAmong (MayReadBehind Then old view catalog) old mid → ReadsOnly view mid new → ReadsAmong (MayReadBehind Then old view catalog) old new
+    pub reads_view : (mid new : FilesView) → ReadsAmong (MayReadAfter Then old view catalog) old mid → ReadsOnly view mid new → ReadsAmong (MayReadAfter Then old view catalog) old new
     reads_view mid new before only =
-        let May = MayReadBehind Then old view catalog in
+        let May = MayReadAfter Then old view catalog in
         reads_twice May old mid new before (reads_one May view mid new (inr (sources, cat, inl refl)) only)
 
-    -- then what comes behind them
-    pub reads_then : (v : RuleValue) → IsRuleFile old view (names_of_sources sources) v → (mid new : FilesView) → ReadsAmong (MayReadBehind Then old view catalog) old mid → (May : List ℕ → Type 0)
-        → ((path : List ℕ) → May path → Then sources v path) → ReadsAmong May mid new → ReadsAmong (MayReadBehind Then old view catalog) old new
+    -- then what comes after them
+    pub reads_then : (v : RuleValue) → IsRuleFile old view (names_of_sources sources) v → (mid new : FilesView) → ReadsAmong (MayReadAfter Then old view catalog) old mid → (May : List ℕ → Type 0)
+        → ((path : List ℕ) → May path → Then sources v path) → ReadsAmong May mid new → ReadsAmong (MayReadAfter Then old view catalog) old new
     reads_then v rule mid new before May is reads =
-        reads_twice (MayReadBehind Then old view catalog) old mid new before
-        (reads_wider May (MayReadBehind Then old view catalog) mid new (λ path h. inr (sources, cat, inr (v, rule, is path h))) reads)
+        reads_twice (MayReadAfter Then old view catalog) old mid new before
+        (reads_wider May (MayReadAfter Then old view catalog) mid new (λ path h. inr (sources, cat, inr (v, rule, is path h))) reads)
 
 -- the files of sources may be read that may be read at a later moment
 pub source_may_before : (old mid : FilesView) (v : RuleValue) (sources : List SourceSpec) → KeepsFiles old mid → (path : List ℕ) → SourceMayRead mid v sources path → SourceMayRead old v sources path

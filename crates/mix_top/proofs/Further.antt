@@ -2,7 +2,7 @@
 use Rattle.std.proofs.Common.{◌≡◌, ◌≤◌, inl, inr, ◌∙◌, ℕ, List, ◌++◌, Option, ap, append_assoc, string_bytes, sym, subst}
 use Rattle.mix_base.proofs.Risen.{risen_before}
 use Rattle.mix_io.specs.Views.{SinkView}
-use Rattle.mix_io.specs.Contents.{Appends, AppendsFront}
+use Rattle.mix_io.specs.Contents.{Appends, AppendsPrefix}
 use Rattle.mix_io.proofs.Written.{one_more}
 use Rattle.mix_script.specs.Allowed.{answer_lines}
 use Rattle.mix_script.specs.declared.answer.Answer.{Answer}
@@ -11,13 +11,13 @@ use Rattle.xmas_read.specs.Results.{names_of_sources}
 use Rattle.mix_top.specs.Answered.{IsAnswered, IsFrugal, in_order}
 use Rattle.mix_top.specs.Commands.{Command, help, version, walk, read, plan, run, count, load, unknown}
 use Rattle.mix_top.specs.Course.{IsCourse}
-use Rattle.mix_top.specs.Ends.{Ends, TookFront}
+use Rattle.mix_top.specs.Ends.{Ends, TookPrefix}
 use Rattle.mix_top.specs.Outside.{Outside}
 use Rattle.mix_top.specs.Question.{Question}
 use Rattle.mix_top.specs.Stops.{IsStop}
 use Rattle.mix_top.specs.declared.refusal.Refusal.{Refusal}
 use Rattle.mix_top.specs.declared.refusal.Stop.TheVariants.{Refused}
-use Rattle.mix_top.proofs.Lines.{front_on, nothing_more}
+use Rattle.mix_top.proofs.Lines.{prefix_on, nothing_more}
 
 -- a sink took these lines more
 abbrev pub TookOn : SinkView → SinkView → Type 0
@@ -67,11 +67,11 @@ module _ (before mid after : SinkView) (on : TookOn mid after) where
 -- a run that ends took lines, or none
 ends_on : (Course : ℕ → List ℕ → Type 0) (before after : SinkView) (status : ℕ) → Ends Course before after status → TookOn before after
 ends_on Course before after status (inl w) = (w.lines, w.written)
-ends_on Course before after status (inr (inl w)) = front_on w.front.1 before.written after.written w.front.3
+ends_on Course before after status (inr (inl w)) = prefix_on w.prefix.1 before.written after.written w.prefix.3
 ends_on Course before after status (inr (inr w)) =
-    elim w.front [
+    elim w.prefix [
       | inl same ↦ subst (λ (x : Option (List ℕ)). (more : List ℕ) × Appends before.written x more) (sym same) (nothing_more before.written)
-      | inr front ↦ front_on front.1 before.written after.written front.3
+      | inr prefix ↦ prefix_on prefix.1 before.written after.written prefix.3
     ]
 
 -- the refusal of a command is its course, and its line is written, or cut short
@@ -92,10 +92,10 @@ refused_ends o o' command before mid after r status steady stop ends = ended end
         subst (λ (n : ℕ). IsCourse o o' command before after n lines) (sym l.0)
         (subst (λ (x : List ℕ). IsCourse o o' command before after r.status x) (sym l.1) (course_on before mid after on o o' command r.status (string_bytes r.line) stop.0))
 
-    front : TookFront Line mid after → TookFront (IsCourse o o' command before after) before after
-    front f = (f.0, f.1, lines_are f.0 f.1 f.2, subst (λ (x : Option (List ℕ)). AppendsFront x after.written f.1) stop.1 f.3)
+    prefix : TookPrefix Line mid after → TookPrefix (IsCourse o o' command before after) before after
+    prefix f = (f.0, f.1, lines_are f.0 f.1 f.2, subst (λ (x : Option (List ℕ)). AppendsPrefix x after.written f.1) stop.1 f.3)
 
     ended : Ends Line mid after status → Ends (IsCourse o o' command before after) before after status
     ended (inl w) = inl (record { lines = w.lines; course = lines_are status w.lines w.course; written = subst (λ (x : Option (List ℕ)). Appends x after.written w.lines) stop.1 w.written })
-    ended (inr (inl w)) = inr (inl (record { five = w.five; cause = risen_before before.faults mid.faults after.faults steady w.cause; front = front w.front }))
-    ended (inr (inr w)) = inr (inr (record { six = w.six; front = elim w.front [ inl same ↦ inl (same ∙ stop.1) | inr f ↦ inr (front f) ] }))
+    ended (inr (inl w)) = inr (inl (record { five = w.five; cause = risen_before before.faults mid.faults after.faults steady w.cause; prefix = prefix w.prefix }))
+    ended (inr (inr w)) = inr (inr (record { six = w.six; prefix = elim w.prefix [ inl same ↦ inl (same ∙ stop.1) | inr f ↦ inr (prefix f) ] }))

@@ -23,12 +23,12 @@ use Rattle.mix_session.specs.Meaning.{Course}
 use Rattle.mix_session.specs.Walks.{IsDocument, plan_course}
 use Rattle.lxp_core.specs.View.{View}
 use Rattle.mix_top.specs.Answered.{IsAnswered, all_told, in_order}
-use Rattle.mix_top.specs.Ends.{TookFront}
+use Rattle.mix_top.specs.Ends.{TookPrefix}
 use Rattle.mix_top.specs.Mounting.{AreMounted}
 use Rattle.mix_top.specs.declared.asked.Asked.{Asked}
 use Rattle.mix_top.specs.Question.{Question}
 use Rattle.mix_top.specs.Running.{IsLinesEnd, LinesOver, by_fills, documents_of, question}
-use Rattle.mix_top.proofs.Answering.{Frugal, IsAnswering, IsManner, answering, front_of}
+use Rattle.mix_top.proofs.Answering.{Frugal, IsAnswering, IsManner, answering, prefix_of}
 use Rattle.mix_top.specs.Stops.{IsDoneAlong, end_of, outcome_of, outcome_status}
 
 -- how lines end is said under the names and steps that these are
@@ -37,7 +37,7 @@ pub renamed : {W : Type 0} (c : Course W) (old new : View) (names names' : List 
 renamed c old new names names' steps steps' before after r e f h =
     subst (λ (n : List (List ℕ)). Ends c old new n steps before after r) e (subst (λ (s : List Step). Ends c old new names' s before after r) f h)
 
--- the lines of answers are a front of those of these and more
+-- the lines of answers are a prefix of those of these and more
 lines_more : (names : List (List ℕ)) (answers more : List Answer) (steps : List Step) → (rest : List ℕ) × (answer_lines names (answers ++ more) steps ≡ answer_lines names answers steps ++ rest)
 lines_more names [] more steps = (answer_lines names more steps, refl)
 lines_more names (x ∷ answers) more [] = ([], refl)
@@ -51,7 +51,7 @@ pub outcome_is : (marked : Bool) (answers : List Answer) → marked ≡ has_faul
 outcome_is true answers marks = ap (λ b. cond b 1 0) (sym marks)
 outcome_is false answers marks = ap (λ b. cond b 1 0) (sym marks)
 
--- the lines of a script's answers are written one behind another
+-- the lines of a script's answers are written one after another
 in_order_is_manner : (q : Question) → IsManner (in_order q) q.tree q.steps
 in_order_is_manner q = record {
   begins = λ answers of. lines_begin_transcript q.tree (names_of_sources q.sources) answers q.steps of;
@@ -91,7 +91,7 @@ module _ (files : FilesView) (a b : Mounting) (came : CameFrom a b) (asked : Ask
       subst (λ (all : List Answer). Frugal (in_order q) a b q before after all) (append_nil answers)
       (run.frugal answers [] (answer_lines names answers steps) lazy ([], sym (append_nil (answer_lines names answers steps))) h)
 
-  -- a front of the last line was
+  -- a prefix of the last line was
   spent_within : (answers : List Answer) (last : Answer) (n : ℕ) → Cost answers
       → Appends before.written after.written (take (length (answer_lines names answers steps) + n) (answer_lines names (answers ++ last ∷ []) steps)) → Frugal (in_order q) a b q before after (answers ++ last ∷ [])
   spent_within answers last n lazy h =
@@ -99,19 +99,19 @@ module _ (files : FilesView) (a b : Mounting) (came : CameFrom a b) (asked : Ask
       let lines = answer_lines names answers steps in
       run.frugal answers (last ∷ []) (take (length lines + n) (answer_lines names (answers ++ last ∷ []) steps)) lazy (take n more.0, ap (take (length lines + n)) more.1 ∙ take_append lines more.0 n) h
 
-  -- a front of the lines of answers was written
+  -- a prefix of the lines of answers was written
   took : (answers : List Answer) → Are answers → Frugal (in_order q) a b q before after answers → (n : ℕ) → Appends before.written after.written (take n (answer_lines names answers steps))
-      → TookFront (Answers before after) before after
+      → TookPrefix (Answers before after) before after
   took answers are less n h =
-      let f = run.front answers are less in
-      (f.status, f.lines, (t, finished, f.is), front_of before.written after.written n (answer_lines names answers steps) f.rest f.lines f.begun h)
+      let f = run.prefix answers are less in
+      (f.status, f.lines, (t, finished, f.is), prefix_of before.written after.written n (answer_lines names answers steps) f.rest f.lines f.begun h)
 
   -- so it is within a line
-  within : EndsWithin Are Cost names steps before after → TookFront (Answers before after) before after
+  within : EndsWithin Are Cost names steps before after → TookPrefix (Answers before after) before after
   within w = took (w.answers ++ w.last ∷ []) w.are (spent_within w.answers w.last w.count w.cost w.written) (length (answer_lines names w.answers steps) + w.count) w.written
 
   -- and between lines
-  between : EndsBetween Are Cost names steps before after → TookFront (Answers before after) before after
+  between : EndsBetween Are Cost names steps before after → TookPrefix (Answers before after) before after
   between w =
       let lines = answer_lines names w.answers steps in
       took w.answers w.are (spent w.answers w.cost w.written) (length lines) (subst (λ (x : List ℕ). Appends before.written after.written x) (sym (take_all (length lines) lines (omega arith))) w.written)

@@ -1,4 +1,4 @@
--- What `count` writes behind the answers, and the class of a view.
+-- What `count` writes after the answers, and the class of a view.
 use Rattle.std.specs.Prelude.{ℕ, List, ◌++◌, codes}
 use Rattle.std.specs.Fmt.{decimal}
 use Rattle.browse_class.specs.declared.class.Class.{Class}

@@ -1,4 +1,4 @@
--- Which files a command may read: each behind those that are accepted before it.
+-- Which files a command may read: each after those that are accepted before it.
 use Rattle.std.specs.Prelude.{◌≡◌, ◌⊎◌, ℕ, false, IsTrue, List, Some, slice_get}
 use Rattle.mix_tree.specs.Forest.{LabelledTree}
 use Rattle.mix_io.specs.Views.{FilesView}
@@ -39,8 +39,8 @@ SourceMayRead files v sources path =
     (s : ℕ) × (spec : SourceSpec) × (slice_get sources s ≡ Some spec) × IsFileFor v s spec path × AreAccepted files v sources s
 
 -- the files that a command may read: the catalog, after it the view, and after that those that a given relation says
-abbrev pub MayReadBehind : (List SourceSpec → RuleValue → List ℕ → Type 0) → FilesView → List ℕ → List ℕ → List ℕ → Type 0
-MayReadBehind Then files view catalog path =
+abbrev pub MayReadAfter : (List SourceSpec → RuleValue → List ℕ → Type 0) → FilesView → List ℕ → List ℕ → List ℕ → Type 0
+MayReadAfter Then files view catalog path =
     (path ≡ catalog) ⊎ ((sources : List SourceSpec) × IsCatalogFile files catalog sources
     × ((path ≡ view) ⊎ ((v : RuleValue) × IsRuleFile files view (names_of_sources sources) v × Then sources v path)))
 
@@ -50,7 +50,7 @@ ScriptMayRead files script sources v path = (path ≡ script) ⊎ ((steps : List
 
 -- the files that a run may read: the catalog, the view, the script, and then the files of the sources that the view names
 abbrev pub RunMayRead : FilesView → List ℕ → List ℕ → List ℕ → List ℕ → Type 0
-RunMayRead files view catalog script = MayReadBehind (ScriptMayRead files script) files view catalog
+RunMayRead files view catalog script = MayReadAfter (ScriptMayRead files script) files view catalog
 
 -- the files that a command may read
 abbrev pub MayRead : FilesView → Command → List ℕ → Type 0

@@ -24,7 +24,7 @@ use std::alloc::{AllocError, Global};
 use table_keep::Tables;
 use view_class::{class_line, class_over};
 
-/// What `count` writes behind the answers: how many commands there were, what they asked, and the class of the view.
+/// What `count` writes after the answers: how many commands there were, what they asked, and the class of the view.
 #[derive(Clone, Copy)]
 pub struct Counts {
     pub commands: u64,
@@ -60,7 +60,7 @@ fn counts_text(alloc: Global, counts: &Counts) -> Result<String, AllocError>
     Ok(text)
 }
 
-// Writes the lines of counts behind those of a run, where these came to their end.
+// Writes the lines of counts after those of a run, where these came to their end.
 fn write_counts<K: Sink>(
     alloc: Global,
     end: Result<Outcome, LinesFault>,

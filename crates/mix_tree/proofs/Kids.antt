@@ -9,7 +9,7 @@ pub from_none : (i : ℕ) → from i none ≡ none
 from_none zero = refl
 from_none (suc i) = from_none i
 
--- behind the last tree there is none
+-- after the last tree there is none
 pub from_past : (ts : List LabelledTree) (i : ℕ) → length ts ≤ i → from i (forest_of ts) ≡ none
 from_past [] i h = from_none i
 from_past (t ∷ ts) zero h = absurd (omega arith)

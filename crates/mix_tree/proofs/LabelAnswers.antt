@@ -4,13 +4,13 @@ use Rattle.std.proofs.lemmas.List.{drop_more}
 use Rattle.std.proofs.lemmas.Str.{IsUtf8-nil, IsUtf8-drop, IsUtf8-append, IsUtf8-between, IsCharBoundary-start, IsCharBoundary-from_drop}
 use Rattle.std.specs.Str.{IsUtf8, IsCharBoundary}
 use Rattle.mix_base.proofs.Runs.{run_then, run_byte}
-use Rattle.mix_base.specs.Reading.{IsFront}
-use Rattle.mix_base.proofs.Lists.{append_nil, take_whole, take_append, front_cases, front_is, front_with}
+use Rattle.mix_base.specs.Reading.{IsPrefix}
+use Rattle.mix_base.proofs.Lists.{append_nil, take_whole, take_append, prefix_cases, prefix_is, prefix_with}
 use Rattle.mix_base.proofs.Choices.{some_is, none_some, Gives}
-use Rattle.mix_base.proofs.Utf8.{one_utf8, utf8_from, utf8_behind}
+use Rattle.mix_base.proofs.Utf8.{one_utf8, utf8_from, utf8_after}
 use Rattle.mix_tree.specs.Spelling.{is_bare}
 use Rattle.mix_tree.specs.LabelGrammar.{SpellsLabel, inside_quotes}
-use Rattle.mix_tree.specs.LabelMachine.{Spot, start, in_bare, in_quotes, in_escape, behind_quote, step, run, label_in, seen_from}
+use Rattle.mix_tree.specs.LabelMachine.{Spot, start, in_bare, in_quotes, in_escape, after_quote, step, run, label_in, seen_from}
 use Rattle.mix_tree.specs.LabelReads.{SpellsNowhere, IsLongest, IsNoLabel, IsCutLabel, ReadsLabel, seen_of}
 use Rattle.mix_tree.specs.declared.label_read.LabelRead.{LabelRead}
 use Rattle.mix_tree.specs.declared.label_read.LabelRead.TheVariants.{Got, Unexpected, Ends}
@@ -28,7 +28,7 @@ pub record GoesOn (s : Spot) : Type 0 where
   pub runs : run s bytes ≡ Some spot
   pub ends : label_in spot ≡ Some label
 
--- a byte, and then as the spot behind it goes on
+-- a byte, and then as the spot after it goes on
 byte_on : (s t : Spot) (b : ℕ) → b < 128 → step s b ≡ Some t → GoesOn t → GoesOn s
 byte_on s t b low e h = record {
   bytes = b ∷ h.bytes;
@@ -45,7 +45,7 @@ ended s l e = record { bytes = []; utf8 = IsUtf8-nil; spot = s; label = l; runs 
 
 -- between quotes, the closing one ends the label
 quotes_on : (l : List ℕ) → GoesOn (in_quotes l)
-quotes_on l = byte_on (in_quotes l) (behind_quote l) 34 (omega arith) refl (ended (behind_quote l) l refl)
+quotes_on l = byte_on (in_quotes l) (after_quote l) 34 (omega arith) refl (ended (after_quote l) l refl)
 
 -- from each spot some label goes on
 pub goes_on : (s : Spot) → GoesOn s
@@ -53,7 +53,7 @@ goes_on start = byte_on start (in_bare (97 ∷ [])) 97 (omega arith) refl (ended
 goes_on (in_bare l) = ended (in_bare l) l refl
 goes_on (in_quotes l) = quotes_on l
 goes_on (in_escape l) = byte_on (in_escape l) (in_quotes (l ++ 10 ∷ [])) 110 (omega arith) refl (quotes_on (l ++ 10 ∷ []))
-goes_on (behind_quote l) = ended (behind_quote l) l refl
+goes_on (after_quote l) = ended (after_quote l) l refl
 
 -- what a run over a text writes
 pub run_writes_some : (w : List ℕ) (t : Spot) → run start w ≡ Some t → Writes w t
@@ -64,8 +64,8 @@ run_writes_some w t e = by_case (run start w) e (run_writes w [] start refl)
     by_case (Some u) f g = subst (Writes w) (some_is u t f) g
 
 -- what a run has read goes on to a label
-front_of : (w : List ℕ) (s : Spot) → IsUtf8 w → run start w ≡ Some s → IsFront SpellsLabel w
-front_of w s u r =
+prefix_of : (w : List ℕ) (s : Spot) → IsUtf8 w → run start w ≡ Some s → IsPrefix SpellsLabel w
+prefix_of w s u r =
     let h = goes_on s in
     let whole : run start (w ++ h.bytes) ≡ Some h.spot = run_then step w h.bytes start s r ∙ h.runs in
     (h.bytes, h.label, IsUtf8-append w h.bytes u h.utf8, label_spelled (w ++ h.bytes) h.spot h.label (run_writes_some (w ++ h.bytes) h.spot whole) h.ends)
@@ -85,7 +85,7 @@ unlabelled w l t r n s =
     let same : k.0 ≡ t = some_is k.0 t (sym k.1 ∙ r) in
     none_some l (sym n ∙ ap label_in (sym same) ∙ k.2)
 
--- nor does a front of it
+-- nor does a prefix of it
 within : (w z v l : List ℕ) (t : Spot) → run start w ≡ Some t → label_in t ≡ None → w ≡ z ++ v → SpellsLabel z l → ⊥
 within w z v l t r n e s =
     let k = spelled_reads z l s in
@@ -102,7 +102,7 @@ beyond w (b ∷ y) l t (suc m) r n h s = stopped (w ++ b ∷ take m y) l (stops_
 
 -- where a run stops before a label has ended, no label is spelled
 nowhere : (x w y : List ℕ) (t : Spot) → x ≡ w ++ y → run start w ≡ Some t → label_in t ≡ None → Stops t y → SpellsNowhere x
-nowhere x w y t e r n h = subst SpellsNowhere (sym e) (λ k l u s. elim (front_cases k w y) [
+nowhere x w y t e r n h = subst SpellsNowhere (sym e) (λ k l u s. elim (prefix_cases k w y) [
   | inl (v, f) ↦ within w (take k (w ++ y)) v l t r n f s
   | inr (m, f) ↦ beyond w y l t m r n h (subst (λ z. SpellsLabel z l) f s)
 ])
@@ -113,19 +113,19 @@ no_longer w [] l t m p q r h s = absurd (omega arith)
 no_longer w (b ∷ y) l t zero p q r h s = absurd (omega arith)
 no_longer w (b ∷ y) l t (suc m) p q r h s = stopped (w ++ b ∷ take m y) l (stops_run w (take m y) b t r h) s
 
--- behind a label a character begins
-behind_utf8 : (w y l : List ℕ) (t : Spot) → IsUtf8 (w ++ y) → Writes w t → label_in t ≡ Some l → Stops t y → IsUtf8 y
-behind_utf8 w y l start u h e s = none_some l e
-behind_utf8 w y l (in_quotes k) u h e s = none_some l e
-behind_utf8 w y l (in_escape k) u h e s = none_some l e
-behind_utf8 w [] l (in_bare k) u h e s = IsUtf8-nil
-behind_utf8 w (b ∷ y) l (in_bare k) u h e s = utf8_from w y b (not_bare_ascii b (by_case (is_bare b) _ s)) u
+-- after a label a character begins
+after_utf8 : (w y l : List ℕ) (t : Spot) → IsUtf8 (w ++ y) → Writes w t → label_in t ≡ Some l → Stops t y → IsUtf8 y
+after_utf8 w y l start u h e s = none_some l e
+after_utf8 w y l (in_quotes k) u h e s = none_some l e
+after_utf8 w y l (in_escape k) u h e s = none_some l e
+after_utf8 w [] l (in_bare k) u h e s = IsUtf8-nil
+after_utf8 w (b ∷ y) l (in_bare k) u h e s = utf8_from w y b (not_bare_ascii b (by_case (is_bare b) _ s)) u
   where
     by_case : (c : Bool) (t : Spot) → cond c (Some t) None ≡ None → c ≡ false
     by_case true t f = none_some t (sym f)
     by_case false t f = refl
-behind_utf8 w y l (behind_quote k) u (ps, are, e, m) f s =
-    (utf8_behind (34 ∷ inside_quotes ps) y 34 (omega arith) (subst (λ r. IsUtf8 (r ++ y)) e u)).1
+after_utf8 w y l (after_quote k) u (ps, are, e, m) f s =
+    (utf8_after (34 ∷ inside_quotes ps) y 34 (omega arith) (subst (λ r. IsUtf8 (r ++ y)) e u)).1
 
 -- up to a byte that does not fit there are whole characters
 before_utf8 : (w y : List ℕ) (b : ℕ) (t : Spot) → IsUtf8 (w ++ b ∷ y) → Writes w t → label_in t ≡ None → step t b ≡ None → IsUtf8 w
@@ -138,8 +138,8 @@ before_utf8 w y b (in_quotes k) u h e s = goes (b == 34) (b == 92) _ _ _ s
     goes false true p q r f = none_some q (sym f)
     goes false false p q r f = none_some r (sym f)
 before_utf8 w y b (in_escape k) u (ps, are, e, m) f s =
-    subst IsUtf8 (sym e) (utf8_behind (34 ∷ inside_quotes ps) (b ∷ y) 92 (omega arith) (subst (λ r. IsUtf8 (r ++ b ∷ y)) e u)).0
-before_utf8 w y b (behind_quote k) u h e s = none_some k (sym e)
+    subst IsUtf8 (sym e) (utf8_after (34 ∷ inside_quotes ps) (b ∷ y) 92 (omega arith) (subst (λ r. IsUtf8 (r ++ b ∷ y)) e u)).0
+before_utf8 w y b (after_quote k) u h e s = none_some k (sym e)
 
 -- a label that has ended has bytes
 not_empty : (w l : List ℕ) (t : Spot) → run start w ≡ Some t → label_in t ≡ Some l → 0 < length w
@@ -161,7 +161,7 @@ longest x l from end u inside boundary h =
     let within : end ≤ length x = omega (arith, h.place, both) in
     let writes = run_writes_some w h.spot h.runs in
     let rest : IsUtf8 (w ++ y) = subst IsUtf8 h.parts (IsUtf8-drop x from u boundary) in
-    let next : IsCharBoundary x end = IsCharBoundary-from_drop x end within (behind_utf8 w y l h.spot rest writes h.label h.stops) in
+    let next : IsCharBoundary x end = IsCharBoundary-from_drop x end within (after_utf8 w y l h.spot rest writes h.label h.stops) in
     let slice : slice_range x from end ≡ w = ap (take (end - from)) h.parts ∙ take_whole w y (end - from) (omega (arith, h.place)) in
     record {
       order = order;
@@ -178,7 +178,7 @@ longest x l from end u inside boundary h =
 -- a byte that does not fit, where no label has ended
 no_label : (x : List ℕ) (from at : ℕ) → IsUtf8 x → from ≤ length x → IsCharBoundary x from → SawStop start from (drop from x) at → IsNoLabel x from at
 no_label x from at u inside boundary h =
-    let w = h.front in
+    let w = h.prefix in
     let writes = run_writes_some w h.spot h.runs in
     let place : at - from ≡ length w = omega (arith, h.place) in
     let rest : IsUtf8 (w ++ h.byte ∷ h.rest) = subst IsUtf8 h.parts (IsUtf8-drop x from u boundary) in
@@ -187,9 +187,9 @@ no_label x from at u inside boundary h =
       order = omega (arith, h.place);
       unexpected = record {
         inside = omega (arith, place, ap length h.parts, length-append w (h.byte ∷ h.rest));
-        front = subst (IsFront SpellsLabel) (sym (ap (take (at - from)) h.parts ∙ front_is w h.rest h.byte (at - from) place)) (front_of w h.spot low h.runs);
+        prefix = subst (IsPrefix SpellsLabel) (sym (ap (take (at - from)) h.parts ∙ prefix_is w h.rest h.byte (at - from) place)) (prefix_of w h.spot low h.runs);
         wrong = λ f.
-            let g = subst (IsFront SpellsLabel) (ap (take (at - from + 1)) h.parts ∙ front_with w h.rest h.byte (at - from) place) f in
+            let g = subst (IsPrefix SpellsLabel) (ap (take (at - from + 1)) h.parts ∙ prefix_with w h.rest h.byte (at - from) place) f in
             stopped ((w ++ h.byte ∷ []) ++ g.0) g.1 (ap (run start) (append_assoc w (h.byte ∷ []) g.0) ∙ stops_run w g.0 h.byte h.spot h.runs h.stops) g.3;
       };
       nowhere = nowhere (drop from x) w (h.byte ∷ h.rest) h.spot h.parts h.runs h.label h.stops;
@@ -198,7 +198,7 @@ no_label x from at u inside boundary h =
 -- the end of the text in a label
 cut_label : (x : List ℕ) (from : ℕ) → IsUtf8 x → IsCharBoundary x from → SawEnd start (drop from x) → IsCutLabel x from
 cut_label x from u boundary (t, r, e) = record {
-  front = front_of (drop from x) t (IsUtf8-drop x from u boundary) r;
+  prefix = prefix_of (drop from x) t (IsUtf8-drop x from u boundary) r;
   nowhere = nowhere (drop from x) (drop from x) [] t (sym (append_nil (drop from x))) r e tt;
 }
 
@@ -223,9 +223,9 @@ reads_inside x from inside bad =
       order = omega arith;
       unexpected = record {
         inside = omega (arith, length-drop from x);
-        front = subst (λ n. IsFront SpellsLabel (take n (drop from x))) (sym none) (front_of [] start IsUtf8-nil refl);
+        prefix = subst (λ n. IsPrefix SpellsLabel (take n (drop from x))) (sym none) (prefix_of [] start IsUtf8-nil refl);
         wrong = λ f.
-            let g = subst (λ n. IsFront SpellsLabel (take (n + 1) (drop from x))) none f in
+            let g = subst (λ n. IsPrefix SpellsLabel (take (n + 1) (drop from x))) none f in
             no_text x from inside bad g.0 g.2;
       };
       nowhere = λ n l u s. by_length n l u s;

@@ -6,9 +6,9 @@ use Rattle.mix_base.proofs.Lists.{append_nil}
 use Rattle.mix_base.proofs.Choices.{and_parts, some_is, none_some}
 use Rattle.mix_tree.specs.Spelling.{is_bare, is_bare_label}
 use Rattle.mix_tree.specs.LabelGrammar.{Piece, plain, escape, is_plain, is_escape, is_piece, ArePieces, inside_quotes, escaped_byte, meaning, SpellsLabel}
-use Rattle.mix_tree.specs.LabelMachine.{Spot, start, in_bare, in_quotes, in_escape, behind_quote, step, run, label_in}
+use Rattle.mix_tree.specs.LabelMachine.{Spot, start, in_bare, in_quotes, in_escape, after_quote, step, run, label_in}
 
--- bare characters behind others
+-- bare characters after others
 pub bare_goes_on : (l x : List ℕ) → IsTrue (list_all is_bare x) → run (in_bare l) x ≡ Some (in_bare (l ++ x))
 bare_goes_on l [] h = ap (λ r. Some (in_bare r)) (sym (append_nil l))
 bare_goes_on l (b ∷ x) h =
@@ -55,7 +55,7 @@ ReadsAs x l = (s : Spot) × (run start x ≡ Some s) × (label_in s ≡ Some l)
 pub spelled_reads : (x l : List ℕ) → SpellsLabel x l → ReadsAs x l
 spelled_reads x l (inl (h, e)) = (in_bare x, reads_bare x h, ap Some e)
 spelled_reads x l (inr (ps, are, e, m)) = (
-  behind_quote (meaning ps),
+  after_quote (meaning ps),
   ap (run start) e ∙ run_then step (inside_quotes ps) (34 ∷ []) (in_quotes []) (in_quotes (meaning ps)) (quotes_go_on [] ps are),
   ap Some m,
 )
@@ -74,9 +74,9 @@ step_may_end (in_bare k) t b l e h = by_case (is_bare b) h
     by_case false f = none_some t f
 step_may_end (in_quotes k) t b l e h = none_some l e
 step_may_end (in_escape k) t b l e h = none_some l e
-step_may_end (behind_quote k) t b l e h = none_some t h
+step_may_end (after_quote k) t b l e h = none_some t h
 
--- what may end stays so behind a first byte
+-- what may end stays so after a first byte
 more_may_end : (x : List ℕ) (t : Spot) (o : Option Spot) → ((u : Spot) → o ≡ Some u → MayEnd u) → ((u : Spot) → MayEnd u → run u x ≡ Some t → MayEnd t)
     → option_and_then (λ u. run u x) o ≡ Some t → MayEnd t
 more_may_end x t None h k e = none_some t e

@@ -8,7 +8,7 @@ abbrev pub Stops : Spot → List ℕ → Type 0
 Stops t [] = Unit {0}
 Stops t (b ∷ y) = step t b ≡ None
 
--- a label, and the text behind it, with which it does not go on
+-- a label, and the text after it, with which it does not go on
 pub record SawLabel (s : Spot) (i : ℕ) (x : List ℕ) (l : List ℕ) (j : ℕ) (y : List ℕ) : Type 0 where
   pub spelled : List ℕ
   pub spot : Spot
@@ -20,14 +20,14 @@ pub record SawLabel (s : Spot) (i : ℕ) (x : List ℕ) (l : List ℕ) (j : ℕ)
 
 -- a byte that does not fit
 pub record SawStop (s : Spot) (i : ℕ) (x : List ℕ) (j : ℕ) : Type 0 where
-  pub front : List ℕ
+  pub prefix : List ℕ
   pub byte : ℕ
   pub rest : List ℕ
   pub spot : Spot
-  pub parts : x ≡ front ++ byte ∷ rest
-  pub runs : run s front ≡ Some spot
+  pub parts : x ≡ prefix ++ byte ∷ rest
+  pub runs : run s prefix ≡ Some spot
   pub label : label_in spot ≡ None
-  pub place : j ≡ i + length front
+  pub place : j ≡ i + length prefix
   pub stops : step spot byte ≡ None
 
 -- the end in a spelling
@@ -45,7 +45,7 @@ at_end : (s : Spot) (i : ℕ) (o : Option (List ℕ)) → label_in s ≡ o → S
 at_end s i None e = (s, refl, e)
 at_end s i (Some l) e = record { spelled = []; spot = s; parts = refl; runs = refl; label = e; place = omega arith; stops = tt }
 
--- what was seen behind a first byte was seen from it on
+-- what was seen after a first byte was seen from it on
 saw_more : (s t : Spot) (i b : ℕ) (x : List ℕ) (z : Seen) → step s b ≡ Some t → Saw t (i + 1) x z → Saw s i (b ∷ x) z
 saw_more s t i b x (got l j y) e h = record {
   spelled = b ∷ h.spelled;
@@ -57,12 +57,12 @@ saw_more s t i b x (got l j y) e h = record {
   stops = h.stops;
 }
 saw_more s t i b x (unexpected j) e h = record {
-  front = b ∷ h.front;
+  prefix = b ∷ h.prefix;
   byte = h.byte;
   rest = h.rest;
   spot = h.spot;
   parts = ap (λ r. b ∷ r) h.parts;
-  runs = run_byte step b h.front s t e ∙ h.runs;
+  runs = run_byte step b h.prefix s t e ∙ h.runs;
   label = h.label;
   place = omega (arith, h.place);
   stops = h.stops;
@@ -72,7 +72,7 @@ saw_more s t i b x ends e (u, r, l) = (u, run_byte step b x s t e ∙ r, l)
 -- at a byte
 at_byte : (s : Spot) (i b : ℕ) (x : List ℕ) (o : Option Spot) (p : Option (List ℕ)) → step s b ≡ o → label_in s ≡ p → ((t : Spot) → Saw t (i + 1) x (seen_from t (i + 1) x))
     → Saw s i (b ∷ x) (or_stop (λ t. seen_from t (i + 1) x) (seen_at i (b ∷ x) p) o)
-at_byte s i b x None None e f h = record { front = []; byte = b; rest = x; spot = s; parts = refl; runs = refl; label = f; place = omega arith; stops = e }
+at_byte s i b x None None e f h = record { prefix = []; byte = b; rest = x; spot = s; parts = refl; runs = refl; label = f; place = omega arith; stops = e }
 at_byte s i b x None (Some l) e f h = record { spelled = []; spot = s; parts = refl; runs = refl; label = f; place = omega arith; stops = e }
 at_byte s i b x (Some t) p e f h = saw_more s t i b x (seen_from t (i + 1) x) e (h t)
 

@@ -4,9 +4,9 @@ use Rattle.mix_base.proofs.Lists.{append_nil}
 use Rattle.mix_base.proofs.Choices.{and_both, list_all-push, number_is, some_is, none_some, Gives, either}
 use Rattle.mix_tree.specs.Spelling.{is_bare, is_bare_label}
 use Rattle.mix_tree.specs.LabelGrammar.{Piece, plain, escape, is_plain, is_escape, is_piece, ArePieces, inside_quotes, escaped_byte, meaning, SpellsLabel}
-use Rattle.mix_tree.specs.LabelMachine.{Spot, start, in_bare, in_quotes, in_escape, behind_quote, step, run, label_in}
+use Rattle.mix_tree.specs.LabelMachine.{Spot, start, in_bare, in_quotes, in_escape, after_quote, step, run, label_in}
 
--- the text of pieces that mean a label, behind the opening quote, with more behind them
+-- the text of pieces that mean a label, after the opening quote, with more after them
 abbrev pub WritesPieces : List ℕ → List ℕ → List ℕ → Type 0
 WritesPieces x l y = (ps : List Piece) × ArePieces ps × (x ≡ 34 ∷ inside_quotes ps ++ y) × (meaning ps ≡ l)
 
@@ -16,7 +16,7 @@ Writes x start = x ≡ []
 Writes x (in_bare l) = IsTrue (is_bare_label l) × (x ≡ l)
 Writes x (in_quotes l) = WritesPieces x l []
 Writes x (in_escape l) = WritesPieces x l (92 ∷ [])
-Writes x (behind_quote l) = WritesPieces x l (34 ∷ [])
+Writes x (after_quote l) = WritesPieces x l (34 ∷ [])
 
 -- one piece more, as it is written
 pub inside-push : (ps : List Piece) (q : Piece) → inside_quotes (ps ++ q ∷ []) ≡ inside_quotes ps ++ inside_quotes (q ∷ [])
@@ -39,7 +39,7 @@ bare-push : (l : List ℕ) (b : ℕ) → IsTrue (is_bare_label l) → IsTrue (is
 bare-push [] b h k = cc
 bare-push (c ∷ l) b h k = list_all-push is_bare (c ∷ l) b h k
 
--- one byte more behind the text
+-- one byte more after the text
 text_more : (x : List ℕ) (ps : List Piece) (b c : ℕ) → c ≡ b → x ≡ 34 ∷ inside_quotes ps ++ [] → x ++ b ∷ [] ≡ 34 ∷ inside_quotes ps ++ c ∷ []
 text_more x ps b c same e = ap (λ r. r ++ b ∷ []) e ∙ ap (λ r. 34 ∷ r ++ b ∷ []) (append_nil (inside_quotes ps)) ∙ ap (λ d. 34 ∷ inside_quotes ps ++ d ∷ []) (sym same)
 
@@ -61,7 +61,7 @@ escape_more x l b h (ps, are, e, m) = (
   meaning-push ps (escape b) ∙ ap (λ r. r ++ escaped_byte b ∷ []) m,
 )
 
--- a quote or a backslash behind the pieces
+-- a quote or a backslash after the pieces
 byte_more : (x l : List ℕ) (b c : ℕ) → c ≡ b → WritesPieces x l [] → WritesPieces (x ++ b ∷ []) l (c ∷ [])
 byte_more x l b c same (ps, are, e, m) = (ps, are, text_more x ps b c same e, m)
 
@@ -79,9 +79,9 @@ step_writes x (in_quotes l) b h =
     either _ (b == 34) _ _ (λ e. byte_more x l b 34 (number_is b 34 e) h)
     (λ n. either _ (b == 92) _ _ (λ e. byte_more x l b 92 (number_is b 92 e) h) (λ k. plain_more x l b (plain_of b n k) h))
 step_writes x (in_escape l) b h = either _ (is_escape b) _ _ (λ k. escape_more x l b k h) (λ n. tt)
-step_writes x (behind_quote l) b h = tt
+step_writes x (after_quote l) b h = tt
 
--- the text of a run behind a first byte
+-- the text of a run after a first byte
 after_step : (x y : List ℕ) (b : ℕ) (s : Option Spot) → Gives (Writes (x ++ b ∷ [])) s → ((t : Spot) → Writes (x ++ b ∷ []) t → Gives (Writes ((x ++ b ∷ []) ++ y)) (run t y))
     → Gives (Writes (x ++ b ∷ y)) (option_and_then (λ t. run t y) s)
 after_step x y b None h k = tt
@@ -98,4 +98,4 @@ label_spelled x start l h e = none_some l e
 label_spelled x (in_bare k) l h e = inl (subst (λ r. IsTrue (is_bare_label r)) (sym h.1) h.0, h.1 ∙ some_is k l e)
 label_spelled x (in_quotes k) l h e = none_some l e
 label_spelled x (in_escape k) l h e = none_some l e
-label_spelled x (behind_quote k) l (ps, are, e, m) i = inr (ps, are, e, m ∙ some_is k l i)
+label_spelled x (after_quote k) l (ps, are, e, m) i = inr (ps, are, e, m ∙ some_is k l i)

@@ -10,7 +10,7 @@ use Rattle.mix_base.proofs.Choices.{and_parts, none_some, some_is}
 use Rattle.mix_base.proofs.Slices.{slice_then, slice_length, drop_end}
 use Rattle.mix_tree.specs.Spelling.{is_bare}
 use Rattle.mix_tree.specs.LabelGrammar.{is_plain, is_escape, escaped_byte}
-use Rattle.mix_tree.specs.LabelMachine.{Spot, start, in_bare, in_quotes, in_escape, behind_quote, step, got, unexpected, ends, or_stop, seen_from}
+use Rattle.mix_tree.specs.LabelMachine.{Spot, start, in_bare, in_quotes, in_escape, after_quote, step, got, unexpected, ends, or_stop, seen_from}
 use Rattle.mix_tree.specs.LabelPieces.{escape_of}
 use Rattle.mix_tree.proofs.LabelComplete.{plain_step}
 
@@ -41,8 +41,8 @@ quotes_seen x l at end order inside h =
 pub cut_seen : (x l : List ℕ) (end : ℕ) → length x ≤ end → seen_from (in_quotes l) end (drop end x) ≡ ends
 cut_seen x l end h = ap (seen_from (in_quotes l) end) (drop_end x end h)
 
--- behind the closing quote the label has ended
-closed_seen : (l y : List ℕ) (i : ℕ) → seen_from (behind_quote l) i y ≡ got l i y
+-- after the closing quote the label has ended
+closed_seen : (l y : List ℕ) (i : ℕ) → seen_from (after_quote l) i y ≡ got l i y
 closed_seen l [] i = refl
 closed_seen l (b ∷ y) i = refl
 
@@ -52,7 +52,7 @@ byte_seen x s t i inside e = ap (seen_from s i) (drop_more x i 0 inside) ∙ see
 
 -- the closing quote
 pub quote_seen : (x l : List ℕ) (end : ℕ) → end < length x → slice_index x end ≡ 34 → seen_from (in_quotes l) end (drop end x) ≡ got l (end + 1) (drop (end + 1) x)
-quote_seen x l end inside e = byte_seen x (in_quotes l) (behind_quote l) end inside (ap (step (in_quotes l)) e) ∙ closed_seen l (drop (end + 1) x) (end + 1)
+quote_seen x l end inside e = byte_seen x (in_quotes l) (after_quote l) end inside (ap (step (in_quotes l)) e) ∙ closed_seen l (drop (end + 1) x) (end + 1)
 
 -- a backslash
 backslash_seen : (x l : List ℕ) (end : ℕ) → end < length x → slice_index x end ≡ 92 → seen_from (in_quotes l) end (drop end x) ≡ seen_from (in_escape l) (end + 1) (drop (end + 1) x)
@@ -62,7 +62,7 @@ backslash_seen x l end inside e = byte_seen x (in_quotes l) (in_escape l) end in
 pub escape_cut : (x l : List ℕ) (end : ℕ) → end < length x → slice_index x end ≡ 92 → length x ≤ end + 1 → seen_from (in_quotes l) end (drop end x) ≡ ends
 escape_cut x l end inside e h = backslash_seen x l end inside e ∙ ap (seen_from (in_escape l) (end + 1)) (drop_end x (end + 1) h)
 
--- a byte that is no escape does not go on behind a backslash
+-- a byte that is no escape does not go on after a backslash
 no_escape : (l : List ℕ) (b : ℕ) → escape_of b ≡ None → step (in_escape l) b ≡ None
 no_escape l b e = by_case (is_escape b) e
   where
@@ -131,7 +131,7 @@ abbrev pub NoBare : List ℕ → Type 0
 NoBare [] = Unit {0}
 NoBare (b ∷ y) = is_bare b ≡ false
 
--- bare characters behind others
+-- bare characters after others
 bare_seen : (x y l : List ℕ) (i : ℕ) → IsTrue (list_all is_bare x) → NoBare y → seen_from (in_bare l) i (x ++ y) ≡ got (l ++ x) (i + length x) y
 bare_seen [] [] l i h k = let none : i ≡ i + length {A = ℕ} [] = omega arith in ap (λ m. got m i []) (sym (append_nil l)) ∙ ap (λ n. got (l ++ []) n []) none
 bare_seen [] (c ∷ y) l i h k =

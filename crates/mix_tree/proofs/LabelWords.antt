@@ -42,9 +42,9 @@ same_parts n xs ys e f = sym (take-append-drop n xs) ∙ ap (λ a. a ++ drop n x
 from_words : (xs ys : List ℕ) → length xs ≡ 14 → length ys ≡ 14 → AreBytes xs → AreBytes ys → from_le_bytes w64 (take 8 xs) ≡ from_le_bytes w64 (take 8 ys)
     → from_le_bytes w64 (drop 6 xs) ≡ from_le_bytes w64 (drop 6 ys) → xs ≡ ys
 from_words xs ys m n h k e f =
-    let front = same_word (take 8 xs) (take 8 ys) (omega (arith, length-take 8 xs)) (omega (arith, length-take 8 ys)) (take_bytes 8 xs h) (take_bytes 8 ys k) e in
+    let prefix = same_word (take 8 xs) (take 8 ys) (omega (arith, length-take 8 xs)) (omega (arith, length-take 8 ys)) (take_bytes 8 xs h) (take_bytes 8 ys k) e in
     let back = same_word (drop 6 xs) (drop 6 ys) (omega (arith, length-drop 6 xs)) (omega (arith, length-drop 6 ys)) (drop_bytes 6 xs h) (drop_bytes 6 ys k) f in
-    same_parts 8 xs ys front (sym (drop-drop 2 6 xs) ∙ ap (drop 2) back ∙ drop-drop 2 6 ys)
+    same_parts 8 xs ys prefix (sym (drop-drop 2 6 xs) ∙ ap (drop 2) back ∙ drop-drop 2 6 ys)
 
 -- tests that hold under the same conditions
 same_test : (a b : Bool) → (a ≡ true → b ≡ true) → (b ≡ true → a ≡ true) → a ≡ b
@@ -60,7 +60,7 @@ words_are xs ys m n h k e =
     (λ t. (bytes_eq-Decides xs ys).1 (from_words xs ys m n h k e ((Decides-eqb (from_le_bytes w64 (drop 6 xs)) (from_le_bytes w64 (drop 6 ys))).0 t)))
     (λ t. (Decides-eqb (from_le_bytes w64 (drop 6 xs)) (from_le_bytes w64 (drop 6 ys))).1 (ap (λ l. from_le_bytes w64 (drop 6 l)) ((bytes_eq-Decides xs ys).0 t)))
 
--- texts of one length, with zeros behind them, are the same where all bytes in place are
+-- texts of one length, with zeros after them, are the same where all bytes in place are
 pub texts_are : (m n : ℕ) (xs ys : List ℕ) → drop m xs ≡ replicate (14 - m) 0 → drop n ys ≡ replicate (14 - n) 0 → m ≡ n
     → bytes_eq xs ys ≡ bytes_eq (take m xs) (take n ys)
 texts_are m n xs ys u v same = same_test (bytes_eq xs ys) (bytes_eq (take m xs) (take n ys)) there back
@@ -70,9 +70,9 @@ texts_are m n xs ys u v same = same_test (bytes_eq xs ys) (bytes_eq (take m xs) 
 
     back : bytes_eq (take m xs) (take n ys) ≡ true → bytes_eq xs ys ≡ true
     back t =
-        let front : take m xs ≡ take m ys = (bytes_eq-Decides (take m xs) (take n ys)).0 t ∙ ap (λ i. take i ys) (sym same) in
+        let prefix : take m xs ≡ take m ys = (bytes_eq-Decides (take m xs) (take n ys)).0 t ∙ ap (λ i. take i ys) (sym same) in
         let rest : drop m xs ≡ drop m ys = u ∙ ap (λ i. replicate (14 - i) 0) same ∙ sym v ∙ ap (λ i. drop i ys) (sym same) in
-        (bytes_eq-Decides xs ys).1 (same_parts m xs ys front rest)
+        (bytes_eq-Decides xs ys).1 (same_parts m xs ys prefix rest)
 
 -- texts of two lengths are not the same
 pub texts_differ : (m n : ℕ) (xs ys : List ℕ) → m ≤ length xs → n ≤ length ys → (m ≡ n → ⊥) → m == n ≡ bytes_eq (take m xs) (take n ys)

@@ -61,5 +61,5 @@ digits_below x h =
     omega (arith, a, b)
 
 -- and so do the first of them
-pub front_below : (x : List ℕ) (i : ℕ) → are_digits x ≡ true → digits_value 10 (take i x) < 10 ^ 18
-front_below x i h = let a = digits_below x h in let b = digits_value-take-le 10 x i (omega arith) in omega (arith, a, b)
+pub prefix_below : (x : List ℕ) (i : ℕ) → are_digits x ≡ true → digits_value 10 (take i x) < 10 ^ 18
+prefix_below x i h = let a = digits_below x h in let b = digits_value-take-le 10 x i (omega arith) in omega (arith, a, b)

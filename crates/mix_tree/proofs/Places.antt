@@ -9,7 +9,7 @@ pub trees_at_none : (place : List ℕ) → trees_at none place ≡ none
 trees_at_none [] = refl
 trees_at_none (i ∷ place) = ap (λ f. trees_at f place) (from_none i) ∙ trees_at_none place
 
--- what stands at a place is that of the first tree, whatever is behind it
+-- what stands at a place is that of the first tree, whatever is after it
 pub tree_at_first : (f : Forest) (t : LabelledTree) (place : List ℕ) → Some t ≡ first_tree f → first_tree (trees_at f place) ≡ tree_at t place
 tree_at_first none t place e = cc
 tree_at_first (tree label kids rest) t [] e = sym e
@@ -31,7 +31,7 @@ pub tree_at-step : (t : LabelledTree) (i : ℕ) (place : List ℕ) (kid : Option
 tree_at-step t i place None e = tree_at_nowhere (from i t.kids) place e
 tree_at-step t i place (Some u) e = tree_at_first (from i t.kids) u place e
 
--- a place behind a place
+-- a place after a place
 pub trees_at-append : (f : Forest) (place more : List ℕ) → trees_at f (place ++ more) ≡ trees_at (trees_at f place) more
 trees_at-append f [] more = refl
 trees_at-append f (i ∷ place) more = trees_at-append (from i (first_kids f)) place more

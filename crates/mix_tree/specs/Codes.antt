@@ -4,7 +4,7 @@ use Rattle.std.specs.Coded.{Coded, code_by, coded×, coded_ℕ, coded_list, code
 use Rattle.std.proofs.Common.{ap, ◌∙◌, sym}
 use Rattle.mix_tree.specs.Forest.{Forest, none, tree, LabelledTree}
 
--- each label, its children and the trees behind it, of which each ends in None
+-- each label, its children and the trees after it, of which each ends in None
 abbrev pub forest_codes : Forest → List (Option (List ℕ))
 forest_codes none = None ∷ []
 forest_codes (tree label kids rest) = Some label ∷ forest_codes kids ++ forest_codes rest
@@ -34,7 +34,7 @@ append_nil : (a : List (Option (List ℕ))) → a ++ [] ≡ a
 append_nil [] = refl
 append_nil (x ∷ a) = ap (λ r. x ∷ r) (append_nil a)
 
--- the labels of a list of trees stand for it, whatever comes behind
+-- the labels of a list of trees stand for it, whatever comes after
 pub forests_from-codes : (f : Forest) (others : List (Option (List ℕ))) → forests_from (forest_codes f ++ others) ≡ f ∷ forests_from others
 forests_from-codes none others = refl
 forests_from-codes (tree label kids rest) others =

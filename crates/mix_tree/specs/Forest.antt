@@ -1,7 +1,7 @@
 -- Labelled ordered trees, apart from how they lie in memory.
 use Rattle.std.specs.Prelude.{ℕ, zero, suc, List, [], ◌∷◌, ◌++◌, Option, Some, None}
 
--- an ordered list of trees: none, or a first tree (its label and its children) and the trees behind it
+-- an ordered list of trees: none, or a first tree (its label and its children) and the trees after it
 pub data Forest : Type 0 where
   none : Forest
   tree : (label : List ℕ) → (kids : Forest) → (rest : Forest) → Forest
@@ -35,17 +35,17 @@ abbrev pub first_kids : Forest → Forest
 first_kids none = none
 first_kids (tree label kids rest) = kids
 
--- the trees behind the first
-abbrev pub behind : Forest → Forest
-behind none = none
-behind (tree label kids rest) = rest
+-- the trees after the first
+abbrev pub after_first : Forest → Forest
+after_first none = none
+after_first (tree label kids rest) = rest
 
 -- the trees from an index on
 abbrev pub from : ℕ → Forest → Forest
 from zero f = f
-from (suc i) f = from i (behind f)
+from (suc i) f = from i (after_first f)
 
--- one list of trees behind another
+-- one list of trees after another
 abbrev pub followed : Forest → Forest → Forest
 followed none g = g
 followed (tree label kids rest) g = tree label kids (followed rest g)

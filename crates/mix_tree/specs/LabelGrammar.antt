@@ -3,7 +3,7 @@ use Rattle.std.specs.Prelude.{◌≡◌, ◌⊎◌, ℕ, Bool, true, false, cond
 use Rattle.std.specs.List.{list_all}
 use Rattle.mix_tree.specs.Spelling.{is_bare_label}
 
--- what stands between quotes: a byte that stands for itself, or one behind a backslash
+-- what stands between quotes: a byte that stands for itself, or one after a backslash
 pub data Piece : Type 0 where
   plain : ℕ → Piece
   escape : ℕ → Piece
@@ -12,7 +12,7 @@ pub data Piece : Type 0 where
 abbrev pub is_plain : ℕ → Bool
 is_plain b = cond (b == 34) false (cond (b == 92) false true)
 
--- what may stand behind a backslash: a quote, a backslash, n or t
+-- what may stand after a backslash: a quote, a backslash, n or t
 abbrev pub is_escape : ℕ → Bool
 is_escape b = b == 34 || b == 92 || b == 110 || b == 116
 

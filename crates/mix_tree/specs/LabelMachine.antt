@@ -10,17 +10,17 @@ pub data Spot : Type 0 where
   in_bare : List ℕ → Spot
   in_quotes : List ℕ → Spot
   in_escape : List ℕ → Spot
-  behind_quote : List ℕ → Spot
+  after_quote : List ℕ → Spot
 
--- the spot behind one more byte, where a spelling goes on so
+-- the spot after one more byte, where a spelling goes on so
 abbrev pub step : Spot → ℕ → Option Spot
 step start b = cond (is_bare b) (Some (in_bare (b ∷ []))) (cond (b == 34) (Some (in_quotes [])) None)
 step (in_bare l) b = cond (is_bare b) (Some (in_bare (l ++ b ∷ []))) None
-step (in_quotes l) b = cond (b == 34) (Some (behind_quote l)) (cond (b == 92) (Some (in_escape l)) (Some (in_quotes (l ++ b ∷ []))))
+step (in_quotes l) b = cond (b == 34) (Some (after_quote l)) (cond (b == 92) (Some (in_escape l)) (Some (in_quotes (l ++ b ∷ []))))
 step (in_escape l) b = cond (is_escape b) (Some (in_quotes (l ++ escaped_byte b ∷ []))) None
-step (behind_quote l) b = None
+step (after_quote l) b = None
 
--- the spot behind a text
+-- the spot after a text
 abbrev pub run : Spot → List ℕ → Option Spot
 run = run_by step
 
@@ -30,9 +30,9 @@ label_in start = None
 label_in (in_bare l) = Some l
 label_in (in_quotes l) = None
 label_in (in_escape l) = None
-label_in (behind_quote l) = Some l
+label_in (after_quote l) = Some l
 
--- what is seen of a text: a label with the place behind it and the text from there on, a byte that does not fit, or the end
+-- what is seen of a text: a label with the place after it and the text from there on, a byte that does not fit, or the end
 pub data Seen : Type 0 where
   got : List ℕ → ℕ → List ℕ → Seen
   unexpected : ℕ → Seen

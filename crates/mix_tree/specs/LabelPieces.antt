@@ -17,7 +17,7 @@ pub record StandsAt (text : List ℕ) (at : ℕ) (p : PlainLabel) : Type 0 where
   pub boundary : IsCharBoundary text p.end
   pub seen : seen_from start at (drop at text) ≡ got (slice_range text p.from p.to) p.end (drop p.end text)
 
--- the byte that is meant by one behind a backslash, where that is an escape
+-- the byte that is meant by one after a backslash, where that is an escape
 abbrev pub escape_of : ℕ → Option ℕ
 escape_of b = cond (is_escape b) (Some (escaped_byte b)) None
 

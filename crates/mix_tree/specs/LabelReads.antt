@@ -1,17 +1,17 @@
 -- What reading a label at a place of a text answers.
 use Rattle.std.specs.Prelude.{ℕ, ◌-◌, ◌≤◌, ◌<◌, List, length, take, drop, slice_range}
 use Rattle.std.specs.Str.{IsUtf8, IsCharBoundary}
-use Rattle.mix_base.specs.Reading.{IsFront, IsUnexpected}
+use Rattle.mix_base.specs.Reading.{IsPrefix, IsUnexpected}
 use Rattle.mix_tree.specs.LabelGrammar.{SpellsLabel}
 use Rattle.mix_tree.specs.LabelMachine.{Seen, got, unexpected, ends}
 use Rattle.mix_tree.specs.declared.label_read.LabelRead.{LabelRead}
 use Rattle.mix_tree.specs.declared.label_read.LabelRead.TheVariants.{Got, Unexpected, Ends}
 
--- no front of the text that is a text itself spells a label
+-- no prefix of the text that is a text itself spells a label
 abbrev pub SpellsNowhere : List ℕ → Type 0
 SpellsNowhere x = (n : ℕ) (label : List ℕ) → IsUtf8 (take n x) → SpellsLabel (take n x) label → ⊥
 
--- the longest spelling at a place of the text, its label, and the place behind it
+-- the longest spelling at a place of the text, its label, and the place after it
 pub record IsLongest (x : List ℕ) (from : ℕ) (label : List ℕ) (end : ℕ) : Type 0 where
   pub order : from < end
   pub inside : end ≤ length x
@@ -28,7 +28,7 @@ pub record IsNoLabel (x : List ℕ) (from : ℕ) (at : ℕ) : Type 0 where
 
 -- no label is spelled there, and a spelling goes on from the end of the text
 pub record IsCutLabel (x : List ℕ) (from : ℕ) : Type 0 where
-  pub front : IsFront SpellsLabel (drop from x)
+  pub prefix : IsPrefix SpellsLabel (drop from x)
   pub nowhere : SpellsNowhere (drop from x)
 
 -- the answer is that of the text at the place

@@ -8,7 +8,7 @@ abbrev pub text_bytes : LabelText → List ℕ
 text_bytes (Short len bytes) = take len bytes
 text_bytes (Long text) = string_bytes text.value
 
--- the length lies within the room, the bytes are UTF-8, and zeros fill the room behind them
+-- the length lies within the room, the bytes are UTF-8, and zeros fill the room after them
 abbrev pub IsText : LabelText → Type 0
 IsText (Short len bytes) = (len ≤ 14) × ∥ IsUtf8 (take len bytes) ∥₁ × (length bytes ≡ 14) × (drop len bytes ≡ replicate (14 - len) 0)
 IsText (Long text) = Unit {0}

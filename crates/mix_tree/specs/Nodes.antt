@@ -21,7 +21,7 @@ document_node s = record { source = s; place = [] }
 abbrev pub same_node : Node → Node → Bool
 same_node a b = (a.source == b.source) && bytes_eq a.place b.place
 
--- the tree at a node and the siblings behind it
+-- the tree at a node and the siblings after it
 abbrev pub node_trees : Documents → Node → Forest
 node_trees docs n = trees_at (tree [] (docs n.source) none) n.place
 

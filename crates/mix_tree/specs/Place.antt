@@ -2,7 +2,7 @@
 use Rattle.std.specs.Prelude.{ℕ, ◌+◌, List, [], ◌∷◌, ◌++◌, Bool, is_some, Option, Some, None, option_map}
 use Rattle.mix_tree.specs.Forest.{Forest, LabelledTree, alone, first_tree, first_label, first_kids, from}
 
--- the tree at a place and the siblings behind it; what has no such place has none there
+-- the tree at a place and the siblings after it; what has no such place has none there
 abbrev pub trees_at : Forest → List ℕ → Forest
 trees_at f [] = f
 trees_at f (i ∷ place) = trees_at (from i (first_kids f)) place

@@ -18,7 +18,7 @@ pub enum LabelPiece {
     Ends,
 }
 
-// The byte that is meant by one behind a backslash.
+// The byte that is meant by one after a backslash.
 fn unescaped(byte: u8) -> Option<u8>
     ensures { result ≡ escape_of byte }
 {

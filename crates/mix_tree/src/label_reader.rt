@@ -11,7 +11,7 @@ use crate::label_scan::plain_label;
 use crate::{Label, LabelRead};
 use std::alloc::{AllocError, Global};
 
-// Reads what stands behind an opening quote, with escapes.
+// Reads what stands after an opening quote, with escapes.
 fn read_escaped(alloc: Global, text: &[u8], from: usize) -> Result<LabelRead, AllocError>
     requires inside { from ≤ length text.now }
     requires utf8 { IsUtf8 text.now }

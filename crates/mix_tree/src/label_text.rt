@@ -10,7 +10,7 @@ use std::str;
 /// The most bytes that lie in the label itself. With 14 of them a label takes 16 bytes.
 pub const ROOM: usize = 14;
 
-/// A text of at most `ROOM` bytes in place, with its length, and zeros behind it; or a longer one on the heap.
+/// A text of at most `ROOM` bytes in place, with its length, and zeros after it; or a longer one on the heap.
 #[derive(Drop)]
 pub enum LabelText {
     Short(u8, [u8; ROOM]),
@@ -18,11 +18,11 @@ pub enum LabelText {
 }
 
 // The first 8 bytes as a number.
-fn front_word(bytes: &[u8; ROOM]) -> u64
+fn prefix_word(bytes: &[u8; ROOM]) -> u64
     ensures { result ≡ from_le_bytes w64 (take 8 bytes.now) }
 {
     match bytes.split_first_chunk() {
-        Some((front, _)) => u64::from_le_bytes(*front),
+        Some((prefix, _)) => u64::from_le_bytes(*prefix),
         None => unreachable!(),
     }
 }
@@ -41,7 +41,7 @@ fn back_word(bytes: &[u8; ROOM]) -> u64
 pub fn same_bytes(a: &[u8; ROOM], b: &[u8; ROOM]) -> bool
     ensures { result ≡ bytes_eq a.now b.now }
 {
-    front_word(a) == front_word(b) && back_word(a) == back_word(b)
+    prefix_word(a) == prefix_word(b) && back_word(a) == back_word(b)
 }
 
 // A text that fits in place.

@@ -36,7 +36,7 @@ fn push_escaped(out: &mut Vec<u8>, byte: u8) -> Result<(), AllocError>
     Ok(())
 }
 
-/// Writes a label between quotes behind what `out` holds. An error leaves a front of it there.
+/// Writes a label between quotes after what `out` holds. An error leaves a prefix of it there.
 pub fn push_quoted(out: &mut Vec<u8>, label: &Label) -> Result<(), AllocError>
     ensures { OnOk result (out.new.items ≡ out.old.items ++ quoted label.now) }
 {
@@ -48,7 +48,7 @@ pub fn push_quoted(out: &mut Vec<u8>, label: &Label) -> Result<(), AllocError>
     Ok(())
 }
 
-/// Writes a label's canonical spelling behind what `out` holds. An error leaves a front of it there.
+/// Writes a label's canonical spelling after what `out` holds. An error leaves a prefix of it there.
 pub fn push_label(out: &mut Vec<u8>, label: &Label) -> Result<(), AllocError>
     ensures { OnOk result (out.new.items ≡ out.old.items ++ spelling label.now) }
 {

@@ -34,7 +34,7 @@ byte_before_lf b c bs h k =
     by_cr true = refl
     by_cr false = refl
 
--- a line in front of LF
+-- a line before LF
 lines_at_lf : (line : List ℕ) (c : ℕ) (bs : List ℕ) → Free is_lf line → is_lf c ≡ true → lines_of (line ++ c ∷ bs) ≡ without_cr line ∷ lines_of bs
 lines_at_lf [] c bs f h = lf_ends c bs h
 lines_at_lf (b ∷ []) c bs f h = byte_before_lf b c bs f.0 h
@@ -51,26 +51,26 @@ lines_at_end b [] f = last_byte b f.0
 lines_at_end b (d ∷ line) f = line_longer b d line f.0 f.1.0 ∙ ap (with_first b) (lines_at_end d line f.1)
 
 -- one line more was cut
-pub line_cut : (text : List ℕ) (from at : ℕ) (front more whole : List (List ℕ)) → from ≤ at → at < length text → Free is_lf (slice_range text from at) → is_lf (slice_index text at) ≡ true
-    → more ≡ front ++ without_cr (slice_range text from at) ∷ [] → front ++ lines_of (drop from text) ≡ whole → more ++ lines_of (drop (at + 1) text) ≡ whole
-line_cut text from at front more whole h k f s m e =
+pub line_cut : (text : List ℕ) (from at : ℕ) (prefix more whole : List (List ℕ)) → from ≤ at → at < length text → Free is_lf (slice_range text from at) → is_lf (slice_index text at) ≡ true
+    → more ≡ prefix ++ without_cr (slice_range text from at) ∷ [] → prefix ++ lines_of (drop from text) ≡ whole → more ++ lines_of (drop (at + 1) text) ≡ whole
+line_cut text from at prefix more whole h k f s m e =
     ap (λ ls. ls ++ lines_of (drop (at + 1) text)) m
-    ∙ append_assoc front (without_cr (slice_range text from at) ∷ []) (lines_of (drop (at + 1) text))
-    ∙ ap (λ ls. front ++ ls) (sym (ap lines_of (cut_at text from at h k) ∙ lines_at_lf (slice_range text from at) (slice_index text at) (drop (at + 1) text) f s)) ∙ e
+    ∙ append_assoc prefix (without_cr (slice_range text from at) ∷ []) (lines_of (drop (at + 1) text))
+    ∙ ap (λ ls. prefix ++ ls) (sym (ap lines_of (cut_at text from at h k) ∙ lines_at_lf (slice_range text from at) (slice_index text at) (drop (at + 1) text) f s)) ∙ e
 
 lines_at_any_end : (line : List ℕ) → 0 < length line → Free is_lf line → lines_of line ≡ line ∷ []
 lines_at_any_end [] h f = absurd (omega arith)
 lines_at_any_end (b ∷ line) h f = lines_at_end b line f
 
 -- the last line was cut
-pub last_line : (text : List ℕ) (from : ℕ) (front more whole : List (List ℕ)) → from < length text → Free is_lf (drop from text)
-    → more ≡ front ++ drop from text ∷ [] → front ++ lines_of (drop from text) ≡ whole → more ≡ whole
-last_line text from front more whole h f m e =
-    m ∙ ap (λ ls. front ++ ls) (sym (lines_at_any_end (drop from text) (omega (arith, length-drop from text)) f)) ∙ e
+pub last_line : (text : List ℕ) (from : ℕ) (prefix more whole : List (List ℕ)) → from < length text → Free is_lf (drop from text)
+    → more ≡ prefix ++ drop from text ∷ [] → prefix ++ lines_of (drop from text) ≡ whole → more ≡ whole
+last_line text from prefix more whole h f m e =
+    m ∙ ap (λ ls. prefix ++ ls) (sym (lines_at_any_end (drop from text) (omega (arith, length-drop from text)) f)) ∙ e
 
 -- no line is left
-pub no_line_left : (text : List ℕ) (from : ℕ) (front whole : List (List ℕ)) → length text ≤ from → front ++ lines_of (drop from text) ≡ whole → front ≡ whole
-no_line_left text from front whole h e = sym (append_nil front) ∙ ap (λ ls. front ++ lines_of ls) (sym (drop_all from text h)) ∙ e
+pub no_line_left : (text : List ℕ) (from : ℕ) (prefix whole : List (List ℕ)) → length text ≤ from → prefix ++ lines_of (drop from text) ≡ whole → prefix ≡ whole
+no_line_left text from prefix whole h e = sym (append_nil prefix) ∙ ap (λ ls. prefix ++ lines_of ls) (sym (drop_all from text h)) ∙ e
   where
     drop_all : (n : ℕ) (xs : List ℕ) → length xs ≤ n → drop n xs ≡ []
     drop_all zero [] h = refl

@@ -32,20 +32,20 @@ drop_nothing : (n : ℕ) → drop {A = ℕ} n [] ≡ []
 drop_nothing zero = refl
 drop_nothing (suc n) = refl
 
--- what is behind what is behind
+-- what is after what is after
 drop_twice : (n m : ℕ) (xs : List ℕ) → drop n (drop m xs) ≡ drop (m + n) xs
 drop_twice n zero xs = let e : n ≡ 0 + n = omega arith in ap (λ k. drop k xs) e
 drop_twice n (suc m) [] = drop_nothing n ∙ sym (drop_nothing (suc m + n))
 drop_twice n (suc m) (x ∷ xs) = let e : suc (m + n) ≡ suc m + n = omega arith in drop_twice n m xs ∙ ap (λ k. drop k (x ∷ xs)) e
 
--- a front that is as long as the list, or longer
+-- a prefix that is as long as the list, or longer
 take_all : (n : ℕ) (xs : List ℕ) → length xs ≤ n → take n xs ≡ xs
 take_all zero [] h = refl
 take_all zero (x ∷ xs) h = absurd (omega arith)
 take_all (suc n) [] h = refl
 take_all (suc n) (x ∷ xs) h = ap (λ r. x ∷ r) (take_all n xs (omega arith))
 
--- a part, the byte behind it, and what follows
+-- a part, the byte after it, and what follows
 pub cut_at : (xs : List ℕ) (from to : ℕ) → from ≤ to → to < length xs → drop from xs ≡ slice_range xs from to ++ slice_index xs to ∷ drop (to + 1) xs
 cut_at xs from to h k =
     let i : from + (to - from) ≡ to = omega arith in
@@ -55,6 +55,6 @@ cut_at xs from to h k =
 pub Free-rest : (sep : ℕ → Bool) (xs : List ℕ) (from to : ℕ) → from ≤ to → length xs ≤ to → Free sep (slice_range xs from to) → Free sep (drop from xs)
 Free-rest sep xs from to h k f = subst (Free sep) (take_all (to - from) (drop from xs) (omega (arith, length-drop from xs))) f
 
--- a part from here on is what is behind
+-- a part from here on is what is after
 pub rest_whole : (xs : List ℕ) (from : ℕ) → slice_range xs from (length xs) ≡ drop from xs
 rest_whole xs from = take_all (length xs - from) (drop from xs) (omega (arith, length-drop from xs))

@@ -3,14 +3,14 @@ use Rattle.std.proofs.Common.{◌≡◌, ◌≢◌, ◌≤◌, ◌-◌, ◌∙�
 use Rattle.mix_words.specs.Lines.{without_cr}
 
 -- the last byte of a longer list
-last_behind : (b c : ℕ) (xs : List ℕ) → get_or (b ∷ c ∷ xs) (length (b ∷ c ∷ xs) - 1) 0 ≡ get_or (c ∷ xs) (length (c ∷ xs) - 1) 0
-last_behind b c xs =
+last_after : (b c : ℕ) (xs : List ℕ) → get_or (b ∷ c ∷ xs) (length (b ∷ c ∷ xs) - 1) 0 ≡ get_or (c ∷ xs) (length (c ∷ xs) - 1) 0
+last_after b c xs =
     let e : length (b ∷ c ∷ xs) - 1 ≡ suc (length (c ∷ xs) - 1) = omega arith in
     ap (λ n. get_or (b ∷ c ∷ xs) n 0) e
 
 -- all but the last byte of a longer list
-front_behind : (b c : ℕ) (xs : List ℕ) → take (length (b ∷ c ∷ xs) - 1) (b ∷ c ∷ xs) ≡ b ∷ take (length (c ∷ xs) - 1) (c ∷ xs)
-front_behind b c xs =
+prefix_kept : (b c : ℕ) (xs : List ℕ) → take (length (b ∷ c ∷ xs) - 1) (b ∷ c ∷ xs) ≡ b ∷ take (length (c ∷ xs) - 1) (c ∷ xs)
+prefix_kept b c xs =
     let e : length (b ∷ c ∷ xs) - 1 ≡ suc (length (c ∷ xs) - 1) = omega arith in
     ap (λ n. take n (b ∷ c ∷ xs)) e
 
@@ -18,10 +18,10 @@ front_behind b c xs =
 pub cr_trimmed : (xs : List ℕ) → 1 ≤ length xs → get_or xs (length xs - 1) 0 ≡ 13 → take (length xs - 1) xs ≡ without_cr xs
 cr_trimmed [] h e = absurd (omega arith)
 cr_trimmed (b ∷ []) h e = let is : b ≡ 13 = e in rw is refl
-cr_trimmed (b ∷ c ∷ xs) h e = front_behind b c xs ∙ ap (λ r. b ∷ r) (cr_trimmed (c ∷ xs) (omega arith) (sym (last_behind b c xs) ∙ e))
+cr_trimmed (b ∷ c ∷ xs) h e = prefix_kept b c xs ∙ ap (λ r. b ∷ r) (cr_trimmed (c ∷ xs) (omega arith) (sym (last_after b c xs) ∙ e))
 
 -- another last byte is kept
 pub cr_kept : (xs : List ℕ) → get_or xs (length xs - 1) 0 ≢ 13 → xs ≡ without_cr xs
 cr_kept [] h = refl
 cr_kept (b ∷ []) h = let e : b == 13 ≡ false = grind arith in rw e refl
-cr_kept (b ∷ c ∷ xs) h = ap (λ r. b ∷ r) (cr_kept (c ∷ xs) (λ e. h (last_behind b c xs ∙ e)))
+cr_kept (b ∷ c ∷ xs) h = ap (λ r. b ∷ r) (cr_kept (c ∷ xs) (λ e. h (last_after b c xs ∙ e)))

@@ -14,7 +14,7 @@ word_ends b c bs h k = rw (h, k) refl
 blank_passed : (c : ℕ) (bs : List ℕ) → is_blank c ≡ true → words_of (c ∷ bs) ≡ words_of bs
 blank_passed c bs h = rw h refl
 
--- a word in front of a blank
+-- a word before a blank
 words_at_blank : (word : List ℕ) (c : ℕ) (bs : List ℕ) → Free is_blank word → is_blank c ≡ true → words_of (word ++ c ∷ bs) ≡ unless_empty word ++ words_of bs
 words_at_blank [] c bs f h = blank_passed c bs h
 words_at_blank (b ∷ []) c bs f h = word_ends b c bs f.0 h
@@ -30,15 +30,15 @@ words_at_end (b ∷ []) f = last_byte b f.0
 words_at_end (b ∷ d ∷ word) f = word_longer b d word f.0 f.1.0 ∙ ap (with_first b) (words_at_end (d ∷ word) f.1)
 
 -- one word more was cut
-pub word_cut : (line : List ℕ) (from at : ℕ) (front more whole : List (List ℕ)) → from ≤ at → at < length line → Free is_blank (slice_range line from at) → is_blank (slice_index line at) ≡ true
-    → more ≡ front ++ unless_empty (slice_range line from at) → front ++ words_of (drop from line) ≡ whole → more ++ words_of (drop (at + 1) line) ≡ whole
-word_cut line from at front more whole h k f s m e =
+pub word_cut : (line : List ℕ) (from at : ℕ) (prefix more whole : List (List ℕ)) → from ≤ at → at < length line → Free is_blank (slice_range line from at) → is_blank (slice_index line at) ≡ true
+    → more ≡ prefix ++ unless_empty (slice_range line from at) → prefix ++ words_of (drop from line) ≡ whole → more ++ words_of (drop (at + 1) line) ≡ whole
+word_cut line from at prefix more whole h k f s m e =
     ap (λ ws. ws ++ words_of (drop (at + 1) line)) m
-    ∙ append_assoc front (unless_empty (slice_range line from at)) (words_of (drop (at + 1) line))
-    ∙ ap (λ ws. front ++ ws) (sym (ap words_of (cut_at line from at h k) ∙ words_at_blank (slice_range line from at) (slice_index line at) (drop (at + 1) line) f s)) ∙ e
+    ∙ append_assoc prefix (unless_empty (slice_range line from at)) (words_of (drop (at + 1) line))
+    ∙ ap (λ ws. prefix ++ ws) (sym (ap words_of (cut_at line from at h k) ∙ words_at_blank (slice_range line from at) (slice_index line at) (drop (at + 1) line) f s)) ∙ e
 
 -- the last word was cut
-pub last_word : (line : List ℕ) (from : ℕ) (front more whole : List (List ℕ)) → Free is_blank (drop from line)
-    → more ≡ front ++ unless_empty (slice_range line from (length line)) → front ++ words_of (drop from line) ≡ whole → more ≡ whole
-last_word line from front more whole f m e =
-    m ∙ ap (λ ws. front ++ ws) (ap unless_empty (rest_whole line from) ∙ sym (words_at_end (drop from line) f)) ∙ e
+pub last_word : (line : List ℕ) (from : ℕ) (prefix more whole : List (List ℕ)) → Free is_blank (drop from line)
+    → more ≡ prefix ++ unless_empty (slice_range line from (length line)) → prefix ++ words_of (drop from line) ≡ whole → more ≡ whole
+last_word line from prefix more whole f m e =
+    m ∙ ap (λ ws. prefix ++ ws) (ap unless_empty (rest_whole line from) ∙ sym (words_at_end (drop from line) f)) ∙ e

@@ -18,7 +18,7 @@ without_cr [] = []
 without_cr (b ∷ []) = cond (b == 13) [] (b ∷ [])
 without_cr (b ∷ c ∷ bs) = b ∷ without_cr (c ∷ bs)
 
--- a line is passed over where it has only blanks, or # is the first byte behind them
+-- a line is passed over where it has only blanks, or # is the first byte after them
 abbrev pub is_passed : List ℕ → Bool
 is_passed [] = true
 is_passed (b ∷ bs) = cond (is_blank b) (is_passed bs) (b == 35)

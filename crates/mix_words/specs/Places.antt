@@ -3,9 +3,9 @@ use Rattle.std.specs.Prelude.{ℕ, zero, suc, ◌+◌, Bool, true, cond, ◌&&�
 use Rattle.mix_words.specs.Words.{is_blank}
 
 -- whether a blank stands last in a text; p where the text is empty
-abbrev pub blank_behind : Bool → List ℕ → Bool
-blank_behind p [] = p
-blank_behind p (b ∷ bs) = blank_behind (is_blank b) bs
+abbrev pub ends_blank : Bool → List ℕ → Bool
+ends_blank p [] = p
+ends_blank p (b ∷ bs) = ends_blank (is_blank b) bs
 
 -- where the word begins that has n words before it, in a text that stands at a place; p where a word may begin there
 abbrev pub word_from : Bool → ℕ → ℕ → List ℕ → Option ℕ

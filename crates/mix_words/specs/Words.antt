@@ -6,7 +6,7 @@ use Rattle.std.specs.List.{list_all}
 abbrev pub is_blank : ℕ → Bool
 is_blank b = b == 32 || b == 9
 
--- one byte more in front of the first of these pieces
+-- one byte more before the first of these pieces
 abbrev pub with_first : ℕ → List (List ℕ) → List (List ℕ)
 with_first b [] = (b ∷ []) ∷ []
 with_first b (piece ∷ pieces) = (b ∷ piece) ∷ pieces
@@ -16,7 +16,7 @@ abbrev pub ends_word : List ℕ → Bool
 ends_word [] = true
 ends_word (b ∷ bs) = is_blank b
 
--- a blank is in no word; another byte is the whole word where the word ends behind it, and else begins the next word
+-- a blank is in no word; another byte is the whole word where the word ends after it, and else begins the next word
 abbrev pub words_of : List ℕ → List (List ℕ)
 words_of [] = []
 words_of (b ∷ bs) = cond (is_blank b) (words_of bs) (cond (ends_word bs) ((b ∷ []) ∷ words_of bs) (with_first b (words_of bs)))

@@ -10,7 +10,7 @@ fn trim_cr(line: &[u8]) -> &[u8]
     ensures { result.now ≡ without_cr line.now }
 {
     match line {
-        [front @ .., b'\r'] => front,
+        [prefix @ .., b'\r'] => prefix,
         _ => line,
     }
 }
@@ -33,7 +33,7 @@ pub fn cut_lines(alloc: Global, text: &[u8]) -> Result<Vec<&[u8]>, AllocError>
     Ok(lines)
 }
 
-/// Whether a line is passed over: it has only spaces and tabs, or `#` comes first behind them.
+/// Whether a line is passed over: it has only spaces and tabs, or `#` comes first after them.
 pub fn is_passed_over(line: &[u8]) -> bool
     ensures { result ≡ is_passed line.now }
 {

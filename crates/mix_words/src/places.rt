@@ -1,6 +1,6 @@
 // Where a word of a line begins.
 ghost use Rattle.std.specs.Prelude.{◌≡◌, ◌<◌, IfSome, IsTrue, true, length, take};
-ghost use Rattle.mix_words.specs.Places.{place_of_word, blank_behind};
+ghost use Rattle.mix_words.specs.Places.{place_of_word, ends_blank};
 
 use crate::words::is_blank_byte;
 
@@ -8,7 +8,7 @@ use crate::words::is_blank_byte;
 pub fn word_place(line: &[u8], count: usize) -> Option<usize>
     ensures place { result ≡ place_of_word count line.now }
     ensures inside { IfSome result (λ at. at < length line.now) }
-    ensures apart { IfSome result (λ at. IsTrue (blank_behind true (take at line.now))) }
+    ensures apart { IfSome result (λ at. IsTrue (ends_blank true (take at line.now))) }
 {
     let mut left = count;
     let mut is_apart = true;

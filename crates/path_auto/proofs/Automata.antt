@@ -84,16 +84,16 @@ runs p n (l ∷ x) =
     let same : now ≡ step p n l = ap (λ t. step_from t (rows_in p) 0 n l) (sym (tests_in p)) in
     runs p now x ∙ ap (λ k. run p k x) same
 
--- the states behind a list of labels
-behind_is : (p : Form) (x : Labels) → states_after (machine_for p) x ≡ run p (first_set p) x
+-- the states after a list of labels
+after_is : (p : Form) (x : Labels) → states_after (machine_for p) x ≡ run p (first_set p) x
 unfolding machine_of
-behind_is p x = runs p (first_set p) x
+after_is p x = runs p (first_set p) x
 
 -- it accepts what the path describes
 accepts_for : (p : Form) (x : Labels) → Iff (IsTrue ((machine_for p).accepts (states_after (machine_for p) x))) (Describes p x)
 unfolding machine_of
 accepts_for p x =
-    subst (λ n. Iff (IsTrue (bit_at n (length (tests_by p.head (tests_of p.members))) == 1)) (Describes p x)) (sym (behind_is p x))
+    subst (λ n. Iff (IsTrue (bit_at n (length (tests_by p.head (tests_of p.members))) == 1)) (Describes p x)) (sym (after_is p x))
     (subst (λ c. Iff (IsTrue (bit_at (run p (first_set p) x) c == 1)) (Describes p x)) (sym (labels_length p)) (accepts_is p x))
 
 -- the labels of a path are UTF-8
@@ -109,7 +109,7 @@ goes_for : (p : Form) → HeadUtf8 p.head → AreUtf8 p.members → (x : Labels)
 unfolding machine_of
 goes_for p u v x h =
     let n : ℕ = run p (first_set p) x in
-    let met : Meet n (set_of (lives_in p) 0) = meets n (set_of (lives_in p) 0) (subst (λ k. IsTrue (not (bit_and k (set_of (lives_in p) 0) == 0))) (behind_is p x) h) in
+    let met : Meet n (set_of (lives_in p) 0) = meets n (set_of (lives_in p) 0) (subst (λ k. IsTrue (not (bit_and k (set_of (lives_in p) 0) == 0))) (after_is p x) h) in
     let r = meet_leads (IsText p) (lives_in p) (listed_in p) 0 n (u, v) (lives_are p) met in
     (r.0, r.1, r.2, r.3, (first_leads p (x ++ r.0 ∷ r.1)).0 ((run_leads p x (first_set p) (r.0 ∷ r.1)).0 ((on_leads (listed_in p) n r.0 r.1).0 r.4)))
 
@@ -120,7 +120,7 @@ unfolding machine_of
 longer_for p x l y d =
     let n : ℕ = run p (first_set p) x in
     let on : OnAny n 0 (listed_in p) (l ∷ y) = (on_leads (listed_in p) n l y).1 ((run_leads p x (first_set p) (l ∷ y)).1 ((first_leads p (x ++ l ∷ y)).1 d)) in
-    subst (λ k. IsTrue (not (bit_and k (set_of (lives_in p) 0) == 0))) (sym (behind_is p x))
+    subst (λ k. IsTrue (not (bit_and k (set_of (lives_in p) 0) == 0))) (sym (after_is p x))
     (meet n (set_of (lives_in p) 0) (leads_meet (IsText p) (lives_in p) (listed_in p) 0 n (lives_are p) (l ∷ y) on))
 
 -- the machine of a path's table follows the path

@@ -15,7 +15,7 @@ use Rattle.path_expr.specs.Description.{Labels, Describes}
 use Rattle.path_auto.specs.Automaton.{Machine, steps, states_after, Follows, machine_of, table_of}
 use Rattle.path_expr.specs.Matches.{labels_down, LeadsTo}
 use Rattle.path_auto.specs.Law.{BindingsAreMatches, VisitsAreMatches}
-use Rattle.path_auto.specs.Visit.{place_behind, visit}
+use Rattle.path_auto.specs.Visit.{place_after, visit}
 use Rattle.path_auto.proofs.Automata.{table_follows}
 
 -- what a list of one, or of none, holds
@@ -34,7 +34,7 @@ among_taken : (a : Bool) (xs : List (List ℕ)) (y : List ℕ) → Among y (cond
 among_taken true xs y h = h
 among_taken false xs y h = absurd h
 
--- the binding of an event, and those behind it
+-- the binding of an event, and those after it
 bindings_first : (a : Bool) (x : List ℕ) (es : List (Event (List ℕ))) → without_skips (cond a (bind x) skip ∷ es) ≡ cond a (x ∷ []) [] ++ without_skips es
 bindings_first true x es = refl
 bindings_first false x es = refl
@@ -60,16 +60,16 @@ next_place-push [] k = refl
 next_place-push (x ∷ []) k = refl
 next_place-push (x ∷ y ∷ p) k = ap (option_map (λ q. x ∷ q)) (next_place-push (y ∷ p) k)
 
--- the place behind a child's is that of the next child
-behind_push : (p : List ℕ) (k : ℕ) → place_behind (p ++ k ∷ []) ≡ p ++ (k + 1) ∷ []
-behind_push p k = ap (λ o. unwrap_or o (p ++ k ∷ [])) (next_place-push p k)
+-- the place after a child's is that of the next child
+after_push : (p : List ℕ) (k : ℕ) → place_after (p ++ k ∷ []) ≡ p ++ (k + 1) ∷ []
+after_push p k = ap (λ o. unwrap_or o (p ++ k ∷ [])) (next_place-push p k)
 
 module _ (m : Machine) where
   -- the bindings of the visit of trees, the first of which stands at index k below a place
   abbrev bindings : ℕ → List ℕ → ℕ → Forest → List (List ℕ)
   bindings q p k f = without_skips (visit m q (p ++ k ∷ []) f)
 
-  -- the bindings at a tree: its own, those below it, and those behind it
+  -- the bindings at a tree: its own, those below it, and those after it
   bindings_tree : (q : ℕ) (p : List ℕ) (k : ℕ) (x : List ℕ) (kids later : Forest)
       → bindings q p k (tree x kids later)
       ≡ cond (m.accepts (m.step q x)) ((p ++ k ∷ []) ∷ []) []
@@ -77,11 +77,11 @@ module _ (m : Machine) where
   bindings_tree q p k x kids later =
       let at : List ℕ = p ++ k ∷ [] in
       let deep : List (Event (List ℕ)) = cond (m.goes_on (m.step q x)) (visit m (m.step q x) (child_place at) kids) [] in
-      bindings_first (m.accepts (m.step q x)) at (deep ++ visit m q (place_behind at) later)
+      bindings_first (m.accepts (m.step q x)) at (deep ++ visit m q (place_after at) later)
       ∙ ap (λ z. cond (m.accepts (m.step q x)) (at ∷ []) [] ++ z)
-      (bindings_append deep (visit m q (place_behind at) later)
-      ∙ ap (λ z. z ++ without_skips (visit m q (place_behind at) later)) (bindings_if (m.goes_on (m.step q x)) (visit m (m.step q x) (child_place at) kids))
-      ∙ ap (λ l. cond (m.goes_on (m.step q x)) (bindings (m.step q x) at 0 kids) [] ++ without_skips (visit m q l later)) (behind_push p k))
+      (bindings_append deep (visit m q (place_after at) later)
+      ∙ ap (λ z. z ++ without_skips (visit m q (place_after at) later)) (bindings_if (m.goes_on (m.step q x)) (visit m (m.step q x) (child_place at) kids))
+      ∙ ap (λ l. cond (m.goes_on (m.step q x)) (bindings (m.step q x) at 0 kids) [] ++ without_skips (visit m q l later)) (after_push p k))
 
   -- the machine accepts the labels on the way down from trees, to the tree at index i and below it
   abbrev Accepts : ℕ → Forest → ℕ → List ℕ → Type 0
@@ -102,7 +102,7 @@ module _ (m : Machine) where
         | inl a ↦ here (among_one (m.accepts (m.step q x)) (p ++ k ∷ []) y a)
         | inr a ↦ elim (among_cases deep rest y a) [
           | inl d ↦ below (binding_is (m.step q x) (p ++ k ∷ []) 0 kids y (among_taken (m.goes_on (m.step q x)) (bindings (m.step q x) (p ++ k ∷ []) 0 kids) y d))
-          | inr d ↦ behind (binding_is q p (k + 1) later y d)
+          | inr d ↦ after (binding_is q p (k + 1) later y d)
         ]
       ]
     where
@@ -124,8 +124,8 @@ module _ (m : Machine) where
           let j : 0 + i ≡ i = omega arith in
           (0, i ∷ r, e ∙ ap (λ a. (p ++ k ∷ []) ++ a ∷ r) j ∙ append_assoc p (k ∷ []) (i ∷ r) ∙ ap (λ a. p ++ a ∷ i ∷ r) n, t)
 
-      behind : IsBinding q p (k + 1) later y → IsBinding q p k (tree x kids later) y
-      behind (i, r, e, t) = let n : (k + 1) + i ≡ k + suc i = omega arith in (suc i, r, e ∙ ap (λ a. p ++ a ∷ r) n, t)
+      after : IsBinding q p (k + 1) later y → IsBinding q p k (tree x kids later) y
+      after (i, r, e, t) = let n : (k + 1) + i ≡ k + suc i = omega arith in (suc i, r, e ∙ ap (λ a. p ++ a ∷ r) n, t)
 
   -- the bindings ascend
   ascends : (q : ℕ) (p : List ℕ) (k : ℕ) (f : Forest) → Ascending PlaceBefore (bindings q p k f)
@@ -209,7 +209,7 @@ module _ (m : Machine) where
   abbrev Reached : ℕ → Type 0
   Reached q = (x : Labels) × (states_after m x ≡ q)
 
-  -- so are those behind one more label
+  -- so are those after one more label
   reached_step : (q : ℕ) (l : List ℕ) → Reached q → Reached (m.step q l)
   reached_step q l (x, e) = (x ++ l ∷ [], steps_append m.start x (l ∷ []) ∙ ap (λ n. m.step n l) e)
 

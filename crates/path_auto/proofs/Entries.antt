@@ -107,12 +107,12 @@ parts_at T b n s t e h = let r = located_parts T b s t h in (r.0, subst (λ c. L
 abbrev pub Ways : Way → List Position → Bool → ℕ → Labels → Type 0
 Ways T s nl n x = Begins s x ⊎ (IsTrue nl × Leads T n x)
 
--- the set of the first positions of paths leads where these positions do, and where the set behind does if the paths may be empty
+-- the set of the first positions of paths leads where these positions do, and where the set after does if the paths may be empty
 abbrev pub Enter : Way → Paths → Type 0
--- the set of the first positions of paths leads where these positions do, and where the set behind does if the paths may be empty
+-- the set of the first positions of paths leads where these positions do, and where the set after does if the paths may be empty
 Enter T m = (w : How) (k : Paths) (b n : ℕ) (x : Labels) → Located T b (listed m w k) → Iff (Leads T (entry m w b n) x) (Ways T (starts m w k) (nullable m w) n x)
 
--- so with the set behind taken too
+-- so with the set after taken too
 with_before : (T : Way) (s : List Position) (nl : Bool) (n e : ℕ) (x : Labels) → Iff (Leads T e x) (Ways T s nl n x) → Iff (Leads T (bit_or n e) x) (Ways T s true n x)
 with_before T s nl n e x ih = (there, back)
   where

@@ -35,9 +35,9 @@ Empty n y = IsTrue n × (y ≡ [])
 abbrev pub Enters : Bool → List Position → Labels → Labels → Type 0
 Enters n s y z = Empty n y ⊎ Begins s (y ++ z)
 
--- what paths describe, with what comes behind them, begins at one of their first positions
+-- what paths describe, with what comes after them, begins at one of their first positions
 abbrev pub Complete : Paths → Type 0
--- what paths describe, with what comes behind them, begins at one of their first positions
+-- what paths describe, with what comes after them, begins at one of their first positions
 Complete m = (w : How) (k : Paths) (y z : Labels) → DescribesAs m w y → DescribesAs k in_turn z → Enters (nullable m w) (starts m w k) y z
 
 -- so for repetitions

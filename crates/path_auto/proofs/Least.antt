@@ -107,12 +107,12 @@ row_here (u ∷ ts) [] i t l n h e = absurd (omega arith)
 row_here (u ∷ ts) (r ∷ rs) zero t l n h e = ap (λ v. cond (passes v l) r 0) (sym e)
 row_here (u ∷ ts) (r ∷ rs) (suc i) t l n h e = row_here ts rs i t l (omega arith) (omega arith) e
 
--- behind the last position there is nothing to give
-pub row_behind : (ts : List (Option (List ℕ))) (rs : List ℕ) (i : ℕ) (l : List ℕ) → length ts ≤ i → row_at ts rs i l ≡ 0
-row_behind [] rs i l h = refl
-row_behind (u ∷ ts) [] i l h = refl
-row_behind (u ∷ ts) (r ∷ rs) zero l h = absurd (omega arith)
-row_behind (u ∷ ts) (r ∷ rs) (suc i) l h = row_behind ts rs i l (omega arith)
+-- after the last position there is nothing to give
+pub row_after : (ts : List (Option (List ℕ))) (rs : List ℕ) (i : ℕ) (l : List ℕ) → length ts ≤ i → row_at ts rs i l ≡ 0
+row_after [] rs i l h = refl
+row_after (u ∷ ts) [] i l h = refl
+row_after (u ∷ ts) (r ∷ rs) zero l h = absurd (omega arith)
+row_after (u ∷ ts) (r ∷ rs) (suc i) l h = row_after ts rs i l (omega arith)
 
 -- what is above 0
 above_zero : (m : ℕ) → 0 < m → not (m == 0) ≡ true

@@ -78,7 +78,7 @@ module _ (Texts : Type 0) where
   Lives (o ∷ os) [] = ⊥
   Lives (o ∷ os) (s ∷ ss) = Goes o s.rest × (Texts → TestUtf8 s.test) × Lives os ss
 
-  -- some positions behind others
+  -- some positions after others
   lives_append : (r : List Bool) (s : List Position) (u : List Bool) (v : List Position) → Lives r s → Lives u v → Lives (r ++ u) (s ++ v)
   lives_append [] [] u v h k = k
   lives_append [] (a ∷ s) u v h k = absurd h
@@ -129,7 +129,7 @@ some_label : (t : Option (List ℕ)) → TestUtf8 t → (c : List ℕ) × IsUtf8
 some_label None u = ([], IsUtf8-nil, refl)
 some_label (Some l) u = (l, u, same_label l)
 
--- some list behind at least one label, all UTF-8
+-- some list after at least one label, all UTF-8
 abbrev pub Longer : (Labels → Type 0) → Type 0
 Longer P = (l : List ℕ) × (y : Labels) × IsUtf8 l × AreTexts y × P (l ∷ y)
 

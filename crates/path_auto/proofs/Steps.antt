@@ -17,7 +17,7 @@ use Rattle.path_auto.proofs.Entries.{Way, union_parts, union_left, union_right, 
 abbrev pub Means : Way → ℕ → Paths → Type 0
 Means T n k = (x : Labels) → Iff (Leads T n x) (DescribesAs k in_turn x)
 
--- the set of a path's first positions leads where the path does, with what comes behind it
+-- the set of a path's first positions leads where the path does, with what comes after it
 pub head_means : (T : Way) (h : Head) (m k : Paths) (b n : ℕ) → Located T b (listed_by h m (listed m) k) → Means T n k → Means T (entry_by h (entry m) b n) (path h m k)
 head_means T h m k b n at mean x = (there, back)
   where
@@ -97,7 +97,7 @@ located_from T b (a ∷ s) h = (
     one_more : (b i : ℕ) → (b + 1) + i ≡ b + suc i
     one_more b i = omega arith
 
--- so from the front
+-- so from the beginning
 pub located : (s : List Position) → Located (From s) 0 s
 located s = located_from (From s) 0 s (λ i x. ap (λ c. From s c x) (none_more i))
   where
@@ -128,7 +128,7 @@ from_on n b (a ∷ s) x (inr h) =
     let e : (b + 1) + r.0 ≡ b + suc r.0 = omega arith in
     (suc r.0, subst (λ c. bit_at n c ≡ 1) e r.1, r.2)
 
--- the labels behind the first
+-- the labels after the first
 abbrev tail : Labels → Labels
 tail [] = []
 tail (l ∷ x) = x
@@ -142,7 +142,7 @@ first_of_or d (l ∷ x) = l
 takes_rest : (s : Position) (l : List ℕ) (y : Labels) → Takes s (l ∷ y) → IsTrue (passes s.test l) × DescribesAs s.rest in_turn y
 takes_rest s l y (c, z, e, p, f) = (subst (λ d. IsTrue (passes s.test d)) (ap (first_of_or l) e) p, subst (DescribesAs s.rest in_turn) (ap tail e) f)
 
--- the row of a member leads where the position does, behind the label
+-- the row of a member leads where the position does, after the label
 row_leads : (T : Way) (n b r : ℕ) (s : Position) (l : List ℕ) (y : Labels) → Means T r s.rest
     → Iff (Leads T (cond (bit_at n b == 1 && passes s.test l) r 0) y) ((bit_at n b ≡ 1) × Takes s (l ∷ y))
 row_leads T n b r s l y mean = (there (bit_at n b == 1 && passes s.test l) refl, back)
@@ -157,7 +157,7 @@ row_leads T n b r s l y mean = (there (bit_at n b == 1 && passes s.test l) refl,
         let e : (bit_at n b == 1 && passes s.test l) ≡ true = and_both (bit_at n b == 1) (passes s.test l) ((Decides-eqb (bit_at n b) 1).1 h) q.0 in
         subst (λ t. Leads T (cond t r 0) y) (sym e) ((mean y).1 q.1)
 
--- the set behind a label leads where the set before it does with that label first
+-- the set after a label leads where the set before it does with that label first
 pub step_leads : (T : Way) (ss : List Position) (rs : List ℕ) (b n : ℕ) (l : List ℕ) (y : Labels) → Match T rs ss → Iff (Leads T (step_from (tests ss) rs b n l) y) (OnAny n b ss (l ∷ y))
 step_leads T [] [] b n l y h = ((λ d. empty_leads T y d), (λ d. absurd d))
 step_leads T [] (r ∷ rs) b n l y h = absurd h

@@ -63,7 +63,7 @@ tests_by_are star m ih k = ih one_of (path star m k)
 tests_by_are plus m ih k = ih one_of (path star m k)
 tests_by_are opt m ih k = ih one_of k
 
--- two lists, each equal to another, one behind the other
+-- two lists, each equal to another, one after the other
 two : {A : Type 0} (a b c d : List A) → a ≡ c → b ≡ d → a ++ b ≡ c ++ d
 two a b c d e f = ap (λ r. r ++ b) e ∙ ap (λ r. c ++ r) f
 
@@ -87,6 +87,6 @@ set_more os i set given h g =
     ∙ ap (λ v. bit_or set (bit_or v (set_of (drop (i + 1) os) (i + 1)))) g
     ∙ ap (bit_or set) (sym (ap (λ us. set_of us i) (drop_at os i (get_or os i false) false h refl)))
 
--- behind the last position there is nothing to gather
+-- after the last position there is nothing to gather
 pub set_end : (os : List Bool) (i set : ℕ) → length os ≤ i → bit_or set (set_of (drop i os) i) ≡ set
 set_end os i set h = ap (λ us. bit_or set (set_of us i)) (drop_all i os h) ∙ or_zero set

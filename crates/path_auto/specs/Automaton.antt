@@ -14,12 +14,12 @@ pub record Machine : Type 0 where
   pub accepts : ℕ → Bool
   pub goes_on : ℕ → Bool
 
--- the states behind a list of labels
+-- the states after a list of labels
 abbrev pub steps : Machine → ℕ → Labels → ℕ
 steps m n [] = n
 steps m n (l ∷ x) = steps m (m.step n l) x
 
--- the states behind a list of labels, from the start
+-- the states after a list of labels, from the start
 abbrev pub states_after : Machine → Labels → ℕ
 states_after m x = steps m m.start x
 
@@ -32,7 +32,7 @@ AreTexts (l ∷ x) = IsUtf8 l × AreTexts x
 abbrev pub GoesOn : Form → Labels → Type 0
 GoesOn p x = (l : List ℕ) × (y : Labels) × IsUtf8 l × AreTexts y × Describes p (x ++ l ∷ y)
 
--- the machine follows the path: behind a list of labels it accepts exactly where the path describes the list, and goes on where it
+-- the machine follows the path: after a list of labels it accepts exactly where the path describes the list, and goes on where it
 -- describes some longer one
 pub record Follows (m : Machine) (p : Form) : Type 0 where
   pub accepts : (x : Labels) → IsTrue (m.accepts (states_after m x)) ↔ Describes p x
@@ -44,23 +44,23 @@ pub record IsAutomatonOf (m : Machine) (p : Form) : Type 0 where
   pub follows : Follows m p
   pub goes_on : (x : Labels) → IsTrue (m.goes_on (states_after m x)) → GoesOn p x
 
--- the table of an automaton: for each position its label (None: any) and the set behind it, the set of those from behind which
+-- the table of an automaton: for each position its label (None: any) and the set after it, the set of those from after which
 -- some list leads to the end, and the first set
 pub record Table : Type 0 where
   pub labels : List (Option (List ℕ))
-  pub behind : List ℕ
+  pub after : List ℕ
   pub live : ℕ
   pub first : ℕ
 
--- the machine of a table; the end is the position behind the others
+-- the machine of a table; the end is the position after the others
 unfoldable pub machine_of : Table → Machine
 machine_of t = record {
   start = t.first;
-  step = λ n l. step_from t.labels t.behind 0 n l;
+  step = λ n l. step_from t.labels t.after 0 n l;
   accepts = λ n. bit_at n (length t.labels) == 1;
   goes_on = λ n. not (bit_and n t.live == 0);
 }
 
 -- the table of a path
 abbrev pub table_of : Form → Table
-table_of p = record { labels = tests_by p.head (tests_of p.members); behind = rows_in p; live = set_of (lives_in p) 0; first = first_set p }
+table_of p = record { labels = tests_by p.head (tests_of p.members); after = rows_in p; live = set_of (lives_in p) 0; first = first_set p }

@@ -1,4 +1,4 @@
--- The positions of a path: before each of its labels, with what is to come behind the label.
+-- The positions of a path: before each of its labels, with what is to come after the label.
 use Rattle.std.specs.Prelude.{◌≡◌, ◌⊎◌, ℕ, Bool, true, false, ◌&&◌, ◌||◌, IsTrue, List, [], ◌∷◌, ◌++◌, Option, Some, None}
 use Rattle.std.specs.Str.{bytes_eq, IsUtf8}
 use Rattle.path_expr.specs.Form.{Head, name, any, seq, alt, star, plus, opt, Paths, none, path}
@@ -49,7 +49,7 @@ nullable none one_of = false
 nullable (path h m after) in_turn = nullable_by h (nullable m) && nullable after in_turn
 nullable (path h m after) one_of = nullable_by h (nullable m) || nullable after one_of
 
--- the positions of a path at which its first label may stand, by those of its members; k is what comes behind the path
+-- the positions of a path at which its first label may stand, by those of its members; k is what comes after the path
 abbrev pub starts_by : Head → Paths → (How → Paths → List Position) → Paths → List Position
 starts_by (name l) m s k = position (Some l) k ∷ []
 starts_by any m s k = position None k ∷ []

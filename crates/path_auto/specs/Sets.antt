@@ -7,7 +7,7 @@ use Rattle.path_expr.specs.Description.{Labels, How, in_turn, one_of}
 use Rattle.path_expr.specs.Count.{count_by, count}
 use Rattle.path_auto.specs.Positions.{Position, passes, Takes, listed_by, listed, tests}
 
--- the set of a path's first positions, where the first of all has number b, and n is the set of what comes behind the path
+-- the set of a path's first positions, where the first of all has number b, and n is the set of what comes after the path
 abbrev pub entry_by : Head → (How → ℕ → ℕ → ℕ) → ℕ → ℕ → ℕ
 entry_by (name l) e b n = 2 ^ b
 entry_by any e b n = 2 ^ b
@@ -24,7 +24,7 @@ entry none one_of b n = 0
 entry (path h m after) in_turn b n = entry_by h (entry m) b (entry after in_turn (b + count_by h (count m)) n)
 entry (path h m after) one_of b n = bit_or (entry_by h (entry m) b n) (entry after one_of (b + count_by h (count m)) n)
 
--- for each position of a path, the set of those behind it
+-- for each position of a path, the set of those after it
 abbrev pub rows_by : Head → (How → ℕ → ℕ → List ℕ) → (How → ℕ → ℕ → ℕ) → ℕ → ℕ → List ℕ
 rows_by (name l) r e b n = n ∷ []
 rows_by any r e b n = n ∷ []
@@ -34,7 +34,7 @@ rows_by star r e b n = r one_of b (bit_or n (e one_of b n))
 rows_by plus r e b n = r one_of b (bit_or n (e one_of b n))
 rows_by opt r e b n = r one_of b n
 
--- for each position of paths, the set of those behind it
+-- for each position of paths, the set of those after it
 abbrev pub rows : Paths → How → ℕ → ℕ → List ℕ
 rows none w b n = []
 rows (path h m after) in_turn b n =
@@ -92,15 +92,15 @@ first_set p = entry_by p.head (entry p.members) 0 (2 ^ end_of p)
 abbrev pub listed_in : Form → List Position
 listed_in p = listed_by p.head p.members (listed p.members) none
 
--- for each of them, the set of those behind it
+-- for each of them, the set of those after it
 abbrev pub rows_in : Form → List ℕ
 rows_in p = rows_by p.head (rows p.members) (entry p.members) 0 (2 ^ end_of p)
 
--- the set behind one more label
+-- the set after one more label
 abbrev pub step : Form → ℕ → List ℕ → ℕ
 step p n l = step_from (tests (listed_in p)) (rows_in p) 0 n l
 
--- the set behind a list of labels
+-- the set after a list of labels
 abbrev pub run : Form → ℕ → Labels → ℕ
 run p n [] = n
 run p n (l ∷ x) = run p (step p n l) x
@@ -141,7 +141,7 @@ some none one_of = false
 some (path h m after) in_turn = some_by h (some m) && some after in_turn
 some (path h m after) one_of = some_by h (some m) || some after one_of
 
--- for each position of a path, whether any list leads from behind it to the end, where o says so of what comes behind the path
+-- for each position of a path, whether any list leads from after it to the end, where o says so of what comes after the path
 abbrev pub lives_by : Head → (How → Bool → List Bool) → Bool → List Bool
 lives_by (name l) v o = o ∷ []
 lives_by any v o = o ∷ []
@@ -151,7 +151,7 @@ lives_by star v o = v one_of o
 lives_by plus v o = v one_of o
 lives_by opt v o = v one_of o
 
--- for each position of paths, whether any list leads from behind it to the end
+-- for each position of paths, whether any list leads from after it to the end
 abbrev pub lives : Paths → How → Bool → List Bool
 lives none w o = []
 lives (path h m after) in_turn o = lives_by h (lives m) (some after in_turn && o) ++ lives after in_turn o

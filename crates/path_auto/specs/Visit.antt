@@ -8,17 +8,17 @@ use Rattle.path_expr.specs.Form.{Form}
 use Rattle.path_auto.specs.Automaton.{Machine, machine_of, table_of}
 
 -- the place of the next sibling
-abbrev pub place_behind : List ℕ → List ℕ
-place_behind at = unwrap_or (next_place at) at
+abbrev pub place_after : List ℕ → List ℕ
+place_after at = unwrap_or (next_place at) at
 
 -- the events at the trees of a list in order, the first of which stands at a place, from the states above them. A tree that is
--- accepted is a binding of its place, any other a skip; where the states behind its label go on, the visit of its children
+-- accepted is a binding of its place, any other a skip; where the states after its label go on, the visit of its children
 -- follows. At the end of a list comes a skip
 abbrev pub visit : Machine → ℕ → List ℕ → Forest → List (Event (List ℕ))
 visit m q at none = skip ∷ []
 visit m q at (tree label kids rest) =
     cond (m.accepts (m.step q label)) (bind at) skip
-    ∷ (cond (m.goes_on (m.step q label)) (visit m (m.step q label) (child_place at) kids) [] ++ visit m q (place_behind at) rest)
+    ∷ (cond (m.goes_on (m.step q label)) (visit m (m.step q label) (child_place at) kids) [] ++ visit m q (place_after at) rest)
 
 -- the events of the visit of the children of the node at a place
 abbrev pub visit_below : Machine → Forest → List ℕ → List (Event (List ℕ))

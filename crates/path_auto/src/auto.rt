@@ -6,21 +6,21 @@ ghost use Rattle.path_auto.specs.Sets.{row_at, step_from};
 ghost use Rattle.path_auto.specs.Automaton.{machine_of, table_of, IsAutomatonOf};
 
 use crate::StateSet;
-use crate::sets::{entry_path, least, live_set, push_behind, push_labels, single, without_least};
+use crate::sets::{entry_path, least, live_set, push_after, push_labels, single, without_least};
 use mix_tree::Label;
 use path_expr::{Path, count_positions};
 use std::alloc::{AllocError, Global};
 use std::marker::Model;
 
-/// The automaton of a path. Its states are a set of the path's positions as the bits of a number; the bit behind them
+/// The automaton of a path. Its states are a set of the path's positions as the bits of a number; the bit after them
 /// is that of the path's end. No step takes memory.
 #[derive(Drop)]
 pub struct Auto {
     /// The label of each position; none where any may stand.
     labels: Vec<Option<Label>>,
-    /// The set of those behind each position.
-    behind: Vec<u128>,
-    /// The positions from behind which some list of labels leads to the end.
+    /// The set of those after each position.
+    after: Vec<u128>,
+    /// The positions from after which some list of labels leads to the end.
     live: u128,
     /// The positions at which the first label may stand.
     first: u128,
@@ -34,9 +34,9 @@ impl Model for Auto {
 
     ghost Value = { Table };
 
-    ghost view = { λ a. record { labels = a.labels.items; behind = a.behind.items; live = a.live; first = a.first } };
+    ghost view = { λ a. record { labels = a.labels.items; after = a.after.items; live = a.live; first = a.first } };
 
-    ghost invariant = { λ a. (length a.labels.items ≤ 120) × (length a.behind.items ≡ length a.labels.items) × (a.end ≡ 2 ^ length a.labels.items) };
+    ghost invariant = { λ a. (length a.labels.items ≤ 120) × (length a.after.items ≡ length a.labels.items) × (a.end ≡ 2 ^ length a.labels.items) };
 }
 
 impl Auto {
@@ -50,13 +50,13 @@ impl Auto {
         let end = single(count_positions(p));
         let mut labels = Vec::new(alloc);
         push_labels(alloc, p, &mut labels)?;
-        let mut behind = Vec::new(alloc);
-        push_behind(p, 0, end, &mut behind)?;
+        let mut after = Vec::new(alloc);
+        push_after(p, 0, end, &mut after)?;
         let live = live_set(alloc, p)?;
         let first = entry_path(p, 0, end);
         Ok(Auto {
             labels,
-            behind,
+            after,
             live,
             first,
             end,
@@ -71,12 +71,12 @@ impl Auto {
         StateSet::new(self.first)
     }
 
-    /// The states behind one more label.
+    /// The states after one more label.
     #[tactic(auto, unfolding(crate::specs::Automaton::machine_of))]
     pub fn step(&self, states: StateSet, l: &Label) -> StateSet
         ensures { result ≡ (machine_of self.now).step states l.now }
     {
-        StateSet::new(step_table(&self.labels, &self.behind, states.bits(), l))
+        StateSet::new(step_table(&self.labels, &self.after, states.bits(), l))
     }
 
     /// Whether the path describes the labels so far.
@@ -107,25 +107,25 @@ fn passes_label(test: &Option<Label>, label: &Label) -> bool
 }
 
 // The set that a position gives to a step.
-fn row_of(labels: &[Option<Label>], behind: &[u128], at: usize, label: &Label) -> u128
-    requires { length behind.now ≡ length labels.now }
-    ensures { result ≡ row_at labels.now behind.now at label.now }
+fn row_of(labels: &[Option<Label>], after: &[u128], at: usize, label: &Label) -> u128
+    requires { length after.now ≡ length labels.now }
+    ensures { result ≡ row_at labels.now after.now at label.now }
 {
     match labels.get(at) {
-        Some(test) if passes_label(test, label) => behind[at],
+        Some(test) if passes_label(test, label) => after[at],
         _ => 0,
     }
 }
 
-// The set behind a label.
-fn step_table(labels: &[Option<Label>], behind: &[u128], states: u128, label: &Label) -> u128
-    requires { length behind.now ≡ length labels.now }
-    ensures { result ≡ step_from labels.now behind.now 0 states label.now }
+// The set after a label.
+fn step_table(labels: &[Option<Label>], after: &[u128], states: u128, label: &Label) -> u128
+    requires { length after.now ≡ length labels.now }
+    ensures { result ≡ step_from labels.now after.now 0 states label.now }
 {
     let mut found = 0;
     let mut rest = states;
     while rest != 0 {
-        found |= row_of(labels, behind, least(rest), label);
+        found |= row_of(labels, after, least(rest), label);
         rest = without_least(rest);
     }
     found

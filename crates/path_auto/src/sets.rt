@@ -35,7 +35,7 @@ pub fn without_least(states: u128) -> u128
     states & (states - 1)
 }
 
-/// The first positions of a path whose positions are numbered from `base`, where those behind it are `next`.
+/// The first positions of a path whose positions are numbered from `base`, where those after it are `next`.
 #[cycle(entry)]
 #[tactic(auto, using(crate::proofs::Unions::entry_only))]
 pub fn entry_path(path: &Path, base: usize, next: u128) -> u128
@@ -60,8 +60,8 @@ fn entry_turn(paths: &[Path], base: usize, next: u128) -> u128
     match paths.split_first() {
         None => next,
         Some((first, rest)) => {
-            let behind = entry_turn(rest, base + count_positions(first), next);
-            entry_path(first, base, behind)
+            let after = entry_turn(rest, base + count_positions(first), next);
+            entry_path(first, base, after)
         }
     }
 }
@@ -117,10 +117,10 @@ fn some_one(paths: &[Path]) -> bool
     }
 }
 
-/// Puts the set of those behind each position of a path behind `table`.
+/// Puts the set of those after each position of a path after `table`.
 #[cycle(rows)]
 #[tactic(auto, using(crate::proofs::Unions::entry_only, crate::proofs::Unions::rows_only))]
-pub fn push_behind(
+pub fn push_after(
     path: &Path,
     base: usize,
     next: u128,
@@ -134,19 +134,19 @@ pub fn push_behind(
             table.push(next)?;
             Ok(())
         }
-        Node::Seq(paths) => push_behind_turn(paths, base, next, table),
-        Node::Alt(paths) => push_behind_one(paths, base, next, table),
+        Node::Seq(paths) => push_after_turn(paths, base, next, table),
+        Node::Alt(paths) => push_after_one(paths, base, next, table),
         Node::Star(path) | Node::Plus(path) => {
             let around = next | entry_path(path, base, next);
-            push_behind(path, base, around, table)
+            push_after(path, base, around, table)
         }
-        Node::Opt(path) => push_behind(path, base, next, table),
+        Node::Opt(path) => push_after(path, base, next, table),
     }
 }
 
 // So for a sequence.
 #[cycle(rows)]
-fn push_behind_turn(
+fn push_after_turn(
     paths: &[Path],
     base: usize,
     next: u128,
@@ -158,14 +158,14 @@ fn push_behind_turn(
     let Some((first, rest)) = paths.split_first() else {
         return Ok(());
     };
-    let behind = base + count_positions(first);
-    push_behind(first, base, entry_turn(rest, behind, next), table)?;
-    push_behind_turn(rest, behind, next, table)
+    let after = base + count_positions(first);
+    push_after(first, base, entry_turn(rest, after, next), table)?;
+    push_after_turn(rest, after, next, table)
 }
 
 // So for a choice.
 #[cycle(rows)]
-fn push_behind_one(
+fn push_after_one(
     paths: &[Path],
     base: usize,
     next: u128,
@@ -177,12 +177,12 @@ fn push_behind_one(
     let Some((first, rest)) = paths.split_first() else {
         return Ok(());
     };
-    let behind = base + count_positions(first);
-    push_behind(first, base, next, table)?;
-    push_behind_one(rest, behind, next, table)
+    let after = base + count_positions(first);
+    push_after(first, base, next, table)?;
+    push_after_one(rest, after, next, table)
 }
 
-// Puts whether some list leads to the end from behind each position behind `table`, where `more` says so of the end of
+// Puts whether some list leads to the end from after each position after `table`, where `more` says so of the end of
 // the path.
 #[cycle(lives)]
 #[tactic(auto, using(crate::proofs::Unions::lives_only))]
@@ -245,7 +245,7 @@ fn set_where(lives: &[bool]) -> u128
     set
 }
 
-/// The set of the positions from behind which some list leads to the end.
+/// The set of the positions from after which some list leads to the end.
 pub fn live_set(alloc: Global, path: &Path) -> Result<u128, AllocError>
     requires { length (lives_in path.now) ≤ 120 }
     ensures { IfOk result (λ set. set ≡ set_of (lives_in path.now) 0) }
@@ -263,7 +263,7 @@ fn copied(alloc: Global, label: &Label) -> Result<Label, AllocError>
     Label::of_text(alloc, label.bytes())
 }
 
-/// Puts the label of each position of a path behind `table`. All of them are UTF-8.
+/// Puts the label of each position of a path after `table`. All of them are UTF-8.
 #[cycle(tests)]
 #[tactic(auto, using(crate::proofs::Unions::tests_only))]
 pub fn push_labels(

@@ -40,12 +40,12 @@ pub record Part : Type 0 where
 abbrev pub wrapped : (form.Head → Bool) → Part → Spelled
 wrapped wraps m = cond (wraps m.head) (group m.spelled) m.spelled
 
--- more members behind a dot each
+-- more members after a dot each
 abbrev pub dots_from : Spelled → List Part → Spelled
 dots_from p [] = p
 dots_from p (m ∷ ms) = dots_from (dot p (wrapped wraps_in_seq m)) ms
 
--- more members behind a bar each
+-- more members after a bar each
 abbrev pub bars_from : Spelled → List Part → Spelled
 bars_from p [] = p
 bars_from p (m ∷ ms) = bars_from (bar p (wrapped wraps_in_alt m)) ms
@@ -109,14 +109,14 @@ wrapped_text wraps m = by_case (wraps m.head)
     by_case true = refl
     by_case false = refl
 
--- the text of members behind a dot each
+-- the text of members after a dot each
 dots_text : (p : Spelled) (ms : List Part) → text_of (dots_from p ms) ≡ text_of p ++ canon_rest wraps_in_seq 46 (all_written ms)
 dots_text p [] = sym (append_nil (text_of p))
 dots_text p (m ∷ ms) =
     dots_text (dot p (wrapped wraps_in_seq m)) ms ∙ append_assoc (text_of p) (46 ∷ text_of (wrapped wraps_in_seq m)) (canon_rest wraps_in_seq 46 (all_written ms))
     ∙ ap (λ r. text_of p ++ 46 ∷ (r ++ canon_rest wraps_in_seq 46 (all_written ms))) (wrapped_text wraps_in_seq m)
 
--- the text of members behind a bar each
+-- the text of members after a bar each
 bars_text : (p : Spelled) (ms : List Part) → text_of (bars_from p ms) ≡ text_of p ++ canon_rest wraps_in_alt 124 (all_written ms)
 bars_text p [] = sym (append_nil (text_of p))
 bars_text p (m ∷ ms) =
@@ -241,7 +241,7 @@ record Dots (p : Spelled) (fs : List form.Form) : Type 0 where
   dots : (valued.read p).dots ≡ fs
   value : valued.value_of p ≡ form.joined form.seq fs
 
--- more members behind a dot each
+-- more members after a dot each
 dots_good : (ms : List Part) (fs gs : List form.Form) (p : Spelled) → AllGood ms fs → Dots p gs → Dots (dots_from p ms) (gs ++ fs)
 dots_good [] [] gs p a h = subst (Dots p) (sym (append_nil gs)) h
 dots_good [] (f ∷ fs) gs p a h = absurd a
@@ -267,7 +267,7 @@ record Bars (p : Spelled) (fs : List form.Form) : Type 0 where
   bars : (valued.read p).bars ≡ fs
   value : valued.value_of p ≡ form.joined form.alt fs
 
--- more members behind a bar each
+-- more members after a bar each
 bars_good : (ms : List Part) (fs gs : List form.Form) (p : Spelled) → AllGood ms fs → Bars p gs → Bars (bars_from p ms) (gs ++ fs)
 bars_good [] [] gs p a h = subst (Bars p) (sym (append_nil gs)) h
 bars_good [] (f ∷ fs) gs p a h = absurd a

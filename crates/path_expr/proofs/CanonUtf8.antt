@@ -58,7 +58,7 @@ member_utf8 wraps m u = by_case (wraps m.head)
     by_case true = around 40 41 m.text (omega arith) (omega arith) u
     by_case false = u
 
--- members behind the first
+-- members after the first
 rest_utf8 : (wraps : form.Head → Bool) (b : ℕ) (ms : List Member) → b < 128 → AllText ms → IsUtf8 (canon_rest wraps b ms)
 rest_utf8 wraps b [] h u = IsUtf8-nil
 rest_utf8 wraps b (m ∷ ms) h u =

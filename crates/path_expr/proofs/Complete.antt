@@ -6,7 +6,7 @@ use Rattle.mix_base.proofs.Runs.{run_then, run_byte}
 use Rattle.mix_tree.specs.LabelGrammar.{Piece, plain, escape, is_escape, is_plain, is_piece, ArePieces, inside_quotes}
 use Rattle.mix_tree.specs.Names.{is_name_byte, IsName}
 use Rattle.path_expr.specs.Grammar.{Spelled, word, quote, group, marked, dot, bar, Kind, a_path, a_sequence, a_repeat, an_atom, is_mark, Is, text_of, Writes}
-use Rattle.path_expr.specs.Machine.{Frame, Mode, start, naming, quoting, escaping, behind_atom, behind_repeat, State, at, empty, seq_with, path_in, after_repeat, step_in, step, run, repeat_in, whole_in, whole, read_of}
+use Rattle.path_expr.specs.Machine.{Frame, Mode, start, naming, quoting, escaping, past_atom, past_repeat, State, at, empty, seq_with, path_in, after_repeat, step_in, step, run, repeat_in, whole_in, whole, read_of}
 use Rattle.mix_base.proofs.Choices.{some_is, none_some, and_parts}
 use Rattle.mix_base.proofs.Lists.{append_nil}
 
@@ -16,10 +16,10 @@ atom_in start = None
 atom_in (naming l) = Some (word l)
 atom_in (quoting ps) = None
 atom_in (escaping ps) = None
-atom_in (behind_atom p) = Some p
-atom_in (behind_repeat p) = None
+atom_in (past_atom p) = Some p
+atom_in (past_repeat p) = None
 
--- from the start of a member a run over the atom ends behind it
+-- from the start of a member a run over the atom ends after it
 abbrev pub ReadsAtom : Spelled → Type 0
 ReadsAtom c = (f : Frame) (o : List Frame) → (m : Mode) × (run (at f o start) (text_of c) ≡ Some (at f o m)) × (atom_in m ≡ Some c)
 
@@ -53,8 +53,8 @@ repeat_of_atom_in start c e = none_some c e
 repeat_of_atom_in (naming l) c e = e
 repeat_of_atom_in (quoting ps) c e = none_some c e
 repeat_of_atom_in (escaping ps) c e = none_some c e
-repeat_of_atom_in (behind_atom p) c e = e
-repeat_of_atom_in (behind_repeat p) c e = none_some c e
+repeat_of_atom_in (past_atom p) c e = e
+repeat_of_atom_in (past_repeat p) c e = none_some c e
 
 -- an atom is read as a repeat
 from_atom : (c : Spelled) → ReadsAtom c → ReadsRepeat c
@@ -117,25 +117,25 @@ quote_goes_on ps (escape b ∷ qs) f o h =
 -- a quoted label is read
 reads_quote : (ps : List Piece) → ArePieces ps → ReadsAtom (quote ps)
 reads_quote ps h f o =
-    (behind_atom (quote ps), run_then step (inside_quotes ps) (34 ∷ []) (at f o (quoting [])) (at f o (quoting ps)) (quote_goes_on [] ps f o h), refl)
+    (past_atom (quote ps), run_then step (inside_quotes ps) (34 ∷ []) (at f o (quoting [])) (at f o (quoting ps)) (quote_goes_on [] ps f o h), refl)
 
--- behind a member that may end
+-- after a member that may end
 pub ends_by : (b : ℕ) (f : Frame) (o : List Frame) (m : Mode) (p : Spelled) → is_name_byte b ≡ false → is_mark b ≡ false → repeat_in m ≡ Some p → step_in f o m b ≡ after_repeat f o p b
 ends_by b f o start p n k e = none_some p e
 ends_by b f o (naming l) p n k e = rw (n, k) (ap (λ q. after_repeat f o q b) (some_is _ _ e))
 ends_by b f o (quoting ps) p n k e = none_some p e
 ends_by b f o (escaping ps) p n k e = none_some p e
-ends_by b f o (behind_atom q) p n k e = rw k (ap (λ q. after_repeat f o q b) (some_is _ _ e))
-ends_by b f o (behind_repeat q) p n k e = ap (λ q. after_repeat f o q b) (some_is _ _ e)
+ends_by b f o (past_atom q) p n k e = rw k (ap (λ q. after_repeat f o q b) (some_is _ _ e))
+ends_by b f o (past_repeat q) p n k e = ap (λ q. after_repeat f o q b) (some_is _ _ e)
 
 -- a path in parentheses is read
 reads_group : (p : Spelled) → ReadsPath p → ReadsAtom (group p)
 reads_group p h f o =
     let r = h (f ∷ o) in (
-      behind_atom (group p),
+      past_atom (group p),
       run_then step (text_of p) (41 ∷ []) (at empty (f ∷ o) start) (at r.0 (f ∷ o) r.1) r.3
-          ∙ run_byte step 41 [] (at r.0 (f ∷ o) r.1) (at f o (behind_atom (group (path_in r.0 r.2)))) (ends_by 41 r.0 (f ∷ o) r.1 r.2 refl refl r.4)
-          ∙ ap (λ q. Some (at f o (behind_atom (group q)))) r.5,
+          ∙ run_byte step 41 [] (at r.0 (f ∷ o) r.1) (at f o (past_atom (group (path_in r.0 r.2)))) (ends_by 41 r.0 (f ∷ o) r.1 r.2 refl refl r.4)
+          ∙ ap (λ q. Some (at f o (past_atom (group q)))) r.5,
       refl,
     )
 
@@ -143,20 +143,20 @@ reads_group p h f o =
 pub mark_not_name : (b : ℕ) → IsTrue (is_mark b) → is_name_byte b ≡ false
 mark_not_name b h = grind (arith, nat_tests)
 
--- a mark behind an atom
-mark_step : (f : Frame) (o : List Frame) (m : Mode) (p : Spelled) (b : ℕ) → atom_in m ≡ Some p → IsTrue (is_mark b) → step_in f o m b ≡ Some (at f o (behind_repeat (marked p b)))
+-- a mark after an atom
+mark_step : (f : Frame) (o : List Frame) (m : Mode) (p : Spelled) (b : ℕ) → atom_in m ≡ Some p → IsTrue (is_mark b) → step_in f o m b ≡ Some (at f o (past_repeat (marked p b)))
 mark_step f o start p b e h = none_some p e
-mark_step f o (naming l) p b e h = rw (mark_not_name b h, h) (ap (λ q. Some (at f o (behind_repeat (marked q b)))) (some_is _ _ e))
+mark_step f o (naming l) p b e h = rw (mark_not_name b h, h) (ap (λ q. Some (at f o (past_repeat (marked q b)))) (some_is _ _ e))
 mark_step f o (quoting ps) p b e h = none_some p e
 mark_step f o (escaping ps) p b e h = none_some p e
-mark_step f o (behind_atom q) p b e h = rw h (ap (λ q. Some (at f o (behind_repeat (marked q b)))) (some_is _ _ e))
-mark_step f o (behind_repeat q) p b e h = none_some p e
+mark_step f o (past_atom q) p b e h = rw h (ap (λ q. Some (at f o (past_repeat (marked q b)))) (some_is _ _ e))
+mark_step f o (past_repeat q) p b e h = none_some p e
 
 -- an atom with its mark is read
 reads_marked : (p : Spelled) (b : ℕ) → ReadsAtom p → IsTrue (is_mark b) → ReadsRepeat (marked p b)
 reads_marked p b h k f o =
     let r = h f o in
-    (behind_repeat (marked p b), run_then step (text_of p) (b ∷ []) (at f o start) (at f o r.0) r.1 ∙ run_byte step b [] (at f o r.0) _ (mark_step f o r.0 p b r.2 k), refl)
+    (past_repeat (marked p b), run_then step (text_of p) (b ∷ []) (at f o start) (at f o r.0) r.1 ∙ run_byte step b [] (at f o r.0) _ (mark_step f o r.0 p b r.2 k), refl)
 
 -- a sequence is read
 reads_dot : (p q : Spelled) → ReadsSequence p → ReadsRepeat q → ReadsSequence (dot p q)

@@ -12,9 +12,9 @@ use Rattle.path_expr.specs.Depth.{nesting, first_of, deep_here, deep_from, deep_
 use Rattle.path_expr.specs.Scanned.{shape, shape_close, shape_in, shape_step, may_end}
 use Rattle.path_expr.specs.declared.scan.Scan.{Scan}
 use Rattle.path_expr.specs.declared.scan.Stage.{Stage}
-use Rattle.path_expr.specs.declared.scan.Stage.TheVariants.{Start, Naming, Quoting, Escaping, BehindAtom, BehindRepeat}
+use Rattle.path_expr.specs.declared.scan.Stage.TheVariants.{Start, Naming, Quoting, Escaping, PastAtom, PastRepeat}
 
--- the place at hand where the scan that goes on passes 100 open parentheses, else the first one behind it
+-- the place at hand where the scan that goes on passes 100 open parentheses, else the first one after it
 abbrev after_scan : ℕ → (Scan → Option ℕ) → Option Scan → Option ℕ
 after_scan i later None = None
 after_scan i later (Some s) = first_of (deep_here s.depth i) (later s)
@@ -45,7 +45,7 @@ plain_step : (b n : ℕ) → IsTrue (is_plain b) → shape_in n Quoting b ≡ So
 plain_step b n h = by_cases (b == 34) (b == 92) h
   where
     by_cases : (c d : Bool) → IsTrue (cond c false (cond d false true))
-        → cond c (Some (shape n BehindAtom)) (cond d (Some (shape n Escaping)) (Some (shape n Quoting))) ≡ Some (shape n Quoting)
+        → cond c (Some (shape n PastAtom)) (cond d (Some (shape n Escaping)) (Some (shape n Quoting))) ≡ Some (shape n Quoting)
     by_cases true d h = cc
     by_cases false true h = cc
     by_cases false false h = refl
@@ -63,12 +63,12 @@ inside_deep (escape b ∷ ps) y i n m h =
     flat 92 (b ∷ inside_quotes ps ++ y) i n Quoting Escaping m refl ∙ flat b (inside_quotes ps ++ y) (i + 1) n Escaping Quoting m (rw parts.0 refl)
     ∙ inside_deep ps y (i + 1 + 1) n m parts.1 ∙ ap (λ k. scan_deep y k (shape n Quoting)) e
 
--- the stage behind what is written
+-- the stage after what is written
 abbrev end_of : Spelled → Stage
 end_of (word l) = Naming
-end_of (quote ps) = BehindAtom
-end_of (group p) = BehindAtom
-end_of (marked p m) = BehindRepeat
+end_of (quote ps) = PastAtom
+end_of (group p) = PastAtom
+end_of (marked p m) = PastRepeat
 end_of (dot p q) = end_of q
 end_of (bar p q) = end_of q
 
@@ -82,34 +82,34 @@ ends (dot p q) = ends q
 ends (bar p q) = ends q
 
 -- where a member may end, a closing parenthesis closes one
-closes : (n : ℕ) (s : Stage) → may_end s ≡ true → shape_in (n + 1) s 41 ≡ Some (shape n BehindAtom)
+closes : (n : ℕ) (s : Stage) → may_end s ≡ true → shape_in (n + 1) s 41 ≡ Some (shape n PastAtom)
 closes n Start h = cc
 closes n Naming h = let e : n + 1 ≡ suc n = omega arith in ap shape_close e
 closes n Quoting h = cc
 closes n Escaping h = cc
-closes n BehindAtom h = let e : n + 1 ≡ suc n = omega arith in ap shape_close e
-closes n BehindRepeat h = let e : n + 1 ≡ suc n = omega arith in ap shape_close e
+closes n PastAtom h = let e : n + 1 ≡ suc n = omega arith in ap shape_close e
+closes n PastRepeat h = let e : n + 1 ≡ suc n = omega arith in ap shape_close e
 
--- the next member begins behind a dot
+-- the next member begins after a dot
 dots : (n : ℕ) (s : Stage) → may_end s ≡ true → shape_in n s 46 ≡ Some (shape n Start)
 dots n Start h = cc
 dots n Naming h = refl
 dots n Quoting h = cc
 dots n Escaping h = cc
-dots n BehindAtom h = refl
-dots n BehindRepeat h = refl
+dots n PastAtom h = refl
+dots n PastRepeat h = refl
 
--- and behind a bar
+-- and after a bar
 bars : (n : ℕ) (s : Stage) → may_end s ≡ true → shape_in n s 124 ≡ Some (shape n Start)
 bars n Start h = cc
 bars n Naming h = refl
 bars n Quoting h = cc
 bars n Escaping h = cc
-bars n BehindAtom h = refl
-bars n BehindRepeat h = refl
+bars n PastAtom h = refl
+bars n PastRepeat h = refl
 
 -- an atom takes a mark
-marks : (n m : ℕ) (p : Spelled) → Is p an_atom → IsTrue (is_mark m) → shape_in n (end_of p) m ≡ Some (shape n BehindRepeat)
+marks : (n m : ℕ) (p : Spelled) → Is p an_atom → IsTrue (is_mark m) → shape_in n (end_of p) m ≡ Some (shape n PastRepeat)
 marks n m (word l) h k = let e : is_name_byte m ≡ false = grind (arith, nat_tests) in rw (e, k) refl
 marks n m (quote ps) h k = rw k refl
 marks n m (group p) h k = rw k refl
@@ -117,7 +117,7 @@ marks n m (marked p o) h k = absurd h
 marks n m (dot p q) h k = absurd h
 marks n m (bar p q) h k = absurd h
 
--- what a scan finds in what is written, and behind it
+-- what a scan finds in what is written, and after it
 abbrev Finds : Spelled → Type 0
 Finds p = (y : List ℕ) (i n : ℕ) → n ≤ 100
     → scan_deep (text_of p ++ y) i (shape n Start) ≡ first_of (deep_from n i p) (scan_deep y (i + length (text_of p)) (shape n (end_of p)))
@@ -136,7 +136,7 @@ quote_deep ps h y i n m =
     let x = inside_quotes ps in
     let e : i + 1 + length x + 1 ≡ i + length (34 ∷ x ++ 34 ∷ []) = omega (arith, length-append x (34 ∷ [])) in
     flat 34 ((x ++ 34 ∷ []) ++ y) i n Start Quoting m refl ∙ ap (λ r. scan_deep r (i + 1) (shape n Quoting)) (append_assoc x (34 ∷ []) y)
-    ∙ inside_deep ps (34 ∷ y) (i + 1) n m h ∙ flat 34 y (i + 1 + length x) n Quoting BehindAtom m refl ∙ ap (λ k. scan_deep y k (shape n BehindAtom)) e
+    ∙ inside_deep ps (34 ∷ y) (i + 1) n m h ∙ flat 34 y (i + 1 + length x) n Quoting PastAtom m refl ∙ ap (λ k. scan_deep y k (shape n PastAtom)) e
 
 -- in parentheses
 group_deep : (p : Spelled) → Finds p → Finds (group p)
@@ -146,18 +146,18 @@ group_deep p h y i n m = by_case (nat_lt n 100) refl
     x = text_of p
 
     inner : n + 1 ≤ 100 → scan_deep ((x ++ 41 ∷ []) ++ y) (i + 1) (shape (n + 1) Start)
-        ≡ first_of (deep_from (n + 1) (i + 1) p) (scan_deep y (i + length (40 ∷ x ++ 41 ∷ [])) (shape n BehindAtom))
+        ≡ first_of (deep_from (n + 1) (i + 1) p) (scan_deep y (i + length (40 ∷ x ++ 41 ∷ [])) (shape n PastAtom))
     inner few =
         let e : i + 1 + length x + 1 ≡ i + length (40 ∷ x ++ 41 ∷ []) = omega (arith, length-append x (41 ∷ [])) in
-        let closed : scan_deep (41 ∷ y) (i + 1 + length x) (shape (n + 1) (end_of p)) ≡ scan_deep y (i + 1 + length x + 1) (shape n BehindAtom) =
+        let closed : scan_deep (41 ∷ y) (i + 1 + length x) (shape (n + 1) (end_of p)) ≡ scan_deep y (i + 1 + length x + 1) (shape n PastAtom) =
         ap (after_scan (i + 1 + length x) (scan_deep y (i + 1 + length x + 1))) (closes n (end_of p) (ends p))
-        ∙ ap (λ d. first_of d (scan_deep y (i + 1 + length x + 1) (shape n BehindAtom))) (not_deep n (i + 1 + length x) m) in
+        ∙ ap (λ d. first_of d (scan_deep y (i + 1 + length x + 1) (shape n PastAtom))) (not_deep n (i + 1 + length x) m) in
         ap (λ r. scan_deep r (i + 1) (shape (n + 1) Start)) (append_assoc x (41 ∷ []) y) ∙ h (41 ∷ y) (i + 1) (n + 1) few
-        ∙ ap (first_of (deep_from (n + 1) (i + 1) p)) (closed ∙ ap (λ k. scan_deep y k (shape n BehindAtom)) e)
+        ∙ ap (first_of (deep_from (n + 1) (i + 1) p)) (closed ∙ ap (λ k. scan_deep y k (shape n PastAtom)) e)
 
     by_case : (c : Bool) → nat_lt n 100 ≡ c
         → first_of (deep_here (n + 1) i) (scan_deep ((x ++ 41 ∷ []) ++ y) (i + 1) (shape (n + 1) Start))
-        ≡ first_of (cond c (deep_from (n + 1) (i + 1) p) (Some i)) (scan_deep y (i + length (40 ∷ x ++ 41 ∷ [])) (shape n BehindAtom))
+        ≡ first_of (cond c (deep_from (n + 1) (i + 1) p) (Some i)) (scan_deep y (i + length (40 ∷ x ++ 41 ∷ [])) (shape n PastAtom))
     by_case true k =
         let few : n + 1 ≤ 100 = grind (arith, nat_tests) in
         ap (λ d. first_of d (scan_deep ((x ++ 41 ∷ []) ++ y) (i + 1) (shape (n + 1) Start))) (not_deep (n + 1) i few) ∙ inner few
@@ -171,7 +171,7 @@ marked_deep p m a k h y i n few =
     let x = text_of p in
     let e : i + length x + 1 ≡ i + length (x ++ m ∷ []) = omega (arith, length-append x (m ∷ [])) in
     ap (λ r. scan_deep r i (shape n Start)) (append_assoc x (m ∷ []) y) ∙ h (m ∷ y) i n few
-    ∙ ap (first_of (deep_from n i p)) (flat m y (i + length x) n (end_of p) BehindRepeat few (marks n m p a k) ∙ ap (λ j. scan_deep y j (shape n BehindRepeat)) e)
+    ∙ ap (first_of (deep_from n i p)) (flat m y (i + length x) n (end_of p) PastRepeat few (marks n m p a k) ∙ ap (λ j. scan_deep y j (shape n PastRepeat)) e)
 
 -- the first of three places
 pub first_assoc : (a b c : Option ℕ) → first_of a (first_of b c) ≡ first_of (first_of a b) c
@@ -219,7 +219,7 @@ pub whole_deep : (x : List ℕ) (p : Spelled) → Writes x p → scan_deep x 0 (
 whole_deep x p h =
     ap (λ r. scan_deep r 0 (shape 0 Start)) (sym h.1 ∙ sym (append_nil (text_of p))) ∙ finds p a_path h.0 [] 0 0 (omega arith) ∙ first_none (deep_at p)
 
--- what is found up to a byte and behind it
+-- what is found up to a byte and after it
 pub deep_next : (x : List ℕ) (at : ℕ) (s t : Scan) (deep : Option ℕ) → at < length x → shape_step s (slice_index x at) ≡ Some t
     → first_of (first_of deep (deep_here t.depth at)) (scan_deep (drop (at + 1) x) (at + 1) t) ≡ first_of deep (scan_deep (drop at x) at s)
 deep_next x at s t deep within e =

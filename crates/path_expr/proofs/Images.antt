@@ -3,24 +3,24 @@ use Rattle.std.proofs.Common.{◌≡◌, ◌<◌, ◌+◌, ◌∙◌, ◌==◌, 
 use Rattle.std.proofs.lemmas.List.{take_more, take-append-drop}
 use Rattle.std.specs.Str.{IsUtf8}
 use Rattle.mix_base.specs.Runs.{LeadsTo}
-use Rattle.mix_base.proofs.Runs.{kept_none, scan_front}
+use Rattle.mix_base.proofs.Runs.{kept_none, scan_prefix}
 use Rattle.mix_tree.specs.LabelGrammar.{Piece, plain, escape, is_escape, escaped_byte, meaning, inside_quotes}
 use Rattle.mix_tree.specs.Names.{is_name_byte}
 use Rattle.path_expr.specs.Grammar.{Spelled, word, quote, group, marked, dot, bar, a_sequence, a_repeat, an_atom, is_mark, Is, Writes}
 use Rattle.path_expr.specs.Form as form
-use Rattle.path_expr.specs.Machine.{Frame, Mode, start, naming, quoting, escaping, behind_atom, behind_repeat, State, seq_with, path_with, path_in, close, after_repeat, after_atom, step_in, step, run, repeat_in, whole_in, whole, first, read_of}
+use Rattle.path_expr.specs.Machine.{Frame, Mode, start, naming, quoting, escaping, past_atom, past_repeat, State, seq_with, path_with, path_in, close, after_repeat, after_atom, step_in, step, run, repeat_in, whole_in, whole, first, read_of}
 use Rattle.path_expr.specs.Values as valued
 use Rattle.path_expr.specs.Building as building
 use Rattle.path_expr.specs.Results.{Spells}
 use Rattle.mix_base.proofs.Choices.{Gives, none_some, some_is}
 use Rattle.path_expr.proofs.Sound.{IsFrame, Stands, StandsAt, outer_text, frame_text, run_stands, first_stands, seq_with_is, read_writes, repeat_of_atom}
 use Rattle.path_expr.proofs.Complete.{writes_read}
-use Rattle.path_expr.proofs.Fronts.{stopped_writes}
+use Rattle.path_expr.proofs.Prefixes.{stopped_writes}
 use Rattle.path_expr.proofs.Utf8.{name_utf8, quoted_utf8}
 use Rattle.path_expr.specs.BuilderState.{mode_in, state_in, AreUtf8, AreUtf8Now}
 use Rattle.path_expr.specs.declared.build.Builder.{Builder}
 use Rattle.path_expr.specs.declared.build.Spot.{Spot}
-use Rattle.path_expr.specs.declared.build.Spot.TheVariants.{Start, Naming, Quoting, Escaping, BehindAtom, BehindRepeat}
+use Rattle.path_expr.specs.declared.build.Spot.TheVariants.{Start, Naming, Quoting, Escaping, PastAtom, PastRepeat}
 
 -- both choices, side by side
 either : (b : Bool) (x y : Option State) (s t : Option building.State) → option_map building.values_of x ≡ s → option_map building.values_of y ≡ t → option_map building.values_of (cond b x y) ≡ cond b s t
@@ -82,7 +82,7 @@ label-push (escape b ∷ ps) q = ap (λ r. escaped_byte b ∷ r) (label-push ps 
 -- a closing parenthesis, with values
 close_value : (f : Frame) (o : List Frame) (p : Spelled) → option_map building.values_of (close o (path_in f p)) ≡ building.close (building.levels_of o) (building.path_in (building.level_of f) (valued.value_of p))
 close_value f [] p = refl
-close_value f (g ∷ o) p = ap (λ w. Some (building.at (building.level_of g) (building.levels_of o) (building.behind_atom w))) (value_in f p)
+close_value f (g ∷ o) p = ap (λ w. Some (building.at (building.level_of g) (building.levels_of o) (building.past_atom w))) (value_in f p)
 
 -- a byte that ends a member, with values
 repeat_value : (f : Frame) (o : List Frame) (p : Spelled) (b : ℕ) → IsFrame f → Is p a_repeat → option_map building.values_of (after_repeat f o p b) ≡ building.after_repeat (building.level_of f) (building.levels_of o) (valued.value_of p) b
@@ -101,8 +101,8 @@ step_value x f o (naming l) b h = either (is_name_byte b) _ _ _ _ refl (atom_val
 step_value x f o (quoting ps) b h =
     either (b == 34) _ _ _ _ refl (either (b == 92) _ _ _ _ refl (ap (λ l. Some (building.at (building.level_of f) (building.levels_of o) (building.quoting l))) (label-push ps (plain b))))
 step_value x f o (escaping ps) b h = either (is_escape b) _ _ _ _ (ap (λ l. Some (building.at (building.level_of f) (building.levels_of o) (building.quoting l))) (label-push ps (escape b))) refl
-step_value x f o (behind_atom p) b h = atom_value f o p b h.here h.mode
-step_value x f o (behind_repeat p) b h = repeat_value f o p b h.here h.mode
+step_value x f o (past_atom p) b h = atom_value f o p b h.here h.mode
+step_value x f o (past_repeat p) b h = repeat_value f o p b h.here h.mode
 
 -- the last member, with values
 repeat_in_value : (m : Mode) → option_map valued.value_of (repeat_in m) ≡ building.repeat_in (building.mode_of m)
@@ -110,8 +110,8 @@ repeat_in_value start = refl
 repeat_in_value (naming l) = refl
 repeat_in_value (quoting ps) = refl
 repeat_in_value (escaping ps) = refl
-repeat_in_value (behind_atom p) = refl
-repeat_in_value (behind_repeat p) = refl
+repeat_in_value (past_atom p) = refl
+repeat_in_value (past_repeat p) = refl
 
 -- the path where no parenthesis is open, with values
 whole_in_value : (f : Frame) (o : List Frame) (r : Option Spelled) → option_map valued.value_of (whole_in f o r) ≡ building.whole_in (building.level_of f) (building.levels_of o) (option_map valued.value_of r)
@@ -136,11 +136,11 @@ stood_at x (Some s) t h e = subst (StandsAt x) (some_is _ _ e) h
 pub stood : (x : List ℕ) (t : State) → run first x ≡ Some t → StandsAt x t
 stood x t e = stood_at x (run first x) t (run_stands x [] first first_stands) e
 
--- what the machine with values has behind one more byte
+-- what the machine with values has after one more byte
 build_more : (x : List ℕ) (i : ℕ) (s : building.State) → i < length x → BuildsTo (take i x) s
     → option_map building.values_of (run first (take (i + 1) x)) ≡ building.step s (slice_index x i)
 build_more x i s h e =
-    scan_front step building.values_of building.step first x i s (λ t b r. step_value (take i x) t.here t.outer t.mode b (stood (take i x) t r)) h e
+    scan_prefix step building.values_of building.step first x i s (λ t b r. step_value (take i x) t.here t.outer t.mode b (stood (take i x) t r)) h e
 
 -- one more byte leads on
 pub build_next : (x : List ℕ) (i : ℕ) (s t : building.State) → i < length x → BuildsTo (take i x) s → building.step s (slice_index x i) ≡ Some t → BuildsTo (take (i + 1) x) t
@@ -182,8 +182,8 @@ IsLabelUtf8 building.start b = Unit {0}
 IsLabelUtf8 (building.naming l) b = IsUtf8 l
 IsLabelUtf8 (building.quoting l) b = b ≡ 34 → IsUtf8 l
 IsLabelUtf8 (building.escaping l) b = Unit {0}
-IsLabelUtf8 (building.behind_atom p) b = Unit {0}
-IsLabelUtf8 (building.behind_repeat p) b = Unit {0}
+IsLabelUtf8 (building.past_atom p) b = Unit {0}
+IsLabelUtf8 (building.past_repeat p) b = Unit {0}
 
 -- a label that ends by a byte of a UTF-8 text is UTF-8
 mode_utf8 : (x y : List ℕ) (b : ℕ) (f : Frame) (o : List Frame) (m : Mode) → Stands x f o m → IsUtf8 (x ++ b ∷ y) → IsLabelUtf8 (building.mode_of m) b
@@ -192,8 +192,8 @@ mode_utf8 x y b f o (naming l) h u = name_utf8 l h.mode.0
 mode_utf8 x y b f o (quoting ps) h u = λ e.
     quoted_utf8 (outer_text o) (frame_text f) y ps h.mode (subst (λ c. IsUtf8 ((outer_text o ++ (frame_text f ++ 34 ∷ inside_quotes ps)) ++ c ∷ y)) e (subst (λ z. IsUtf8 (z ++ b ∷ y)) (sym h.text) u))
 mode_utf8 x y b f o (escaping ps) h u = tt
-mode_utf8 x y b f o (behind_atom p) h u = tt
-mode_utf8 x y b f o (behind_repeat p) h u = tt
+mode_utf8 x y b f o (past_atom p) h u = tt
+mode_utf8 x y b f o (past_repeat p) h u = tt
 
 -- the same, of a run
 state_utf8 : (x y : List ℕ) (b : ℕ) (o : Option State) (s : building.State) → run first x ≡ o → option_map building.values_of o ≡ Some s → IsUtf8 (x ++ b ∷ y) → IsLabelUtf8 s.mode b
@@ -210,8 +210,8 @@ spot_utf8 Start b h = h
 spot_utf8 (Naming l) b h = h
 spot_utf8 (Quoting l) b h = h
 spot_utf8 (Escaping l) b h = h
-spot_utf8 (BehindAtom p) b h = h
-spot_utf8 (BehindRepeat p) b h = h
+spot_utf8 (PastAtom p) b h = h
+spot_utf8 (PastRepeat p) b h = h
 
 -- the same, of a builder
 pub builder_utf8 : (x : List ℕ) (i : ℕ) (r : Builder) → i < length x → BuildsTo (take i x) (state_in r) → IsUtf8 x → AreUtf8 r.spot (slice_index x i)
@@ -225,8 +225,8 @@ mode_utf8_now x f o start h = tt
 mode_utf8_now x f o (naming l) h = name_utf8 l h.mode.0
 mode_utf8_now x f o (quoting ps) h = λ e. absurd (omega (arith, e))
 mode_utf8_now x f o (escaping ps) h = tt
-mode_utf8_now x f o (behind_atom p) h = tt
-mode_utf8_now x f o (behind_repeat p) h = tt
+mode_utf8_now x f o (past_atom p) h = tt
+mode_utf8_now x f o (past_repeat p) h = tt
 
 -- the same, of a run
 state_utf8_now : (x : List ℕ) (o : Option State) (s : building.State) → run first x ≡ o → option_map building.values_of o ≡ Some s → IsLabelUtf8 s.mode 0
@@ -239,8 +239,8 @@ spot_utf8_now Start h = h
 spot_utf8_now (Naming l) h = h
 spot_utf8_now (Quoting l) h = tt
 spot_utf8_now (Escaping l) h = h
-spot_utf8_now (BehindAtom p) h = h
-spot_utf8_now (BehindRepeat p) h = h
+spot_utf8_now (PastAtom p) h = h
+spot_utf8_now (PastRepeat p) h = h
 
 -- the same, of a builder
 pub builder_utf8_now : (x : List ℕ) (r : Builder) → BuildsTo x (state_in r) → AreUtf8Now r.spot

@@ -3,7 +3,7 @@ pub mod CanonUtf8
 pub mod Complete
 pub mod Count
 pub mod Deep
-pub mod Fronts
+pub mod Prefixes
 pub mod Images
 pub mod RoundTrip
 pub mod Shapes

@@ -221,8 +221,8 @@ word_fits l u = by_case (bytes_eq l (95 ∷ []))
 -- a quoted label
 quote_fits : (ps : List Piece) → ArePieces ps → IsUtf8 (34 ∷ inside_quotes ps ++ 34 ∷ []) → Fits wraps_in_mark 0 (valued.named (meaning ps))
 quote_fits ps h u =
-    let behind = utf8_split [] (inside_quotes ps ++ 34 ∷ []) 34 (omega arith) u in
-    named_fits (meaning ps) (label_utf8 [] ps h (utf8_split (inside_quotes ps) [] 34 (omega arith) behind.1).0)
+    let after = utf8_split [] (inside_quotes ps ++ 34 ∷ []) 34 (omega arith) u in
+    named_fits (meaning ps) (label_utf8 [] ps h (utf8_split (inside_quotes ps) [] 34 (omega arith) after.1).0)
 
 -- an atom with its mark
 marked_fits : (n m : ℕ) (f : form.Form) → Fits wraps_in_mark n f → Fits wraps_in_seq n (form.repeated (valued.mark_head m) f)
@@ -267,8 +267,8 @@ fits : (p : Spelled) (k : Kind) → Is p k → IsUtf8 (text_of p) → KindFits k
 fits (word l) k h u = from_atom k (word l) h (word_fits l u)
 fits (quote ps) k h u = from_atom k (quote ps) h (quote_fits ps h u)
 fits (group p) k h u =
-    let behind = utf8_split [] (text_of p ++ 41 ∷ []) 40 (omega arith) u in
-    let inside = utf8_split (text_of p) [] 41 (omega arith) behind.1 in
+    let after = utf8_split [] (text_of p ++ 41 ∷ []) 40 (omega arith) u in
+    let inside = utf8_split (text_of p) [] 41 (omega arith) after.1 in
     from_atom k (group p) h (one_pair wraps_in_mark (nesting p) (valued.value_of p) (fits p a_path h inside.0).value)
 fits (marked p m) an_atom h u = absurd h
 fits (marked p m) a_repeat h u = marked_fits (nesting p) m (valued.value_of p) (fits p an_atom h.0 (utf8_split (text_of p) [] m (mark_low m h.1) u).0)

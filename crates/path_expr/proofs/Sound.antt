@@ -3,7 +3,7 @@ use Rattle.std.proofs.Common.{◌≡◌, ◌<◌, ◌∙◌, ◌==◌, ℕ, true
 use Rattle.mix_tree.specs.LabelGrammar.{Piece, plain, escape, is_escape, is_plain, is_piece, ArePieces, inside_quotes}
 use Rattle.mix_tree.specs.Names.{is_name_byte, IsName}
 use Rattle.path_expr.specs.Grammar.{Spelled, word, quote, group, marked, dot, bar, Kind, a_path, a_sequence, a_repeat, an_atom, is_mark, Is, text_of, Writes}
-use Rattle.path_expr.specs.Machine.{Frame, Mode, start, naming, quoting, escaping, behind_atom, behind_repeat, State, empty, seq_with, path_with, path_in, close, after_repeat, after_atom, begin, in_quotes, step_in, step, run, repeat_in, whole_in, whole, first, read_of}
+use Rattle.path_expr.specs.Machine.{Frame, Mode, start, naming, quoting, escaping, past_atom, past_repeat, State, empty, seq_with, path_with, path_in, close, after_repeat, after_atom, begin, in_quotes, step_in, step, run, repeat_in, whole_in, whole, first, read_of}
 use Rattle.mix_base.proofs.Choices.{Gives, either, number_is, list_all-push, some_is, none_some, and_both}
 use Rattle.mix_base.proofs.Lists.{append_nil}
 
@@ -22,8 +22,8 @@ IsMode start = Unit {0}
 IsMode (naming l) = IsName l
 IsMode (quoting ps) = ArePieces ps
 IsMode (escaping ps) = ArePieces ps
-IsMode (behind_atom p) = Is p an_atom
-IsMode (behind_repeat p) = Is p a_repeat
+IsMode (past_atom p) = Is p an_atom
+IsMode (past_repeat p) = Is p a_repeat
 
 -- what stands before a byte, with the byte
 abbrev pub before : Option Spelled → ℕ → List ℕ
@@ -34,7 +34,7 @@ before (Some p) b = text_of p ++ b ∷ []
 abbrev pub frame_text : Frame → List ℕ
 frame_text f = before f.bars 124 ++ before f.dots 46
 
--- the text of frames, with an open parenthesis behind each
+-- the text of frames, with an open parenthesis after each
 abbrev pub outer_text : List Frame → List ℕ
 outer_text [] = []
 outer_text (f ∷ o) = outer_text o ++ (frame_text f ++ 40 ∷ [])
@@ -45,8 +45,8 @@ mode_text start = []
 mode_text (naming l) = l
 mode_text (quoting ps) = 34 ∷ inside_quotes ps
 mode_text (escaping ps) = 34 ∷ inside_quotes ps ++ 92 ∷ []
-mode_text (behind_atom p) = text_of p
-mode_text (behind_repeat p) = text_of p
+mode_text (past_atom p) = text_of p
+mode_text (past_repeat p) = text_of p
 
 -- the state is well formed, and writes the text
 pub record Stands (x : List ℕ) (f : Frame) (o : List Frame) (m : Mode) : Type 0 where
@@ -122,7 +122,7 @@ inside-push [] q = refl
 inside-push (plain b ∷ ps) q = ap (λ r. b ∷ r) (inside-push ps q)
 inside-push (escape b ∷ ps) q = ap (λ r. 92 ∷ b ∷ r) (inside-push ps q)
 
--- a byte more behind what the mode writes
+-- a byte more after what the mode writes
 more : (x : List ℕ) (f : Frame) (o : List Frame) (m n : Mode) (b : ℕ) → Stands x f o m → IsMode n → mode_text n ≡ mode_text m ++ b ∷ [] → Stands (x ++ b ∷ []) f o n
 more x f o m n b h k e = record {
   here = h.here;
@@ -136,7 +136,7 @@ more x f o m n b h k e = record {
     regrouped : (a c d : List ℕ) (y : ℕ) → a ++ (c ++ (d ++ y ∷ [])) ≡ (a ++ (c ++ d)) ++ y ∷ []
     regrouped a c d y = simp append_assoc
 
--- behind an opening parenthesis
+-- after an opening parenthesis
 opened : (x : List ℕ) (f : Frame) (o : List Frame) → Stands x f o start → Stands (x ++ 40 ∷ []) empty (f ∷ o) start
 opened x f o h = record {
   here = (tt, tt);
@@ -156,14 +156,14 @@ begin_stands x f o b h =
 pub plain_of : (b : ℕ) → (b == 34) ≡ false → (b == 92) ≡ false → is_plain b ≡ true
 plain_of b h k = rw (h, k) refl
 
--- behind a byte inside quotes
+-- after a byte inside quotes
 quotes_stand : (x : List ℕ) (f : Frame) (o : List Frame) (ps : List Piece) (b : ℕ) → Stands x f o (quoting ps) → Gives (StandsAt (x ++ b ∷ [])) (in_quotes f o ps b)
 quotes_stand x f o ps b h =
-    either _ (b == 34) _ _ (λ p. more x f o (quoting ps) (behind_atom (quote ps)) b h h.mode (ap (λ c. 34 ∷ inside_quotes ps ++ c ∷ []) (number_is b 34 p)))
+    either _ (b == 34) _ _ (λ p. more x f o (quoting ps) (past_atom (quote ps)) b h h.mode (ap (λ c. 34 ∷ inside_quotes ps ++ c ∷ []) (number_is b 34 p)))
     (λ n. either _ (b == 92) _ _ (λ p. more x f o (quoting ps) (escaping ps) b h h.mode (ap (λ c. 34 ∷ inside_quotes ps ++ c ∷ []) (number_is b 92 p)))
     (λ k. more x f o (quoting ps) (quoting (ps ++ plain b ∷ [])) b h (list_all-push is_piece ps (plain b) h.mode (plain_of b n k)) (ap (λ r. 34 ∷ r) (inside-push ps (plain b)))))
 
--- behind a byte that is escaped
+-- after a byte that is escaped
 escape_stands : (x : List ℕ) (f : Frame) (o : List Frame) (ps : List Piece) (b : ℕ) → Stands x f o (escaping ps) → Gives (StandsAt (x ++ b ∷ [])) (step_in f o (escaping ps) b)
 escape_stands x f o ps b h =
     either _ (is_escape b) _ _
@@ -171,14 +171,14 @@ escape_stands x f o ps b h =
     (ap (λ r. 34 ∷ r) (inside-push ps (escape b) ∙ sym (append_assoc (inside_quotes ps) (92 ∷ []) (b ∷ [])))))
     (λ n. tt)
 
--- behind a member that may end there
+-- after a member that may end there
 pub record Ended (x : List ℕ) (f : Frame) (o : List Frame) (k : Kind) (p : Spelled) : Type 0 where
   pub here : IsFrame f
   pub outer : AreFrames o
   pub is : Is p k
   pub text : outer_text o ++ (frame_text f ++ text_of p) ≡ x
 
--- behind a dot
+-- after a dot
 dotted : (x : List ℕ) (f : Frame) (o : List Frame) (p : Spelled) → Ended x f o a_repeat p → Stands (x ++ 46 ∷ []) (record { bars = f.bars; dots = Some (seq_with f.dots p) }) o start
 dotted x f o p h = record {
   here = (h.here.0, seq_with_is f.dots p h.here.1 h.is);
@@ -193,7 +193,7 @@ dotted x f o p h = record {
     regrouped : (a b c d e : List ℕ) → a ++ ((b ++ ((c ++ d) ++ e)) ++ []) ≡ (a ++ ((b ++ c) ++ d)) ++ e
     regrouped a b c d e = ap (λ r. a ++ r) (append_nil _) ∙ simp append_assoc
 
--- behind a bar
+-- after a bar
 barred : (x : List ℕ) (f : Frame) (o : List Frame) (p : Spelled) → Ended x f o a_repeat p → Stands (x ++ 124 ∷ []) (record { bars = Some (path_in f p); dots = None }) o start
 barred x f o p h = record {
   here = (path_in_is f p h.here h.is, tt);
@@ -208,7 +208,7 @@ barred x f o p h = record {
     regrouped : (a b d e : List ℕ) → a ++ ((((b ++ d) ++ e) ++ []) ++ []) ≡ (a ++ (b ++ d)) ++ e
     regrouped a b d e = ap (λ r. a ++ r) (append_nil _ ∙ append_nil _) ∙ sym (append_assoc a (b ++ d) e)
 
--- behind a closing parenthesis
+-- after a closing parenthesis
 closed : (x : List ℕ) (f : Frame) (o : List Frame) (p : Spelled) → Ended x f o a_repeat p → Gives (StandsAt (x ++ 41 ∷ [])) (close o (path_in f p))
 closed x f [] p h = tt
 closed x f (g ∷ o) p h = record {
@@ -224,14 +224,14 @@ closed x f (g ∷ o) p h = record {
     regrouped : (a b c d e : List ℕ) → a ++ (b ++ (c ++ (d ++ e))) ≡ ((a ++ (b ++ c)) ++ d) ++ e
     regrouped a b c d e = simp append_assoc
 
--- behind a byte that ends a member
+-- after a byte that ends a member
 repeat_stands : (x : List ℕ) (f : Frame) (o : List Frame) (p : Spelled) (b : ℕ) → Ended x f o a_repeat p → Gives (StandsAt (x ++ b ∷ [])) (after_repeat f o p b)
 repeat_stands x f o p b h =
     either _ (b == 46) _ _ (λ e. let g : Frame = record { bars = f.bars; dots = Some (seq_with f.dots p) } in subst (λ c. Stands (x ++ c ∷ []) g o start) (number_is b 46 e) (dotted x f o p h))
     (λ n. either _ (b == 124) _ _ (λ e. let g : Frame = record { bars = Some (path_in f p); dots = None } in subst (λ c. Stands (x ++ c ∷ []) g o start) (number_is b 124 e) (barred x f o p h))
     (λ k. either _ (b == 41) _ _ (λ e. subst (λ c. Gives (StandsAt (x ++ c ∷ [])) (close o (path_in f p))) (number_is b 41 e) (closed x f o p h)) (λ l. tt)))
 
--- behind a byte that marks an atom or ends it
+-- after a byte that marks an atom or ends it
 atom_stands : (x : List ℕ) (f : Frame) (o : List Frame) (p : Spelled) (b : ℕ) → Ended x f o an_atom p → Gives (StandsAt (x ++ b ∷ [])) (after_atom f o p b)
 atom_stands x f o p b h =
     either _ (is_mark b) _ _
@@ -259,8 +259,8 @@ step_stands x f o (naming l) b h =
     (λ n. atom_stands x f o (word l) b (record { here = h.here; outer = h.outer; is = h.mode; text = h.text }))
 step_stands x f o (quoting ps) b h = quotes_stand x f o ps b h
 step_stands x f o (escaping ps) b h = escape_stands x f o ps b h
-step_stands x f o (behind_atom p) b h = atom_stands x f o p b (record { here = h.here; outer = h.outer; is = h.mode; text = h.text })
-step_stands x f o (behind_repeat p) b h = repeat_stands x f o p b (record { here = h.here; outer = h.outer; is = h.mode; text = h.text })
+step_stands x f o (past_atom p) b h = atom_stands x f o p b (record { here = h.here; outer = h.outer; is = h.mode; text = h.text })
+step_stands x f o (past_repeat p) b h = repeat_stands x f o p b (record { here = h.here; outer = h.outer; is = h.mode; text = h.text })
 
 -- over a whole text
 after_step : (x y : List ℕ) (b : ℕ) (s : Option State) → Gives (StandsAt (x ++ b ∷ [])) s → ((t : State) → StandsAt (x ++ b ∷ []) t → Gives (StandsAt ((x ++ b ∷ []) ++ y)) (run t y))
@@ -283,8 +283,8 @@ ended x f o start p e h = none_some p e
 ended x f o (naming l) p e h = subst (Ended x f o a_repeat) (some_is _ _ e) (record { here = h.here; outer = h.outer; is = h.mode; text = h.text })
 ended x f o (quoting ps) p e h = none_some p e
 ended x f o (escaping ps) p e h = none_some p e
-ended x f o (behind_atom q) p e h = subst (Ended x f o a_repeat) (some_is _ _ e) (record { here = h.here; outer = h.outer; is = repeat_of_atom q h.mode; text = h.text })
-ended x f o (behind_repeat q) p e h = subst (Ended x f o a_repeat) (some_is _ _ e) (record { here = h.here; outer = h.outer; is = h.mode; text = h.text })
+ended x f o (past_atom q) p e h = subst (Ended x f o a_repeat) (some_is _ _ e) (record { here = h.here; outer = h.outer; is = repeat_of_atom q h.mode; text = h.text })
+ended x f o (past_repeat q) p e h = subst (Ended x f o a_repeat) (some_is _ _ e) (record { here = h.here; outer = h.outer; is = h.mode; text = h.text })
 
 -- the path that ends there writes the text, from an option
 whole_ended : (x : List ℕ) (f : Frame) (o : List Frame) (r : Option Spelled) (p : Spelled) → ((q : Spelled) → r ≡ Some q → Ended x f o a_repeat q) → whole_in f o r ≡ Some p → Writes x p

@@ -9,7 +9,7 @@ use Rattle.mix_tree.specs.Names.{is_name_byte}
 use Rattle.mix_base.proofs.Choices.{and_parts}
 use Rattle.mix_base.proofs.Utf8.{utf8_split, one_ascii}
 
--- bytes behind a backslash are ASCII
+-- bytes after a backslash are ASCII
 escape_ascii : (b : ℕ) → IsTrue (is_escape b) → b < 128
 escape_ascii b h = grind (arith, nat_tests)
 

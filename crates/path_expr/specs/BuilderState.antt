@@ -3,7 +3,7 @@ use Rattle.std.specs.Prelude.{◌≡◌, ℕ, List, Option, Result, Ok, Err, map
 use Rattle.path_expr.specs.Building as building
 use Rattle.path_expr.specs.declared.build.Level.{Level}
 use Rattle.path_expr.specs.declared.build.Spot.{Spot}
-use Rattle.path_expr.specs.declared.build.Spot.TheVariants.{Start, Naming, Quoting, Escaping, BehindAtom, BehindRepeat}
+use Rattle.path_expr.specs.declared.build.Spot.TheVariants.{Start, Naming, Quoting, Escaping, PastAtom, PastRepeat}
 use Rattle.path_expr.specs.declared.build.Builder.{Builder}
 use Rattle.std.specs.declared.vec.Vec.{Vec}
 use Rattle.std.specs.declared.alloc.Global.{Global}
@@ -22,8 +22,8 @@ mode_in Start = building.start
 mode_in (Naming l) = building.naming l.items
 mode_in (Quoting l) = building.quoting l.items
 mode_in (Escaping l) = building.escaping l.items
-mode_in (BehindAtom p) = building.behind_atom p
-mode_in (BehindRepeat p) = building.behind_repeat p
+mode_in (PastAtom p) = building.past_atom p
+mode_in (PastRepeat p) = building.past_repeat p
 
 -- what a builder holds
 abbrev pub state_in : Builder → building.State
@@ -40,8 +40,8 @@ AreUtf8 Start b = Unit {0}
 AreUtf8 (Naming l) b = IsUtf8 l.items
 AreUtf8 (Quoting l) b = b ≡ 34 → IsUtf8 l.items
 AreUtf8 (Escaping l) b = Unit {0}
-AreUtf8 (BehindAtom p) b = Unit {0}
-AreUtf8 (BehindRepeat p) b = Unit {0}
+AreUtf8 (PastAtom p) b = Unit {0}
+AreUtf8 (PastRepeat p) b = Unit {0}
 
 -- a label that ends at the end of the text is UTF-8
 abbrev pub AreUtf8Now : Spot → Type 0
@@ -49,5 +49,5 @@ AreUtf8Now Start = Unit {0}
 AreUtf8Now (Naming l) = IsUtf8 l.items
 AreUtf8Now (Quoting l) = Unit {0}
 AreUtf8Now (Escaping l) = Unit {0}
-AreUtf8Now (BehindAtom p) = Unit {0}
-AreUtf8Now (BehindRepeat p) = Unit {0}
+AreUtf8Now (PastAtom p) = Unit {0}
+AreUtf8Now (PastRepeat p) = Unit {0}

@@ -18,8 +18,8 @@ pub data Mode : Type 0 where
   naming : List ℕ → Mode
   quoting : List ℕ → Mode
   escaping : List ℕ → Mode
-  behind_atom : Form → Mode
-  behind_repeat : Form → Mode
+  past_atom : Form → Mode
+  past_repeat : Form → Mode
 
 -- the path at hand, those with open parentheses around it, the innermost first, and its last member
 pub record State : Type 0 where
@@ -46,38 +46,38 @@ path_in f p = joined alt (f.sequences ++ seq_in f p ∷ [])
 -- a closing parenthesis ends the path at hand
 abbrev pub close : List Level → Form → Option State
 close [] p = None
-close (f ∷ o) p = Some (at f o (behind_atom p))
+close (f ∷ o) p = Some (at f o (past_atom p))
 
--- the state behind a byte that ends a member
+-- the state after a byte that ends a member
 abbrev pub after_repeat : Level → List Level → Form → ℕ → Option State
 after_repeat f o p b =
     cond (b == 46) (Some (at (level f.sequences (f.members ++ p ∷ [])) o start))
     (cond (b == 124) (Some (at (level (f.sequences ++ seq_in f p ∷ []) []) o start)) (cond (b == 41) (close o (path_in f p)) None))
 
--- the state behind a byte that marks an atom or ends it
+-- the state after a byte that marks an atom or ends it
 abbrev pub after_atom : Level → List Level → Form → ℕ → Option State
-after_atom f o p b = cond (is_mark b) (Some (at f o (behind_repeat (repeated (mark_head b) p)))) (after_repeat f o p b)
+after_atom f o p b = cond (is_mark b) (Some (at f o (past_repeat (repeated (mark_head b) p)))) (after_repeat f o p b)
 
--- the state behind the first byte of a member
+-- the state after the first byte of a member
 abbrev pub begin : Level → List Level → ℕ → Option State
 begin f o b =
     cond (is_name_byte b) (Some (at f o (naming (b ∷ []))))
     (cond (b == 34) (Some (at f o (quoting []))) (cond (b == 40) (Some (at (level [] []) (f ∷ o) start)) None))
 
--- the state behind a byte inside a quoted label
+-- the state after a byte inside a quoted label
 abbrev pub in_quotes : Level → List Level → List ℕ → ℕ → Option State
 in_quotes f o l b =
-    cond (b == 34) (Some (at f o (behind_atom (named l))))
+    cond (b == 34) (Some (at f o (past_atom (named l))))
     (cond (b == 92) (Some (at f o (escaping l))) (Some (at f o (quoting (l ++ b ∷ [])))))
 
--- the state behind one more byte
+-- the state after one more byte
 abbrev pub step_in : Level → List Level → Mode → ℕ → Option State
 step_in f o start b = begin f o b
 step_in f o (naming l) b = cond (is_name_byte b) (Some (at f o (naming (l ++ b ∷ [])))) (after_atom f o (word_form l) b)
 step_in f o (quoting l) b = in_quotes f o l b
 step_in f o (escaping l) b = cond (is_escape b) (Some (at f o (quoting (l ++ escaped_byte b ∷ [])))) None
-step_in f o (behind_atom p) b = after_atom f o p b
-step_in f o (behind_repeat p) b = after_repeat f o p b
+step_in f o (past_atom p) b = after_atom f o p b
+step_in f o (past_repeat p) b = after_repeat f o p b
 
 -- the same, of a state
 abbrev pub step : State → ℕ → Option State
@@ -89,8 +89,8 @@ repeat_in start = None
 repeat_in (naming l) = Some (word_form l)
 repeat_in (quoting l) = None
 repeat_in (escaping l) = None
-repeat_in (behind_atom p) = Some p
-repeat_in (behind_repeat p) = Some p
+repeat_in (past_atom p) = Some p
+repeat_in (past_repeat p) = Some p
 
 -- the path, where no parenthesis is open
 abbrev pub whole_in : Level → List Level → Option Form → Option Form
@@ -127,8 +127,8 @@ mode_of machine.start = start
 mode_of (machine.naming l) = naming l
 mode_of (machine.quoting ps) = quoting (meaning ps)
 mode_of (machine.escaping ps) = escaping (meaning ps)
-mode_of (machine.behind_atom p) = behind_atom (value_of p)
-mode_of (machine.behind_repeat p) = behind_repeat (value_of p)
+mode_of (machine.past_atom p) = past_atom (value_of p)
+mode_of (machine.past_repeat p) = past_repeat (value_of p)
 
 -- the values of a state
 abbrev pub values_of : machine.State → State

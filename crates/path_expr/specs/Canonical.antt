@@ -59,7 +59,7 @@ parenthesized true x = 40 ∷ x ++ 41 ∷ []
 abbrev pub canon_member : (Head → Bool) → Member → List ℕ
 canon_member wraps m = parenthesized (wraps m.head) m.text
 
--- the members behind the first, each with a separator before it
+-- the members after the first, each with a separator before it
 abbrev pub canon_rest : (Head → Bool) → ℕ → List Member → List ℕ
 canon_rest wraps separator [] = []
 canon_rest wraps separator (m ∷ ms) = separator ∷ canon_member wraps m ++ canon_rest wraps separator ms

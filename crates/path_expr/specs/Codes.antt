@@ -60,19 +60,19 @@ abbrev pub first_paths : List Paths → Paths
 first_paths [] = none
 first_paths (p ∷ rest) = p
 
--- three lists one behind another
+-- three lists one after another
 append_assoc' : (a b c : List (Option Head)) → (a ++ b) ++ c ≡ a ++ (b ++ c)
 append_assoc' [] b c = refl
 append_assoc' (x ∷ a) b c = ap (λ r. x ∷ r) (append_assoc' a b c)
 
--- the heads of paths stand for them, whatever comes behind
+-- the heads of paths stand for them, whatever comes after
 pub paths_from-codes : (p : Paths) (rest : List (Option Head)) → paths_from (path_codes p ++ rest) ≡ p ∷ paths_from rest
 paths_from-codes none rest = refl
 paths_from-codes (path head members after) rest =
     ap (λ c. with_head head (paths_from c)) (append_assoc' (path_codes members) (path_codes after) rest)
     ∙ ap (with_head head) (paths_from-codes members (path_codes after ++ rest) ∙ ap (λ fs. members ∷ fs) (paths_from-codes after rest))
 
--- nothing behind a list changes nothing
+-- nothing after a list changes nothing
 append_nil' : (a : List (Option Head)) → a ++ [] ≡ a
 append_nil' [] = refl
 append_nil' (x ∷ a) = ap (λ r. x ∷ r) (append_nil' a)

@@ -11,16 +11,16 @@ pub data How : Type 0 where
   in_turn : How
   one_of : How
 
--- a list of the first kind with one of the second behind it
+-- a list of the first kind with one of the second after it
 abbrev pub Then : (Labels → Type 0) → (Labels → Type 0) → Labels → Type 0
 Then P Q x = (y : Labels) × (z : Labels) × (y ++ z ≡ x) × P y × Q z
 
--- n lists of the kind, one behind another
+-- n lists of the kind, one after another
 abbrev pub Times : (Labels → Type 0) → ℕ → Labels → Type 0
 Times P zero x = x ≡ []
 Times P (suc n) x = Then P (Times P n) x
 
--- any number of lists of the kind, one behind another
+-- any number of lists of the kind, one after another
 abbrev pub Many : (Labels → Type 0) → Labels → Type 0
 Many P x = (n : ℕ) × Times P n x
 

@@ -3,7 +3,7 @@ use Rattle.std.specs.Prelude.{◌≡◌, ℕ, Bool, ◌||◌, ◌==◌, IsTrue, 
 use Rattle.mix_tree.specs.LabelGrammar.{Piece, ArePieces, inside_quotes}
 use Rattle.mix_tree.specs.Names.{IsName}
 
--- a path as it is written: a name or _, a quoted label, a path in parentheses, one with a mark behind it, two with a dot or a bar between
+-- a path as it is written: a name or _, a quoted label, a path in parentheses, one with a mark after it, two with a dot or a bar between
 pub data Spelled : Type 0 where
   word : List ℕ → Spelled
   quote : List Piece → Spelled

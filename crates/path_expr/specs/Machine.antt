@@ -16,8 +16,8 @@ pub data Mode : Type 0 where
   naming : List ℕ → Mode
   quoting : List Piece → Mode
   escaping : List Piece → Mode
-  behind_atom : Spelled → Mode
-  behind_repeat : Spelled → Mode
+  past_atom : Spelled → Mode
+  past_repeat : Spelled → Mode
 
 -- the path at hand, those with open parentheses around it, the innermost first, and its last member
 pub record State : Type 0 where
@@ -50,44 +50,44 @@ path_in f p = path_with f.bars (seq_with f.dots p)
 -- a closing parenthesis ends the path at hand
 abbrev pub close : List Frame → Spelled → Option State
 close [] p = None
-close (f ∷ o) p = Some (at f o (behind_atom (group p)))
+close (f ∷ o) p = Some (at f o (past_atom (group p)))
 
--- the state behind a byte that ends a member
+-- the state after a byte that ends a member
 abbrev pub after_repeat : Frame → List Frame → Spelled → ℕ → Option State
 after_repeat f o p b =
     cond (b == 46) (Some (at (record { bars = f.bars; dots = Some (seq_with f.dots p) }) o start))
     (cond (b == 124) (Some (at (record { bars = Some (path_in f p); dots = None }) o start)) (cond (b == 41) (close o (path_in f p)) None))
 
--- the state behind a byte that marks an atom or ends it
+-- the state after a byte that marks an atom or ends it
 abbrev pub after_atom : Frame → List Frame → Spelled → ℕ → Option State
-after_atom f o p b = cond (is_mark b) (Some (at f o (behind_repeat (marked p b)))) (after_repeat f o p b)
+after_atom f o p b = cond (is_mark b) (Some (at f o (past_repeat (marked p b)))) (after_repeat f o p b)
 
--- the state behind the first byte of a member
+-- the state after the first byte of a member
 abbrev pub begin : Frame → List Frame → ℕ → Option State
 begin f o b =
     cond (is_name_byte b) (Some (at f o (naming (b ∷ []))))
     (cond (b == 34) (Some (at f o (quoting []))) (cond (b == 40) (Some (at empty (f ∷ o) start)) None))
 
--- the state behind a byte inside a quoted label
+-- the state after a byte inside a quoted label
 abbrev pub in_quotes : Frame → List Frame → List Piece → ℕ → Option State
 in_quotes f o ps b =
-    cond (b == 34) (Some (at f o (behind_atom (quote ps))))
+    cond (b == 34) (Some (at f o (past_atom (quote ps))))
     (cond (b == 92) (Some (at f o (escaping ps))) (Some (at f o (quoting (ps ++ plain b ∷ [])))))
 
--- the state behind one more byte
+-- the state after one more byte
 abbrev pub step_in : Frame → List Frame → Mode → ℕ → Option State
 step_in f o start b = begin f o b
 step_in f o (naming l) b = cond (is_name_byte b) (Some (at f o (naming (l ++ b ∷ [])))) (after_atom f o (word l) b)
 step_in f o (quoting ps) b = in_quotes f o ps b
 step_in f o (escaping ps) b = cond (is_escape b) (Some (at f o (quoting (ps ++ escape b ∷ [])))) None
-step_in f o (behind_atom p) b = after_atom f o p b
-step_in f o (behind_repeat p) b = after_repeat f o p b
+step_in f o (past_atom p) b = after_atom f o p b
+step_in f o (past_repeat p) b = after_repeat f o p b
 
 -- the same, of a state
 abbrev pub step : State → ℕ → Option State
 step s b = step_in s.here s.outer s.mode b
 
--- the state behind a text
+-- the state after a text
 abbrev pub run : State → List ℕ → Option State
 run = run_by step
 
@@ -97,8 +97,8 @@ repeat_in start = None
 repeat_in (naming l) = Some (word l)
 repeat_in (quoting ps) = None
 repeat_in (escaping ps) = None
-repeat_in (behind_atom p) = Some p
-repeat_in (behind_repeat p) = Some p
+repeat_in (past_atom p) = Some p
+repeat_in (past_repeat p) = Some p
 
 -- the path, where no parenthesis is open
 abbrev pub whole_in : Frame → List Frame → Option Spelled → Option Spelled

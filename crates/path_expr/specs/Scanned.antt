@@ -3,9 +3,9 @@ use Rattle.std.specs.Prelude.{ℕ, zero, suc, ◌+◌, Bool, true, false, cond, 
 use Rattle.mix_tree.specs.LabelGrammar.{is_escape}
 use Rattle.mix_tree.specs.Names.{is_name_byte}
 use Rattle.path_expr.specs.Grammar.{is_mark}
-use Rattle.path_expr.specs.Machine.{Mode, start, naming, quoting, escaping, behind_atom, behind_repeat, State}
+use Rattle.path_expr.specs.Machine.{Mode, start, naming, quoting, escaping, past_atom, past_repeat, State}
 use Rattle.path_expr.specs.declared.scan.Stage.{Stage}
-use Rattle.path_expr.specs.declared.scan.Stage.TheVariants.{Start, Naming, Quoting, Escaping, BehindAtom, BehindRepeat}
+use Rattle.path_expr.specs.declared.scan.Stage.TheVariants.{Start, Naming, Quoting, Escaping, PastAtom, PastRepeat}
 use Rattle.path_expr.specs.declared.scan.Scan.{Scan}
 
 -- what a scan keeps
@@ -18,35 +18,35 @@ stage_of start = Start
 stage_of (naming l) = Naming
 stage_of (quoting ps) = Quoting
 stage_of (escaping ps) = Escaping
-stage_of (behind_atom p) = BehindAtom
-stage_of (behind_repeat p) = BehindRepeat
+stage_of (past_atom p) = PastAtom
+stage_of (past_repeat p) = PastRepeat
 
 -- what a scan keeps of a state
 abbrev pub shape_of : State → Scan
 shape_of s = shape (length s.outer) (stage_of s.mode)
 
--- what it keeps behind a closing parenthesis
+-- what it keeps after a closing parenthesis
 abbrev pub shape_close : ℕ → Option Scan
 shape_close zero = None
-shape_close (suc n) = Some (shape n BehindAtom)
+shape_close (suc n) = Some (shape n PastAtom)
 
--- what it keeps behind a byte that ends a member
-abbrev pub shape_behind : ℕ → ℕ → Option Scan
-shape_behind n b = cond (b == 46) (Some (shape n Start)) (cond (b == 124) (Some (shape n Start)) (cond (b == 41) (shape_close n) None))
+-- what it keeps after a byte that ends a member
+abbrev pub shape_after : ℕ → ℕ → Option Scan
+shape_after n b = cond (b == 46) (Some (shape n Start)) (cond (b == 124) (Some (shape n Start)) (cond (b == 41) (shape_close n) None))
 
--- what it keeps behind a byte that marks an atom or ends it
+-- what it keeps after a byte that marks an atom or ends it
 abbrev pub shape_atom : ℕ → ℕ → Option Scan
-shape_atom n b = cond (is_mark b) (Some (shape n BehindRepeat)) (shape_behind n b)
+shape_atom n b = cond (is_mark b) (Some (shape n PastRepeat)) (shape_after n b)
 
--- what it keeps behind one more byte
+-- what it keeps after one more byte
 abbrev pub shape_in : ℕ → Stage → ℕ → Option Scan
 shape_in n Start b =
     cond (is_name_byte b) (Some (shape n Naming)) (cond (b == 34) (Some (shape n Quoting)) (cond (b == 40) (Some (shape (n + 1) Start)) None))
 shape_in n Naming b = cond (is_name_byte b) (Some (shape n Naming)) (shape_atom n b)
-shape_in n Quoting b = cond (b == 34) (Some (shape n BehindAtom)) (cond (b == 92) (Some (shape n Escaping)) (Some (shape n Quoting)))
+shape_in n Quoting b = cond (b == 34) (Some (shape n PastAtom)) (cond (b == 92) (Some (shape n Escaping)) (Some (shape n Quoting)))
 shape_in n Escaping b = cond (is_escape b) (Some (shape n Quoting)) None
-shape_in n BehindAtom b = shape_atom n b
-shape_in n BehindRepeat b = shape_behind n b
+shape_in n PastAtom b = shape_atom n b
+shape_in n PastRepeat b = shape_after n b
 
 -- the same, of a scan
 abbrev pub shape_step : Scan → ℕ → Option Scan
@@ -58,8 +58,8 @@ may_end Start = false
 may_end Naming = true
 may_end Quoting = false
 may_end Escaping = false
-may_end BehindAtom = true
-may_end BehindRepeat = true
+may_end PastAtom = true
+may_end PastRepeat = true
 
 -- the scan may end here
 abbrev pub is_whole : Scan → Bool

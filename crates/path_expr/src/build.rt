@@ -14,9 +14,9 @@ use std::alloc::{AllocError, Global};
 /// The members of a path before the one at hand.
 #[derive(Drop)]
 pub struct Level {
-    /// The whole sequences, each with a bar behind it.
+    /// The whole sequences, each with a bar after it.
     pub sequences: Vec<Path>,
-    /// The members of the sequence at hand, each with a dot behind it.
+    /// The members of the sequence at hand, each with a dot after it.
     pub members: Vec<Path>,
 }
 
@@ -43,10 +43,10 @@ pub enum Spot {
     Quoting(Vec<u8>),
     /// A quoted label up to a backslash.
     Escaping(Vec<u8>),
-    /// A path in parentheses or a quoted label, behind which a mark may stand.
-    BehindAtom(Path),
+    /// A path in parentheses or a quoted label, after which a mark may stand.
+    PastAtom(Path),
     /// A member with its mark.
-    BehindRepeat(Path),
+    PastRepeat(Path),
 }
 
 /// A path that is being built.
@@ -60,7 +60,7 @@ pub struct Builder {
     pub spot: Spot,
 }
 
-// The byte that is meant by one behind a backslash.
+// The byte that is meant by one after a backslash.
 fn unescaped(byte: u8) -> u8
     ensures { result ≡ escaped_byte byte }
 {
@@ -121,7 +121,7 @@ fn close_level(level: Level, last: Path) -> Result<Path, AllocError>
     join_alt(sequences, last)
 }
 
-// A closing parenthesis behind a path's last member; none where no parenthesis is open.
+// A closing parenthesis after a path's last member; none where no parenthesis is open.
 fn build_close(
     here: Level,
     mut outer: Vec<Level>,
@@ -136,12 +136,12 @@ fn build_close(
     Ok(Some(Builder {
         here: around,
         outer,
-        spot: Spot::BehindAtom(group),
+        spot: Spot::PastAtom(group),
     }))
 }
 
-// One more byte behind a member with its mark.
-fn build_behind_repeat(
+// One more byte after a member with its mark.
+fn build_after_repeat(
     alloc: Global,
     here: Level,
     outer: Vec<Level>,
@@ -183,7 +183,7 @@ fn build_behind_repeat(
     }
 }
 
-// An atom with a mark behind it.
+// An atom with a mark after it.
 fn repeat(alloc: Global, atom: Path, byte: u8) -> Result<Path, AllocError>
     ensures { IfOk result (λ p. p ≡ repeated (mark_head byte) atom) }
 {
@@ -195,8 +195,8 @@ fn repeat(alloc: Global, atom: Path, byte: u8) -> Result<Path, AllocError>
     }))
 }
 
-// One more byte behind an atom.
-fn build_behind_atom(
+// One more byte after an atom.
+fn build_after_atom(
     alloc: Global,
     here: Level,
     outer: Vec<Level>,
@@ -206,10 +206,10 @@ fn build_behind_atom(
     ensures { Builds result (after_atom (level_in here) (outer_in outer) atom byte) }
 {
     if is_mark_byte(byte) {
-        let spot = Spot::BehindRepeat(repeat(alloc, atom, byte)?);
+        let spot = Spot::PastRepeat(repeat(alloc, atom, byte)?);
         return Ok(Some(Builder { here, outer, spot }));
     }
-    build_behind_repeat(alloc, here, outer, atom, byte)
+    build_after_repeat(alloc, here, outer, atom, byte)
 }
 
 // The first byte of a member.
@@ -260,7 +260,7 @@ fn build_quoting(
     ensures { Builds result (in_quotes (level_in here) (outer_in outer) label.items byte) }
 {
     let spot = match byte {
-        b'"' => Spot::BehindAtom(quoted_path(alloc, &label)?),
+        b'"' => Spot::PastAtom(quoted_path(alloc, &label)?),
         b'\\' => Spot::Escaping(label),
         _ => {
             label.push(byte)?;
@@ -270,7 +270,7 @@ fn build_quoting(
     Ok(Some(Builder { here, outer, spot }))
 }
 
-/// The builder behind one more byte; none where no text goes on so.
+/// The builder after one more byte; none where no text goes on so.
 pub fn build_byte(alloc: Global, builder: Builder, byte: u8) -> Result<Option<Builder>, AllocError>
     requires { AreUtf8 builder.spot byte }
     ensures { Builds result (step (state_in builder) byte) }
@@ -288,7 +288,7 @@ pub fn build_byte(alloc: Global, builder: Builder, byte: u8) -> Result<Option<Bu
         }
         Spot::Naming(name) => {
             let atom = word_path(alloc, &name)?;
-            build_behind_atom(alloc, here, outer, atom, byte)
+            build_after_atom(alloc, here, outer, atom, byte)
         }
         Spot::Quoting(label) => build_quoting(alloc, here, outer, label, byte),
         Spot::Escaping(mut label) if is_escaped(byte) => {
@@ -300,8 +300,8 @@ pub fn build_byte(alloc: Global, builder: Builder, byte: u8) -> Result<Option<Bu
             }))
         }
         Spot::Escaping(_) => Ok(None),
-        Spot::BehindAtom(atom) => build_behind_atom(alloc, here, outer, atom, byte),
-        Spot::BehindRepeat(last) => build_behind_repeat(alloc, here, outer, last, byte),
+        Spot::PastAtom(atom) => build_after_atom(alloc, here, outer, atom, byte),
+        Spot::PastRepeat(last) => build_after_repeat(alloc, here, outer, last, byte),
     }
 }
 
@@ -316,7 +316,7 @@ pub fn build_end(alloc: Global, builder: Builder) -> Result<Option<Path>, AllocE
     }
     let last = match spot {
         Spot::Naming(name) => word_path(alloc, &name)?,
-        Spot::BehindAtom(last) | Spot::BehindRepeat(last) => last,
+        Spot::PastAtom(last) | Spot::PastRepeat(last) => last,
         Spot::Start | Spot::Quoting(_) | Spot::Escaping(_) => return Ok(None),
     };
     Ok(Some(close_level(here, last)?))

@@ -5,7 +5,7 @@ ghost use Rattle.path_expr.specs.declared.fault.PathFault.TheVariants.{OutOfMemo
 use std::alloc::{AllocError, AllocFailed};
 use thiserror::Error;
 
-/// Why a path is not read. Places count bytes from the front of the text.
+/// Why a path is not read. Places count bytes from the beginning of the text.
 #[derive(Clone, Copy, Debug, PartialEq, Eq, Error)]
 pub enum PathFault {
     /// The text is not UTF-8 from the place on.

@@ -56,9 +56,9 @@ fn read(alloc: Global, text: &[u8]) -> Result<Path, PathFault>
 ///
 /// # Errors
 ///
-/// Places count bytes from the front of the text. Of the causes that a text has, the first of these is answered:
+/// Places count bytes from the beginning of the text. Of the causes that a text has, the first of these is answered:
 ///
-/// - `NotUtf8` with the length of the longest front that is UTF-8.
+/// - `NotUtf8` with the length of the longest prefix that is UTF-8.
 /// - `Unexpected` with the first byte with which no path's text goes on.
 /// - `Ends` where a path's text goes on from the end.
 /// - `TooDeep` with the first parenthesis that is open inside 100 others.

@@ -5,7 +5,7 @@ ghost use Rattle.mix_tree.specs.Names.{is_name_byte};
 ghost use Rattle.path_expr.specs.Depth.{deep_here, first_of};
 ghost use Rattle.path_expr.specs.Grammar.{is_mark};
 ghost use Rattle.path_expr.specs.Machine.{first};
-ghost use Rattle.path_expr.specs.Scanned.{shape_of, shape_step, shape_behind, is_whole};
+ghost use Rattle.path_expr.specs.Scanned.{shape_of, shape_step, shape_after, is_whole};
 ghost use Rattle.path_expr.specs.Results.{Scans};
 
 use crate::PathFault;
@@ -20,8 +20,8 @@ enum Stage {
     Naming,
     Quoting,
     Escaping,
-    BehindAtom,
-    BehindRepeat,
+    PastAtom,
+    PastRepeat,
 }
 
 /// What a scan of a path keeps: how many parentheses are open, and what stands before the next byte.
@@ -50,7 +50,7 @@ pub fn is_name(byte: u8) -> bool
     matches!(byte, b'a'..=b'z' | b'A'..=b'Z' | b'0'..=b'9' | b'_' | b'-')
 }
 
-/// Whether the byte may stand behind a backslash.
+/// Whether the byte may stand after a backslash.
 pub fn is_escaped(byte: u8) -> bool
     ensures { result ≡ is_escape byte }
 {
@@ -64,7 +64,7 @@ pub fn is_mark_byte(byte: u8) -> bool
     matches!(byte, b'*' | b'+' | b'?')
 }
 
-/// The scan behind one more byte; `None` where no path's text goes on so.
+/// The scan after one more byte; `None` where no path's text goes on so.
 pub fn scan_byte(scan: Scan, byte: u8) -> Option<Scan>
     requires { scan.depth + 1 < 2 ^ 64 }
     ensures step { result ≡ shape_step scan byte }
@@ -81,21 +81,21 @@ pub fn scan_byte(scan: Scan, byte: u8) -> Option<Scan>
             });
         }
         Stage::Start => return None,
-        Stage::Quoting if byte == b'"' => Stage::BehindAtom,
+        Stage::Quoting if byte == b'"' => Stage::PastAtom,
         Stage::Quoting if byte == b'\\' => Stage::Escaping,
         Stage::Quoting => Stage::Quoting,
         Stage::Escaping if is_escaped(byte) => Stage::Quoting,
         Stage::Escaping => return None,
         Stage::Naming if is_name(byte) => Stage::Naming,
-        Stage::Naming | Stage::BehindAtom if is_mark_byte(byte) => Stage::BehindRepeat,
-        Stage::Naming | Stage::BehindAtom | Stage::BehindRepeat => return scan_behind(depth, byte),
+        Stage::Naming | Stage::PastAtom if is_mark_byte(byte) => Stage::PastRepeat,
+        Stage::Naming | Stage::PastAtom | Stage::PastRepeat => return scan_after(depth, byte),
     };
     Some(Scan { depth, stage })
 }
 
-// The scan behind one more byte, which ends a member.
-fn scan_behind(depth: usize, byte: u8) -> Option<Scan>
-    ensures { result ≡ shape_behind depth byte }
+// The scan after one more byte, which ends a member.
+fn scan_after(depth: usize, byte: u8) -> Option<Scan>
+    ensures { result ≡ shape_after depth byte }
 {
     match byte {
         b'.' | b'|' => Some(Scan {
@@ -104,7 +104,7 @@ fn scan_behind(depth: usize, byte: u8) -> Option<Scan>
         }),
         b')' if depth > 0 => Some(Scan {
             depth: depth - 1,
-            stage: Stage::BehindAtom,
+            stage: Stage::PastAtom,
         }),
         _ => None,
     }
@@ -116,7 +116,7 @@ pub fn may_end_scan(scan: Scan) -> bool
 {
     matches!(
         scan.stage,
-        Stage::Naming | Stage::BehindAtom | Stage::BehindRepeat
+        Stage::Naming | Stage::PastAtom | Stage::PastRepeat
     ) && scan.depth == 0
 }
 

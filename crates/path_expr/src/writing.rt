@@ -58,7 +58,7 @@ fn push_bare_or_quoted(out: &mut Vec<u8>, label: &Label) -> Result<(), AllocErro
     push_quoted(out, label)
 }
 
-/// Writes a path's canonical text behind what `out` holds. An error leaves a front of it there.
+/// Writes a path's canonical text after what `out` holds. An error leaves a prefix of it there.
 #[cycle(write)]
 pub fn push_path(out: &mut Vec<u8>, path: &Path) -> Result<(), AllocError>
     ensures { OnOk result (out.new.items ≡ out.old.items ++ canon path.now) }
@@ -88,7 +88,7 @@ fn push_member(out: &mut Vec<u8>, path: &Path, around: Around) -> Result<(), All
     Ok(())
 }
 
-// Writes a member with a mark behind it.
+// Writes a member with a mark after it.
 #[cycle(write)]
 fn push_marked(out: &mut Vec<u8>, path: &Path, mark: u8) -> Result<(), AllocError>
     ensures { OnOk result (out.new.items ≡ out.old.items ++ (canon_member wraps_in_mark (member_of path.now) ++ mark ∷ [])) }

@@ -11,7 +11,7 @@ use Rattle.plain_rule.proofs.Splits.{split_nil, then_cases, then_later, many_cas
 abbrev pub Either : Type 0 → Type 0
 Either P = P ⊎ (P → ⊥)
 
--- one list behind another
+-- one list after another
 then_decided : (P Q : Labels → Type 0) → ((y : Labels) → Either (P y)) → ((z : Labels) → Either (Q z)) → (x : Labels) → Either (Then P Q x)
 then_decided P Q p q [] =
     elim (p []) [
@@ -52,11 +52,11 @@ short_decided P n d z = elim (le_decided (length z) n) [
   | inr m ↦ inr (λ a. m a.0)
 ]
 
--- what stands behind a first label is shorter
+-- what stands after a first label is shorter
 shorter : (P : Labels → Type 0) (n : ℕ) (l : List ℕ) (x : Labels) → length (l ∷ x) ≤ suc n → Then (λ y. P (l ∷ y)) (Many P) x → Then (λ y. P (l ∷ y)) (Short P n) x
 shorter P n l x h (y, z, e, a, b) = (let s : length z ≤ n = omega (arith, length-append y z, ap length e) in (y, z, e, a, (s, b)))
 
--- a list that is not empty is a first list that has a label, and shorter lists behind it
+-- a list that is not empty is a first list that has a label, and shorter lists after it
 first_of : (P : Labels → Type 0) (n : ℕ) (l : List ℕ) (x : Labels) → length (l ∷ x) ≤ suc n → Many P (l ∷ x) → Then (λ y. P (l ∷ y)) (Short P n) x
 first_of P n l x h (k, t) = elim (many_cases P k (l ∷ x) t) [
   | inl e ↦ cc

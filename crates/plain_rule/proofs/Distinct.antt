@@ -17,6 +17,6 @@ distinct_next {X} same xs i x seen more h e m =
     by true n = ap (λ z. z ++ distinct same z rest) (n ∙ append_nil seen)
     by false n = ap (λ z. z ++ distinct same z rest) n ∙ append_assoc seen (x ∷ []) (distinct same (seen ++ x ∷ []) rest)
 
--- behind the last member
+-- after the last member
 pub distinct_end : {X : Type 0} (same : X → X → Bool) (xs : List X) (i : ℕ) (seen : List X) → length xs ≤ i → seen ++ distinct same seen (drop i xs) ≡ seen
 distinct_end same xs i seen h = ap (λ z. seen ++ distinct same seen z) (drop_past xs i h) ∙ append_nil seen

@@ -36,7 +36,7 @@ before_deeper : (p : List ℕ) (i : ℕ) (r : List ℕ) → PlaceBefore p (p ++ 
 before_deeper [] i r = tt
 before_deeper (x ∷ p) i r = inr (refl, before_deeper p i r)
 
--- the index at a list's own front
+-- the index at a list's own prefix
 same_index : (k : ℕ) → k ≡ k + 0
 same_index k = omega arith
 

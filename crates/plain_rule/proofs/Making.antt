@@ -28,11 +28,11 @@ pub joined_next : {X : Type 0} (f : X → Forest) (xs : List X) (i : ℕ) (x : X
 joined_next f xs i x some more h e m =
     ap (λ z. followed z (joined f (drop (i + 1) xs))) m ∙ followed_assoc some (f x) (joined f (drop (i + 1) xs)) ∙ ap (λ z. followed some (joined f z)) (sym (drop_next xs i x h e))
 
--- behind the last member
+-- after the last member
 pub joined_end : {X : Type 0} (f : X → Forest) (xs : List X) (i : ℕ) (some : Forest) → length xs ≤ i → followed some (joined f (drop i xs)) ≡ some
 joined_end f xs i some h = ap (λ z. followed some (joined f z)) (drop_past xs i h) ∙ followed-none some
 
--- the instances of an item and of those behind it
+-- the instances of an item and of those after it
 instances_before : (docs : Documents) (force : List Key) (x : Item) (rest : Items) (bs : List Binding)
     → instances docs force (item_before x rest) bs ≡ followed (instances docs force (item_before x done) bs) (instances docs force rest bs)
 instances_before docs force (item.Text label) rest bs = refl
@@ -53,7 +53,7 @@ instances_next docs force items i x bs some more h e m =
     ∙ ap (followed some) (sym (instances_before docs force x rest bs))
     ∙ ap (λ z. followed some (instances docs force (items_of z) bs)) (sym (drop_next items i x h e))
 
--- behind the last item
+-- after the last item
 pub instances_end : (docs : Documents) (force : List Key) (items : List Item) (i : ℕ) (bs : List Binding) (some : Forest) → length items ≤ i
     → followed some (instances docs force (items_of (drop i items)) bs) ≡ some
 instances_end docs force items i bs some h = ap (λ z. followed some (instances docs force (items_of z) bs)) (drop_past items i h) ∙ followed-none some

@@ -10,12 +10,12 @@ use Rattle.std.proofs.lemmas.List.{take_at, drop_at}
 use Rattle.path_expr.specs.Form.{Head, Form, repeated}
 use Rattle.path_expr.specs.Description.{Labels, Describes, Then, Times, Many}
 
--- nothing is only nothing behind nothing
+-- nothing is only nothing after nothing
 pub split_nil : (y z : Labels) → y ++ z ≡ [] → (y ≡ []) × (z ≡ [])
 split_nil [] z e = (refl, e)
 split_nil (l ∷ y) z e = cc
 
--- a list is split before its first label, or behind it
+-- a list is split before its first label, or after it
 pub then_cases : (P Q : Labels → Type 0) (l : List ℕ) (x : Labels) → Then P Q (l ∷ x) → (P [] × Q (l ∷ x)) ⊎ Then (λ y. P (l ∷ y)) Q x
 then_cases P Q l x ([], z, e, a, b) = inl (a, subst Q e b)
 then_cases P Q l x (m ∷ y, z, e, a, b) =
@@ -23,17 +23,17 @@ then_cases P Q l x (m ∷ y, z, e, a, b) =
     let g : y ++ z ≡ x = cc in
     inr (y, z, g, subst (λ k. P (k ∷ y)) f a, b)
 
--- a split behind the first label
+-- a split after the first label
 pub then_later : (P Q : Labels → Type 0) (l : List ℕ) (x : Labels) → Then (λ y. P (l ∷ y)) Q x → Then P Q (l ∷ x)
 then_later P Q l x (y, z, e, a, b) = (l ∷ y, z, ap (λ r. l ∷ r) e, a, b)
 
--- any number of lists is none, or a first list that has a label, and any number behind it
+-- any number of lists is none, or a first list that has a label, and any number after it
 pub many_cases : (P : Labels → Type 0) (n : ℕ) (x : Labels) → Times P n x → (x ≡ []) ⊎ Then (λ y. (0 < length y) × P y) (Many P) x
 many_cases P zero x h = inl h
 many_cases P (suc n) x ([], z, e, a, b) = many_cases P n x (subst (Times P n) e b)
 many_cases P (suc n) x (l ∷ y, z, e, a, b) = inr (l ∷ y, z, e, (omega arith, a), (n, b))
 
--- a list, and any number behind it
+-- a list, and any number after it
 pub many_more : (P : Labels → Type 0) (x : Labels) → Then P (Many P) x → Many P x
 many_more P x (y, z, e, a, b) = (suc b.0, (y, z, e, a, b.1))
 

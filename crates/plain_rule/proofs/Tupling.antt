@@ -27,7 +27,7 @@ use Rattle.plain_rule.proofs.Finding.{found_are_matches, one_match_list}
 pub drop_next : {X : Type 0} (xs : List X) (i : ℕ) (x : X) → i < length xs → x ≡ get_or xs i x → drop i xs ≡ x ∷ drop (i + 1) xs
 drop_next {X} xs i x h e = rw (add-one, drop-cons xs i x) (ap (λ (u : X). u ∷ drop (suc i) xs) (sym e))
 
--- behind the last member there is none
+-- after the last member there is none
 pub drop_past : {X : Type 0} (xs : List X) (i : ℕ) → length xs ≤ i → drop i xs ≡ []
 drop_past [] zero h = refl
 drop_past [] (suc i) h = refl
@@ -113,7 +113,7 @@ reached_next lists vs us conds i x some more h e m u =
     ∙ ap (tuples lists some) (sym (reached-more vs x rest))
     ∙ ap (λ z. tuples lists some (reached vs (binders z))) (sym (drop_next conds i x h e))
 
--- behind the last condition
+-- after the last condition
 pub reached_end : (lists : MatchLists) (vs : List ℕ) (conds : List Cond) (i : ℕ) (some : List Binding) → length conds ≤ i → tuples lists some (reached vs (binders (drop i conds))) ≡ some
 reached_end lists vs conds i some h = ap (λ z. tuples lists some (reached vs (binders z))) (drop_past conds i h) ∙ tuples_none lists some
 
@@ -123,13 +123,13 @@ flat_append [] ys = refl
 flat_append (comp ∷ xs) ys = ap (λ r. comp ++ r) (flat_append xs ys) ∙ sym (append_assoc comp (flat xs) (flat ys))
 
 -- the component that a source condition begins
-pub begun_source : (lists : MatchLists) (s : ℕ) (path : Form) (v : ℕ) (behind : List Binder) (some same more : List Binding) → same ≡ some → more ≡ extend lists (from_source s path v) same
-    → tuples lists more (reached (v ∷ []) behind) ≡ tuples lists some (flat ((from_source s path v ∷ reached (v ∷ []) behind) ∷ []))
-begun_source lists s path v behind some same more e m =
+pub begun_source : (lists : MatchLists) (s : ℕ) (path : Form) (v : ℕ) (after : List Binder) (some same more : List Binding) → same ≡ some → more ≡ extend lists (from_source s path v) same
+    → tuples lists more (reached (v ∷ []) after) ≡ tuples lists some (flat ((from_source s path v ∷ reached (v ∷ []) after) ∷ []))
+begun_source lists s path v after some same more e m =
     let c : Binder = from_source s path v in
-    ap (λ z. tuples lists z (reached (v ∷ []) behind)) (m ∙ ap (extend lists c) e)
-    ∙ tuples_more lists some c (reached (v ∷ []) behind)
-    ∙ ap (tuples lists some) (sym (append_nil (c ∷ reached (v ∷ []) behind)))
+    ap (λ z. tuples lists z (reached (v ∷ []) after)) (m ∙ ap (extend lists c) e)
+    ∙ tuples_more lists some c (reached (v ∷ []) after)
+    ∙ ap (tuples lists some) (sym (append_nil (c ∷ reached (v ∷ []) after)))
 
 -- one condition more of the body
 pub body_next : (lists : MatchLists) (x : Cond) (xs : List Cond) (some more : List Binding) → more ≡ tuples lists some (flat (begun x (binders xs)))
@@ -139,7 +139,7 @@ body_next lists x xs some more m =
     ∙ tuples_append lists some (flat (begun x (binders xs))) (flat (reaches (binders xs)))
     ∙ ap (tuples lists some) (sym (ap flat (reaches-begun x xs) ∙ flat_append (begun x (binders xs)) (reaches (binders xs))))
 
--- behind the last condition of the body
+-- after the last condition of the body
 pub body_end : (lists : MatchLists) (rest : List Cond) (some : List Binding) → length rest ≡ 0 → tuples lists some (flat (reaches (binders rest))) ≡ some
 body_end lists [] some e = tuples_none lists some
 body_end lists (x ∷ xs) some e = absurd (omega arith)
@@ -166,7 +166,7 @@ passing_next docs conds i x some more h e m =
     by (cond.FromVar start path v) = refl
     by (cond.Compare t) = refl
 
--- behind the last condition
+-- after the last condition
 pub passing_end : (docs : Documents) (conds : List Cond) (i : ℕ) (some : List Binding) → length conds ≤ i → passing docs (comparisons (drop i conds)) some ≡ some
 passing_end docs conds i some h = ap (λ z. passing docs (comparisons z) some) (drop_past conds i h) ∙ passing_none docs some
 

@@ -40,25 +40,25 @@ pub fn describes(path: &Path, labels: &[Label]) -> bool
     }
 }
 
-// Whether the first path describes the front, and those behind it the rest.
+// Whether the first path describes the prefix, and those after it the rest.
 #[cycle(describing)]
-fn is_split(first: &Path, behind: &[Path], front: &[Label], rest: &[Label]) -> bool
-    ensures { IsTrue result ↔ (Describes first.now front.now × DescribesAs (paths_of behind.now) in_turn rest.now) }
+fn is_split(first: &Path, after: &[Path], prefix: &[Label], rest: &[Label]) -> bool
+    ensures { IsTrue result ↔ (Describes first.now prefix.now × DescribesAs (paths_of after.now) in_turn rest.now) }
 {
-    describes(first, front) && describes_in_turn(behind, rest)
+    describes(first, prefix) && describes_in_turn(after, rest)
 }
 
-// Whether the list is what the paths describe, one behind another.
+// Whether the list is what the paths describe, one after another.
 #[cycle(describing)]
 fn describes_in_turn(paths: &[Path], labels: &[Label]) -> bool
     ensures { IsTrue result ↔ DescribesAs (paths_of paths.now) in_turn labels.now }
 {
-    let Some((first, behind)) = paths.split_first() else {
+    let Some((first, after)) = paths.split_first() else {
         return labels.is_empty();
     };
     for at in 0..labels.len() + 1 {
-        let (front, rest) = labels.split_at(at);
-        if is_split(first, behind, front, rest) {
+        let (prefix, rest) = labels.split_at(at);
+        if is_split(first, after, prefix, rest) {
             return true;
         }
     }
@@ -70,19 +70,19 @@ fn describes_in_turn(paths: &[Path], labels: &[Label]) -> bool
 fn describes_one(paths: &[Path], labels: &[Label]) -> bool
     ensures { IsTrue result ↔ DescribesAs (paths_of paths.now) one_of labels.now }
 {
-    let Some((first, behind)) = paths.split_first() else {
+    let Some((first, after)) = paths.split_first() else {
         return false;
     };
-    describes(first, labels) || describes_one(behind, labels)
+    describes(first, labels) || describes_one(after, labels)
 }
 
-// Whether the path describes the front, and any number of such lists are the rest.
+// Whether the path describes the prefix, and any number of such lists are the rest.
 #[cycle(describing)]
-fn is_begun(path: &Path, front: &[Label], rest: &[Label]) -> bool
-    requires { 0 < length front.now }
-    ensures { IsTrue result ↔ (Describes path.now front.now × Many (DescribesAlone path.now) rest.now) }
+fn is_begun(path: &Path, prefix: &[Label], rest: &[Label]) -> bool
+    requires { 0 < length prefix.now }
+    ensures { IsTrue result ↔ (Describes path.now prefix.now × Many (DescribesAlone path.now) rest.now) }
 {
-    describes(path, front) && describes_many(path, rest)
+    describes(path, prefix) && describes_many(path, rest)
 }
 
 // Whether the list begins with labels that the path describes, and goes on with any number of such lists.
@@ -91,15 +91,15 @@ fn begins(path: &Path, labels: &[Label]) -> bool
     ensures { IsTrue result ↔ Begins (DescribesAlone path.now) labels.now }
 {
     for at in 1..labels.len() + 1 {
-        let (front, rest) = labels.split_at(at);
-        if is_begun(path, front, rest) {
+        let (prefix, rest) = labels.split_at(at);
+        if is_begun(path, prefix, rest) {
             return true;
         }
     }
     false
 }
 
-// Whether the list is any number of lists that the path describes, one behind another.
+// Whether the list is any number of lists that the path describes, one after another.
 #[cycle(describing)]
 fn describes_many(path: &Path, labels: &[Label]) -> bool
     ensures { IsTrue result ↔ Many (DescribesAlone path.now) labels.now }
@@ -110,7 +110,7 @@ fn describes_many(path: &Path, labels: &[Label]) -> bool
     begins(path, labels)
 }
 
-// Whether the list is at least one list that the path describes, one behind another.
+// Whether the list is at least one list that the path describes, one after another.
 #[cycle(describing)]
 fn describes_some(path: &Path, labels: &[Label]) -> bool
     ensures { IsTrue result ↔ Then (DescribesAlone path.now) (Many (DescribesAlone path.now)) labels.now }

@@ -172,10 +172,10 @@ fn extend_begun(
     alloc: Global,
     docs: &[Tree],
     cond: &Cond,
-    behind: &[Cond],
+    after: &[Cond],
     bindings: Vec<Binding>,
 ) -> Result<Vec<Binding>, AllocError>
-    ensures { IfOk result (λ longer. AreExtended docs.now bindings.items (flat (begun cond.now (binders behind.now))) longer.items) }
+    ensures { IfOk result (λ longer. AreExtended docs.now bindings.items (flat (begun cond.now (binders after.now))) longer.items) }
 {
     match cond {
         Cond::FromSource { source, path, var } => {
@@ -185,7 +185,7 @@ fn extend_begun(
                 var: *var,
             };
             let begun = extend_from_source(alloc, &leads, &bindings, *source)?;
-            extend_reached(alloc, docs, *var, behind, begun)
+            extend_reached(alloc, docs, *var, after, begun)
         },
         Cond::FromVar { .. } => Ok(bindings),
         Cond::Compare(_) => Ok(bindings),
@@ -199,9 +199,9 @@ pub fn body_tuples(alloc: Global, docs: &[Tree], conds: &[Cond]) -> Result<Vec<B
     let mut all = Vec::new(alloc);
     all.push(Binding::new(Vec::new(alloc)))?;
     let mut rest = conds;
-    while let Some((cond, behind)) = rest.split_first() {
-        all = extend_begun(alloc, docs, cond, behind, all)?;
-        rest = behind;
+    while let Some((cond, after)) = rest.split_first() {
+        all = extend_begun(alloc, docs, cond, after, all)?;
+        rest = after;
     }
     Ok(all)
 }

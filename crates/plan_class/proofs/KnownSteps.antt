@@ -114,7 +114,7 @@ module _ (shapes : List SourceShape) (p : PlanValue) (valid : IsValid p) (typed 
   kept_same : (keys : List Key) (vars : List ℕ) (i : ℕ) → i < n → distinct_known keys vars (at i) ≡ distinct_profile keys vars (fs i)
   kept_same keys vars i s = distinct_same keys vars (at i) (fs i) (are.each i s).profile (are.each i s).keys (are.each i s).levels
 
-  -- behind a stage
+  -- after a stage
   stage_agrees : (stage : Stage) (vars : List ℕ) (i : ℕ) → i < n → IsStageFit (kinds p.ops i) stage
       → AgreesWith shapes (stage_outs stage) (stage_kinds stage (kinds p.ops i)) (stage_facts stage (kinds p.ops i) vars (fs i)) (stage_known known stage vars (at i))
   stage_agrees (filters test) vars i s fit = record {
@@ -250,7 +250,7 @@ module _ (shapes : List SourceShape) (p : PlanValue) (valid : IsValid p) (typed 
     levels = levels_agree costless costless (same_levels unbounded) (λ j. unbounded) refl (λ j. refl);
   }
 
-  -- the operator behind those that are known
+  -- the operator after those that are known
   pub known_step : Agrees shapes p.ops n (op_known shapes (front p.ops) known (op_at p.ops n))
   known_step =
       let at_n : Shape = shape_at p.ops n in

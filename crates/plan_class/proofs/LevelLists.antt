@@ -10,28 +10,28 @@ use Rattle.plan_class.specs.LevelLists.{Levels, level_in, with_first, opens, bes
 -- level 0 by itself, and the others as they agree
 pub levels_agree : (p q : Profile) (l : Levels) (f : ℕ → Profile) → p ≡ q → ((j : ℕ) → level_in l j ≡ f j) → (j : ℕ) → level_in (with_first p l) j ≡ with_zero q f j
 levels_agree p q l f e h zero = ap once e
-levels_agree p q l f e h (suc j) = behind l.first ∙ h (suc j)
+levels_agree p q l f e h (suc j) = after l.first ∙ h (suc j)
   where
-    behind : (ps : List Profile) → slice_index_or (drop 1 ps) j l.rest ≡ slice_index_or ps (suc j) l.rest
-    behind [] = refl
-    behind (x ∷ ps) = refl
+    after : (ps : List Profile) → slice_index_or (drop 1 ps) j l.rest ≡ slice_index_or ps (suc j) l.rest
+    after [] = refl
+    after (x ∷ ps) = refl
 
--- two levels behind those of which nothing is known
-two_behind : (m j : ℕ) (a b : Profile) → slice_index_or (opens m ++ a ∷ b ∷ []) j unbounded ≡ cond (j == suc m) b (cond (j == m) a unbounded)
-two_behind zero zero a b = refl
-two_behind zero (suc zero) a b = refl
-two_behind zero (suc (suc j)) a b =
+-- two levels after those of which nothing is known
+two_after : (m j : ℕ) (a b : Profile) → slice_index_or (opens m ++ a ∷ b ∷ []) j unbounded ≡ cond (j == suc m) b (cond (j == m) a unbounded)
+two_after zero zero a b = refl
+two_after zero (suc zero) a b = refl
+two_after zero (suc (suc j)) a b =
     let e : (suc (suc j) == 1) ≡ false = grind (arith, nat_tests) in
     let f : (suc (suc j) == 0) ≡ false = grind (arith, nat_tests) in
     ap (λ (w : Bool). cond w a unbounded) (sym f) ∙ ap (λ (w : Bool). cond w b (cond (suc (suc j) == 0) a unbounded)) (sym e)
-two_behind (suc m) zero a b =
+two_after (suc m) zero a b =
     let e : (0 == suc (suc m)) ≡ false = grind (arith, nat_tests) in
     let f : (0 == suc m) ≡ false = grind (arith, nat_tests) in
     ap (λ (w : Bool). cond w a unbounded) (sym f) ∙ ap (λ (w : Bool). cond w b (cond (0 == suc m) a unbounded)) (sym e)
-two_behind (suc m) (suc j) a b =
+two_after (suc m) (suc j) a b =
     let e : (suc j == suc (suc m)) ≡ (j == suc m) = grind (arith, nat_tests) in
     let f : (suc j == suc m) ≡ (j == m) = grind (arith, nat_tests) in
-    two_behind m j a b
+    two_after m j a b
     ∙ ap (λ (w : Bool). cond w b (cond (j == m) a unbounded)) (sym e)
     ∙ ap (λ (w : Bool). cond (suc j == suc (suc m)) b (cond w a unbounded)) (sym f)
 
@@ -41,22 +41,22 @@ mapped_at f rest j [] = refl
 mapped_at f rest zero (p ∷ ps) = refl
 mapped_at f rest (suc j) (p ∷ ps) = mapped_at f rest j ps
 
--- those of another list, each changed, behind those of which nothing is known
-mapped_behind : (f : Profile → Profile) (rest : Profile) (m j : ℕ) (ps : List Profile)
+-- those of another list, each changed, after those of which nothing is known
+mapped_after : (f : Profile → Profile) (rest : Profile) (m j : ℕ) (ps : List Profile)
     → slice_index_or (opens m ++ map f ps) j (f rest) ≡ cond (nat_le m j) (f (slice_index_or ps (j - m) rest)) unbounded
-mapped_behind f rest zero j ps =
+mapped_after f rest zero j ps =
     let d : j - 0 ≡ j = omega arith in
     let e : nat_le 0 j ≡ true = grind (arith, nat_tests) in
     mapped_at f rest j ps
     ∙ ap (λ (n : ℕ). f (slice_index_or ps n rest)) (sym d)
     ∙ ap (λ (w : Bool). cond w (f (slice_index_or ps (j - 0) rest)) unbounded) (sym e)
-mapped_behind f rest (suc m) zero ps =
+mapped_after f rest (suc m) zero ps =
     let e : nat_le (suc m) 0 ≡ false = grind (arith, nat_tests) in
     ap (λ (w : Bool). cond w (f (slice_index_or ps (0 - suc m) rest)) unbounded) (sym e)
-mapped_behind f rest (suc m) (suc j) ps =
+mapped_after f rest (suc m) (suc j) ps =
     let d : suc j - suc m ≡ j - m = omega arith in
     let e : nat_le (suc m) (suc j) ≡ nat_le m j = grind (arith, nat_tests) in
-    mapped_behind f rest m j ps
+    mapped_after f rest m j ps
     ∙ ap (λ (w : Bool). cond w (f (slice_index_or ps (j - m) rest)) unbounded) (sym e)
     ∙ ap (λ (n : ℕ). cond (nat_le (suc m) (suc j)) (f (slice_index_or ps n rest)) unbounded) (sym d)
 
@@ -67,12 +67,12 @@ opens_more (suc n) = (let e : suc (n + 1) ≡ suc n + 1 = omega arith in ap (λ 
 
 -- the levels of visits
 pub visit_levels_are : (m : ℕ) (whole : Bool) (i p : Profile) (j : ℕ) → level_in (visit_levels m whole i p) j ≡ visits_level m whole (replaced i p) i p j
-visit_levels_are m true i p j = two_behind m j (replaced i (once p)) (replaced i p)
+visit_levels_are m true i p j = two_after m j (replaced i (once p)) (replaced i p)
 visit_levels_are m false i p j = refl
 
 -- the levels of pairs
 pub pair_levels_are : (m : ℕ) (whole : Bool) (i : Profile) (l : Levels) (right : ℕ → Profile) → ((j : ℕ) → level_in l j ≡ right j) → (j : ℕ)
     → level_in (pair_levels m whole i l) j ≡ pairs_level m whole i right j
 pair_levels_are m true i l right h j =
-    mapped_behind (beside i) l.rest m j l.first ∙ ap (λ (q : Profile). cond (nat_le m j) (beside i q) unbounded) (h (j - m))
+    mapped_after (beside i) l.rest m j l.first ∙ ap (λ (q : Profile). cond (nat_le m j) (beside i q) unbounded) (h (j - m))
 pair_levels_are m false i l right h j = refl

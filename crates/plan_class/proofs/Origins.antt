@@ -49,7 +49,7 @@ one_more : (w : Bool) (own base : Option Kind) (hs gs : List Layout) (p q : Prof
 one_more true own base hs gs p q j e = inl refl
 one_more false own base hs gs p q j e = inr (e, refl, refl)
 
--- what is bound behind a stage is bound by it, or was bound and is what it was
+-- what is bound after a stage is bound by it, or was bound and is what it was
 stage_from : (stage : Stage) (ks : Kinds) (vars : List ℕ) (f : Facts) (v : ℕ) (j : Kind) → stage_kinds stage ks v ≡ Some j
     → (binds (out_of (stage_outs stage)) v ≡ true)
     ⊎ ((ks v ≡ Some j) × ((stage_facts stage ks vars f).layouts v ≡ f.layouts v) × ((stage_facts stage ks vars f).lists v ≡ f.lists v))

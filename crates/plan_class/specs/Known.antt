@@ -39,7 +39,7 @@ node_domain source sorts = record { source = source; sorts = sorts; trees = one_
 abbrev pub value_domain : Profile → Domain
 value_domain trees = record { source = 0; sorts = no_sorts; trees = trees }
 
--- of an operator that binds no variable anew, with these levels behind level 0
+-- of an operator that binds no variable anew, with these levels after level 0
 abbrev pub known_with : Profile → List Key → Levels → Known
 known_with p keys levels = record { profile = p; out = None; domain = value_domain one_item; keys = keys; levels = with_first p levels }
 
@@ -65,7 +65,7 @@ abbrev pub domain_of : List Known → ℕ → Domain
 domain_of [] v = value_domain one_item
 domain_of (k ∷ known) v = cond (binds k.out v) k.domain (domain_of known v)
 
--- the visit by a path's automaton below nodes of a source of this shape, behind the skip for its start
+-- the visit by a path's automaton below nodes of a source of this shape, after the skip for its start
 abbrev pub visit_in : Machine → List (List ℕ) → SourceShape → Domain → Visit
 visit_in m labels shape start = record {
   profile = in_turn one_skip (sorts_profile m labels shape start.sorts);
@@ -97,11 +97,11 @@ pairs_known tests m whole left right =
     let p = tested tests (beside left.profile right.profile) in
     known_with p (left.keys ++ right.keys) (tested_levels tests p (pair_levels m whole left.profile right.levels))
 
--- behind a comparison
+-- after a comparison
 abbrev pub selected_known : Known → Known
 selected_known input = known_with (passed input.profile) input.keys (same_levels (own_level (passed input.profile)))
 
--- behind an order
+-- after an order
 abbrev pub ordered_known : Known → Known
 ordered_known input = known_with unbounded input.keys (same_levels unbounded)
 
@@ -133,7 +133,7 @@ piece_known known (label_piece v) = one_item
 piece_known known (text_piece label) = one_item
 piece_known known (var_piece v) = (domain_of known v).trees
 
--- the trees of the pieces, one after another, behind others
+-- the trees of the pieces, one after another, after others
 abbrev pub pieces_known : List Known → Profile → List Piece → Profile
 pieces_known known before [] = before
 pieces_known known before (p ∷ pieces) = pieces_known known (in_turn before (piece_known known p)) pieces
@@ -143,7 +143,7 @@ abbrev pub made_known : List Known → Made → Profile
 made_known known (a_list_of pieces) = pieces_known known costless pieces
 made_known known (an_element_of label list) = one_item
 
--- behind a stage, over an input with a front of these variables
+-- after a stage, over an input with a front of these variables
 abbrev pub stage_known : List Known → Stage → List ℕ → Known → Known
 stage_known known (filters test) vars input = selected_known input
 stage_known known (extends out made) vars input = extended_known out (made_known known made) input
@@ -156,7 +156,7 @@ stage_known known (in_order v desc) vars input = ordered_known input
 abbrev pub ended_known : Known
 ended_known = known_with costless [] (same_levels unbounded)
 
--- behind a shape with one input, which has a front of these variables; of others, no events
+-- after a shape with one input, which has a front of these variables; of others, no events
 abbrev pub over_known : List Known → List ℕ → Known → Shape → Known
 over_known known vars input (one_source s out) = ended_known
 over_known known vars input (visits_below i start path out) = ended_known

@@ -46,7 +46,7 @@ impl Known {
         }
     }
 
-    /// Of an operator that binds no variable anew, with these levels behind level 0. `Err`: memory.
+    /// Of an operator that binds no variable anew, with these levels after level 0. `Err`: memory.
     pub fn new(
         alloc: Global,
         profile: Profile,

@@ -95,7 +95,7 @@ fn beside(left: Profile, right: Profile) -> Profile
     left.replaced(Profile::one_skip().in_turn(right))
 }
 
-// Lists beside each binding of the left side, behind others.
+// Lists beside each binding of the left side, after others.
 fn push_beside(
     levels: &mut Vec<Profile>,
     left: Profile,

@@ -42,7 +42,7 @@ fn front_size(fronts: &[Front], n: u32) -> FrontSize
     }
 }
 
-// Keys and others behind them. `Err`: memory.
+// Keys and others after them. `Err`: memory.
 fn joined_keys(alloc: Global, keys: &[Key], more: &[Key]) -> Result<Vec<Key>, AllocError>
     ensures { IfOk result (λ all. all.items ≡ keys.now ++ more.now) }
 {
@@ -108,7 +108,7 @@ fn pairs_known(
     Known::new(alloc, profile, keys, &levels)
 }
 
-// Behind an operator with one input, which has a front of these variables; of others, no events. `Err`: memory.
+// After an operator with one input, which has a front of these variables; of others, no events. `Err`: memory.
 fn over_known(
     alloc: Global,
     known: &[Known],

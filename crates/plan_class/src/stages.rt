@@ -1,4 +1,4 @@
-// What is known behind what the bindings of an input go through.
+// What is known after what the bindings of an input go through.
 ghost use Rattle.std.specs.Prelude.{◌≡◌, IfOk};
 ghost use Rattle.plan_core.specs.Fronts.{covers as covers_keys};
 ghost use Rattle.browse_class.specs.Facts.{group_profile};
@@ -13,7 +13,7 @@ use mix_tree::{Key, Var, key_stands};
 use plan_core::{Piece, fronts};
 use std::alloc::{AllocError, Global};
 
-/// Behind a comparison. `Err`: memory.
+/// After a comparison. `Err`: memory.
 pub fn selected_known(alloc: Global, input: &Known) -> Result<Known, AllocError>
     ensures { IfOk result (λ k. k ≡ selected_known input.now) }
 {
@@ -23,7 +23,7 @@ pub fn selected_known(alloc: Global, input: &Known) -> Result<Known, AllocError>
     Known::new(alloc, profile, keys, &levels)
 }
 
-/// Behind an order. `Err`: memory.
+/// After an order. `Err`: memory.
 pub fn ordered_known(alloc: Global, input: &Known) -> Result<Known, AllocError>
     ensures { IfOk result (λ k. k ≡ ordered_known input.now) }
 {

@@ -61,7 +61,7 @@ fn visit_by(
     visit_in(automaton, labels, row, shape, start)
 }
 
-/// The visit along a path below each of these nodes, behind the skip for its start. `Err`: memory.
+/// The visit along a path below each of these nodes, after the skip for its start. `Err`: memory.
 pub fn visit_along(
     alloc: Global,
     shapes: &[Shape],

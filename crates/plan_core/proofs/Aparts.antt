@@ -38,7 +38,7 @@ module _ (docs : Documents) where
         | false ↦ λ g. refl
       ]) h
 
-  -- and behind others
+  -- and after others
   differ_right : (keys more : List Key) (a b : ℕ → Node) → same_values (map (key_value docs a) more) (map (key_value docs b) more) ≡ false
       → same_values (map (key_value docs a) (keys ++ more)) (map (key_value docs b) (keys ++ more)) ≡ false
   differ_right [] more a b h = h
@@ -49,7 +49,7 @@ module _ (docs : Documents) where
   differ_same : (keys : List Key) (a b c d : TolledRow) → key_values docs keys a ≡ key_values docs keys c → key_values docs keys b ≡ key_values docs keys d → Differ docs keys c d → Differ docs keys a b
   differ_same keys a b c d e f h = ap (λ (x : List KeyValue). same_values x (key_values docs keys b)) e ∙ ap (same_values (key_values docs keys c)) f ∙ h
 
-  -- one list behind another
+  -- one list after another
   apart_append : (keys : List Key) (xs ys : RowEvents) → AreApart docs keys xs → AreApart docs keys ys → EachBinding (λ a. EachBinding (Differ docs keys a) ys) xs → AreApart docs keys (xs ++ ys)
   apart_append keys [] ys h k d = k
   apart_append keys (skip ∷ xs) ys h k d = apart_append keys xs ys h k d
@@ -71,7 +71,7 @@ module _ (docs : Documents) where
     pair_differ row other a e d es h =
         binding_weaker (λ b. key_values docs keys b ≡ key_values docs keys other) (Differ docs (keys ++ more) a) (λ b g. differ_left keys more (row_node a) (row_node b) (differ_same keys a b row other e g d)) es h
 
-    -- and those behind
+    -- and those after
     others_differ : (row a : TolledRow) → key_values docs keys a ≡ key_values docs keys row → (es : RowEvents) → EachBinding P es → EachBinding (Differ docs keys row) es → EachBinding (Differ docs (keys ++ more) a) (expand f es)
     others_differ row a e [] p d = tt
     others_differ row a e (skip ∷ es) p d = others_differ row a e es p d
@@ -130,7 +130,7 @@ module _ (docs : Documents) where
             | false ↦ λ e. refl
           ]) refl
 
-  -- and of all behind a place
+  -- and of all after a place
   nodes_differ : (out : ℕ) (start : Node) (row : TolledRow) (p : List ℕ) (es : List (Event (List ℕ))) → AllByRecursion (PlaceBefore p) (without_skips es)
       → EachBinding (Differ docs (node_key out ∷ []) (with_node out start row p)) (nodes_found out start row es)
   nodes_differ out start row p [] h = tt
@@ -194,7 +194,7 @@ module _ (docs : Documents) where
   covered_apart keys others c (bind row ∷ es) h =
       (binding_weaker (Differ docs others row) (Differ docs keys row) (λ b d. covered_differ docs keys others c row b d) es h.0, covered_apart keys others c es h.1)
 
-  -- what was not seen is not seen behind a binding from which it differs
+  -- what was not seen is not seen after a binding from which it differs
   unseen_more : (keys : List Key) (row : TolledRow) (seen : List (List KeyValue)) (es : RowEvents) → EachBinding (λ c. is_seen (key_values docs keys c) seen ≡ false) es
       → EachBinding (Differ docs keys row) es → EachBinding (λ c. is_seen (key_values docs keys c) (seen ++ key_values docs keys row ∷ []) ≡ false) es
   unseen_more keys row seen [] u d = tt

@@ -9,10 +9,10 @@ use Rattle.plan_core.specs.Events.{RowEvents, expand, each_row, only, run_of, di
 use Rattle.plan_core.specs.TolledRows.{TolledRow, KeyValue, key_value, key_values, same_values, is_seen, row_node}
 use Rattle.plan_core.proofs.Aparts.{differ_left}
 use Rattle.plan_core.proofs.Bindings.{binding_append, binding_weaker, binding_only}
-use Rattle.plan_core.proofs.KeyValues.{all_itself, same_behind, map_more}
+use Rattle.plan_core.proofs.KeyValues.{all_itself, same_after, map_more}
 
 module _ (docs : Documents) where
-  -- where all behind it differ
+  -- where all after it differ
   pub stands_apart : (keys : List Key) (row : TolledRow) (es : RowEvents) → EachBinding (Differ docs keys row) es → StandsFirst docs keys row es
   stands_apart keys row [] h = tt
   stands_apart keys row (skip ∷ es) h = stands_apart keys row es h
@@ -46,7 +46,7 @@ module _ (docs : Documents) where
       let d = binding_only (Differ docs keys row) test es h.1 in
       elim (test b) as (λ w. StandsFirst docs keys row (cond w (bind b) skip ∷ only test es)) [ true ↦ inr (h.0, d) | false ↦ stands_apart keys row (only test es) d ]
 
-  -- so behind each
+  -- so after each
   pub beside_only : (keys : List Key) (test : TolledRow → Bool) (es : RowEvents) → AreBeside docs keys es → AreBeside docs keys (only test es)
   beside_only keys test [] h = tt
   beside_only keys test (skip ∷ es) h = beside_only keys test es h
@@ -67,14 +67,14 @@ module _ (docs : Documents) where
     others_differ row p (skip ∷ es) q h = others_differ row p es q h
     others_differ row p (bind b ∷ es) q h = (both_same row b false p q.0 h.0, others_differ row p es q.1 h.1)
 
-    -- a made binding and those behind it
+    -- a made binding and those after it
     stands_each : (row : TolledRow) → P row → (es : RowEvents) → EachBinding P es → StandsFirst docs keys row es → StandsFirst docs keys (f row) (each_row f es)
     stands_each row p [] q h = tt
     stands_each row p (skip ∷ es) q h = stands_each row p es q h
     stands_each row p (bind b ∷ es) q (inl h) = inl (both_same row b true p q.0 h.0, stands_each row p es q.1 h.1)
     stands_each row p (bind b ∷ es) q (inr h) = inr (both_same row b false p q.0 h.0, others_differ row p es q.1 h.1)
 
-    -- so behind each
+    -- so after each
     pub beside_each_row : (es : RowEvents) → EachBinding P es → AreBeside docs keys es → AreBeside docs keys (each_row f es)
     beside_each_row [] q h = tt
     beside_each_row (skip ∷ es) q h = beside_each_row es q h
@@ -97,7 +97,7 @@ module _ (docs : Documents) where
         elim (is_seen (key_values docs by b) seen)
         as (λ w. EachBinding (Differ docs keys (make row xs)) (cond w (skip ∷ distinct docs by make seen es) (bind (make b es) ∷ distinct docs by make (seen ++ key_values docs by b ∷ []) es))) [ true ↦ old | false ↦ (d, new) ]
 
-    -- a kept binding and those behind it
+    -- a kept binding and those after it
     kept_stands : (row : TolledRow) (xs : RowEvents) (seen : List (List KeyValue)) (es : RowEvents) → StandsFirst docs keys row es → StandsFirst docs keys (make row xs) (distinct docs by make seen es)
     kept_stands row xs seen [] h = tt
     kept_stands row xs seen (skip ∷ es) h = kept_stands row xs seen es h
@@ -114,7 +114,7 @@ module _ (docs : Documents) where
         elim (is_seen (key_values docs by b) seen)
         as (λ w. StandsFirst docs keys (make row xs) (cond w (skip ∷ distinct docs by make seen es) (bind (make b es) ∷ distinct docs by make (seen ++ key_values docs by b ∷ []) es))) [ true ↦ old | false ↦ inr (d, new) ]
 
-    -- so behind each
+    -- so after each
     pub beside_distinct : (seen : List (List KeyValue)) (es : RowEvents) → AreBeside docs keys es → AreBeside docs keys (distinct docs by make seen es)
     beside_distinct seen [] h = tt
     beside_distinct seen (skip ∷ es) h = beside_distinct seen es h
@@ -146,13 +146,13 @@ module _ (docs : Documents) where
         binding_append (Differ docs keys a) (f other) (expand f es)
         (binding_weaker (λ b. key_values docs keys b ≡ key_values docs keys other) (Differ docs keys a) (λ b g. pair_is row other a b false e g h.0) (f other) (extends other p.0)) (all_differ row a e es p.1 h.1)
 
-    -- a binding, and behind it some that agree, and then events in which it stands first
+    -- a binding, and after it some that agree, and then events in which it stands first
     stands_append : (a : TolledRow) (xs ys : RowEvents) → EachBinding (Agree docs keys a) xs → StandsFirst docs keys a ys → StandsFirst docs keys a (xs ++ ys)
     stands_append a [] ys h k = k
     stands_append a (skip ∷ xs) ys h k = stands_append a xs ys h k
     stands_append a (bind b ∷ xs) ys h k = inl (h.0, stands_append a xs ys h.1 k)
 
-    -- a binding and what is given by those behind the one that gave it
+    -- a binding and what is given by those after the one that gave it
     stands_expand : (row a : TolledRow) → key_values docs keys a ≡ key_values docs keys row → (es : RowEvents) → EachBinding P es → StandsFirst docs keys row es → StandsFirst docs keys a (expand f es)
     stands_expand row a e [] p h = tt
     stands_expand row a e (skip ∷ es) p h = stands_expand row a e es p h
@@ -164,7 +164,7 @@ module _ (docs : Documents) where
         (binding_append (Differ docs keys a) (f other) (expand f es)
         (binding_weaker (λ b. key_values docs keys b ≡ key_values docs keys other) (Differ docs keys a) (λ b g. pair_is row other a b false e g h.0) (f other) (extends other p.0)) (all_differ row a e es p.1 h.1))
 
-    -- what one binding gives, and what is behind
+    -- what one binding gives, and what is after
     beside_append : (row : TolledRow) (xs ys : RowEvents) → EachBinding (λ a. key_values docs keys a ≡ key_values docs keys row) xs → ((a : TolledRow) → key_values docs keys a ≡ key_values docs keys row → StandsFirst docs keys a ys) → AreBeside docs keys ys
         → AreBeside docs keys (xs ++ ys)
     beside_append row [] ys h s k = k
@@ -174,7 +174,7 @@ module _ (docs : Documents) where
       beside_append row xs ys h.1 s k,
     )
 
-    -- so behind each
+    -- so after each
     pub beside_expand : (es : RowEvents) → EachBinding P es → AreBeside docs keys es → AreBeside docs keys (expand f es)
     beside_expand [] p h = tt
     beside_expand (skip ∷ es) p h = beside_expand es p h
@@ -190,7 +190,7 @@ module _ (docs : Documents) (keys more_keys : List Key) where
       let y : key_values docs (keys ++ more_keys) b ≡ k ++ key_values docs more_keys b = map_more (key_value docs (row_node b)) keys more_keys ∙ ap (λ (z : List KeyValue). z ++ key_values docs more_keys b) g in
       ap (λ (z : List KeyValue). same_values z (key_values docs (keys ++ more_keys) b)) x
       ∙ ap (same_values (k ++ key_values docs more_keys a)) y
-      ∙ same_behind k (key_values docs more_keys a) (key_values docs more_keys b)
+      ∙ same_after k (key_values docs more_keys a) (key_values docs more_keys b)
 
   -- a binding and others that differ by the further keys, or by all
   rest_differ : (k : List KeyValue) (a : TolledRow) → key_values docs keys a ≡ k → (xs ys : RowEvents) → EachBinding (λ b. key_values docs keys b ≡ k) xs → EachBinding (Differ docs more_keys a) xs
@@ -199,7 +199,7 @@ module _ (docs : Documents) (keys more_keys : List Key) where
   rest_differ k a e (skip ∷ xs) ys h d r = rest_differ k a e xs ys h d r
   rest_differ k a e (bind b ∷ xs) ys h d r = (pair_more k a b e h.0 ∙ d.0, rest_differ k a e xs ys h.1 d.1 r)
 
-  -- a binding and those behind it that were given together with it, and then others that differ
+  -- a binding and those after it that were given together with it, and then others that differ
   stands_more : (k : List KeyValue) (a : TolledRow) → key_values docs keys a ≡ k → (xs ys : RowEvents) → EachBinding (λ b. key_values docs keys b ≡ k) xs → StandsFirst docs more_keys a xs
       → EachBinding (Differ docs (keys ++ more_keys) a) ys → StandsFirst docs (keys ++ more_keys) a (xs ++ ys)
   stands_more k a e [] ys h s r = stands_apart docs (keys ++ more_keys) a ys r
@@ -218,14 +218,14 @@ module _ (docs : Documents) (keys more_keys : List Key) where
         (binding_weaker (λ b. key_values docs keys b ≡ key_values docs keys other) (Differ docs (keys ++ more_keys) a)
         (λ b g. differ_left docs keys more_keys (row_node a) (row_node b) (ap (λ (z : List KeyValue). same_values z (key_values docs keys b)) e ∙ ap (same_values (key_values docs keys row)) g ∙ d.0)) (f other) (extends other p.0)) (far_differ row a e es p.1 d.1)
 
-    -- what one binding gives, and what is behind
+    -- what one binding gives, and what is after
     near : (row : TolledRow) (xs ys : RowEvents) → EachBinding (λ a. key_values docs keys a ≡ key_values docs keys row) xs → AreBeside docs more_keys xs
         → ((a : TolledRow) → key_values docs keys a ≡ key_values docs keys row → EachBinding (Differ docs (keys ++ more_keys) a) ys) → AreBeside docs (keys ++ more_keys) ys → AreBeside docs (keys ++ more_keys) (xs ++ ys)
     near row [] ys h b d k = k
     near row (skip ∷ xs) ys h b d k = near row xs ys h b d k
     near row (bind a ∷ xs) ys h b d k = (stands_more (key_values docs keys row) a h.0 xs ys h.1 b.0 (d a h.0), near row xs ys h.1 b.1 d k)
 
-    -- so behind each
+    -- so after each
     pub beside_pairs : (es : RowEvents) → EachBinding P es → AreApart docs keys es → AreBeside docs (keys ++ more_keys) (expand f es)
     beside_pairs [] p d = tt
     beside_pairs (skip ∷ es) p d = beside_pairs es p d

@@ -22,7 +22,7 @@ binding_weaker P Q h [] k = tt
 binding_weaker P Q h (skip ∷ es) k = binding_weaker P Q h es k
 binding_weaker P Q h (bind b ∷ es) k = (h b k.0, binding_weaker P Q h es k.1)
 
--- of one list behind another
+-- of one list after another
 pub binding_append : {B : Type 0} (P : B → Type 0) (xs ys : List (Event B)) → EachBinding P xs → EachBinding P ys → EachBinding P (xs ++ ys)
 binding_append P [] ys h k = k
 binding_append P (skip ∷ xs) ys h k = binding_append P xs ys h k
@@ -71,7 +71,7 @@ binding_distinct P Q docs keys make h seen (bind row ∷ es) b =
       | false ↦ (h row es b.0, s)
     ]
 
--- of each binding and the events behind it
+-- of each binding and the events after it
 abbrev pub EachSuffix : (TolledRow → RowEvents → Type 0) → RowEvents → Type 0
 EachSuffix R [] = Unit {0}
 EachSuffix R (skip ∷ es) = EachSuffix R es
@@ -89,7 +89,7 @@ suffix_weaker R S h [] k = tt
 suffix_weaker R S h (skip ∷ es) k = suffix_weaker R S h es k
 suffix_weaker R S h (bind row ∷ es) k = (h row es k.0, suffix_weaker R S h es k.1)
 
--- behind each binding those that agree stand first
+-- after each binding those that agree stand first
 pub suffix_beside : (docs : Documents) (keys : List Key) (es : RowEvents) → AreBeside docs keys es → EachSuffix (StandsFirst docs keys) es
 suffix_beside docs keys [] h = tt
 suffix_beside docs keys (skip ∷ es) h = suffix_beside docs keys es h
@@ -107,11 +107,11 @@ module _ (P : TolledRow → Type 0) where
   each_bound [] h = tt
   each_bound (row ∷ rows) h = (h.0, each_bound rows h.1)
 
-  -- behind skips
-  each_behind : (es more : RowEvents) → EachBinding P more → EachBinding P (skips es ++ more)
-  each_behind [] more h = h
-  each_behind (skip ∷ es) more h = each_behind es more h
-  each_behind (bind row ∷ es) more h = each_behind es more h
+  -- after skips
+  each_after : (es more : RowEvents) → EachBinding P more → EachBinding P (skips es ++ more)
+  each_after [] more h = h
+  each_after (skip ∷ es) more h = each_after es more h
+  each_after (bind row ∷ es) more h = each_after es more h
 
   -- of a list into which one is put
   each_insert : (less : TolledRow → TolledRow → Bool) (x : TolledRow) (rows : List TolledRow) → P x → AllByRecursion P rows → AllByRecursion P (insert_by less x rows)
@@ -124,8 +124,8 @@ module _ (P : TolledRow → Type 0) where
   each_sorted less [] h = tt
   each_sorted less (x ∷ rows) h = each_insert less x (sorted_by less rows) h.0 (each_sorted less rows h.1)
 
-  -- of sorted bindings behind the skips that they cost
+  -- of sorted bindings after the skips that they cost
   pub binding_sorted : (less : TolledRow → TolledRow → Bool) (es : RowEvents) → EachBinding P es → EachBinding P (skips es ++ map bind (sorted_by less (without_skips es)))
   binding_sorted less es h =
       let rows : List TolledRow = sorted_by less (without_skips es) in
-      each_behind es (map bind rows) (each_bound rows (each_sorted less (without_skips es) (each_without es h)))
+      each_after es (map bind rows) (each_bound rows (each_sorted less (without_skips es) (each_without es h)))

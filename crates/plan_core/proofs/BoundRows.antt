@@ -9,10 +9,10 @@ use Rattle.plan_core.specs.TolledRows.{TolledRow, TolledValue, key_values, tolle
 use Rattle.plan_core.specs.Valid.{Kind, a_node, Kinds, no_kinds, with_kind, kept, either_kind, AreNodes}
 use Rattle.plan_core.proofs.KeyValues.{values_alike}
 
--- a value that does not depend on what stands behind a binding where the variable is bound, and else is the value of that
+-- a value that does not depend on what stands after a binding where the variable is bound, and else is the value of that
 abbrev pub IsOwn : Option Kind → (TolledRow → TolledValue) → TolledValue → (TolledRow → TolledValue) → Type 0
-IsOwn None whole own behind = (more : TolledRow) → whole more ≡ behind more
-IsOwn (Some k) whole own behind = (more : TolledRow) → whole more ≡ own
+IsOwn None whole own after = (more : TolledRow) → whole more ≡ after more
+IsOwn (Some k) whole own after = (more : TolledRow) → whole more ≡ own
 
 -- so of a variable in a binding
 abbrev pub HasValue : Option Kind → TolledRow → ℕ → Type 0
@@ -27,8 +27,8 @@ pub value_own : (kinds : Kinds) (row : TolledRow) → IsBound kinds row → (v :
 value_own kinds row b v k e more = (let h : HasValue (Some k) row v = subst (λ (j : Option Kind). HasValue j row v) e (b v) in h more)
 
 -- and of one that is not
-pub value_behind : (kinds : Kinds) (row : TolledRow) → IsBound kinds row → (v : ℕ) → kinds v ≡ None → (more : TolledRow) → tolled_value (row ++ more) v ≡ tolled_value more v
-value_behind kinds row b v e more = (let h : HasValue None row v = subst (λ (j : Option Kind). HasValue j row v) e (b v) in h more)
+pub value_after : (kinds : Kinds) (row : TolledRow) → IsBound kinds row → (v : ℕ) → kinds v ≡ None → (more : TolledRow) → tolled_value (row ++ more) v ≡ tolled_value more v
+value_after kinds row b v e more = (let h : HasValue None row v = subst (λ (j : Option Kind). HasValue j row v) e (b v) in h more)
 
 -- no variable at all
 pub bound_none : IsBound no_kinds []
@@ -113,4 +113,4 @@ keys_left docs kinds keys a b n h = values_alike docs keys (a ++ b) a (λ v t. v
 -- and of the right side, where the left one binds none of their variables
 pub keys_right : (docs : Documents) (left right : Kinds) (keys : List Key) (a b : TolledRow) → AreNodes keys right → ((v : ℕ) (k : Kind) → right v ≡ Some k → left v ≡ None) → IsBound left a
     → key_values docs keys (a ++ b) ≡ key_values docs keys b
-keys_right docs left right keys a b n fresh h = values_alike docs keys (a ++ b) b (λ v t. value_behind left a h v (fresh v a_node (n v t)) b)
+keys_right docs left right keys a b n fresh h = values_alike docs keys (a ++ b) b (λ v t. value_after left a h v (fresh v a_node (n v t)) b)

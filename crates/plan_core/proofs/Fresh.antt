@@ -38,9 +38,9 @@ distinct_apart (x ∷ xs) ys v d (inl e) b =
 distinct_apart (x ∷ xs) ys v d (inr a) b = distinct_apart xs ys v d.1 a b
 
 -- a part of them has none twice
-pub distinct_behind : (xs ys : List ℕ) → AreDistinct (xs ++ ys) → AreDistinct ys
-distinct_behind [] ys d = d
-distinct_behind (x ∷ xs) ys d = distinct_behind xs ys d.1
+pub distinct_after : (xs ys : List ℕ) → AreDistinct (xs ++ ys) → AreDistinct ys
+distinct_after [] ys d = d
+distinct_after (x ∷ xs) ys d = distinct_after xs ys d.1
 
 -- what an operator binds is among what all bind
 among_flat : (f : Operator → List ℕ) (ops : List Operator) (n v : ℕ) → n < length ops → Among v (f (op_at ops n)) → Among v (flat_map f ops)
@@ -57,7 +57,7 @@ bound_once (op ∷ ops) d (suc a) zero v p q x y = (let c : a < length ops = ome
 bound_once (op ∷ ops) d (suc a) (suc b) v p q x y =
     let c : a < length ops = omega (arith, p) in
     let e : b < length ops = omega (arith, q) in
-    ap suc (bound_once ops (distinct_behind (outs_of op) (flat_map outs_of ops) d) a b v c e x y)
+    ap suc (bound_once ops (distinct_after (outs_of op) (flat_map outs_of ops) d) a b v c e x y)
 
 -- how many times a number stands in lists
 count_among : (i : ℕ) (xs : List ℕ) → Among i xs → 1 ≤ count_by (λ m. m == i) xs
@@ -114,7 +114,7 @@ with_bound out v k j ks e =
 pub kept_bound : (keys : List Key) (ks : Kinds) (v : ℕ) (j : Kind) → kept keys ks v ≡ Some j → ks v ≡ Some j
 kept_bound keys ks v j e = elim (has_var keys v) as (λ w. cond w (ks v) None ≡ Some j → ks v ≡ Some j) [ true ↦ λ g. g | false ↦ λ g. cc ] e
 
--- what is bound behind a stage is bound by it, or was
+-- what is bound after a stage is bound by it, or was
 stage_bound : (stage : Stage) (ks : Kinds) (v : ℕ) (j : Kind) → stage_kinds stage ks v ≡ Some j → Among v (stage_outs stage) ⊎ ((k : Kind) × (ks v ≡ Some k))
 stage_bound (filters test) ks v j e = inr (j, e)
 stage_bound (extends out made) ks v j e = elim (with_bound out v (made_kind made) j ks e) [ inl a ↦ inl a | inr h ↦ inr (j, h) ]

@@ -26,7 +26,7 @@ use Rattle.plan_core.proofs.Aparts.{apart_expand, apart_only, apart_each_row, ap
 use Rattle.plan_core.proofs.Besides.{beside_none, beside_apart, beside_only, beside_each_row, beside_distinct, beside_expand, beside_pairs}
 use Rattle.plan_core.proofs.Bindings.{binding_expand, binding_nodes, binding_each_row, binding_only, binding_distinct, binding_sorted, each_binding}
 use Rattle.plan_core.proofs.BoundRows.{IsBound, bound_none, bound_with, bound_restrict, bound_both, fresh_differs, restrict_value, keys_with, nodes_with, nodes_kept, keys_left, keys_right}
-use Rattle.plan_core.proofs.KeyValues.{values_alike, shared_front, take_front, length_front, take_length}
+use Rattle.plan_core.proofs.KeyValues.{values_alike, shared_front, take_prefix, length_front, take_length}
 
 -- what is known of an operator's events: which variables their bindings have, that its front's are nodes, and that they have the front
 pub record AreFronted (docs : Documents) (kinds : Kinds) (f : Front) (es : RowEvents) : Type 0 where
@@ -140,7 +140,7 @@ module _ (docs : Documents) (kinds : Kinds) (f : Front) (es : RowEvents) (known 
         elim (cases_lt j (suc (length f.vars))) [
           | inl b ↦
               (let l : j ≤ length f.vars = omega (arith, b) in
-              subst (λ (vs : List ℕ). AreBeside docs (node_keys vs) found) (sym (take_front j f.vars (out ∷ []) l)) (visit_beside j l))
+              subst (λ (vs : List ℕ). AreBeside docs (node_keys vs) found) (sym (take_prefix j f.vars (out ∷ []) l)) (visit_beside j l))
           | inr b ↦
               (let n = one_longer f.vars in
               let s : j ≡ length (f.vars ++ out ∷ []) = omega (arith, h, b, n) in
@@ -275,7 +275,7 @@ module _ (docs : Documents) (kinds : Kinds) (f : Front) (es : RowEvents) (known 
         shared_beside j h =
             let s = shared_front keys f.vars in
             let l : length (shared keys f.vars) ≤ length f.vars = subst (λ (z : List ℕ). length (shared keys f.vars) ≤ length z) s.1 (length_front (shared keys f.vars) s.0) in
-            let same : take j f.vars ≡ take j (shared keys f.vars) = subst (λ (z : List ℕ). take j z ≡ take j (shared keys f.vars)) s.1 (take_front j (shared keys f.vars) s.0 h) in
+            let same : take j f.vars ≡ take j (shared keys f.vars) = subst (λ (z : List ℕ). take j z ≡ take j (shared keys f.vars)) s.1 (take_prefix j (shared keys f.vars) s.0 h) in
             subst (λ (vs : List ℕ). AreBeside docs (node_keys vs) es) same (known.front.beside j (omega (arith, h, l)))
 
 -- PAIRS
@@ -363,7 +363,7 @@ module _ (docs : Documents) (kl kr : Kinds) (f g : Front) (ls rs : RowEvents) (l
       elim (cases_lt j (length f.vars)) [
         | inl b ↦
             (let l : j ≤ length f.vars = omega (arith, b) in
-            subst (λ (vs : List ℕ). AreBeside docs (node_keys vs) paired) (sym (take_front j f.vars g.vars l)) (left_beside j l))
+            subst (λ (vs : List ℕ). AreBeside docs (node_keys vs) paired) (sym (take_prefix j f.vars g.vars l)) (left_beside j l))
         | inr b ↦
             (let n = length-append f.vars g.vars in
             let k : ℕ = j - length f.vars in

@@ -23,7 +23,7 @@ use Rattle.plan_core.proofs.Aparts.{covered_apart, distinct_apart}
 use Rattle.plan_core.proofs.Bindings.{binding_weaker, each_binding}
 use Rattle.plan_core.proofs.Fresh.{out_fresh, sides_fresh}
 use Rattle.plan_core.proofs.FrontSteps.{AreFronted, source_fronted, visits_fronted, filtered_fronted, extended_fronted, grouped_fronted, ordered_fronted, kept_fronted, pairs_fronted}
-use Rattle.plan_core.proofs.KeyValues.{covered_same, covers_shared, shared_front, take_front, length_front, take_length}
+use Rattle.plan_core.proofs.KeyValues.{covered_same, covers_shared, shared_front, take_prefix, length_front, take_length}
 use Rattle.plan_core.proofs.Numbers.{events-of, events-source, front-of, kinds-of}
 use Rattle.plan_core.proofs.Typed.{valid_is_typed}
 
@@ -46,7 +46,7 @@ module _ (p : PlanValue) (valid : IsValid p) (docs : Documents) where
   anew n b f e i v x y =
       out_fresh p valid typed n i v b (subst (λ (g : Shape). Among i (shape_inputs g)) (sym e) x) (subst (λ (g : Shape). Among v (shape_outs g)) (sym e) y)
 
-  -- what is known behind a stage
+  -- what is known after a stage
   stage_known : (n : ℕ) → n < length p.ops → (i : ℕ) (stage : Stage) → shape_at p.ops n ≡ passes_on i stage → IsStageFit (kinds p.ops i) stage → Known i
       → AreFronted docs (shape_kinds (passes_on i stage) (kinds p.ops)) (shape_front (passes_on i stage) (front p.ops)) (shape_events docs (front p.ops) (passes_on i stage) (events docs p.ops))
   stage_known n b i (filters test) e fit h = filtered_fronted docs (kinds p.ops i) (front p.ops i) (events docs p.ops i) h (λ row. passes docs test (row_node row))
@@ -96,14 +96,14 @@ module _ (p : PlanValue) (valid : IsValid p) (docs : Documents) where
 
 -- keys by which the same bindings agree
 module _ (docs : Documents) (keys others : List Key) (same : (a b : TolledRow) → same_values (key_values docs keys a) (key_values docs keys b) ≡ same_values (key_values docs others a) (key_values docs others b)) where
-  -- behind a binding
+  -- after a binding
   stands_alike : (row : TolledRow) (es : RowEvents) → StandsFirst docs keys row es → StandsFirst docs others row es
   stands_alike row [] h = tt
   stands_alike row (skip ∷ es) h = stands_alike row es h
   stands_alike row (bind b ∷ es) (inl h) = inl (sym (same row b) ∙ h.0, stands_alike row es h.1)
   stands_alike row (bind b ∷ es) (inr h) = inr (sym (same row b) ∙ h.0, binding_weaker (Differ docs keys row) (Differ docs others row) (λ c d. sym (same row c) ∙ d) es h.1)
 
-  -- behind each
+  -- after each
   pub beside_alike : (es : RowEvents) → AreBeside docs keys es → AreBeside docs others es
   beside_alike [] h = tt
   beside_alike (skip ∷ es) h = beside_alike es h
@@ -121,7 +121,7 @@ front_contiguous docs f es h keys c =
     let vs : List ℕ = shared keys f.vars in
     let s = shared_front keys f.vars in
     let l : length vs ≤ length f.vars = subst (λ (z : List ℕ). length vs ≤ length z) s.1 (length_front vs s.0) in
-    let e : take (length vs) f.vars ≡ vs = subst (λ (z : List ℕ). take (length vs) z ≡ take (length vs) vs) s.1 (take_front (length vs) vs s.0 (omega arith)) ∙ take_length vs in
+    let e : take (length vs) f.vars ≡ vs = subst (λ (z : List ℕ). take (length vs) z ≡ take (length vs) vs) s.1 (take_prefix (length vs) vs s.0 (omega arith)) ∙ take_length vs in
     let own : covers keys (node_keys vs) ≡ true = subst (λ (z : List ℕ). covers keys (node_keys z) ≡ true) (take_length vs) (covers_shared keys f.vars (length vs)) in
     beside_alike docs (node_keys vs) keys
     (λ a b.

@@ -24,10 +24,10 @@ pub all_itself : (k : List KeyValue) → same_values k k ≡ true
 all_itself [] = refl
 all_itself (v ∷ k) = ap (λ (b : Bool). b && same_values k k) (same_itself v) ∙ all_itself k
 
--- behind the same values
-pub same_behind : (k s x : List KeyValue) → same_values (k ++ s) (k ++ x) ≡ same_values s x
-same_behind [] s x = refl
-same_behind (v ∷ k) s x = ap (λ (b : Bool). b && same_values (k ++ s) (k ++ x)) (same_itself v) ∙ same_behind k s x
+-- after the same values
+pub same_after : (k s x : List KeyValue) → same_values (k ++ s) (k ++ x) ≡ same_values s x
+same_after [] s x = refl
+same_after (v ∷ k) s x = ap (λ (b : Bool). b && same_values (k ++ s) (k ++ x)) (same_itself v) ∙ same_after k s x
 
 -- of two lists of keys
 pub map_more : (f : Key → KeyValue) (d e : List Key) → map f (d ++ e) ≡ map f d ++ map f e
@@ -108,10 +108,10 @@ shared_front keys (v ∷ vs) =
     ]
 
 -- the first of a list are the first of a longer one
-pub take_front : (j : ℕ) (xs more : List ℕ) → j ≤ length xs → take j (xs ++ more) ≡ take j xs
-take_front zero xs more h = refl
-take_front (suc j) [] more h = absurd (omega (arith, h))
-take_front (suc j) (x ∷ xs) more h = ap (λ (z : List ℕ). x ∷ z) (take_front j xs more (omega (arith, h)))
+pub take_prefix : (j : ℕ) (xs more : List ℕ) → j ≤ length xs → take j (xs ++ more) ≡ take j xs
+take_prefix zero xs more h = refl
+take_prefix (suc j) [] more h = absurd (omega (arith, h))
+take_prefix (suc j) (x ∷ xs) more h = ap (λ (z : List ℕ). x ∷ z) (take_prefix j xs more (omega (arith, h)))
 
 -- a list is no longer than one that goes on
 pub length_front : (xs more : List ℕ) → length xs ≤ length (xs ++ more)

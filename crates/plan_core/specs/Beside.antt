@@ -30,14 +30,14 @@ AreApart docs keys [] = Unit {0}
 AreApart docs keys (skip ∷ es) = AreApart docs keys es
 AreApart docs keys (bind row ∷ es) = EachBinding (Differ docs keys row) es × AreApart docs keys es
 
--- behind a binding, those that agree with it come before all that differ
+-- after a binding, those that agree with it come before all that differ
 abbrev pub StandsFirst : Documents → List Key → TolledRow → RowEvents → Type 0
 StandsFirst docs keys row [] = Unit {0}
 StandsFirst docs keys row (skip ∷ es) = StandsFirst docs keys row es
 StandsFirst docs keys row (bind b ∷ es) =
     (Agree docs keys row b × StandsFirst docs keys row es) ⊎ (Differ docs keys row b × EachBinding (Differ docs keys row) es)
 
--- so behind each: bindings that agree stand side by side
+-- so after each: bindings that agree stand side by side
 abbrev pub AreBeside : Documents → List Key → RowEvents → Type 0
 AreBeside docs keys [] = Unit {0}
 AreBeside docs keys (skip ∷ es) = AreBeside docs keys es

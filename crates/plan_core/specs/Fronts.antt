@@ -35,7 +35,7 @@ covers keys others = list_all (stands keys) others
 abbrev pub are_contiguous : List Key → List ℕ → Bool
 are_contiguous keys vars = covers (node_keys (shared keys vars)) keys
 
--- the front behind a stage
+-- the front after a stage
 abbrev pub stage_front : Stage → Front → Front
 stage_front (filters test) f = f
 stage_front (extends out made) f = f

@@ -114,7 +114,7 @@ fn kept_front(alloc: Global, keys: &[Key], vars: &[Var]) -> Result<Front, AllocE
     Ok(Front { vars, whole })
 }
 
-// These variables, and where this holds the others behind them.
+// These variables, and where this holds the others after them.
 fn longer(alloc: Global, vars: &[Var], whole: bool, more: &[Var]) -> Result<Vec<Var>, AllocError>
     ensures { IfOk result (λ all. all.items ≡ vars.now ++ cond whole more.now []) }
 {

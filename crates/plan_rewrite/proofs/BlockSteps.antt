@@ -117,23 +117,23 @@ module _ (p : PlanValue) (valid : IsValid p) (typed : IsTyped p.ops) where
           ∙ h.each i l (λ m v a. u m (omega (arith, v)) a)
 
   -- the last block is the rewritten plan
-  pub last_block : (blocks front : List (List Operator)) (b : List Operator) → AreBlocks p.ops blocks (length p.ops) → blocks ≡ front ++ b ∷ [] → b ≡ rewritten_ops p.ops
-  last_block blocks front b h e =
+  pub last_block : (blocks prefix : List (List Operator)) (b : List Operator) → AreBlocks p.ops blocks (length p.ops) → blocks ≡ prefix ++ b ∷ [] → b ≡ rewritten_ops p.ops
+  last_block blocks prefix b h e =
       let ended : Ended (is_single_at p.ops) p.ops = ending p valid typed in
-      let n : ℕ = length ended.front in
+      let n : ℕ = length ended.prefix in
       let l = all_but_one p valid typed in
       let c = h.count in
       let k = ap length e in
-      let f = length-append front (b ∷ []) in
-      sym (get_or_at front b [] [] n (omega (arith, l, c, k, f)))
+      let f = length-append prefix (b ∷ []) in
+      sym (get_or_at prefix b [] [] n (omega (arith, l, c, k, f)))
       ∙ ap (λ (z : List (List Operator)). block_at z n) (sym e)
       ∙ h.each n (omega (arith, l)) unread
       ∙ ap (λ (o : Operator). block_over o (λ i. rewritten (tree_at p.ops i))) (last_at p valid typed)
       ∙ sym (rewritten-ended p.ops ended)
     where
-      unread : IsUnread p.ops (length (ending p valid typed).front) (length p.ops)
-      unread m w a = (let s = smaller p valid typed (length (ending p valid typed).front) m w a in let l = all_but_one p valid typed in omega (arith, s, l, w))
+      unread : IsUnread p.ops (length (ending p valid typed).prefix) (length p.ops)
+      unread m w a = (let s = smaller p valid typed (length (ending p valid typed).prefix) m w a in let l = all_but_one p valid typed in omega (arith, s, l, w))
 
--- the operators of a block behind those of others
-pub blocks_behind : (blocks : List (Vec Op Global)) (b : Vec Op Global) → blocks_of (blocks ++ b ∷ []) ≡ blocks_of blocks ++ map op_of b.items ∷ []
-blocks_behind blocks b = map-append (λ (v : Vec Op Global). map op_of v.items) blocks (b ∷ [])
+-- the operators of a block after those of others
+pub blocks_after : (blocks : List (Vec Op Global)) (b : Vec Op Global) → blocks_of (blocks ++ b ∷ []) ≡ blocks_of blocks ++ map op_of b.items ∷ []
+blocks_after blocks b = map-append (λ (v : Vec Op Global). map op_of v.items) blocks (b ∷ [])

@@ -16,7 +16,7 @@ use Rattle.plan_core.specs.Unary.{Unary, select, order_by, project, group_by, co
 use Rattle.plan_core.specs.Valid.{Kind, a_node, an_element, a_list, Kinds, no_kinds, with_kind, kept, either_kind, unary_kinds, unary_outs, unary_single, AreDistinct, IsTest, IsOperand, IsUnaryFit}
 use Rattle.plan_make.specs.Trees.{Tree, begin, descend, both, above}
 use Rattle.plan_make.proofs.TreeParts.{tree_kinds}
-use Rattle.plan_core.proofs.Fresh.{distinct_apart, distinct_behind}
+use Rattle.plan_core.proofs.Fresh.{distinct_apart, distinct_after}
 use Rattle.plan_rewrite.specs.Rewritten.{is_bound, binds_operand, binds_test, pushed, put_over, rewritten}
 use Rattle.plan_make.proofs.TreeParts.{ReadsBelow, tree_outs, TreeFits, tree_single, IsWhole}
 
@@ -144,10 +144,10 @@ rewritten_single (above x op) h = over_single op x (rewritten x) (rewritten_sing
 
 -- SIDES OF A JOIN
 
-pub distinct_front : (xs ys : List ℕ) → AreDistinct (xs ++ ys) → AreDistinct xs
-distinct_front [] ys d = tt
-distinct_front (x ∷ xs) ys d =
-    (or_left (list_any (λ w. w == x) xs) (list_any (λ w. w == x) ys) (sym (list_any-append (λ w. w == x) xs ys) ∙ d.0), distinct_front xs ys d.1)
+pub distinct_prefix : (xs ys : List ℕ) → AreDistinct (xs ++ ys) → AreDistinct xs
+distinct_prefix [] ys d = tt
+distinct_prefix (x ∷ xs) ys d =
+    (or_left (list_any (λ w. w == x) xs) (list_any (λ w. w == x) ys) (sym (list_any-append (λ w. w == x) xs ys) ∙ d.0), distinct_prefix xs ys d.1)
   where
     or_left : (p q : Bool) → (p || q) ≡ false → p ≡ false
     or_left true q h = cc
@@ -165,7 +165,7 @@ with_out v out k ks outs h f =
 kept_bound : (keys : List _) (ks : Kinds) (v : ℕ) → is_bound (kept keys ks v) ≡ true → is_bound (ks v) ≡ true
 kept_bound keys ks v h = (elim (has_var keys v) as (λ w. is_bound (cond w (ks v) None) ≡ true → is_bound (ks v) ≡ true) [ true ↦ λ g. g | false ↦ λ g. cc ]) h
 
--- a variable that is bound behind an operator is bound anew by it, or was bound
+-- a variable that is bound after an operator is bound anew by it, or was bound
 unary_out : (op : Unary) (ks : Kinds) (outs : List ℕ) (v : ℕ) → is_bound (unary_kinds op ks v) ≡ true → (is_bound (ks v) ≡ true → Among v outs) → Among v (outs ++ unary_outs op)
 unary_out (select test) ks outs v h f = among_left outs [] v (f h)
 unary_out (order_by u desc) ks outs v h f = among_left outs [] v (f h)
@@ -250,13 +250,13 @@ pushed_fits t (above x op) h e d = (h, e)
 pushed_fits t (both l r tests) h e d =
     pushed_cases TreeFits t l r tests
     (λ b. (
-      pushed_fits t l h.0 (test_of_left l r tests t b e) (distinct_front (tree_outs l) (tree_outs r) d),
+      pushed_fits t l h.0 (test_of_left l r tests t b e) (distinct_prefix (tree_outs l) (tree_outs r) d),
       h.1,
       subst (λ (k : Kinds). AllByRecursion (IsTest (λ v. either_kind (k v) (tree_kinds r v))) tests) (sym (pushed-kinds t l)) h.2,
     ))
     (λ b. (
       h.0,
-      pushed_fits t r h.1 (test_of_right l r tests t d b e) (distinct_behind (tree_outs l) (tree_outs r) d),
+      pushed_fits t r h.1 (test_of_right l r tests t d b e) (distinct_after (tree_outs l) (tree_outs r) d),
       subst (λ (k : Kinds). AllByRecursion (IsTest (λ v. either_kind (tree_kinds l v) (k v))) tests) (sym (pushed-kinds t r)) h.2,
     ))
     (h.0, h.1, each_snoc (IsTest (tree_kinds (both l r tests))) tests t h.2 e)
@@ -265,14 +265,14 @@ pub rewritten_fits : (x : Tree) → TreeFits x → AreDistinct (tree_outs x) →
 unfolding TreeFits tree_kinds tree_outs
 rewritten_fits (begin s out) h d = h
 rewritten_fits (descend x start path out) h d =
-    (rewritten_fits x h.0 (distinct_front (tree_outs x) (out ∷ []) d), subst (λ (k : Kinds). k start ≡ Some a_node) (sym (rewritten-kinds x)) h.1, h.2)
+    (rewritten_fits x h.0 (distinct_prefix (tree_outs x) (out ∷ []) d), subst (λ (k : Kinds). k start ≡ Some a_node) (sym (rewritten-kinds x)) h.1, h.2)
 rewritten_fits (both l r tests) h d = (
-  rewritten_fits l h.0 (distinct_front (tree_outs l) (tree_outs r) d),
-  rewritten_fits r h.1 (distinct_behind (tree_outs l) (tree_outs r) d),
+  rewritten_fits l h.0 (distinct_prefix (tree_outs l) (tree_outs r) d),
+  rewritten_fits r h.1 (distinct_after (tree_outs l) (tree_outs r) d),
   subst (λ (k : Kinds). AllByRecursion (IsTest k) tests) (sym (rewritten-kinds (both l r tests))) h.2,
 )
 rewritten_fits (above x op) h d =
-    let dx = distinct_front (tree_outs x) (unary_outs op) d in
+    let dx = distinct_prefix (tree_outs x) (unary_outs op) d in
     let f = rewritten_fits x h.0 dx in
     let u : IsUnaryFit (tree_kinds (rewritten x)) op = subst (λ (k : Kinds). IsUnaryFit k op) (sym (rewritten-kinds x)) h.1 in
     put_cases TreeFits op (rewritten x)

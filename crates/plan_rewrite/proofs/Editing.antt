@@ -20,25 +20,25 @@ is_join (join left right tests) = true
 is_join (over input op) = false
 is_join (tuple_destroy input element) = false
 
--- the operator behind k others is a join
+-- the operator after k others is a join
 unfoldable pub joins : ℕ → List Operator → Bool
 joins k [] = true
 joins zero (op ∷ ops) = is_join op
 joins (suc k) (op ∷ ops) = joins k ops
 
 -- an operator among the first of two lists
-joins-front : (k : ℕ) (xs ys : List Operator) → k < length xs → joins k (xs ++ ys) ≡ joins k xs
+joins-prefix : (k : ℕ) (xs ys : List Operator) → k < length xs → joins k (xs ++ ys) ≡ joins k xs
 unfolding joins
-joins-front k [] ys h = absurd (omega (arith, h))
-joins-front zero (op ∷ xs) ys h = refl
-joins-front (suc k) (op ∷ xs) ys h = joins-front k xs ys (omega (arith, h))
+joins-prefix k [] ys h = absurd (omega (arith, h))
+joins-prefix zero (op ∷ xs) ys h = refl
+joins-prefix (suc k) (op ∷ xs) ys h = joins-prefix k xs ys (omega (arith, h))
 
 -- and one among the others
-joins-behind : (n k : ℕ) (xs ys : List Operator) → n ≡ length xs + k → joins n (xs ++ ys) ≡ joins k ys
+joins-after : (n k : ℕ) (xs ys : List Operator) → n ≡ length xs + k → joins n (xs ++ ys) ≡ joins k ys
 unfolding joins
-joins-behind n k [] ys h = (let e : n ≡ k = omega (arith, h) in ap (λ (m : ℕ). joins m ys) e)
-joins-behind zero k (op ∷ xs) ys h = absurd (omega (arith, h))
-joins-behind (suc n) k (op ∷ xs) ys h = joins-behind n k xs ys (omega (arith, h))
+joins-after n k [] ys h = (let e : n ≡ k = omega (arith, h) in ap (λ (m : ℕ). joins m ys) e)
+joins-after zero k (op ∷ xs) ys h = absurd (omega (arith, h))
+joins-after (suc n) k (op ∷ xs) ys h = joins-after n k xs ys (omega (arith, h))
 
 -- a selection over an operator that more follow
 landed-append : (t : Test) (n : ℕ) (op : Operator) (xs ys : List Operator) → landed t n op (xs ++ ys) ≡ landed t n op xs ++ cond (is_join op) ys (map (bumped_op n) ys)
@@ -50,19 +50,19 @@ landed-append t n (over input op) xs ys = ap (λ (z : List Operator). over input
 landed-append t n (tuple_destroy input element) xs ys = ap (λ (z : List Operator). tuple_destroy input element ∷ over n (select t) ∷ z) (map-append (bumped_op n) xs ys)
 
 -- a selection among the first of two lists
-edited-front : (t : Test) (n k : ℕ) (xs ys : List Operator) → k < length xs → edited t n k (xs ++ ys) ≡ edited t n k xs ++ cond (joins k xs) ys (map (bumped_op n) ys)
+edited-prefix : (t : Test) (n k : ℕ) (xs ys : List Operator) → k < length xs → edited t n k (xs ++ ys) ≡ edited t n k xs ++ cond (joins k xs) ys (map (bumped_op n) ys)
 unfolding joins
-edited-front t n k [] ys h = absurd (omega (arith, h))
-edited-front t n zero (op ∷ xs) ys h = landed-append t n op xs ys
-edited-front t n (suc k) (op ∷ xs) ys h = ap (λ (z : List Operator). op ∷ z) (edited-front t n k xs ys (omega (arith, h)))
+edited-prefix t n k [] ys h = absurd (omega (arith, h))
+edited-prefix t n zero (op ∷ xs) ys h = landed-append t n op xs ys
+edited-prefix t n (suc k) (op ∷ xs) ys h = ap (λ (z : List Operator). op ∷ z) (edited-prefix t n k xs ys (omega (arith, h)))
 
 -- and one among the others
-edited-behind : (t : Test) (n a k : ℕ) (xs ys : List Operator) → a ≡ length xs + k → edited t n a (xs ++ ys) ≡ xs ++ edited t n k ys
-edited-behind t n a k [] ys h = (let e : a ≡ k = omega (arith, h) in ap (λ (m : ℕ). edited t n m ys) e)
-edited-behind t n zero k (op ∷ xs) ys h = absurd (omega (arith, h))
-edited-behind t n (suc a) k (op ∷ xs) ys h = ap (λ (z : List Operator). op ∷ z) (edited-behind t n a k xs ys (omega (arith, h)))
+edited-after : (t : Test) (n a k : ℕ) (xs ys : List Operator) → a ≡ length xs + k → edited t n a (xs ++ ys) ≡ xs ++ edited t n k ys
+edited-after t n a k [] ys h = (let e : a ≡ k = omega (arith, h) in ap (λ (m : ℕ). edited t n m ys) e)
+edited-after t n zero k (op ∷ xs) ys h = absurd (omega (arith, h))
+edited-after t n (suc a) k (op ∷ xs) ys h = ap (λ (z : List Operator). op ∷ z) (edited-after t n a k xs ys (omega (arith, h)))
 
--- a number at or behind the one of the insertion
+-- a number at or after the one of the insertion
 bumped-high : (n i : ℕ) → n ≤ i → bumped n i ≡ suc i
 bumped-high n i h = (let e : nat_lt i n ≡ false = grind (arith, nat_tests, h) in rw e refl)
 
@@ -70,7 +70,7 @@ bumped-high n i h = (let e : nat_lt i n ≡ false = grind (arith, nat_tests, h) 
 bumped-low : (n i : ℕ) → i < n → bumped n i ≡ i
 bumped-low n i h = (let e : nat_lt i n ≡ true = grind (arith, nat_tests, h) in rw e refl)
 
--- operators that all stand behind it
+-- operators that all stand after it
 numbered-bumped : (n : ℕ) (x : Tree) (i : ℕ) → n < i → map (bumped_op n) (numbered i x) ≡ numbered (suc i) x
 numbered-bumped n (begin s out) i h = refl
 numbered-bumped n (descend x start path out) i h =
@@ -100,19 +100,19 @@ numbered-bumped n (above x op) i h =
     ∙ ap (λ (z : List Operator). z ++ over (bumped n a) op ∷ []) (numbered-bumped n x i h)
     ∙ ap (λ (b : ℕ). numbered (suc i) x ++ over b op ∷ []) e
 
--- the edit behind k operators makes of the tree x the tree y
+-- the edit after k operators makes of the tree x the tree y
 pub record IsEdit (t : Test) (i : ℕ) (x y : Tree) (k : ℕ) : Type 0 where
   pub same : edited t (i + k) k (numbered i x) ≡ numbered i y
   pub inside : k ≤ under x
   pub size : under y ≡ cond (joins k (numbered i x)) (under x) (suc (under x))
 
 -- over the last operator, which is no join
-edit_last : (t : Test) (i : ℕ) (front : List Operator) (op : Operator) (u : ℕ) → length front ≡ u → is_join op ≡ false
-    → (edited t (i + u) u (front ++ op ∷ []) ≡ (front ++ op ∷ []) ++ over (i + u) (select t) ∷ []) × (joins u (front ++ op ∷ []) ≡ false)
+edit_last : (t : Test) (i : ℕ) (prefix : List Operator) (op : Operator) (u : ℕ) → length prefix ≡ u → is_join op ≡ false
+    → (edited t (i + u) u (prefix ++ op ∷ []) ≡ (prefix ++ op ∷ []) ++ over (i + u) (select t) ∷ []) × (joins u (prefix ++ op ∷ []) ≡ false)
 unfolding joins is_join
-edit_last t i front op u l h = (
-  edited-behind t (i + u) u 0 front (op ∷ []) (omega (arith, l)) ∙ ap (λ (z : List Operator). front ++ z) (last_one op h) ∙ sym (Rattle.std.proofs.Common.append_assoc front (op ∷ []) (over (i + u) (select t) ∷ [])),
-  joins-behind u 0 front (op ∷ []) (omega (arith, l)) ∙ h,
+edit_last t i prefix op u l h = (
+  edited-after t (i + u) u 0 prefix (op ∷ []) (omega (arith, l)) ∙ ap (λ (z : List Operator). prefix ++ z) (last_one op h) ∙ sym (Rattle.std.proofs.Common.append_assoc prefix (op ∷ []) (over (i + u) (select t) ∷ [])),
+  joins-after u 0 prefix (op ∷ []) (omega (arith, l)) ∙ h,
 )
   where
     last_one : (o : Operator) → is_join o ≡ false → landed t (i + u) o [] ≡ o ∷ over (i + u) (select t) ∷ []
@@ -122,13 +122,13 @@ edit_last t i front op u l h = (
     last_one (over input op) h = refl
     last_one (tuple_destroy input element) h = refl
 
--- what stands behind the left side, where u operators stand below its last one
-behind_left : ℕ → ℕ → Tree → List Test → List Operator
-behind_left i u r tests = numbered (i + suc u) r ++ join (i + u) ((i + suc u) + under r) tests ∷ []
+-- what stands after the left side, where u operators stand below its last one
+after_left : ℕ → ℕ → Tree → List Test → List Operator
+after_left i u r tests = numbered (i + suc u) r ++ join (i + u) ((i + suc u) + under r) tests ∷ []
 
--- what stands behind the left side of a join, where an operator is put into that side
-left-bumped : (n i u : ℕ) (r : Tree) (tests : List Test) → n ≤ i + u → map (bumped_op n) (behind_left i u r tests) ≡ behind_left i (suc u) r tests
-unfolding behind_left
+-- what stands after the left side of a join, where an operator is put into that side
+left-bumped : (n i u : ℕ) (r : Tree) (tests : List Test) → n ≤ i + u → map (bumped_op n) (after_left i u r tests) ≡ after_left i (suc u) r tests
+unfolding after_left
 left-bumped n i u r tests h =
     let m : ℕ = i + suc u in
     let em : suc m ≡ i + suc (suc u) = omega arith in
@@ -141,25 +141,25 @@ left-bumped n i u r tests h =
 
 -- a selection in the left side of a join
 edit_left : (t : Test) (i : ℕ) (l r y : Tree) (tests : List Test) (k : ℕ) → IsEdit t i l y k → IsEdit t i (both l r tests) (both y r tests) k
-unfolding behind_left
+unfolding after_left
 edit_left t i l r y tests k h =
     let n : ℕ = i + k in
-    let rest : List Operator = behind_left i (under l) r tests in
+    let rest : List Operator = after_left i (under l) r tests in
     let len = numbered-length l i in
     let inside : k ≤ under l = h.inside in
     let lt : k < length (numbered i l) = omega (arith, len, inside) in
     let j : Bool = joins k (numbered i l) in
     let le : n ≤ i + under l = omega (arith, inside) in
     record {
-      same = edited-front t n k (numbered i l) rest lt ∙ ap (λ (z : List Operator). z ++ cond j rest (map (bumped_op n) rest)) h.same
+      same = edited-prefix t n k (numbered i l) rest lt ∙ ap (λ (z : List Operator). z ++ cond j rest (map (bumped_op n) rest)) h.same
           ∙ ap (λ (z : List Operator). numbered i y ++ z) (tail j le h.size);
       inside = omega (arith, inside);
-      size = (let e = joins-front k (numbered i l) rest lt in sizes j h.size ∙ ap (λ (b : Bool). cond b (suc (under l) + suc (under r)) (suc (suc (under l) + suc (under r)))) (sym e));
+      size = (let e = joins-prefix k (numbered i l) rest lt in sizes j h.size ∙ ap (λ (b : Bool). cond b (suc (under l) + suc (under r)) (suc (suc (under l) + suc (under r)))) (sym e));
     }
   where
-    tail : (b : Bool) → i + k ≤ i + under l → under y ≡ cond b (under l) (suc (under l)) → cond b (behind_left i (under l) r tests) (map (bumped_op (i + k)) (behind_left i (under l) r tests)) ≡ behind_left i (under y) r tests
-    tail true le e = ap (λ (u : ℕ). behind_left i u r tests) (sym e)
-    tail false le e = left-bumped (i + k) i (under l) r tests le ∙ ap (λ (u : ℕ). behind_left i u r tests) (sym e)
+    tail : (b : Bool) → i + k ≤ i + under l → under y ≡ cond b (under l) (suc (under l)) → cond b (after_left i (under l) r tests) (map (bumped_op (i + k)) (after_left i (under l) r tests)) ≡ after_left i (under y) r tests
+    tail true le e = ap (λ (u : ℕ). after_left i u r tests) (sym e)
+    tail false le e = left-bumped (i + k) i (under l) r tests le ∙ ap (λ (u : ℕ). after_left i u r tests) (sym e)
 
     sizes : (b : Bool) → under y ≡ cond b (under l) (suc (under l)) → suc (under y) + suc (under r) ≡ cond b (suc (under l) + suc (under r)) (suc (suc (under l) + suc (under r)))
     sizes true e = (let f : under y ≡ under l = e in omega (arith, f))
@@ -180,13 +180,13 @@ edit_right t i l r y tests k h =
     let ea : a ≡ length (numbered i l) + k = omega (arith, len) in
     let j : Bool = joins k (numbered m r) in
     record {
-      same = edited-behind t n a k (numbered i l) (numbered m r ++ last ∷ []) ea
+      same = edited-after t n a k (numbered i l) (numbered m r ++ last ∷ []) ea
           ∙ ap (λ (z : List Operator). numbered i l ++ z)
-          (edited-front t n k (numbered m r) (last ∷ []) lt
+          (edited-prefix t n k (numbered m r) (last ∷ []) lt
           ∙ ap (λ (z : List Operator). z ++ cond j (last ∷ []) (map (bumped_op n) (last ∷ []))) (ap (λ (w : ℕ). edited t w k (numbered m r)) en ∙ h.same)
           ∙ ap (λ (z : List Operator). numbered m y ++ z) (tail j n (omega arith) (omega (arith, inside)) h.size));
       inside = omega (arith, inside);
-      size = sizes j h.size ∙ ap (λ (b : Bool). cond b (suc (under l) + suc (under r)) (suc (suc (under l) + suc (under r)))) (sym (joins-behind a k (numbered i l) (numbered m r ++ last ∷ []) ea ∙ joins-front k (numbered m r) (last ∷ []) lt));
+      size = sizes j h.size ∙ ap (λ (b : Bool). cond b (suc (under l) + suc (under r)) (suc (suc (under l) + suc (under r)))) (sym (joins-after a k (numbered i l) (numbered m r ++ last ∷ []) ea ∙ joins-prefix k (numbered m r) (last ∷ []) lt));
     }
   where
     tail : (b : Bool) (n : ℕ) → i + under l < n → n ≤ (i + suc (under l)) + under r → under y ≡ cond b (under r) (suc (under r))
@@ -214,10 +214,10 @@ edit_here t i l r tests =
     let ea : a ≡ length (numbered i l) + suc (under r) = omega (arith, len) in
     let er : suc (under r) ≡ length (numbered m r) + 0 = omega (arith, lenr) in
     record {
-      same = edited-behind t n a (suc (under r)) (numbered i l) (numbered m r ++ last ∷ []) ea
-          ∙ ap (λ (z : List Operator). numbered i l ++ z) (edited-behind t n (suc (under r)) 0 (numbered m r) (last ∷ []) er);
+      same = edited-after t n a (suc (under r)) (numbered i l) (numbered m r ++ last ∷ []) ea
+          ∙ ap (λ (z : List Operator). numbered i l ++ z) (edited-after t n (suc (under r)) 0 (numbered m r) (last ∷ []) er);
       inside = omega arith;
-      size = ap (λ (b : Bool). cond b a (suc a)) (sym (joins-behind a (suc (under r)) (numbered i l) (numbered m r ++ last ∷ []) ea ∙ joins-behind (suc (under r)) 0 (numbered m r) (last ∷ []) er));
+      size = ap (λ (b : Bool). cond b a (suc a)) (sym (joins-after a (suc (under r)) (numbered i l) (numbered m r ++ last ∷ []) ea ∙ joins-after (suc (under r)) 0 (numbered m r) (last ∷ []) er));
     }
 
 -- pushing is the edit at the landing

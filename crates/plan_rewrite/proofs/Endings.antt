@@ -14,21 +14,21 @@ IsBelow (tuple_destroy input element) = ⊥
 
 -- operators that end with a tupleDestroy
 pub record Ended (single : ℕ → Bool) (ops : List Operator) : Type 0 where
-  pub front : List Operator
+  pub prefix : List Operator
   pub input : ℕ
   pub element : ℕ
-  pub is : ops ≡ front ++ tuple_destroy input element ∷ []
-  pub below : AllByRecursion IsBelow front
+  pub is : ops ≡ prefix ++ tuple_destroy input element ∷ []
+  pub below : AllByRecursion IsBelow prefix
   pub is_single : single input ≡ true
 
 -- one more before them
 ended_more : (single : ℕ → Bool) (op : Operator) (ops : List Operator) → IsBelow op → Ended single ops → Ended single (op ∷ ops)
-ended_more single op ops b e = record { front = op ∷ e.front; input = e.input; element = e.element; is = ap (λ (z : List Operator). op ∷ z) e.is; below = (b, e.below); is_single = e.is_single }
+ended_more single op ops b e = record { prefix = op ∷ e.prefix; input = e.input; element = e.element; is = ap (λ (z : List Operator). op ∷ z) e.is; below = (b, e.below); is_single = e.is_single }
 
 -- so those of a valid plan do
 pub ended_of : (single : ℕ → Bool) (ops : List Operator) → EndsSingle single ops → Ended single ops
 ended_of single [] h = absurd h
-ended_of single (tuple_destroy input element ∷ []) h = record { front = []; input = input; element = element; is = refl; below = tt; is_single = h }
+ended_of single (tuple_destroy input element ∷ []) h = record { prefix = []; input = input; element = element; is = refl; below = tt; is_single = h }
 ended_of single (tuple_destroy input element ∷ op ∷ ops) h = absurd h
 ended_of single (source s out ∷ ops) h = ended_more single (source s out) ops tt (ended_of single ops h)
 ended_of single (get_descendants input start path out ∷ ops) h = ended_more single (get_descendants input start path out) ops tt (ended_of single ops h)

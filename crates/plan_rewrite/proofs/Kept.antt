@@ -20,20 +20,20 @@ use Rattle.plan_rewrite.proofs.PlanTree.{ending, plan_whole, plan_means}
 -- the document of a tree
 pub ended-document : (world : World) (t : Tree) (v : ℕ) → document world (ended t v) ≡ element_of v (tree_rows world t)
 ended-document world t v =
-    let front : List Operator = numbered 0 t in
+    let prefix : List Operator = numbered 0 t in
     let end : Operator = tuple_destroy (under t) v in
-    ap (destroyed (rows_of world (ended t v))) (last-snoc None front end)
+    ap (destroyed (rows_of world (ended t v))) (last-snoc None prefix end)
     ∙ ap (element_of v)
-    (rows-stable world front (end ∷ []) (under t) (let l = numbered-length t 0 in omega (arith, l))
-    ∙ (let e : 0 + under t ≡ under t = omega arith in ap (rows_of world front) (sym e)) ∙ numbered-means world t [] 0 refl)
+    (rows-stable world prefix (end ∷ []) (under t) (let l = numbered-length t 0 in omega (arith, l))
+    ∙ (let e : 0 + under t ≡ under t = omega arith in ap (rows_of world prefix) (sym e)) ∙ numbered-means world t [] 0 refl)
 
 -- the rewritten operators of operators that end
 pub rewritten-ended : (ops : List Operator) (e : Ended (is_single_at ops) ops) → rewritten_ops ops ≡ ended (rewritten (tree_at ops e.input)) e.element
-rewritten-ended ops e = ap (ended_by (tree_at ops)) (ap (last_or None) e.is ∙ last-snoc None e.front (tuple_destroy e.input e.element))
+rewritten-ended ops e = ap (ended_by (tree_at ops)) (ap (last_or None) e.is ∙ last-snoc None e.prefix (tuple_destroy e.input e.element))
 
 -- the document of a plan whose operators end
 plan-document : (world : World) (ops : List Operator) (e : Ended (is_single_at ops) ops) → document world ops ≡ element_of e.element (rows_of world ops e.input)
-plan-document world ops e = ap (destroyed (rows_of world ops)) (ap (last_or None) e.is ∙ last-snoc None e.front (tuple_destroy e.input e.element))
+plan-document world ops e = ap (destroyed (rows_of world ops)) (ap (last_or None) e.is ∙ last-snoc None e.prefix (tuple_destroy e.input e.element))
 
 pub keeps_document : (p : PlanValue) → IsValid p → IsTyped p.ops → SameDocument (rewritten_ops p.ops) p.ops
 keeps_document p valid typed world =

@@ -29,7 +29,7 @@ filter_const p false [] h = refl
 filter_const {X} p true (x ∷ xs) h = rw h.0 (ap (λ (zs : List X). x ∷ zs) (filter_const p true xs h.1))
 filter_const p false (x ∷ xs) h = rw h.0 (filter_const p false xs h.1)
 
--- one test behind another
+-- one test after another
 pub filter_both : {X : Type 0} (p q r : X → Bool) → ((x : X) → r x ≡ (p x && q x)) → (xs : List X) → filter q (filter p xs) ≡ filter r xs
 filter_both p q r h [] = refl
 filter_both {X} p q r h (x ∷ xs) =

@@ -14,7 +14,7 @@ use Rattle.plan_make.proofs.TreeParts.{tree_kinds}
 use Rattle.plan_rewrite.specs.Rewritten.{is_bound}
 use Rattle.plan_rewrite.specs.Edits.{Added, bumped_op, landed, edited}
 use Rattle.plan_rewrite.specs.Marks.{unary_binds, op_binds, marks}
-use Rattle.plan_make.proofs.Numbering.{numbered_end, numbered_ends, join_behind}
+use Rattle.plan_make.proofs.Numbering.{numbered_end, numbered_ends, join_after}
 
 in_join : (t : Test) (n : ℕ) (o p : Operator) (rest : List Operator) → Added t None o p → p ∷ rest ≡ landed t n o rest
 in_join t n (source s out) p rest h = absurd h
@@ -38,13 +38,13 @@ placed_in t n zero (op ∷ ops) d new l h = in_join t n (op_of op) (op_of new) (
 placed_in t n (suc k) (op ∷ ops) d new l h = ap (λ (z : List Operator). op_of op ∷ z) (placed_in t n k ops d new (omega (arith, l)) h)
 
 -- the selection stands over another operator
-pub placed_over : (t u : Test) (n k : ℕ) (ops : List Op) (d new s : Op) (behind : List Op) → k < length ops → Added t (Some u) (op_of (get_or ops k d)) (op_of new) → op_of s ≡ over n (select u)
-    → map op_of behind ≡ map (bumped_op n) (map op_of (drop (suc k) (set ops k new)))
-    → map op_of ((take (suc k) (set ops k new) ++ s ∷ []) ++ behind) ≡ edited t n k (map op_of ops)
-placed_over t u n k [] d new s behind l h e g = absurd (omega (arith, l))
-placed_over t u n zero (op ∷ ops) d new s behind l h e g =
+pub placed_over : (t u : Test) (n k : ℕ) (ops : List Op) (d new s : Op) (after : List Op) → k < length ops → Added t (Some u) (op_of (get_or ops k d)) (op_of new) → op_of s ≡ over n (select u)
+    → map op_of after ≡ map (bumped_op n) (map op_of (drop (suc k) (set ops k new)))
+    → map op_of ((take (suc k) (set ops k new) ++ s ∷ []) ++ after) ≡ edited t n k (map op_of ops)
+placed_over t u n k [] d new s after l h e g = absurd (omega (arith, l))
+placed_over t u n zero (op ∷ ops) d new s after l h e g =
     ap (λ (z : List Operator). op_of new ∷ op_of s ∷ z) g ∙ ap (λ (o : Operator). op_of new ∷ o ∷ map (bumped_op n) (map op_of ops)) e ∙ over_it t u n (op_of op) (op_of new) (map op_of ops) h
-placed_over t u n (suc k) (op ∷ ops) d new s behind l h e g = ap (λ (z : List Operator). op_of op ∷ z) (placed_over t u n k ops d new s behind (omega (arith, l)) h e g)
+placed_over t u n (suc k) (op ∷ ops) d new s after l h e g = ap (λ (z : List Operator). op_of op ∷ z) (placed_over t u n k ops d new s after (omega (arith, l)) h e g)
 
 -- MARKS
 
@@ -67,12 +67,12 @@ marks-length v (op ∷ a) before =
     let k = length-append before (op_binds v op (λ i. get_or before i false) ∷ []) in omega (arith, h, k)
 
 -- marks that stand already stay
-marks-front : (v : ℕ) (a : List Operator) (before : List Bool) (j : ℕ) → j < length before → get_or (marks v before a) j false ≡ get_or before j false
-marks-front v [] before j h = refl
-marks-front v (op ∷ a) before j h =
+marks-prefix : (v : ℕ) (a : List Operator) (before : List Bool) (j : ℕ) → j < length before → get_or (marks v before a) j false ≡ get_or before j false
+marks-prefix v [] before j h = refl
+marks-prefix v (op ∷ a) before j h =
     let more : List Bool = op_binds v op (λ i. get_or before i false) ∷ [] in
     let k = length-append before more in
-    marks-front v a (before ++ more) j (omega (arith, k, h)) ∙ get_or_append_left before more false j h
+    marks-prefix v a (before ++ more) j (omega (arith, k, h)) ∙ get_or_append_left before more false j h
 
 -- the mark of an operator
 abbrev pub mark : ℕ → List Operator → ℕ → Bool
@@ -81,7 +81,7 @@ mark v ops n = get_or (marks v [] ops) n false
 -- what follows changes no mark
 pub mark-stable : (v : ℕ) (ops more : List Operator) (j : ℕ) → j < length ops → mark v (ops ++ more) j ≡ mark v ops j
 mark-stable v ops more j h =
-    ap (λ (z : List Bool). get_or z j false) (marks-append v ops more []) ∙ marks-front v more (marks v [] ops) j (let k = marks-length v ops [] in omega (arith, k, h))
+    ap (λ (z : List Bool). get_or z j false) (marks-append v ops more []) ∙ marks-prefix v more (marks v [] ops) j (let k = marks-length v ops [] in omega (arith, k, h))
 
 -- the mark of the last operator
 mark-last : (v : ℕ) (ops : List Operator) (op : Operator) (n : ℕ) → n ≡ length ops → mark v (ops ++ op ∷ []) n ≡ op_binds v op (mark v ops)
@@ -118,7 +118,7 @@ or_false : (b : Bool) → (b || false) ≡ b
 or_false true = refl
 or_false false = refl
 
--- behind others, the last operator of a tree is marked where the tree binds the variable
+-- after others, the last operator of a tree is marked where the tree binds the variable
 pub mark-tree : (v : ℕ) (x : Tree) (ops : List Operator) (i : ℕ) → i ≡ length ops → mark v (ops ++ numbered i x) (i + under x) ≡ is_bound (tree_kinds x v)
 unfolding tree_kinds
 mark-tree v (begin s out) ops i h =
@@ -146,7 +146,7 @@ mark-tree v (both l r tests) ops i h =
     let n : ℕ = i + (suc (under l) + suc (under r)) in
     let lefts : mark v two (i + under l) ≡ is_bound (tree_kinds l v) = mark-stable v one right (i + under l) (omega (arith, e)) ∙ mark-tree v l ops i h in
     let rights : mark v two (m + under r) ≡ is_bound (tree_kinds r v) = mark-tree v r one m e in
-    ap (λ (z : List Operator). mark v z n) (join_behind ops left right j)
+    ap (λ (z : List Operator). mark v z n) (join_after ops left right j)
     ∙ mark-last v two j n (numbered_ends l r ops i h)
     ∙ ap (λ (z : Bool). z || mark v two (m + under r)) lefts
     ∙ ap (λ (z : Bool). is_bound (tree_kinds l v) || z) rights

@@ -153,11 +153,11 @@ module _ (p : PlanValue) (valid : IsValid p) (typed : IsTyped p.ops) where
   pub below_at : (n : ℕ) → suc n < length ops → IsBelow (op_at ops n)
   below_at n b =
       let e : Ended (is_single_at ops) ops = ending in
-      let l = length-append e.front (tuple_destroy e.input e.element ∷ []) in
-      let c : suc n < length (e.front ++ tuple_destroy e.input e.element ∷ []) = subst (λ (z : List Operator). suc n < length z) e.is b in
-      let lt : n < length e.front = omega (arith, l, c) in
-      let at : op_at ops n ≡ op_at e.front n = ap (λ (z : List Operator). op_at z n) e.is ∙ get_or_append_left e.front (tuple_destroy e.input e.element ∷ []) (source 0 0) n lt in
-      subst IsBelow (sym at) (each_at IsBelow e.front n lt e.below)
+      let l = length-append e.prefix (tuple_destroy e.input e.element ∷ []) in
+      let c : suc n < length (e.prefix ++ tuple_destroy e.input e.element ∷ []) = subst (λ (z : List Operator). suc n < length z) e.is b in
+      let lt : n < length e.prefix = omega (arith, l, c) in
+      let at : op_at ops n ≡ op_at e.prefix n = ap (λ (z : List Operator). op_at z n) e.is ∙ get_or_append_left e.prefix (tuple_destroy e.input e.element ∷ []) (source 0 0) n lt in
+      subst IsBelow (sym at) (each_at IsBelow e.prefix n lt e.below)
 
   -- an operator that is not the last
   less : (n : ℕ) → suc n < length ops → n < length ops
@@ -187,11 +187,11 @@ module _ (p : PlanValue) (valid : IsValid p) (typed : IsTyped p.ops) where
   rows-is world n b =
       let s = split ops n b in
       let op : Operator = op_at ops n in
-      let front : List Operator = s.0 ++ op ∷ [] in
+      let prefix : List Operator = s.0 ++ op ∷ [] in
       let l = length-append s.0 (op ∷ []) in
-      let e : ops ≡ front ++ s.1 = s.2 ∙ sym (snoc s.0 op s.1) in
+      let e : ops ≡ prefix ++ s.1 = s.2 ∙ sym (snoc s.0 op s.1) in
       ap (λ (z : List Operator). rows_of world z n) e
-      ∙ rows-stable world front s.1 n (omega (arith, l, s.3))
+      ∙ rows-stable world prefix s.1 n (omega (arith, l, s.3))
       ∙ rows-last world s.0 op n s.3
       ∙ op_rows-reads world op (rows_of world s.0) (rows_of world ops)
       (among_each (λ i. rows_of world s.0 i ≡ rows_of world ops i) (inputs_of op)
@@ -285,17 +285,17 @@ module _ (p : PlanValue) (valid : IsValid p) (typed : IsTyped p.ops) where
 
   -- THE WHOLE PLAN
 
-  pub last_at : op_at ops (length ending.front) ≡ tuple_destroy ending.input ending.element
-  last_at = ap (λ (z : List Operator). op_at z (length ending.front)) ending.is ∙ get_or_at ending.front (tuple_destroy ending.input ending.element) [] (source 0 0) (length ending.front) refl
+  pub last_at : op_at ops (length ending.prefix) ≡ tuple_destroy ending.input ending.element
+  last_at = ap (λ (z : List Operator). op_at z (length ending.prefix)) ending.is ∙ get_or_at ending.prefix (tuple_destroy ending.input ending.element) [] (source 0 0) (length ending.prefix) refl
 
-  pub all_but_one : length ops ≡ suc (length ending.front)
-  all_but_one = (let l = length-append ending.front (tuple_destroy ending.input ending.element ∷ []) in let e = ap length ending.is in omega (arith, l, e))
+  pub all_but_one : length ops ≡ suc (length ending.prefix)
+  all_but_one = (let l = length-append ending.prefix (tuple_destroy ending.input ending.element ∷ []) in let e = ap length ending.is in omega (arith, l, e))
 
   input_at : suc ending.input < length ops
   input_at =
       let l = all_but_one in
-      let b : length ending.front < length ops = omega (arith, l) in
-      let s = smaller p valid typed ending.input (length ending.front) b (subst (λ (o : Operator). Among ending.input (inputs_of o)) (sym last_at) (inl refl)) in omega (arith, l, s)
+      let b : length ending.prefix < length ops = omega (arith, l) in
+      let s = smaller p valid typed ending.input (length ending.prefix) b (subst (λ (o : Operator). Among ending.input (inputs_of o)) (sym last_at) (inl refl)) in omega (arith, l, s)
 
   -- the tree below the tupleDestroy makes a valid plan
   pub plan_whole : IsWhole (length p.sources) (tree_at ops ending.input) ending.element
@@ -303,13 +303,13 @@ module _ (p : PlanValue) (valid : IsValid p) (typed : IsTyped p.ops) where
       let n : ℕ = ending.input in
       let a : Agrees (length p.sources) (tree_at ops n) (kinds ops n) (is_single_at ops n) = agrees (suc n) n (omega arith) input_at in
       let l = all_but_one in
-      let b : length ending.front < length ops = omega (arith, l) in
+      let b : length ending.prefix < length ops = omega (arith, l) in
       record {
         reads = a.reads;
         fits = a.fits;
         distinct = distinct (suc n) n (omega arith) input_at;
         single = a.single_is ∙ ending.is_single;
-        element = ap (λ (k : Kinds). k ending.element) a.kinds_are ∙ subst (λ (o : Operator). IsFit o (kinds ops)) last_at (typed.fit (length ending.front) b);
+        element = ap (λ (k : Kinds). k ending.element) a.kinds_are ∙ subst (λ (o : Operator). IsFit o (kinds ops)) last_at (typed.fit (length ending.prefix) b);
       }
 
   -- and means what the plan means

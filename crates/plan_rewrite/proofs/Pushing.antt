@@ -26,8 +26,8 @@ use Rattle.plan_make.proofs.TreeParts.{tree_kinds}
 use Rattle.plan_rewrite.specs.Rewritten.{is_bound, binds_operand, binds_test, pushed, rewritten}
 use Rattle.xmas_rule.proofs.Members.{flat_map_same}
 use Rattle.plan_rewrite.proofs.Lists.{each_flat, filter-flat_map, flat_map-filter, filter_const, filter_both, list_all-more}
-use Rattle.plan_core.proofs.Fresh.{distinct_behind}
-use Rattle.plan_rewrite.proofs.Cases.{pushed_cases, put_cases, rewritten-outs, distinct_front, sides_apart, first_true, second_true, rewritten_fits}
+use Rattle.plan_core.proofs.Fresh.{distinct_after}
+use Rattle.plan_rewrite.proofs.Cases.{pushed_cases, put_cases, rewritten-outs, distinct_prefix, sides_apart, first_true, second_true, rewritten_fits}
 use Rattle.plan_make.proofs.TreeParts.{tree_outs, TreeFits}
 
 -- WHAT A ROW HAS
@@ -221,9 +221,9 @@ pushed-rows world t (descend x start path out) h d = refl
 pushed-rows world t (above x op) h d = refl
 pushed-rows world t (both l r tests) h d =
     pushed_cases (λ y. tree_rows world y ≡ filter (holds world.docs t) (tree_rows world (both l r tests))) t l r tests
-    (λ e. ap (λ (rows : List Row). joined_rows world.docs tests rows (tree_rows world r)) (pushed-rows world t l h.0 (distinct_front (tree_outs l) (tree_outs r) d))
+    (λ e. ap (λ (rows : List Row). joined_rows world.docs tests rows (tree_rows world r)) (pushed-rows world t l h.0 (distinct_prefix (tree_outs l) (tree_outs r) d))
     ∙ join_left world.docs tests t (tree_kinds l) (tree_rows world l) (tree_rows world r) (tree_bound world l h.0) e)
-    (λ e. ap (joined_rows world.docs tests (tree_rows world l)) (pushed-rows world t r h.1 (distinct_behind (tree_outs l) (tree_outs r) d))
+    (λ e. ap (joined_rows world.docs tests (tree_rows world l)) (pushed-rows world t r h.1 (distinct_after (tree_outs l) (tree_outs r) d))
     ∙ join_right world.docs tests t (tree_kinds l) (tree_kinds r) (tree_rows world l) (tree_rows world r) (sides_apart l r d) (tree_bound world l h.0) e)
     (join_more world.docs tests t (tree_rows world l) (tree_rows world r))
 
@@ -231,12 +231,12 @@ pushed-rows world t (both l r tests) h d =
 pub rewritten-rows : (world : World) (x : Tree) → TreeFits x → AreDistinct (tree_outs x) → tree_rows world (rewritten x) ≡ tree_rows world x
 unfolding TreeFits tree_outs
 rewritten-rows world (begin s out) h d = refl
-rewritten-rows world (descend x start path out) h d = ap (descended world start path out) (rewritten-rows world x h.0 (distinct_front (tree_outs x) (out ∷ []) d))
+rewritten-rows world (descend x start path out) h d = ap (descended world start path out) (rewritten-rows world x h.0 (distinct_prefix (tree_outs x) (out ∷ []) d))
 rewritten-rows world (both l r tests) h d =
-    ap (λ (rows : List Row). joined_rows world.docs tests rows (tree_rows world (rewritten r))) (rewritten-rows world l h.0 (distinct_front (tree_outs l) (tree_outs r) d))
-    ∙ ap (joined_rows world.docs tests (tree_rows world l)) (rewritten-rows world r h.1 (distinct_behind (tree_outs l) (tree_outs r) d))
+    ap (λ (rows : List Row). joined_rows world.docs tests rows (tree_rows world (rewritten r))) (rewritten-rows world l h.0 (distinct_prefix (tree_outs l) (tree_outs r) d))
+    ∙ ap (joined_rows world.docs tests (tree_rows world l)) (rewritten-rows world r h.1 (distinct_after (tree_outs l) (tree_outs r) d))
 rewritten-rows world (above x op) h d =
-    let dx = distinct_front (tree_outs x) (unary_outs op) d in
+    let dx = distinct_prefix (tree_outs x) (unary_outs op) d in
     put_cases (λ y. tree_rows world y ≡ unary world.docs op (tree_rows world (rewritten x))) op (rewritten x)
     (λ t e. pushed-rows world t (rewritten x) (rewritten_fits x h.0 dx) (subst AreDistinct (sym (rewritten-outs x)) dx) ∙ ap (λ (o : Unary). unary world.docs o (tree_rows world (rewritten x))) (sym e))
     refl

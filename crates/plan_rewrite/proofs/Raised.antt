@@ -1,11 +1,11 @@
--- Operators behind others: a join of two trees, each numbered from 0.
+-- Operators after others: a join of two trees, each numbered from 0.
 use Rattle.std.proofs.Common.{◌≡◌, ℕ, suc, ◌+◌, List, [], ◌∷◌, ◌++◌, map, refl, ◌∙◌, ap, arith}
 use Rattle.std.proofs.lemmas.List.{map-append}
 use Rattle.plan_core.specs.Plans.{Operator, get_descendants, join, over}
 use Rattle.plan_make.specs.Trees.{Tree, begin, descend, both, above, under, numbered}
 use Rattle.plan_rewrite.specs.Edits.{raised_op}
 
--- the operators of a tree behind so many others
+-- the operators of a tree after so many others
 pub numbered-raised : (i : ℕ) (x : Tree) (j : ℕ) → map (raised_op i) (numbered j x) ≡ numbered (i + j) x
 numbered-raised i (begin s out) j = refl
 numbered-raised i (descend x start path out) j =

@@ -18,12 +18,12 @@ use Rattle.plan_rewrite.proofs.Placing.{mark, mark-stable, mark-tree}
 
 -- operator `at` is the last one of a tree between others, and the selection lands in that tree
 pub record StandsAt (t : Test) (all : List Operator) (goal at : ℕ) : Type 0 where
-  pub front : List Operator
-  pub behind : List Operator
+  pub prefix : List Operator
+  pub after : List Operator
   pub tree : Tree
-  pub is : all ≡ front ++ (numbered (length front) tree ++ behind)
-  pub at_is : at ≡ length front + under tree
-  pub lands : goal ≡ length front + landing t tree
+  pub is : all ≡ prefix ++ (numbered (length prefix) tree ++ after)
+  pub at_is : at ≡ length prefix + under tree
+  pub lands : goal ≡ length prefix + landing t tree
 
 -- a step of the way: it ends where the selection lands, or goes on at a smaller operator
 abbrev pub Steps : Test → List Operator → ℕ → ℕ → Option ℕ → Type 0
@@ -51,11 +51,11 @@ covers-inside t z a b =
     operand (text_operand label) = refl
 
 -- the last operator
-pub op-last : (a front b : List Operator) (op : Operator) (n : ℕ) → n ≡ length a + length front → op_at (a ++ ((front ++ op ∷ []) ++ b)) n ≡ op
-op-last a front b op n h =
-    let k = length-append a front in
-    ap (λ (z : List Operator). op_at z n) (ap (λ (z : List Operator). a ++ z) (snoc front op b) ∙ sym (append_assoc a front (op ∷ b)))
-    ∙ get_or_at (a ++ front) op b (source 0 0) n (omega (arith, k, h))
+pub op-last : (a prefix b : List Operator) (op : Operator) (n : ℕ) → n ≡ length a + length prefix → op_at (a ++ ((prefix ++ op ∷ []) ++ b)) n ≡ op
+op-last a prefix b op n h =
+    let k = length-append a prefix in
+    ap (λ (z : List Operator). op_at z n) (ap (λ (z : List Operator). a ++ z) (snoc prefix op b) ∙ sym (append_assoc a prefix (op ∷ b)))
+    ∙ get_or_at (a ++ prefix) op b (source 0 0) n (omega (arith, k, h))
 
 -- no join: the way ends
 ends_here : (t : Test) (all : List Operator) (goal at : ℕ) (op : Operator) → op_at all at ≡ op → next_in (covers t all) op ≡ None → at ≡ goal → Steps t all goal at (next_in (covers t all) (op_at all at))
@@ -100,8 +100,8 @@ step_in t all goal at a b (both l r tests) is at_is lands =
     (subst (λ (w : Bool). Steps t all goal at (cond w (Some (i + under l)) (cond (covers t all (m + under r)) (Some (m + under r)) None))) (sym cl)
     (subst (λ (w : Bool). Steps t all goal at (cond (binds_test (tree_kinds l) t) (Some (i + under l)) (cond w (Some (m + under r)) None))) (sym cr)
     (go_on i m (length one) em (omega arith) (binds_test (tree_kinds l) t) (binds_test (tree_kinds r) t) lands
-    (λ e. (record { front = a; behind = right ++ j ∷ b; tree = l; is = in_left; at_is = refl; lands = e }, omega (arith, at_is)))
-    (λ e. (record { front = one; behind = j ∷ b; tree = r; is = in_right; at_is = ap (λ (k : ℕ). k + under r) (sym em); lands = e }, omega (arith, at_is)))
+    (λ e. (record { prefix = a; after = right ++ j ∷ b; tree = l; is = in_left; at_is = refl; lands = e }, omega (arith, at_is)))
+    (λ e. (record { prefix = one; after = j ∷ b; tree = r; is = in_right; at_is = ap (λ (k : ℕ). k + under r) (sym em); lands = e }, omega (arith, at_is)))
     at_is)))
   where
     go_on : (i m n : ℕ) → n ≡ m → m ≡ i + suc (under l) → (p q : Bool) → goal ≡ i + cond p (landing t l) (cond q (suc (under l) + landing t r) (suc (under l) + suc (under r)))
@@ -115,8 +115,8 @@ step_in t all goal at a b (both l r tests) is at_is lands =
 
 -- a step of the way
 pub way_step : (t : Test) (all : List Operator) (goal at : ℕ) → StandsAt t all goal at → Steps t all goal at (next_in (covers t all) (op_at all at))
-way_step t all goal at s = step_in t all goal at s.front s.behind s.tree s.is s.at_is s.lands
+way_step t all goal at s = step_in t all goal at s.prefix s.after s.tree s.is s.at_is s.lands
 
 -- the way begins at the last operator
 pub way_begins : (t : Test) (x : Tree) → StandsAt t (numbered 0 x) (landing t x) (under x)
-way_begins t x = record { front = []; behind = []; tree = x; is = sym (Rattle.mix_base.proofs.Lists.append_nil (numbered 0 x)); at_is = omega arith; lands = omega arith }
+way_begins t x = record { prefix = []; after = []; tree = x; is = sym (Rattle.mix_base.proofs.Lists.append_nil (numbered 0 x)); at_is = omega arith; lands = omega arith }

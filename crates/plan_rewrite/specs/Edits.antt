@@ -7,7 +7,7 @@ use Rattle.plan_make.specs.Trees.{Tree, begin, descend, both, above, under}
 use Rattle.plan_make.proofs.TreeParts.{tree_kinds}
 use Rattle.plan_rewrite.specs.Rewritten.{binds_test}
 
--- the number of an operator where one is put in behind that of number n
+-- the number of an operator where one is put in after that of number n
 abbrev pub bumped : ℕ → ℕ → ℕ
 bumped n i = cond (nat_lt i n) i (suc i)
 
@@ -19,7 +19,7 @@ bumped_op n (join left right tests) = join (bumped n left) (bumped n right) test
 bumped_op n (over input op) = over (bumped n input) op
 bumped_op n (tuple_destroy input element) = tuple_destroy (bumped n input) element
 
--- a selection over operator n, which is followed by others: in it where it is a join, else behind it
+-- a selection over operator n, which is followed by others: in it where it is a join, else after it
 abbrev pub landed : Test → ℕ → Operator → List Operator → List Operator
 landed t n (source s out) ops = source s out ∷ over n (select t) ∷ map (bumped_op n) ops
 landed t n (get_descendants input start path out) ops = get_descendants input start path out ∷ over n (select t) ∷ map (bumped_op n) ops
@@ -61,7 +61,7 @@ raised_op i (join left right tests) = join (i + left) (i + right) tests
 raised_op i (over input op) = over (i + input) op
 raised_op i (tuple_destroy input element) = tuple_destroy (i + input) element
 
--- so many operators of a left side, so many of a right one raised behind them, and their join
+-- so many operators of a left side, so many of a right one raised after them, and their join
 abbrev pub joined_ops : ℕ → List Operator → ℕ → List Operator → List Test → List Operator
 joined_ops a left b right tests = (left ++ map (raised_op a) right) ++ join (a - 1) ((a + b) - 1) tests ∷ []
 

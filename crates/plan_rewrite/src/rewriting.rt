@@ -19,7 +19,7 @@ use plan_make::make_plan;
 use std::alloc::{AllocError, Global};
 use xmas_rule::Rule;
 
-// Puts the block of an operator behind the others, from which those of its inputs are taken.
+// Puts the block of an operator after the others, from which those of its inputs are taken.
 fn push_block(alloc: Global, blocks: &mut Vec<Vec<Op>>, op: &Op) -> Result<(), AllocError>
     requires sides { SidesDiffer (op_of op.now) }
     requires below { (of : ℕ → Tree) × AreBelow (op_of op.now) of (blocks_of blocks.old.items) }

@@ -180,7 +180,7 @@ fn filled(alloc: Global, asked: &Row, late: &[Late], len: usize) -> Result<Row, 
     Ok(filled)
 }
 
-/// The values of a row, its number behind them, with the default of each column that the row lacks.
+/// The values of a row, its number after them, with the default of each column that the row lacks.
 pub fn with_defaults(
     alloc: Global,
     store: &mut FileStore<PageDisk>,

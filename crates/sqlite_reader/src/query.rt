@@ -84,7 +84,7 @@ fn push_statement(
 }
 
 /// The text of the statement, which has the limit as its first parameter and the number as its second. Where a further column is named,
-/// it stands behind the others.
+/// it stands after the others.
 pub fn statement(
     alloc: Global,
     query: &Query<'_>,

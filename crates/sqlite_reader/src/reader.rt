@@ -169,7 +169,7 @@ impl Reader {
         Ok(stamp_at(rt, alloc, real.as_str())? == self.stamp)
     }
 
-    /// The rows that are asked: each its key and then its columns, behind which its number may stand. They are rows of one state of the
+    /// The rows that are asked: each its key and then its columns, after which its number may stand. They are rows of one state of the
     /// file only where the file has not changed since it was opened. After a fault the file is to be opened anew.
     pub fn rows(&mut self, alloc: Global, query: &Query<'_>) -> Result<Vec<Row>, ReadFault> {
         match self.schema.table_named(query.table) {

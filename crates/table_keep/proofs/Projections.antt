@@ -34,7 +34,7 @@ first_projected places after limit rows =
 pub first_copied : (places : List ℕ) (after : Option ℤ) (limit : ℕ) (rows : List TableRow) (i : ℕ) → filter (λ r. is_above after r.key) (rows_of rows) ≡ rows_of (drop i rows)
     → map (projected places) (rows_of (take (min limit (length (drop i rows))) (drop i rows))) ≡ first_above after limit (map (projected places) (rows_of rows))
 first_copied places after limit rows i e =
-    ap (λ (front : List TableRow). map (projected places) (rows_of front)) (take_min limit (drop i rows))
+    ap (λ (prefix : List TableRow). map (projected places) (rows_of prefix)) (take_min limit (drop i rows))
     ∙ ap (map (projected places)) (sym (take-map row_of limit (drop i rows)) ∙ ap (take limit) (sym e))
     ∙ sym (first_projected places after limit (rows_of rows))
 

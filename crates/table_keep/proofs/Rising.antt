@@ -1,4 +1,4 @@
--- Rows by rising key: their fronts, those above a key, and what stands behind these.
+-- Rows by rising key: their prefixes, those above a key, and what stands after these.
 use Rattle.std.proofs.Common.{◌≡◌, ℕ, zero, suc, ℤ, Bool, true, false, cond, List, [], ◌∷◌, Option, Some, None, refl, arith, take, int_lt}
 use Rattle.std.proofs.lemmas.Int.{ints}
 use Rattle.std.specs.List.{AllByRecursion, filter}

@@ -38,10 +38,10 @@ by_test P false x y h k = k refl
 row_forest-append : (columns : List Column) (xs ys : List Row) → row_forest columns (xs ++ ys) ≡ followed (row_forest columns xs) (row_forest columns ys)
 row_forest-append columns xs ys = ap forest_of (map-append (row_tree columns) xs ys) ∙ forest_of-append (map (row_tree columns) xs) (map (row_tree columns) ys)
 
--- holes stay apart behind trees without holes
-apart_behind : (f : Forest) (o : Open) → IsApart o → IsApart (open_followed (without_holes f) o)
-apart_behind none o h = h
-apart_behind (tree label kids rest) o h = (IsApart-without_holes kids, apart_behind rest o h)
+-- holes stay apart after trees without holes
+apart_after : (f : Forest) (o : Open) → IsApart o → IsApart (open_followed (without_holes f) o)
+apart_after none o h = h
+apart_after (tree label kids rest) o h = (IsApart-without_holes kids, apart_after rest o h)
 
 -- rows before a list that is empty where they are none: a node at the top, and no hole first
 top_of : (columns : List Column) (rows : List Row) (o : Open) → (rows ≡ [] → o ≡ nil)
@@ -77,7 +77,7 @@ all_above : (after : Option ℤ) (rows : List Row) → AllByRecursion (λ r. is_
 all_above after [] h = refl
 all_above after (r ∷ rows) h = rw h.0 (ap (λ (rs : List Row). r ∷ rs) (all_above after rows h.1))
 
--- behind the last of the first so many rows are the others
+-- after the last of the first so many rows are the others
 above_taken : (n : ℕ) (after : Option ℤ) (rows : List Row) → keys_rise after rows ≡ true → filter (λ r. is_above (last_key after (take n rows)) r.key) rows ≡ drop n rows
 above_taken zero after rows h = all_above after rows (rise_above after rows h)
 above_taken (suc n) after [] h = refl
@@ -117,7 +117,7 @@ room_less (Some (pos m)) (negsuc n) h fits = absurd (cc h)
 room_less (Some (negsuc m)) (pos n) h fits = let small : n < 2 ^ 63 = fits.sfits in omega arith
 room_less (Some (negsuc m)) (negsuc n) h fits = let less : n < m = grind (arith, nat_tests) in omega arith
 
--- so rows that rise, and what may stand behind them, have room
+-- so rows that rise, and what may stand after them, have room
 rows_room : (after : Option ℤ) (rows : List Row) → keys_rise after rows ≡ true → KeysFit rows → length rows + room (last_key after rows) ≤ room after
 rows_room after [] h fits = omega arith
 rows_room after (r ∷ rows) h fits =
@@ -130,7 +130,7 @@ last_fits after [] some fits = absurd (some refl)
 last_fits after (r ∷ []) some fits = (r.key, refl, fits.0)
 last_fits after (r ∷ s ∷ rows) some fits = last_fits (Some r.key) (s ∷ rows) (λ e. cc e) fits.1
 
--- the part of a hole behind a key is the rows above it
+-- the part of a hole after a key is the rows above it
 part_back : (key : ℤ) → SFits w64 key → part_of (hole_of (Rows (Some key))) ≡ Some (Rows (Some key))
 part_back key fits = ap (λ k. Some (Rows (Some k))) (to_z-of_z w64 key fits)
 
@@ -145,7 +145,7 @@ module _ (d : TableDoc) (after : Option ℤ) (rows : List Row) where
       few : (length rows == d.chunk) ≡ true → length rows ≡ 0 → ⊥
       few full empty = let same = number_is (length rows) d.chunk full in omega (arith, d.some, same, empty)
 
-  -- where there is a hole behind rows, these are as many as a chunk, and its part is the rows above the last
+  -- where there is a hole after rows, these are as many as a chunk, and its part is the rows above the last
   rest_part : (length rows == d.chunk) ≡ true → KeysFit rows → part_of (hole_of (Rows (last_key after rows))) ≡ Some (Rows (last_key after rows))
   rest_part full fits =
       let some : rows ≡ [] → ⊥ = λ e. (let same = number_is (length rows) d.chunk full in let empty : length rows ≡ 0 = ap length e in omega (arith, d.some, same, empty)) in
@@ -156,7 +156,7 @@ module _ (d : TableDoc) (after : Option ℤ) (rows : List Row) where
   pub progress-rows : IsProgress (rows_given d after rows)
   progress-rows = record {
     top = (top_of (columns_of d) rows (rest_given d after rows) none_left).0;
-    apart = apart_behind (row_forest (columns_of d) rows) (rest_given d after rows)
+    apart = apart_after (row_forest (columns_of d) rows) (rest_given d after rows)
         (by_test IsApart (length rows == d.chunk) (hole (hole_of (Rows (last_key after rows))) nil) nil (λ k. (refl, tt)) (λ k. tt));
   }
 
@@ -193,7 +193,7 @@ module _ (d : TableDoc) (after : Option ℤ) (rows : List Row) where
       rest_light = by_test (λ o. weight_of (weight d) o ≤ room (last_key after rows) * row_weight d) (length rows == d.chunk) (hole (hole_of (Rows (last_key after rows))) nil) nil
           (λ full. (let same = ap (part_weight d) (rest_part full fits) in omega (arith, same))) (λ k. omega arith)
 
-  -- a hole behind the rows closes to the rows above the last
+  -- a hole after the rows closes to the rows above the last
   rest_closes : (v : TablesView) → (length rows == d.chunk) ≡ true → KeysFit rows
       → forest v d (hole_of (Rows (last_key after rows))) ≡ row_forest (columns_of d) (filter (λ r. is_above (last_key after rows) r.key) (rows_of v d))
   rest_closes v full fits = ap (part_forest (rows_of v d) d) (rest_part full fits)
@@ -234,11 +234,11 @@ pub closed-rows : (v : TablesView) (d : TableDoc) (after : Option ℤ) (rows all
     → closed (forest v d) (rows_given d after rows) ≡ part_forest (rows_of v d) d (Some (Rows after))
 closed-rows v d after rows all told rise first fits =
     let columns = columns_of d in
-    let behind = filter (λ (r : Row). is_above (last_key after rows) r.key) all in
+    let beyond = filter (λ (r : Row). is_above (last_key after rows) r.key) all in
     closed-open_followed (forest v d) (without_holes (row_forest columns rows)) (rest_given d after rows)
     ∙ ap (λ f. followed f (closed (forest v d) (rest_given d after rows))) (closed-without_holes (forest v d) (row_forest columns rows))
     ∙ ap (followed (row_forest columns rows)) (closed-rest (length rows == chunk_of d) refl)
-    ∙ sym (row_forest-append columns rows (cond (length rows == chunk_of d) behind []))
+    ∙ sym (row_forest-append columns rows (cond (length rows == chunk_of d) beyond []))
     ∙ ap (row_forest columns) (subst (λ (rs : List Row). rs ++ cond (length rs == chunk_of d) (filter (λ r. is_above (last_key after rs) r.key) all) [] ≡ filter (λ r. is_above after r.key) all) (sym first) (first_and_rest (chunk_of d) after all rise))
     ∙ sym (ap (λ (rs : List Row). row_forest columns (filter (λ r. is_above after r.key) rs)) (ap (λ (o : Option (List Row)). unwrap_or o []) told))
   where

@@ -13,7 +13,7 @@ use table_keep::{PageAsk, PageFault, TableRow, Tables};
 /// The document of a table, which is given a page of rows at a time (docs/FORMATS.md, "Tables").
 ///
 /// The root's hole stands for the source's name. Its list is the name, with one hole below it, and asks for no page. A hole for rows
-/// asks for one page of them; its list has these rows, each whole, and behind them one hole exactly where they are as many as a page
+/// asks for one page of them; its list has these rows, each whole, and after them one hole exactly where they are as many as a page
 /// may have. No list begins with a hole. Nothing of the rows is kept.
 #[derive(Drop)]
 pub struct TableDoc {

@@ -86,7 +86,7 @@ impl TableDoc {
     {
         let full = rows.len() == self.chunk as usize;
         let mut last = after;
-        // A hole behind the rows takes the place of one more.
+        // A hole after the rows takes the place of one more.
         let mut list = Vec::with_capacity(alloc, rows.len() + 1)?;
         'rows: for row in rows {
             let TableRow { key, cells } = row;

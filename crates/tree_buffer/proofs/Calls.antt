@@ -32,7 +32,7 @@ module _ (v : View) (b : Buffer) (s : Sourced v (number_of b) (nodes_of b)) wher
       cases (inl e) = subst (λ i. below_node (weigh v b) (nodes_of b) i ≤ v.weight (number_of b) (v.root (number_of b))) (sym e) s.lighter
       cases (inr ne) = omega (arith, s.lighter, below_top (nodes_of b) b.linked (weigh v b) x.number s.rests (omega arith) spot)
 
-  -- what lies below a spot weighs more than what lies below a child and behind it
+  -- what lies below a spot weighs more than what lies below a child and after it
   child_weight : (p : Spot) → IsSpot b p → (k : ℕ) (c : Spot) → IsChildSpot b p k c → 1 + below v b c + after v b c ≤ below v b p
   child_weight p spot k c child =
       omega (
@@ -63,7 +63,7 @@ module _ {v v' : View} {b b' : Buffer} (s : IsSourcesOf v b) (keeps : Keeps v v'
       let m = nodes_of b in
       let own = child_at (nodes_of b') b'.linked u.number k x.number within child.spot child.place in
       let up : parent m.links x.number ≡ u.number = ap (λ (l : ℕ × ℕ). l.0) (sym (goes.moved.links x.number spot)) ∙ own.parent in
-      let inside : u.number < length (nodes_of b).links = omega (arith, spot, up, b.linked.back x.number own.behind spot) in
+      let inside : u.number < length (nodes_of b).links = omega (arith, spot, up, b.linked.back x.number own.after spot) in
       let at : place_of b x ≡ place_of b u ++ k ∷ [] =
       sym (goes.moved.places x.number spot) ∙ child.place ∙ ap (λ p. p ++ k ∷ []) (goes.moved.places u.number inside) in
       goes.moved.whole u.number inside (all u k inside (record { spot = spot; place = at }))

@@ -1,18 +1,18 @@
 -- Places of a document: children and next siblings.
 use Rattle.std.proofs.Common.{◌≡◌, ℕ, zero, suc, ◌+◌, false, List, [], ◌∷◌, ◌++◌, Option, Some, None, refl, ap, sym, ◌∙◌, add-one}
 use Rattle.std.specs.Prelude.{is_some, option_map}
-use Rattle.mix_tree.specs.Forest.{Forest, none, tree, first_label, first_kids, behind, from}
+use Rattle.mix_tree.specs.Forest.{Forest, none, tree, first_label, first_kids, after_first, from}
 use Rattle.mix_tree.specs.Place.{trees_at, has_place, next_place}
 use Rattle.mix_tree.proofs.Places.{trees_at-append}
 use Rattle.tree_buffer.specs.Document.{has_given, has_next}
 
 -- one tree further
-from-suc : (k : ℕ) (f : Forest) → from (suc k) f ≡ behind (from k f)
+from-suc : (k : ℕ) (f : Forest) → from (suc k) f ≡ after_first (from k f)
 from-suc zero f = refl
-from-suc (suc k) f = from-suc k (behind f)
+from-suc (suc k) f = from-suc k (after_first f)
 
 -- the trees from the next index on
-pub from-more : (k : ℕ) (f : Forest) → from (k + 1) f ≡ behind (from k f)
+pub from-more : (k : ℕ) (f : Forest) → from (k + 1) f ≡ after_first (from k f)
 from-more k f = rw add-one (from-suc k f)
 
 -- the child of a place at an index
@@ -34,14 +34,14 @@ pub no_tree : (f : Forest) → is_some (first_label f) ≡ false → f ≡ none
 no_tree none e = refl
 no_tree (tree label kids rest) e = cc
 
--- what stands at the next place is what stands behind
-pub trees_at-next : (f : Forest) (p q : List ℕ) → Some q ≡ next_place p → trees_at f q ≡ behind (trees_at f p)
+-- what stands at the next place is what stands after
+pub trees_at-next : (f : Forest) (p q : List ℕ) → Some q ≡ next_place p → trees_at f q ≡ after_first (trees_at f p)
 trees_at-next f [] q e = cc
 trees_at-next f (k ∷ []) q e = let same : q ≡ (k + 1) ∷ [] = cc in ap (trees_at f) same ∙ from-more k (first_kids f)
 trees_at-next f (k ∷ j ∷ p) q e = deeper (next_place (j ∷ p)) (trees_at-next (from k (first_kids f)) (j ∷ p)) refl e
   where
-    deeper : (o : Option (List ℕ)) → ((r : List ℕ) → Some r ≡ next_place (j ∷ p) → trees_at (from k (first_kids f)) r ≡ behind (trees_at (from k (first_kids f)) (j ∷ p)))
-        → o ≡ next_place (j ∷ p) → Some q ≡ option_map (λ r. k ∷ r) o → trees_at f q ≡ behind (trees_at f (k ∷ j ∷ p))
+    deeper : (o : Option (List ℕ)) → ((r : List ℕ) → Some r ≡ next_place (j ∷ p) → trees_at (from k (first_kids f)) r ≡ after_first (trees_at (from k (first_kids f)) (j ∷ p)))
+        → o ≡ next_place (j ∷ p) → Some q ≡ option_map (λ r. k ∷ r) o → trees_at f q ≡ after_first (trees_at f (k ∷ j ∷ p))
     deeper None below is e = cc
     deeper (Some r) below is e = let same : q ≡ k ∷ r = cc in ap (trees_at f) same ∙ below r is
 
@@ -50,8 +50,8 @@ some_next : (k : ℕ) (p : List ℕ) → (q : List ℕ) × (next_place (k ∷ p)
 some_next k [] = ((k + 1) ∷ [], refl)
 some_next k (j ∷ p) = let r = some_next j p in (k ∷ r.0, ap (option_map (λ q. k ∷ q)) r.1)
 
--- where a node has no next sibling, nothing stands behind it
-pub no_next : (f : Forest) (p : List ℕ) → behind f ≡ none → has_next f p ≡ false → behind (trees_at f p) ≡ none
+-- where a node has no next sibling, nothing stands after it
+pub no_next : (f : Forest) (p : List ℕ) → after_first f ≡ none → has_next f p ≡ false → after_first (trees_at f p) ≡ none
 no_next f [] alone e = alone
 no_next f (k ∷ p) alone e =
     let q = some_next k p in

@@ -1,7 +1,7 @@
 -- What an answer says of the document, and of the two numbers.
 use Rattle.std.proofs.Common.{◌≡◌, ◌∙◌, ℕ, ◌+◌, ◌<◌, ◌≤◌, true, false, List, [], ◌∷◌, ◌++◌, Option, Some, None, length, get_or, sym, ap, arith}
 use Rattle.std.specs.Prelude.{IfSome, MatchOption, is_some, unwrap_or}
-use Rattle.mix_tree.specs.Forest.{Forest, none, first_label, first_kids, behind}
+use Rattle.mix_tree.specs.Forest.{Forest, none, first_label, first_kids, after_first}
 use Rattle.mix_tree.specs.Place.{trees_at, has_place, child_place, next_place}
 use Rattle.mix_tree.proofs.Places.{trees_at-child}
 use Rattle.lxp_core.specs.Open.{nil}
@@ -30,7 +30,7 @@ module _ {v v' : View} {b b' : Buffer} (keeps : Keeps v v') (s : IsSourcesOf v b
       rw (← still_node s keeps goes, ← goes.moved.places q within, ← e)
       (none_told (nodes_of b') b'.linked v' b'.number q s'.sourced (still_told s keeps goes ∙ told) (omega (arith, within, goes.moved.more)) empty)
 
-  -- a child with what lies below and behind it weighs at most what the children from its index on weighed
+  -- a child with what lies below and after it weighs at most what the children from its index on weighed
   pub less_child : (c : Spot) → IsChild (nodes_of b').links q k c.number → 1 + below v' b' c + after v' b' c ≤ weight_from (weigh v b) (nodes_of b) q k
   less_child c h =
       omega (arith, child_lighter (nodes_of b') b'.linked (weigh v' b') q k c.number s'.sourced.rests h, goes.moved.lighter q k within)
@@ -41,9 +41,9 @@ pub down_trees : (f : Forest) (b : Buffer) (x : Spot) (p : List ℕ) → place_o
 down_trees f b x p at None h exact = sym (no_tree (first_kids (trees_at f p)) (ap (λ t. is_some (first_label t)) (sym (trees_at-child f p)) ∙ sym exact))
 down_trees f b x p at (Some c) h exact = ap (trees_at f) (h.place ∙ ap child_place at) ∙ trees_at-child f p
 
--- an exact answer of `right` stands for the trees behind
-pub right_trees : (f : Forest) (b : Buffer) (x : Spot) (p : List ℕ) → behind f ≡ none → place_of b x ≡ p → (r : Option Spot) → IfSome r (IsNextSpot b x)
-    → is_some r ≡ has_next f p → trees_from f b r ≡ behind (trees_at f p)
+-- an exact answer of `right` stands for the trees after
+pub right_trees : (f : Forest) (b : Buffer) (x : Spot) (p : List ℕ) → after_first f ≡ none → place_of b x ≡ p → (r : Option Spot) → IfSome r (IsNextSpot b x)
+    → is_some r ≡ has_next f p → trees_from f b r ≡ after_first (trees_at f p)
 right_trees f b x p alone at None h exact = sym (no_next f p alone (sym exact))
 right_trees f b x p alone at (Some q) h exact = trees_at-next f p (place_of b q) (h.place ∙ ap next_place at)
 

@@ -51,13 +51,13 @@ holes_weight-lt w nil e = cc
 holes_weight-lt w (node l ks rest) e = omega (arith, holes_weight-le w ks, holes_weight-le w rest)
 holes_weight-lt w (hole h rest) e = omega (arith, holes_weight-lt w rest e)
 
--- at most one hole stands at the front
+-- at most one hole stands at the beginning
 pub hole_first-le : (o : Open) → hole_first o ≤ 1
 hole_first-le nil = omega arith
 hole_first-le (node l ks rest) = omega arith
 hole_first-le (hole h rest) = omega arith
 
--- no hole stands at the front of a list that begins with none
+-- no hole stands at the beginning of a list that begins with none
 pub hole_first-zero : (o : Open) → begins_with_hole o ≡ false → hole_first o ≡ 0
 hole_first-zero o e = rw e refl
 

@@ -95,7 +95,7 @@ module _ (m : Nodes) (linked : IsLinked m.links m.counts m.firsts m.nexts) (q fi
   child_old : (p k c : ℕ) → IsChild m.links p k c → IsChild (handed m q first before l ks o).links p k c
   child_old p k c h = record {
     known = omega (arith, h.known, longer);
-    behind = h.behind;
+    after = h.after;
     parent = parent_old c h.known ∙ h.parent;
     index = index_old c h.known ∙ h.index;
   }
@@ -104,7 +104,7 @@ module _ (m : Nodes) (linked : IsLinked m.links m.counts m.firsts m.nexts) (q fi
   pub child_new : IsChild (handed m q first before l ks o).links q (get_or m.counts q 0) (length m.links)
   child_new = record {
     known = omega (arith, longer);
-    behind = linked.some;
+    after = linked.some;
     parent = parent_new;
     index = index_new;
   }
@@ -203,7 +203,7 @@ module _ (m : Nodes) (linked : IsLinked m.links m.counts m.firsts m.nexts) (q fi
         let b = a_before (omega arith) in
         let here : place m.links i ≡ place m.links q ++ index m.links i ∷ [] = linked.stands i pos h ∙ ap (λ k. place m.links k ++ index m.links i ∷ []) p in
         let there : place m.links before ≡ place m.links q ++ index m.links before ∷ [] =
-        linked.stands before b.0.behind b.0.known ∙ ap (λ k. place m.links k ++ index m.links before ∷ []) b.0.parent in
+        linked.stands before b.0.after b.0.known ∙ ap (λ k. place m.links k ++ index m.links before ∷ []) b.0.parent in
         let same : index m.links i ≡ index m.links before = omega (arith, b.1) in
         linked.distinct i before h b.0.known (here ∙ ap (λ k. place m.links q ++ k ∷ []) same ∙ sym there)
 

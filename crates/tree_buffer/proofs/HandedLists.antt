@@ -3,7 +3,7 @@ use Rattle.std.proofs.Common.{◌≡◌, ℕ, zero, suc, ◌+◌, ◌<◌, ◌�
 use Rattle.std.proofs.lemmas.Bool.{cases_eq}
 use Rattle.std.proofs.lemmas.List.{get_or_append_left, get_or_push, get_or-set_same, get_or-set_other, length-set, length_push}
 use Rattle.lxp_core.specs.declared.open_tree.HoleId.{HoleId}
-use Rattle.mix_tree.specs.Forest.{from, first_kids, first_label, behind}
+use Rattle.mix_tree.specs.Forest.{from, first_kids, first_label, after_first}
 use Rattle.mix_tree.specs.Place.{trees_at}
 use Rattle.lxp_core.specs.Open.{Open, nil, node, closed, weight_of, AllHoles, IsApart}
 use Rattle.lxp_core.specs.View.{View}
@@ -131,7 +131,7 @@ module _ (m : Nodes) (linked : IsLinked m.links m.counts m.firsts m.nexts) (q fi
         cases (inl e) =
             subst (λ i. from (get_or (handed m q first before l ks o).counts i 0) (first_kids (trees_at (document_node v n) (place (handed m q first before l ks o).links i))) ≡ closed (v.forest n) (get_or (handed m q first before l ks o).rests i nil)) (sym e)
             (rw ((counts_own m linked q first before l ks o within), (old_place m linked q first before l ks o within) q within, rests_own s.rests)
-            (from-more (get_or m.counts q 0) (first_kids (trees_at (document_node v n) (place m.links q))) ∙ ap behind (s.closes told q within ∙ ap (closed (v.forest n)) at)))
+            (from-more (get_or m.counts q 0) (first_kids (trees_at (document_node v n) (place m.links q))) ∙ ap after_first (s.closes told q within ∙ ap (closed (v.forest n)) at)))
         cases (inr ne) = rw ((counts_old m linked q first before l ks o within) i ne h, (old_place m linked q first before l ks o within) i h, rests_old s.rests i ne h) (s.closes told i h)
 
     -- each label is still the document's
@@ -161,5 +161,5 @@ module _ (m : Nodes) (linked : IsLinked m.links m.counts m.firsts m.nexts) (q fi
         }
 
 -- the first label stays
-pub labels_front : (m : Nodes) (l : List ℕ) → 0 < length m.labels → get_or m.labels 0 [] ≡ [] → get_or (m.labels ++ l ∷ []) 0 [] ≡ []
-labels_front m l some e = get_or_append_left m.labels (l ∷ []) [] 0 some ∙ e
+pub labels_prefix : (m : Nodes) (l : List ℕ) → 0 < length m.labels → get_or m.labels 0 [] ≡ [] → get_or (m.labels ++ l ∷ []) 0 [] ≡ []
+labels_prefix m l some e = get_or_append_left m.labels (l ∷ []) [] 0 some ∙ e

@@ -17,7 +17,7 @@ length-grown ps (l ∷ ls) = omega (arith, length-grown (ps ++ place_after ps l 
 pub length-places : (ls : List (ℕ × ℕ)) → length (places ls) ≡ length ls
 length-places ls = omega (arith, length-grown [] ls)
 
--- a link behind the first one leads below an earlier node
+-- a link after the first one leads below an earlier node
 after_some : (ps : List (List ℕ)) (l : ℕ × ℕ) → 0 < length ps → place_after ps l ≡ get_or ps l.0 [] ++ l.1 ∷ []
 after_some [] l some = absurd (omega arith)
 after_some (p ∷ ps) l some = refl

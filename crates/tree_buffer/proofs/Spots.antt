@@ -41,15 +41,15 @@ module _ (m : Nodes) (linked : IsLinked m.links m.counts m.firsts m.nexts) where
   -- the place of a child
   pub child_place : (q k c : ℕ) → IsChild m.links q k c → place m.links c ≡ place m.links q ++ k ∷ []
   child_place q k c h =
-      linked.stands c h.behind h.known ∙ ap (λ i. place m.links i ++ index m.links c ∷ []) h.parent ∙ ap (λ i. place m.links q ++ i ∷ []) h.index
+      linked.stands c h.after h.known ∙ ap (λ i. place m.links i ++ index m.links c ∷ []) h.parent ∙ ap (λ i. place m.links q ++ i ∷ []) h.index
 
-  -- what lies behind a child is the children from the next index on
+  -- what lies after a child is the children from the next index on
   pub after_child : (w : Open → ℕ) (q k c : ℕ) → IsChild m.links q k c → after_node w m c ≡ weight_from w m q (k + 1)
   after_child w q k c h =
-      after_some w m c h.behind
+      after_some w m c h.after
       ∙ ap (λ p. weight_from w m p (index m.links c + 1)) h.parent ∙ ap (λ i. weight_from w m q (i + 1)) h.index
 
-  -- a child with what lies below and behind it weighs at most the children from its index on
+  -- a child with what lies below and after it weighs at most the children from its index on
   pub child_lighter : (w : Open → ℕ) (q k c : ℕ) → length m.rests ≡ length m.links → IsChild m.links q k c → 1 + below_node w m c + after_node w m c ≤ weight_from w m q k
   child_lighter w q k c e h =
       omega (
@@ -109,7 +109,7 @@ next_child es p e f linked some within read above more =
     (subst (λ k. IsChild (nodes es).links (parent (nodes es).links p) (k + 1) (get_or (nodes es).nexts p 0)) l.1
     (linked.right p some within (omega (arith, more, l.1, ap (λ q. get_or (nodes es).counts q 0) l.0, count_read es e.parent f up above)))))
 
--- a node behind which no sibling was handed out is the last of them
+-- a node after which no sibling was handed out is the last of them
 pub last_child : (es : List Entry) (p : ℕ) (e f : Entry) → AreLinked es → 0 < p → p < length (nodes es).links → e ≡ get_or es p e → f ≡ get_or es e.parent f → f.count ≤ e.index + 1 → e.index + 1 ≡ f.count
 last_child es p e f linked some within read above no_more =
     let l = link_read es p e within read in
@@ -136,18 +136,18 @@ module _ (es : List Entry) (p : ℕ) (e : Entry) (linked : AreLinked es) (some :
   pub right_is : (f : Forest) → has_next f (place (nodes es).links p) ≡ has_place f (place (nodes es).links e.parent ++ (e.index + 1) ∷ [])
   right_is f = ap (has_next f) own_place ∙ has_next-push f (place (nodes es).links e.parent) e.index
 
-  -- what lies behind the node is its parent's children from the next index on
+  -- what lies after the node is its parent's children from the next index on
   pub after_is : (w : Open → ℕ) → after_node w (nodes es) p ≡ weight_from w (nodes es) e.parent (e.index + 1)
   after_is w =
       let l = link_read es p e within read in
       after_some w (nodes es) p some ∙ ap (λ q. weight_from w (nodes es) q (index (nodes es).links p + 1)) l.0 ∙ ap (λ k. weight_from w (nodes es) e.parent (k + 1)) l.1
 
-  -- the node is the last child of its parent, where no sibling behind it was handed out
+  -- the node is the last child of its parent, where no sibling after it was handed out
   pub is_last : (f : Entry) → f ≡ get_or es e.parent f → f.count ≤ e.index + 1 → IsLast (nodes es) e.parent p
   is_last f above no_more =
       let l = link_read es p e within read in
       record {
-        child = record { known = within; behind = some; parent = l.0; index = refl };
+        child = record { known = within; after = some; parent = l.0; index = refl };
         last = omega (arith, l.1, last_child es p e f linked some within read above no_more, count_read es e.parent f up above);
       }
 
@@ -179,9 +179,9 @@ child_at m linked q k zero within inside e = absurd (empty (place m.links q) (sy
 child_at m linked q k (suc c) within inside e =
     let parts = same_from_push (place m.links (parent m.links (suc c))) (place m.links q) (index m.links (suc c)) k (sym (linked.stands (suc c) (omega arith) inside) ∙ e) in
     let above : parent m.links (suc c) < length m.links = omega (arith, linked.back (suc c) (omega arith) inside, inside) in
-    record { known = inside; behind = omega arith; parent = linked.distinct (parent m.links (suc c)) q above within parts.0; index = parts.1 }
+    record { known = inside; after = omega arith; parent = linked.distinct (parent m.links (suc c)) q above within parts.0; index = parts.1 }
 
 -- a child's index is one of those that were handed out
 pub child_counted : (m : Nodes) → IsLinked m.links m.counts m.firsts m.nexts → (q k c : ℕ) → IsChild m.links q k c → k < get_or m.counts q 0
 child_counted m linked q k c h =
-    omega (arith, linked.counted c h.behind h.known, h.index, ap (λ i. get_or m.counts i 0) h.parent)
+    omega (arith, linked.counted c h.after h.known, h.index, ap (λ i. get_or m.counts i 0) h.parent)

@@ -10,32 +10,32 @@ use Rattle.lxp_core.specs.Plain.{put, stacked, plain}
 use Rattle.lxp_core.proofs.Plains.{put-hole, put-node, put_all-open_followed, stacked-append, stacked-reverse}
 
 -- the last of a stack is the first of the list
-pub stacked-top : (front : List OpenTree) (t : OpenTree) → stacked (front ++ t ∷ []) nil ≡ put t (stacked front nil)
-stacked-top front t = stacked-append front (t ∷ []) nil
+pub stacked-top : (prefix : List OpenTree) (t : OpenTree) → stacked (prefix ++ t ∷ []) nil ≡ put t (stacked prefix nil)
+stacked-top prefix t = stacked-append prefix (t ∷ []) nil
 
--- a hole at the top of a stack stands at the front of the list
-pub stacked-hole : (front : List OpenTree) (h : HoleId) → stacked (front ++ Hole h ∷ []) nil ≡ hole h (stacked front nil)
-stacked-hole front h = stacked-top front (Hole h) ∙ put-hole h (stacked front nil)
+-- a hole at the top of a stack stands at the beginning of the list
+pub stacked-hole : (prefix : List OpenTree) (h : HoleId) → stacked (prefix ++ Hole h ∷ []) nil ≡ hole h (stacked prefix nil)
+stacked-hole prefix h = stacked-top prefix (Hole h) ∙ put-hole h (stacked prefix nil)
 
--- a list put behind a stack's top, of which the old top is then removed
-pub stacked-refilled : (front list : List OpenTree) (t : OpenTree) → stacked (remove ((front ++ t ∷ []) ++ reverse list) (length front)) nil ≡ open_followed (plain list) (stacked front nil)
-stacked-refilled front list t =
-    let parts : (front ++ t ∷ []) ++ reverse list ≡ front ++ (t ∷ reverse list) = append_assoc front (t ∷ []) (reverse list) in
-    let whole : remove ((front ++ t ∷ []) ++ reverse list) (length front) ≡ front ++ reverse list =
-    rw (parts, take_at front (t ∷ reverse list) (length front) refl) (ap (λ xs. front ++ xs) (dropped front t (reverse list))) in
-    ap (λ xs. stacked xs nil) whole ∙ stacked-append front (reverse list) nil ∙ stacked-reverse list (stacked front nil) ∙ put_all-open_followed list (stacked front nil)
+-- a list put after a stack's top, of which the old top is then removed
+pub stacked-refilled : (prefix list : List OpenTree) (t : OpenTree) → stacked (remove ((prefix ++ t ∷ []) ++ reverse list) (length prefix)) nil ≡ open_followed (plain list) (stacked prefix nil)
+stacked-refilled prefix list t =
+    let parts : (prefix ++ t ∷ []) ++ reverse list ≡ prefix ++ (t ∷ reverse list) = append_assoc prefix (t ∷ []) (reverse list) in
+    let whole : remove ((prefix ++ t ∷ []) ++ reverse list) (length prefix) ≡ prefix ++ reverse list =
+    rw (parts, take_at prefix (t ∷ reverse list) (length prefix) refl) (ap (λ xs. prefix ++ xs) (dropped prefix t (reverse list))) in
+    ap (λ xs. stacked xs nil) whole ∙ stacked-append prefix (reverse list) nil ∙ stacked-reverse list (stacked prefix nil) ∙ put_all-open_followed list (stacked prefix nil)
   where
-    dropped : (front : List OpenTree) (t : OpenTree) (rest : List OpenTree) → drop (suc (length front)) (front ++ (t ∷ rest)) ≡ rest
+    dropped : (prefix : List OpenTree) (t : OpenTree) (rest : List OpenTree) → drop (suc (length prefix)) (prefix ++ (t ∷ rest)) ≡ rest
     dropped [] t rest = refl
-    dropped (x ∷ front) t rest = dropped front t rest
+    dropped (x ∷ prefix) t rest = dropped prefix t rest
 
 -- a list in the place of a stack's only tree
-pub stacked-only : (front list : List OpenTree) (t : OpenTree) → length (front ++ t ∷ []) ≡ 1 → stacked (reverse list) nil ≡ open_followed (plain list) (stacked front nil)
+pub stacked-only : (prefix list : List OpenTree) (t : OpenTree) → length (prefix ++ t ∷ []) ≡ 1 → stacked (reverse list) nil ≡ open_followed (plain list) (stacked prefix nil)
 stacked-only [] list t e = stacked-reverse list nil ∙ put_all-open_followed list nil
-stacked-only (x ∷ front) list t e = absurd (omega (arith, e, length-append front (t ∷ [])))
+stacked-only (x ∷ prefix) list t e = absurd (omega (arith, e, length-append prefix (t ∷ [])))
 
--- the last of a list behind the others
-pub last_split : (xs : List OpenTree) (t : OpenTree) → Some t ≡ slice_get xs (length xs - 1) → (front : List OpenTree) × (xs ≡ front ++ t ∷ [])
+-- the last of a list after the others
+pub last_split : (xs : List OpenTree) (t : OpenTree) → Some t ≡ slice_get xs (length xs - 1) → (prefix : List OpenTree) × (xs ≡ prefix ++ t ∷ [])
 last_split [] t e = cc
 last_split (x ∷ []) t e = ([], cc)
 last_split (x ∷ y ∷ xs) t e =
@@ -43,7 +43,7 @@ last_split (x ∷ y ∷ xs) t e =
     let r = last_split (y ∷ xs) t (e ∙ ap (slice_get (x ∷ y ∷ xs)) shorter) in
     (x ∷ r.0, ap (λ zs. x ∷ zs) r.1)
 
--- a node at the top of a stack is no hole at the front of the list
+-- a node at the top of a stack is no hole at the beginning of the list
 pub no_hole_at_top : (xs : List OpenTree) (t : OpenTree) (l : List ℕ) (ks : _) → Some t ≡ slice_get xs (length xs - 1) → t ≡ Node l ks → begins_with_hole (stacked xs nil) ≡ false
 no_hole_at_top xs t l ks e is =
     let r = last_split xs t e in
@@ -56,6 +56,6 @@ turned_short (x ∷ []) h = refl
 turned_short (x ∷ y ∷ xs) h = absurd (omega arith)
 
 -- the last of one tree is that tree
-pub last_alone : (front : List OpenTree) (t u : OpenTree) → u ∷ [] ≡ front ++ t ∷ [] → t ≡ u
+pub last_alone : (prefix : List OpenTree) (t u : OpenTree) → u ∷ [] ≡ prefix ++ t ∷ [] → t ≡ u
 last_alone [] t u e = cc
-last_alone (x ∷ front) t u e = absurd (omega (arith, ap length e, length-append front (t ∷ [])))
+last_alone (x ∷ prefix) t u e = absurd (omega (arith, ap length e, length-append prefix (t ∷ [])))

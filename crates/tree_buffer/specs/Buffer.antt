@@ -98,7 +98,7 @@ pub record IsSourcesOf (v : View) (b : Buffer) : Type 0 where
   pub label : v.told (number_of b) ≡ true → (x : Spot) → IsSpot b x → first_label (trees_at (document_node v (number_of b)) (place_of b x)) ≡ Some (label_of b x)
   -- what lies below a spot weighs at most the root hole
   pub light : (x : Spot) → IsSpot b x → below v b x ≤ v.weight (number_of b) (v.root (number_of b))
-  -- a child with what lies below and behind it weighs at most what lies below its parent
+  -- a child with what lies below and after it weighs at most what lies below its parent
   pub lighter : (p : Spot) → IsSpot b p → (k : ℕ) (c : Spot) → IsChildSpot b p k c → 1 + below v b c + after v b c ≤ below v b p
 
 -- a buffer goes on: each earlier spot is one still and stands for the same place and label, its two numbers didn't rise,

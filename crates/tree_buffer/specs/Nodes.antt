@@ -45,7 +45,7 @@ place links i = get_or (places links) i []
 -- node c is the child of q at index k
 pub record IsChild (links : List (ℕ × ℕ)) (q k c : ℕ) : Type 0 where
   pub known : c < length links
-  pub behind : 0 < c
+  pub after : 0 < c
   pub parent : parent links c ≡ q
   pub index : index links c ≡ k
 

@@ -1,4 +1,4 @@
--- What lies below a node and behind it weighs, whether it was handed out or not.
+-- What lies below a node and after it weighs, whether it was handed out or not.
 use Rattle.std.specs.Prelude.{ℕ, ◌+◌, ◌==◌, ◌&&◌, nat_le, Bool, false, cond, List, [], ◌∷◌, if◌then◌else◌}
 use Rattle.std.proofs.Common.{get_or}
 use Rattle.lxp_core.specs.Open.{Open, nil}

@@ -21,7 +21,7 @@ pub struct Buffer {
 
 impl Buffer {
     ghost use Rattle.lxp_core.specs.Causes.{HasCause};
-    ghost use Rattle.mix_tree.specs.Forest.{first_kids, behind};
+    ghost use Rattle.mix_tree.specs.Forest.{first_kids, after_first};
     ghost use Rattle.mix_tree.specs.Place.{trees_at, has_place, child_place};
     ghost use Rattle.lxp_core.specs.Open.{begins_with_hole};
     ghost use Rattle.tree_buffer.specs.declared.buffer.Buffer.{Buffer};
@@ -151,7 +151,7 @@ impl Buffer {
         ensures next { IfOk result (λ r. IfSome r (IsNextSpot self.new p.now)) }
         ensures exact { IfOk result (λ r. IfTold (S.view s.old) self.old (λ d. is_some r ≡ has_next d (place_of self.old p.now))) }
         ensures trees { IfOk result (λ r. IfTold (S.view s.old) self.old
-            (λ d. trees_from d self.new r ≡ behind (trees_at d (place_of self.old p.now)))) }
+            (λ d. trees_from d self.new r ≡ after_first (trees_at d (place_of self.old p.now)))) }
         ensures smaller { IfOk result (λ r. IfSome r (λ q. from_spot (S.view s.new) self.new q ≤ after (S.view s.old) self.old p.now)) }
         // Fills.
         ensures lazy { (S.view s.old).forward (number_of self.old) ≡ true → (S.view s.new).fills ≤ (S.view s.old).fills + 1 }

@@ -49,9 +49,9 @@ fn free_hole(mut stack: Vec<OpenTree>)
 // Puts a list in the place of the hole at the top of a stack. Where the stack holds nothing else, the list becomes the stack.
 #[inline(always)]
 fn replace_top(stack: &mut Vec<OpenTree>, mut list: Vec<OpenTree>) -> Result<(), AllocError>
-    requires { (front : List OpenTree) × (h : HoleId) × (stack.old.items ≡ front ++ Hole h ∷ []) }
-    ensures ok { OnOk result ((front : List OpenTree) (top : OpenTree) → stack.old.items ≡ front ++ top ∷ []
-        → stacked stack.new.items nil ≡ open_followed (plain list.items) (stacked front nil)) }
+    requires { (prefix : List OpenTree) × (h : HoleId) × (stack.old.items ≡ prefix ++ Hole h ∷ []) }
+    ensures ok { OnOk result ((prefix : List OpenTree) (top : OpenTree) → stack.old.items ≡ prefix ++ top ∷ []
+        → stacked stack.new.items nil ≡ open_followed (plain list.items) (stacked prefix nil)) }
     ensures err { OnErr result (stack.new.items ≡ stack.old.items) }
 {
     turn_round(&mut list);
@@ -75,7 +75,7 @@ fn refill<S: Sources>(
     stack: &mut Vec<OpenTree>,
 ) -> Result<(), WalkFault>
     requires number { number < (S.view s.old).count }
-    requires top { (front : List OpenTree) × (stack.old.items ≡ front ++ Hole hole ∷ []) }
+    requires top { (prefix : List OpenTree) × (stack.old.items ≡ prefix ++ Hole hole ∷ []) }
     requires known { AllHoles ((S.view s.old).knows number) (stacked stack.old.items nil) }
     requires apart { IsApart (stacked stack.old.items nil) }
     ensures came { S.came_from s.old s.new }

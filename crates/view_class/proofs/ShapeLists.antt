@@ -46,7 +46,7 @@ one_shape_more v sources n shapes spec shape h there new = record {
         let place : shape_at (shapes ++ shape ∷ []) n ≡ shape = subst (λ (k : ℕ). get_or (shapes ++ shape ∷ []) k Any ≡ shape) h.count (get_or-append_seam shapes shape [] Any) in
         ap shape_layout place ∙ new ∙ ap (layout_there v n) (sym there)
 
--- there is no source behind the last
+-- there is no source after the last
 none_past : (sources : List SourceSpec) (s : ℕ) → length sources ≤ s → slice_get sources s ≡ None
 none_past sources s h =
     elim (slice_get_cases sources s).1 as (λ _. slice_get sources s ≡ None) [

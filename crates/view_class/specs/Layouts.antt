@@ -32,15 +32,15 @@ kind_layout name (Table file table key columns) = rows_layout name (map declared
 abbrev pub spec_layout : SourceSpec → Layout
 spec_layout spec = kind_layout spec.name spec.kind
 
--- what stands behind the number of a source for a rule: of a source that it doesn't name nothing is known
+-- what stands after the number of a source for a rule: of a source that it doesn't name nothing is known
 abbrev pub layout_for : RuleValue → ℕ → SourceSpec → Layout
 layout_for v s spec = cond (names_source v s) (spec_layout spec) any_trees
 
--- so behind a number, where there is a source of it
+-- so after a number, where there is a source of it
 abbrev pub layout_there : RuleValue → ℕ → Option SourceSpec → Layout
 layout_there v s None = any_trees
 layout_there v s (Some spec) = layout_for v s spec
 
--- so behind each number of a catalog
+-- so after each number of a catalog
 abbrev pub layout_in : RuleValue → List SourceSpec → ℕ → Layout
 layout_in v sources s = layout_there v s (slice_get sources s)

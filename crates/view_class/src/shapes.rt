@@ -61,7 +61,7 @@ fn spec_shape(alloc: Global, spec: &SourceSpec) -> Result<Shape, AllocError>
     }
 }
 
-// The shape of what stands behind the number of a source for a rule.
+// The shape of what stands after the number of a source for a rule.
 fn shape_for(alloc: Global, rule: &Rule, s: u32, spec: &SourceSpec) -> Result<Shape, AllocError>
     ensures { IfOk result (λ shape. shape_layout shape ≡ layout_for (rule_of rule.now) s spec.now) }
 {
@@ -72,7 +72,7 @@ fn shape_for(alloc: Global, rule: &Rule, s: u32, spec: &SourceSpec) -> Result<Sh
     }
 }
 
-/// The shapes of what stands behind the numbers of a catalog's sources for a rule: of a source that the rule doesn't name nothing is known.
+/// The shapes of what stands after the numbers of a catalog's sources for a rule: of a source that the rule doesn't name nothing is known.
 pub fn shapes_for(alloc: Global, catalog: &Catalog, rule: &Rule) -> Result<Vec<Shape>, AllocError>
     ensures { IfOk result (λ shapes. shapes_of shapes.items ≡ layout_in (rule_of rule.now) catalog.now) }
 {

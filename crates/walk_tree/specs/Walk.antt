@@ -13,7 +13,7 @@ abbrev pub first_labels : Forest → List (List ℕ)
 first_labels none = []
 first_labels (tree label kids rest) = label ∷ labels_of kids
 
--- the labels of the tree at an answer, and of those behind it
+-- the labels of the tree at an answer, and of those after it
 abbrev pub labels_from : View → Buffer → Option Spot → List (List ℕ)
 labels_from v b r = labels_of (trees_from (document_node v (number_of b)) b r)
 
@@ -26,7 +26,7 @@ left v b (Some x) = 1 + below v b x + after v b x
 abbrev pub labels_at : View → Buffer → Spot → List (List ℕ)
 labels_at v b p = first_labels (trees_at (document_node v (number_of b)) (place_of b p))
 
--- a forward source was asked at most two fills for each label that was put behind those before
+-- a forward source was asked at most two fills for each label that was put after those before
 abbrev pub AsksTwo : View → Buffer → View → List (List ℕ) → List (List ℕ) → Type 0
 AsksTwo v b v' before after = v.forward (number_of b) ≡ true → v'.fills + 2 * length before ≤ v.fills + 2 * length after
 

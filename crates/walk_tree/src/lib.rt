@@ -13,9 +13,9 @@ use mix_tree::Label;
 use std::alloc::Global;
 use tree_buffer::{Buffer, Spot, two_calls_run};
 
-/// Puts the labels of the subtree of a node behind `out`, in document order. A node takes one step down, and one to the
+/// Puts the labels of the subtree of a node after `out`, in document order. A node takes one step down, and one to the
 /// right for each node but the first; over a forward source each step asks at most one fill. `Failed`: the source failed.
-/// What was put behind `out` before a fault stays.
+/// What was put after `out` before a fault stays.
 #[cycle(walking)]
 pub fn walk<S: Sources>(
     alloc: Global,
@@ -43,7 +43,7 @@ pub fn walk<S: Sources>(
     walk_from(alloc, s, b, first, out)
 }
 
-// Puts the labels of the subtrees from an answer on behind `out`.
+// Puts the labels of the subtrees from an answer on after `out`.
 #[cycle(walking)]
 fn walk_from<S: Sources>(
     alloc: Global,

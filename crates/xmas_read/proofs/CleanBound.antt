@@ -108,7 +108,7 @@ among_firsts (x ∷ xs) n h =
       | false ↦ λ e k. others_keep x n (firsts bytes_eq xs) e (among_firsts xs n k)
     ] refl h
 
--- a name is among names with others behind them
+-- a name is among names with others after them
 pub has_left : (xs ys : List (List ℕ)) (n : List ℕ) → has_name xs n ≡ true → has_name (xs ++ ys) n ≡ true
 has_left [] ys n h = cc
 has_left (x ∷ xs) ys n h = elim (bytes_eq x n) as (λ w. (w || has_name xs n) ≡ true → (w || has_name (xs ++ ys) n) ≡ true) [ true ↦ λ k. refl | false ↦ λ k. has_left xs ys n k ] h
@@ -127,7 +127,7 @@ pub names_both : (vs ws : List VarText) → var_names (vs ++ ws) ≡ var_names v
 names_both [] ws = refl
 names_both (v ∷ vs) ws = ap (λ (r : List (List ℕ)). v.name ∷ r) (names_both vs ws)
 
--- all of names stand among the variables behind one more
+-- all of names stand among the variables after one more
 more_vars : (v : VarText) (vs : List VarText) (xs : List (List ℕ)) → AllByRecursion (λ n. has_name (var_names vs) n ≡ true) xs → AllByRecursion (λ n. has_name (var_names (v ∷ vs)) n ≡ true) xs
 more_vars v vs xs h = each_weaker (λ n. has_name (var_names vs) n ≡ true) (λ n. has_name (var_names (v ∷ vs)) n ≡ true) (λ n k. among_more (var_names vs) v.name n k) xs h
 

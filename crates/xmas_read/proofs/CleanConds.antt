@@ -187,13 +187,13 @@ cond_written sources names n (compare v g o h (a_text ps)) k w =
     ∙ ap (λ r. 36 ∷ (get_or names (place_in names v) [] ++ (32 ∷ (r ++ (32 ∷ quoted_text (pieces_of (meaning ps))))))) (op_written o)
     ∙ ap (λ r. 36 ∷ (get_or names (place_in names v) [] ++ (32 ∷ (op_sign (op_value o) ++ (32 ∷ r))))) (sym (quoted_pieces (meaning ps)).2)
 
--- conditions behind a first one, and one more
+-- conditions after a first one, and one more
 more_push : (sources names : List (List ℕ)) (cs : List ValueCond) (c : ValueCond) → more_conds sources names (cs ++ c ∷ []) ≡ more_conds sources names cs ++ (codes " AND " ++ cond_text sources names c)
-more_push sources names [] c = ap (λ r. codes " AND " ++ r) (nil_behind (cond_text sources names c))
+more_push sources names [] c = ap (λ r. codes " AND " ++ r) (nil_after (cond_text sources names c))
   where
-    nil_behind : (x : List ℕ) → x ++ [] ≡ x
-    nil_behind [] = refl
-    nil_behind (b ∷ x) = ap (λ r. b ∷ r) (nil_behind x)
+    nil_after : (x : List ℕ) → x ++ [] ≡ x
+    nil_after [] = refl
+    nil_after (b ∷ x) = ap (λ r. b ∷ r) (nil_after x)
 more_push sources names (d ∷ cs) c =
     ap (λ r. codes " AND " ++ (cond_text sources names d ++ r)) (more_push sources names cs c)
     ∙ ap (λ r. codes " AND " ++ r) (sym (append_assoc (cond_text sources names d) (more_conds sources names cs) (codes " AND " ++ cond_text sources names c)))
@@ -218,11 +218,11 @@ pub conds_written :
     (sources names : List (List ℕ)) (n : ℕ) (cs : Conds) → KeptConds cs → AllByRecursion (KnownCond sources names) (conds_at n cs)
     → written.conds_text (clean_conds cs) ≡ 32 ∷ conds_text sources names (map (cond_value sources names) (conds_at n cs))
 conds_written sources names n (one g c) k w =
-    ap (λ r. 32 ∷ r) (cond_written sources names (n + length g) c k w.0 ∙ sym (nil_behind (cond_text sources names (cond_value sources names (cond_at (n + length g) c)))))
+    ap (λ r. 32 ∷ r) (cond_written sources names (n + length g) c k w.0 ∙ sym (nil_after (cond_text sources names (cond_value sources names (cond_at (n + length g) c)))))
   where
-    nil_behind : (x : List ℕ) → x ++ [] ≡ x
-    nil_behind [] = refl
-    nil_behind (b ∷ x) = ap (λ r. b ∷ r) (nil_behind x)
+    nil_after : (x : List ℕ) → x ++ [] ≡ x
+    nil_after [] = refl
+    nil_after (b ∷ x) = ap (λ r. b ∷ r) (nil_after x)
 conds_written sources names n (also cs g h c) k w =
     let at = n + length (written.conds_text cs) + length g + 3 + length h in
     let p = all_parts (KnownCond sources names) (conds_at n cs) (cond_at at c) w in

@@ -9,7 +9,7 @@ use Rattle.path_expr.proofs.Again.{quoted_pieces, pieces_of}
 use Rattle.xmas_text.specs.Grammar.{Key, node, label, Keys, none, first, more, Group, absent, braced, Items, nothing, variable, literal, element, Operand, a_variable, a_text, Cond, source, walk, compare, Conds, one, also, Order, unordered, ordered, descending, Rule, IsKey, HasKeys, AreKeys, IsGroup, IsItemGap, AreItems, IsOperand, IsOrder}
 use Rattle.xmas_text.specs.Levels.{levels}
 
--- a key with one blank behind label
+-- a key with one blank after label
 abbrev pub clean_key : Key → Key
 clean_key (node v) = node v
 clean_key (label g v) = label (32 ∷ []) v

@@ -92,7 +92,7 @@ items_same names n m (element before g name inside b close e) =
     (own_same names end last none [] [] e (λ i. refl))
     ∙ sym (value_push names (items_at m before) _)
 
--- an item behind others, with the blanks turned round
+-- an item after others, with the blanks turned round
 turned : (before text item rest : List ℕ) → before ++ 32 ∷ [] ≡ 32 ∷ text → item ++ 32 ∷ [] ≡ rest → (before ++ (32 ∷ item)) ++ 32 ∷ [] ≡ 32 ∷ (text ++ rest)
 turned before text item rest h k =
     regroup before item ∙ ap (λ r. r ++ (item ++ 32 ∷ [])) h ∙ ap (λ r. 32 ∷ (text ++ r)) k
@@ -111,13 +111,13 @@ own_written names n m (node v) e h a w =
     let k = node_key (place_in names v) in
     let own : List ValueKey = k ∷ [] in
     let shown : key_text names k ≡ 36 ∷ v = key_written names n (node v) h in
-    let group = group_written names m (first [] (node v)) own e (nil_behind (key_text names k) ∙ shown) a w in
+    let group = group_written names m (first [] (node v)) own e (nil_after (key_text names k) ∙ shown) a w in
     regroup (key_text names k) (group_text names (own_keys names own (group_at m e))) ∙ ap (λ r. (key_text names k ++ r) ++ 32 ∷ []) (sym group)
     ∙ ap (λ r. (r ++ written.group_text (clean_group (first [] (node v)) e)) ++ 32 ∷ []) shown
   where
-    nil_behind : (x : List ℕ) → x ++ [] ≡ x
-    nil_behind [] = refl
-    nil_behind (b ∷ x) = ap (λ r. b ∷ r) (nil_behind x)
+    nil_after : (x : List ℕ) → x ++ [] ≡ x
+    nil_after [] = refl
+    nil_after (b ∷ x) = ap (λ r. b ∷ r) (nil_after x)
 
     regroup : (k g : List ℕ) → k ++ (32 ∷ (g ++ (32 ∷ []))) ≡ (k ++ (32 ∷ g)) ++ 32 ∷ []
     regroup k g = simp append_assoc
@@ -125,13 +125,13 @@ own_written names n m (label b v) e h a w =
     let k = label_key (place_in names v) in
     let own : List ValueKey = k ∷ [] in
     let shown : key_text names k ≡ written.key_text (clean_key (label b v)) = key_written names n (label b v) h in
-    let group = group_written names m (first [] (label (32 ∷ []) v)) own e (nil_behind (key_text names k) ∙ shown) a w in
+    let group = group_written names m (first [] (label (32 ∷ []) v)) own e (nil_after (key_text names k) ∙ shown) a w in
     regroup (key_text names k) (group_text names (own_keys names own (group_at m e))) ∙ ap (λ r. (key_text names k ++ r) ++ 32 ∷ []) (sym group)
     ∙ ap (λ r. (r ++ written.group_text (clean_group (first [] (label (32 ∷ []) v)) e)) ++ 32 ∷ []) shown
   where
-    nil_behind : (x : List ℕ) → x ++ [] ≡ x
-    nil_behind [] = refl
-    nil_behind (b ∷ x) = ap (λ r. b ∷ r) (nil_behind x)
+    nil_after : (x : List ℕ) → x ++ [] ≡ x
+    nil_after [] = refl
+    nil_after (b ∷ x) = ap (λ r. b ∷ r) (nil_after x)
 
     regroup : (k g : List ℕ) → k ++ (32 ∷ (g ++ (32 ∷ []))) ≡ (k ++ (32 ∷ g)) ++ 32 ∷ []
     regroup k g = simp append_assoc
@@ -145,7 +145,7 @@ element_written names name inside text group own h k =
     ∙ ap (λ r. 60 ∷ (name ++ 62 ∷ (r ++ (60 ∷ 47 ∷ (name ++ 62 ∷ group))))) h
     ∙ ap (λ r. 60 ∷ (name ++ 62 ∷ 32 ∷ (text ++ (60 ∷ 47 ∷ (name ++ 62 ∷ r))))) k
 
--- the text of items, with a blank before each for one behind each
+-- the text of items, with a blank before each for one after each
 pub items_written :
     (names : List (List ℕ)) (n : ℕ) (xs : Items) → AreItems xs → KnownItems names xs
     → written.items_text (clean_items xs) ++ 32 ∷ [] ≡ 32 ∷ items_text names (items_value names (contents_of (items_at n xs)))

@@ -73,10 +73,10 @@ limits p h k = by (nat_lt 100 (nesting p)) (nat_lt 120 (positions_in (value_of p
 pub blank_low : (b : ℕ) → is_blank b ≡ true → b < 128
 blank_low b h = grind (arith, nat_tests)
 
--- what stands behind blanks
-pub behind_blanks : (g y : List ℕ) → IsBlanks g → IsUtf8 (g ++ y) → IsUtf8 y
-behind_blanks [] y h u = u
-behind_blanks (b ∷ g) y h u = let p = and_parts (is_blank b) (list_all is_blank g) h in behind_blanks g y p.1 (utf8_split [] (g ++ y) b (blank_low b p.0) u).1
+-- what stands after blanks
+pub after_blanks : (g y : List ℕ) → IsBlanks g → IsUtf8 (g ++ y) → IsUtf8 y
+after_blanks [] y h u = u
+after_blanks (b ∷ g) y h u = let p = and_parts (is_blank b) (list_all is_blank g) h in after_blanks g y p.1 (utf8_split [] (g ++ y) b (blank_low b p.0) u).1
 
 -- a gap is of blanks
 pub gap_blanks : (g : List ℕ) → IsGap g → IsBlanks g
@@ -88,7 +88,7 @@ pub around_gap : (x g y : List ℕ) → IsGap g → IsUtf8 (x ++ (g ++ y)) → I
 around_gap x [] y h u = absurd h
 around_gap x (b ∷ g) y h u =
     let p = and_parts (is_blank b) (list_all is_blank g) h in
-    let q = utf8_split x (g ++ y) b (blank_low b p.0) u in (q.0, behind_blanks g y p.1 q.1)
+    let q = utf8_split x (g ++ y) b (blank_low b p.0) u in (q.0, after_blanks g y p.1 q.1)
 
 -- what stands before blanks
 before_blanks : (x g : List ℕ) → IsBlanks g → IsUtf8 (x ++ g) → IsUtf8 x
@@ -107,7 +107,7 @@ before_order x g (descending (a ∷ l) b c v j) h k u = let p = and_parts (is_bl
 pub rule_parts : (r : Rule) → IsRule r → IsUtf8 (rule_text r) → IsUtf8 (items_text r.template) × IsUtf8 (conds_text r.conds)
 rule_parts r w u =
     let rest = conds_text r.conds ++ (order_text r.order ++ r.tail) in
-    let lead = behind_blanks r.lead _ w.lead u in
+    let lead = after_blanks r.lead _ w.lead u in
     let first = utf8_split (67 ∷ 79 ∷ 78 ∷ 83 ∷ 84 ∷ 82 ∷ 85 ∷ 67 ∷ []) _ 84 (omega arith) lead in
     let gap = around_gap (items_text r.template) r.gap (87 ∷ 72 ∷ 69 ∷ 82 ∷ 69 ∷ rest) w.gap first.1 in
     let where' = utf8_split (87 ∷ 72 ∷ 69 ∷ 82 ∷ []) rest 69 (omega arith) gap.1 in
@@ -147,9 +147,9 @@ cond_kept n (compare v g o h a) w u s = tt
 
 -- the paths of conditions
 pub conds_kept : (n : ℕ) (cs : Conds) → AreConds cs → IsUtf8 (conds_text cs) → AllByRecursion IsShort (conds_at n cs) → KeptConds cs
-conds_kept n (one g c) w u s = cond_kept _ c w.1 (behind_blanks g (cond_text c) (gap_blanks g w.0) u) s.0
+conds_kept n (one g c) w u s = cond_kept _ c w.1 (after_blanks g (cond_text c) (gap_blanks g w.0) u) s.0
 conds_kept n (also cs g h c) w u s =
     let a = around_gap (conds_text cs) g (65 ∷ 78 ∷ 68 ∷ (h ++ cond_text c)) w.1 u in
-    let b = behind_blanks h (cond_text c) (gap_blanks h w.2) (utf8_split (65 ∷ 78 ∷ []) (h ++ cond_text c) 68 (omega arith) a.1).1 in
+    let b = after_blanks h (cond_text c) (gap_blanks h w.2) (utf8_split (65 ∷ 78 ∷ []) (h ++ cond_text c) 68 (omega arith) a.1).1 in
     let p = all_parts IsShort (conds_at n cs) _ s in
     (conds_kept n cs w.0 a.0 p.0, cond_kept _ c w.3 b p.1)

@@ -64,13 +64,13 @@ pub key_written : (names : List (List ℕ)) (n : ℕ) (k : Key) → KnownKey nam
 key_written names n (node v) h = ap (λ r. 36 ∷ r) (name_back names v h)
 key_written names n (label g v) h = ap (λ r. codes "label " ++ (36 ∷ r)) (name_back names v h)
 
--- keys behind a first one, and one more
+-- keys after a first one, and one more
 more_push : (names : List (List ℕ)) (ks : List ValueKey) (k : ValueKey) → more_keys names (ks ++ k ∷ []) ≡ more_keys names ks ++ (44 ∷ key_text names k)
-more_push names [] k = ap (λ r. 44 ∷ r) (nil_behind (key_text names k))
+more_push names [] k = ap (λ r. 44 ∷ r) (nil_after (key_text names k))
   where
-    nil_behind : (x : List ℕ) → x ++ [] ≡ x
-    nil_behind [] = refl
-    nil_behind (b ∷ x) = ap (λ r. b ∷ r) (nil_behind x)
+    nil_after : (x : List ℕ) → x ++ [] ≡ x
+    nil_after [] = refl
+    nil_after (b ∷ x) = ap (λ r. b ∷ r) (nil_after x)
 more_push names (j ∷ ks) k = ap (λ r. 44 ∷ (key_text names j ++ r)) (more_push names ks k) ∙ ap (λ r. 44 ∷ r) (sym (append_assoc (key_text names j) (more_keys names ks) (44 ∷ key_text names k)))
 
 -- some keys and one more
@@ -90,11 +90,11 @@ some_keys names n (more ks g b k) h =
 -- the text of keys
 keys_written : (names : List (List ℕ)) (n : ℕ) (ks : Keys) → AreKeys ks → KnownKeys names ks → keys_text names (map (key_value names) (keys_at n ks)) ≡ written.keys_text (clean_keys ks)
 keys_written names n none a h = refl
-keys_written names n (first g k) a h = nil_behind (key_text names (key_value names (key_at (n + length g) k))) ∙ key_written names (n + length g) k h
+keys_written names n (first g k) a h = nil_after (key_text names (key_value names (key_at (n + length g) k))) ∙ key_written names (n + length g) k h
   where
-    nil_behind : (x : List ℕ) → x ++ [] ≡ x
-    nil_behind [] = refl
-    nil_behind (b ∷ x) = ap (λ r. b ∷ r) (nil_behind x)
+    nil_after : (x : List ℕ) → x ++ [] ≡ x
+    nil_after [] = refl
+    nil_after (b ∷ x) = ap (λ r. b ∷ r) (nil_after x)
 keys_written names n (more ks g b k) a h =
     let at = n + length (written.keys_text ks) + length g + 1 + length b in
     let before = map (key_value names) (keys_at n ks) in
@@ -110,12 +110,12 @@ pub group_written :
 group_written names n w own absent d a h = ap (λ r. 32 ∷ 123 ∷ (r ++ 125 ∷ [])) (sym d)
 group_written names n w own (braced g ks b) d a h = ap (λ r. 32 ∷ 123 ∷ (r ++ 125 ∷ [])) (sym (keys_written names (n + length g + 1) ks a.1 h))
 
--- items with others behind them
+-- items with others after them
 abbrev pub then_items : items.Items → items.Items → items.Items
-then_items items.done behind = behind
-then_items (items.literal l rest) behind = items.literal l (then_items rest behind)
-then_items (items.variable s v own rest) behind = items.variable s v own (then_items rest behind)
-then_items (items.element l inside own rest) behind = items.element l inside own (then_items rest behind)
+then_items items.done after = after
+then_items (items.literal l rest) after = items.literal l (then_items rest after)
+then_items (items.variable s v own rest) after = items.variable s v own (then_items rest after)
+then_items (items.element l inside own rest) after = items.element l inside own (then_items rest after)
 
 -- the value of items with one more
 pub value_push : (names : List (List ℕ)) (is : List ItemText) (i : ItemText) → items_value names (contents_of (is ++ i ∷ [])) ≡ then_items (items_value names (contents_of is)) (items_value names (contents_of (i ∷ [])))

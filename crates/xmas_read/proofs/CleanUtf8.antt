@@ -18,7 +18,7 @@ use Rattle.xmas_tokens.specs.Lexical.{is_blank, is_letter, is_word_byte, IsBlank
 use Rattle.xmas_text.specs.Grammar.{Key, node, label, Keys, none, first, more, Group, absent, braced, Items, nothing, variable, literal, element, Operand, a_variable, a_text, Cond, source, walk, compare, Conds, one, also, Order, unordered, ordered, descending, Rule, IsKey, AreKeys, IsGroup, IsItemGap, AreItems, IsTemplate, IsOperand, IsCond, AreConds, IsOrder, IsRule, key_text, keys_text, group_text, items_text, operand_text, cond_text, conds_text, order_text, rule_text}
 use Rattle.xmas_tokens.specs.Tokens.{quoted_text, op_text}
 use Rattle.xmas_read.proofs.CleanForm.{clean_key, clean_keys, clean_group, clean_items, clean_path, clean_operand, clean_cond, clean_conds, clean_order, clean_rule}
-use Rattle.xmas_read.proofs.CleanPaths.{PathKept, KeptCond, KeptConds, blank_low, behind_blanks, gap_blanks, around_gap, rule_parts}
+use Rattle.xmas_read.proofs.CleanPaths.{PathKept, KeptCond, KeptConds, blank_low, after_blanks, gap_blanks, around_gap, rule_parts}
 
 -- an ASCII byte before a text
 before : (b : ℕ) (x : List ℕ) → b < 128 → IsUtf8 x → IsUtf8 (b ∷ x)
@@ -66,32 +66,32 @@ word_low b h = grind (arith, nat_tests)
 letter_low : (b : ℕ) → is_letter b ≡ true → b < 128
 letter_low b h = grind (arith, nat_tests)
 
--- words are UTF-8, and so is what stands behind them
+-- words are UTF-8, and so is what stands after them
 word_utf8 : (x : List ℕ) → IsTrue (list_all is_word_byte x) → IsUtf8 x
 word_utf8 [] h = IsUtf8-nil
 word_utf8 (b ∷ x) h = let p = and_parts (is_word_byte b) (list_all is_word_byte x) h in before b x (word_low b p.0) (word_utf8 x p.1)
 
--- what stands behind a word
-behind_word : (x y : List ℕ) → IsTrue (list_all is_word_byte x) → IsUtf8 (x ++ y) → IsUtf8 y
-behind_word [] y h u = u
-behind_word (b ∷ x) y h u = let p = and_parts (is_word_byte b) (list_all is_word_byte x) h in behind_word x y p.1 (utf8_split [] (x ++ y) b (word_low b p.0) u).1
+-- what stands after a word
+after_word : (x y : List ℕ) → IsTrue (list_all is_word_byte x) → IsUtf8 (x ++ y) → IsUtf8 y
+after_word [] y h u = u
+after_word (b ∷ x) y h u = let p = and_parts (is_word_byte b) (list_all is_word_byte x) h in after_word x y p.1 (utf8_split [] (x ++ y) b (word_low b p.0) u).1
 
 -- a variable's name
 var_utf8 : (v : List ℕ) → IsVar v → IsUtf8 v
 var_utf8 [] h = absurd h
 var_utf8 (b ∷ x) h = before b x (letter_low b h.0) (word_utf8 x h.1)
 
--- what stands behind it
-behind_var : (v y : List ℕ) → IsVar v → IsUtf8 (v ++ y) → IsUtf8 y
-behind_var [] y h u = absurd h
-behind_var (b ∷ x) y h u = behind_word x y h.1 (utf8_split [] (x ++ y) b (letter_low b h.0) u).1
+-- what stands after it
+after_var : (v y : List ℕ) → IsVar v → IsUtf8 (v ++ y) → IsUtf8 y
+after_var [] y h u = absurd h
+after_var (b ∷ x) y h u = after_word x y h.1 (utf8_split [] (x ++ y) b (letter_low b h.0) u).1
 
 -- what stands on both sides of blanks and before an ASCII byte
 around_blanks : (x g y : List ℕ) (b : ℕ) → IsBlanks g → b < 128 → IsUtf8 (x ++ (g ++ b ∷ y)) → IsUtf8 x × IsUtf8 (b ∷ y)
 around_blanks x [] y b h l u = let p = utf8_split x y b l u in (p.0, before b y l p.1)
 around_blanks x (c ∷ g) y b h l u =
     let p = and_parts (is_blank c) (list_all is_blank g) h in
-    let q = utf8_split x (g ++ b ∷ y) c (blank_low c p.0) u in (q.0, behind_blanks g (b ∷ y) p.1 q.1)
+    let q = utf8_split x (g ++ b ∷ y) c (blank_low c p.0) u in (q.0, after_blanks g (b ∷ y) p.1 q.1)
 
 -- a gap before an item is of blanks
 item_blanks : (xs : Items) (g : List ℕ) → IsItemGap xs g → IsBlanks g
@@ -118,15 +118,15 @@ group_utf8 w absent u h = before 32 _ (omega arith) (before 123 _ (omega arith) 
 group_utf8 w (braced g ks b) u h = before 32 _ (omega arith) (before 123 _ (omega arith) (utf8_push (keys_text (clean_keys ks)) 125 (omega arith) (keys_utf8 ks h.1)))
 
 -- the items before one that shows a variable
-shown_front : (xs : Items) (g y : List ℕ) (k : Key) → IsItemGap xs g → IsUtf8 (items_text xs ++ (g ++ (key_text k ++ y))) → IsUtf8 (items_text xs)
-shown_front xs g y (node v) h u = (around_blanks (items_text xs) g (v ++ y) 36 (item_blanks xs g h) (omega arith) u).0
-shown_front xs g y (label f v) h u = (around_blanks (items_text xs) g _ 108 (item_blanks xs g h) (omega arith) u).0
+shown_prefix : (xs : Items) (g y : List ℕ) (k : Key) → IsItemGap xs g → IsUtf8 (items_text xs ++ (g ++ (key_text k ++ y))) → IsUtf8 (items_text xs)
+shown_prefix xs g y (node v) h u = (around_blanks (items_text xs) g (v ++ y) 36 (item_blanks xs g h) (omega arith) u).0
+shown_prefix xs g y (label f v) h u = (around_blanks (items_text xs) g _ 108 (item_blanks xs g h) (omega arith) u).0
 
 -- items
 items_utf8 : (xs : Items) → AreItems xs → IsUtf8 (items_text xs) → IsUtf8 (items_text (clean_items xs))
 items_utf8 nothing h u = IsUtf8-nil
 items_utf8 (variable w g k e) h u =
-    both (items_text (clean_items w)) (32 ∷ (key_text (clean_key k) ++ group_text (clean_group (first [] (clean_key k)) e))) (items_utf8 w h.0 (shown_front w g (group_text e) k h.1 u))
+    both (items_text (clean_items w)) (32 ∷ (key_text (clean_key k) ++ group_text (clean_group (first [] (clean_key k)) e))) (items_utf8 w h.0 (shown_prefix w g (group_text e) k h.1 u))
     (before 32 _ (omega arith) (both (key_text (clean_key k)) (group_text (clean_group (first [] (clean_key k)) e)) (key_utf8 k h.2) (group_utf8 (first [] (clean_key k)) e (key_utf8 k h.2) h.3)))
 items_utf8 (literal w g ps) h u =
     let p = around_blanks (items_text w) g (inside_quotes ps ++ 34 ∷ []) 34 (item_blanks w g h.1) (omega arith) u in
@@ -152,14 +152,14 @@ template_items (element (variable w f k d) g name inside b close e) h = absurd h
 template_items (element (literal w f ps) g name inside b close e) h = absurd h.0
 template_items (element (element w f n i c m d) g name inside b close e) h = absurd h.0
 
--- what stands behind an operator
-behind_op : (o : Comparison) (y : List ℕ) → IsUtf8 (op_text o ++ y) → IsUtf8 y
-behind_op op.Eq y u = (utf8_split [] y 61 (omega arith) u).1
-behind_op op.Ne y u = (utf8_split (33 ∷ []) y 61 (omega arith) u).1
-behind_op op.Lt y u = (utf8_split [] y 60 (omega arith) u).1
-behind_op op.Le y u = (utf8_split (60 ∷ []) y 61 (omega arith) u).1
-behind_op op.Gt y u = (utf8_split [] y 62 (omega arith) u).1
-behind_op op.Ge y u = (utf8_split (62 ∷ []) y 61 (omega arith) u).1
+-- what stands after an operator
+after_op : (o : Comparison) (y : List ℕ) → IsUtf8 (op_text o ++ y) → IsUtf8 y
+after_op op.Eq y u = (utf8_split [] y 61 (omega arith) u).1
+after_op op.Ne y u = (utf8_split (33 ∷ []) y 61 (omega arith) u).1
+after_op op.Lt y u = (utf8_split [] y 60 (omega arith) u).1
+after_op op.Le y u = (utf8_split (60 ∷ []) y 61 (omega arith) u).1
+after_op op.Gt y u = (utf8_split [] y 62 (omega arith) u).1
+after_op op.Ge y u = (utf8_split (62 ∷ []) y 61 (omega arith) u).1
 
 -- an operator before a text
 op_before : (o : Comparison) (y : List ℕ) → IsUtf8 y → IsUtf8 (op_text o ++ y)
@@ -175,7 +175,7 @@ operand_utf8 : (a : Operand) → IsOperand a → IsUtf8 (operand_text a) → IsU
 operand_utf8 (a_variable v) h u = u
 operand_utf8 (a_text ps) h u = quoted_again (meaning ps) (label_in ps h u)
 
--- a path and a variable behind a blank each
+-- a path and a variable after a blank each
 path_utf8 : (p : Spelled) (v : List ℕ) → PathKept p → IsVar v → IsUtf8 (32 ∷ (text_of (clean_path p) ++ (32 ∷ 36 ∷ v)))
 path_utf8 p v k h =
     before 32 _ (omega arith) (both (text_of (clean_path p)) (32 ∷ 36 ∷ v) (subst IsUtf8 (sym k.text) k.utf8) (before 32 _ (omega arith) (before 36 v (omega arith) (var_utf8 v h))))
@@ -185,17 +185,17 @@ cond_utf8 : (c : Cond) → IsCond c → KeptCond c → IsUtf8 (cond_text c) → 
 cond_utf8 (source name g p b v) h k u = both name _ (name_utf8 name h.0.0) (path_utf8 p v k h.4)
 cond_utf8 (walk start g p b v) h k u = before 36 _ (omega arith) (both start _ (var_utf8 start h.0) (path_utf8 p v k h.4))
 cond_utf8 (compare v g o b a) h k u =
-    let x = behind_var v _ h.0 (utf8_split [] _ 36 (omega arith) u).1 in
-    let y = behind_op o _ (behind_blanks g _ h.1 x) in
-    let z = operand_utf8 a h.3 (behind_blanks b _ h.2 y) in
+    let x = after_var v _ h.0 (utf8_split [] _ 36 (omega arith) u).1 in
+    let y = after_op o _ (after_blanks g _ h.1 x) in
+    let z = operand_utf8 a h.3 (after_blanks b _ h.2 y) in
     before 36 _ (omega arith) (both v _ (var_utf8 v h.0) (before 32 _ (omega arith) (op_before o _ (before 32 _ (omega arith) z))))
 
 -- conditions
 conds_utf8 : (cs : Conds) → AreConds cs → KeptConds cs → IsUtf8 (conds_text cs) → IsUtf8 (conds_text (clean_conds cs))
-conds_utf8 (one g c) h k u = before 32 _ (omega arith) (cond_utf8 c h.1 k (behind_blanks g (cond_text c) (gap_blanks g h.0) u))
+conds_utf8 (one g c) h k u = before 32 _ (omega arith) (cond_utf8 c h.1 k (after_blanks g (cond_text c) (gap_blanks g h.0) u))
 conds_utf8 (also cs g b c) h k u =
     let x = around_gap (conds_text cs) g (65 ∷ 78 ∷ 68 ∷ (b ++ cond_text c)) h.1 u in
-    let y = behind_blanks b (cond_text c) (gap_blanks b h.2) (utf8_split (65 ∷ 78 ∷ []) (b ++ cond_text c) 68 (omega arith) x.1).1 in
+    let y = after_blanks b (cond_text c) (gap_blanks b h.2) (utf8_split (65 ∷ 78 ∷ []) (b ++ cond_text c) 68 (omega arith) x.1).1 in
     both (conds_text (clean_conds cs)) _ (conds_utf8 cs h.0 k.0 x.0)
     (before 32 _ (omega arith) (before 65 _ (omega arith) (before 78 _ (omega arith) (before 68 _ (omega arith) (before 32 _ (omega arith) (cond_utf8 c h.3 k.1 y))))))
 
@@ -214,11 +214,11 @@ order_utf8 (descending g b i v j) h =
     (both v (32 ∷ 68 ∷ 69 ∷ 83 ∷ 67 ∷ []) (var_utf8 v h.3)
     (before 32 _ (omega arith) (before 68 _ (omega arith) (before 69 _ (omega arith) (before 83 _ (omega arith) (before 67 [] (omega arith) IsUtf8-nil))))))
 
--- WHERE, and what stands behind it
+-- WHERE, and what stands after it
 where_utf8 : (y : List ℕ) → IsUtf8 y → IsUtf8 (32 ∷ 87 ∷ 72 ∷ 69 ∷ 82 ∷ 69 ∷ y)
 where_utf8 y u = before 32 _ (omega arith) (before 87 _ (omega arith) (before 72 _ (omega arith) (before 69 _ (omega arith) (before 82 _ (omega arith) (before 69 y (omega arith) u)))))
 
--- CONSTRUCT, and what stands behind it
+-- CONSTRUCT, and what stands after it
 construct_utf8 : (y : List ℕ) → IsUtf8 y → IsUtf8 (67 ∷ 79 ∷ 78 ∷ 83 ∷ 84 ∷ 82 ∷ 85 ∷ 67 ∷ 84 ∷ y)
 construct_utf8 y u =
     before 67 _ (omega arith) (before 79 _ (omega arith) (before 78 _ (omega arith) (before 83 _ (omega arith) (before 84 _ (omega arith) (before 82 _ (omega arith)

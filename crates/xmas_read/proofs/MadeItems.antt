@@ -1,4 +1,4 @@
--- Items as they are made, one behind another.
+-- Items as they are made, one after another.
 use Rattle.std.proofs.Common.{◌≡◌, ◌∙◌, ◌+◌, ◌<◌, ◌≤◌, ℕ, List, [], ◌∷◌, ◌++◌, refl, ap, sym, drop, length, get_or}
 use Rattle.std.proofs.lemmas.List.{drop_more, drop_all}
 use Rattle.xmas_text.specs.Elements.{item_before, contents_of}
@@ -20,7 +20,7 @@ pub all_alone : (is : List Item) → all_before is done ≡ items_of is
 all_alone [] = refl
 all_alone (i ∷ is) = ap (made_before i) (all_alone is)
 
--- an item behind others
+-- an item after others
 pub all_more : (is : List Item) (i : Item) (rest : Items) → all_before (is ++ i ∷ []) rest ≡ all_before is (made_before i rest)
 all_more [] i rest = refl
 all_more (j ∷ is) i rest = ap (made_before j) (all_more is i rest)
@@ -32,7 +32,7 @@ value_first names (item.Node s) is = refl
 value_first names (item.LabelOf s) is = refl
 value_first names (item.Text l) is = refl
 
--- the member at an index, and those behind it
+-- the member at an index, and those after it
 shape : {X : Type 0} (xs : List X) (i : ℕ) (x : X) → i < length xs → x ≡ get_or xs i x → drop i xs ≡ x ∷ drop (i + 1) xs
 shape {X} xs i x l e = drop_more xs i x l ∙ ap (λ (y : X). y ∷ drop (i + 1) xs) (sym e)
 

@@ -89,13 +89,13 @@ abbrev pub AreDifferent : List (List ℕ) → Type 0
 AreDifferent [] = Unit {0}
 AreDifferent (m ∷ names) = AllByRecursion (λ n. bytes_eq m n ≡ false) names × AreDifferent names
 
--- the places of names behind one that is different from them
-places_behind : (m : List ℕ) (names some : List (List ℕ)) → AllByRecursion (λ n. bytes_eq m n ≡ false) some → (v : ℕ) → has (map (place_in (m ∷ names)) some) (suc v) ≡ has (map (place_in names) some) v
-places_behind m names [] h v = refl
-places_behind m names (n ∷ some) h v =
+-- the places of names after one that is different from them
+places_after : (m : List ℕ) (names some : List (List ℕ)) → AllByRecursion (λ n. bytes_eq m n ≡ false) some → (v : ℕ) → has (map (place_in (m ∷ names)) some) (suc v) ≡ has (map (place_in names) some) v
+places_after m names [] h v = refl
+places_after m names (n ∷ some) h v =
     ap (λ w. (cond w 0 (suc (place_in names n)) == suc v) || has (map (place_in (m ∷ names)) some) (suc v)) h.0
     ∙ ap (λ w. w || has (map (place_in (m ∷ names)) some) (suc v)) (suc_same (place_in names n) v)
-    ∙ ap (λ w. (place_in names n == v) || w) (places_behind m names some h.1 v)
+    ∙ ap (λ w. (place_in names n == v) || w) (places_after m names some h.1 v)
 
 -- each number below how many there are is a place of one of the names
 pub all_places : (names : List (List ℕ)) → AreDifferent names → (v : ℕ) → v < length names → has (map (place_in names) names) v ≡ true
@@ -103,7 +103,7 @@ all_places [] d v h = absurd (omega arith)
 all_places (m ∷ names) d zero h =
     subst (λ w. ((cond w 0 (suc (place_in names m)) == 0) || has (map (place_in (m ∷ names)) names) 0) ≡ true) (sym ((bytes_eq-Decides m m).1 refl)) refl
 all_places (m ∷ names) d (suc v) h =
-    let k : has (map (place_in (m ∷ names)) names) (suc v) ≡ true = places_behind m names names d.0 v ∙ all_places names d.1 v (omega arith) in
+    let k : has (map (place_in (m ∷ names)) names) (suc v) ≡ true = places_after m names names d.0 v ∙ all_places names d.1 v (omega arith) in
     elim (place_in (m ∷ names) m == suc v) as (λ w. (w || has (map (place_in (m ∷ names)) names) (suc v)) ≡ true) [ true ↦ refl | false ↦ k ]
 
 -- a place of one of some names that are among names is below how many there are

@@ -24,7 +24,7 @@ bytes_same = record { itself = bytes_itself; alike = λ x y z h. ap (bytes_eq z)
 abbrev pub noted : List (List ℕ) → List ℕ → List (List ℕ)
 noted seen b = cond (has_name seen b) seen (seen ++ b ∷ [])
 
--- what was seen and what is yet different from it are together as many behind one more
+-- what was seen and what is yet different from it are together as many after one more
 pub noted_more : (seen : List (List ℕ)) (b : List ℕ) (bs : List (List ℕ)) → length seen + length (distinct bytes_eq seen (b ∷ bs)) ≡ length (noted seen b) + length (distinct bytes_eq (noted seen b) bs)
 noted_more seen b bs =
     elim (has_name seen b) as (λ w.
@@ -84,7 +84,7 @@ found_named sources name =
     let p : SourceSpec → Bool = λ s. bytes_eq name s.name in
     some_where (nat_lt (position_or_len p sources) (length sources)) (position_or_len p sources) ∙ place_any p sources ∙ any_turned sources name
 
--- the names of variables, behind references and not
+-- the names of variables, after references and not
 pub names_of : (vars : List (Bor VarText)) → map (λ v. v.now.name) vars ≡ map (λ (v : VarText). v.name) (map (λ v. v.now) vars)
 names_of vars = sym (map-map (λ (v : VarText). v.name) (λ v. v.now) vars)
 
@@ -108,7 +108,7 @@ many_noted k r n h e = grind (arith, nat_tests)
 few_noted : (k n : ℕ) → k ≤ 60 → k + 0 ≡ n → false ≡ nat_lt 60 n
 few_noted k n h e = grind (arith, nat_tests)
 
--- behind the last variable no name is added
+-- after the last variable no name is added
 pub none_left :
     (vars : List (Bor VarText)) (i : ℕ) (seen : List (List ℕ)) (n : ℕ) → length vars ≤ i → length seen ≤ 60
     → length seen + length (distinct bytes_eq seen (map (λ v. v.now.name) (drop i vars))) ≡ n → false ≡ nat_lt 60 n
@@ -139,7 +139,7 @@ none_is : (b : Bool) (k : ℕ) → cond b (Some k) None ≡ None → b ≡ false
 none_is true k h = cc
 none_is false k h = refl
 
--- no first one that passes stands behind the last
+-- no first one that passes stands after the last
 place_inside : {X : Type 0} (p : X → Bool) (xs : List X) → position_or_len p xs ≤ length xs
 place_inside p [] = omega arith
 place_inside p (x ∷ xs) =

@@ -22,7 +22,7 @@ abbrev pub key_text : List (List ℕ) → Key → List ℕ
 key_text names (node_key v) = var_text names v
 key_text names (label_key v) = codes "label " ++ var_text names v
 
--- keys behind a first one, each behind a comma
+-- keys after a first one, each after a comma
 abbrev pub more_keys : List (List ℕ) → List Key → List ℕ
 more_keys names [] = []
 more_keys names (k ∷ keys) = 44 ∷ (key_text names k ++ more_keys names keys)
@@ -40,14 +40,14 @@ group_text names keys = 123 ∷ (keys_text names keys ++ 125 ∷ [])
 abbrev pub element_text : List (List ℕ) → List ℕ → List ℕ → List Key → List ℕ
 element_text names label inside own = 60 ∷ (label ++ (codes "> " ++ (inside ++ (codes "</" ++ (label ++ (codes "> " ++ group_text names own))))))
 
--- the items of an element, each with a blank behind it
+-- the items of an element, each with a blank after it
 abbrev pub items_text : List (List ℕ) → Items → List ℕ
 items_text names done = []
 items_text names (literal label rest) = quoted label ++ (32 ∷ items_text names rest)
 items_text names (variable shown v own rest) = key_text names (shown_key shown v) ++ (32 ∷ (group_text names own ++ (32 ∷ items_text names rest)))
 items_text names (element label inside own rest) = element_text names label (items_text names inside) own ++ (32 ∷ items_text names rest)
 
--- what stands behind an operator
+-- what stands after an operator
 abbrev pub operand_text : List (List ℕ) → Operand → List ℕ
 operand_text names (var_operand v) = var_text names v
 operand_text names (text_operand label) = quoted label
@@ -58,7 +58,7 @@ cond_text sources names (FromSource source path v) = get_or sources source [] ++
 cond_text sources names (FromVar start path v) = var_text names start ++ (32 ∷ (canon path ++ (32 ∷ var_text names v)))
 cond_text sources names (Compare t) = var_text names t.left ++ (32 ∷ (op_sign t.op ++ (32 ∷ operand_text names t.right)))
 
--- conditions behind a first one, each behind AND
+-- conditions after a first one, each after AND
 abbrev pub more_conds : List (List ℕ) → List (List ℕ) → List Cond → List ℕ
 more_conds sources names [] = []
 more_conds sources names (c ∷ conds) = codes " AND " ++ (cond_text sources names c ++ more_conds sources names conds)

@@ -76,7 +76,7 @@ abbrev pub again_at : List (List ℕ) → Option VarText → List ℕ
 again_at earlier None = []
 again_at earlier (Some v) = unless (not (has_name earlier v.name)) v.at
 
--- the names that are bound behind a condition
+-- the names that are bound after a condition
 abbrev pub with_bound : List (List ℕ) → Option VarText → List (List ℕ)
 with_bound earlier None = earlier
 with_bound earlier (Some v) = earlier ++ v.name ∷ []

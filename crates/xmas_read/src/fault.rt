@@ -30,7 +30,7 @@ pub enum Large {
     Positions,
 }
 
-/// Why a rule is refused. Places count bytes from the front of the text.
+/// Why a rule is refused. Places count bytes from the beginning of the text.
 #[derive(Clone, Copy, Debug, PartialEq, Eq, Error)]
 pub enum XmasFault {
     /// The text is not UTF-8 from the place on.

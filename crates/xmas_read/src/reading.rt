@@ -93,10 +93,10 @@ fn check_tree(alloc: Global, catalog: &Catalog, tree: RuleText) -> Result<Rule, 
 ///
 /// # Errors
 ///
-/// Places count bytes from the front of the text. Of the causes that a text has, the first of these is answered, and of one kind
+/// Places count bytes from the beginning of the text. Of the causes that a text has, the first of these is answered, and of one kind
 /// the first place in the text:
 ///
-/// - `NotUtf8` with the length of the longest front that is UTF-8.
+/// - `NotUtf8` with the length of the longest prefix that is UTF-8.
 /// - `Unexpected` with the first byte with which no rule's text goes on; `EndsEarly` where a rule's text goes on from the end.
 /// - `TooLarge` with the first of `Large` that stands.
 /// - `TagDiffers`, `UnknownSource`, `BoundTwice`, `Unbound`, `OuterGroup`, `Loose`, in this order.

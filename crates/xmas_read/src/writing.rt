@@ -40,7 +40,7 @@ fn push_key(out: &mut Vec<u8>, names: &[Label], key: &Key) -> Result<(), AllocEr
     }
 }
 
-// Writes keys behind a first one.
+// Writes keys after a first one.
 fn push_more_keys(out: &mut Vec<u8>, names: &[Label], keys: &[Key]) -> Result<(), AllocError>
     ensures { OnOk result (out.new.items ≡ out.old.items ++ more_keys names.now keys.now) }
 {
@@ -71,7 +71,7 @@ fn push_group(out: &mut Vec<u8>, names: &[Label], keys: &[Key]) -> Result<(), Al
     Ok(out.push(b'}')?)
 }
 
-// Writes an item that shows a variable, and a blank behind it.
+// Writes an item that shows a variable, and a blank after it.
 fn push_shown(out: &mut Vec<u8>, names: &[Label], key: &Key, keys: &[Key]) -> Result<(), AllocError>
     ensures { OnOk result (out.new.items ≡ out.old.items ++ (key_text names.now key.now ++ (32 ∷ (group_text names.now keys.now ++ (32 ∷ []))))) }
 {
@@ -81,7 +81,7 @@ fn push_shown(out: &mut Vec<u8>, names: &[Label], key: &Key, keys: &[Key]) -> Re
     Ok(out.push(b' ')?)
 }
 
-// Writes an item, and a blank behind it.
+// Writes an item, and a blank after it.
 #[cycle(write)]
 fn push_item(out: &mut Vec<u8>, names: &[Label], item: &Item) -> Result<(), AllocError>
     ensures { OnOk result (out.new.items ≡ out.old.items ++ items_text names.now (item_before item.now done)) }
@@ -100,7 +100,7 @@ fn push_item(out: &mut Vec<u8>, names: &[Label], item: &Item) -> Result<(), Allo
     }
 }
 
-// Writes items, each with a blank behind it.
+// Writes items, each with a blank after it.
 #[cycle(write)]
 fn push_items(out: &mut Vec<u8>, names: &[Label], items: &[Item]) -> Result<(), AllocError>
     ensures { OnOk result (out.new.items ≡ out.old.items ++ items_text names.now (items_of items.now)) }
@@ -111,7 +111,7 @@ fn push_items(out: &mut Vec<u8>, names: &[Label], items: &[Item]) -> Result<(), 
     Ok(())
 }
 
-// Writes an opening tag with a blank behind it.
+// Writes an opening tag with a blank after it.
 fn push_opening(out: &mut Vec<u8>, name: &Label) -> Result<(), AllocError>
     ensures { OnOk result (out.new.items ≡ out.old.items ++ (60 ∷ (name.now ++ codes "> "))) }
 {
@@ -120,7 +120,7 @@ fn push_opening(out: &mut Vec<u8>, name: &Label) -> Result<(), AllocError>
     Ok(out.extend_from_slice(b"> ")?)
 }
 
-// Writes a closing tag with a blank behind it.
+// Writes a closing tag with a blank after it.
 fn push_closing(out: &mut Vec<u8>, name: &Label) -> Result<(), AllocError>
     ensures { OnOk result (out.new.items ≡ out.old.items ++ (codes "</" ++ (name.now ++ codes "> "))) }
 {
@@ -190,7 +190,7 @@ fn push_cond(
     }
 }
 
-// Writes conditions behind a first one.
+// Writes conditions after a first one.
 fn push_more_conds(
     out: &mut Vec<u8>,
     catalog: &Catalog,

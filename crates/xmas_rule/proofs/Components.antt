@@ -93,13 +93,13 @@ with_each P (from_var x path var) comps f h = each_add P (from_var x path var) x
         ]
         (sym (has_flat comp (flat comps) x) ∙ e) h
 
--- a condition behind a component
+-- a condition after a component
 scoped_snoc : (vs : List ℕ) (a : List Binder) (c : Binder) → AreScoped vs a → Follows (vs ++ binder_vars a) c → AreScoped vs (a ++ c ∷ [])
 unfolding AreScoped
 scoped_snoc vs [] c h f = (subst (λ (z : List ℕ). Follows z c) (append_nil vs) f, tt)
 scoped_snoc vs (b ∷ a) c h f = (h.0, scoped_snoc (vs ++ binder_var b ∷ []) a c h.1 (subst (λ (z : List ℕ). Follows z c) (sym (snoc-append vs (binder_var b) (binder_vars a))) f))
 
--- a condition behind others does not change their source
+-- a condition after others does not change their source
 source_of-snoc : (b : Binder) (a : List Binder) (c : Binder) → source_of ((b ∷ a) ++ c ∷ []) ≡ source_of (b ∷ a)
 source_of-snoc (from_source s path var) a c = refl
 source_of-snoc (from_var x path var) a c = refl
@@ -207,7 +207,7 @@ each_components P (c ∷ cs) vs comps m a h =
     let r = each_components P cs (vs ++ binder_var c ∷ []) (with_binder c comps) (same_next vs comps c m f.0) f.1 h in
     let q = with_each P c comps f.0 r.0 in (q.0, (q.1, r.1))
 
--- apart components, one behind another, are scoped
+-- apart components, one after another, are scoped
 more_scoped : (us vs : List ℕ) (cs : List Binder) → AreScoped us cs → ((v : ℕ) → has (binder_vars cs) v ≡ true → has vs v ≡ false) → AreScoped (vs ++ us) cs
 unfolding AreScoped Follows
 more_scoped us vs [] h f = tt
@@ -224,7 +224,7 @@ more_scoped us vs (c ∷ cs) h f = (
     more_follows us vs (from_source s path var) h f = has-append vs us var ∙ or_none (has vs var) (has us var) f h
     more_follows us vs (from_var x path var) h f = (has-append vs us x ∙ or_true (has vs x) (has us x) h.0, has-append vs us var ∙ or_none (has vs var) (has us var) f h.1)
 
--- conditions behind others
+-- conditions after others
 scoped_append : (vs : List ℕ) (a b : List Binder) → AreScoped vs a → AreScoped (vs ++ binder_vars a) b → AreScoped vs (a ++ b)
 unfolding AreScoped
 scoped_append vs [] b h k = subst (λ (z : List ℕ). AreScoped z b) (append_nil vs) k

@@ -1,4 +1,4 @@
--- The components of a body are those that a walk behind each source condition finds.
+-- The components of a body are those that a walk after each source condition finds.
 use Rattle.std.proofs.Common.{◌≡◌, ℕ, true, false, cond, List, [], ◌∷◌, ◌++◌, map, refl, ◌∙◌, sym, ap, append_assoc}
 use Rattle.mix_base.proofs.Lists.{append_nil}
 use Rattle.path_expr.specs.Form.{Form}
@@ -39,12 +39,12 @@ add-map x path v cs (comp ∷ comps) a =
       | false ↦ λ e. ap (λ (z : List (List Binder)). (comp ++ reached (binder_vars comp) cs) ∷ z) (add-map x path v cs comps a.3)
     ] refl
 
--- components behind which nothing stands
+-- components after which nothing stands
 map_nil : (comps : List (List Binder)) → comps ≡ map (λ comp. comp ++ []) comps
 map_nil [] = refl
 map_nil (comp ∷ comps) = ap (λ (z : List Binder). z ∷ comps) (sym (append_nil comp)) ∙ ap (λ (z : List (List Binder)). (comp ++ []) ∷ z) (map_nil comps)
 
--- the components so far take what they reach, and the others begin behind them
+-- the components so far take what they reach, and the others begin after them
 pub components_reach : (cs : List Binder) (vs : List ℕ) (comps : List (List Binder)) → Same vs comps → AreBound vs cs → AreApart comps →
     components_from comps cs ≡ map (λ comp. comp ++ reached (binder_vars comp) cs) comps ++ reaches cs
 components_reach [] vs comps m a p = map_nil comps ∙ sym (append_nil (map (λ comp. comp ++ []) comps))
@@ -61,7 +61,7 @@ components_reach (from_var x path v ∷ cs) vs comps m a p =
     components_reach cs (vs ++ v ∷ []) (with_binder c comps) (same_next vs comps c m b.0) b.1 (apart_with c comps b.0 p)
     ∙ ap (λ (z : List (List Binder)). z ++ reaches cs) (add-map x path v cs comps p)
 
--- what is reached by one condition, and then by those behind it
+-- what is reached by one condition, and then by those after it
 pub reached-more : (vs : List ℕ) (x : Cond) (xs : List Cond) →
     reached vs (binders (x ∷ xs)) ≡ reached vs (binders (x ∷ [])) ++ reached (vs ++ binder_vars (reached vs (binders (x ∷ [])))) (binders xs)
 reached-more vs (FromSource s path v) xs = ap (λ (z : List ℕ). reached z (binders xs)) (sym (append_nil vs))
@@ -72,7 +72,7 @@ reached-more vs (FromVar y path v) xs =
     ≡ cond w (from_var y path v ∷ []) [] ++ reached (vs ++ binder_vars (cond w (from_var y path v ∷ []) [])) (binders xs))
     [ true ↦ refl | false ↦ ap (λ (z : List ℕ). reached z (binders xs)) (sym (append_nil vs)) ]
 
--- what a condition begins, then what those behind it do
+-- what a condition begins, then what those after it do
 pub reaches-begun : (x : Cond) (xs : List Cond) → reaches (binders (x ∷ xs)) ≡ begun x (binders xs) ++ reaches (binders xs)
 reaches-begun (FromSource s path v) xs = refl
 reaches-begun (FromVar y path v) xs = refl

@@ -21,7 +21,7 @@ unfolding next_nodes
 nodes-ascend docs lists (from_source source path var) b h = ascending-map PlaceBefore (λ (m n : Node). PlaceBefore m.place n.place) (λ q. record { source = source; place = q }) (λ x y r. r) (lists path (document_node source)) ((h path (document_node source)).ascending)
 nodes-ascend docs lists (from_var start path var) b h = ascending-map PlaceBefore (λ (m n : Node). PlaceBefore m.place n.place) (λ q. record { source = (node_of b start).source; place = q }) (λ x y r. r) (lists path (node_of b start)) ((h path (node_of b start)).ascending)
 
--- tuples in order, whatever stands behind them
+-- tuples in order, whatever stands after them
 before-append : (a b c d : Binding) → TupleBefore a b → TupleBefore (a ++ c) (b ++ d)
 before-append [] b c d h = absurd h
 before-append (x ∷ a) [] c d h = absurd h
@@ -93,12 +93,12 @@ unfoldable pub AreScoped : List ℕ → List Binder → Type 0
 AreScoped vs [] = Unit {0}
 AreScoped vs (c ∷ cs) = Follows vs c × AreScoped (vs ++ binder_var c ∷ []) cs
 
--- what a condition says of a front of the tuple
-binds-front : (docs : Documents) (a b : Binding) (c : Binder) → Uses (vars_of a) c → Binds docs (a ++ b) c ↔ Binds docs a c
+-- what a condition says of a prefix of the tuple
+binds-prefix : (docs : Documents) (a b : Binding) (c : Binder) → Uses (vars_of a) c → Binds docs (a ++ b) c ↔ Binds docs a c
 unfolding Uses
-binds-front docs a b (from_source source path var) h =
+binds-prefix docs a b (from_source source path var) h =
     let e = node_of-left a b var h in ((λ k. rw e at k), (λ k. rw (← e) at k))
-binds-front docs a b (from_var start path var) h =
+binds-prefix docs a b (from_var start path var) h =
     let e = node_of-left a b var h.1 in let f = node_of-left a b start h.0 in
     ((λ k. rw f at (rw e at k)), (λ k. rw (← f) at (rw (← e) at k)))
 
@@ -180,15 +180,15 @@ pub record Sat (docs : Documents) (cs : List Binder) (b : Binding) : Type 0 wher
 unfoldable pub Exact : Documents → List Binder → List Binding → Type 0
 Exact docs cs bs = (b : Binding) → Among b bs ↔ Sat docs cs b
 
--- conditions that hold of a front hold of the tuple
-front_each : (docs : Documents) (a b : Binding) (cs : List Binder) → AllByRecursion (Uses (vars_of a)) cs → AllByRecursion (Binds docs a) cs → AllByRecursion (Binds docs (a ++ b)) cs
-front_each docs a b [] u h = tt
-front_each docs a b (c ∷ cs) u h = ((binds-front docs a b c u.0).1 h.0, front_each docs a b cs u.1 h.1)
+-- conditions that hold of a prefix hold of the tuple
+prefix_each : (docs : Documents) (a b : Binding) (cs : List Binder) → AllByRecursion (Uses (vars_of a)) cs → AllByRecursion (Binds docs a) cs → AllByRecursion (Binds docs (a ++ b)) cs
+prefix_each docs a b [] u h = tt
+prefix_each docs a b (c ∷ cs) u h = ((binds-prefix docs a b c u.0).1 h.0, prefix_each docs a b cs u.1 h.1)
 
--- conditions of the front's variables that hold of the tuple hold of it
-each_front : (docs : Documents) (a b : Binding) (cs : List Binder) → AllByRecursion (Uses (vars_of a)) cs → AllByRecursion (Binds docs (a ++ b)) cs → AllByRecursion (Binds docs a) cs
-each_front docs a b [] u h = tt
-each_front docs a b (c ∷ cs) u h = ((binds-front docs a b c u.0).0 h.0, each_front docs a b cs u.1 h.1)
+-- conditions of the prefix's variables that hold of the tuple hold of it
+each_prefix : (docs : Documents) (a b : Binding) (cs : List Binder) → AllByRecursion (Uses (vars_of a)) cs → AllByRecursion (Binds docs (a ++ b)) cs → AllByRecursion (Binds docs a) cs
+each_prefix docs a b [] u h = tt
+each_prefix docs a b (c ∷ cs) u h = ((binds-prefix docs a b c u.0).0 h.0, each_prefix docs a b cs u.1 h.1)
 
 -- longer tuples are exactly those of one condition more
 extend-exact : (docs : Documents) (lists : MatchLists) → AreMatchLists docs lists → (ds : List Binder) (c : Binder) (bs : List Binding) → AllByRecursion (Uses (binder_vars ds)) ds → Follows (binder_vars ds) c → Exact docs ds bs → Exact docs (ds ++ c ∷ []) (extend lists c bs)
@@ -204,7 +204,7 @@ extend-exact docs lists are ds c bs u f h = λ b. (
       let fa : Follows (vars_of a) c = rw v f in
       rw q.2 (record {
         vars = vars-append a ((binder_var c, q.0) ∷ []) ∙ last_vars a (binder_var c) q.0 (binder_vars ds) v ∙ sym (binder_vars-append ds (c ∷ []));
-        each = each_append (Binds docs (a ++ (binder_var c, q.0) ∷ [])) ds (c ∷ []) (front_each docs a ((binder_var c, q.0) ∷ []) ds ua s.each) (binds-last docs lists are a c q.0 fa q.1, tt);
+        each = each_append (Binds docs (a ++ (binder_var c, q.0) ∷ [])) ds (c ∷ []) (prefix_each docs a ((binder_var c, q.0) ∷ []) ds ua s.each) (binds-last docs lists are a c q.0 fa q.1, tt);
       })),
   (λ s.
       let r = unsnoc b (binder_vars ds) (binder_var c) (s.vars ∙ binder_vars-append ds (c ∷ [])) in
@@ -213,7 +213,7 @@ extend-exact docs lists are ds c bs u f h = λ b. (
       let fa : Follows (vars_of a) c = rw v f in
       let e : AllByRecursion (Binds docs (a ++ (binder_var c, m) ∷ [])) (ds ++ c ∷ []) = rw r.2 at s.each in
       let g = each-append (Binds docs (a ++ (binder_var c, m) ∷ [])) ds (c ∷ []) e in
-      let t : Sat docs ds a = record { vars = v; each = each_front docs a ((binder_var c, m) ∷ []) ds ua g.0 } in
+      let t : Sat docs ds a = record { vars = v; each = each_prefix docs a ((binder_var c, m) ∷ []) ds ua g.0 } in
       rw r.2 (among_flat_map (λ a. map (λ n. a ++ (binder_var c, n) ∷ []) (next_nodes lists c a)) a (a ++ (binder_var c, m) ∷ []) bs ((h a).1 t)
       (among_map (λ n. a ++ (binder_var c, n) ∷ []) m (next_nodes lists c a) (last_binds docs lists are a c m fa g.1.0)))),
 )

@@ -40,7 +40,7 @@ keys_from-code [] = refl
 keys_from-code (node_key v ∷ ks) = ap (λ (z : List Key). node_key v ∷ z) (keys_from-code ks)
 keys_from-code (label_key v ∷ ks) = ap (λ (z : List Key). label_key v ∷ z) (keys_from-code ks)
 
--- items as tokens, each a tag, a label, a variable and keys; what is inside and what is behind follow
+-- items as tokens, each a tag, a label, a variable and keys; what is inside and what is after follow
 abbrev pub items_code : Items → List (ℕ × (List ℕ × (ℕ × List (ℕ × ℕ))))
 items_code done = (0, ([], (0, []))) ∷ []
 items_code (literal label rest) = (1, (label, (0, []))) ∷ items_code rest
@@ -80,7 +80,7 @@ done_on [] = refl
 done_on (x ∷ []) = refl
 done_on (x ∷ y ∷ xs) = refl
 
--- the tokens of items stand for them, whatever comes behind
+-- the tokens of items stand for them, whatever comes after
 pub items_from-code : (i : Items) (rest : List (ℕ × (List ℕ × (ℕ × List (ℕ × ℕ))))) → items_from (items_code i ++ rest) ≡ i ∷ items_from rest
 items_from-code done rest = done_on (items_from rest)
 items_from-code (literal label i) rest = ap (token_on (1, (label, (0, [])))) (items_from-code i rest) ∙ literal_on label i (items_from rest)

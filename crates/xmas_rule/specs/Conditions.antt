@@ -60,7 +60,7 @@ components_from comps (c ∷ cs) = components_from (with_binder c comps) cs
 abbrev pub components : List Cond → List (List Binder)
 components conds = components_from [] (binders conds)
 
--- one component behind another
+-- one component after another
 abbrev pub flat : List (List Binder) → List Binder
 flat [] = []
 flat (comp ∷ comps) = comp ++ flat comps

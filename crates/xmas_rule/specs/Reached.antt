@@ -1,4 +1,4 @@
--- The components of a body, found by one walk behind each source condition.
+-- The components of a body, found by one walk after each source condition.
 use Rattle.std.specs.Prelude.{ℕ, cond, List, [], ◌∷◌, ◌++◌}
 use Rattle.xmas_rule.specs.Conditions.{Binder, from_source, from_var, has}
 use Rattle.xmas_rule.specs.declared.condition.Cond.{Cond}
@@ -10,13 +10,13 @@ reached vs [] = []
 reached vs (from_source s path v ∷ cs) = reached vs cs
 reached vs (from_var x path v ∷ cs) = cond (has vs x) (from_var x path v ∷ reached (vs ++ v ∷ []) cs) (reached vs cs)
 
--- each source condition with those behind it that it reaches
+-- each source condition with those after it that it reaches
 abbrev pub reaches : List Binder → List (List Binder)
 reaches [] = []
 reaches (from_source s path v ∷ cs) = (from_source s path v ∷ reached (v ∷ []) cs) ∷ reaches cs
 reaches (from_var x path v ∷ cs) = reaches cs
 
--- the component that a condition begins, over the conditions behind it
+-- the component that a condition begins, over the conditions after it
 abbrev pub begun : Cond → List Binder → List (List Binder)
 begun (FromSource s path v) cs = (from_source s path v ∷ reached (v ∷ []) cs) ∷ []
 begun (FromVar x path v) cs = []

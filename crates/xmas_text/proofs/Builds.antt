@@ -22,7 +22,7 @@ use Rattle.xmas_text.specs.Drafts.{DraftForm}
 use Rattle.xmas_text.specs.Shifted.{shifted}
 use Rattle.xmas_text.specs.Drafted.{draft_of}
 use Rattle.xmas_tokens.specs.Lexemes.{lexeme_of, IsLexeme}
-use Rattle.xmas_text.specs.Building.{BuildForm, IsEndedBy, IsEnded, EndsTokenBy, EndsToken, place_behind, CanBuild, BuildsBy, Builds, IsOneElement, tree_of}
+use Rattle.xmas_text.specs.Building.{BuildForm, IsEndedBy, IsEnded, EndsTokenBy, EndsToken, place_after, CanBuild, BuildsBy, Builds, IsOneElement, tree_of}
 use Rattle.xmas_text.proofs.Texts.{spot_text, IsSpot}
 use Rattle.xmas_tokens.proofs.Texts.{lex_text}
 use Rattle.xmas_text.proofs.Shifts.{shifts}
@@ -30,10 +30,10 @@ use Rattle.xmas_tokens.proofs.Sound.{Goes, begin_goes}
 use Rattle.xmas_text.proofs.Runs.{Stands, run_stands, start_stands}
 use Rattle.xmas_tokens.proofs.Ended.{token_ended}
 use Rattle.xmas_text.proofs.Complete.{writes_read}
-use Rattle.xmas_text.proofs.Fronts.{stood_at, stopped_writes}
+use Rattle.xmas_text.proofs.Prefixes.{stood_at, stopped_writes}
 use Rattle.xmas_tokens.proofs.Parts.{step_part, kind_part}
 use Rattle.xmas_text.proofs.Steps.{rest_by, rest_in, rest, rest_between, step_rest, step_on}
-use Rattle.xmas_text.proofs.Cuts.{ScansTo, scan_more, front_utf8}
+use Rattle.xmas_text.proofs.Cuts.{ScansTo, scan_more, prefix_utf8}
 use Rattle.xmas_tokens.proofs.Quotes.{InQuotes, quotes_go_on}
 use Rattle.xmas_text.proofs.Verdicts.{whole_rest}
 use Rattle.xmas_text.proofs.Lengths.{spot_end, spot_length}
@@ -74,11 +74,11 @@ from_order text n b l h =
 token_is : (text : List ℕ) (n : ℕ) (b : BuildForm) → n ≤ length text → (h : Standing text n b) → slice_range text b.from n ≡ lex_text h.state.lex
 token_is text n b l h =
     let stands = stands_of text n b h in
-    let front : List ℕ = spot_text h.state.spot ++ h.state.gap in
-    let parts : front ++ (lex_text h.state.lex ++ drop n text) ≡ text =
+    let prefix : List ℕ = spot_text h.state.spot ++ h.state.gap in
+    let parts : prefix ++ (lex_text h.state.lex ++ drop n text) ≡ text =
     regrouped (spot_text h.state.spot) h.state.gap (lex_text h.state.lex) (drop n text) ∙ ap (λ r. r ++ drop n text) stands.text ∙ take-append-drop n text in
-    let long : b.from ≡ length front = h.from ∙ sym (length-append (spot_text h.state.spot) h.state.gap) in
-    ap (λ x. slice_range x b.from n) (sym parts) ∙ between_is front (lex_text h.state.lex) (drop n text) b.from n long (from_order text n b l h ∙ ap (λ m. m + length (lex_text h.state.lex)) long)
+    let long : b.from ≡ length prefix = h.from ∙ sym (length-append (spot_text h.state.spot) h.state.gap) in
+    ap (λ x. slice_range x b.from n) (sym parts) ∙ between_is prefix (lex_text h.state.lex) (drop n text) b.from n long (from_order text n b l h ∙ ap (λ m. m + length (lex_text h.state.lex)) long)
   where
     regrouped : (a c d e : List ℕ) → (a ++ c) ++ (d ++ e) ≡ (a ++ (c ++ d)) ++ e
     regrouped a c d e = simp append_assoc
@@ -109,13 +109,13 @@ goes_on : (text : List ℕ) (n : ℕ) (s : Scan) (r : Rule) (o : Option State) �
 goes_on text n s r None w e h = absurd (stopped_writes (take (n + 1) text) (drop (n + 1) text) r e (subst (λ x. Writes x r) (sym (take-append-drop (n + 1) text)) w))
 goes_on text n s r (Some t) w e h = (scan_of t, sym h)
 
--- what the scan keeps behind the next byte
+-- what the scan keeps after the next byte
 next_scanned : (text : List ℕ) (n : ℕ) (b : BuildForm) → n < length text → Standing text n b → option_map scan_of (run start (take (n + 1) text)) ≡ scan_step b.scan (slice_index text n)
 next_scanned text n b l h = scan_more text n b.scan l (scans_of text n b h)
 
 -- where the token at hand does not go on, the text may be cut
 cut_here : (text : List ℕ) (n : ℕ) (b : BuildForm) → IsUtf8 text → n < length text → Standing text n b → part_step b.scan.part (slice_index text n) ≡ None → IsUtf8 (take n text)
-cut_here text n b u l h e = front_utf8 text n b.scan u (omega arith) (scans_of text n b h) (λ q. quotes_go_on b.scan.part (slice_index text n) q e)
+cut_here text n b u l h e = prefix_utf8 text n b.scan u (omega arith) (scans_of text n b h) (λ q. quotes_go_on b.scan.part (slice_index text n) q e)
 
 -- a byte can be added
 pub can_build : (text : List ℕ) (n : ℕ) (b : BuildForm) → IsUtf8 text → (r : Rule) × Writes text r → n < length text → length text < 2 ^ 64 → Standing text n b → CanBuild text n b
@@ -170,7 +170,7 @@ rest_stands x s g (pathing p) u h r = rest_stands_by x s g (pathing p) _ u refl 
 rest_stands x s g (ready t) u h r = rest_stands_by x s g (ready t) _ u refl h r
 rest_stands x s g (comparing k) u h r = rest_stands_by x s g (comparing k) _ u refl h r
 
--- the draft behind the token that ends, from an option
+-- the draft after the token that ends, from an option
 rest_draft_by : (x : List ℕ) (s : Spot) (g : List ℕ) (l : Lex) (o : Option Token) (u : State) (from : ℕ) (d : DraftForm) → token_in l ≡ o → Stands x (at s g l) → rest_by s g o ≡ Some u
     → from ≡ length (spot_text s) + length g → EndsTokenBy (option_map kind_of o) (lex_text l) from (draft_of s) d → d ≡ draft_of u.spot
 rest_draft_by x s g l None u from d e h r f w = none_some u r
@@ -185,7 +185,7 @@ rest_draft_in : (x : List ℕ) (s : Spot) (g : List ℕ) (l : Lex) (u : State) (
     → from ≡ length (spot_text s) + length g → EndsToken (part_of l) (lex_text l) from (draft_of s) d → d ≡ draft_of u.spot
 rest_draft_in x s g l u from d h r f w = rest_draft_by x s g l (token_in l) u from d refl h r f (subst (λ k. EndsTokenBy k (lex_text l) from (draft_of s) d) (sym (kind_part l h.lex)) w)
 
--- the draft behind the token that ends
+-- the draft after the token that ends
 rest_draft : (x : List ℕ) (s : Spot) (g : List ℕ) (l : Lex) (u : State) (from : ℕ) (d : DraftForm) → Stands x (at s g l) → rest_in s g l ≡ Some u
     → from ≡ length (spot_text s) + length g → EndsToken (part_of l) (lex_text l) from (draft_of s) d → d ≡ draft_of u.spot
 rest_draft x s g between u from d h r f w = w ∙ ap (λ v. draft_of v.spot) (some_is _ _ r)
@@ -214,14 +214,14 @@ rest_length text n u l e h =
     omega (arith, whole, parts, long, none)
 
 -- a token that has begun is not between two
-begun_place : (p : ℕ) (l : Lex) (b : ℕ) → lex_text l ≡ b ∷ [] → place_behind p (part_of l) ≡ p
+begun_place : (p : ℕ) (l : Lex) (b : ℕ) → lex_text l ≡ b ∷ [] → place_after p (part_of l) ≡ p
 begun_place p between b e = cc
 begun_place p l b e = refl
 
 -- where a byte between tokens leads
 record Leads (s : Spot) (g : List ℕ) (t : State) : Type 0 where
   spot : t.spot ≡ s
-  place : length (spot_text t.spot) + length t.gap ≡ place_behind (length (spot_text s) + length g) (part_of t.lex)
+  place : length (spot_text t.spot) + length t.gap ≡ place_after (length (spot_text s) + length g) (part_of t.lex)
 
 -- a token that begins
 leads_token : (s : Spot) (g : List ℕ) (b : ℕ) (o : Option Lex) (t : State) → Gives (Goes (takes s g) (b ∷ [])) o → with_lex s g o ≡ Some t → Leads s g t
@@ -240,7 +240,7 @@ leads s g b t e = by_case (is_blank b) e
     by_case false f = leads_token s g b (begin (takes s g) b) t (begin_goes (takes s g) b) f
 
 -- the text may be cut where the token at hand begins
-place_utf8 : (text : List ℕ) (n : ℕ) (p : Part) → IsUtf8 (take n text) → (p ≡ part.Between → IsUtf8 (take (n + 1) text)) → IsUtf8 (take (place_behind n p) text)
+place_utf8 : (text : List ℕ) (n : ℕ) (p : Part) → IsUtf8 (take n text) → (p ≡ part.Between → IsUtf8 (take (n + 1) text)) → IsUtf8 (take (place_after n p) text)
 place_utf8 text n part.Between h k = k refl
 place_utf8 text n p h k = h
 
@@ -273,7 +273,7 @@ went_off : (text : List ℕ) (n : ℕ) (b next' : BuildForm) → IsUtf8 text →
 went_off text n b next' u l h None t e r runs s i w = none_some t s
 went_off text n b next' u l h (Some v) t e r runs s i w =
     let stands = stands_of text n b h in
-    let behind = rest_stands (take n text) h.state.spot h.state.gap h.state.lex v stands r in
+    let after = rest_stands (take n text) h.state.spot h.state.gap h.state.lex v stands r in
     let lead = leads v.spot v.gap (slice_index text n) t s in
     let stops : part_step b.scan.part (slice_index text n) ≡ None =
     ap (λ q. part_step q.part (slice_index text n)) (sym h.scan) ∙ sym (step_part h.state.lex (slice_index text n) stands.lex) ∙ ap (option_map part_of) e in
@@ -283,17 +283,17 @@ went_off text n b next' u l h (Some v) t e r runs s i w =
     (subst (λ q. EndsToken q.part (lex_text h.state.lex) b.from b.draft next'.draft) (sym h.scan)
     (subst (λ x. EndsToken b.scan.part x b.from b.draft next'.draft) (token_is text n b (omega arith) h) kept.1)) in
     let draft' : next'.draft ≡ draft_of v.spot = rest_draft (take n text) h.state.spot h.state.gap h.state.lex v b.from next'.draft stands r h.from word in
-    let place : length (spot_text v.spot) + length v.gap ≡ n = rest_length text n v l (rest_between h.state.spot h.state.gap h.state.lex v r) behind in
+    let place : length (spot_text v.spot) + length v.gap ≡ n = rest_length text n v l (rest_between h.state.spot h.state.gap h.state.lex v r) after in
     let part' : part_of t.lex ≡ next'.scan.part = ap (λ q. q.part) i in
     let scans : ScansTo (take (n + 1) text) next'.scan = ap (option_map scan_of) runs ∙ ap Some i in record {
       state = t;
       runs = runs;
       scan = i;
       draft = ap draft_of lead.spot ∙ sym draft';
-      from = kept.0 ∙ ap (place_behind n) (sym part') ∙ ap (λ m. place_behind m (part_of t.lex)) (sym place) ∙ sym lead.place;
+      from = kept.0 ∙ ap (place_after n) (sym part') ∙ ap (λ m. place_after m (part_of t.lex)) (sym place) ∙ sym lead.place;
       utf8 =
           subst (λ m. IsUtf8 (take m text)) (sym kept.0)
-          (place_utf8 text n next'.scan.part (cut_here text n b u l h stops) (λ f. front_utf8 text (n + 1) next'.scan u (omega arith) scans (between_outside next'.scan.part f)));
+          (place_utf8 text n next'.scan.part (cut_here text n b u l h stops) (λ f. prefix_utf8 text (n + 1) next'.scan u (omega arith) scans (between_outside next'.scan.part f)));
       depth = w.depth;
       part = w.part;
     }
@@ -305,7 +305,7 @@ standing_by text n b next' u l h None t e runs s i w =
     went_off text n b next' u l h (rest h.state) t e refl runs (sym (step_rest h.state.spot h.state.gap h.state.lex (slice_index text n) e) ∙ s) i w
 standing_by text n b next' u l h (Some k) t e runs s i w = went_on text n b next' h k t e runs s i w
 
--- the state behind the next byte
+-- the state after the next byte
 stepped : (text : List ℕ) (n : ℕ) (b : BuildForm) → n < length text → (h : Standing text n b) → run start (take (n + 1) text) ≡ step h.state (slice_index text n)
 stepped text n b l h =
     ap (run start) (take_next text n l) ∙ run_append step (take n text) (slice_index text n ∷ []) start ∙ ap (option_and_then (λ t. run t (slice_index text n ∷ []))) h.runs
@@ -345,26 +345,26 @@ pub record Finishes (text : List ℕ) (d : DraftForm) : Type 0 where
   pub writes : Writes text rule
   pub tree : parsed rule ≡ tree_of d
 
--- a draft of the rule behind a token, from an option
+-- a draft of the rule after a token, from an option
 finish_by : (text : List ℕ) (b : BuildForm) (d : DraftForm) (r : Rule) (h : Standing text (length text) b) (o : Option State) → Writes text r → rest h.state ≡ o
     → option_and_then (λ v. rule_at v.spot v.gap) o ≡ Some r → EndsToken b.scan.part (slice_range text b.from (length text)) b.from b.draft d → Finishes text d
 finish_by text b d r h None w e q k = none_some r q
 finish_by text b d r h (Some v) w e q k =
     let stands = stands_of text (length text) b h in
-    let behind = rest_stands (take (length text) text) h.state.spot h.state.gap h.state.lex v stands e in
+    let after = rest_stands (take (length text) text) h.state.spot h.state.gap h.state.lex v stands e in
     let word : EndsToken (part_of h.state.lex) (lex_text h.state.lex) b.from (draft_of h.state.spot) d =
     subst (λ y. EndsToken (part_of h.state.lex) (lex_text h.state.lex) b.from y d) (sym h.draft)
     (subst (λ y. EndsToken y.part (lex_text h.state.lex) b.from b.draft d) (sym h.scan)
     (subst (λ x. EndsToken b.scan.part x b.from b.draft d) (token_is text (length text) b (omega arith) h) k)) in
     let draft' : d ≡ draft_of v.spot = rest_draft (take (length text) text) h.state.spot h.state.gap h.state.lex v b.from d stands e h.from word in
-    let rule = rule_draft v.spot v.gap r behind.spot q in record {
+    let rule = rule_draft v.spot v.gap r after.spot q in record {
       one = subst (λ y. IsOneElement y.built.items) (sym draft') rule.0;
       rule = r;
       writes = w;
       tree = sym rule.1 ∙ ap tree_of (sym draft');
     }
 
--- the draft behind the last token is that of the rule
+-- the draft after the last token is that of the rule
 pub finishes : (text : List ℕ) (b : BuildForm) (d : DraftForm) → (r : Rule) × Writes text r → Standing text (length text) b
     → EndsToken b.scan.part (slice_range text b.from (length text)) b.from b.draft d → Finishes text d
 finishes text b d (r, w) h k =

@@ -16,12 +16,12 @@ use Rattle.xmas_tokens.specs.declared.token.Mark.TheVariants as mark
 use Rattle.xmas_tokens.specs.declared.token.Kind.TheVariants as kind
 use Rattle.path_expr.specs.Grammar as paths
 use Rattle.xmas_text.proofs.Texts.{label_text}
-use Rattle.xmas_text.proofs.Tokens.{IsAt, at_start, Behind, reading, gap_run, gap_step, blank_follows}
+use Rattle.xmas_text.proofs.Tokens.{IsAt, at_start, After, reading, gap_run, gap_step, blank_follows}
 use Rattle.xmas_text.proofs.Takes.{taken_reading}
 
 -- from any state at a spot, the text leads to another spot
 abbrev pub Reads : Spot → List ℕ → Spot → Type 0
-Reads s x s' = (t : State) → IsAt s t → Behind s' x t
+Reads s x s' = (t : State) → IsAt s t → After s' x t
 
 -- a spot leads to itself
 pub stays : (s : Spot) → Reads s [] s
@@ -34,7 +34,7 @@ then s s' s'' x y h k t a =
     let c = k b.state b.is in
     record { state = c.state; runs = run_then step x y t b.state b.runs ∙ c.runs; is = c.is }
 
--- a token that may come leads to the spot behind it
+-- a token that may come leads to the spot after it
 pub token : (s : Spot) (h : List ℕ) (t : Token) → IsBlanks h → IsToken t → IsTrue (takes s h (kind_of t)) → Reads s (h ++ token_text t) (shift s h t)
 token s h t b i k st a = reading s st h t a b (taken_reading s h t i k)
 
@@ -59,7 +59,7 @@ item_blanks (variable b f k e) g h = blanks_of g h
 item_blanks (literal b f ps) g h = blanks_of g h
 item_blanks (element b f n i j c e) g h = blanks_of g h
 
--- an item may come behind them
+-- an item may come after them
 item_gaps : (xs : Items) (g : List ℕ) → IsItemGap xs g → IsTrue (item_gap xs g)
 item_gaps nothing g h = refl
 item_gaps (variable b f k e) g h = has_gap g h
@@ -74,7 +74,7 @@ key_reads lead o xs e g (label f v) b i =
     (then (keys lead o xs e none) (key_label lead o xs e none at_first g) (keys lead o xs e (first g (label f v))) (g ++ label_text) (f ++ 36 ∷ v)
     (token (keys lead o xs e none) g (fixed mark.LabelWord) b tt refl) (token (key_label lead o xs e none at_first g) f (var v) (blanks_of f i.0) i.1 (has_gap f i.0)))
 
--- a key behind a comma
+-- a key after a comma
 more_reads : (lead : List ℕ) (o : List Frame) (xs : Items) (e : List ℕ) (ks : Keys) (h g : List ℕ) (k : Key) → IsBlanks g → IsKey k → Reads (key_comma lead o xs e ks h) (g ++ key_text k) (keys lead o xs e (more ks h g k))
 more_reads lead o xs e ks h g (node v) b i = token (key_comma lead o xs e ks h) g (var v) b i refl
 more_reads lead o xs e ks h g (label f v) b i =
@@ -107,7 +107,7 @@ absent_again (literal b g ps) h = refl
 absent_again (element b g n i j c absent) h = refl
 absent_again (element b g n i j c (braced e ks f)) h = cc
 
--- a group label may come behind an item that may have one
+-- a group label may come after an item that may have one
 may_left : (lead : List ℕ) (o : List Frame) (xs : Items) (g : List ℕ) → IsTrue (may_group xs) → IsTrue (takes (items lead o xs) g (kind.Fixed mark.OpenBrace))
 may_left lead [] xs g h = h
 may_left lead (f ∷ o) xs g h = h
@@ -228,7 +228,7 @@ template_reads (element (variable b f k j) g n inside h c e) lead i = absurd i.0
 template_reads (element (literal b f ps) g n inside h c e) lead i = absurd i.0
 template_reads (element (element b f m j l d a) g n inside h c e) lead i = absurd i.0
 
--- WHERE may come behind it
+-- WHERE may come after it
 where_takes : (xs : Items) (lead g : List ℕ) → IsTemplate xs → IsGap g → IsTrue (takes (items lead [] xs) g (kind.Fixed mark.Where))
 where_takes nothing lead g i k = absurd i
 where_takes (variable b f j e) lead g i k = absurd i
@@ -289,7 +289,7 @@ rule_reads r i =
     (token (items r.lead [] r.template) r.gap (fixed mark.Where) (blanks_of r.gap i.gap) tt (where_takes r.template r.lead r.gap i.template i.gap))
     (then (cond_start (rule_head r) first_cond) (cond_done (rule_head r) r.conds) e (conds_text r.conds) (order_text r.order) (conds_reads r.conds (rule_head r) i.conds) (order_reads (rule_head r) r.conds r.order i.order))))
 
--- blanks behind the last token
+-- blanks after the last token
 pub tail_whole : (s : Spot) (t : State) (g : List ℕ) → IsAt s t → IsBlanks g → option_and_then whole (run t g) ≡ rule_at s g
 tail_whole s t [] a b = a.ends
 tail_whole s t (c ∷ g) a b =
@@ -304,6 +304,6 @@ rule_parts l c x g w cs o t = simp append_assoc
 pub writes_read : (x : List ℕ) (r : Rule) → Writes x r → read_of x ≡ Some r
 writes_read x r h =
     let b = rule_reads r h.0 start (at_start beginning) in
-    let front : List ℕ = (r.lead ++ construct_text) ++ (items_text r.template ++ ((r.gap ++ where_text) ++ (conds_text r.conds ++ order_text r.order))) in
+    let prefix : List ℕ = (r.lead ++ construct_text) ++ (items_text r.template ++ ((r.gap ++ where_text) ++ (conds_text r.conds ++ order_text r.order))) in
     ap read_of (sym h.1 ∙ sym (rule_parts r.lead construct_text (items_text r.template) r.gap where_text (conds_text r.conds) (order_text r.order) r.tail))
-    ∙ ap (option_and_then whole) (run_then step front r.tail start b.state b.runs) ∙ tail_whole (end_spot (rule_head r) r.conds r.order) b.state r.tail b.is h.0.tail ∙ end_rule (rule_head r) r.conds r.order r.tail
+    ∙ ap (option_and_then whole) (run_then step prefix r.tail start b.state b.runs) ∙ tail_whole (end_spot (rule_head r) r.conds r.order) b.state r.tail b.is h.0.tail ∙ end_rule (rule_head r) r.conds r.order r.tail

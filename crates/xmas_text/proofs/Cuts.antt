@@ -5,9 +5,9 @@ use Rattle.std.proofs.lemmas.List.{take-append-drop}
 use Rattle.std.proofs.lemmas.Str.{IsUtf8-nil}
 use Rattle.std.specs.Str.{IsUtf8}
 use Rattle.mix_base.specs.Runs.{LeadsTo}
-use Rattle.mix_base.proofs.Runs.{run_append, take_next, scan_behind, scan_front as scan_front_by}
+use Rattle.mix_base.proofs.Runs.{run_append, take_next, scan_after, scan_prefix as scan_prefix_by}
 use Rattle.mix_base.proofs.Choices.{Gives, some_is, none_some}
-use Rattle.mix_base.proofs.Utf8.{utf8_behind}
+use Rattle.mix_base.proofs.Utf8.{utf8_after}
 use Rattle.path_expr.proofs.Shapes.{IsHigh, is_high}
 use Rattle.xmas_tokens.specs.declared.lexer.Part.{Part}
 use Rattle.xmas_text.specs.declared.scan.Scan.{Scan}
@@ -30,9 +30,9 @@ alike x t b h = step_scan x t.spot t.gap t.lex b h
 stood : (x : List ℕ) (t : State) → run start x ≡ Some t → Stands x t
 stood x t r = subst (Gives (Stands x)) r (run_stands x [] start start_stands)
 
--- what it keeps behind one more byte of a text
+-- what it keeps after one more byte of a text
 pub scan_more : (x : List ℕ) (i : ℕ) (s : Scan) → i < length x → ScansTo (take i x) s → option_map scan_of (run start (take (i + 1) x)) ≡ scan_step s (slice_index x i)
-scan_more x i s h e = scan_front_by step scan_of scan_step start x i s (λ t b r. alike (take i x) t b (stood (take i x) t r)) h e
+scan_more x i s h e = scan_prefix_by step scan_of scan_step start x i s (λ t b r. alike (take i x) t b (stood (take i x) t r)) h e
 
 -- a scan goes on
 pub scan_next : (x : List ℕ) (i : ℕ) (s t : Scan) → i < length x → ScansTo (take i x) s → scan_step s (slice_index x i) ≡ Some t → ScansTo (take (i + 1) x) t
@@ -56,29 +56,29 @@ high_by s b (Some p) l h k e = e
 high_step : (s : Scan) (b : ℕ) → 128 ≤ b → Gives (λ t. InQuotes t.part) (scan_step s b)
 high_step s b l = high_by s b (part_step s.part b) l (is_high b l) (is_higher b l) (high_part s.part b l (is_high b l) (is_higher b l))
 
--- what stands behind such a byte
-high_behind : (o : Option State) (x : List ℕ) (b : ℕ) (s : Scan) → 128 ≤ b → Gives (Stands x) o → option_map scan_of (option_and_then (λ t. run t (b ∷ [])) o) ≡ Some s → InQuotes s.part
-high_behind None x b s l h e = none_some s e
-high_behind (Some t) x b s l h e = subst (Gives (λ u. InQuotes u.part)) (sym (scan_behind step scan_of scan_step (Some t) (scan_of t) b (λ u r. alike x u b (subst (Stands x) (some_is _ _ r) h)) refl) ∙ e) (high_step (scan_of t) b l)
+-- what stands after such a byte
+high_after : (o : Option State) (x : List ℕ) (b : ℕ) (s : Scan) → 128 ≤ b → Gives (Stands x) o → option_map scan_of (option_and_then (λ t. run t (b ∷ [])) o) ≡ Some s → InQuotes s.part
+high_after None x b s l h e = none_some s e
+high_after (Some t) x b s l h e = subst (Gives (λ u. InQuotes u.part)) (sym (scan_after step scan_of scan_step (Some t) (scan_of t) b (λ u r. alike x u b (subst (Stands x) (some_is _ _ r) h)) refl) ∙ e) (high_step (scan_of t) b l)
 
 -- outside quotes a character ends
-cut_behind : (x y : List ℕ) (b : ℕ) (s : Scan) → IsUtf8 ((x ++ b ∷ []) ++ y) → ScansTo (x ++ b ∷ []) s → (InQuotes s.part → ⊥) → IsUtf8 (x ++ b ∷ [])
-cut_behind x y b s u e n = by_case (nat_lt b 128) refl
+cut_after : (x y : List ℕ) (b : ℕ) (s : Scan) → IsUtf8 ((x ++ b ∷ []) ++ y) → ScansTo (x ++ b ∷ []) s → (InQuotes s.part → ⊥) → IsUtf8 (x ++ b ∷ [])
+cut_after x y b s u e n = by_case (nat_lt b 128) refl
   where
     by_case : (low : Bool) → nat_lt b 128 ≡ low → IsUtf8 (x ++ b ∷ [])
-    by_case true k = (utf8_behind x y b (grind (arith, nat_tests)) u).0
+    by_case true k = (utf8_after x y b (grind (arith, nat_tests)) u).0
     by_case false k =
         let high : 128 ≤ b = grind (arith, nat_tests) in
-        absurd (n (high_behind (run start x) x b s high (run_stands x [] start start_stands) (ap (option_map scan_of) (sym (run_append step x (b ∷ []) start)) ∙ e)))
+        absurd (n (high_after (run start x) x b s high (run_stands x [] start start_stands) (ap (option_map scan_of) (sym (run_append step x (b ∷ []) start)) ∙ e)))
 
 -- what a scan outside quotes has passed is UTF-8
-pub front_utf8 : (x : List ℕ) (i : ℕ) (s : Scan) → IsUtf8 x → i ≤ length x → ScansTo (take i x) s → (InQuotes s.part → ⊥) → IsUtf8 (take i x)
-front_utf8 x zero s u h e n = IsUtf8-nil
-front_utf8 x (suc j) s u h e n =
+pub prefix_utf8 : (x : List ℕ) (i : ℕ) (s : Scan) → IsUtf8 x → i ≤ length x → ScansTo (take i x) s → (InQuotes s.part → ⊥) → IsUtf8 (take i x)
+prefix_utf8 x zero s u h e n = IsUtf8-nil
+prefix_utf8 x (suc j) s u h e n =
     let more : suc j ≡ j + 1 = omega arith in
     let parts : take (suc j) x ≡ take j x ++ slice_index x j ∷ [] = ap (λ k. take k x) more ∙ take_next x j (omega arith) in
     let whole : (take j x ++ slice_index x j ∷ []) ++ drop (suc j) x ≡ x = ap (λ r. r ++ drop (suc j) x) (sym parts) ∙ take-append-drop (suc j) x in
-    subst IsUtf8 (sym parts) (cut_behind (take j x) (drop (suc j) x) (slice_index x j) s (subst IsUtf8 (sym whole) u) (subst (λ y. ScansTo y s) parts e) n)
+    subst IsUtf8 (sym parts) (cut_after (take j x) (drop (suc j) x) (slice_index x j) s (subst IsUtf8 (sym whole) u) (subst (λ y. ScansTo y s) parts e) n)
 
 -- a scan that stops stands outside quotes
 pub stops_outside : (s : Scan) (b : ℕ) → scan_step s b ≡ None → InQuotes s.part → ⊥

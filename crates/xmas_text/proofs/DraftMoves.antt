@@ -13,17 +13,17 @@ use Rattle.xmas_text.specs.Spots.{Frame, Head, Place, at_first, at_more, Before,
 use Rattle.xmas_text.specs.Parsed.{var_at, keys_at, items_at, cond_at, conds_at}
 use Rattle.xmas_text.specs.Drafts.{BuiltForm}
 use Rattle.xmas_text.specs.Shifted.{draft, with_items, grouped_in, item_with, shifted}
-use Rattle.xmas_text.specs.Drafted.{level_place, front_at, last_at, brace_place, head_place, before_place, conds_before, in_template, in_conds, draft_of}
+use Rattle.xmas_text.specs.Drafted.{level_place, prefix_at, last_at, brace_place, head_place, before_place, conds_before, in_template, in_conds, draft_of}
 use Rattle.xmas_tokens.specs.Lexemes.{lexeme_of}
 use Rattle.xmas_text.proofs.Texts.{IsPlace, IsSpot}
 use Rattle.xmas_text.proofs.Lengths.{spot_end}
 
--- the draft behind a token is that of the spot behind it
+-- the draft after a token is that of the spot after it
 abbrev pub Drafts : Spot → List ℕ → Token → Type 0
 Drafts s g t = draft_of (shift s g t) ≡ shifted (draft_of s) (spot_end s + length g) (lexeme_of t)
 
 -- items up to the last one
-items_split : (at : ℕ) (xs : Items) → IsTrue (may_group xs) → items_at at xs ≡ front_at at xs ++ last_at at xs ∷ []
+items_split : (at : ℕ) (xs : Items) → IsTrue (may_group xs) → items_at at xs ≡ prefix_at at xs ++ last_at at xs ∷ []
 items_split at nothing h = cc
 items_split at (variable b g k absent) h = refl
 items_split at (variable b g k (braced e ks f)) h = cc
@@ -31,17 +31,17 @@ items_split at (literal b g ps) h = cc
 items_split at (element b g n i j c absent) h = refl
 items_split at (element b g n i j c (braced e ks f)) h = cc
 
--- the brace behind the last of some items
-brace_behind : (b : BuiltForm) (is front : List ItemText) (last : ItemText) (at : ℕ) → is ≡ front ++ last ∷ []
-    → draft (with_items b b.open_elements front) (pending.Keys last (record { at = at; keys = [] })) ≡ grouped_in b (reverse is) at
-brace_behind b is front last at e =
-    ap (λ xs. draft (with_items b b.open_elements xs) (pending.Keys last (record { at = at; keys = [] }))) (sym (reverse-reverse front))
-    ∙ ap (λ xs. grouped_in b xs at) (sym (ap reverse e ∙ reverse-append front (last ∷ [])))
+-- the brace after the last of some items
+brace_after : (b : BuiltForm) (is prefix : List ItemText) (last : ItemText) (at : ℕ) → is ≡ prefix ++ last ∷ []
+    → draft (with_items b b.open_elements prefix) (pending.Keys last (record { at = at; keys = [] })) ≡ grouped_in b (reverse is) at
+brace_after b is prefix last at e =
+    ap (λ xs. draft (with_items b b.open_elements xs) (pending.Keys last (record { at = at; keys = [] }))) (sym (reverse-reverse prefix))
+    ∙ ap (λ xs. grouped_in b xs at) (sym (ap reverse e ∙ reverse-append prefix (last ∷ [])))
 
 -- the brace that closes it
 brace_closed : (at : ℕ) (xs : Items) (g : List ℕ) (ks : Keys) (h : List ℕ) → IsTrue (may_group xs)
     → items_at at (with_group xs (braced g ks h))
-    ≡ front_at at xs ++ item_with (last_at at xs) (record { at = at + length (items_text xs) + length g; keys = keys_at (at + length (items_text xs) + length g + 1) ks }) ∷ []
+    ≡ prefix_at at xs ++ item_with (last_at at xs) (record { at = at + length (items_text xs) + length g; keys = keys_at (at + length (items_text xs) + length g + 1) ks }) ∷ []
 brace_closed at nothing g ks h m = cc
 brace_closed at (variable b f (node v) absent) g ks h m = refl
 brace_closed at (variable b f (label e v) absent) g ks h m = refl
@@ -55,11 +55,11 @@ beginning_drafts : (g : List ℕ) (t : Token) → IsTrue (takes beginning g (kin
 beginning_drafts g (fixed mark.Construct) h = refl
 beginning_drafts g t h = cc
 
--- before the template and behind it
+-- before the template and after it
 outer_drafts : (lead : List ℕ) (xs : Items) (g : List ℕ) (t : Token) → IsTrue (takes (items lead [] xs) g (kind_of t)) → Drafts (items lead [] xs) g t
 outer_drafts lead xs g (open_tag l) h = refl
 outer_drafts lead xs g (fixed mark.OpenBrace) h =
-    brace_behind (in_template lead [] (items_at (level_place lead []) xs)) _ _ _ (brace_place lead [] xs g) (items_split (level_place lead []) xs h)
+    brace_after (in_template lead [] (items_at (level_place lead []) xs)) _ _ _ (brace_place lead [] xs g) (items_split (level_place lead []) xs h)
 outer_drafts lead xs g (fixed mark.Where) h = refl
 outer_drafts lead xs g t h = cc
 
@@ -71,10 +71,10 @@ inner_drafts lead f o xs g (var v) h = refl
 inner_drafts lead f o xs g (quoted ps) h = refl
 inner_drafts lead f o xs g (fixed mark.LabelWord) h = refl
 inner_drafts lead f o xs g (fixed mark.OpenBrace) h =
-    brace_behind (in_template lead (f ∷ o) (items_at (level_place lead (f ∷ o)) xs)) _ _ _ (brace_place lead (f ∷ o) xs g) (items_split (level_place lead (f ∷ o)) xs h)
+    brace_after (in_template lead (f ∷ o) (items_at (level_place lead (f ∷ o)) xs)) _ _ _ (brace_place lead (f ∷ o) xs g) (items_split (level_place lead (f ∷ o)) xs h)
 inner_drafts lead f o xs g t h = cc
 
--- behind `label` as an item
+-- after `label` as an item
 labelled_drafts : (lead : List ℕ) (o : List Frame) (xs : Items) (e g : List ℕ) (t : Token) → IsTrue (takes (labelled lead o xs e) g (kind_of t)) → Drafts (labelled lead o xs e) g t
 labelled_drafts lead o xs e g (var v) h = refl
 labelled_drafts lead o xs e g t h = cc
@@ -84,7 +84,7 @@ first_key : (lead : List ℕ) (o : List Frame) (xs : Items) (e : List ℕ) (ks :
 first_key lead o xs e none g v h =
     let n : brace_place lead o xs e + 1 + length g ≡ brace_place lead o xs e + 1 + length (keys_text none) + length g = omega arith in
     ap
-    (λ k. draft (in_template lead o (front_at (level_place lead o) xs)) (pending.Keys (last_at (level_place lead o) xs) (record { at = brace_place lead o xs e; keys = keyed.Node (var_at k v) ∷ [] })))
+    (λ k. draft (in_template lead o (prefix_at (level_place lead o) xs)) (pending.Keys (last_at (level_place lead o) xs) (record { at = brace_place lead o xs e; keys = keyed.Node (var_at k v) ∷ [] })))
     n
 first_key lead o xs e (first f k) g v h = cc
 first_key lead o xs e (more ks f i k) g v h = cc
@@ -97,20 +97,20 @@ keys_drafts lead o xs e ks g (fixed mark.Comma) m h = refl
 keys_drafts lead o xs e ks g (fixed mark.CloseBrace) m h = ap (λ is. draft (in_template lead o is) pending.Items) (brace_closed (level_place lead o) xs e ks g m)
 keys_drafts lead o xs e ks g t m h = cc
 
--- behind a comma
+-- after a comma
 comma_drafts : (lead : List ℕ) (o : List Frame) (xs : Items) (e : List ℕ) (ks : Keys) (f g : List ℕ) (t : Token) → IsTrue (takes (key_comma lead o xs e ks f) g (kind_of t)) → Drafts (key_comma lead o xs e ks f) g t
 comma_drafts lead o xs e ks f g (var v) h = refl
 comma_drafts lead o xs e ks f g (fixed mark.LabelWord) h = refl
 comma_drafts lead o xs e ks f g t h = cc
 
--- behind `label` as a key, which comes first or behind a comma
+-- after `label` as a key, which comes first or after a comma
 placed_label : (lead : List ℕ) (o : List Frame) (xs : Items) (e : List ℕ) (ks : Keys) (p : Place) (f g v : List ℕ) → IsPlace ks p → Drafts (key_label lead o xs e ks p f) g (var v)
 placed_label lead o xs e none at_first f g v i = refl
 placed_label lead o xs e (first h k) at_first f g v i = absurd i
 placed_label lead o xs e (more ks h j k) at_first f g v i = absurd i
 placed_label lead o xs e ks (at_more h) f g v i = refl
 
--- behind `label` as a key
+-- after `label` as a key
 key_label_drafts : (lead : List ℕ) (o : List Frame) (xs : Items) (e : List ℕ) (ks : Keys) (p : Place) (f g : List ℕ) (t : Token) → IsPlace ks p → IsTrue (takes (key_label lead o xs e ks p f) g (kind_of t)) → Drafts (key_label lead o xs e ks p f) g t
 key_label_drafts lead o xs e ks p f g (var v) i h = placed_label lead o xs e ks p f g v i
 key_label_drafts lead o xs e ks p f g t i h = cc
@@ -121,7 +121,7 @@ start_drafts r b g (word n) h = refl
 start_drafts r b g (var v) h = refl
 start_drafts r b g t h = cc
 
--- behind its first word
+-- after its first word
 from_drafts : (r : Head) (b : Before) (e : List ℕ) (s : Start) (g : List ℕ) (t : Token) → IsTrue (takes (cond_from r b e s) g (kind_of t)) → Drafts (cond_from r b e s) g t
 from_drafts r b e s g (path p) h = refl
 from_drafts r b e (by_var v) g (comparison o) h = refl
@@ -137,34 +137,34 @@ path_of : (r : Head) (b : Before) (e : List ℕ) (s : Start) (f : List ℕ) (p :
 path_of r b e (by_name n) f p g v = ap (λ cs. draft (in_conds r cs None) pending.Done) (pushed (head_place r) b e (cond_of (by_name n) f p g v))
 path_of r b e (by_var u) f p g v = ap (λ cs. draft (in_conds r cs None) pending.Done) (pushed (head_place r) b e (cond_of (by_var u) f p g v))
 
--- behind a path
+-- after a path
 path_drafts : (r : Head) (b : Before) (e : List ℕ) (s : Start) (f : List ℕ) (p : paths.Spelled) (g : List ℕ) (t : Token) → IsTrue (takes (cond_path r b e s f p) g (kind_of t)) → Drafts (cond_path r b e s f p) g t
 path_drafts r b e s f p g (var v) h = path_of r b e s f p g v
 path_drafts r b e s f p g t h = cc
 
--- behind an operator
+-- after an operator
 compared_drafts : (r : Head) (b : Before) (e v f : List ℕ) (o : Comparison) (g : List ℕ) (t : Token) → IsTrue (takes (compared r b e v f o) g (kind_of t)) → Drafts (compared r b e v f o) g t
 compared_drafts r b e v f o g (var u) h = ap (λ cs. draft (in_conds r cs None) pending.Done) (pushed (head_place r) b e (compare v f o g (a_variable u)))
 compared_drafts r b e v f o g (quoted ps) h = ap (λ cs. draft (in_conds r cs None) pending.Done) (pushed (head_place r) b e (compare v f o g (a_text ps)))
 compared_drafts r b e v f o g t h = cc
 
--- behind a condition
+-- after a condition
 done_drafts : (r : Head) (cs : Conds) (g : List ℕ) (t : Token) → IsTrue (takes (cond_done r cs) g (kind_of t)) → Drafts (cond_done r cs) g t
 done_drafts r cs g (fixed mark.And) h = refl
 done_drafts r cs g (fixed mark.Order) h = refl
 done_drafts r cs g t h = cc
 
--- behind ORDER
+-- after ORDER
 ordering_drafts : (r : Head) (cs : Conds) (e g : List ℕ) (t : Token) → IsTrue (takes (ordering r cs e) g (kind_of t)) → Drafts (ordering r cs e) g t
 ordering_drafts r cs e g (fixed mark.By) h = refl
 ordering_drafts r cs e g t h = cc
 
--- behind BY
+-- after BY
 by_drafts : (r : Head) (cs : Conds) (e f g : List ℕ) (t : Token) → IsTrue (takes (ordering_by r cs e f) g (kind_of t)) → Drafts (ordering_by r cs e f) g t
 by_drafts r cs e f g (var v) h = refl
 by_drafts r cs e f g t h = cc
 
--- behind the variable that orders
+-- after the variable that orders
 sorted_drafts : (r : Head) (cs : Conds) (o : Order) (g : List ℕ) (t : Token) → IsTrue (takes (sorted r cs o) g (kind_of t)) → Drafts (sorted r cs o) g t
 sorted_drafts r cs (ordered e f j v) g (fixed mark.Desc) h = refl
 sorted_drafts r cs o g t h = cc

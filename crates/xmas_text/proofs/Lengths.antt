@@ -7,7 +7,7 @@ use Rattle.xmas_text.specs.Spots.{Frame, Place, at_first, at_more, Before, first
 use Rattle.xmas_text.specs.Drafted.{level_place, brace_place, head_place, before_place}
 use Rattle.xmas_text.proofs.Texts.{outer_text, base, before_text, start_text, spot_text, IsPlace, IsSpot}
 
--- where a key stands behind `label`
+-- where a key stands after `label`
 abbrev key_label_end : ℕ → Keys → Place → List ℕ → ℕ
 key_label_end at ks at_first f = at + length f + 5
 key_label_end at ks (at_more h) f = at + length (keys_text ks) + length h + 1 + length f + 5
@@ -57,7 +57,7 @@ start_length : (n : ℕ) (s : Start) → n + length (start_text s) ≡ start_end
 start_length n (by_name l) = refl
 start_length n (by_var v) = omega arith
 
--- behind `label` inside a group label
+-- after `label` inside a group label
 key_label_length : (lead : List ℕ) (o : List Frame) (xs : Items) (g : List ℕ) (ks : Keys) (p : Place) (f : List ℕ) → IsPlace ks p
     → length (spot_text (key_label lead o xs g ks p f)) ≡ key_label_end (brace_place lead o xs g + 1) ks p f
 key_label_length lead o xs g none at_first f h = let here = outer_length lead o in simp length-append (omega (arith, here))

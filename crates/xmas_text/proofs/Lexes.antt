@@ -9,7 +9,7 @@ use Rattle.mix_tree.specs.LabelGrammar.{Piece, plain, escape, is_escape, is_plai
 use Rattle.mix_tree.specs.Names.{is_name_byte, IsName}
 use Rattle.xmas_tokens.specs.Lexer.{Lex, between, marking, angle, opening, slash, closing, naming, dollar, varying, quoting, escaping, pathing, ready, comparing, map_path, lex_step}
 use Rattle.xmas_tokens.specs.Lexical.{is_letter, is_word_byte, IsVar}
-use Rattle.xmas_text.specs.Machine.{at, or_behind, step, run}
+use Rattle.xmas_text.specs.Machine.{at, or_after, step, run}
 use Rattle.xmas_text.specs.Spots.{Spot}
 use Rattle.xmas_tokens.specs.Tokens.{open_tag, close_tag, quoted}
 use Rattle.xmas_tokens.specs.declared.token.Mark.{Mark}
@@ -18,19 +18,19 @@ use Rattle.path_expr.specs.Machine as pathing_
 -- where a token goes on, so does the machine
 pub lexes : (s : Spot) (g : List ℕ) (l k : Lex) (b : ℕ) → lex_step l b ≡ Some k → step (at s g l) b ≡ Some (at s g k)
 lexes s g between k b e = none_some k e
-lexes s g (marking m done rest) k b e = ap (or_behind s g (marking m done rest) b) e
-lexes s g (angle p q) k b e = ap (or_behind s g (angle p q) b) e
-lexes s g (opening l) k b e = ap (or_behind s g (opening l) b) e
-lexes s g slash k b e = ap (or_behind s g slash b) e
-lexes s g (closing l) k b e = ap (or_behind s g (closing l) b) e
-lexes s g (naming l) k b e = ap (or_behind s g (naming l) b) e
-lexes s g dollar k b e = ap (or_behind s g dollar b) e
-lexes s g (varying l) k b e = ap (or_behind s g (varying l) b) e
-lexes s g (quoting ps) k b e = ap (or_behind s g (quoting ps) b) e
-lexes s g (escaping ps) k b e = ap (or_behind s g (escaping ps) b) e
-lexes s g (pathing p) k b e = ap (or_behind s g (pathing p) b) e
-lexes s g (comparing j) k b e = ap (or_behind s g (comparing j) b) e
-lexes s g (ready t) k b e = ap (or_behind s g (ready t) b) e
+lexes s g (marking m done rest) k b e = ap (or_after s g (marking m done rest) b) e
+lexes s g (angle p q) k b e = ap (or_after s g (angle p q) b) e
+lexes s g (opening l) k b e = ap (or_after s g (opening l) b) e
+lexes s g slash k b e = ap (or_after s g slash b) e
+lexes s g (closing l) k b e = ap (or_after s g (closing l) b) e
+lexes s g (naming l) k b e = ap (or_after s g (naming l) b) e
+lexes s g dollar k b e = ap (or_after s g dollar b) e
+lexes s g (varying l) k b e = ap (or_after s g (varying l) b) e
+lexes s g (quoting ps) k b e = ap (or_after s g (quoting ps) b) e
+lexes s g (escaping ps) k b e = ap (or_after s g (escaping ps) b) e
+lexes s g (pathing p) k b e = ap (or_after s g (pathing p) b) e
+lexes s g (comparing j) k b e = ap (or_after s g (comparing j) b) e
+lexes s g (ready t) k b e = ap (or_after s g (ready t) b) e
 
 -- a token that grows by bytes of a kind
 grows : (C : List ℕ → Lex) (p : ℕ → Bool) → ((l : List ℕ) (b : ℕ) → IsTrue (p b) → lex_step (C l) b ≡ Some (C (l ++ b ∷ []))) → (s : Spot) (g l x : List ℕ) → IsTrue (list_all p x) → run (at s g (C l)) x ≡ Some (at s g (C (l ++ x)))
@@ -73,7 +73,7 @@ angle_opens q b h = rw (and_false q (b == 47) (name_not_slash b h), h) refl
 slash_closes : (b : ℕ) → IsTrue (is_name_byte b) → lex_step slash b ≡ Some (closing (b ∷ []))
 slash_closes b h = rw h refl
 
--- an opening tag behind its bracket
+-- an opening tag after its bracket
 pub open_read : (q : Bool) (s : Spot) (g l : List ℕ) → IsName l → run (at s g (angle true q)) (l ++ 62 ∷ []) ≡ Some (at s g (ready (open_tag l)))
 open_read q s g [] h = absurd (omega arith)
 open_read q s g (b ∷ l) h =
@@ -81,7 +81,7 @@ open_read q s g (b ∷ l) h =
     run_byte step b (l ++ 62 ∷ []) (at s g (angle true q)) (at s g (opening (b ∷ []))) (lexes s g (angle true q) (opening (b ∷ [])) b (angle_opens q b parts.0))
     ∙ run_then step l (62 ∷ []) (at s g (opening (b ∷ []))) (at s g (opening (b ∷ l))) (grows opening is_name_byte opening_grows s g (b ∷ []) l parts.1)
 
--- a closing tag behind its bracket
+-- a closing tag after its bracket
 pub close_read : (p : Bool) (s : Spot) (g l : List ℕ) → IsName l → run (at s g (angle p true)) (47 ∷ (l ++ 62 ∷ [])) ≡ Some (at s g (ready (close_tag l)))
 close_read p s g [] h = absurd (omega arith)
 close_read p s g (b ∷ l) h =
@@ -89,7 +89,7 @@ close_read p s g (b ∷ l) h =
     run_byte step b (l ++ 62 ∷ []) (at s g slash) (at s g (closing (b ∷ []))) (lexes s g slash (closing (b ∷ [])) b (slash_closes b parts.0))
     ∙ run_then step l (62 ∷ []) (at s g (closing (b ∷ []))) (at s g (closing (b ∷ l))) (grows closing is_name_byte closing_grows s g (b ∷ []) l parts.1)
 
--- a name behind its first byte
+-- a name after its first byte
 pub name_read : (s : Spot) (g : List ℕ) (b : ℕ) (l : List ℕ) → IsTrue (list_all is_name_byte l) → run (at s g (naming (b ∷ []))) l ≡ Some (at s g (naming (b ∷ l)))
 name_read s g b l h = grows naming is_name_byte naming_grows s g (b ∷ []) l h
 
@@ -97,7 +97,7 @@ name_read s g b l h = grows naming is_name_byte naming_grows s g (b ∷ []) l h
 letter_step : (b : ℕ) → IsTrue (is_letter b) → lex_step dollar b ≡ Some (varying (b ∷ []))
 letter_step b h = rw h refl
 
--- a variable behind its $
+-- a variable after its $
 pub var_read : (s : Spot) (g v : List ℕ) → IsVar v → run (at s g dollar) v ≡ Some (at s g (varying v))
 var_read s g [] h = absurd h
 var_read s g (b ∷ v) h =
@@ -112,7 +112,7 @@ plain_step b ps h = by_cases (b == 34) (b == 92) _ _ _ h
     by_cases false true x y z h = cc
     by_cases false false x y z h = refl
 
--- a byte behind a backslash
+-- a byte after a backslash
 escape_step : (b : ℕ) (ps : List Piece) → IsTrue (is_escape b) → lex_step (escaping ps) b ≡ Some (quoting (ps ++ escape b ∷ []))
 escape_step b ps h = rw h refl
 
@@ -128,7 +128,7 @@ quote_goes_on s g ps (escape b ∷ qs) h =
     run_byte step b (inside_quotes qs) (at s g (escaping ps)) (at s g (quoting (ps ++ escape b ∷ []))) (lexes s g (escaping ps) (quoting (ps ++ escape b ∷ [])) b (escape_step b ps parts.0))
     ∙ quote_goes_on s g (ps ++ escape b ∷ []) qs parts.1 ∙ ap (λ r. Some (at s g (quoting r))) (append_assoc ps (escape b ∷ []) qs)
 
--- a quoted label behind its quote
+-- a quoted label after its quote
 pub quote_read : (s : Spot) (g : List ℕ) (ps : List Piece) → ArePieces ps → run (at s g (quoting [])) (inside_quotes ps ++ 34 ∷ []) ≡ Some (at s g (ready (quoted ps)))
 quote_read s g ps h = run_then step (inside_quotes ps) (34 ∷ []) (at s g (quoting [])) (at s g (quoting ps)) (quote_goes_on s g [] ps h)
 
@@ -136,7 +136,7 @@ quote_read s g ps h = run_then step (inside_quotes ps) (34 ∷ []) (at s g (quot
 mark_step : (m : Mark) (done : List ℕ) (c : ℕ) (rest : List ℕ) → lex_step (marking m done (c ∷ rest)) c ≡ Some (marking m (done ++ c ∷ []) rest)
 mark_step m done c rest = let same : (c == c) ≡ true = grind (arith, nat_tests) in rw same refl
 
--- such a token behind its first byte
+-- such a token after its first byte
 pub mark_read : (s : Spot) (g : List ℕ) (m : Mark) (done rest : List ℕ) → run (at s g (marking m done rest)) rest ≡ Some (at s g (marking m (done ++ rest) []))
 mark_read s g m done [] = ap (λ r. Some (at s g (marking m r []))) (sym (append_nil done))
 mark_read s g m done (c ∷ rest) =

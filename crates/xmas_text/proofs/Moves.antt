@@ -8,17 +8,17 @@ use Rattle.xmas_tokens.specs.declared.lexeme.Comparison.{Comparison}
 use Rattle.xmas_text.specs.Grammar.{Conds, braced, Items, nothing, variable, literal, element, Keys, Key, Order, ordered}
 use Rattle.xmas_text.specs.Levels.{levels}
 use Rattle.xmas_tokens.specs.Tokens.{Token, fixed, open_tag, close_tag, word, var, quoted, path, comparison, kind_of}
-use Rattle.xmas_text.specs.Stages.{stage_behind, depth_behind}
+use Rattle.xmas_text.specs.Stages.{stage_after, depth_after}
 use Rattle.xmas_text.specs.Spots.{Frame, Head, Place, at_first, at_more, Before, Start, Spot, beginning, items, labelled, keys, key_comma, key_label, cond_start, cond_from, cond_path, cond_done, compared, ordering, ordering_by, sorted, last_of, may_group, is_none, push_key, with_group, stage_of, frames_of, takes, shift}
-use Rattle.xmas_text.specs.Scans.{levels_around, levels_at, deep_behind}
+use Rattle.xmas_text.specs.Scans.{levels_around, levels_at, deep_after}
 use Rattle.xmas_text.proofs.Texts.{IsSpot}
 use Rattle.xmas_text.proofs.Levels.{around_more, lt_max, with_group_levels}
 
--- the stage, the open elements and the levels behind a token
+-- the stage, the open elements and the levels after a token
 pub record Moves (s : Spot) (g : List ℕ) (t : Token) : Type 0 where
-  pub stage : stage_of (shift s g t) ≡ stage_behind (stage_of s) (kind_of t)
-  pub depth : length (frames_of (shift s g t)) ≡ depth_behind (length (frames_of s)) (kind_of t)
-  pub deep : nat_lt 20 (levels_at (shift s g t)) ≡ deep_behind (nat_lt 20 (levels_at s)) (length (frames_of s)) (kind_of t)
+  pub stage : stage_of (shift s g t) ≡ stage_after (stage_of s) (kind_of t)
+  pub depth : length (frames_of (shift s g t)) ≡ depth_after (length (frames_of s)) (kind_of t)
+  pub deep : nat_lt 20 (levels_at (shift s g t)) ≡ deep_after (nat_lt 20 (levels_at s)) (length (frames_of s)) (kind_of t)
 
 -- one more
 one_more : (n : ℕ) → suc n ≡ n + 1
@@ -28,7 +28,7 @@ one_more n = omega arith
 one_less : (n : ℕ) → n ≡ suc n - 1
 one_less n = omega arith
 
--- the levels behind an opening tag
+-- the levels after an opening tag
 opened : (o : List Frame) (n : ℕ) → nat_lt 20 (levels_around o (max n (1 + 0))) ≡ (nat_lt 20 (levels_around o n) || nat_lt 20 (length o + 1))
 opened o n = ap (λ m. nat_lt 20 m) (around_more o n 1) ∙ lt_max (levels_around o n) (length o + 1)
 
@@ -39,12 +39,12 @@ with_group_last (variable b f k e) g ks h m = refl
 with_group_last (literal b f ps) g ks h m = cc
 with_group_last (element b f n i j c e) g ks h m = refl
 
--- there is a key behind one more
+-- there is a key after one more
 push_some : (ks : Keys) (p : Place) (g : List ℕ) (k : Key) → is_none (push_key ks p g k) ≡ false
 push_some ks at_first g k = refl
 push_some ks (at_more h) g k = refl
 
--- before the template and behind it
+-- before the template and after it
 outer_moves : (lead : List ℕ) (xs : Items) (g : List ℕ) (t : Token) → IsTrue (takes (items lead [] xs) g (kind_of t)) → Moves (items lead [] xs) g t
 outer_moves lead xs g (open_tag l) h = record { stage = refl; depth = one_more 0; deep = opened [] (levels xs) }
 outer_moves lead xs g (fixed mark.OpenBrace) h = record { stage = refl; depth = refl; deep = refl }
@@ -66,7 +66,7 @@ beginning_moves : (g : List ℕ) (t : Token) → IsTrue (takes beginning g (kind
 beginning_moves g (fixed mark.Construct) h = record { stage = refl; depth = refl; deep = refl }
 beginning_moves g t h = cc
 
--- behind `label` as an item
+-- after `label` as an item
 labelled_moves : (lead : List ℕ) (o : List Frame) (xs : Items) (e g : List ℕ) (t : Token) → IsTrue (takes (labelled lead o xs e) g (kind_of t)) → Moves (labelled lead o xs e) g t
 labelled_moves lead o xs e g (var v) h = record { stage = refl; depth = refl; deep = refl }
 labelled_moves lead o xs e g t h = cc
@@ -83,13 +83,13 @@ keys_moves lead o xs e ks g (fixed mark.CloseBrace) m h = record {
 }
 keys_moves lead o xs e ks g t m h = cc
 
--- behind a comma
+-- after a comma
 comma_moves : (lead : List ℕ) (o : List Frame) (xs : Items) (e : List ℕ) (ks : Keys) (f g : List ℕ) (t : Token) → IsTrue (takes (key_comma lead o xs e ks f) g (kind_of t)) → Moves (key_comma lead o xs e ks f) g t
 comma_moves lead o xs e ks f g (var v) h = record { stage = refl; depth = refl; deep = refl }
 comma_moves lead o xs e ks f g (fixed mark.LabelWord) h = record { stage = refl; depth = refl; deep = refl }
 comma_moves lead o xs e ks f g t h = cc
 
--- behind `label` as a key
+-- after `label` as a key
 key_label_moves : (lead : List ℕ) (o : List Frame) (xs : Items) (e : List ℕ) (ks : Keys) (p : Place) (f g : List ℕ) (t : Token) → IsTrue (takes (key_label lead o xs e ks p f) g (kind_of t)) → Moves (key_label lead o xs e ks p f) g t
 key_label_moves lead o xs e ks p f g (var v) h = record { stage = ap stage.Keys (push_some ks p f _); depth = refl; deep = refl }
 key_label_moves lead o xs e ks p f g t h = cc
@@ -100,45 +100,45 @@ start_moves r b g (word n) h = record { stage = refl; depth = refl; deep = refl 
 start_moves r b g (var v) h = record { stage = refl; depth = refl; deep = refl }
 start_moves r b g t h = cc
 
--- behind its first word
+-- after its first word
 from_moves : (r : Head) (b : Before) (e : List ℕ) (s : Start) (g : List ℕ) (t : Token) → IsTrue (takes (cond_from r b e s) g (kind_of t)) → Moves (cond_from r b e s) g t
 from_moves r b e s g (path p) h = record { stage = refl; depth = refl; deep = refl }
 from_moves r b e s g (comparison o) h = record { stage = refl; depth = refl; deep = refl }
 from_moves r b e s g t h = cc
 
--- behind a path
+-- after a path
 path_moves : (r : Head) (b : Before) (e : List ℕ) (s : Start) (f : List ℕ) (p : Spelled) (g : List ℕ) (t : Token) → IsTrue (takes (cond_path r b e s f p) g (kind_of t)) → Moves (cond_path r b e s f p) g t
 path_moves r b e s f p g (var v) h = record { stage = refl; depth = refl; deep = refl }
 path_moves r b e s f p g t h = cc
 
--- behind an operator
+-- after an operator
 compared_moves : (r : Head) (b : Before) (e v f : List ℕ) (o : Comparison) (g : List ℕ) (t : Token) → IsTrue (takes (compared r b e v f o) g (kind_of t)) → Moves (compared r b e v f o) g t
 compared_moves r b e v f o g (var u) h = record { stage = refl; depth = refl; deep = refl }
 compared_moves r b e v f o g (quoted ps) h = record { stage = refl; depth = refl; deep = refl }
 compared_moves r b e v f o g t h = cc
 
--- behind a condition
+-- after a condition
 done_moves : (r : Head) (cs : Conds) (g : List ℕ) (t : Token) → IsTrue (takes (cond_done r cs) g (kind_of t)) → Moves (cond_done r cs) g t
 done_moves r cs g (fixed mark.And) h = record { stage = refl; depth = refl; deep = refl }
 done_moves r cs g (fixed mark.Order) h = record { stage = refl; depth = refl; deep = refl }
 done_moves r cs g t h = cc
 
--- behind ORDER
+-- after ORDER
 ordering_moves : (r : Head) (cs : Conds) (e g : List ℕ) (t : Token) → IsTrue (takes (ordering r cs e) g (kind_of t)) → Moves (ordering r cs e) g t
 ordering_moves r cs e g (fixed mark.By) h = record { stage = refl; depth = refl; deep = refl }
 ordering_moves r cs e g t h = cc
 
--- behind BY
+-- after BY
 by_moves : (r : Head) (cs : Conds) (e f g : List ℕ) (t : Token) → IsTrue (takes (ordering_by r cs e f) g (kind_of t)) → Moves (ordering_by r cs e f) g t
 by_moves r cs e f g (var v) h = record { stage = refl; depth = refl; deep = refl }
 by_moves r cs e f g t h = cc
 
--- behind the variable that orders
+-- after the variable that orders
 sorted_moves : (r : Head) (cs : Conds) (o : Order) (g : List ℕ) (t : Token) → IsTrue (takes (sorted r cs o) g (kind_of t)) → Moves (sorted r cs o) g t
 sorted_moves r cs (ordered e f j v) g (fixed mark.Desc) h = record { stage = refl; depth = refl; deep = refl }
 sorted_moves r cs o g t h = cc
 
--- a group label stands behind an item that may have one
+-- a group label stands after an item that may have one
 abbrev pub MayGroup : Spot → Type 0
 MayGroup (keys lead o xs g ks) = IsTrue (may_group xs)
 MayGroup s = Unit {0}

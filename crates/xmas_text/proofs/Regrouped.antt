@@ -1,71 +1,71 @@
--- The text of a spot with a gap and a token behind it, part by part.
+-- The text of a spot with a gap and a token after it, part by part.
 use Rattle.std.proofs.Common.{◌≡◌, ℕ, List, [], ◌++◌, append_assoc}
 use Rattle.mix_base.proofs.Lists.{append_nil}
 
 -- a spot below one that is whole
-pub behind_base : (lead c o x g t : List ℕ) → lead ++ (c ++ (o ++ (x ++ (g ++ t)))) ≡ (lead ++ (c ++ (o ++ x))) ++ (g ++ t)
-behind_base lead c o x g t = simp append_assoc
+pub after_base : (lead c o x g t : List ℕ) → lead ++ (c ++ (o ++ (x ++ (g ++ t)))) ≡ (lead ++ (c ++ (o ++ x))) ++ (g ++ t)
+after_base lead c o x g t = simp append_assoc
 
--- a text with an opening tag behind it, part by part
+-- a text with an opening tag after it, part by part
 pub open_text : (lead c o x g t : List ℕ) → lead ++ (c ++ ((o ++ (x ++ (g ++ t))) ++ [])) ≡ (lead ++ (c ++ (o ++ x))) ++ (g ++ t)
 open_text lead c o x g t = simp (append_assoc, append_nil)
 
--- a text with a closing tag behind it, part by part
+-- a text with a closing tag after it, part by part
 pub close_text : (lead c o b e p n q x g t : List ℕ) → lead ++ (c ++ (o ++ (b ++ (e ++ (p ++ (n ++ (q ++ (x ++ (g ++ t))))))))) ≡ (lead ++ (c ++ ((o ++ (b ++ (e ++ (p ++ (n ++ q))))) ++ x))) ++ (g ++ t)
 close_text lead c o b e p n q x g t = simp append_assoc
 
--- a text with a variable behind it, part by part
+-- a text with a variable after it, part by part
 pub var_text : (lead c o x g t : List ℕ) → lead ++ (c ++ (o ++ (x ++ (g ++ (t ++ []))))) ≡ (lead ++ (c ++ (o ++ x))) ++ (g ++ t)
 var_text lead c o x g t = simp (append_assoc, append_nil)
 
--- a text with WHERE behind it, part by part
-pub where_behind : (lead c x g w : List ℕ) → (lead ++ (c ++ (x ++ (g ++ w)))) ++ [] ≡ (lead ++ (c ++ x)) ++ (g ++ w)
-where_behind lead c x g w = simp (append_assoc, append_nil)
+-- a text with WHERE after it, part by part
+pub where_after : (lead c x g w : List ℕ) → (lead ++ (c ++ (x ++ (g ++ w)))) ++ [] ≡ (lead ++ (c ++ x)) ++ (g ++ w)
+where_after lead c x g w = simp (append_assoc, append_nil)
 
--- a text with `label` and a variable behind it, part by part
-pub label_behind : (lead c o x h l g t : List ℕ) → lead ++ (c ++ (o ++ (x ++ (h ++ ((l ++ (g ++ t)) ++ []))))) ≡ ((lead ++ (c ++ (o ++ x))) ++ (h ++ l)) ++ (g ++ t)
-label_behind lead c o x h l g t = simp (append_assoc, append_nil)
+-- a text with `label` and a variable after it, part by part
+pub label_after : (lead c o x h l g t : List ℕ) → lead ++ (c ++ (o ++ (x ++ (h ++ ((l ++ (g ++ t)) ++ []))))) ≡ ((lead ++ (c ++ (o ++ x))) ++ (h ++ l)) ++ (g ++ t)
+label_after lead c o x h l g t = simp (append_assoc, append_nil)
 
 -- a text inside a group label, part by part
-pub key_behind : (base h p k g t : List ℕ) → base ++ (h ++ (p ++ (k ++ (g ++ t)))) ≡ (base ++ (h ++ (p ++ k))) ++ (g ++ t)
-key_behind base h p k g t = simp append_assoc
+pub key_after : (base h p k g t : List ℕ) → base ++ (h ++ (p ++ (k ++ (g ++ t)))) ≡ (base ++ (h ++ (p ++ k))) ++ (g ++ t)
+key_after base h p k g t = simp append_assoc
 
--- a text behind a group label, part by part
-pub brace_behind : (lead c o x h p k g t : List ℕ) → lead ++ (c ++ (o ++ (x ++ (h ++ (p ++ (k ++ (g ++ t))))))) ≡ ((lead ++ (c ++ (o ++ x))) ++ (h ++ (p ++ k))) ++ (g ++ t)
-brace_behind lead c o x h p k g t = simp append_assoc
+-- a text after a group label, part by part
+pub brace_after : (lead c o x h p k g t : List ℕ) → lead ++ (c ++ (o ++ (x ++ (h ++ (p ++ (k ++ (g ++ t))))))) ≡ ((lead ++ (c ++ (o ++ x))) ++ (h ++ (p ++ k))) ++ (g ++ t)
+brace_after lead c o x h p k g t = simp append_assoc
 
--- a text with a key behind a comma, part by part
-pub more_behind : (base h p k e m g t : List ℕ) → base ++ (h ++ (p ++ (k ++ (e ++ (m ++ (g ++ t)))))) ≡ (base ++ (h ++ (p ++ (k ++ (e ++ m))))) ++ (g ++ t)
-more_behind base h p k e m g t = simp append_assoc
+-- a text with a key after a comma, part by part
+pub more_after : (base h p k e m g t : List ℕ) → base ++ (h ++ (p ++ (k ++ (e ++ (m ++ (g ++ t)))))) ≡ (base ++ (h ++ (p ++ (k ++ (e ++ m))))) ++ (g ++ t)
+more_after base h p k e m g t = simp append_assoc
 
--- a text with `label` behind a comma, part by part
+-- a text with `label` after a comma, part by part
 pub comma_label : (base h p k e m g t : List ℕ) → base ++ (h ++ (p ++ (k ++ ((e ++ m) ++ (g ++ t))))) ≡ (base ++ (h ++ (p ++ (k ++ (e ++ m))))) ++ (g ++ t)
 comma_label base h p k e m g t = simp append_assoc
 
--- a text with a variable behind `label` in a group label, part by part
-pub place_behind : (base h p k e m l g t : List ℕ) → base ++ (h ++ (p ++ (k ++ (e ++ (m ++ (l ++ (g ++ t))))))) ≡ (base ++ (h ++ (p ++ (k ++ (e ++ (m ++ l)))))) ++ (g ++ t)
-place_behind base h p k e m l g t = simp append_assoc
+-- a text with a variable after `label` in a group label, part by part
+pub place_after : (base h p k e m l g t : List ℕ) → base ++ (h ++ (p ++ (k ++ (e ++ (m ++ (l ++ (g ++ t))))))) ≡ (base ++ (h ++ (p ++ (k ++ (e ++ (m ++ l)))))) ++ (g ++ t)
+place_after base h p k e m l g t = simp append_assoc
 
 -- two parts before a token
-pub two_behind : (a b g t : List ℕ) → a ++ (b ++ (g ++ t)) ≡ (a ++ b) ++ (g ++ t)
-two_behind a b g t = simp append_assoc
+pub two_after : (a b g t : List ℕ) → a ++ (b ++ (g ++ t)) ≡ (a ++ b) ++ (g ++ t)
+two_after a b g t = simp append_assoc
 
 -- four parts before a token
-pub four_behind : (a b h s g t : List ℕ) → a ++ (b ++ (h ++ (s ++ (g ++ t)))) ≡ (a ++ (b ++ (h ++ s))) ++ (g ++ t)
-four_behind a b h s g t = simp append_assoc
+pub four_after : (a b h s g t : List ℕ) → a ++ (b ++ (h ++ (s ++ (g ++ t)))) ≡ (a ++ (b ++ (h ++ s))) ++ (g ++ t)
+four_after a b h s g t = simp append_assoc
 
 -- six parts before a token
-pub six_behind : (a b h s e p g t : List ℕ) → a ++ (b ++ (h ++ (s ++ (e ++ (p ++ (g ++ t)))))) ≡ (a ++ (b ++ (h ++ (s ++ (e ++ p))))) ++ (g ++ t)
-six_behind a b h s e p g t = simp append_assoc
+pub six_after : (a b h s e p g t : List ℕ) → a ++ (b ++ (h ++ (s ++ (e ++ (p ++ (g ++ t)))))) ≡ (a ++ (b ++ (h ++ (s ++ (e ++ p))))) ++ (g ++ t)
+six_after a b h s e p g t = simp append_assoc
 
--- a text with BY behind it, part by part
-pub order_behind : (a b c d g t : List ℕ) → a ++ (b ++ (c ++ (d ++ (g ++ t)))) ≡ (a ++ (b ++ (c ++ d))) ++ (g ++ t)
-order_behind a b c d g t = simp append_assoc
+-- a text with BY after it, part by part
+pub order_after : (a b c d g t : List ℕ) → a ++ (b ++ (c ++ (d ++ (g ++ t)))) ≡ (a ++ (b ++ (c ++ d))) ++ (g ++ t)
+order_after a b c d g t = simp append_assoc
 
--- a text with the variable that orders behind it, part by part
-pub by_behind : (a b c d e f g t : List ℕ) → a ++ (b ++ (c ++ (d ++ (e ++ (f ++ (g ++ t)))))) ≡ (a ++ (b ++ (c ++ (d ++ (e ++ f))))) ++ (g ++ t)
-by_behind a b c d e f g t = simp append_assoc
+-- a text with the variable that orders after it, part by part
+pub by_after : (a b c d e f g t : List ℕ) → a ++ (b ++ (c ++ (d ++ (e ++ (f ++ (g ++ t)))))) ≡ (a ++ (b ++ (c ++ (d ++ (e ++ f))))) ++ (g ++ t)
+by_after a b c d e f g t = simp append_assoc
 
--- a text with DESC behind it, part by part
-pub sorted_behind : (a b o g t : List ℕ) → a ++ (b ++ (o ++ (g ++ t))) ≡ (a ++ (b ++ o)) ++ (g ++ t)
-sorted_behind a b o g t = simp append_assoc
+-- a text with DESC after it, part by part
+pub sorted_after : (a b o g t : List ℕ) → a ++ (b ++ (o ++ (g ++ t))) ≡ (a ++ (b ++ o)) ++ (g ++ t)
+sorted_after a b o g t = simp append_assoc

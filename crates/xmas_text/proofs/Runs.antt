@@ -5,7 +5,7 @@ use Rattle.mix_base.proofs.Lists.{append_nil}
 use Rattle.xmas_text.specs.Grammar.{Rule, Writes, items_text, conds_text, order_text, construct_text, where_text}
 use Rattle.xmas_tokens.specs.Lexer.{Lex, between, marking, angle, opening, slash, closing, naming, dollar, varying, quoting, escaping, pathing, ready, comparing, lex_step, token_in, begin}
 use Rattle.xmas_tokens.specs.Lexical.{is_blank, IsBlanks}
-use Rattle.xmas_text.specs.Machine.{State, at, with_lex, next, behind, or_behind, step_in, step, run, rule_at, rule_behind, whole_in, whole, start, read_of}
+use Rattle.xmas_text.specs.Machine.{State, at, with_lex, next, after, or_after, step_in, step, run, rule_at, rule_after, whole_in, whole, start, read_of}
 use Rattle.xmas_text.specs.Spots.{Spot, cond_done, sorted, takes, shift}
 use Rattle.xmas_tokens.specs.Tokens.{Token}
 use Rattle.xmas_text.proofs.Texts.{spot_text, IsSpot}
@@ -46,17 +46,17 @@ next_stands x s g b h k e =
     })
     (λ n. with_lex_stands x s g b (begin (takes s g) b) h k e (begin_goes (takes s g) b))
 
--- a byte behind a token
-behind_stands : (x : List ℕ) (s : Spot) (g : List ℕ) (l : Lex) (o : Option Token) (b : ℕ) → token_in l ≡ o → Stands x (at s g l) → Gives (Stands (x ++ b ∷ [])) (behind s g o b)
-behind_stands x s g l None b e h = tt
-behind_stands x s g l (Some t) b e h =
+-- a byte after a token
+after_stands : (x : List ℕ) (s : Spot) (g : List ℕ) (l : Lex) (o : Option Token) (b : ℕ) → token_in l ≡ o → Stands x (at s g l) → Gives (Stands (x ++ b ∷ [])) (after s g o b)
+after_stands x s g l None b e h = tt
+after_stands x s g l (Some t) b e h =
     let k = token_ended (takes s g) l t h.lex h.offered e in
     let n = shifts s g t h.spot h.gap k.is k.taken in
     next_stands x (shift s g t) [] b n.is refl (append_nil _ ∙ n.text ∙ ap (λ r. spot_text s ++ (g ++ r)) k.text ∙ h.text)
 
--- a byte that goes on, or stands behind a token
-lex_stands : (x : List ℕ) (s : Spot) (g : List ℕ) (l : Lex) (b : ℕ) (o : Option Lex) → Stands x (at s g l) → Gives (Goes (takes s g) (lex_text l ++ b ∷ [])) o → Gives (Stands (x ++ b ∷ [])) (or_behind s g l b o)
-lex_stands x s g l b None h k = behind_stands x s g l (token_in l) b refl h
+-- a byte that goes on, or stands after a token
+lex_stands : (x : List ℕ) (s : Spot) (g : List ℕ) (l : Lex) (b : ℕ) (o : Option Lex) → Stands x (at s g l) → Gives (Goes (takes s g) (lex_text l ++ b ∷ [])) o → Gives (Stands (x ++ b ∷ [])) (or_after s g l b o)
+lex_stands x s g l b None h k = after_stands x s g l (token_in l) b refl h
 lex_stands x s g l b (Some m) h k = record {
   spot = h.spot;
   gap = h.gap;
@@ -69,7 +69,7 @@ lex_stands x s g l b (Some m) h k = record {
     regrouped a c d e = simp append_assoc
 
 -- the same, by what the token at hand does
-lexed : (x : List ℕ) (s : Spot) (g : List ℕ) (l : Lex) (b : ℕ) → Stands x (at s g l) → Gives (Stands (x ++ b ∷ [])) (or_behind s g l b (lex_step l b))
+lexed : (x : List ℕ) (s : Spot) (g : List ℕ) (l : Lex) (b : ℕ) → Stands x (at s g l) → Gives (Stands (x ++ b ∷ [])) (or_after s g l b (lex_step l b))
 lexed x s g l b h = lex_stands x s g l b (lex_step l b) h (lex_goes (takes s g) l b h.lex h.offered)
 
 -- one more byte
@@ -126,10 +126,10 @@ at_writes x (sorted h cs o) g r i b t e =
     )
 at_writes x s g r i b t e = none_some r e
 
--- so is the rule that may end behind a token
-behind_writes : (x : List ℕ) (s : Spot) (g : List ℕ) (l : Lex) (o : Option Token) (r : Rule) → token_in l ≡ o → Stands x (at s g l) → rule_behind s g o ≡ Some r → Writes x r
-behind_writes x s g l None r e h w = none_some r w
-behind_writes x s g l (Some t) r e h w =
+-- so is the rule that may end after a token
+after_writes : (x : List ℕ) (s : Spot) (g : List ℕ) (l : Lex) (o : Option Token) (r : Rule) → token_in l ≡ o → Stands x (at s g l) → rule_after s g o ≡ Some r → Writes x r
+after_writes x s g l None r e h w = none_some r w
+after_writes x s g l (Some t) r e h w =
     let k = token_ended (takes s g) l t h.lex h.offered e in
     let n = shifts s g t h.spot h.gap k.is k.taken in
     at_writes x (shift s g t) [] r n.is refl (append_nil _ ∙ n.text ∙ ap (λ r. spot_text s ++ (g ++ r)) k.text ∙ h.text) w
@@ -137,19 +137,19 @@ behind_writes x s g l (Some t) r e h w =
 -- so is the rule that has been read
 pub whole_writes : (x : List ℕ) (s : Spot) (g : List ℕ) (l : Lex) (r : Rule) → Stands x (at s g l) → whole_in s g l ≡ Some r → Writes x r
 whole_writes x s g between r h e = at_writes x s g r h.spot h.gap (ap (λ r. spot_text s ++ r) (sym (append_nil g)) ∙ h.text) e
-whole_writes x s g (marking m done rest) r h e = behind_writes x s g (marking m done rest) _ r refl h e
+whole_writes x s g (marking m done rest) r h e = after_writes x s g (marking m done rest) _ r refl h e
 whole_writes x s g (angle p q) r h e = none_some r e
 whole_writes x s g (opening l) r h e = none_some r e
 whole_writes x s g slash r h e = none_some r e
 whole_writes x s g (closing l) r h e = none_some r e
-whole_writes x s g (naming l) r h e = behind_writes x s g (naming l) _ r refl h e
+whole_writes x s g (naming l) r h e = after_writes x s g (naming l) _ r refl h e
 whole_writes x s g dollar r h e = none_some r e
-whole_writes x s g (varying l) r h e = behind_writes x s g (varying l) _ r refl h e
+whole_writes x s g (varying l) r h e = after_writes x s g (varying l) _ r refl h e
 whole_writes x s g (quoting ps) r h e = none_some r e
 whole_writes x s g (escaping ps) r h e = none_some r e
-whole_writes x s g (pathing p) r h e = behind_writes x s g (pathing p) _ r refl h e
-whole_writes x s g (comparing k) r h e = behind_writes x s g (comparing k) _ r refl h e
-whole_writes x s g (ready t) r h e = behind_writes x s g (ready t) _ r refl h e
+whole_writes x s g (pathing p) r h e = after_writes x s g (pathing p) _ r refl h e
+whole_writes x s g (comparing k) r h e = after_writes x s g (comparing k) _ r refl h e
+whole_writes x s g (ready t) r h e = after_writes x s g (ready t) _ r refl h e
 
 -- the same, from an option
 read_from : (x : List ℕ) (s : Option State) (r : Rule) → Gives (Stands x) s → option_and_then whole s ≡ Some r → Writes x r

@@ -1,4 +1,4 @@
--- A token that may come is written behind its spot.
+-- A token that may come is written after its spot.
 use Rattle.std.specs.Prelude.{codes}
 use Rattle.std.proofs.Common.{not, ◌≡◌, ◌∙◌, ℕ, IsTrue, List, [], ◌∷◌, ◌++◌, refl, sym, ap, append_assoc}
 use Rattle.mix_base.proofs.Choices.{and_parts}
@@ -12,9 +12,9 @@ use Rattle.xmas_tokens.specs.declared.lexeme.Comparison.{Comparison}
 use Rattle.xmas_tokens.specs.declared.token.Mark.TheVariants as mark
 use Rattle.path_expr.specs.Grammar as paths
 use Rattle.xmas_text.proofs.Texts.{outer_text, base, head_text, label_text, place_text, before_text, start_text, spot_text, IsTop, Level, IsPlace, IsBefore, IsStart, IsSpot}
-use Rattle.xmas_text.proofs.Regrouped.{behind_base, open_text, close_text, var_text, where_behind, label_behind, key_behind, brace_behind, more_behind, comma_label, place_behind, two_behind, four_behind, six_behind, order_behind, by_behind, sorted_behind}
+use Rattle.xmas_text.proofs.Regrouped.{after_base, open_text, close_text, var_text, where_after, label_after, key_after, brace_after, more_after, comma_label, place_after, two_after, four_after, six_after, order_after, by_after, sorted_after}
 
--- the spot behind a token is well formed, and its text is that of the spot, the gap and the token
+-- the spot after a token is well formed, and its text is that of the spot, the gap and the token
 pub record Shifts (s : Spot) (g : List ℕ) (t : Token) : Type 0 where
   pub is : IsSpot (shift s g t)
   pub text : spot_text (shift s g t) ≡ spot_text s ++ (g ++ token_text t)
@@ -24,7 +24,7 @@ gap_of : (g : List ℕ) → IsBlanks g → IsTrue (has_blank g) → IsGap g
 gap_of [] h k = cc
 gap_of (b ∷ g) h k = h
 
--- blanks that an item may stand behind
+-- blanks that an item may stand after
 item_gap_of : (xs : Items) (g : List ℕ) → IsBlanks g → IsTrue (item_gap xs g) → IsItemGap xs g
 item_gap_of nothing g h k = h
 item_gap_of (variable before f e i) g h k = gap_of g h k
@@ -45,7 +45,7 @@ template_of (variable before f e i) h k = absurd h
 template_of (literal before f ps) h k = absurd h
 template_of (element before f n i e c j) h k = h
 
--- the text of items with a group label behind the last
+-- the text of items with a group label after the last
 with_group_text : (xs : Items) (e : Group) → IsTrue (may_group xs) → items_text (with_group xs e) ≡ items_text xs ++ group_text e
 with_group_text nothing e h = cc
 with_group_text (variable before f k absent) e h = regrouped (items_text before) f (key_text k) (group_text e)
@@ -95,7 +95,7 @@ place_first none h = tt
 place_first (first g k) h = cc
 place_first (more ks g e k) h = cc
 
--- and behind a comma where there is one
+-- and after a comma where there is one
 place_more : (ks : Keys) (h : List ℕ) → HasKeys ks → IsBlanks h → IsPlace ks (at_more h)
 place_more none h k b = absurd k
 place_more (first g j) h k b = b
@@ -157,7 +157,7 @@ beginning_shifts : (g : List ℕ) (t : Token) → IsBlanks g → IsToken t → T
 beginning_shifts g (fixed mark.Construct) b i h = record { is = (b, tt); text = refl }
 beginning_shifts g t b i h = cc
 
--- before the template and behind it
+-- before the template and after it
 outer_shifts : (lead : List ℕ) (xs : Items) (g : List ℕ) (t : Token) → IsSpot (items lead [] xs) → IsBlanks g → IsToken t → Taken (items lead [] xs) g t → Shifts (items lead [] xs) g t
 outer_shifts lead xs g (open_tag l) s b i h =
     let parts = and_parts (is_nothing xs) (has_blank g) h in record {
@@ -168,11 +168,11 @@ outer_shifts lead xs g (fixed mark.OpenBrace) s b i h = record { is = (s.0, s.1,
 outer_shifts lead xs g (fixed mark.Where) s b i h =
     let parts = and_parts (not (is_nothing xs)) (has_blank g) h in record {
       is = ((s.0, template_of xs s.1 parts.0, gap_of g b parts.1), tt);
-      text = where_behind lead construct_text (items_text xs) g where_text;
+      text = where_after lead construct_text (items_text xs) g where_text;
     }
 outer_shifts lead xs g t s b i h = cc
 
--- the spot behind a closing tag
+-- the spot after a closing tag
 closed_is : (lead : List ℕ) (f : Frame) (o : List Frame) (xs : Items) (g l : List ℕ) → IsBlanks lead → Level (f ∷ o) xs → IsBlanks g → IsName l → IsSpot (items lead o (element f.before f.gap f.name xs g l absent))
 closed_is lead f [] xs g l a s b i = (a, (s.2.0, s.2.1, s.1, s.0, b, i, tt))
 closed_is lead f (e ∷ o) xs g l a s b i = (a, ((s.3.0, s.2, s.1, s.0, b, i, tt), s.3.1, s.3.2, s.3.3))
@@ -195,23 +195,23 @@ inner_shifts lead f o xs g (var v) s b i h = record {
 }
 inner_shifts lead f o xs g (quoted ps) s b i h = record {
   is = (s.0, ((s.1.0, item_gap_of xs g b h, i), s.1.1, s.1.2, s.1.3));
-  text = behind_base lead construct_text (outer_text (f ∷ o)) (items_text xs) g (quoted_text ps);
+  text = after_base lead construct_text (outer_text (f ∷ o)) (items_text xs) g (quoted_text ps);
 }
 inner_shifts lead f o xs g (fixed mark.LabelWord) s b i h = record { is = (s.0, s.1, tt, item_gap_of xs g b h); text = refl }
 inner_shifts lead f o xs g (fixed mark.OpenBrace) s b i h = record { is = (s.0, s.1, h, b, tt); text = refl }
 inner_shifts lead f o xs g t s b i h = cc
 
--- the spot behind `label` and a variable
+-- the spot after `label` and a variable
 labelled_is : (lead : List ℕ) (o : List Frame) (xs : Items) (e g v : List ℕ) → IsSpot (labelled lead o xs e) → IsGap g → IsVar v → IsSpot (items lead o (variable xs e (label g v) absent))
 labelled_is lead [] xs e g v s b i = absurd s.2
 labelled_is lead (f ∷ o) xs e g v s b i = (s.0, ((s.1.0, s.3, (b, i), tt), s.1.1, s.1.2, s.1.3))
 
--- behind `label` as an item
+-- after `label` as an item
 labelled_shifts : (lead : List ℕ) (o : List Frame) (xs : Items) (e g : List ℕ) (t : Token) → IsSpot (labelled lead o xs e) → IsBlanks g → IsToken t → Taken (labelled lead o xs e) g t
     → Shifts (labelled lead o xs e) g t
 labelled_shifts lead o xs e g (var v) s b i h = record {
   is = labelled_is lead o xs e g v s (gap_of g b h) i;
-  text = label_behind lead construct_text (outer_text o) (items_text xs) e label_text g (token_text (var v));
+  text = label_after lead construct_text (outer_text o) (items_text xs) e label_text g (token_text (var v));
 }
 labelled_shifts lead o xs e g t s b i h = cc
 
@@ -222,30 +222,30 @@ keys_shifts lead o xs e ks g (var v) s b i h = record {
   is = (s.0, s.1, s.2, s.3, (b, i));
   text =
       ap (λ r. base lead o xs ++ (e ++ 123 ∷ r)) (first_text ks g (node v) h)
-      ∙ key_behind (base lead o xs) e (123 ∷ []) (keys_text ks) g (token_text (var v));
+      ∙ key_after (base lead o xs) e (123 ∷ []) (keys_text ks) g (token_text (var v));
 }
 keys_shifts lead o xs e ks g (fixed mark.LabelWord) s b i h = record {
   is = (s.0, s.1, s.2, s.3, s.4, place_first ks h, b);
-  text = key_behind (base lead o xs) e (123 ∷ []) (keys_text ks) g label_text;
+  text = key_after (base lead o xs) e (123 ∷ []) (keys_text ks) g label_text;
 }
 keys_shifts lead o xs e ks g (fixed mark.Comma) s b i h = record {
   is = (s.0, s.1, s.2, s.3, s.4, has_keys_of ks h, b);
-  text = key_behind (base lead o xs) e (123 ∷ []) (keys_text ks) g (44 ∷ []);
+  text = key_after (base lead o xs) e (123 ∷ []) (keys_text ks) g (44 ∷ []);
 }
 keys_shifts lead o xs e ks g (fixed mark.CloseBrace) s b i h = record {
   is = (s.0, with_group_level o xs (braced e ks g) s.2 (s.3, s.4, b) s.1);
   text =
       ap (λ r. lead ++ (construct_text ++ (outer_text o ++ r))) (with_group_text xs (braced e ks g) s.2)
-      ∙ brace_behind lead construct_text (outer_text o) (items_text xs) e (123 ∷ []) (keys_text ks) g (125 ∷ []);
+      ∙ brace_after lead construct_text (outer_text o) (items_text xs) e (123 ∷ []) (keys_text ks) g (125 ∷ []);
 }
 keys_shifts lead o xs e ks g t s b i h = cc
 
--- behind a comma
+-- after a comma
 comma_shifts : (lead : List ℕ) (o : List Frame) (xs : Items) (e : List ℕ) (ks : Keys) (f g : List ℕ) (t : Token) → IsSpot (key_comma lead o xs e ks f) → IsBlanks g → IsToken t
     → Taken (key_comma lead o xs e ks f) g t → Shifts (key_comma lead o xs e ks f) g t
 comma_shifts lead o xs e ks f g (var v) s b i h = record {
   is = (s.0, s.1, s.2, s.3, (s.5, s.4, s.6, b, i));
-  text = more_behind (base lead o xs) e (123 ∷ []) (keys_text ks) f (44 ∷ []) g (token_text (var v));
+  text = more_after (base lead o xs) e (123 ∷ []) (keys_text ks) f (44 ∷ []) g (token_text (var v));
 }
 comma_shifts lead o xs e ks f g (fixed mark.LabelWord) s b i h = record {
   is = (s.0, s.1, s.2, s.3, s.4, place_more ks f s.5 s.6, b);
@@ -253,30 +253,30 @@ comma_shifts lead o xs e ks f g (fixed mark.LabelWord) s b i h = record {
 }
 comma_shifts lead o xs e ks f g t s b i h = cc
 
--- behind `label` as a key
+-- after `label` as a key
 key_label_shifts : (lead : List ℕ) (o : List Frame) (xs : Items) (e : List ℕ) (ks : Keys) (p : Place) (f g : List ℕ) (t : Token) → IsSpot (key_label lead o xs e ks p f) → IsBlanks g → IsToken t
     → Taken (key_label lead o xs e ks p f) g t → Shifts (key_label lead o xs e ks p f) g t
 key_label_shifts lead o xs e ks p f g (var v) s b i h = record {
   is = (s.0, s.1, s.2, s.3, push_is ks p f (label g v) s.4 s.5 s.6 (gap_of g b h, i));
   text =
       ap (λ r. base lead o xs ++ (e ++ 123 ∷ r)) (push_text ks p f (label g v) s.5)
-      ∙ place_behind (base lead o xs) e (123 ∷ []) (keys_text ks) (place_text p) f label_text g (token_text (var v));
+      ∙ place_after (base lead o xs) e (123 ∷ []) (keys_text ks) (place_text p) f label_text g (token_text (var v));
 }
 key_label_shifts lead o xs e ks p f g t s b i h = cc
 
 -- where a condition begins
 start_shifts : (r : Head) (c : Before) (g : List ℕ) (t : Token) → IsSpot (cond_start r c) → IsBlanks g → IsToken t → Taken (cond_start r c) g t → Shifts (cond_start r c) g t
-start_shifts r c g (word n) s b i h = record { is = (s.0, s.1, gap_of g b h, i); text = two_behind (head_text r) (before_text c) g n }
-start_shifts r c g (var v) s b i h = record { is = (s.0, s.1, gap_of g b h, i); text = two_behind (head_text r) (before_text c) g (token_text (var v)) }
+start_shifts r c g (word n) s b i h = record { is = (s.0, s.1, gap_of g b h, i); text = two_after (head_text r) (before_text c) g n }
+start_shifts r c g (var v) s b i h = record { is = (s.0, s.1, gap_of g b h, i); text = two_after (head_text r) (before_text c) g (token_text (var v)) }
 start_shifts r c g t s b i h = cc
 
--- behind its first word
+-- after its first word
 from_shifts : (r : Head) (c : Before) (e : List ℕ) (a : Start) (g : List ℕ) (t : Token) → IsSpot (cond_from r c e a) → IsBlanks g → IsToken t → Taken (cond_from r c e a) g t → Shifts (cond_from r c e a) g t
 from_shifts r c e a g (path p) s b i h = record {
   is = (s.0, s.1, s.2, s.3, gap_of g b h, i);
-  text = four_behind (head_text r) (before_text c) e (start_text a) g (paths.text_of p);
+  text = four_after (head_text r) (before_text c) e (start_text a) g (paths.text_of p);
 }
-from_shifts r c e (by_var v) g (comparison o) s b i h = record { is = (s.0, s.1, s.2, s.3, b); text = four_behind (head_text r) (before_text c) e (36 ∷ v) g (op_text o) }
+from_shifts r c e (by_var v) g (comparison o) s b i h = record { is = (s.0, s.1, s.2, s.3, b); text = four_after (head_text r) (before_text c) e (36 ∷ v) g (op_text o) }
 from_shifts r c e a g t s b i h = cc
 
 -- an operand
@@ -284,45 +284,45 @@ operand_shifts : (r : Head) (c : Before) (e v f : List ℕ) (o : Comparison) (g 
     → IsSpot (cond_done r (push_cond c e (compare v f o g a))) × (spot_text (cond_done r (push_cond c e (compare v f o g a))) ≡ spot_text (compared r c e v f o) ++ (g ++ operand_text a))
 operand_shifts r c e v f o g a s b i = (
   (s.0, conds_are c e (compare v f o g a) s.1 s.2 (s.3, s.4, b, i)),
-  ap (λ x. head_text r ++ x) (conds_push c e (compare v f o g a)) ∙ six_behind (head_text r) (before_text c) e (36 ∷ v) f (op_text o) g (operand_text a),
+  ap (λ x. head_text r ++ x) (conds_push c e (compare v f o g a)) ∙ six_after (head_text r) (before_text c) e (36 ∷ v) f (op_text o) g (operand_text a),
 )
 
--- behind an operator
+-- after an operator
 compared_shifts : (r : Head) (c : Before) (e v f : List ℕ) (o : Comparison) (g : List ℕ) (t : Token) → IsSpot (compared r c e v f o) → IsBlanks g → IsToken t → Taken (compared r c e v f o) g t → Shifts (compared r c e v f o) g t
 compared_shifts r c e v f o g (var u) s b i h = let k = operand_shifts r c e v f o g (a_variable u) s b i in record { is = k.0; text = k.1 }
 compared_shifts r c e v f o g (quoted ps) s b i h = let k = operand_shifts r c e v f o g (a_text ps) s b i in record { is = k.0; text = k.1 }
 compared_shifts r c e v f o g t s b i h = cc
 
--- behind a path
+-- after a path
 path_shifts : (r : Head) (c : Before) (e : List ℕ) (a : Start) (f : List ℕ) (p : paths.Spelled) (g : List ℕ) (t : Token) → IsSpot (cond_path r c e a f p) → IsBlanks g → IsToken t
     → Taken (cond_path r c e a f p) g t → Shifts (cond_path r c e a f p) g t
 path_shifts r c e a f p g (var v) s b i h = record {
   is = (s.0, conds_are c e (cond_of a f p g v) s.1 s.2 (cond_of_is a f p g v s.3 s.4 s.5 (gap_of g b h) i));
   text =
       ap (λ x. head_text r ++ x) (conds_push c e (cond_of a f p g v) ∙ ap (λ x. before_text c ++ (e ++ x)) (cond_of_text a f p g v))
-      ∙ six_behind (head_text r) (before_text c) e (start_text a) f (paths.text_of p) g (token_text (var v));
+      ∙ six_after (head_text r) (before_text c) e (start_text a) f (paths.text_of p) g (token_text (var v));
 }
 path_shifts r c e a f p g t s b i h = cc
 
--- behind a condition
+-- after a condition
 done_shifts : (r : Head) (cs : Conds) (g : List ℕ) (t : Token) → IsSpot (cond_done r cs) → IsBlanks g → IsToken t → Taken (cond_done r cs) g t → Shifts (cond_done r cs) g t
-done_shifts r cs g (fixed mark.And) s b i h = record { is = (s.0, (s.1, gap_of g b h)); text = two_behind (head_text r) (conds_text cs) g (codes "AND") }
-done_shifts r cs g (fixed mark.Order) s b i h = record { is = (s.0, s.1, gap_of g b h); text = two_behind (head_text r) (conds_text cs) g (codes "ORDER") }
+done_shifts r cs g (fixed mark.And) s b i h = record { is = (s.0, (s.1, gap_of g b h)); text = two_after (head_text r) (conds_text cs) g (codes "AND") }
+done_shifts r cs g (fixed mark.Order) s b i h = record { is = (s.0, s.1, gap_of g b h); text = two_after (head_text r) (conds_text cs) g (codes "ORDER") }
 done_shifts r cs g t s b i h = cc
 
--- behind ORDER
+-- after ORDER
 ordering_shifts : (r : Head) (cs : Conds) (e g : List ℕ) (t : Token) → IsSpot (ordering r cs e) → IsBlanks g → IsToken t → Taken (ordering r cs e) g t → Shifts (ordering r cs e) g t
-ordering_shifts r cs e g (fixed mark.By) s b i h = record { is = (s.0, s.1, s.2, gap_of g b h); text = order_behind (head_text r) (conds_text cs) e (codes "ORDER") g (codes "BY") }
+ordering_shifts r cs e g (fixed mark.By) s b i h = record { is = (s.0, s.1, s.2, gap_of g b h); text = order_after (head_text r) (conds_text cs) e (codes "ORDER") g (codes "BY") }
 ordering_shifts r cs e g t s b i h = cc
 
--- behind BY
+-- after BY
 by_shifts : (r : Head) (cs : Conds) (e f g : List ℕ) (t : Token) → IsSpot (ordering_by r cs e f) → IsBlanks g → IsToken t → Taken (ordering_by r cs e f) g t → Shifts (ordering_by r cs e f) g t
-by_shifts r cs e f g (var v) s b i h = record { is = (s.0, s.1, (s.2, s.3, gap_of g b h, i)); text = by_behind (head_text r) (conds_text cs) e (codes "ORDER") f (codes "BY") g (token_text (var v)) }
+by_shifts r cs e f g (var v) s b i h = record { is = (s.0, s.1, (s.2, s.3, gap_of g b h, i)); text = by_after (head_text r) (conds_text cs) e (codes "ORDER") f (codes "BY") g (token_text (var v)) }
 by_shifts r cs e f g t s b i h = cc
 
--- behind the variable that orders
+-- after the variable that orders
 sorted_shifts : (r : Head) (cs : Conds) (o : Order) (g : List ℕ) (t : Token) → IsSpot (sorted r cs o) → IsBlanks g → IsToken t → Taken (sorted r cs o) g t → Shifts (sorted r cs o) g t
-sorted_shifts r cs (ordered e f j v) g (fixed mark.Desc) s b i h = record { is = (s.0, s.1, (s.2.0, s.2.1, s.2.2, s.2.3, gap_of g b h)); text = sorted_behind (head_text r) (conds_text cs) (ordered_text e f j v) g (codes "DESC") }
+sorted_shifts r cs (ordered e f j v) g (fixed mark.Desc) s b i h = record { is = (s.0, s.1, (s.2.0, s.2.1, s.2.2, s.2.3, gap_of g b h)); text = sorted_after (head_text r) (conds_text cs) (ordered_text e f j v) g (codes "DESC") }
 sorted_shifts r cs o g t s b i h = cc
 
 -- each token that may come

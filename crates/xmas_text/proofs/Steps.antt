@@ -9,9 +9,9 @@ use Rattle.xmas_tokens.specs.Tokens.{Token, kind_of}
 use Rattle.xmas_text.specs.Stages.{may_come}
 use Rattle.xmas_text.specs.Spots.{Frame, Spot, has_blank, is_inside, stage_of, frames_of, takes, shift}
 use Rattle.xmas_tokens.specs.Lexer.{Lex, between, marking, angle, opening, slash, closing, naming, dollar, varying, quoting, escaping, pathing, ready, comparing, lex_step, token_in, begin}
-use Rattle.xmas_text.specs.Machine.{State, at, with_lex, next, behind, or_behind, step_in}
+use Rattle.xmas_text.specs.Machine.{State, at, with_lex, next, after, or_after, step_in}
 use Rattle.xmas_tokens.specs.Parts.{part_of, kind_in, first_part}
-use Rattle.xmas_text.specs.Scans.{levels_at, scan_of, scan_behind, with_part, between_step, settled, begun, or_begun, scan_step}
+use Rattle.xmas_text.specs.Scans.{levels_at, scan_of, scan_after, with_part, between_step, settled, begun, or_begun, scan_step}
 use Rattle.xmas_text.proofs.Runs.{Stands}
 use Rattle.xmas_tokens.proofs.Ended.{token_ended}
 use Rattle.xmas_text.proofs.Moves.{Moves, moves, may_group_of}
@@ -25,7 +25,7 @@ inside_count (f ∷ o) = positive (length o)
     positive : (n : ℕ) → true ≡ nat_lt 0 (suc n)
     positive n = grind (arith, nat_tests)
 
--- there is a blank behind one more
+-- there is a blank after one more
 blank_more : (g : List ℕ) (b : ℕ) → has_blank (g ++ b ∷ []) ≡ true
 blank_more [] b = refl
 blank_more (c ∷ g) b = refl
@@ -86,18 +86,18 @@ fresh s n deep = record { stage = s; depth = n; deep = deep; gap = false; part =
 fresh_same : (p q : Stage) (m n : ℕ) (c d : Bool) → p ≡ q → m ≡ n → c ≡ d → fresh p m c ≡ fresh q n d
 fresh_same p q m n c d h k l = ap (λ u. fresh u m c) h ∙ ap (λ u. fresh q u c) k ∙ ap (λ u. fresh q n u) l
 
--- the scan behind a token that may come
-shift_scan : (s : Spot) (g : List ℕ) (l : Lex) (t : Token) → Moves s g t → scan_of (at (shift s g t) [] between) ≡ scan_behind (scan_of (at s g l)) (kind_of t)
+-- the scan after a token that may come
+shift_scan : (s : Spot) (g : List ℕ) (l : Lex) (t : Token) → Moves s g t → scan_of (at (shift s g t) [] between) ≡ scan_after (scan_of (at s g l)) (kind_of t)
 shift_scan s g l t m = fresh_same _ _ _ _ _ _ m.stage m.depth m.deep
 
 -- where a token ends, from an option
-rest_scan_by : (x : List ℕ) (s : Spot) (g : List ℕ) (l : Lex) (o : Option Token) → token_in l ≡ o → Stands x (at s g l) → option_map scan_of (rest_by s g o) ≡ option_map (scan_behind (scan_of (at s g l))) (option_map kind_of o)
+rest_scan_by : (x : List ℕ) (s : Spot) (g : List ℕ) (l : Lex) (o : Option Token) → token_in l ≡ o → Stands x (at s g l) → option_map scan_of (rest_by s g o) ≡ option_map (scan_after (scan_of (at s g l))) (option_map kind_of o)
 rest_scan_by x s g l None e h = refl
 rest_scan_by x s g l (Some t) e h = ap Some (shift_scan s g l t (moves s g t (may_group_of s h.spot) (token_ended (takes s g) l t h.lex h.offered e).taken))
 
 -- where a token ends, as a scan
-rest_token : (x : List ℕ) (s : Spot) (g : List ℕ) (l : Lex) → Stands x (at s g l) → option_map scan_of (rest_by s g (token_in l)) ≡ option_map (scan_behind (scan_of (at s g l))) (kind_in (part_of l))
-rest_token x s g l h = rest_scan_by x s g l (token_in l) refl h ∙ ap (option_map (scan_behind (scan_of (at s g l)))) (kind_part l h.lex)
+rest_token : (x : List ℕ) (s : Spot) (g : List ℕ) (l : Lex) → Stands x (at s g l) → option_map scan_of (rest_by s g (token_in l)) ≡ option_map (scan_after (scan_of (at s g l))) (kind_in (part_of l))
+rest_token x s g l h = rest_scan_by x s g l (token_in l) refl h ∙ ap (option_map (scan_after (scan_of (at s g l)))) (kind_part l h.lex)
 
 -- what a scan keeps where a token ends
 pub rest_scan : (x : List ℕ) (s : Spot) (g : List ℕ) (l : Lex) → Stands x (at s g l) → option_map scan_of (rest_in s g l) ≡ settled (scan_of (at s g l))
@@ -116,44 +116,44 @@ rest_scan x s g (pathing p) h = rest_token x s g (pathing p) h
 rest_scan x s g (ready t) h = rest_token x s g (ready t) h
 rest_scan x s g (comparing k) h = rest_token x s g (comparing k) h
 
--- a byte behind a token
-behind_rest : (s : Spot) (g : List ℕ) (o : Option Token) (b : ℕ) → behind s g o b ≡ option_and_then (λ u. next u.spot u.gap b) (rest_by s g o)
-behind_rest s g None b = refl
-behind_rest s g (Some t) b = refl
+-- a byte after a token
+after_rest : (s : Spot) (g : List ℕ) (o : Option Token) (b : ℕ) → after s g o b ≡ option_and_then (λ u. next u.spot u.gap b) (rest_by s g o)
+after_rest s g None b = refl
+after_rest s g (Some t) b = refl
 
 -- a byte that does not go on
 pub step_rest : (s : Spot) (g : List ℕ) (l : Lex) (b : ℕ) → lex_step l b ≡ None → step_in s g l b ≡ option_and_then (λ u. next u.spot u.gap b) (rest_in s g l)
 step_rest s g between b e = refl
-step_rest s g (marking m done r) b e = ap (or_behind s g (marking m done r) b) e ∙ behind_rest s g (token_in (marking m done r)) b
-step_rest s g (angle o c) b e = ap (or_behind s g (angle o c) b) e
-step_rest s g (opening l) b e = ap (or_behind s g (opening l) b) e
-step_rest s g slash b e = ap (or_behind s g slash b) e
-step_rest s g (closing l) b e = ap (or_behind s g (closing l) b) e
-step_rest s g (naming l) b e = ap (or_behind s g (naming l) b) e ∙ behind_rest s g (token_in (naming l)) b
-step_rest s g dollar b e = ap (or_behind s g dollar b) e
-step_rest s g (varying l) b e = ap (or_behind s g (varying l) b) e ∙ behind_rest s g (token_in (varying l)) b
-step_rest s g (quoting ps) b e = ap (or_behind s g (quoting ps) b) e
-step_rest s g (escaping ps) b e = ap (or_behind s g (escaping ps) b) e
-step_rest s g (pathing p) b e = ap (or_behind s g (pathing p) b) e ∙ behind_rest s g (token_in (pathing p)) b
-step_rest s g (ready t) b e = ap (or_behind s g (ready t) b) e ∙ behind_rest s g (token_in (ready t)) b
-step_rest s g (comparing k) b e = ap (or_behind s g (comparing k) b) e ∙ behind_rest s g (token_in (comparing k)) b
+step_rest s g (marking m done r) b e = ap (or_after s g (marking m done r) b) e ∙ after_rest s g (token_in (marking m done r)) b
+step_rest s g (angle o c) b e = ap (or_after s g (angle o c) b) e
+step_rest s g (opening l) b e = ap (or_after s g (opening l) b) e
+step_rest s g slash b e = ap (or_after s g slash b) e
+step_rest s g (closing l) b e = ap (or_after s g (closing l) b) e
+step_rest s g (naming l) b e = ap (or_after s g (naming l) b) e ∙ after_rest s g (token_in (naming l)) b
+step_rest s g dollar b e = ap (or_after s g dollar b) e
+step_rest s g (varying l) b e = ap (or_after s g (varying l) b) e ∙ after_rest s g (token_in (varying l)) b
+step_rest s g (quoting ps) b e = ap (or_after s g (quoting ps) b) e
+step_rest s g (escaping ps) b e = ap (or_after s g (escaping ps) b) e
+step_rest s g (pathing p) b e = ap (or_after s g (pathing p) b) e ∙ after_rest s g (token_in (pathing p)) b
+step_rest s g (ready t) b e = ap (or_after s g (ready t) b) e ∙ after_rest s g (token_in (ready t)) b
+step_rest s g (comparing k) b e = ap (or_after s g (comparing k) b) e ∙ after_rest s g (token_in (comparing k)) b
 
 -- a byte that goes on
 pub step_on : (s : Spot) (g : List ℕ) (l k : Lex) (b : ℕ) → lex_step l b ≡ Some k → step_in s g l b ≡ Some (at s g k)
 step_on s g between k b e = none_some k e
-step_on s g (marking m done r) k b e = ap (or_behind s g (marking m done r) b) e
-step_on s g (angle p q) k b e = ap (or_behind s g (angle p q) b) e
-step_on s g (opening l) k b e = ap (or_behind s g (opening l) b) e
-step_on s g slash k b e = ap (or_behind s g slash b) e
-step_on s g (closing l) k b e = ap (or_behind s g (closing l) b) e
-step_on s g (naming l) k b e = ap (or_behind s g (naming l) b) e
-step_on s g dollar k b e = ap (or_behind s g dollar b) e
-step_on s g (varying l) k b e = ap (or_behind s g (varying l) b) e
-step_on s g (quoting ps) k b e = ap (or_behind s g (quoting ps) b) e
-step_on s g (escaping ps) k b e = ap (or_behind s g (escaping ps) b) e
-step_on s g (pathing p) k b e = ap (or_behind s g (pathing p) b) e
-step_on s g (comparing j) k b e = ap (or_behind s g (comparing j) b) e
-step_on s g (ready t) k b e = ap (or_behind s g (ready t) b) e
+step_on s g (marking m done r) k b e = ap (or_after s g (marking m done r) b) e
+step_on s g (angle p q) k b e = ap (or_after s g (angle p q) b) e
+step_on s g (opening l) k b e = ap (or_after s g (opening l) b) e
+step_on s g slash k b e = ap (or_after s g slash b) e
+step_on s g (closing l) k b e = ap (or_after s g (closing l) b) e
+step_on s g (naming l) k b e = ap (or_after s g (naming l) b) e
+step_on s g dollar k b e = ap (or_after s g dollar b) e
+step_on s g (varying l) k b e = ap (or_after s g (varying l) b) e
+step_on s g (quoting ps) k b e = ap (or_after s g (quoting ps) b) e
+step_on s g (escaping ps) k b e = ap (or_after s g (escaping ps) b) e
+step_on s g (pathing p) k b e = ap (or_after s g (pathing p) b) e
+step_on s g (comparing j) k b e = ap (or_after s g (comparing j) b) e
+step_on s g (ready t) k b e = ap (or_after s g (ready t) b) e
 
 -- the scan of a byte between tokens, from where a token ends
 next_begun : (o : Option State) (b : ℕ) → ((t : State) → o ≡ Some t → t.lex ≡ between) → option_map scan_of (option_and_then (λ u. next u.spot u.gap b) o) ≡ begun (option_map scan_of o) b

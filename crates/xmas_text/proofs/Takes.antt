@@ -59,7 +59,7 @@ no_path : (b c : ℕ) (q : Bool) (u : pathing_.State) → (b == c) ≡ q → pat
 no_path b c true u e n m = let same : c ≡ b = grind (arith, nat_tests) in none_some u (sym (subst (λ d. pathing_.step pathing_.first d ≡ None) same n) ∙ m)
 no_path b c false u e n m = e
 
--- a path begins behind the first word of a condition
+-- a path begins after the first word of a condition
 from_path : (r : Head) (c : Before) (e : List ℕ) (a : Start) (h : List ℕ) (b : ℕ) (u : pathing_.State) → IsTrue (has_blank h) → pathing_.step pathing_.first b ≡ Some u → begin (takes (cond_from r c e a) h) b ≡ Some (pathing u)
 from_path r c e a h b u k m =
     let n : (b == 61) ≡ false = no_path b 61 (b == 61) u refl refl m in
@@ -86,7 +86,7 @@ comparison_reading r c e v h op.Le = record { first = 60; rest = 61 ∷ []; text
 comparison_reading r c e v h op.Gt = record { first = 62; rest = []; text = refl; solid = refl; may = λ n. refl; lex = comparing sign.Greater; begins = refl; last = comparing sign.Greater; reads = refl; ends = refl; quiet = λ b f. no_equal_quiet sign.Greater b f }
 comparison_reading r c e v h op.Ge = record { first = 62; rest = 61 ∷ []; text = refl; solid = refl; may = λ n. refl; lex = comparing sign.Greater; begins = refl; last = ready (comparison op.Ge); reads = refl; ends = refl; quiet = λ b f. refl }
 
--- there is a key behind one more
+-- there is a key after one more
 pub push_unfixed : (ks : Keys) (p : Place) (g : List ℕ) (k : Key) → is_none (push_key ks p g k) ≡ false
 push_unfixed ks at_first g k = refl
 push_unfixed ks (at_more h) g k = refl
@@ -96,7 +96,7 @@ beginning_reading : (h : List ℕ) (t : Token) → IsToken t → Taken beginning
 beginning_reading h (fixed mark.Construct) i k = mark_reading beginning h mark.Construct refl (λ e. refl)
 beginning_reading h t i k = cc
 
--- before the template and behind it
+-- before the template and after it
 outer_reading : (lead : List ℕ) (xs : Items) (h : List ℕ) (t : Token) → IsToken t → Taken (items lead [] xs) h t → Reading (items lead [] xs) h t
 outer_reading lead xs h (open_tag l) i k = open_reading (items lead [] xs) h l false i (rw k refl) (no_gap h _ (and_parts (is_nothing xs) (has_blank h) k).1)
 outer_reading lead xs h (fixed mark.OpenBrace) i k = mark_reading (items lead [] xs) h mark.OpenBrace (rw k refl) (λ e. or_true (is_nothing xs))
@@ -113,7 +113,7 @@ inner_reading lead f o xs h (fixed mark.LabelWord) i k = mark_reading (items lea
 inner_reading lead f o xs h (fixed mark.OpenBrace) i k = mark_reading (items lead (f ∷ o) xs) h mark.OpenBrace (rw k refl) (λ e. or_true (is_nothing xs))
 inner_reading lead f o xs h t i k = cc
 
--- behind `label` as an item
+-- after `label` as an item
 labelled_reading : (lead : List ℕ) (o : List Frame) (xs : Items) (e h : List ℕ) (t : Token) → IsToken t → Taken (labelled lead o xs e) h t → Reading (labelled lead o xs e) h t
 labelled_reading lead o xs e h (var v) i k = var_reading (labelled lead o xs e) h v i refl (rw k refl) (no_gap h _ k)
 labelled_reading lead o xs e h t i k = cc
@@ -126,13 +126,13 @@ keys_reading lead o xs e ks h (fixed mark.Comma) i k = mark_reading (keys lead o
 keys_reading lead o xs e ks h (fixed mark.CloseBrace) i k = mark_reading (keys lead o xs e ks) h mark.CloseBrace refl (λ n. or_true (is_none ks))
 keys_reading lead o xs e ks h t i k = cc
 
--- behind a comma
+-- after a comma
 comma_reading : (lead : List ℕ) (o : List Frame) (xs : Items) (e : List ℕ) (ks : Keys) (f h : List ℕ) (t : Token) → IsToken t → Taken (key_comma lead o xs e ks f) h t → Reading (key_comma lead o xs e ks f) h t
 comma_reading lead o xs e ks f h (var v) i k = var_reading (key_comma lead o xs e ks f) h v i refl refl (λ n. refl)
 comma_reading lead o xs e ks f h (fixed mark.LabelWord) i k = mark_reading (key_comma lead o xs e ks f) h mark.LabelWord refl (λ n. refl)
 comma_reading lead o xs e ks f h t i k = cc
 
--- behind `label` as a key
+-- after `label` as a key
 key_label_reading : (lead : List ℕ) (o : List Frame) (xs : Items) (e : List ℕ) (ks : Keys) (p : Place) (f h : List ℕ) (t : Token) → IsToken t → Taken (key_label lead o xs e ks p f) h t → Reading (key_label lead o xs e ks p f) h t
 key_label_reading lead o xs e ks p f h (var v) i k = var_reading (key_label lead o xs e ks p f) h v i (push_unfixed ks p f _) (rw k refl) (no_gap h _ k)
 key_label_reading lead o xs e ks p f h t i k = cc
@@ -143,40 +143,40 @@ start_reading r c h (word n) i k = word_reading (cond_start r c) h n i refl (λ 
 start_reading r c h (var v) i k = var_reading (cond_start r c) h v i refl (rw k refl) (no_gap h _ k)
 start_reading r c h t i k = cc
 
--- behind its first word
+-- after its first word
 from_reading : (r : Head) (c : Before) (e : List ℕ) (a : Start) (h : List ℕ) (t : Token) → IsToken t → Taken (cond_from r c e a) h t → Reading (cond_from r c e a) h t
 from_reading r c e a h (path p) i k = path_reading (cond_from r c e a) h p i refl (λ b u m. from_path r c e a h b u k m) k
 from_reading r c e (by_var v) h (comparison o) i k = comparison_reading r c e v h o
 from_reading r c e a h t i k = cc
 
--- behind an operator
+-- after an operator
 compared_reading : (r : Head) (c : Before) (e v f : List ℕ) (o : Comparison) (h : List ℕ) (t : Token) → IsToken t → Taken (compared r c e v f o) h t → Reading (compared r c e v f o) h t
 compared_reading r c e v f o h (var u) i k = var_reading (compared r c e v f o) h u i refl refl (λ n. refl)
 compared_reading r c e v f o h (quoted ps) i k = quoted_reading (compared r c e v f o) h ps i refl (λ n. refl)
 compared_reading r c e v f o h t i k = cc
 
--- behind a path
+-- after a path
 cond_path_reading : (r : Head) (c : Before) (e : List ℕ) (a : Start) (f : List ℕ) (p : paths.Spelled) (h : List ℕ) (t : Token) → IsToken t → Taken (cond_path r c e a f p) h t → Reading (cond_path r c e a f p) h t
 cond_path_reading r c e a f p h (var v) i k = var_reading (cond_path r c e a f p) h v i refl (rw k refl) (no_gap h _ k)
 cond_path_reading r c e a f p h t i k = cc
 
--- behind a condition
+-- after a condition
 done_reading : (r : Head) (cs : Conds) (h : List ℕ) (t : Token) → IsToken t → Taken (cond_done r cs) h t → Reading (cond_done r cs) h t
 done_reading r cs h (fixed mark.And) i k = mark_reading (cond_done r cs) h mark.And (rw k refl) (no_gap h _ k)
 done_reading r cs h (fixed mark.Order) i k = mark_reading (cond_done r cs) h mark.Order (rw k refl) (no_gap h _ k)
 done_reading r cs h t i k = cc
 
--- behind ORDER
+-- after ORDER
 ordering_reading : (r : Head) (cs : Conds) (e h : List ℕ) (t : Token) → IsToken t → Taken (ordering r cs e) h t → Reading (ordering r cs e) h t
 ordering_reading r cs e h (fixed mark.By) i k = mark_reading (ordering r cs e) h mark.By (rw k refl) (no_gap h _ k)
 ordering_reading r cs e h t i k = cc
 
--- behind BY
+-- after BY
 by_reading : (r : Head) (cs : Conds) (e f h : List ℕ) (t : Token) → IsToken t → Taken (ordering_by r cs e f) h t → Reading (ordering_by r cs e f) h t
 by_reading r cs e f h (var v) i k = var_reading (ordering_by r cs e f) h v i refl (rw k refl) (no_gap h _ k)
 by_reading r cs e f h t i k = cc
 
--- behind the variable that orders
+-- after the variable that orders
 sorted_reading : (r : Head) (cs : Conds) (o : Order) (h : List ℕ) (t : Token) → IsToken t → Taken (sorted r cs o) h t → Reading (sorted r cs o) h t
 sorted_reading r cs (ordered e f j v) h (fixed mark.Desc) i k = mark_reading (sorted r cs (ordered e f j v)) h mark.Desc (rw k refl) (no_gap h _ k)
 sorted_reading r cs o h t i k = cc

@@ -1,4 +1,4 @@
--- Behind a spot, the machine reads each token that may come, and stands behind the next spot.
+-- After a spot, the machine reads each token that may come, and stands after the next spot.
 use Rattle.std.proofs.Common.{not, ◌≡◌, ◌∙◌, ◌==◌, ℕ, Bool, true, false, ◌&&◌, ◌||◌, IsTrue, List, [], ◌∷◌, ◌++◌, Some, None, refl, sym, ap, append_assoc, arith}
 use Rattle.std.proofs.lemmas.Bool.Decides.{nat_tests}
 use Rattle.std.specs.List.{list_all}
@@ -7,12 +7,12 @@ use Rattle.mix_base.proofs.Choices.{and_parts, none_some}
 use Rattle.mix_base.proofs.Lists.{append_nil}
 use Rattle.xmas_tokens.specs.Lexer.{Lex, between, marking, angle, opening, slash, closing, naming, dollar, varying, quoting, escaping, pathing, ready, comparing, lex_step, token_in, begin}
 use Rattle.xmas_tokens.specs.Lexical.{is_blank, IsBlanks}
-use Rattle.xmas_text.specs.Machine.{State, at, with_lex, next, behind, or_behind, step_in, step, run, rule_at, rule_behind, whole_in, whole}
+use Rattle.xmas_text.specs.Machine.{State, at, with_lex, next, after, or_after, step_in, step, run, rule_at, rule_after, whole_in, whole}
 use Rattle.xmas_text.specs.Spots.{Spot, beginning, items, labelled, keys, key_comma, key_label, cond_start, cond_from, cond_path, cond_done, compared, ordering, ordering_by, sorted, is_nothing, is_none, takes, shift}
 use Rattle.xmas_tokens.specs.Tokens.{Token, token_text}
 use Rattle.xmas_tokens.proofs.Apart.{is_apart}
 
--- a spot behind which a token may come at once, since the last one has ended
+-- a spot after which a token may come at once, since the last one has ended
 abbrev pub is_fixed : Spot → Bool
 is_fixed beginning = true
 is_fixed (items lead o xs) = is_nothing xs
@@ -29,12 +29,12 @@ is_fixed (ordering r cs g) = false
 is_fixed (ordering_by r cs g h) = false
 is_fixed (sorted r cs o) = false
 
--- behind < and > a = would go on
+-- after < and > a = would go on
 abbrev pub no_equal : Spot → ℕ → Bool
 no_equal (compared r e g v h o) b = not (b == 61)
 no_equal s b = true
 
--- the byte may stand behind the spot
+-- the byte may stand after the spot
 abbrev pub follows : Spot → ℕ → Bool
 follows s b = is_fixed s || (is_apart b && no_equal s b)
 
@@ -61,39 +61,39 @@ pub record Reading (s : Spot) (h : List ℕ) (t : Token) : Type 0 where
   pub ends : token_in last ≡ Some t
   pub quiet : (b : ℕ) → IsTrue (follows (shift s h t) b) → lex_step last b ≡ None
 
--- a byte behind a token
+-- a byte after a token
 pub last_step : (s : Spot) (h : List ℕ) (l : Lex) (t : Token) (b : ℕ) → token_in l ≡ Some t → lex_step l b ≡ None → step_in s h l b ≡ next (shift s h t) [] b
 last_step s h between t b e n = none_some t e
-last_step s h (marking m done rest) t b e n = ap (or_behind s h (marking m done rest) b) n ∙ ap (λ o. behind s h o b) e
+last_step s h (marking m done rest) t b e n = ap (or_after s h (marking m done rest) b) n ∙ ap (λ o. after s h o b) e
 last_step s h (angle p q) t b e n = none_some t e
 last_step s h (opening l) t b e n = none_some t e
 last_step s h slash t b e n = none_some t e
 last_step s h (closing l) t b e n = none_some t e
-last_step s h (naming l) t b e n = ap (or_behind s h (naming l) b) n ∙ ap (λ o. behind s h o b) e
+last_step s h (naming l) t b e n = ap (or_after s h (naming l) b) n ∙ ap (λ o. after s h o b) e
 last_step s h dollar t b e n = none_some t e
-last_step s h (varying l) t b e n = ap (or_behind s h (varying l) b) n ∙ ap (λ o. behind s h o b) e
+last_step s h (varying l) t b e n = ap (or_after s h (varying l) b) n ∙ ap (λ o. after s h o b) e
 last_step s h (quoting ps) t b e n = none_some t e
 last_step s h (escaping ps) t b e n = none_some t e
-last_step s h (pathing p) t b e n = ap (or_behind s h (pathing p) b) n ∙ ap (λ o. behind s h o b) e
-last_step s h (comparing k) t b e n = ap (or_behind s h (comparing k) b) n ∙ ap (λ o. behind s h o b) e
-last_step s h (ready u) t b e n = ap (λ o. behind s h o b) e
+last_step s h (pathing p) t b e n = ap (or_after s h (pathing p) b) n ∙ ap (λ o. after s h o b) e
+last_step s h (comparing k) t b e n = ap (or_after s h (comparing k) b) n ∙ ap (λ o. after s h o b) e
+last_step s h (ready u) t b e n = ap (λ o. after s h o b) e
 
--- the end of the text behind a token
+-- the end of the text after a token
 pub last_whole : (s : Spot) (h : List ℕ) (l : Lex) (t : Token) → token_in l ≡ Some t → whole_in s h l ≡ rule_at (shift s h t) []
 last_whole s h between t e = none_some t e
-last_whole s h (marking m done rest) t e = ap (rule_behind s h) e
+last_whole s h (marking m done rest) t e = ap (rule_after s h) e
 last_whole s h (angle p q) t e = none_some t e
 last_whole s h (opening l) t e = none_some t e
 last_whole s h slash t e = none_some t e
 last_whole s h (closing l) t e = none_some t e
-last_whole s h (naming l) t e = ap (rule_behind s h) e
+last_whole s h (naming l) t e = ap (rule_after s h) e
 last_whole s h dollar t e = none_some t e
-last_whole s h (varying l) t e = ap (rule_behind s h) e
+last_whole s h (varying l) t e = ap (rule_after s h) e
 last_whole s h (quoting ps) t e = none_some t e
 last_whole s h (escaping ps) t e = none_some t e
-last_whole s h (pathing p) t e = ap (rule_behind s h) e
-last_whole s h (comparing k) t e = ap (rule_behind s h) e
-last_whole s h (ready u) t e = ap (rule_behind s h) e
+last_whole s h (pathing p) t e = ap (rule_after s h) e
+last_whole s h (comparing k) t e = ap (rule_after s h) e
+last_whole s h (ready u) t e = ap (rule_after s h) e
 
 -- blanks between tokens
 pub gap_step : (s : Spot) (g : List ℕ) (b : ℕ) → IsTrue (is_blank b) → next s g b ≡ Some (at s (g ++ b ∷ []) between)
@@ -116,7 +116,7 @@ blank_no_equal : (s : Spot) (b : ℕ) → IsTrue (is_blank b) → IsTrue (no_equ
 blank_no_equal (compared r e g v i o) b h = let n : (b == 61) ≡ false = grind (arith, nat_tests) in rw n refl
 blank_no_equal s b h = refl
 
--- a blank may stand behind each spot
+-- a blank may stand after each spot
 pub blank_follows : (s : Spot) (b : ℕ) → IsTrue (is_blank b) → IsTrue (follows s b)
 blank_follows s b h = let n : is_apart b ≡ true = rw h refl in or_both (is_fixed s) (is_apart b) (no_equal s b) n (blank_no_equal s b h)
   where
@@ -135,14 +135,14 @@ first_read s st (c ∷ h) b y l a g f n e =
     ∙ run_then step h (b ∷ y) (at s (c ∷ []) between) (at s (c ∷ h) between) (gap_run s (c ∷ []) h parts.1)
     ∙ run_byte step b y (at s (c ∷ h) between) (at s (c ∷ h) l) (token_step s (c ∷ h) b l n e)
 
--- the state behind a token
-pub record Behind (s : Spot) (x : List ℕ) (t : State) : Type 0 where
+-- the state after a token
+pub record After (s : Spot) (x : List ℕ) (t : State) : Type 0 where
   pub state : State
   pub runs : run t x ≡ Some state
   pub is : IsAt s state
 
--- a token that is read so leads to the spot behind it
-pub reading : (s : Spot) (st : State) (h : List ℕ) (t : Token) → IsAt s st → IsBlanks h → Reading s h t → Behind (shift s h t) (h ++ token_text t) st
+-- a token that is read so leads to the spot after it
+pub reading : (s : Spot) (st : State) (h : List ℕ) (t : Token) → IsAt s st → IsBlanks h → Reading s h t → After (shift s h t) (h ++ token_text t) st
 reading s st h t a g r = record {
   state = at s h r.last;
   runs = ap (λ y. run st (h ++ y)) r.text ∙ first_read s st h r.first r.rest r.lex a g r.may r.solid r.begins ∙ r.reads;

@@ -2,7 +2,7 @@
 use Rattle.std.proofs.Common.{◌≡◌, ◌∙◌, ◌+◌, ◌<◌, ◌≤◌, ℕ, Bool, true, false, List, [], Option, Some, None, Result, Ok, Err, option_map, option_and_then, refl, sym, ap, subst, arith, length, nat_lt, take, slice_index}
 use Rattle.std.proofs.lemmas.Bool.Decides.{nat_tests}
 use Rattle.std.specs.Str.{IsUtf8}
-use Rattle.mix_base.specs.Reading.{IsFront, IsUnexpected, IsCut}
+use Rattle.mix_base.specs.Reading.{IsPrefix, IsUnexpected, IsCut}
 use Rattle.mix_base.proofs.Runs.{kept_none}
 use Rattle.mix_base.proofs.Choices.{Gives, some_is, none_some}
 use Rattle.xmas_text.specs.declared.scan.Scan.{Scan}
@@ -11,37 +11,37 @@ use Rattle.xmas_text.specs.Levels.{levels}
 use Rattle.xmas_tokens.specs.Tokens.{Token}
 use Rattle.xmas_text.specs.Spots.{Spot, cond_done, sorted, stage_of}
 use Rattle.xmas_tokens.specs.Lexer.{Lex, between, marking, angle, opening, slash, closing, naming, dollar, varying, quoting, escaping, pathing, ready, comparing, token_in}
-use Rattle.xmas_text.specs.Machine.{State, run, rule_at, rule_behind, whole_in, whole, start, read_of}
+use Rattle.xmas_text.specs.Machine.{State, run, rule_at, rule_after, whole_in, whole, start, read_of}
 use Rattle.xmas_text.specs.Results.{Spells, IsTooDeep, Scans}
 use Rattle.xmas_text.specs.Ends.{EndsBy, EndsSo}
 use Rattle.xmas_text.specs.declared.fault.TextFault.{TextFault}
 use Rattle.xmas_text.specs.Scans.{levels_at, scan_of, settled, scan_step, may_end_at}
 use Rattle.xmas_text.proofs.Runs.{Stands, run_stands, start_stands, read_writes}
 use Rattle.xmas_text.proofs.Complete.{writes_read}
-use Rattle.xmas_text.proofs.Fronts.{run_front, stopped_front}
+use Rattle.xmas_text.proofs.Prefixes.{run_prefix, stopped_prefix}
 use Rattle.xmas_text.proofs.Steps.{rest_by, rest_in, rest, rest_scan}
-use Rattle.xmas_text.proofs.Cuts.{ScansTo, scan_more, front_utf8, stops_outside}
+use Rattle.xmas_text.proofs.Cuts.{ScansTo, scan_more, prefix_utf8, stops_outside}
 
--- what a scan has passed is a front, from an option
-scan_front_at : (x : List ℕ) (s : Scan) (o : Option State) → IsUtf8 x → run start x ≡ o → option_map scan_of o ≡ Some s → IsFront Spells x
-scan_front_at x s None u r e = none_some s e
-scan_front_at x s (Some t) u r e = run_front x t u r
+-- what a scan has passed is a prefix, from an option
+scan_prefix_at : (x : List ℕ) (s : Scan) (o : Option State) → IsUtf8 x → run start x ≡ o → option_map scan_of o ≡ Some s → IsPrefix Spells x
+scan_prefix_at x s None u r e = none_some s e
+scan_prefix_at x s (Some t) u r e = run_prefix x t u r
 
--- what a scan has passed is a front
-pub scan_front : (x : List ℕ) (s : Scan) → IsUtf8 x → ScansTo x s → IsFront Spells x
-scan_front x s u e = scan_front_at x s (run start x) u refl e
+-- what a scan has passed is a prefix
+pub scan_prefix : (x : List ℕ) (s : Scan) → IsUtf8 x → ScansTo x s → IsPrefix Spells x
+scan_prefix x s u e = scan_prefix_at x s (run start x) u refl e
 
 -- where a scan stops, the byte is unexpected
 pub scan_unexpected : (x : List ℕ) (i : ℕ) (s : Scan) → IsUtf8 x → i < length x → ScansTo (take i x) s → scan_step s (slice_index x i) ≡ None → IsUnexpected Spells x i
 scan_unexpected x i s u h e n = record {
   inside = h;
-  front = scan_front (take i x) s (front_utf8 x i s u (omega arith) e (stops_outside s (slice_index x i) n)) e;
+  prefix = scan_prefix (take i x) s (prefix_utf8 x i s u (omega arith) e (stops_outside s (slice_index x i) n)) e;
   wrong =
-      stopped_front (take (i + 1) x) (kept_none scan_of (run start (take (i + 1) x)) (scan_more x i s h e ∙ n));
+      stopped_prefix (take (i + 1) x) (kept_none scan_of (run start (take (i + 1) x)) (scan_more x i s h e ∙ n));
 }
 
--- the rule behind a token
-rule_rest : (s : Spot) (g : List ℕ) (o : Option Token) → rule_behind s g o ≡ option_and_then (λ u. rule_at u.spot u.gap) (rest_by s g o)
+-- the rule after a token
+rule_rest : (s : Spot) (g : List ℕ) (o : Option Token) → rule_after s g o ≡ option_and_then (λ u. rule_at u.spot u.gap) (rest_by s g o)
 rule_rest s g None = refl
 rule_rest s g (Some t) = refl
 
@@ -100,7 +100,7 @@ ends_at x s b (Some t) k r e h m = ends_rest x t b (rest t) r refl (rest_scan x 
 pub scan_ends : (x : List ℕ) (s b : Scan) → ScansTo x s → settled s ≡ Some b → may_end_at b.stage ≡ true → Ends x b
 scan_ends x s b e h m = ends_at x s b (run start x) (run_stands x [] start start_stands) refl e h m
 
--- no rule may end behind what is settled
+-- no rule may end after what is settled
 abbrev pub NoEnd : Option Scan → Type 0
 NoEnd None = Unit {0}
 NoEnd (Some b) = may_end_at b.stage ≡ false
@@ -118,7 +118,7 @@ cut_at x s (Some t) k r e n = cut_rest x t (rest t) r refl (subst NoEnd (sym (re
 -- where a scan may not end, the text is cut
 pub scan_cut : (x : List ℕ) (s : Scan) → IsUtf8 x → ScansTo x s → NoEnd (settled s) → IsCut Spells x
 scan_cut x s u e n = record {
-  front = scan_front x s u e;
+  prefix = scan_prefix x s u e;
   none = λ v (r, h, k). none_some r (sym (cut_at x s (run start x) (run_stands x [] start start_stands) refl e n) ∙ writes_read x r h);
 }
 

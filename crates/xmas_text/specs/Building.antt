@@ -36,19 +36,19 @@ IsEndedBy (Some k) x = IsWritten k x
 abbrev pub IsEnded : Part → List ℕ → Type 0
 IsEnded p x = IsEndedBy (kind_in p) x
 
--- the draft behind the token that ends, where one of a kind does
+-- the draft after the token that ends, where one of a kind does
 abbrev pub EndsTokenBy : Option Kind → List ℕ → ℕ → DraftForm → DraftForm → Type 0
 EndsTokenBy None x from before after = after ≡ before
 EndsTokenBy (Some k) x from before after = (w : Lexeme) × IsLexeme k x w × (after ≡ shifted before from w)
 
--- the draft behind the token that ends here
+-- the draft after the token that ends here
 abbrev pub EndsToken : Part → List ℕ → ℕ → DraftForm → DraftForm → Type 0
 EndsToken p x from before after = EndsTokenBy (kind_in p) x from before after
 
--- where the token at hand begins, behind a byte at a place
-abbrev pub place_behind : ℕ → Part → ℕ
-place_behind at part.Between = at + 1
-place_behind at p = at
+-- where the token at hand begins, after a byte at a place
+abbrev pub place_after : ℕ → Part → ℕ
+place_after at part.Between = at + 1
+place_after at p = at
 
 -- a byte can be added
 pub record CanBuild (text : List ℕ) (at : ℕ) (b : BuildForm) : Type 0 where
@@ -64,7 +64,7 @@ pub record CanBuild (text : List ℕ) (at : ℕ) (b : BuildForm) : Type 0 where
 -- what a byte changes, by whether the token at hand goes on
 abbrev pub BuildsBy : Option Part → List ℕ → ℕ → BuildForm → BuildForm → Type 0
 BuildsBy (Some p) text at b next = (next.from ≡ b.from) × (next.draft ≡ b.draft)
-BuildsBy None text at b next = (next.from ≡ place_behind at next.scan.part) × EndsToken b.scan.part (slice_range text b.from at) b.from b.draft next.draft
+BuildsBy None text at b next = (next.from ≡ place_after at next.scan.part) × EndsToken b.scan.part (slice_range text b.from at) b.from b.draft next.draft
 
 -- what the byte at a place changes
 pub record Builds (text : List ℕ) (at : ℕ) (b next : BuildForm) : Type 0 where

@@ -17,7 +17,7 @@ pub record Tags : Type 0 where
   pub close_name : List ℕ
   pub group : Option GroupForm
 
--- the items of an element in order: none, or a first item and those behind it
+-- the items of an element in order: none, or a first item and those after it
 pub data Contents : Type 0 where
   nothing : Contents
   element : (tags : Tags) → (inside : Contents) → (after : Contents) → Contents

@@ -29,11 +29,11 @@ opens_at lead (f ∷ o) =
     record { at = level_place lead o + length (items_text f.before) + length f.gap; name = f.name; before = items_at (level_place lead o) f.before } ∷ opens_at lead o
 
 -- the items before the last one
-abbrev pub front_at : ℕ → Items → List ItemText
-front_at at nothing = []
-front_at at (variable before g k e) = items_at at before
-front_at at (literal before g ps) = items_at at before
-front_at at (element before g name inside h close e) = items_at at before
+abbrev pub prefix_at : ℕ → Items → List ItemText
+prefix_at at nothing = []
+prefix_at at (variable before g k e) = items_at at before
+prefix_at at (literal before g ps) = items_at at before
+prefix_at at (element before g name inside h close e) = items_at at before
 
 -- the last item, without its group label
 abbrev pub last_at : ℕ → Items → ItemText
@@ -75,7 +75,7 @@ start_at at (by_var v) = begins.Var (var_at at v)
 abbrev pub in_template : List ℕ → List Frame → List ItemText → BuiltForm
 in_template lead o is = record { open_elements = opens_at lead o; items = is; conds = []; order = None }
 
--- what has been read whole behind WHERE
+-- what has been read whole after WHERE
 abbrev pub in_conds : Head → List CondText → Option OrderText → BuiltForm
 in_conds r cs o = record { open_elements = []; items = items_at (length r.lead + length construct_text) r.template; conds = cs; order = o }
 
@@ -85,11 +85,11 @@ draft_of beginning = empty
 draft_of (items lead o xs) = draft (in_template lead o (items_at (level_place lead o) xs)) pending.Items
 draft_of (labelled lead o xs g) = draft (in_template lead o (items_at (level_place lead o) xs)) (pending.Labelled (brace_place lead o xs g))
 draft_of (keys lead o xs g ks) =
-    draft (in_template lead o (front_at (level_place lead o) xs)) (pending.Keys (last_at (level_place lead o) xs) (group_so_far lead o xs g ks))
+    draft (in_template lead o (prefix_at (level_place lead o) xs)) (pending.Keys (last_at (level_place lead o) xs) (group_so_far lead o xs g ks))
 draft_of (key_comma lead o xs g ks h) =
-    draft (in_template lead o (front_at (level_place lead o) xs)) (pending.Keys (last_at (level_place lead o) xs) (group_so_far lead o xs g ks))
+    draft (in_template lead o (prefix_at (level_place lead o) xs)) (pending.Keys (last_at (level_place lead o) xs) (group_so_far lead o xs g ks))
 draft_of (key_label lead o xs g ks p h) =
-    draft (in_template lead o (front_at (level_place lead o) xs)) (pending.KeyLabel (last_at (level_place lead o) xs) (group_so_far lead o xs g ks))
+    draft (in_template lead o (prefix_at (level_place lead o) xs)) (pending.KeyLabel (last_at (level_place lead o) xs) (group_so_far lead o xs g ks))
 draft_of (cond_start r b) = draft (in_conds r (conds_before (head_place r) b) None) pending.Cond
 draft_of (cond_from r b g s) = draft (in_conds r (conds_before (head_place r) b) None) (pending.CondFrom (start_at (before_place (head_place r) b + length g) s))
 draft_of (cond_path r b g s h p) =

@@ -74,7 +74,7 @@ coded_tags =
     (λ c. record { at = c.0; name = c.1.0; close_at = c.1.1.0; close_name = c.1.1.1.0; group = c.1.1.1.1 })
     (λ _. refl)
 
--- the tags of each element, what stands inside and what stands behind; each leaf; None where items end
+-- the tags of each element, what stands inside and what stands after; each leaf; None where items end
 abbrev pub content_codes : Contents → List (Option (Tags ⊎ Leaf))
 content_codes nothing = None ∷ []
 content_codes (element tags inside after) = Some (inl tags) ∷ content_codes inside ++ content_codes after
@@ -103,17 +103,17 @@ abbrev pub first_contents : List Contents → Contents
 first_contents [] = nothing
 first_contents (c ∷ rest) = c
 
--- three lists one behind another
+-- three lists one after another
 assoc : (a b c : List (Option (Tags ⊎ Leaf))) → (a ++ b) ++ c ≡ a ++ (b ++ c)
 assoc [] b c = refl
 assoc (x ∷ a) b c = ap (λ r. x ∷ r) (assoc a b c)
 
--- nothing behind a list changes nothing
-nothing_behind : (a : List (Option (Tags ⊎ Leaf))) → a ++ [] ≡ a
-nothing_behind [] = refl
-nothing_behind (x ∷ a) = ap (λ r. x ∷ r) (nothing_behind a)
+-- nothing after a list changes nothing
+nothing_after : (a : List (Option (Tags ⊎ Leaf))) → a ++ [] ≡ a
+nothing_after [] = refl
+nothing_after (x ∷ a) = ap (λ r. x ∷ r) (nothing_after a)
 
--- the codes of contents stand for them, whatever comes behind
+-- the codes of contents stand for them, whatever comes after
 pub contents_from-codes : (c : Contents) (rest : List (Option (Tags ⊎ Leaf))) → contents_from (content_codes c ++ rest) ≡ c ∷ contents_from rest
 contents_from-codes nothing rest = refl
 contents_from-codes (element tags inside after) rest =
@@ -123,7 +123,7 @@ contents_from-codes (leaf item after) rest = ap (with_leaf item) (contents_from-
 
 -- the codes of contents stand for them
 pub first_contents-codes : (c : Contents) → first_contents (contents_from (content_codes c)) ≡ c
-first_contents-codes c = ap (λ d. first_contents (contents_from d)) (sym (nothing_behind (content_codes c))) ∙ ap first_contents (contents_from-codes c [])
+first_contents-codes c = ap (λ d. first_contents (contents_from d)) (sym (nothing_after (content_codes c))) ∙ ap first_contents (contents_from-codes c [])
 
 -- the code of contents
 abbrev pub coded_contents : Coded Contents

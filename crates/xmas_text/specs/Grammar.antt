@@ -12,7 +12,7 @@ pub data Key : Type 0 where
   node : List ℕ → Key
   label : List ℕ → List ℕ → Key
 
--- the keys between braces: the first behind blanks, the others each behind blanks, a comma and blanks
+-- the keys between braces: the first after blanks, the others each after blanks, a comma and blanks
 pub data Keys : Type 0 where
   none : Keys
   first : List ℕ → Key → Keys
@@ -23,7 +23,7 @@ pub data Group : Type 0 where
   absent : Group
   braced : List ℕ → Keys → List ℕ → Group
 
--- items, each behind those before it and blanks: a variable with its group label, a quoted label, or an element with its name, what stands
+-- items, each after those before it and blanks: a variable with its group label, a quoted label, or an element with its name, what stands
 -- inside, the blanks before its closing tag, the name there, and its group label
 pub data Items : Type 0 where
   nothing : Items
@@ -77,7 +77,7 @@ abbrev pub IsGroup : Group → Type 0
 IsGroup absent = Unit {0}
 IsGroup (braced g ks h) = IsBlanks g × AreKeys ks × IsBlanks h
 
--- the first item may stand at once, the others behind a blank
+-- the first item may stand at once, the others after a blank
 abbrev pub IsItemGap : Items → List ℕ → Type 0
 IsItemGap nothing g = IsBlanks g
 IsItemGap (variable before h k group) g = IsGap g
@@ -92,7 +92,7 @@ AreItems (literal before g ps) = AreItems before × IsItemGap before g × ArePie
 AreItems (element before g name inside h close group) =
     AreItems before × IsItemGap before g × IsName name × AreItems inside × IsBlanks h × IsName close × IsGroup group
 
--- what stands behind an operator
+-- what stands after an operator
 pub data Operand : Type 0 where
   a_variable : List ℕ → Operand
   a_text : List Piece → Operand
@@ -114,7 +114,7 @@ pub data Cond : Type 0 where
   walk : List ℕ → List ℕ → paths.Spelled → List ℕ → List ℕ → Cond
   compare : List ℕ → List ℕ → Comparison → List ℕ → Operand → Cond
 
--- conditions, each behind a gap, and all but the first behind AND and another one
+-- conditions, each after a gap, and all but the first after AND and another one
 pub data Conds : Type 0 where
   one : List ℕ → Cond → Conds
   also : Conds → List ℕ → List ℕ → Cond → Conds
@@ -148,14 +148,14 @@ IsNothing (variable before g k group) = ⊥
 IsNothing (literal before g ps) = ⊥
 IsNothing (element before g name inside h close group) = ⊥
 
--- the template is one element, behind a gap
+-- the template is one element, after a gap
 abbrev pub IsTemplate : Items → Type 0
 IsTemplate nothing = ⊥
 IsTemplate (variable before g k group) = ⊥
 IsTemplate (literal before g ps) = ⊥
 IsTemplate (element before g name inside h close group) = IsNothing before × IsGap g × IsName name × AreItems inside × IsBlanks h × IsName close × IsGroup group
 
--- nothing, or ORDER, BY, a variable, and DESC or not, each behind a gap
+-- nothing, or ORDER, BY, a variable, and DESC or not, each after a gap
 pub data Order : Type 0 where
   unordered : Order
   ordered : List ℕ → List ℕ → List ℕ → List ℕ → Order

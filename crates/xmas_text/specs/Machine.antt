@@ -1,4 +1,4 @@
--- Reading rules byte by byte: tokens, each behind blanks, and where they stand.
+-- Reading rules byte by byte: tokens, each after blanks, and where they stand.
 use Rattle.std.specs.Prelude.{ℕ, cond, List, [], ◌∷◌, ◌++◌, Option, Some, None, option_and_then}
 use Rattle.mix_base.specs.Runs.{run_by}
 use Rattle.xmas_tokens.specs.Lexical.{is_blank}
@@ -26,38 +26,38 @@ with_lex s g (Some l) = Some (at s g l)
 abbrev pub next : Spot → List ℕ → ℕ → Option State
 next s g b = cond (is_blank b) (Some (at s (g ++ b ∷ []) between)) (with_lex s g (begin (takes s g) b))
 
--- a byte behind a token
-abbrev pub behind : Spot → List ℕ → Option Token → ℕ → Option State
-behind s g None b = None
-behind s g (Some t) b = next (shift s g t) [] b
+-- a byte after a token
+abbrev pub after : Spot → List ℕ → Option Token → ℕ → Option State
+after s g None b = None
+after s g (Some t) b = next (shift s g t) [] b
 
--- a byte that goes on, or stands behind a token
-abbrev pub or_behind : Spot → List ℕ → Lex → ℕ → Option Lex → Option State
-or_behind s g l b None = behind s g (token_in l) b
-or_behind s g l b (Some k) = Some (at s g k)
+-- a byte that goes on, or stands after a token
+abbrev pub or_after : Spot → List ℕ → Lex → ℕ → Option Lex → Option State
+or_after s g l b None = after s g (token_in l) b
+or_after s g l b (Some k) = Some (at s g k)
 
--- the state behind one more byte
+-- the state after one more byte
 abbrev pub step_in : Spot → List ℕ → Lex → ℕ → Option State
 step_in s g between b = next s g b
-step_in s g (marking m done rest) b = or_behind s g (marking m done rest) b (lex_step (marking m done rest) b)
-step_in s g (angle o c) b = or_behind s g (angle o c) b (lex_step (angle o c) b)
-step_in s g (opening l) b = or_behind s g (opening l) b (lex_step (opening l) b)
-step_in s g slash b = or_behind s g slash b (lex_step slash b)
-step_in s g (closing l) b = or_behind s g (closing l) b (lex_step (closing l) b)
-step_in s g (naming l) b = or_behind s g (naming l) b (lex_step (naming l) b)
-step_in s g dollar b = or_behind s g dollar b (lex_step dollar b)
-step_in s g (varying l) b = or_behind s g (varying l) b (lex_step (varying l) b)
-step_in s g (quoting ps) b = or_behind s g (quoting ps) b (lex_step (quoting ps) b)
-step_in s g (escaping ps) b = or_behind s g (escaping ps) b (lex_step (escaping ps) b)
-step_in s g (pathing p) b = or_behind s g (pathing p) b (lex_step (pathing p) b)
-step_in s g (ready t) b = or_behind s g (ready t) b (lex_step (ready t) b)
-step_in s g (comparing k) b = or_behind s g (comparing k) b (lex_step (comparing k) b)
+step_in s g (marking m done rest) b = or_after s g (marking m done rest) b (lex_step (marking m done rest) b)
+step_in s g (angle o c) b = or_after s g (angle o c) b (lex_step (angle o c) b)
+step_in s g (opening l) b = or_after s g (opening l) b (lex_step (opening l) b)
+step_in s g slash b = or_after s g slash b (lex_step slash b)
+step_in s g (closing l) b = or_after s g (closing l) b (lex_step (closing l) b)
+step_in s g (naming l) b = or_after s g (naming l) b (lex_step (naming l) b)
+step_in s g dollar b = or_after s g dollar b (lex_step dollar b)
+step_in s g (varying l) b = or_after s g (varying l) b (lex_step (varying l) b)
+step_in s g (quoting ps) b = or_after s g (quoting ps) b (lex_step (quoting ps) b)
+step_in s g (escaping ps) b = or_after s g (escaping ps) b (lex_step (escaping ps) b)
+step_in s g (pathing p) b = or_after s g (pathing p) b (lex_step (pathing p) b)
+step_in s g (ready t) b = or_after s g (ready t) b (lex_step (ready t) b)
+step_in s g (comparing k) b = or_after s g (comparing k) b (lex_step (comparing k) b)
 
 -- the same, of a state
 abbrev pub step : State → ℕ → Option State
 step s b = step_in s.spot s.gap s.lex b
 
--- the state behind a text
+-- the state after a text
 abbrev pub run : State → List ℕ → Option State
 run = run_by step
 
@@ -67,27 +67,27 @@ rule_at (cond_done r cs) g = Some (record { lead = r.lead; template = r.template
 rule_at (sorted r cs o) g = Some (record { lead = r.lead; template = r.template; gap = r.gap; conds = cs; order = o; tail = g })
 rule_at s g = None
 
--- the rule behind a token
-abbrev pub rule_behind : Spot → List ℕ → Option Token → Option Rule
-rule_behind s g None = None
-rule_behind s g (Some t) = rule_at (shift s g t) []
+-- the rule after a token
+abbrev pub rule_after : Spot → List ℕ → Option Token → Option Rule
+rule_after s g None = None
+rule_after s g (Some t) = rule_at (shift s g t) []
 
 -- the rule that has been read, where it may end
 abbrev pub whole_in : Spot → List ℕ → Lex → Option Rule
 whole_in s g between = rule_at s g
-whole_in s g (marking m done rest) = rule_behind s g (token_in (marking m done rest))
+whole_in s g (marking m done rest) = rule_after s g (token_in (marking m done rest))
 whole_in s g (angle o c) = None
 whole_in s g (opening l) = None
 whole_in s g slash = None
 whole_in s g (closing l) = None
-whole_in s g (naming l) = rule_behind s g (token_in (naming l))
+whole_in s g (naming l) = rule_after s g (token_in (naming l))
 whole_in s g dollar = None
-whole_in s g (varying l) = rule_behind s g (token_in (varying l))
+whole_in s g (varying l) = rule_after s g (token_in (varying l))
 whole_in s g (quoting ps) = None
 whole_in s g (escaping ps) = None
-whole_in s g (pathing p) = rule_behind s g (token_in (pathing p))
-whole_in s g (ready t) = rule_behind s g (token_in (ready t))
-whole_in s g (comparing k) = rule_behind s g (token_in (comparing k))
+whole_in s g (pathing p) = rule_after s g (token_in (pathing p))
+whole_in s g (ready t) = rule_after s g (token_in (ready t))
+whole_in s g (comparing k) = rule_after s g (token_in (comparing k))
 
 -- the same, of a state
 abbrev pub whole : State → Option Rule

@@ -27,13 +27,13 @@ abbrev pub key_at : ℕ → Key → KeyText
 key_at at (node v) = keyed.Node (var_at at v)
 key_at at (label g v) = keyed.LabelOf (var_at (at + 5 + length g) v)
 
--- keys behind a brace that ends at a place
+-- keys after a brace that ends at a place
 abbrev pub keys_at : ℕ → Keys → List KeyText
 keys_at at none = []
 keys_at at (first g k) = key_at (at + length g) k ∷ []
 keys_at at (more ks g h k) = keys_at at ks ++ key_at (at + length (keys_text ks) + length g + 1 + length h) k ∷ []
 
--- a group label behind an item that ends at a place
+-- a group label after an item that ends at a place
 abbrev pub group_at : ℕ → Group → Option GroupForm
 group_at at absent = None
 group_at at (braced g ks h) = Some (record { at = at + length g; keys = keys_at (at + length g + 1) ks })
@@ -47,7 +47,7 @@ shown_at at (label g v) e = item.LabelOf (record { at = at; var = var_at (at + 5
 abbrev pub close_place : ℕ → List ℕ → Items → List ℕ → ℕ
 close_place at name inside h = at + 1 + length name + 1 + length (items_text inside) + length h
 
--- items that begin at a place; a group label stands behind its item
+-- items that begin at a place; a group label stands after its item
 abbrev pub items_at : ℕ → Items → List ItemText
 items_at at nothing = []
 items_at at (variable before g k e) =

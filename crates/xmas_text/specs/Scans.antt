@@ -9,7 +9,7 @@ use Rattle.xmas_tokens.specs.declared.lexer.Part.TheVariants as part
 use Rattle.xmas_text.specs.declared.scan.Scan.{Scan}
 use Rattle.xmas_tokens.specs.Lexical.{is_blank}
 use Rattle.xmas_text.specs.Levels.{levels}
-use Rattle.xmas_text.specs.Stages.{may_come, stage_behind, depth_behind}
+use Rattle.xmas_text.specs.Stages.{may_come, stage_after, depth_after}
 use Rattle.xmas_text.specs.Spots.{Frame, Spot, beginning, items, labelled, keys, key_comma, key_label, cond_start, cond_from, cond_path, cond_done, compared, ordering, ordering_by, sorted, has_blank, stage_of, frames_of}
 use Rattle.xmas_text.specs.Machine.{State}
 use Rattle.xmas_tokens.specs.Parts.{part_of, part_step, kind_in, first_part}
@@ -44,17 +44,17 @@ scan_of s = record { stage = stage_of s.spot; depth = length (frames_of s.spot);
 abbrev pub may_now : Scan → Kind → Bool
 may_now s k = may_come s.stage (nat_lt 0 s.depth) s.gap k
 
--- more than 20 levels have been read, behind a token
-abbrev pub deep_behind : Bool → ℕ → Kind → Bool
-deep_behind deep n kind.OpenTag = deep || nat_lt 20 (n + 1)
-deep_behind deep n k = deep
+-- more than 20 levels have been read, after a token
+abbrev pub deep_after : Bool → ℕ → Kind → Bool
+deep_after deep n kind.OpenTag = deep || nat_lt 20 (n + 1)
+deep_after deep n k = deep
 
--- the scan behind a token
-abbrev pub scan_behind : Scan → Kind → Scan
-scan_behind s k = record {
-  stage = stage_behind s.stage k;
-  depth = depth_behind s.depth k;
-  deep = deep_behind s.deep s.depth k;
+-- the scan after a token
+abbrev pub scan_after : Scan → Kind → Scan
+scan_after s k = record {
+  stage = stage_after s.stage k;
+  depth = depth_after s.depth k;
+  deep = deep_after s.deep s.depth k;
   gap = false;
   part = part.Between;
 }
@@ -63,34 +63,34 @@ scan_behind s k = record {
 abbrev pub with_part : Scan → Part → Scan
 with_part s p = record { stage = s.stage; depth = s.depth; deep = s.deep; gap = s.gap; part = p }
 
--- the scan behind a blank
+-- the scan after a blank
 abbrev pub with_blank : Scan → Scan
 with_blank s = record { stage = s.stage; depth = s.depth; deep = s.deep; gap = true; part = part.Between }
 
--- the scan behind a byte between tokens
+-- the scan after a byte between tokens
 abbrev pub between_step : Scan → ℕ → Option Scan
 between_step s b = cond (is_blank b) (Some (with_blank s)) (option_map (with_part s) (first_part (may_now s) b))
 
--- the scan behind the token that ends here, where one may; between tokens the scan itself
+-- the scan after the token that ends here, where one may; between tokens the scan itself
 abbrev pub settled_by : Scan → Part → Option Scan
 settled_by s part.Between = Some s
-settled_by s p = option_map (scan_behind s) (kind_in p)
+settled_by s p = option_map (scan_after s) (kind_in p)
 
 -- the same
 abbrev pub settled : Scan → Option Scan
 settled s = settled_by s s.part
 
--- the scan behind a byte that begins a token or stands between two
+-- the scan after a byte that begins a token or stands between two
 abbrev pub begun : Option Scan → ℕ → Option Scan
 begun None b = None
 begun (Some s) b = between_step s b
 
--- a byte that goes on, or stands behind a token
+-- a byte that goes on, or stands after a token
 abbrev pub or_begun : Scan → ℕ → Option Part → Option Scan
 or_begun s b (Some p) = Some (with_part s p)
 or_begun s b None = begun (settled s) b
 
--- the scan behind one more byte
+-- the scan after one more byte
 abbrev pub scan_step : Scan → ℕ → Option Scan
 scan_step s b = or_begun s b (part_step s.part b)
 

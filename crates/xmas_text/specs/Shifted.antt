@@ -52,7 +52,7 @@ closed_in b (e ∷ o) close_at close_name =
 abbrev pub closed : BuiltForm → ℕ → List ℕ → DraftForm
 closed b close_at close_name = closed_in b b.open_elements close_at close_name
 
--- the brace that opens a group label, behind items from the last one on
+-- the brace that opens a group label, after items from the last one on
 abbrev pub grouped_in : BuiltForm → List ItemText → ℕ → DraftForm
 grouped_in b [] at = draft (with_items b b.open_elements []) pending.Items
 grouped_in b (i ∷ is) at = draft (with_items b b.open_elements (reverse is)) (pending.Keys i (record { at = at; keys = [] }))
@@ -72,7 +72,7 @@ item_shifted b at (lexeme.Fixed mark.LabelWord) = draft b (pending.Labelled at)
 item_shifted b at (lexeme.Fixed mark.Where) = draft b pending.Cond
 item_shifted b at w = draft b pending.Items
 
--- a token behind `label` as an item
+-- a token after `label` as an item
 abbrev pub labelled_shifted : BuiltForm → ℕ → ℕ → Lexeme → DraftForm
 labelled_shifted b from at (lexeme.Var name) = with_item b (item.LabelOf (record { at = from; var = var_at at name; group = None }))
 labelled_shifted b from at w = draft b (pending.Labelled from)
@@ -96,7 +96,7 @@ keys_shifted b i g at (lexeme.Fixed mark.LabelWord) = draft b (pending.KeyLabel 
 keys_shifted b i g at (lexeme.Fixed mark.CloseBrace) = with_item b (item_with i g)
 keys_shifted b i g at w = draft b (pending.Keys i g)
 
--- a token behind `label` inside a group label
+-- a token after `label` inside a group label
 abbrev pub key_label_shifted : BuiltForm → ItemText → GroupForm → ℕ → Lexeme → DraftForm
 key_label_shifted b i g at (lexeme.Var name) = with_key b i g (keyed.LabelOf (var_at at name))
 key_label_shifted b i g at w = draft b (pending.KeyLabel i g)
@@ -107,15 +107,15 @@ cond_shifted b at (lexeme.Name name) = draft b (pending.CondFrom (begins.Source 
 cond_shifted b at (lexeme.Var name) = draft b (pending.CondFrom (begins.Var (var_at at name)))
 cond_shifted b at w = draft b pending.Cond
 
--- an operator behind the first word of a condition
-abbrev pub operator_behind : StartText → Comparison → Pending
-operator_behind (begins.Var v) o = pending.Compared v o
-operator_behind (begins.Source at name) o = pending.CondFrom (begins.Source at name)
+-- an operator after the first word of a condition
+abbrev pub operator_after : StartText → Comparison → Pending
+operator_after (begins.Var v) o = pending.Compared v o
+operator_after (begins.Source at name) o = pending.CondFrom (begins.Source at name)
 
--- a token behind the first word of a condition
+-- a token after the first word of a condition
 abbrev pub from_shifted : BuiltForm → StartText → Lexeme → DraftForm
 from_shifted b s (lexeme.Path p) = draft b (pending.CondPath s p)
-from_shifted b s (lexeme.Operator o) = draft b (operator_behind s o)
+from_shifted b s (lexeme.Operator o) = draft b (operator_after s o)
 from_shifted b s w = draft b (pending.CondFrom s)
 
 -- one more condition
@@ -127,18 +127,18 @@ abbrev pub cond_by : StartText → Result Form PathLimit → VarText → CondTex
 cond_by (begins.Source at name) p v = condition.FromSource at name p v
 cond_by (begins.Var u) p v = condition.FromVar u p v
 
--- a token behind a path
+-- a token after a path
 abbrev pub path_shifted : BuiltForm → StartText → Result Form PathLimit → ℕ → Lexeme → DraftForm
 path_shifted b s p at (lexeme.Var name) = with_cond b (cond_by s p (var_at at name))
 path_shifted b s p at w = draft b (pending.CondPath s p)
 
--- a token behind an operator
+-- a token after an operator
 abbrev pub compared_shifted : BuiltForm → VarText → Comparison → ℕ → Lexeme → DraftForm
 compared_shifted b v o at (lexeme.Var name) = with_cond b (condition.Compare v o (operand.Var (var_at at name)))
 compared_shifted b v o at (lexeme.Quoted label) = with_cond b (condition.Compare v o (operand.Text label))
 compared_shifted b v o at w = draft b (pending.Compared v o)
 
--- an order with DESC behind it
+-- an order with DESC after it
 abbrev pub descended : Option OrderText → Option OrderText
 descended None = None
 descended (Some o) = Some (record { var = o.var; desc = true })
@@ -147,7 +147,7 @@ descended (Some o) = Some (record { var = o.var; desc = true })
 abbrev pub with_order : BuiltForm → Option OrderText → DraftForm
 with_order b o = draft (record { open_elements = b.open_elements; items = b.items; conds = b.conds; order = o }) pending.Done
 
--- a token behind a condition
+-- a token after a condition
 abbrev pub done_shifted : BuiltForm → ℕ → Lexeme → DraftForm
 done_shifted b at (lexeme.Fixed mark.And) = draft b pending.Cond
 done_shifted b at (lexeme.Var name) = with_order b (Some (record { var = var_at at name; desc = false }))
@@ -166,6 +166,6 @@ shifted_by b (pending.CondPath s p) at w = path_shifted b s p at w
 shifted_by b (pending.Compared v o) at w = compared_shifted b v o at w
 shifted_by b pending.Done at w = done_shifted b at w
 
--- the draft behind one more token, which stands at a place
+-- the draft after one more token, which stands at a place
 abbrev pub shifted : DraftForm → ℕ → Lexeme → DraftForm
 shifted d at w = shifted_by d.built d.pending at w

@@ -10,7 +10,7 @@ use Rattle.xmas_text.specs.declared.stage.Stage.{Stage}
 use Rattle.xmas_text.specs.declared.stage.Stage.TheVariants as stage
 use Rattle.xmas_text.specs.Grammar.{Key, node, label, Keys, none, first, more, Group, absent, braced, Items, nothing, variable, literal, element, a_variable, a_text, Cond, source, walk, compare, Conds, one, also, Order, unordered, ordered, descending}
 use Rattle.xmas_tokens.specs.Tokens.{Token, fixed, open_tag, close_tag, word, var, quoted, path, comparison}
-use Rattle.xmas_text.specs.Stages.{is_first, may_stand, may_group_behind, may_come}
+use Rattle.xmas_text.specs.Stages.{is_first, may_stand, may_group_after, may_come}
 
 -- an element whose tag is open: the items before it, the gap, and its name
 pub record Frame : Type 0 where
@@ -24,12 +24,12 @@ pub record Head : Type 0 where
   pub template : Items
   pub gap : List ℕ
 
--- a key comes first, or behind blanks and a comma
+-- a key comes first, or after blanks and a comma
 pub data Place : Type 0 where
   at_first : Place
   at_more : List ℕ → Place
 
--- a condition comes first, or behind others, a gap and AND
+-- a condition comes first, or after others, a gap and AND
 pub data Before : Type 0 where
   first_cond : Before
   also_cond : Conds → List ℕ → Before
@@ -73,13 +73,13 @@ last_of (variable before g k e) = last.Item (is_absent e)
 last_of (literal before g ps) = last.Item false
 last_of (element before g name inside h close e) = last.Item (is_absent e)
 
--- an item may come behind these and a gap
+-- an item may come after these and a gap
 abbrev pub item_gap : Items → List ℕ → Bool
 item_gap xs g = may_stand (last_of xs) (has_blank g)
 
--- a group label may come behind these
+-- a group label may come after these
 abbrev pub may_group : Items → Bool
-may_group xs = may_group_behind (last_of xs)
+may_group xs = may_group_after (last_of xs)
 
 -- there are no items
 abbrev pub is_nothing : Items → Bool
@@ -146,7 +146,7 @@ frames_of (ordering r cs g) = []
 frames_of (ordering_by r cs g h) = []
 frames_of (sorted r cs o) = []
 
--- which tokens may come, behind a gap
+-- which tokens may come, after a gap
 abbrev pub takes : Spot → List ℕ → Kind → Bool
 takes s g k = may_come (stage_of s) (is_inside (frames_of s)) (has_blank g) k
 
@@ -172,7 +172,7 @@ abbrev pub cond_of : Start → List ℕ → Spelled → List ℕ → List ℕ �
 cond_of (by_name n) g p h v = source n g p h v
 cond_of (by_var u) g p h v = walk u g p h v
 
--- the spot behind a token
+-- the spot after a token
 abbrev pub shift : Spot → List ℕ → Token → Spot
 shift beginning g (fixed mark.Construct) = items g [] nothing
 shift (items lead o xs) g (open_tag l) = items lead (record { before = xs; gap = g; name = l } ∷ o) nothing

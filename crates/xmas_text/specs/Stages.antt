@@ -1,4 +1,4 @@
--- Which tokens may come at a stage of a rule, and what stage comes behind them.
+-- Which tokens may come at a stage of a rule, and what stage comes after them.
 use Rattle.std.specs.Prelude.{ℕ, ◌+◌, ◌-◌, Bool, true, false, not, ◌&&◌}
 use Rattle.xmas_tokens.specs.declared.token.Mark.TheVariants as mark
 use Rattle.xmas_tokens.specs.declared.token.Kind.{Kind}
@@ -13,28 +13,28 @@ abbrev pub is_first : Last → Bool
 is_first last.Nothing = true
 is_first (last.Item m) = false
 
--- an item may come: the first one at once, the others behind a blank
+-- an item may come: the first one at once, the others after a blank
 abbrev pub may_stand : Last → Bool → Bool
 may_stand last.Nothing gap = true
 may_stand (last.Item m) gap = gap
 
 -- a group label may come
-abbrev pub may_group_behind : Last → Bool
-may_group_behind last.Nothing = false
-may_group_behind (last.Item m) = m
+abbrev pub may_group_after : Last → Bool
+may_group_after last.Nothing = false
+may_group_after (last.Item m) = m
 
--- whether a token of the kind may come: inside an element or not, and behind a blank or not
+-- whether a token of the kind may come: inside an element or not, and after a blank or not
 abbrev pub may_come : Stage → Bool → Bool → Kind → Bool
 may_come stage.Beginning inside gap (kind.Fixed mark.Construct) = true
 may_come (stage.Items l) false gap kind.OpenTag = is_first l && gap
-may_come (stage.Items l) false gap (kind.Fixed mark.OpenBrace) = may_group_behind l
+may_come (stage.Items l) false gap (kind.Fixed mark.OpenBrace) = may_group_after l
 may_come (stage.Items l) false gap (kind.Fixed mark.Where) = not (is_first l) && gap
 may_come (stage.Items l) true gap kind.OpenTag = may_stand l gap
 may_come (stage.Items l) true gap kind.CloseTag = true
 may_come (stage.Items l) true gap kind.Var = may_stand l gap
 may_come (stage.Items l) true gap kind.Quoted = may_stand l gap
 may_come (stage.Items l) true gap (kind.Fixed mark.LabelWord) = may_stand l gap
-may_come (stage.Items l) true gap (kind.Fixed mark.OpenBrace) = may_group_behind l
+may_come (stage.Items l) true gap (kind.Fixed mark.OpenBrace) = may_group_after l
 may_come stage.Labelled inside gap kind.Var = gap
 may_come (stage.Keys empty) inside gap kind.Var = empty
 may_come (stage.Keys empty) inside gap (kind.Fixed mark.LabelWord) = empty
@@ -57,40 +57,40 @@ may_come stage.OrderingBy inside gap kind.Var = gap
 may_come (stage.Sorted true) inside gap (kind.Fixed mark.Desc) = gap
 may_come s inside gap k = false
 
--- the stage behind a token
-abbrev pub stage_behind : Stage → Kind → Stage
-stage_behind stage.Beginning (kind.Fixed mark.Construct) = stage.Items last.Nothing
-stage_behind (stage.Items l) kind.OpenTag = stage.Items last.Nothing
-stage_behind (stage.Items l) kind.CloseTag = stage.Items (last.Item true)
-stage_behind (stage.Items l) kind.Var = stage.Items (last.Item true)
-stage_behind (stage.Items l) kind.Quoted = stage.Items (last.Item false)
-stage_behind (stage.Items l) (kind.Fixed mark.LabelWord) = stage.Labelled
-stage_behind (stage.Items l) (kind.Fixed mark.OpenBrace) = stage.Keys true
-stage_behind (stage.Items l) (kind.Fixed mark.Where) = stage.CondStart
-stage_behind stage.Labelled kind.Var = stage.Items (last.Item true)
-stage_behind (stage.Keys empty) kind.Var = stage.Keys false
-stage_behind (stage.Keys empty) (kind.Fixed mark.LabelWord) = stage.KeyLabel
-stage_behind (stage.Keys empty) (kind.Fixed mark.Comma) = stage.KeyComma
-stage_behind (stage.Keys empty) (kind.Fixed mark.CloseBrace) = stage.Items (last.Item false)
-stage_behind stage.KeyComma kind.Var = stage.Keys false
-stage_behind stage.KeyComma (kind.Fixed mark.LabelWord) = stage.KeyLabel
-stage_behind stage.KeyLabel kind.Var = stage.Keys false
-stage_behind stage.CondStart kind.Name = stage.CondFrom false
-stage_behind stage.CondStart kind.Var = stage.CondFrom true
-stage_behind (stage.CondFrom by_var) kind.Path = stage.CondPath
-stage_behind (stage.CondFrom by_var) kind.Operator = stage.Compared
-stage_behind stage.Compared kind.Var = stage.CondDone
-stage_behind stage.Compared kind.Quoted = stage.CondDone
-stage_behind stage.CondPath kind.Var = stage.CondDone
-stage_behind stage.CondDone (kind.Fixed mark.And) = stage.CondStart
-stage_behind stage.CondDone (kind.Fixed mark.Order) = stage.Ordering
-stage_behind stage.Ordering (kind.Fixed mark.By) = stage.OrderingBy
-stage_behind stage.OrderingBy kind.Var = stage.Sorted true
-stage_behind (stage.Sorted may_descend) (kind.Fixed mark.Desc) = stage.Sorted false
-stage_behind s k = s
+-- the stage after a token
+abbrev pub stage_after : Stage → Kind → Stage
+stage_after stage.Beginning (kind.Fixed mark.Construct) = stage.Items last.Nothing
+stage_after (stage.Items l) kind.OpenTag = stage.Items last.Nothing
+stage_after (stage.Items l) kind.CloseTag = stage.Items (last.Item true)
+stage_after (stage.Items l) kind.Var = stage.Items (last.Item true)
+stage_after (stage.Items l) kind.Quoted = stage.Items (last.Item false)
+stage_after (stage.Items l) (kind.Fixed mark.LabelWord) = stage.Labelled
+stage_after (stage.Items l) (kind.Fixed mark.OpenBrace) = stage.Keys true
+stage_after (stage.Items l) (kind.Fixed mark.Where) = stage.CondStart
+stage_after stage.Labelled kind.Var = stage.Items (last.Item true)
+stage_after (stage.Keys empty) kind.Var = stage.Keys false
+stage_after (stage.Keys empty) (kind.Fixed mark.LabelWord) = stage.KeyLabel
+stage_after (stage.Keys empty) (kind.Fixed mark.Comma) = stage.KeyComma
+stage_after (stage.Keys empty) (kind.Fixed mark.CloseBrace) = stage.Items (last.Item false)
+stage_after stage.KeyComma kind.Var = stage.Keys false
+stage_after stage.KeyComma (kind.Fixed mark.LabelWord) = stage.KeyLabel
+stage_after stage.KeyLabel kind.Var = stage.Keys false
+stage_after stage.CondStart kind.Name = stage.CondFrom false
+stage_after stage.CondStart kind.Var = stage.CondFrom true
+stage_after (stage.CondFrom by_var) kind.Path = stage.CondPath
+stage_after (stage.CondFrom by_var) kind.Operator = stage.Compared
+stage_after stage.Compared kind.Var = stage.CondDone
+stage_after stage.Compared kind.Quoted = stage.CondDone
+stage_after stage.CondPath kind.Var = stage.CondDone
+stage_after stage.CondDone (kind.Fixed mark.And) = stage.CondStart
+stage_after stage.CondDone (kind.Fixed mark.Order) = stage.Ordering
+stage_after stage.Ordering (kind.Fixed mark.By) = stage.OrderingBy
+stage_after stage.OrderingBy kind.Var = stage.Sorted true
+stage_after (stage.Sorted may_descend) (kind.Fixed mark.Desc) = stage.Sorted false
+stage_after s k = s
 
--- how many elements are open behind a token
-abbrev pub depth_behind : ℕ → Kind → ℕ
-depth_behind n kind.OpenTag = n + 1
-depth_behind n kind.CloseTag = n - 1
-depth_behind n k = n
+-- how many elements are open after a token
+abbrev pub depth_after : ℕ → Kind → ℕ
+depth_after n kind.OpenTag = n + 1
+depth_after n kind.CloseTag = n - 1
+depth_after n k = n

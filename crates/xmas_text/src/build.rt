@@ -1,6 +1,6 @@
 // Building the tree of a rule whose text is known to be one.
 ghost use Rattle.std.specs.Prelude.{◌≡◌, ◌<◌, ◌≤◌, ◌+◌, ◌^◌, ◌∷◌, [], length, slice_range, IfOk, IsUtf8};
-ghost use Rattle.xmas_text.specs.Building.{build_in, IsEnded, EndsToken, place_behind, CanBuild, Builds, IsOneElement, tree_of};
+ghost use Rattle.xmas_text.specs.Building.{build_in, IsEnded, EndsToken, place_after, CanBuild, Builds, IsOneElement, tree_of};
 ghost use Rattle.xmas_text.specs.Drafts.{draft_in};
 ghost use Rattle.xmas_text.specs.Grammar.{Rule, Writes};
 ghost use Rattle.xmas_text.specs.Results.{Spells, form_of};
@@ -13,7 +13,7 @@ use crate::shift::shift;
 use std::alloc::{AllocError, Global};
 use xmas_tokens::{Part, ended_kind, next_part, read_lexeme};
 
-/// What is kept of the text behind a place.
+/// What is kept of the text after a place.
 #[derive(Drop)]
 pub struct Build {
     /// The scan.
@@ -24,7 +24,7 @@ pub struct Build {
     pub draft: Draft,
 }
 
-// The draft behind the token that ends, where one does, which begins at a place.
+// The draft after the token that ends, where one does, which begins at a place.
 fn end_token(
     alloc: Global,
     draft: Draft,
@@ -49,10 +49,10 @@ fn end_token(
     }
 }
 
-// Where the token at hand begins, behind a byte that did not go on with one.
+// Where the token at hand begins, after a byte that did not go on with one.
 fn begins_at(at: usize, part: Part) -> usize
     requires { at + 1 < 2 ^ 64 }
-    ensures { result ≡ place_behind at part }
+    ensures { result ≡ place_after at part }
 {
     match part {
         Part::Between => at + 1,
@@ -86,7 +86,7 @@ fn build_byte(alloc: Global, build: Build, text: &[u8], at: usize) -> Result<Bui
     })
 }
 
-// The draft behind the end of the text.
+// The draft after the end of the text.
 fn end_build(alloc: Global, build: Build, text: &[u8]) -> Result<Draft, AllocError>
     requires order { build.from ≤ length text.now }
     requires utf8 { IsUtf8 (slice_range text.now build.from (length text.now)) }

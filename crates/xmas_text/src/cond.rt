@@ -3,7 +3,7 @@ use crate::var::VarText;
 use mix_tree::Label;
 use xmas_tokens::{Comparison, PathText};
 
-/// What stands behind an operator.
+/// What stands after an operator.
 #[derive(Drop)]
 pub enum OperandText {
     /// A variable.

@@ -49,7 +49,7 @@ pub enum Pending {
     CondPath(StartText, PathText),
     /// A variable and an operator.
     Compared(VarText, Comparison),
-    /// Nothing, behind a condition.
+    /// Nothing, after a condition.
     Done,
 }
 

@@ -5,7 +5,7 @@ ghost use Rattle.xmas_text.specs.declared.fault.TextFault.TheVariants.{OutOfMemo
 use std::alloc::{AllocError, AllocFailed};
 use thiserror::Error;
 
-/// Why a rule is not read. Places count bytes from the front of the text.
+/// Why a rule is not read. Places count bytes from the beginning of the text.
 #[derive(Clone, Copy, Debug, PartialEq, Eq, Error)]
 pub enum TextFault {
     /// The text is not UTF-8 from the place on.

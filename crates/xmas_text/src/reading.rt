@@ -24,9 +24,9 @@ fn read(alloc: Global, text: &[u8]) -> Result<RuleText, TextFault>
 ///
 /// # Errors
 ///
-/// Places count bytes from the front of the text. Of the causes that a text has, the first of these is answered:
+/// Places count bytes from the beginning of the text. Of the causes that a text has, the first of these is answered:
 ///
-/// - `NotUtf8` with the length of the longest front that is UTF-8.
+/// - `NotUtf8` with the length of the longest prefix that is UTF-8.
 /// - `Unexpected` with the first byte with which no rule's text goes on.
 /// - `EndsEarly` where a rule's text goes on from the end.
 /// - `TooDeep` where an element stands inside 20 others.

@@ -8,17 +8,17 @@ use crate::var::VarText;
 pub struct OrderText {
     /// The variable.
     pub var: VarText,
-    /// Whether `DESC` stands behind it.
+    /// Whether `DESC` stands after it.
     pub desc: bool,
 }
 
-/// A rule as it is written. Each place counts bytes from the front of the text.
+/// A rule as it is written. Each place counts bytes from the beginning of the text.
 #[derive(Drop)]
 pub struct RuleText {
-    /// The element behind `CONSTRUCT`.
+    /// The element after `CONSTRUCT`.
     pub template: ElementText,
-    /// The conditions behind `WHERE` in order.
+    /// The conditions after `WHERE` in order.
     pub conds: Vec<CondText>,
-    /// The variable behind `ORDER BY`, where there is one.
+    /// The variable after `ORDER BY`, where there is one.
     pub order: Option<OrderText>,
 }

@@ -8,14 +8,14 @@ ghost use Rattle.xmas_text.specs.Scans as scans;
 ghost use Rattle.xmas_text.specs.Stages as stages;
 
 use crate::TextFault;
-use crate::stage::{Stage, may_come, stage_behind};
+use crate::stage::{Stage, may_come, stage_after};
 use path_expr::{Scan as PathScan, is_name, scan_byte as scan_path_byte};
 use xmas_tokens::{Kind, Mark, Part, Sign, ended_kind, is_blank_byte, next_part};
 
 // The most levels of elements that a rule may have.
 const LEVELS: usize = 20;
 
-/// What a scan keeps of the text behind it.
+/// What a scan keeps of the text after it.
 #[derive(Clone, Copy)]
 pub struct Scan {
     /// Where the token at hand stands.
@@ -134,7 +134,7 @@ fn begin_part(scan: Scan, byte: u8) -> Option<Part>
     begin_word(scan, byte)
 }
 
-// The scan behind a byte that begins a token or stands between two.
+// The scan after a byte that begins a token or stands between two.
 fn scan_between(scan: Scan, byte: u8) -> Option<Scan>
     ensures step { result ≡ scans.between_step scan byte }
     ensures depth { IfSome result (λ next. next.depth ≤ scan.depth) }
@@ -154,11 +154,11 @@ fn scan_between(scan: Scan, byte: u8) -> Option<Scan>
     })
 }
 
-// How many elements are open behind a token, and whether more than 20 were.
-fn depth_behind(scan: Scan, kind: Kind) -> (usize, bool)
+// How many elements are open after a token, and whether more than 20 were.
+fn depth_after(scan: Scan, kind: Kind) -> (usize, bool)
     requires { scan.depth + 1 < 2 ^ 64 }
-    ensures depth { result.0 ≡ stages.depth_behind scan.depth kind }
-    ensures deep { result.1 ≡ scans.deep_behind scan.deep scan.depth kind }
+    ensures depth { result.0 ≡ stages.depth_after scan.depth kind }
+    ensures deep { result.1 ≡ scans.deep_after scan.deep scan.depth kind }
     ensures more { result.0 ≤ scan.depth + 1 }
 {
     match kind {
@@ -168,15 +168,15 @@ fn depth_behind(scan: Scan, kind: Kind) -> (usize, bool)
     }
 }
 
-// The scan behind a token.
-fn scan_behind(scan: Scan, kind: Kind) -> Scan
+// The scan after a token.
+fn scan_after(scan: Scan, kind: Kind) -> Scan
     requires { scan.depth + 1 < 2 ^ 64 }
-    ensures step { result ≡ scans.scan_behind scan kind }
+    ensures step { result ≡ scans.scan_after scan kind }
     ensures depth { result.depth ≤ scan.depth + 1 }
 {
-    let (depth, deep) = depth_behind(scan, kind);
+    let (depth, deep) = depth_after(scan, kind);
     Scan {
-        stage: stage_behind(scan.stage, kind),
+        stage: stage_after(scan.stage, kind),
         depth,
         deep,
         gap: false,
@@ -184,7 +184,7 @@ fn scan_behind(scan: Scan, kind: Kind) -> Scan
     }
 }
 
-/// The scan behind the token that ends here; between tokens the scan itself; `None` where no token may end.
+/// The scan after the token that ends here; between tokens the scan itself; `None` where no token may end.
 pub fn settle(scan: Scan) -> Option<Scan>
     requires { scan.depth + 1 < 2 ^ 64 }
     ensures step { result ≡ scans.settled scan }
@@ -193,10 +193,10 @@ pub fn settle(scan: Scan) -> Option<Scan>
     if let Part::Between = scan.part {
         return Some(scan);
     }
-    Some(scan_behind(scan, ended_kind(scan.part)?))
+    Some(scan_after(scan, ended_kind(scan.part)?))
 }
 
-/// The scan behind one more byte; `None` where no rule's text goes on so.
+/// The scan after one more byte; `None` where no rule's text goes on so.
 pub fn scan_byte(scan: Scan, byte: u8) -> Option<Scan>
     requires depth { scan.depth + 1 < 2 ^ 64 }
     requires part { part_depth scan.part + 1 < 2 ^ 64 }
@@ -228,13 +228,13 @@ fn end_scan(scan: Scan) -> Result<(), TextFault>
     requires { scan.depth + 1 < 2 ^ 64 }
     ensures { EndsSo (scans.settled scan) result }
 {
-    let Some(behind) = settle(scan) else {
+    let Some(after) = settle(scan) else {
         return Err(TextFault::EndsEarly);
     };
-    if !may_end_at(behind.stage) {
+    if !may_end_at(after.stage) {
         return Err(TextFault::EndsEarly);
     }
-    if behind.deep {
+    if after.deep {
         return Err(TextFault::TooDeep);
     }
     Ok(())

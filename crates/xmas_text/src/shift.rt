@@ -9,7 +9,7 @@ use crate::shift_items::{shift_item, shift_key_label, shift_keys, shift_labelled
 use std::alloc::{AllocError, Global};
 use xmas_tokens::Lexeme;
 
-/// The draft behind one more token, which stands at a place.
+/// The draft after one more token, which stands at a place.
 pub fn shift(alloc: Global, draft: Draft, at: usize, token: Lexeme) -> Result<Draft, AllocError>
     ensures { IfOk result (λ d. drafts.draft_in d ≡ shifted.shifted (drafts.draft_in draft) at token) }
 {

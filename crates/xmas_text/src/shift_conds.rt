@@ -22,9 +22,9 @@ pub fn shift_cond(built: Built, at: usize, token: Lexeme) -> Draft
     Draft { built, pending }
 }
 
-// An operator behind the first word of a condition.
+// An operator after the first word of a condition.
 fn compared(start: StartText, op: Comparison) -> Pending
-    ensures { result ≡ shifted.operator_behind start op }
+    ensures { result ≡ shifted.operator_after start op }
 {
     match start {
         StartText::Var(left) => Pending::Compared(left, op),
@@ -32,7 +32,7 @@ fn compared(start: StartText, op: Comparison) -> Pending
     }
 }
 
-/// A token behind the first word of a condition.
+/// A token after the first word of a condition.
 pub fn shift_from(built: Built, start: StartText, token: Lexeme) -> Draft
     ensures { drafts.draft_in result ≡ shifted.from_shifted (drafts.built_in built) start token }
 {
@@ -67,7 +67,7 @@ fn push_cond(built: Built, cond: CondText) -> Result<Draft, AllocError>
     })
 }
 
-/// A token behind a path.
+/// A token after a path.
 pub fn shift_path(
     built: Built,
     start: StartText,
@@ -96,7 +96,7 @@ pub fn shift_path(
     push_cond(built, cond)
 }
 
-/// A token behind an operator.
+/// A token after an operator.
 pub fn shift_compared(
     built: Built,
     left: VarText,
@@ -117,7 +117,7 @@ pub fn shift_compared(
     push_cond(built, CondText::Compare { left, op, right })
 }
 
-// The order, with `DESC` behind it.
+// The order, with `DESC` after it.
 fn descending(order: Option<OrderText>) -> Option<OrderText>
     ensures { result ≡ shifted.descended order }
 {
@@ -125,7 +125,7 @@ fn descending(order: Option<OrderText>) -> Option<OrderText>
     Some(OrderText { var, desc: true })
 }
 
-/// A token behind a condition.
+/// A token after a condition.
 pub fn shift_done(built: Built, at: usize, token: Lexeme) -> Draft
     ensures { drafts.draft_in result ≡ shifted.done_shifted (drafts.built_in built) at token }
 {

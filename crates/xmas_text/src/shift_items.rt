@@ -160,7 +160,7 @@ pub fn shift_item(
     Ok(Draft { built, pending })
 }
 
-/// A token behind `label` as an item, which stands at a place.
+/// A token after `label` as an item, which stands at a place.
 pub fn shift_labelled(
     built: Built,
     start: usize,
@@ -265,7 +265,7 @@ pub fn shift_keys(
     }
 }
 
-/// A token behind `label` inside a group label.
+/// A token after `label` inside a group label.
 pub fn shift_key_label(
     built: Built,
     item: ItemText,

@@ -4,12 +4,12 @@ ghost use Rattle.xmas_text.specs.Stages as stages;
 
 use xmas_tokens::{Kind, Mark};
 
-/// The item behind which a token stands, inside an element.
+/// The item after which a token stands, inside an element.
 #[derive(Clone, Copy)]
 pub enum Last {
     /// None: the tag has just been opened.
     Nothing,
-    /// An item; whether a group label may stand behind it.
+    /// An item; whether a group label may stand after it.
     Item(bool),
 }
 
@@ -18,35 +18,35 @@ pub enum Last {
 pub enum Stage {
     /// Before `CONSTRUCT`.
     Beginning,
-    /// Behind an item, or where the first one may stand.
+    /// After an item, or where the first one may stand.
     Items(Last),
-    /// Behind `label` as an item.
+    /// After `label` as an item.
     Labelled,
     /// Inside a group label; whether it has no key yet.
     Keys(bool),
-    /// Behind a comma inside a group label.
+    /// After a comma inside a group label.
     KeyComma,
-    /// Behind `label` inside a group label.
+    /// After `label` inside a group label.
     KeyLabel,
     /// Where a condition begins.
     CondStart,
-    /// Behind the first word of a condition; whether that is a variable.
+    /// After the first word of a condition; whether that is a variable.
     CondFrom(bool),
-    /// Behind a path.
+    /// After a path.
     CondPath,
-    /// Behind an operator.
+    /// After an operator.
     Compared,
-    /// Behind a condition.
+    /// After a condition.
     CondDone,
-    /// Behind `ORDER`.
+    /// After `ORDER`.
     Ordering,
-    /// Behind `BY`.
+    /// After `BY`.
     OrderingBy,
-    /// Behind the variable that orders; whether `DESC` may stand behind it.
+    /// After the variable that orders; whether `DESC` may stand after it.
     Sorted(bool),
 }
 
-// Whether a token of the kind may come behind an item, inside an element.
+// Whether a token of the kind may come after an item, inside an element.
 fn may_come_inside(last: Last, gap: bool, kind: Kind) -> bool
     ensures { result ≡ stages.may_come (Stage.Items last) true gap kind }
 {
@@ -61,7 +61,7 @@ fn may_come_inside(last: Last, gap: bool, kind: Kind) -> bool
     }
 }
 
-// Whether a token of the kind may come before the template or behind it.
+// Whether a token of the kind may come before the template or after it.
 fn may_come_outside(last: Last, gap: bool, kind: Kind) -> bool
     ensures { result ≡ stages.may_come (Stage.Items last) false gap kind }
 {
@@ -85,7 +85,7 @@ fn may_come_in_group(empty: bool, kind: Kind) -> bool
     }
 }
 
-/// Whether a token of the kind may come: inside an element or not, and behind a blank or not.
+/// Whether a token of the kind may come: inside an element or not, and after a blank or not.
 pub fn may_come(stage: Stage, inside: bool, gap: bool, kind: Kind) -> bool
     ensures { result ≡ stages.may_come stage inside gap kind }
 {
@@ -112,9 +112,9 @@ pub fn may_come(stage: Stage, inside: bool, gap: bool, kind: Kind) -> bool
     }
 }
 
-/// The stage behind a token of the kind, which may come there.
-pub fn stage_behind(stage: Stage, kind: Kind) -> Stage
-    ensures { result ≡ stages.stage_behind stage kind }
+/// The stage after a token of the kind, which may come there.
+pub fn stage_after(stage: Stage, kind: Kind) -> Stage
+    ensures { result ≡ stages.stage_after stage kind }
 {
     match (stage, kind) {
         (Stage::Beginning, Kind::Fixed(Mark::Construct)) | (Stage::Items(_), Kind::OpenTag) => {

@@ -52,7 +52,7 @@ apart_close b h = grind (arith, nat_tests)
 pub repeat_quiet : (g : pathing_.Frame) (q : paths.Spelled) (b : ℕ) → IsTrue (is_apart b) → pathing_.after_repeat g [] q b ≡ None
 repeat_quiet g q b h = rw (apart_dot b h, apart_bar b h, apart_close b h) refl
 
--- behind a whole path no apart byte goes on
+-- after a whole path no apart byte goes on
 pub whole_quiet : (f : pathing_.Frame) (o : List pathing_.Frame) (m : pathing_.Mode) (r : Option paths.Spelled) (q : paths.Spelled) (b : ℕ) → pathing_.repeat_in m ≡ r → pathing_.whole_in f o r ≡ Some q → IsTrue (is_apart b)
     → pathing_.step_in f o m b ≡ None
 whole_quiet f [] m None q b e w h = none_some q w

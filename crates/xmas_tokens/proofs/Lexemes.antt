@@ -27,7 +27,7 @@ use Rattle.xmas_tokens.specs.Lexical.{is_letter, is_word_byte, IsVar}
 use Rattle.xmas_tokens.specs.Tokens.{fixed, open_tag, close_tag, word, var, quoted, path, comparison}
 use Rattle.xmas_tokens.specs.Lexemes.{IsWritten, IsLexeme, IsQuotedText, Quotes, IsPathText, SpellsPath}
 
--- the part between a front and an end of a text
+-- the part between a prefix and an end of a text
 pub between_is : (a l z : List ℕ) (from to : ℕ) → from ≡ length a → to ≡ length a + length l → slice_range (a ++ (l ++ z)) from to ≡ l
 between_is [] l z from to e f =
     ap (λ n. take (to - n) (drop n (l ++ z))) e ∙ take_whole l z (to - 0) (omega arith)
@@ -137,7 +137,7 @@ quoted_not_bare : (x y l : List ℕ) → 34 ∷ y ≡ x → SpellsLabel x l → 
 quoted_not_bare x y l e (inl s) = let n : IsTrue (is_bare_label (34 ∷ y)) = subst (λ z. IsTrue (is_bare_label z)) (sym e) s.0 in cc
 quoted_not_bare x y l e (inr s) = s
 
--- the longest label at the front of a quoted label's text is that label
+-- the longest label at the beginning of a quoted label's text is that label
 pub quoted_longest : (x l : List ℕ) (end : ℕ) → IsQuotedText x → IsLongest x 0 l end → Quotes x l
 quoted_longest x l end (ps, i, t) h =
     let whole : slice_range x 0 (length x) ≡ x = search (rules, take_all) in

@@ -48,7 +48,7 @@ mark_first mark.Order = 79
 mark_first mark.By = 66
 mark_first mark.Desc = 68
 
--- the bytes behind it
+-- the bytes after it
 abbrev pub mark_rest : Mark → List ℕ
 mark_rest mark.Construct = codes "ONSTRUCT"
 mark_rest mark.Where = codes "HERE"
@@ -71,7 +71,7 @@ sign_byte sign.Bang = 33
 sign_byte sign.Less = 60
 sign_byte sign.Greater = 62
 
--- the operator of a sign with = behind it
+-- the operator of a sign with = after it
 abbrev pub with_equal : Sign → Comparison
 with_equal sign.Bang = op.Ne
 with_equal sign.Less = op.Le

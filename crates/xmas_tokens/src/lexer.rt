@@ -54,7 +54,7 @@ fn is_letter_byte(byte: u8) -> bool
     matches!(byte, b'a'..=b'z' | b'A'..=b'Z')
 }
 
-// Whether a variable's name may have the byte behind its first.
+// Whether a variable's name may have the byte after its first.
 fn is_var_byte(byte: u8) -> bool
     ensures { result ≡ is_word_byte byte }
 {
@@ -99,7 +99,7 @@ fn next_of_path(scan: PathScan, byte: u8) -> Option<Part>
     Some(Part::Pathing(scan_path_byte(scan, byte)?))
 }
 
-/// The token behind one more byte; `None` where it does not go on so.
+/// The token after one more byte; `None` where it does not go on so.
 pub fn next_part(part: Part, byte: u8) -> Option<Part>
     requires { part_depth part + 1 < 2 ^ 64 }
     ensures step { result ≡ part_step part byte }

@@ -64,8 +64,8 @@ steps::advance-returns-in_ok-put-in-At g t c =
     let step = rw c.deref.ensures at c.next_event.ensures in
     record { ran = step.ran; cause = tt; answer = rw c.in_ok-put-in-At.ensures.ok (rw (c.in-At.is, c.deref.ensures) at c.in_ok-next_event.ensures.answer) }
 
-pub steps::advance-advance_behind-requires : goal.steps::advance-advance_behind-requires
-steps::advance-advance_behind-requires g t c κs within =
+pub steps::advance-advance_after-requires : goal.steps::advance-advance_after-requires
+steps::advance-advance_after-requires g t c κs within =
     let can : CanStep (g.S.Sources.view c.next_event.new.s) c.next_event.new.growing c.args.walk.fixed.now c.args.walk.op c.in-On.later =
     (let step = rw c.deref.ensures at c.next_event.ensures in
     record { fixed = c.requires.fixed; op = c.requires.op; bench = step.ran.bench; cursor = (rw (c.in-On.is, c.deref.ensures) at c.in_ok-next_event.ensures.answer).cursor }) in
@@ -78,39 +78,39 @@ steps::advance-returns-in-On g t c =
     let begins = goes_same (keeps_same (world_of (g.S.Sources.view c.args.s.now) c.args.growing.now) (operators c.args.walk.fixed.now) c.requires.bench) refl refl in
     let goes = goes_on begins (shape_at (operators c.args.walk.fixed.now) c.args.walk.op) c.in-On.later step.ran.asks move in
     record {
-      ran = ran_then g.met.S.Sources.after step.ran.came goes c.advance_behind.ensures.ran;
+      ran = ran_then g.met.S.Sources.after step.ran.came goes c.advance_after.ensures.ran;
       cause = search rules;
-      answer = IfOk-weaker c.advance_behind.result _ _ (λ r h. goes_given _ goes (shape_at (operators c.args.walk.fixed.now) c.args.walk.op) (option_map (λ (d : Rc Position Global). d.value) r) h) c.advance_behind.ensures.answer;
+      answer = IfOk-weaker c.advance_after.result _ _ (λ r h. goes_given _ goes (shape_at (operators c.args.walk.fixed.now) c.args.walk.op) (option_map (λ (d : Rc Position Global). d.value) r) h) c.advance_after.ensures.answer;
     }
 
-pub steps::advance_behind-events-init : goal.steps::advance_behind-events-init
-steps::advance_behind-events-init g t c = record { came = g.met.S.Sources.same c.args.s.now; goes = goes_same (keeps_same (world_of (g.S.Sources.view c.args.s.now) c.args.growing.now) (operators c.args.walk.fixed.now) c.requires.bench) refl refl; can = c.requires }
+pub steps::advance_after-events-init : goal.steps::advance_after-events-init
+steps::advance_after-events-init g t c = record { came = g.met.S.Sources.same c.args.s.now; goes = goes_same (keeps_same (world_of (g.S.Sources.view c.args.s.now) c.args.growing.now) (operators c.args.walk.fixed.now) c.requires.bench) refl refl; can = c.requires }
 
-pub steps::advance_behind-events-preserved : goal.steps::advance_behind-events-preserved
-steps::advance_behind-events-preserved g t c =
-    let move = rw c.in-On.is at c.in_ok-event_behind.ensures.answer in
+pub steps::advance_after-events-preserved : goal.steps::advance_after-events-preserved
+steps::advance_after-events-preserved g t c =
+    let move = rw c.in-On.is at c.in_ok-event_after.ensures.answer in
     let can = c.events.invariant.can in
     record {
-      came = g.met.S.Sources.after _ _ _ c.events.invariant.came c.event_behind.ensures.ran.came;
-      goes = goes_on c.events.invariant.goes (shape_at (operators c.args.walk.fixed.now) c.args.walk.op) c.in-On.later c.event_behind.ensures.ran.asks move;
-      can = record { fixed = can.fixed; op = can.op; bench = c.event_behind.ensures.ran.bench; cursor = move.cursor };
+      came = g.met.S.Sources.after _ _ _ c.events.invariant.came c.event_after.ensures.ran.came;
+      goes = goes_on c.events.invariant.goes (shape_at (operators c.args.walk.fixed.now) c.args.walk.op) c.in-On.later c.event_after.ensures.ran.asks move;
+      can = record { fixed = can.fixed; op = can.op; bench = c.event_after.ensures.ran.bench; cursor = move.cursor };
     }
 
-pub steps::advance_behind-returns-in-At : goal.steps::advance_behind-returns-in-At
-steps::advance_behind-returns-in-At g t c = record {
-  ran = ran_then g.met.S.Sources.after c.events.invariant.came c.events.invariant.goes c.event_behind.ensures.ran;
+pub steps::advance_after-returns-in-At : goal.steps::advance_after-returns-in-At
+steps::advance_after-returns-in-At g t c = record {
+  ran = ran_then g.met.S.Sources.after c.events.invariant.came c.events.invariant.goes c.event_after.ensures.ran;
   cause = tt;
-  answer = rw c.in_ok-put-in-At.ensures.ok (comes_at c.events.invariant.goes.comes (rw c.in-At.is at c.in_ok-event_behind.ensures.answer));
+  answer = rw c.in_ok-put-in-At.ensures.ok (comes_at c.events.invariant.goes.comes (rw c.in-At.is at c.in_ok-event_after.ensures.answer));
 }
 
-pub steps::advance_behind-returns-in_err-put-in-At : goal.steps::advance_behind-returns-in_err-put-in-At
-steps::advance_behind-returns-in_err-put-in-At g t c = record { ran = ran_then g.met.S.Sources.after c.events.invariant.came c.events.invariant.goes c.event_behind.ensures.ran; cause = search rules; answer = search rules }
+pub steps::advance_after-returns-in_err-put-in-At : goal.steps::advance_after-returns-in_err-put-in-At
+steps::advance_after-returns-in_err-put-in-At g t c = record { ran = ran_then g.met.S.Sources.after c.events.invariant.came c.events.invariant.goes c.event_after.ensures.ran; cause = search rules; answer = search rules }
 
-pub steps::advance_behind-returns-in-Done : goal.steps::advance_behind-returns-in-Done
-steps::advance_behind-returns-in-Done g t c = record { ran = ran_then g.met.S.Sources.after c.events.invariant.came c.events.invariant.goes c.event_behind.ensures.ran; cause = tt; answer = comes_none c.events.invariant.goes.comes (rw c.in-Done.is at c.in_ok-event_behind.ensures.answer) }
+pub steps::advance_after-returns-in-Done : goal.steps::advance_after-returns-in-Done
+steps::advance_after-returns-in-Done g t c = record { ran = ran_then g.met.S.Sources.after c.events.invariant.came c.events.invariant.goes c.event_after.ensures.ran; cause = tt; answer = comes_none c.events.invariant.goes.comes (rw c.in-Done.is at c.in_ok-event_after.ensures.answer) }
 
-pub steps::advance_behind-returns-in_err-event_behind : goal.steps::advance_behind-returns-in_err-event_behind
-steps::advance_behind-returns-in_err-event_behind g t c = record { ran = ran_then g.met.S.Sources.after c.events.invariant.came c.events.invariant.goes c.event_behind.ensures.ran; cause = search rules; answer = search rules }
+pub steps::advance_after-returns-in_err-event_after : goal.steps::advance_after-returns-in_err-event_after
+steps::advance_after-returns-in_err-event_after g t c = record { ran = ran_then g.met.S.Sources.after c.events.invariant.came c.events.invariant.goes c.event_after.ensures.ran; cause = search rules; answer = search rules }
 
 pub steps::next_event-returns-in-TupleDestroy : goal.steps::next_event-returns-in-TupleDestroy
 steps::next_event-returns-in-TupleDestroy g t c =
@@ -730,12 +730,12 @@ pub join_steps::Join::next_new-returns-in-Some : goal.join_steps::Join::next_new
 join_steps::Join::next_new-returns-in-Some g t c =
     let i = c.members.invariant in
     let grown = rw c.if-not-branch.false at c.in_ok-grow.ensures.answer in
-    let behind = c.len-place.ensures ∙ ap (λ (m : Kept (Rc Position Global)). length m.pairs) (memo_read (g.S.Sources.view c.members.s) c.members.growing (operators c.args.self.now.walk.fixed.now) i.can.bench c.args.self.now.walk.op c.requires.op c.index-memo.result.now c.index-memo.ensures) in
+    let after = c.len-place.ensures ∙ ap (λ (m : Kept (Rc Position Global)). length m.pairs) (memo_read (g.S.Sources.view c.members.s) c.members.growing (operators c.args.self.now.walk.fixed.now) i.can.bench c.args.self.now.walk.op c.requires.op c.index-memo.result.now c.index-memo.ensures) in
     let pair = IfOk-weaker c.at_found.result _ _ (λ z h. h (g.S.Sources.view c.grow.new.s) c.grow.ensures.ran.bench (can_then c.members.invariant.can (g.S.Sources.view c.grow.new.s) c.grow.new.growing c.grow.ensures.ran.bench c.grow.ensures.ran.asks.kept).cursor) c.at_found.ensures.answer in
     record {
       ran = ran_then g.met.S.Sources.after i.came i.goes (beside_ran c.args.self.now.left c.args.self.now.right c.args.self.now.walk.op c.args.self.now.tests.now i.can c.requires.row c.requires.op c.requires.is c.grow.ensures.ran);
       cause = search rules;
-      answer = goes_result _ i.goes (pairs_up c.args.self.now.left c.args.self.now.right c.args.self.now.tests.now) c.at_found.result (more_steps c.args.self.now.left c.args.self.now.right c.args.self.now.walk.op c.args.self.now.tests.now i.can c.requires.row c.requires.op c.requires.is c.grow.ensures.ran grown c.len-place.result behind c.in-Some.found (rw c.in-Some.is at c.in_ok-found.ensures.place) c.at_found.result pair);
+      answer = goes_result _ i.goes (pairs_up c.args.self.now.left c.args.self.now.right c.args.self.now.tests.now) c.at_found.result (more_steps c.args.self.now.left c.args.self.now.right c.args.self.now.walk.op c.args.self.now.tests.now i.can c.requires.row c.requires.op c.requires.is c.grow.ensures.ran grown c.len-place.result after c.in-Some.found (rw c.in-Some.is at c.in_ok-found.ensures.place) c.at_found.result pair);
     }
 
 pub join_steps::Join::next_new-members-preserved : goal.join_steps::Join::next_new-members-preserved

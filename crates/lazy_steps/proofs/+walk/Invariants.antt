@@ -13,11 +13,11 @@ use Rattle.lazy_steps.proofs.+walk.Given as goal
 abbrev pub decreases-steps::advance : goal.decreases-steps::advance
 decreases-steps::advance g l = 7 * l.walk.op + 5
 
-abbrev pub decreases-steps::advance_behind : goal.decreases-steps::advance_behind
-decreases-steps::advance_behind g l = 7 * l.walk.op + 4
+abbrev pub decreases-steps::advance_after : goal.decreases-steps::advance_after
+decreases-steps::advance_after g l = 7 * l.walk.op + 4
 
-abbrev pub decreases-steps::event_behind : goal.decreases-steps::event_behind
-decreases-steps::event_behind g l = 7 * l.walk.op + 3
+abbrev pub decreases-steps::event_after : goal.decreases-steps::event_after
+decreases-steps::event_after g l = 7 * l.walk.op + 3
 
 abbrev pub decreases-steps::next_event : goal.decreases-steps::next_event
 decreases-steps::next_event g l = 7 * l.walk.op + 2
@@ -83,8 +83,8 @@ abbrev pub decreases-path_scan::PathScan::next_start-starts : goal.decreases-pat
 decreases-path_scan::PathScan::next_start-starts g l = number (world_of (g.S.Sources.view l.s) l.growing) (operators l.self.walk.fixed.now) l.self.input l.at.value
 
 -- what is still ahead, and what it has cost
-abbrev pub invariant-steps::advance_behind-events : goal.invariant-steps::advance_behind-events
-invariant-steps::advance_behind-events g l = record {
+abbrev pub invariant-steps::advance_after-events : goal.invariant-steps::advance_after-events
+invariant-steps::advance_after-events g l = record {
   came : g.S.Sources.came_from l.initial.s l.s;
   goes : Goes (world_of (g.S.Sources.view l.initial.s) l.initial.growing) (world_of (g.S.Sources.view l.s) l.growing) (operators l.walk.fixed.now) l.walk.op
       (ahead (world_of (g.S.Sources.view l.initial.s) l.initial.growing) (operators l.walk.fixed.now) l.walk.op l.fn.from) (ahead (world_of (g.S.Sources.view l.s) l.growing) (operators l.walk.fixed.now) l.walk.op l.at)
@@ -92,8 +92,8 @@ invariant-steps::advance_behind-events g l = record {
   can : CanStep (g.S.Sources.view l.s) l.growing l.walk.fixed.now l.walk.op l.at;
 }
 
-abbrev pub decreases-steps::advance_behind-events : goal.decreases-steps::advance_behind-events
-decreases-steps::advance_behind-events g l = number (world_of (g.S.Sources.view l.s) l.growing) (operators l.walk.fixed.now) l.walk.op l.at
+abbrev pub decreases-steps::advance_after-events : goal.decreases-steps::advance_after-events
+decreases-steps::advance_after-events g l = number (world_of (g.S.Sources.view l.s) l.growing) (operators l.walk.fixed.now) l.walk.op l.at
 
 abbrev pub decreases-sort_steps::Sort::step : goal.decreases-sort_steps::Sort::step
 decreases-sort_steps::Sort::step g l = 7 * l.self.now.walk.op + 1

@@ -26,9 +26,9 @@ walk-returns-clause-labels g t c =
     c.in_ok-push.ensures.items ∙ ap (λ l. c.args.out.now.items ++ l ∷ []) label in
     let all = labels_down v (g.S.Sources.view c.down.new.s) b c.down.new.self x c.requires.sources goes c.requires.spot told
     c.in_ok-first.first (c.in_ok-first.ensures.trees told) in
-    let behind = labels_from (g.S.Sources.view c.down.new.s) c.down.new.self c.in_ok-first.first in
-    rest (goes.told ∙ told) ∙ ap (λ xs. xs ++ behind) pushed
-    ∙ append_assoc c.args.out.now.items (label_of b x ∷ []) behind ∙ ap (λ ls. c.args.out.now.items ++ ls) (sym all)) c.walk_from.ensures.labels
+    let beyond = labels_from (g.S.Sources.view c.down.new.s) c.down.new.self c.in_ok-first.first in
+    rest (goes.told ∙ told) ∙ ap (λ xs. xs ++ beyond) pushed
+    ∙ append_assoc c.args.out.now.items (label_of b x ∷ []) beyond ∙ ap (λ ls. c.args.out.now.items ++ ls) (sym all)) c.walk_from.ensures.labels
 
 pub walk-returns-clause-steps : goal.walk-returns-clause-steps
 walk-returns-clause-steps g t c =
@@ -104,14 +104,14 @@ walk_from-loop-at-preserved g t c =
     let both = c.two_calls_run.ensures _ _ _ _ _ _ so_far.ran c.walk.ensures.ran in
     let spot : IsSpot c.loop-at.b c.in-Some.spot = rw c.in-Some.is at so_far.spot in
     let next = left_le u c.right.new.self r _ c.in_ok-at.ensures.smaller in
-    let behind = c.walk.ensures.ran.goes.after x spot in
+    let beyond = c.walk.ensures.ran.goes.after x spot in
     let here : left (g.S.Sources.view c.loop-at.s) c.loop-at.b c.loop-at.at ≡ 1 + below (g.S.Sources.view c.loop-at.s) c.loop-at.b c.in-Some.spot + after (g.S.Sources.view c.loop-at.s) c.loop-at.b c.in-Some.spot =
     ap (left (g.S.Sources.view c.loop-at.s) c.loop-at.b) c.in-Some.is in
     record {
       ran = c.two_calls_run.ensures _ _ _ _ _ _ both c.right.ensures.ran;
       spot = if_some_weaker r (IsNextSpot c.right.new.self x) (IsSpot c.right.new.self) (λ y h. h.spot) c.in_ok-at.ensures.next;
-      less = omega (arith, next, behind, here, so_far.less);
-      few = omega (arith, next, behind, here, so_far.few, c.walk.ensures.few);
+      less = omega (arith, next, beyond, here, so_far.less);
+      few = omega (arith, next, beyond, here, so_far.few, c.walk.ensures.few);
       labels = λ told.
           let told_here = so_far.ran.goes.told ∙ told in
           let told_walk = both.goes.told ∙ told in

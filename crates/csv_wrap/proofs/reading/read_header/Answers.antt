@@ -21,5 +21,5 @@ pub returns-in-Some-clause-refused : goal.returns-in-Some-clause-refused
 returns-in-Some-clause-refused c = λ bytes h.
     let some : c.in_ok-read_next.field-0 ≡ true = search rules in
     let at = rw some at c.in_ok-read_next.ensures (without_marks bytes) [] h in
-    let front = file_header bytes (fields_of c.read_next.new.found) (reader_state c.read_next.new.reader) at.3 at.5 in
-    (fields_of c.read_next.new.found, front.0, front.1, c.in-Some.ensures)
+    let prefix = file_header bytes (fields_of c.read_next.new.found) (reader_state c.read_next.new.reader) at.3 at.5 in
+    (fields_of c.read_next.new.found, prefix.0, prefix.1, c.in-Some.ensures)

@@ -1,4 +1,4 @@
-use Rattle.csv_wrap.proofs.FrontFacts.{strip_none}
+use Rattle.csv_wrap.proofs.PrefixFacts.{strip_none}
 use Rattle.csv_wrap.proofs.reading.read_rows.Goals as goal
 
 pub returns : goal.returns

@@ -13,39 +13,39 @@ use Rattle.lazy_value.proofs.PieceTurns.{there_is, var_turned, var_fallen, head_
 use Rattle.std.proofs.lemmas.Grind.{common_steps}
 use Rattle.lazy_value.proofs.turning.pieces.Goals as goal
 
-pub returns-in_ok-behind-in-Var-clause-answer : goal.returns-in_ok-behind-in-Var-clause-answer
-returns-in_ok-behind-in-Var-clause-answer c =
-    let b = c.in_ok-behind-in-Var.ensures in
+pub returns-in_ok-after-in-Var-clause-answer : goal.returns-in_ok-after-in-Var-clause-answer
+returns-in_ok-after-in-Var-clause-answer c =
+    let b = c.in_ok-after-in-Var.ensures in
     if_ok c.enter.result _ _
     (λ t k view h i.
     let st = state_of view c.args.bench.now in
     let f = c.in_ok-found-in-Var.ensures view h (input_at (ops_of st) c.args.from.now.op) c.args.from.now.at.now i.stands.cursor i.along in
-    var_turned st c.args.from.now.op c.args.from.now.next c.args.from.now.at.now c.args.up.now.value (there_is _ _ _ _ i.next c.count_pieces.ensures (ap (λ (p : Plan). length (pieces_of (op_at (plan_value p).ops c.args.from.now.op))) c.plan.ensures) c.if-from-count_pieces.false) i.stands i.behind b.count
+    var_turned st c.args.from.now.op c.args.from.now.next c.args.from.now.at.now c.args.up.now.value (there_is _ _ _ _ i.next c.count_pieces.ensures (ap (λ (p : Plan). length (pieces_of (op_at (plan_value p).ops c.args.from.now.op))) c.plan.ensures) c.if-from-count_pieces.false) i.stands i.after b.count
     c.in_ok-found-in-Var.found.ways f.1 c.in-Var.v c.in_ok-found-in-Var.found.origin (input_at (ops_of st) c.args.from.now.op) refl (sym (c.piece.ensures ∙ ap (λ (p : Plan). piece_at (plan_value p).ops c.args.from.now.op c.args.from.now.next) c.plan-2.ensures) ∙ c.in-Var.is)
-    f.0 c.in_ok-behind-in-Var.behind.value b.is t (k view h))
+    f.0 c.in_ok-after-in-Var.after.value b.is t (k view h))
     c.enter.ensures.answer
 
-pub returns-in_ok-behind-in-Var-clause-left : goal.returns-in_ok-behind-in-Var-clause-left
-returns-in_ok-behind-in-Var-clause-left c =
-    let b = c.in_ok-behind-in-Var.ensures in
+pub returns-in_ok-after-in-Var-clause-left : goal.returns-in_ok-after-in-Var-clause-left
+returns-in_ok-after-in-Var-clause-left c =
+    let b = c.in_ok-after-in-Var.ensures in
     if_ok c.enter.result _ _
     (λ t k view h i.
     let st = state_of view c.args.bench.now in
     let f = c.in_ok-found-in-Var.ensures view h (input_at (ops_of st) c.args.from.now.op) c.args.from.now.at.now i.stands.cursor i.along in
-    var_fallen st c.args.from.now.op c.args.from.now.next c.args.from.now.at.now c.args.up.now.value (there_is _ _ _ _ i.next c.count_pieces.ensures (ap (λ (p : Plan). length (pieces_of (op_at (plan_value p).ops c.args.from.now.op))) c.plan.ensures) c.if-from-count_pieces.false) i.stands i.behind b.count
+    var_fallen st c.args.from.now.op c.args.from.now.next c.args.from.now.at.now c.args.up.now.value (there_is _ _ _ _ i.next c.count_pieces.ensures (ap (λ (p : Plan). length (pieces_of (op_at (plan_value p).ops c.args.from.now.op))) c.plan.ensures) c.if-from-count_pieces.false) i.stands i.after b.count
     c.in_ok-found-in-Var.found.ways f.1 c.in-Var.v c.in_ok-found-in-Var.found.origin (input_at (ops_of st) c.args.from.now.op) refl (sym (c.piece.ensures ∙ ap (λ (p : Plan). piece_at (plan_value p).ops c.args.from.now.op c.args.from.now.next) c.plan-2.ensures) ∙ c.in-Var.is)
-    f.0 c.in_ok-behind-in-Var.behind.value b.is t (k view h))
+    f.0 c.in_ok-after-in-Var.after.value b.is t (k view h))
     c.enter.ensures.left
 
-pub returns-in_ok-behind-in-Var-clause-rank : goal.returns-in_ok-behind-in-Var-clause-rank
-returns-in_ok-behind-in-Var-clause-rank c =
-    let b = c.in_ok-behind-in-Var.ensures in let view = c.requires.bench.0 in let i = c.requires.bench.2 in let st = state_of view c.args.bench.now in
+pub returns-in_ok-after-in-Var-clause-rank : goal.returns-in_ok-after-in-Var-clause-rank
+returns-in_ok-after-in-Var-clause-rank c =
+    let b = c.in_ok-after-in-Var.ensures in let view = c.requires.bench.0 in let i = c.requires.bench.2 in let st = state_of view c.args.bench.now in
     let f = c.in_ok-found-in-Var.ensures view c.requires.bench.1 (input_at (ops_of st) c.args.from.now.op) c.args.from.now.at.now i.stands.cursor i.along in
     let o = f.0 in
     let l = origin_ranked (ops_of st) c.requires.bench.1.fixed.typed c.args.from.now.op (input_at (ops_of st) c.args.from.now.op) c.args.from.now.next i.stands.within (there_is _ _ _ _ i.next c.count_pieces.ensures (ap (λ (p : Plan). length (pieces_of (op_at (plan_value p).ops c.args.from.now.op))) c.plan.ensures) c.if-from-count_pieces.false)
     refl c.in_ok-found-in-Var.found.origin o.rank in
     if_ok c.enter.result _ (KeepsRank c.args.from.now.op c.args.up.now.value)
-    (λ t h k m n. h k (omega (arith, l, m)) (put_ranked c.in_ok-behind-in-Var.behind.value c.args.up.now.value c.args.from.now.op k (ap rest_rank b.is) m n)) c.enter.ensures.rank
+    (λ t h k m n. h k (omega (arith, l, m)) (put_ranked c.in_ok-after-in-Var.after.value c.args.up.now.value c.args.from.now.op k (ap rest_rank b.is) m n)) c.enter.ensures.rank
 
 pub returns-in_ok-rest-in_default : goal.returns-in_ok-rest-in_default
 returns-in_ok-rest-in_default c =
@@ -53,11 +53,11 @@ returns-in_ok-rest-in_default c =
     record {
       answer = λ view h i.
           let st = state_of view c.args.bench.now in
-          head_stands st c.args.from.now.op c.args.from.now.next c.args.from.now.at.now c.args.up.now.value (there_is _ _ _ _ i.next c.count_pieces.ensures (ap (λ (p : Plan). length (pieces_of (op_at (plan_value p).ops c.args.from.now.op))) c.plan.ensures) c.if-from-count_pieces.false) i.stands i.behind b.count
+          head_stands st c.args.from.now.op c.args.from.now.next c.args.from.now.at.now c.args.up.now.value (there_is _ _ _ _ i.next c.count_pieces.ensures (ap (λ (p : Plan). length (pieces_of (op_at (plan_value p).ops c.args.from.now.op))) c.plan.ensures) c.if-from-count_pieces.false) i.stands i.after b.count
           c.in_ok-again-in_default.field-0 (k.0 st (input_at (ops_of st) c.args.from.now.op) c.args.from.now.at.now i.along.0, k.1 st (input_at (ops_of st) c.args.from.now.op) c.args.from.now.at.now i.along.1) c.in_ok-head-in_default.head (c.in_ok-head-in_default.ensures view h (subst (λ (n : ℕ). IsCursor st n c.args.from.now.at.now) (sym (c.input_of-input.ensures ∙ ap (λ (p : Plan). input_at (plan_value p).ops c.args.from.now.op) c.plan-in_default.ensures)) i.stands.cursor)) c.in_ok-rest-in_default.rest b.is;
       left = λ view h i.
           let st = state_of view c.args.bench.now in
-          head_falls st c.args.from.now.op c.args.from.now.next c.args.from.now.at.now c.args.up.now.value (there_is _ _ _ _ i.next c.count_pieces.ensures (ap (λ (p : Plan). length (pieces_of (op_at (plan_value p).ops c.args.from.now.op))) c.plan.ensures) c.if-from-count_pieces.false) i.stands i.behind b.count
+          head_falls st c.args.from.now.op c.args.from.now.next c.args.from.now.at.now c.args.up.now.value (there_is _ _ _ _ i.next c.count_pieces.ensures (ap (λ (p : Plan). length (pieces_of (op_at (plan_value p).ops c.args.from.now.op))) c.plan.ensures) c.if-from-count_pieces.false) i.stands i.after b.count
           c.in_ok-again-in_default.field-0 (k.0 st (input_at (ops_of st) c.args.from.now.op) c.args.from.now.at.now i.along.0, k.1 st (input_at (ops_of st) c.args.from.now.op) c.args.from.now.at.now i.along.1) c.in_ok-head-in_default.head (c.in_ok-head-in_default.ensures view h (subst (λ (n : ℕ). IsCursor st n c.args.from.now.at.now) (sym (c.input_of-input.ensures ∙ ap (λ (p : Plan). input_at (plan_value p).ops c.args.from.now.op) c.plan-in_default.ensures)) i.stands.cursor))
           (λ v e. c.in_default.not-Var v (c.piece.ensures ∙ ap (λ (p : Plan). piece_at (plan_value p).ops c.args.from.now.op c.args.from.now.next) c.plan-2.ensures ∙ e)) c.in_ok-rest-in_default.rest.value b.is;
       rank = (let view = c.requires.bench.0 in let h = c.requires.bench.1 in let i = c.requires.bench.2 in let st = state_of view c.args.bench.now in
@@ -67,7 +67,7 @@ returns-in_ok-rest-in_default c =
 
 pub enter-requires : goal.enter-requires
 enter-requires c =
-    let b = c.in_ok-behind-in-Var.ensures in let view = c.requires.bench.0 in let i = c.requires.bench.2 in let st = state_of view c.args.bench.now in
+    let b = c.in_ok-after-in-Var.ensures in let view = c.requires.bench.0 in let i = c.requires.bench.2 in let st = state_of view c.args.bench.now in
     let f = c.in_ok-found-in-Var.ensures view c.requires.bench.1 (input_at (ops_of st) c.args.from.now.op) c.args.from.now.at.now i.stands.cursor i.along in
     record {
       bench = (
@@ -76,7 +76,7 @@ enter-requires c =
         (
           f.0.origin,
           subst (λ (r : Rest). IsRest st r) (sym b.is)
-              (rest_on st c.args.from.now.op c.args.from.now.next c.args.from.now.at.now c.args.up.now.value (there_is _ _ _ _ i.next c.count_pieces.ensures (ap (λ (p : Plan). length (pieces_of (op_at (plan_value p).ops c.args.from.now.op))) c.plan.ensures) c.if-from-count_pieces.false) i.stands i.behind b.count c.in_ok-found-in-Var.found.ways f.1),
+              (rest_on st c.args.from.now.op c.args.from.now.next c.args.from.now.at.now c.args.up.now.value (there_is _ _ _ _ i.next c.count_pieces.ensures (ap (λ (p : Plan). length (pieces_of (op_at (plan_value p).ops c.args.from.now.op))) c.plan.ensures) c.if-from-count_pieces.false) i.stands i.after b.count c.in_ok-found-in-Var.found.ways f.1),
         ),
       );
     }
@@ -84,7 +84,7 @@ enter-requires c =
 pub returns-then-from-count_pieces-clause-answer : goal.returns-then-from-count_pieces-clause-answer
 returns-then-from-count_pieces-clause-answer c = λ view h i.
     over_pieces (state_of view c.args.bench.now) c.args.from.now.op c.args.from.now.next c.args.from.now.at.now c.args.up.now.value c.in_ok-share.field-0.value
-    (c.if-from-count_pieces.true ∙ c.count_pieces.ensures ∙ ap (λ (p : Plan). length (pieces_of (op_at (plan_value p).ops c.args.from.now.op))) c.plan.ensures) c.in_ok-share.ensures i.behind
+    (c.if-from-count_pieces.true ∙ c.count_pieces.ensures ∙ ap (λ (p : Plan). length (pieces_of (op_at (plan_value p).ops c.args.from.now.op))) c.plan.ensures) c.in_ok-share.ensures i.after
 
 pub count_pieces-requires-clause-op : goal.count_pieces-requires-clause-op
 count_pieces-requires-clause-op c = let i = c.requires.bench.2 in rw c.plan.ensures i.stands.within

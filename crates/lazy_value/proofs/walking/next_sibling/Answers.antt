@@ -2,7 +2,7 @@ use Rattle.std.proofs.Common.{ℕ, sym, ap, subst, arith}
 use Rattle.lazy_plan.specs.Bench.{state_of}
 use Rattle.lazy_value.specs.Heights.{rest_rank, site_height, IsNoHigher}
 use Rattle.lazy_value.proofs.Heads.{if_ok}
-use Rattle.lazy_value.proofs.Heights.{lower_no_higher, ranked_behind, roots_same}
+use Rattle.lazy_value.proofs.Heights.{lower_no_higher, ranked_after, roots_same}
 use Rattle.lazy_value.proofs.walking.next_sibling.Goals as goal
 
 pub returns-in-Inside-clause-height : goal.returns-in-Inside-clause-height
@@ -14,4 +14,4 @@ pub returns-in-Item-clause-height : goal.returns-in-Item-clause-height
 returns-in-Item-clause-height g c =
     if_ok c.first_node.result _ (IsNoHigher (site_height (state_of (g.S.Sources.view c.args.s.now) c.args.bench.now) c.args.site.now) (state_of (g.S.Sources.view c.first_node.new.s) c.first_node.new.bench))
     (λ r h. subst (λ (n : ℕ). IsNoHigher n (state_of (g.S.Sources.view c.first_node.new.s) c.first_node.new.bench) r) (sym (ap (site_height (state_of (g.S.Sources.view c.args.s.now) c.args.bench.now)) c.in-Item.is))
-    (ranked_behind (state_of (g.S.Sources.view c.args.s.now) c.args.bench.now) (state_of (g.S.Sources.view c.first_node.new.s) c.first_node.new.bench) c.in-Item.head (rest_rank c.in-Item.rest.value) (roots_same (g.S.Sources.view c.args.s.now) (g.S.Sources.view c.first_node.new.s) c.args.bench.now c.first_node.new.bench (g.met.S.Sources.keeps c.args.s.now c.first_node.new.s c.first_node.ensures.walked.came) c.requires.bench) r h)) c.first_node.ensures.rank
+    (ranked_after (state_of (g.S.Sources.view c.args.s.now) c.args.bench.now) (state_of (g.S.Sources.view c.first_node.new.s) c.first_node.new.bench) c.in-Item.head (rest_rank c.in-Item.rest.value) (roots_same (g.S.Sources.view c.args.s.now) (g.S.Sources.view c.first_node.new.s) c.args.bench.now c.first_node.new.bench (g.met.S.Sources.keeps c.args.s.now c.first_node.new.s c.first_node.ensures.walked.came) c.requires.bench) r h)) c.first_node.ensures.rank

@@ -13,7 +13,7 @@ use Rattle.mix_top.proofs.Readiness.{rule_before, mounts_before, view_unready}
 use Rattle.mix_call.proofs.Readying.{sources_read, sources_unready}
 use Rattle.mix_call.proofs.talking.make_ready.Goals as goal
 
--- behind a view the files of its sources may be read
+-- after a view the files of its sources may be read
 abbrev Sources : FilesView → List SourceSpec → RuleValue → List ℕ → Type 0
 Sources files sources v = SourceMayRead files v sources
 

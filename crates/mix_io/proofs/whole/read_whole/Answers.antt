@@ -2,7 +2,7 @@ use Rattle.std.proofs.Common.{rules, ◌≡◌, ◌+◌, ◌∙◌, ◌++◌, ar
 use Rattle.std.proofs.lemmas.Grind.{common_steps}
 use Rattle.mix_base.proofs.Lists.{take_whole}
 use Rattle.mix_io.specs.Contents.{GivesFrom}
-use Rattle.mix_io.proofs.Fronts.{IsFront, front_more}
+use Rattle.mix_io.proofs.Prefixes.{IsPrefix, prefix_more}
 use Rattle.mix_io.proofs.Keeps.{keeps_files_twice}
 use Rattle.mix_io.proofs.whole.read_whole.Goals as goal
 
@@ -26,7 +26,7 @@ reads-preserved g c =
       keeps = keeps_files_twice _ _ _ held.keeps c.read_at.ensures.keeps;
       others = λ other apart. c.read_at.ensures.others other apart ∙ held.others other apart;
       steady = λ p. c.in_ok-count.ensures.steady p ∙ held.steady p;
-      front = subst (λ n. IfSome told (IsFront more.items n)) (sym longer) (front_more told _ _ _ _ _ held.front given grown);
+      prefix = subst (λ n. IfSome told (IsPrefix more.items n)) (sym longer) (prefix_more told _ _ _ _ _ held.prefix given grown);
       short = search rules;
       room = search rules;
     }

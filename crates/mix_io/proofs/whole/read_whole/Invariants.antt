@@ -1,6 +1,6 @@
 use Rattle.std.proofs.Common.{◌≡◌, ◌-◌, ◌≤◌, ℕ, List, vec_len, IfSome}
 use Rattle.mix_io.specs.Views.{KeepsFiles, ReadsOnly}
-use Rattle.mix_io.proofs.Fronts.{IsFront}
+use Rattle.mix_io.proofs.Prefixes.{IsPrefix}
 use Rattle.mix_io.proofs.whole.read_whole.Given as goal
 
 abbrev pub invariant-reads : goal.invariant-reads
@@ -10,7 +10,7 @@ invariant-reads g l =
       keeps : KeepsFiles (view l.fn.files) (view l.files);
       others : ReadsOnly l.fn.path (view l.fn.files) (view l.files);
       steady : (p : List ℕ) → (view l.files).faults p ≡ (view l.fn.files).faults p;
-      front : IfSome ((view l.fn.files).told l.fn.path) (IsFront l.bytes.items (vec_len l.bytes));
+      prefix : IfSome ((view l.fn.files).told l.fn.path) (IsPrefix l.bytes.items (vec_len l.bytes));
       short : vec_len l.bytes ≤ 67108864;
       room : vec_len l.room ≡ 65536;
     }

@@ -14,8 +14,8 @@ returns c =
     let more : c.extend_from_slice.new.self.items ≡ line ++ take (min count (1048578 - length line)) page = grind (arith, common_steps, least) in
     record {
       part = take count page;
-      cut = sym (take-append-drop count page) ∙ ap (λ rest. take count page ++ rest) (sym c.drop_front.ensures);
-      is = subst (λ rest. IsPart (take count page) rest c.line_part-count.result.1) (sym c.drop_front.ensures)
+      cut = sym (take-append-drop count page) ∙ ap (λ rest. take count page ++ rest) (sym c.drop_prefix.ensures);
+      is = subst (λ rest. IsPart (take count page) rest c.line_part-count.result.1) (sym c.drop_prefix.ensures)
           (subst (λ bytes. IsPart (take count bytes) (drop count bytes) c.line_part-count.result.1) c.bytes-bytes.ensures c.line_part-count.ensures.part);
       kept = more ∙ kept_of line page count 1048578 c.requires;
     }

@@ -4,7 +4,7 @@ use Rattle.path_auto.specs.Sets.{step_from}
 use Rattle.path_auto.proofs.auto.step_table.Given as goal
 
 abbrev pub invariant-loop-rest : goal.invariant-loop-rest
-invariant-loop-rest l = bit_or l.found (step_from l.labels l.behind 0 l.rest l.label) ≡ step_from l.labels l.behind 0 l.states l.label
+invariant-loop-rest l = bit_or l.found (step_from l.labels l.after 0 l.rest l.label) ≡ step_from l.labels l.after 0 l.states l.label
 
 abbrev pub decreases-loop-rest : goal.decreases-loop-rest
 decreases-loop-rest l = l.rest

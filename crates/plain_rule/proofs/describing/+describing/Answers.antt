@@ -16,8 +16,8 @@ pub describes_in_turn-returns : goal.describes_in_turn-returns
 describes_in_turn-returns t c = (
   (λ h. cc),
   (λ d.
-      let parts : DescribesAs (paths_of (c.in-Some.first.now ∷ c.in-Some.behind.now)) in_turn c.args.labels.now = subst (λ ps. DescribesAs (paths_of ps) in_turn c.args.labels.now) c.in-Some.ensures.cases.0 d in
-      absurd (not_then (Describes c.in-Some.first.now) (DescribesAs (paths_of c.in-Some.behind.now) in_turn) c.args.labels.now (λ i s a b. c.loop-at.invariant i (omega arith) (a, b)) parts)),
+      let parts : DescribesAs (paths_of (c.in-Some.first.now ∷ c.in-Some.after.now)) in_turn c.args.labels.now = subst (λ ps. DescribesAs (paths_of ps) in_turn c.args.labels.now) c.in-Some.ensures.cases.0 d in
+      absurd (not_then (Describes c.in-Some.first.now) (DescribesAs (paths_of c.in-Some.after.now) in_turn) c.args.labels.now (λ i s a b. c.loop-at.invariant i (omega arith) (a, b)) parts)),
 )
 
 pub describes_many-returns : goal.describes_many-returns

@@ -10,16 +10,16 @@ use Rattle.plain_rule.proofs.tuples.extend_begun.Goals as goal
 pub returns-in_ok-begun-in-FromSource : goal.returns-in_ok-begun-in-FromSource
 returns-in_ok-begun-in-FromSource c =
     IfOk-weaker c.extend_reached.result
-    (λ longer. (lists : MatchLists) → AreMatchLists (documents_of c.args.docs.now) lists → longer.items ≡ tuples lists c.in_ok-begun-in-FromSource.begun.items (reached (c.in-FromSource.var ∷ []) (binders c.args.behind.now)))
-    (λ longer. (lists : MatchLists) → AreMatchLists (documents_of c.args.docs.now) lists → longer.items ≡ tuples lists c.args.bindings.items (flat (begun c.args.cond.now (binders c.args.behind.now))))
+    (λ longer. (lists : MatchLists) → AreMatchLists (documents_of c.args.docs.now) lists → longer.items ≡ tuples lists c.in_ok-begun-in-FromSource.begun.items (reached (c.in-FromSource.var ∷ []) (binders c.args.after.now)))
+    (λ longer. (lists : MatchLists) → AreMatchLists (documents_of c.args.docs.now) lists → longer.items ≡ tuples lists c.args.bindings.items (flat (begun c.args.cond.now (binders c.args.after.now))))
     (λ longer h. λ lists is.
     h lists is
-    ∙ begun_source lists c.in-FromSource.source c.in-FromSource.path c.in-FromSource.var (binders c.args.behind.now) c.args.bindings.items c.deref.result.now c.in_ok-begun-in-FromSource.begun.items c.deref.ensures.value (c.in_ok-begun-in-FromSource.ensures lists is)
-    ∙ ap (λ z. tuples lists c.args.bindings.items (flat (begun z (binders c.args.behind.now)))) (sym c.in-FromSource.is))
+    ∙ begun_source lists c.in-FromSource.source c.in-FromSource.path c.in-FromSource.var (binders c.args.after.now) c.args.bindings.items c.deref.result.now c.in_ok-begun-in-FromSource.begun.items c.deref.ensures.value (c.in_ok-begun-in-FromSource.ensures lists is)
+    ∙ ap (λ z. tuples lists c.args.bindings.items (flat (begun z (binders c.args.after.now)))) (sym c.in-FromSource.is))
     c.extend_reached.ensures
 
 pub returns-in-FromVar : goal.returns-in-FromVar
-returns-in-FromVar c = λ lists is. sym (ap (λ z. tuples lists c.args.bindings.items (flat (begun z (binders c.args.behind.now)))) c.in-FromVar.is ∙ tuples_none lists c.args.bindings.items)
+returns-in-FromVar c = λ lists is. sym (ap (λ z. tuples lists c.args.bindings.items (flat (begun z (binders c.args.after.now)))) c.in-FromVar.is ∙ tuples_none lists c.args.bindings.items)
 
 pub returns-in-Compare : goal.returns-in-Compare
-returns-in-Compare c = λ lists is. sym (ap (λ z. tuples lists c.args.bindings.items (flat (begun z (binders c.args.behind.now)))) c.in-Compare.is ∙ tuples_none lists c.args.bindings.items)
+returns-in-Compare c = λ lists is. sym (ap (λ z. tuples lists c.args.bindings.items (flat (begun z (binders c.args.after.now)))) c.in-Compare.is ∙ tuples_none lists c.args.bindings.items)

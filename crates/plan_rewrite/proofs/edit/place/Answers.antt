@@ -29,11 +29,11 @@ returns c =
     let d = length-map (map op_of c.as_mut_slice.result.now) (bumped_op c.args.at) in
     let e = length-map c.as_mut_slice.result.now op_of in
     let v = ap length c.as_mut_slice.ensures.value in
-    let many : c.in_ok-behind.behind.len ≡ length moved = omega (arith, a, b, d, e, v, c.in_ok-behind.behind.ok.0) in
-    let front : c.split_off.new.self.items ≡ take (suc c.args.at) changed = search rules in
+    let many : c.in_ok-after.after.len ≡ length moved = omega (arith, a, b, d, e, v, c.in_ok-after.after.ok.0) in
+    let prefix : c.split_off.new.self.items ≡ take (suc c.args.at) changed = search rules in
     let all : c.append.new.self.items ≡ (take (suc c.args.at) changed ++ s ∷ []) ++ moved =
-    c.in_ok-append.ensures.items ∙ ap (λ z. c.push.new.self.items ++ z) (take_at moved _ c.in_ok-behind.behind.len (sym many)) ∙ ap (λ z. z ++ moved) (c.in_ok-push.ensures.items ∙ ap (λ z. z ++ s ∷ []) front) in
-    let behind : map op_of c.bump_ops.new.ops ≡ map (bumped_op c.args.at) (map op_of (drop (suc c.args.at) changed)) = search rules in
+    c.in_ok-append.ensures.items ∙ ap (λ z. c.push.new.self.items ++ z) (take_at moved _ c.in_ok-after.after.len (sym many)) ∙ ap (λ z. z ++ moved) (c.in_ok-push.ensures.items ∙ ap (λ z. z ++ s ∷ []) prefix) in
+    let after : map op_of c.bump_ops.new.ops ≡ map (bumped_op c.args.at) (map op_of (drop (suc c.args.at) changed)) = search rules in
     ap (map op_of) all
     ∙ placed_over c.args.test c.in-Some.test c.args.at c.args.at c.args.ops.now.items c.index_mut.result.now c.add_test.new.op s c.bump_ops.new.ops lt
-    (subst (λ (o : Op). Added c.args.test (Some c.in-Some.test) (op_of o) (op_of c.add_test.new.op)) here added) refl behind
+    (subst (λ (o : Op). Added c.args.test (Some c.in-Some.test) (op_of o) (op_of c.add_test.new.op)) here added) refl after

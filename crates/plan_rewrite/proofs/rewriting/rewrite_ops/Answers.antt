@@ -7,7 +7,7 @@ use Rattle.plan_core.specs.Valid.{inputs_of}
 use Rattle.plan_make.specs.Trees.{Tree}
 use Rattle.plan_rewrite.specs.Blocks.{blocks_of, without, block_over, AreBelow, SidesDiffer}
 use Rattle.plan_rewrite.specs.Rewritten.{rewritten, tree_at}
-use Rattle.plan_rewrite.proofs.BlockSteps.{AreBlocks, op_here, blocks_below, blocks_behind, sides_differ, blocks_more, last_block}
+use Rattle.plan_rewrite.proofs.BlockSteps.{AreBlocks, op_here, blocks_below, blocks_after, sides_differ, blocks_more, last_block}
 use Rattle.plan_rewrite.proofs.rewriting.rewrite_ops.Goals as goal
 
 pub push_block-requires-clause-sides : goal.push_block-requires-clause-sides
@@ -49,4 +49,4 @@ returns-in-Some c =
     let same = ap length c.as_slice-op-items.ensures.value in
     let end : c.loop-op.op-index ≡ length p.ops = omega (arith, many, same, c.loop-op-test.false, c.loop-op.auto.op-index-end) in
     last_block p c.requires typed all (blocks_of c.pop.new.self.items) (map op_of c.in-Some.ops.items) (subst (AreBlocks p.ops all) end c.loop-op.invariant)
-    (ap blocks_of c.in-Some.ensures.items ∙ blocks_behind c.pop.new.self.items c.in-Some.ops)
+    (ap blocks_of c.in-Some.ensures.items ∙ blocks_after c.pop.new.self.items c.in-Some.ops)

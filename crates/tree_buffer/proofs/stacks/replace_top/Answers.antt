@@ -6,15 +6,15 @@ use Rattle.tree_buffer.proofs.StackTops.{stacked-only, stacked-refilled}
 use Rattle.tree_buffer.proofs.stacks.replace_top.Goals as goal
 
 pub returns-then-at-eq0-clause-ok : goal.returns-then-at-eq0-clause-ok
-returns-then-at-eq0-clause-ok c = λ front top e.
-    let one : length (front ++ top ∷ []) ≡ 1 =
-    omega (arith, c.if-at-eq0.true, c.len-at.ensures, c.args.stack.now.ok.0, ap length e, length-append front (top ∷ [])) in
-    rw (c.replace.ensures.after) (ap (λ xs. stacked xs nil) c.turn_round.ensures ∙ stacked-only front c.args.list.items top one)
+returns-then-at-eq0-clause-ok c = λ prefix top e.
+    let one : length (prefix ++ top ∷ []) ≡ 1 =
+    omega (arith, c.if-at-eq0.true, c.len-at.ensures, c.args.stack.now.ok.0, ap length e, length-append prefix (top ∷ [])) in
+    rw (c.replace.ensures.after) (ap (λ xs. stacked xs nil) c.turn_round.ensures ∙ stacked-only prefix c.args.list.items top one)
 
 pub returns-clause-ok : goal.returns-clause-ok
-returns-clause-ok c = λ front top e.
+returns-clause-ok c = λ prefix top e.
     let list = c.args.list.items in
-    let at_is : c.len-at.result - 1 ≡ length front = omega (arith, c.len-at.ensures, c.args.stack.now.ok.0, ap length e, length-append front (top ∷ [])) in
-    let whole : c.append.new.self.items ≡ (front ++ top ∷ []) ++ reverse list = rw (c.in_ok-append.ensures.items, c.turn_round.ensures, e) refl in
-    ap (λ xs. stacked xs nil) (c.remove.ensures.items ∙ ap (λ xs. remove xs (c.len-at.result - 1)) whole ∙ ap (remove ((front ++ top ∷ []) ++ reverse list)) at_is)
-    ∙ stacked-refilled front list top
+    let at_is : c.len-at.result - 1 ≡ length prefix = omega (arith, c.len-at.ensures, c.args.stack.now.ok.0, ap length e, length-append prefix (top ∷ [])) in
+    let whole : c.append.new.self.items ≡ (prefix ++ top ∷ []) ++ reverse list = rw (c.in_ok-append.ensures.items, c.turn_round.ensures, e) refl in
+    ap (λ xs. stacked xs nil) (c.remove.ensures.items ∙ ap (λ xs. remove xs (c.len-at.result - 1)) whole ∙ ap (remove ((prefix ++ top ∷ []) ++ reverse list)) at_is)
+    ∙ stacked-refilled prefix list top

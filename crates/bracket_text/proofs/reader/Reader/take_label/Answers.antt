@@ -2,7 +2,7 @@ use Rattle.std.proofs.Common.{◌<◌, ◌≤◌, ◌∙◌, length, slice_index
 use Rattle.std.proofs.lemmas.Result.{err_from_is_err_and}
 use Rattle.std.proofs.lemmas.Str.{IsCharBoundary-after_ascii}
 use Rattle.bracket_text.specs.Machine.{at, named}
-use Rattle.bracket_text.proofs.Taken.{label_at, step_goes, fault_stops, ascii_behind}
+use Rattle.bracket_text.proofs.Taken.{label_at, step_goes, fault_stops, ascii_after}
 use Rattle.bracket_text.proofs.Held.{may, few_open, deep_at, seen_fault, label_lies}
 use Rattle.bracket_text.proofs.reader.Reader.take_label.Goals as goal
 
@@ -52,7 +52,7 @@ returns c = λ o m h.
     let taken = label_at o m text c.args.at _ begun few c.requires.inside c.requires.label put.seen_is in
     let inside : c.in_ok-end.end < length text = omega (arith, put.inside, c.if-end-text.false) in
     let given = c.in_ok-close_label.ensures o put.label (label_lies c.args.self.now o m _ put.label h begun put.nodes) in
-    let low : slice_index text end < 128 = ascii_behind o put.label (slice_index text end) given.0 given.1 in
+    let low : slice_index text end < 128 = ascii_after o put.label (slice_index text end) given.0 given.1 in
     record {
       state = given.0;
       order = omega (arith, put.next);

@@ -11,7 +11,7 @@ run-requires t c =
     let ns = c.args.self.now.nodes.items in
     let read = node_at ns c.loop-i.i _ (omega arith) c.index.ensures in
     let within : c.first.result + c.index.result.now.count ≤ length ns = omega (arith, read.count, c.first.ensures.within) in
-    let behind : length ns - c.first.result < length ns - c.args.first = omega (arith, c.first.ensures.behind) in
+    let after : length ns - c.first.result < length ns - c.args.first = omega (arith, c.first.ensures.after) in
     search rules
 
 pub loop-i-preserved : goal.loop-i-preserved

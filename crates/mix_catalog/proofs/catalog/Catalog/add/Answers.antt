@@ -15,7 +15,7 @@ named c = c.in-Ok.ensures.items ∙ c.bytes.ensures.bytes
 new : (c : goal.Joined-insert) → source_named (map (λ (e : Vec ℕ Global × SourceSpec). e.1) c.self.inside.sources.entries) c.args.spec.name ≡ None
 new c = ap (λ sources. source_named sources c.args.spec.name) c.self.view_is ∙ c.requires.new
 
--- the entries are kept behind one more
+-- the entries are kept after one more
 kept_more : (c : goal.Joined-insert) → c.insert.new.self.entries ≡ c.self.inside.sources.entries ++ (c.in-Ok.name, c.args.spec) ∷ [] → IsKept c.insert.new.self.entries
 kept_more c e =
     let es = c.self.inside.sources.entries in
@@ -28,7 +28,7 @@ invariant_of-self c = elim c.match-insert.branch [
   | in-Err w ↦ subst IsKept (sym w.in-Err.ensures.err) c.self.invariant
 ]
 
--- the sources behind one more entry
+-- the sources after one more entry
 seen_more :
     (c : goal.Joined-insert) → c.insert.new.self.entries ≡ c.self.inside.sources.entries ++ (c.in-Ok.name, c.args.spec) ∷ []
     → map (λ (e : Vec ℕ Global × SourceSpec). e.1) c.insert.new.self.entries ≡ c.args.self.now ++ c.args.spec ∷ []

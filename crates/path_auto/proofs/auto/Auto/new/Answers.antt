@@ -13,10 +13,10 @@ invariant_of-result c =
     let end : c.single-end.result ≡ 2 ^ end_of c.args.p.now = c.single-end.ensures ∙ ap (λ n. 2 ^ n) c.count_positions.ensures.listed in
     let labels : c.push_labels.new.table.items ≡ tests_by c.args.p.now.head (tests_of c.args.p.now.members) =
     c.in_ok-push_labels.ensures.labels ∙ ap (λ xs. xs ++ tests_by p.head (tests_of p.members)) c.new-labels.ensures.items in
-    let behind : c.push_behind.new.table.items ≡ rows_in c.args.p.now =
-    c.in_ok-push_behind.ensures ∙ ap (λ xs. xs ++ rows_by p.head (rows p.members) (entry p.members) 0 c.single-end.result) c.new-behind.ensures.items
+    let after : c.push_after.new.table.items ≡ rows_in c.args.p.now =
+    c.in_ok-push_after.ensures ∙ ap (λ xs. xs ++ rows_by p.head (rows p.members) (entry p.members) 0 c.single-end.result) c.new-after.ensures.items
     ∙ ap (λ n. rows_by p.head (rows p.members) (entry p.members) 0 n) end in
-    let fit = sizes c.push_labels.new.table.items c.push_behind.new.table.items p labels behind in
+    let fit = sizes c.push_labels.new.table.items c.push_after.new.table.items p labels after in
     let last : c.single-end.result ≡ 2 ^ length c.push_labels.new.table.items = end ∙ ap (λ n. 2 ^ n) (sym (ap length labels ∙ labels_length p)) in
     (omega (arith, fit.0, c.requires), fit.1, last)
 
@@ -26,8 +26,8 @@ returns-clause-table c =
     let end : c.single-end.result ≡ 2 ^ end_of c.args.p.now = c.single-end.ensures ∙ ap (λ n. 2 ^ n) c.count_positions.ensures.listed in
     let labels : c.push_labels.new.table.items ≡ tests_by c.args.p.now.head (tests_of c.args.p.now.members) =
     c.in_ok-push_labels.ensures.labels ∙ ap (λ xs. xs ++ tests_by p.head (tests_of p.members)) c.new-labels.ensures.items in
-    let behind : c.push_behind.new.table.items ≡ rows_in c.args.p.now =
-    c.in_ok-push_behind.ensures ∙ ap (λ xs. xs ++ rows_by p.head (rows p.members) (entry p.members) 0 c.single-end.result) c.new-behind.ensures.items
+    let after : c.push_after.new.table.items ≡ rows_in c.args.p.now =
+    c.in_ok-push_after.ensures ∙ ap (λ xs. xs ++ rows_by p.head (rows p.members) (entry p.members) 0 c.single-end.result) c.new-after.ensures.items
     ∙ ap (λ n. rows_by p.head (rows p.members) (entry p.members) 0 n) end in
     let first : c.entry_path-first.result ≡ first_set c.args.p.now = c.entry_path-first.ensures ∙ ap (λ n. entry_by p.head (entry p.members) 0 n) end in
     let live = c.in_ok-live.ensures in

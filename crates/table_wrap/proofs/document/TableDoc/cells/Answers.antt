@@ -10,7 +10,7 @@ use Rattle.table_keep.specs.Rows.{value_of}
 use Rattle.table_wrap.specs.Rows.{cells, label_of, leaf}
 use Rattle.table_wrap.proofs.document.TableDoc.cells.Goals as goal
 
--- one column more is put behind a list
+-- one column more is put after a list
 one_more : (all : List Column) (i : ℕ) (x : Column) (v : Cell) (vs ws : List Cell) (some more : List OpenTree) → i < length all → x ≡ get_or all i x → ws ≡ v ∷ vs
     → ((rest : Open) → put_all more rest ≡ put_all some (node x.name (without_holes (leaf (label_of (value_of v)))) rest))
     → put_all more (without_holes (forest_of (cells (drop (i + 1) all) (map value_of vs)))) ≡ put_all some (without_holes (forest_of (cells (drop i all) (map value_of ws))))

@@ -11,7 +11,7 @@ use Rattle.tree_buffer.specs.declared.entry.Entry.{Entry}
 use Rattle.tree_buffer.proofs.Columns.{column}
 use Rattle.tree_buffer.proofs.Entries.{length-links, nodes-handed}
 use Rattle.tree_buffer.proofs.Handed.{handed, linked_handed, child_new}
-use Rattle.tree_buffer.proofs.HandedLists.{moved_handed, sourced_handed, labels_front}
+use Rattle.tree_buffer.proofs.HandedLists.{moved_handed, sourced_handed, labels_prefix}
 use Rattle.tree_buffer.proofs.Calls.{sources_from}
 use Rattle.tree_buffer.proofs.Refine.{moved_same}
 use Rattle.tree_buffer.proofs.buffer.Buffer.hand_out.Goals.{After-index_mut-last}
@@ -103,7 +103,7 @@ module _ (c : After-index_mut-last) where
   bare_after : get_or after.labels 0 [] ≡ []
   unfolding after
   bare_after =
-      labels_front (nodes c.make_room.new.entries.items) c.pop_tree-label.result.0
+      labels_prefix (nodes c.make_room.new.entries.items) c.pop_tree-label.result.0
       (omega (arith, length-map c.make_room.new.entries.items entry_label, in_es))
       (subst (λ (xs : List Entry). get_or (nodes xs).labels 0 [] ≡ []) (sym c.make_room.ensures.items) c.args.self.now.bare)
 

@@ -1,7 +1,7 @@
 use Rattle.std.proofs.Common.{◌∙◌, sym, true, false}
 use Rattle.std.proofs.lemmas.Result.{IfOk-weaker}
 use Rattle.mix_catalog.proofs.Tables.{few_words, five_words}
-use Rattle.mix_catalog.proofs.table.read_table_behind.Goals as goal
+use Rattle.mix_catalog.proofs.table.read_table_after.Goals as goal
 
 pub returns-in_default : goal.returns-in_default
 returns-in_default c = sym (few_words c.args.words.now c.in_default.len_below)

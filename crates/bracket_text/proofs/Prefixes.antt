@@ -3,7 +3,7 @@ use Rattle.std.proofs.Common.{◌≡◌, ◌<◌, ◌≤◌, ◌∙◌, ℕ, Lis
 use Rattle.std.specs.Str.{IsUtf8}
 use Rattle.std.proofs.lemmas.Str.{IsUtf8-nil, IsUtf8-append}
 use Rattle.mix_base.proofs.Runs.{run_append, run_then, run_byte}
-use Rattle.mix_base.specs.Reading.{IsFront}
+use Rattle.mix_base.specs.Reading.{IsPrefix}
 use Rattle.mix_base.proofs.Utf8.{one_utf8}
 use Rattle.mix_base.proofs.Choices.{none_some}
 use Rattle.mix_tree.specs.Forest.{LabelledTree, forest_of}
@@ -24,7 +24,7 @@ pub record GoesOn (s : State) : Type 0 where
   pub read : option_and_then whole (run s bytes) ≡ Some tree
   pub shallow : reached s ≤ 200 → levels tree ≤ 200
 
--- some bytes, and then as the state behind them goes on
+-- some bytes, and then as the state after them goes on
 text_on : (x : List ℕ) (s t : State) → IsUtf8 x → run s x ≡ Some t → (reached s ≤ 200 → reached t ≤ 200) → GoesOn t → GoesOn s
 text_on x s t u e k h = record {
   bytes = x ++ h.bytes;
@@ -64,21 +64,21 @@ goes_on o (spelling s) = label_on o s
 goes_on o (named l) = hand_on o (named l) (leaf l) refl
 goes_on o (closed t) = hand_on o (closed t) t refl
 
--- what a run has read is a front
-pub run_front : (x : List ℕ) (s : State) → IsUtf8 x → run empty x ≡ Some s → IsFront Spells x
-run_front x s u e =
+-- what a run has read is a prefix
+pub run_prefix : (x : List ℕ) (s : State) → IsUtf8 x → run empty x ≡ Some s → IsPrefix Spells x
+run_prefix x s u e =
     let on = goes_on s.open' s.mode in
     (on.bytes, on.tree, IsUtf8-append x on.bytes u on.utf8, read_spelled (x ++ on.bytes) on.tree (ap (option_and_then whole) (run_then step x on.bytes empty s e) ∙ on.read))
 
--- a front of a tree that is not too deep, where no level was
-pub shallow_front : (x : List ℕ) (s : State) → IsUtf8 x → run empty x ≡ Some s → reached s ≤ 200 → IsFront SpellsShallow x
-shallow_front x s u e d =
+-- a prefix of a tree that is not too deep, where no level was
+pub shallow_prefix : (x : List ℕ) (s : State) → IsUtf8 x → run empty x ≡ Some s → reached s ≤ 200 → IsPrefix SpellsShallow x
+shallow_prefix x s u e d =
     let on = goes_on s.open' s.mode in
     (on.bytes, on.tree, IsUtf8-append x on.bytes u on.utf8, (read_spelled (x ++ on.bytes) on.tree (ap (option_and_then whole) (run_then step x on.bytes empty s e) ∙ on.read), on.shallow d))
 
--- where a run has stopped, the text is no front
-pub stopped_front : (x : List ℕ) → run empty x ≡ None → IsFront Spells x → ⊥
-stopped_front x e (y, t, u, h) =
+-- where a run has stopped, the text is no prefix
+pub stopped_prefix : (x : List ℕ) → run empty x ≡ None → IsPrefix Spells x → ⊥
+stopped_prefix x e (y, t, u, h) =
     none_some t (sym (ap (option_and_then whole) (run_append step x y empty ∙ ap (option_and_then (λ s. run s y)) e)) ∙ spelled_read (x ++ y) t h)
 
 -- a tree read from a state on has at least its levels
@@ -87,12 +87,12 @@ deep_tree None s t e k = none_some t e
 deep_tree (Some u) s t e k = omega (arith, k u refl, whole_levels u t e)
 
 -- where too deep a tree was read, no other goes on
-pub deep_front : (x : List ℕ) (s : State) → run empty x ≡ Some s → 200 < reached s → IsFront SpellsShallow x → ⊥
-deep_front x s e d (y, t, u, h) =
+pub deep_prefix : (x : List ℕ) (s : State) → run empty x ≡ Some s → 200 < reached s → IsPrefix SpellsShallow x → ⊥
+deep_prefix x s e d (y, t, u, h) =
     let read : option_and_then whole (run s y) ≡ Some t = sym (ap (option_and_then whole) (run_then step x y empty s e)) ∙ spelled_read (x ++ y) t h.0 in
     let least = deep_tree (run s y) s t read (λ v f. run_levels y s v f) in
     absurd (omega (arith, least, h.1))
 
--- a front of a front
-pub shorter_front : (x z : List ℕ) → IsFront Spells (x ++ z) → IsFront Spells x
-shorter_front x z (y, t, u, h) = (z ++ y, t, subst IsUtf8 (append_assoc x z y) u, subst (λ w. Spells w t) (append_assoc x z y) h)
+-- a prefix of a prefix
+pub shorter_prefix : (x z : List ℕ) → IsPrefix Spells (x ++ z) → IsPrefix Spells x
+shorter_prefix x z (y, t, u, h) = (z ++ y, t, subst IsUtf8 (append_assoc x z y) u, subst (λ w. Spells w t) (append_assoc x z y) h)

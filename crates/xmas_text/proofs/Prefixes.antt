@@ -4,7 +4,7 @@ use Rattle.std.specs.Str.{IsUtf8, IsAscii}
 use Rattle.std.specs.List.{list_all}
 use Rattle.std.proofs.lemmas.Str.{IsUtf8-nil, IsUtf8-append, IsUtf8-from_ascii}
 use Rattle.mix_base.proofs.Runs.{run_append, run_then}
-use Rattle.mix_base.specs.Reading.{IsFront}
+use Rattle.mix_base.specs.Reading.{IsPrefix}
 use Rattle.xmas_text.specs.Parsed.{parsed}
 use Rattle.xmas_text.specs.Results.{Spells}
 use Rattle.mix_base.proofs.Choices.{and_parts, and_both, list_all-push, some_is, none_some, Gives}
@@ -21,7 +21,7 @@ use Rattle.xmas_tokens.specs.declared.token.Mark.TheVariants as mark
 use Rattle.xmas_tokens.specs.declared.token.Kind.TheVariants as kind
 use Rattle.path_expr.specs.Grammar as paths
 use Rattle.path_expr.specs.Machine as pathing_
-use Rattle.path_expr.proofs.Fronts as path_fronts
+use Rattle.path_expr.proofs.Prefixes as path_prefixes
 use Rattle.xmas_tokens.proofs.Texts.{IsLex}
 use Rattle.xmas_text.proofs.Lexes.{mark_read, path_run}
 use Rattle.xmas_text.proofs.Tokens.{is_fixed, no_equal, follows, IsAt, at_start, gap_run, last_step, last_whole}
@@ -52,15 +52,15 @@ low_ascii (b ∷ x) h (suc i) = low_ascii x (and_parts (is_low b) (list_all is_l
 low_utf8 : (x : List ℕ) → IsTrue (list_all is_low x) → IsUtf8 x
 low_utf8 x h = IsUtf8-from_ascii x (low_ascii x h)
 
--- a rule may end behind a condition
+-- a rule may end after a condition
 on_done : (r : Head) (cs : Conds) → On (cond_done r cs)
 on_done r cs = record { text = []; goal = cond_done r cs; rule = _; whole = refl; utf8 = IsUtf8-nil; reads = stays (cond_done r cs) }
 
--- and behind an order
+-- and after an order
 on_sorted : (r : Head) (cs : Conds) (o : Order) → On (sorted r cs o)
 on_sorted r cs o = record { text = []; goal = sorted r cs o; rule = _; whole = refl; utf8 = IsUtf8-nil; reads = stays (sorted r cs o) }
 
--- a spot goes on where the one behind a token does
+-- a spot goes on where the one after a token does
 on_token : (s : Spot) (h : List ℕ) (t : Token) → IsBlanks h → IsToken t → IsTrue (takes s h (kind_of t)) → IsTrue (list_all is_low (h ++ token_text t)) → On (shift s h t) → On s
 on_token s h t b i k l n = record {
   text = (h ++ token_text t) ++ n.text;
@@ -83,11 +83,11 @@ gap = 32 ∷ []
 name_is : IsName one_name
 name_is = (refl, omega arith)
 
--- behind a path
+-- after a path
 path_on : (r : Head) (b : Before) (g : List ℕ) (s : Start) (h : List ℕ) (p : paths.Spelled) → On (cond_path r b g s h p)
 path_on r b g s h p = on_token (cond_path r b g s h p) gap (var one_name) refl (refl, refl) refl refl (on_done r _)
 
--- behind the first word of a condition
+-- after the first word of a condition
 from_on : (r : Head) (b : Before) (g : List ℕ) (s : Start) → On (cond_from r b g s)
 from_on r b g s = on_token (cond_from r b g s) gap (path (paths.word one_name)) refl name_is refl refl (path_on r b g s gap (paths.word one_name))
 
@@ -95,11 +95,11 @@ from_on r b g s = on_token (cond_from r b g s) gap (path (paths.word one_name)) 
 start_on : (r : Head) (b : Before) → On (cond_start r b)
 start_on r b = on_token (cond_start r b) gap (word one_name) refl name_is refl refl (from_on r b gap _)
 
--- behind the template
+-- after the template
 element_on : (lead : List ℕ) (b : Items) (f n : List ℕ) (i : Items) (h c : List ℕ) (e : Group) → On (items lead [] (element b f n i h c e))
 element_on lead b f n i h c e = on_token (items lead [] (element b f n i h c e)) gap (fixed mark.Where) refl tt refl refl (start_on _ _)
 
--- before the template and behind it
+-- before the template and after it
 top_on : (lead : List ℕ) (xs : Items) → On (items lead [] xs)
 top_on lead nothing =
     on_token (items lead [] nothing) gap (open_tag one_name) refl name_is refl refl
@@ -117,7 +117,7 @@ items_on (f ∷ o) lead xs = on_token (items lead (f ∷ o) xs) [] (close_tag on
 keys_on : (lead : List ℕ) (o : List Frame) (xs : Items) (g : List ℕ) (ks : Keys) → On (keys lead o xs g ks)
 keys_on lead o xs g ks = on_token (keys lead o xs g ks) [] (fixed mark.CloseBrace) refl tt refl refl (items_on o lead _)
 
--- behind BY
+-- after BY
 by_on : (r : Head) (cs : Conds) (g h : List ℕ) → On (ordering_by r cs g h)
 by_on r cs g h = on_token (ordering_by r cs g h) gap (var one_name) refl (refl, refl) refl refl (on_sorted r cs _)
 
@@ -145,7 +145,7 @@ pub record GoesOn (s : State) : Type 0 where
   pub rule : Rule
   pub read : option_and_then whole (run s bytes) ≡ Some rule
 
--- a state goes on where one behind a text does
+-- a state goes on where one after a text does
 text_on : (x : List ℕ) (s t : State) → IsUtf8 x → run s x ≡ Some t → GoesOn t → GoesOn s
 text_on x s t u e h = record {
   bytes = x ++ h.bytes;
@@ -173,7 +173,7 @@ last_on s g l t e q = at_on (shift s g t) (at s g l) (record { steps = λ b f. l
 ready_on : (s : Spot) (g : List ℕ) (t : Token) → GoesOn (at s g (ready t))
 ready_on s g t = last_on s g (ready t) t refl (λ b f. refl)
 
--- no token that needs an apart byte behind it leads to a fixed spot
+-- no token that needs an apart byte after it leads to a fixed spot
 var_unfixed : (s : Spot) (g v : List ℕ) → IsTrue (takes s g kind.Var) → is_fixed (shift s g (var v)) ≡ false
 var_unfixed beginning g v h = cc
 var_unfixed (items lead [] xs) g v h = cc
@@ -254,17 +254,17 @@ path_end s g y p (Some t) q l h r w = text_on y (at s g (pathing p)) (at s g (pa
 
 -- each path goes on
 path_goes : (s : Spot) (g : List ℕ) (p : pathing_.State) → IsTrue (takes s g kind.Path) → GoesOn (at s g (pathing p))
-path_goes s g p h = let on = path_fronts.mode_on p.here p.outer p.mode in path_end s g on.bytes p (pathing_.run p on.bytes) on.spelled on.utf8 h refl on.read
+path_goes s g p h = let on = path_prefixes.mode_on p.here p.outer p.mode in path_end s g on.bytes p (pathing_.run p on.bytes) on.spelled on.utf8 h refl on.read
 
 -- what holds of two lists holds of the second
-all_behind : (x y : List ℕ) → IsTrue (list_all is_low (x ++ y)) → IsTrue (list_all is_low y)
-all_behind [] y h = h
-all_behind (b ∷ x) y h = all_behind x y (and_parts (is_low b) (list_all is_low (x ++ y)) h).1
+all_after : (x y : List ℕ) → IsTrue (list_all is_low (x ++ y)) → IsTrue (list_all is_low y)
+all_after [] y h = h
+all_after (b ∷ x) y h = all_after x y (and_parts (is_low b) (list_all is_low (x ++ y)) h).1
 
 -- a token that is always the same goes on with its other bytes
 mark_goes : (s : Spot) (g : List ℕ) (m : Mark) (done rest : List ℕ) → IsLex (marking m done rest) → GoesOn (at s g (marking m done rest))
 mark_goes s g m done rest h =
-    text_on rest (at s g (marking m done rest)) (at s g (marking m (done ++ rest) [])) (low_utf8 rest (all_behind done rest (subst (λ x. IsTrue (list_all is_low x)) (sym h) (mark_low m)))) (mark_read s g m done rest) (last_on s g (marking m (done ++ rest) []) (fixed m) refl (λ b f. refl))
+    text_on rest (at s g (marking m done rest)) (at s g (marking m (done ++ rest) [])) (low_utf8 rest (all_after done rest (subst (λ x. IsTrue (list_all is_low x)) (sym h) (mark_low m)))) (mark_read s g m done rest) (last_on s g (marking m (done ++ rest) []) (fixed m) refl (λ b f. refl))
 
 -- an opening tag goes on
 opening_on : (s : Spot) (g l : List ℕ) → GoesOn (at s g (opening l))
@@ -297,7 +297,7 @@ gap_on s g t b c i k l =
     (sym (run_then step g (gap ++ token_text t) (at s [] between) (at s g between) (gap_run s [] g b)) ∙ ap (run (at s [] between)) (sym (append_assoc g gap (token_text t))) ∙ n.runs)
     (at_on (shift s (g ++ gap) t) n.state n.is)
 
--- there is a blank behind one more
+-- there is a blank after one more
 has_gap : (g : List ℕ) → IsTrue (has_blank (g ++ gap))
 has_gap [] = refl
 has_gap (b ∷ g) = refl
@@ -340,14 +340,14 @@ state_on x s g (pathing p) h = path_goes s g p h.offered
 state_on x s g (comparing k) h = byte_on 61 (at s g (comparing k)) (at s g (ready (comparison (with_equal k)))) refl refl (ready_on s g (comparison (with_equal k)))
 state_on x s g (ready t) h = ready_on s g t
 
--- the state behind a text is well formed
+-- the state after a text is well formed
 pub stood_at : (x : List ℕ) (o : Option State) (t : State) → Gives (Stands x) o → o ≡ Some t → Stands x t
 stood_at x None t h e = none_some t e
 stood_at x (Some s) t h e = subst (Stands x) (some_is _ _ e) h
 
--- what a run has read is a front
-pub run_front : (x : List ℕ) (t : State) → IsUtf8 x → run start x ≡ Some t → IsFront Spells x
-run_front x t u e =
+-- what a run has read is a prefix
+pub run_prefix : (x : List ℕ) (t : State) → IsUtf8 x → run start x ≡ Some t → IsPrefix Spells x
+run_prefix x t u e =
     let stands = stood_at x (run start x) t (run_stands x [] start start_stands) e in
     let on = state_on x t.spot t.gap t.lex stands in
     let writes = read_writes (x ++ on.bytes) on.rule (ap (option_and_then whole) (run_then step x on.bytes start t e) ∙ on.read) in
@@ -357,6 +357,6 @@ run_front x t u e =
 pub stopped_writes : (x y : List ℕ) (r : Rule) → run start x ≡ None → Writes (x ++ y) r → ⊥
 stopped_writes x y r e h = none_some r (sym (ap (option_and_then whole) (run_append step x y start ∙ ap (option_and_then (λ u. run u y)) e)) ∙ complete.writes_read (x ++ y) r h)
 
--- and it is no front
-pub stopped_front : (x : List ℕ) → run start x ≡ None → IsFront Spells x → ⊥
-stopped_front x e (y, v, u, (r, h, k)) = stopped_writes x y r e h
+-- and it is no prefix
+pub stopped_prefix : (x : List ℕ) → run start x ≡ None → IsPrefix Spells x → ⊥
+stopped_prefix x e (y, v, u, (r, h, k)) = stopped_writes x y r e h

@@ -1,7 +1,7 @@
 use Rattle.std.proofs.Common.{◌∙◌, ap, arith, length, drop}
 use Rattle.mix_base.proofs.Slices.{slice_length}
 use Rattle.mix_talk.proofs.Parts.{slice_dropped}
-use Rattle.mix_talk.proofs.page.Page.drop_front.Goals as goal
+use Rattle.mix_talk.proofs.page.Page.drop_prefix.Goals as goal
 
 pub returns : goal.returns
 returns c =

@@ -1,4 +1,4 @@
--- What stands behind the marks of a text.
+-- What stands after the marks of a text.
 use Rattle.std.proofs.Common.{◌≡◌, ◌≤◌, ℕ, List, [], ◌∷◌, drop, length, true, false, Bool, refl, arith}
 use Rattle.csv.specs.Reading.{is_bom, strip_bom}
 use Rattle.csv_wrap.specs.Csv.{begins_with_mark, without_marks}
@@ -26,7 +26,7 @@ unmarked (a ∷ []) h = refl
 unmarked (a ∷ b ∷ []) h = refl
 unmarked (a ∷ b ∷ c ∷ rest) h = rw h refl
 
--- no mark stands in front of what is left
+-- no mark stands before what is left
 pub strip_none : (xs : List ℕ) → strip_bom (without_marks xs) ≡ without_marks xs
 unfolding without_marks strip_bom
 strip_none [] = refl
