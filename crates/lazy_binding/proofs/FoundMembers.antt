@@ -78,7 +78,7 @@ module _ (w : World) (seen : List (List (List KeyPart))) (walked : Walked) where
           ∙ stay j place m (ap (λ (x : ℕ). slice_get (slice_index_or (gathered_at w x).groups j []) place) (sym z) ∙ e)
       at k j place m e (inr ne) = ap (λ (z : Gathered). slice_get (slice_index_or z.groups j []) place) (others.others k ne) ∙ e
 
--- WHAT COMES BEHIND A MEMBER
+-- WHAT COMES AFTER A MEMBER
 
 -- what stands at a place among members is the one that is counted from the first
 place_is : (f : Rc Position Global) (ms : List (Rc Position Global)) (p : ℕ) (m : Rc Position Global) → slice_get (f ∷ ms) p ≡ Some m → at_place f.value ms p ≡ m.value

@@ -100,13 +100,13 @@ module _ (a b : BenchState) (k : KeepsBench a b) where
 
   pub group_ahead-kept : (op : ℕ) (first at : Position) → Stands a op gathers_groups first → Stands a op gathers_groups at → group_ahead b op first at ≡ group_ahead a op first at
   group_ahead-kept op first at h i =
-      ap (λ (d : Documents). after_first d (ops_of b) (binding_at b (input_at (ops_of b) op) first) (ahead_at b (input_at (ops_of b) op) at)) k.documents
-      ∙ ap (λ (ops : List Operator). after_first (documents a) ops (binding_at b (input_at (ops_of b) op) first) (ahead_at b (input_at (ops_of b) op) at)) ops_kept
-      ∙ ap (λ (row : TolledRow). after_first (documents a) (ops_of a) row (ahead_at b (input_at (ops_of b) op) at)) (binding_kept op first h.cursor)
-      ∙ ap (λ (z : RowEvents). after_first (documents a) (ops_of a) (binding_at a (input_at (ops_of a) op) first) z) (ahead_kept op at i.cursor)
+      ap (λ (d : Documents). events_after d (ops_of b) (binding_at b (input_at (ops_of b) op) first) (ahead_at b (input_at (ops_of b) op) at)) k.documents
+      ∙ ap (λ (ops : List Operator). events_after (documents a) ops (binding_at b (input_at (ops_of b) op) first) (ahead_at b (input_at (ops_of b) op) at)) ops_kept
+      ∙ ap (λ (row : TolledRow). events_after (documents a) (ops_of a) row (ahead_at b (input_at (ops_of b) op) at)) (binding_kept op first h.cursor)
+      ∙ ap (λ (z : RowEvents). events_after (documents a) (ops_of a) (binding_at a (input_at (ops_of a) op) first) z) (ahead_kept op at i.cursor)
     where
-      after : Documents → List Operator → TolledRow → RowEvents → RowEvents
-      after_first d ops row es = group_after d (keys_of (op_at ops op)) (stops_at ops op) row es
+      events_after : Documents → List Operator → TolledRow → RowEvents → RowEvents
+      events_after d ops row es = group_after d (keys_of (op_at ops op)) (stops_at ops op) row es
 
   -- whole numbers of inputs are the same
   size_same : (op : ℕ) → size_of b (input_at (ops_of b) op) ≡ size_of a (input_at (ops_of a) op)

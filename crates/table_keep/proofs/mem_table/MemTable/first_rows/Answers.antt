@@ -12,7 +12,7 @@ returns c =
     let place = c.first_index.result in
     let rest : c.split_at.result.1.now ≡ drop place rows = c.split_at.ensures.back ∙ ap (λ (xs : List TableRow). drop place xs) c.deref.ensures.value in
     let prefix : c.split_at-2.result.0.now ≡ take (min limit (length (drop place rows))) (drop place rows) =
-    c.split_at-2.ensures.prefix
+    c.split_at-2.ensures.front
     ∙ ap (λ n. take n c.split_at.result.1.now) c.min-count.ensures
     ∙ ap (λ (xs : List TableRow). take (min limit (length xs)) xs) rest in
     let first = first_copied c.args.places.now c.args.after limit rows place c.first_index.ensures.first in
