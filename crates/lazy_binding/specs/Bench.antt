@@ -10,7 +10,7 @@ use Rattle.plan_core.specs.Plans.{Operator}
 use Rattle.plan_core.specs.Shapes.{Shape, pairs_up, first_by_keys, shape_at, passes_on}
 use Rattle.plan_core.specs.Events.{events, keys_seen}
 use Rattle.plan_core.specs.Valid.{HasSource}
-use Rattle.plan_forms.specs.Links.{link_at}
+use Rattle.plan_forms.specs.Links.{links_at}
 use Rattle.lazy_binding.specs.Members.{AreMembers}
 use Rattle.lazy_binding.specs.declared.position.Reached.{Reached}
 use Rattle.lazy_binding.specs.Cursors.{HasSeen, gathers_by}
@@ -24,7 +24,7 @@ drops_by f = None
 
 -- the members of each join's memo are the first bindings of its right side
 abbrev pub HasMembers : World → List Operator → Type 0
-HasMembers w ops = (n l r : ℕ) (tests : List Test) → shape_at ops n ≡ pairs_up l r tests → AreMembers w ops r (link_at ops n) (memo_at w n)
+HasMembers w ops = (n l r : ℕ) (tests : List Test) → shape_at ops n ≡ pairs_up l r tests → AreMembers w ops r (links_at ops n) (memo_at w n)
 
 -- where the group at hand of an operator was walked to a binding of its input, the keys of that binding are among those that the operator had seen when it found the group
 abbrev pub HasReached : World → List Operator → Type 0

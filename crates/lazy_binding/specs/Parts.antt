@@ -1,5 +1,7 @@
 -- What a bench is made of.
 use Rattle.std.specs.Prelude.{◌≡◌, ◌<◌, ℕ, List, Some, length, map, slice_get}
+use Rattle.std.specs.declared.alloc.Global.{Global}
+use Rattle.std.specs.declared.vec.Vec.{Vec}
 use Rattle.lxp_core.specs.View.{View}
 use Rattle.path_expr.specs.Form.{Form}
 use Rattle.path_auto.specs.Automaton.{table_of}
@@ -9,7 +11,8 @@ use Rattle.plan_core.specs.Shapes.{Shape, visits_below, shape_at}
 use Rattle.plan_core.specs.PlanMade.{op_of, plan_value}
 use Rattle.plan_core.specs.Typed.{IsTyped}
 use Rattle.plan_core.specs.Valid.{IsValid}
-use Rattle.plan_forms.specs.Links.{op_link}
+use Rattle.plan_forms.specs.declared.link.Link.{Link}
+use Rattle.plan_forms.specs.Links.{op_links}
 use Rattle.lazy_binding.specs.Sides.{AreRights}
 use Rattle.lazy_binding.specs.World.{World, world}
 use Rattle.lazy_binding.specs.declared.parts.Fixed.{Fixed}
@@ -33,7 +36,7 @@ pub record IsFixed (f : Fixed) : Type 0 where
       → slice_get f.autos.items n ≡ Some (Some (table_of path))
   pub stops : f.stops.items ≡ map (op_stops (operators f)) (operators f)
   pub apart : f.apart.items ≡ map (op_apart (operators f)) (operators f)
-  pub links : f.links.items ≡ map (op_link (operators f)) (operators f)
+  pub links : map (λ (of : Vec Link Global). of.items) f.links.items ≡ map (op_links (operators f)) (operators f)
   pub sides : length f.rights.items ≡ length (operators f)
   pub rights : AreRights (operators f) f.rights.items
 

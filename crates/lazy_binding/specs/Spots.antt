@@ -39,7 +39,16 @@ abbrev mutual
 abbrev pub spot_in : List Operator → ℕ → Position → ℕ → Option (ℕ × Spot)
 spot_in ops n c v = spot_at ops (shape_at ops n) c v
 
--- the text of a spot: what its number is hashed to, cut to 32 bits, in decimal digits; where there is none, no bytes
+-- the text of what is hashed: its hash, cut to 32 bits, in decimal digits
+unfoldable pub hash_text : fed.HashWrites → List ℕ
+hash_text writes = decimal (folding.finish (fold folding.write folding.initial writes) % 2 ^ 32)
+
+-- what a hasher is fed of a spot: its number; nothing where there is none
+abbrev pub spot_fed : Option (ℕ × Spot) → fed.HashWrites
+spot_fed None = []
+spot_fed (Some p) = fed.u32 p.1.number
+
+-- the text of a spot, which its number makes; where there is none, no bytes
 unfoldable pub spot_text : Option (ℕ × Spot) → List ℕ
 spot_text None = []
-spot_text (Some p) = decimal (folding.finish (fold folding.write folding.initial (fed.u32 p.1.number)) % 2 ^ 32)
+spot_text (Some p) = hash_text (fed.u32 p.1.number)

@@ -7,6 +7,7 @@ pub mod growth;
 mod key;
 mod labelled;
 mod law;
+mod link_keys;
 pub mod opening;
 mod parts;
 mod position;

@@ -17,7 +17,7 @@ use std::rc::Rc;
 use tree_buffer::Buffer;
 
 /// A plan, and for each operator the automaton of its path, where it has one, whether its groups end at the first other key, whether it is a
-/// project that passes on each binding of its input, and by which variables the members of its right side are looked up, where it is a join with
+/// project that passes on each binding of its input, and by which links the members of its right side are looked up, where it is a join with
 /// such ones; and which variables are those of its right side alone.
 #[derive(Drop)]
 pub struct Fixed {
@@ -25,7 +25,7 @@ pub struct Fixed {
     pub autos: Vec<Option<Auto>>,
     pub stops: Vec<bool>,
     pub apart: Vec<bool>,
-    pub links: Vec<Option<Link>>,
+    pub links: Vec<Vec<Link>>,
     pub rights: Vec<Vec<Var>>,
 }
 

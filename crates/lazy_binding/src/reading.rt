@@ -1,6 +1,8 @@
 // What is read off a position of an operator: its spots, their labels, and whether comparisons hold there.
 ghost use Rattle.std.specs.Prelude.{◌≡◌, ◌<◌, true, IsTrue, IfOk, Some, length};
-ghost use Rattle.std.specs.List.{AllByRecursion};
+ghost use Rattle.std.specs.List.{AllByRecursion, fold};
+ghost use Rattle.std.specs.Hash.{HashWrites};
+ghost use Rattle.std.specs.Hash.FoldHasher as folding;
 ghost use Rattle.mix_tree.specs.Comparisons.{compares_nodes, passes};
 ghost use Rattle.mix_tree.specs.Nodes.{label_at};
 ghost use Rattle.plan_core.specs.TolledRows.{row_node};
@@ -10,6 +12,7 @@ ghost use Rattle.lazy_binding.specs.World.{World, docs_of};
 ghost use Rattle.lazy_binding.specs.Cursors.{IsOf, has_row};
 ghost use Rattle.lazy_binding.specs.Reading.{Found, HasStand, InEachWorld, Tells};
 ghost use Rattle.lazy_binding.specs.Parts.{operators, IsFixed};
+ghost use Rattle.lazy_binding.specs.Spots as spots;
 ghost use Rattle.lazy_binding.specs.Spots.{spot_in, spot_text};
 
 use crate::parts::{Growing, Walk};
@@ -21,16 +24,24 @@ use std::default::Default;
 use std::hash::{FoldHasher, Hash, Hasher};
 use tree_buffer::{Spot, spots_are_one};
 
-/// The text of a spot: what it is hashed to, cut to 32 bits, in decimal digits. Two nodes may have the same.
+/// The text of what a hasher was fed: its hash, cut to 32 bits, in decimal digits. What differs may have the same.
+#[tactic(auto, unfolding(crate::specs::Spots::hash_text))]
+pub(crate) fn hash_text(alloc: Global, state: &FoldHasher) -> Result<Label, AllocError>
+    ensures { IfOk result (λ text. (writes : HashWrites) → state.now ≡ fold folding.write folding.initial writes → text ≡ spots.hash_text writes) }
+{
+    let number = state.finish() % 0x1_0000_0000;
+    let mut digits = Buffer::new();
+    Label::of_text(alloc, digits.format(number).as_bytes())
+}
+
+/// The text of a spot. Two nodes may have the same.
 #[tactic(auto, unfolding(crate::specs::Spots::spot_text))]
 fn text_of(alloc: Global, source: u32, spot: Spot) -> Result<Label, AllocError>
     ensures { IfOk result (λ text. text ≡ spot_text (Some (source, spot))) }
 {
     let mut state = FoldHasher::default();
     spot.hash(&mut state);
-    let number = state.finish() % 0x1_0000_0000;
-    let mut digits = Buffer::new();
-    Label::of_text(alloc, digits.format(number).as_bytes())
+    hash_text(alloc, &state)
 }
 
 impl Walk<'_> {

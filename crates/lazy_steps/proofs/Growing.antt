@@ -1,5 +1,5 @@
 -- The members of a join's right side come one by one, and each stands at the next binding.
-use Rattle.std.proofs.Common.{◌≡◌, ◌⊎◌, inl, inr, ◌<◌, ◌≤◌, ◌+◌, ℕ, zero, suc, true, false, List, [], ◌∷◌, ◌++◌, Option, length, take, get_or, refl, ◌∙◌, sym, ap, subst, arith}
+use Rattle.std.proofs.Common.{◌≡◌, ◌⊎◌, inl, inr, ◌<◌, ◌≤◌, ◌+◌, ℕ, zero, suc, true, false, List, [], ◌∷◌, ◌++◌, length, take, get_or, refl, ◌∙◌, sym, ap, subst, arith}
 use Rattle.std.specs.Prelude.{IsTrue, slice_index_or}
 use Rattle.std.specs.declared.alloc.Global.{Global}
 use Rattle.std.specs.declared.rc.Rc.{Rc}
@@ -22,7 +22,7 @@ use Rattle.lazy_binding.specs.Bench.{IsBench}
 use Rattle.lazy_binding.specs.World.{World, world, is_told, Member, no_pairs, memo_at, last_of, passed}
 use Rattle.lazy_binding.specs.Cursors.{binding, ahead, number, size, IsOf}
 use Rattle.lazy_binding.specs.Keeping.{Keeps, Stays}
-use Rattle.plan_forms.specs.Links.{link_at}
+use Rattle.plan_forms.specs.Links.{links_at}
 use Rattle.lazy_binding.specs.Members.{member_label, IsMember, AreNext, AreMembers}
 use Rattle.lazy_binding.specs.Parts.{world_of}
 use Rattle.lazy_binding.proofs.Buffers.{bench_stays}
@@ -36,7 +36,7 @@ use Rattle.lazy_steps.specs.Steps.{Finds, Ran}
 
 -- THE MEMBERS OF A MEMO
 
-module _ (w : World) (ops : List Operator) (i : ℕ) (by : Option Link) where
+module _ (w : World) (ops : List Operator) (i : ℕ) (by : List Link) where
   -- the number of these members and that of the last one are together no more than the size of the operator
   last_few : (at : Position) (n : ℕ) (ms : List Member) → n + number w ops i at ≤ size w ops i → AreNext w ops i by at n ms → (n + length ms) + number w ops i (last_of at ms) ≤ size w ops i
   last_few at n [] l h = omega (arith, l)
@@ -72,7 +72,7 @@ take_more at [] m (suc n) e = absurd (omega (arith, e))
 take_more at (x ∷ ms) m zero e = absurd (omega (arith, e))
 take_more at (x ∷ ms) m (suc n) e = take_more x.1.value ms m n (omega (arith, e))
 
-module _ {w : World} {ops : List Operator} {i : ℕ} {by : Option Link} {m : Kept (Rc Position Global)} (h : AreMembers w ops i by m) where
+module _ {w : World} {ops : List Operator} {i : ℕ} {by : List Link} {m : Kept (Rc Position Global)} (h : AreMembers w ops i by m) where
   -- the member at a place stands at the next binding after those before it
   pub member_at : (p : ℕ) → p < length m.pairs → IsMember w ops i by (passed m.pairs p) p (get_or (labels_of m.pairs) p []) (passed m.pairs (suc p))
   member_at p l =
@@ -86,7 +86,7 @@ module _ {w : World} {ops : List Operator} {i : ℕ} {by : Option Link} {m : Kep
   pub members_few : length m.pairs + number w ops i (last_of Start m.pairs) ≤ size w ops i
   members_few = (let l = last_few w ops i by Start 0 m.pairs (omega arith) h.next in omega (arith, l))
 
-module _ {a b : World} (k : Keeps a b) (ops : List Operator) (bench : IsBench a ops) (i : ℕ) (by : Option Link) (m : Kept (Rc Position Global)) (h : AreMembers a ops i by m) where
+module _ {a b : World} (k : Keeps a b) (ops : List Operator) (bench : IsBench a ops) (i : ℕ) (by : List Link) (m : Kept (Rc Position Global)) (h : AreMembers a ops i by m) where
   last : Stays a b ops i (last_of Start m.pairs)
   last = cursors_kept a b k ops bench i (last_of Start m.pairs) (last_in h)
 
@@ -115,7 +115,7 @@ module _ {a b : World} (k : Keeps a b) (ops : List Operator) (bench : IsBench a 
   }
 
 -- no members
-pub no_members : (w : World) (ops : List Operator) (i : ℕ) (by : Option Link) → AreMembers w ops i by no_pairs
+pub no_members : (w : World) (ops : List Operator) (i : ℕ) (by : List Link) → AreMembers w ops i by no_pairs
 no_members w ops i by = record { next = tt; all = λ e t. cc }
 
 -- THE MEMOS OF A BENCH
@@ -152,7 +152,7 @@ module _ (b : World) (memos : List (Kept (Rc Position Global))) (n : ℕ) (stay 
       prefix_at j k h (inr ne) = ap (λ (m : Kept (Rc Position Global)). take k m.pairs) (stay.others j ne)
 
   module _ (ops : List Operator) (l r : ℕ) (tests : List Test) (is : shape_at ops n ≡ pairs_up l r tests) (bench : IsBench b ops) (m : Kept (Rc Position Global))
-      (here : slice_index_or memos n no_pairs ≡ m) (good : AreMembers b ops r (link_at ops n) m) where
+      (here : slice_index_or memos n no_pairs ≡ m) (good : AreMembers b ops r (links_at ops n) m) where
     -- what is left is a bench
     pub memo_bench : IsBench (world b.view b.buffers b.seen memos b.walked) ops
     memo_bench = bench_stays memo_keeps ops bench refl (λ j x y ts e. at j x y ts e (cases_eq j n)) refl bench.sources
@@ -161,15 +161,15 @@ module _ (b : World) (memos : List (Kept (Rc Position Global))) (n : ℕ) (stay 
         right x y ts e = cc
 
         at : (j x y : ℕ) (ts : List Test) → shape_at ops j ≡ pairs_up x y ts → (j ≡ n) ⊎ (j ≡ n → ⊥)
-            → AreMembers (world b.view b.buffers b.seen memos b.walked) ops y (link_at ops j) (slice_index_or memos j no_pairs)
+            → AreMembers (world b.view b.buffers b.seen memos b.walked) ops y (links_at ops j) (slice_index_or memos j no_pairs)
         at j x y ts e (inl z) =
             let same : r ≡ y = right x y ts (sym is ∙ ap (shape_at ops) (sym z) ∙ e) in
-            subst (λ (u : ℕ). AreMembers (world b.view b.buffers b.seen memos b.walked) ops y (link_at ops u) (slice_index_or memos u no_pairs)) (sym z)
-            (subst (λ (u : ℕ). AreMembers (world b.view b.buffers b.seen memos b.walked) ops u (link_at ops n) (slice_index_or memos n no_pairs)) same
-            (subst (AreMembers (world b.view b.buffers b.seen memos b.walked) ops r (link_at ops n)) (sym here) (members_kept memo_keeps ops bench r (link_at ops n) m good)))
+            subst (λ (u : ℕ). AreMembers (world b.view b.buffers b.seen memos b.walked) ops y (links_at ops u) (slice_index_or memos u no_pairs)) (sym z)
+            (subst (λ (u : ℕ). AreMembers (world b.view b.buffers b.seen memos b.walked) ops u (links_at ops n) (slice_index_or memos n no_pairs)) same
+            (subst (AreMembers (world b.view b.buffers b.seen memos b.walked) ops r (links_at ops n)) (sym here) (members_kept memo_keeps ops bench r (links_at ops n) m good)))
         at j x y ts e (inr ne) =
-            subst (AreMembers (world b.view b.buffers b.seen memos b.walked) ops y (link_at ops j)) (sym (stay.others j ne))
-            (members_kept memo_keeps ops bench y (link_at ops j) (memo_at b j) (bench.members j x y ts e))
+            subst (AreMembers (world b.view b.buffers b.seen memos b.walked) ops y (links_at ops j)) (sym (stay.others j ne))
+            (members_kept memo_keeps ops bench y (links_at ops j) (memo_at b j) (bench.members j x y ts e))
 
 -- a search that found a position has found it afterwards
 pub finds_then : (a b c : World) {ops : List Operator} {i : ℕ} {es : RowEvents} {top : ℕ} {d : Position} → Keeps b c → IsBench b ops → Finds a b ops i (shape_at ops i) es top d

@@ -16,7 +16,7 @@ use Rattle.lazy_binding.specs.Bench.{IsBench}
 use Rattle.lazy_binding.specs.World.{World, world, is_told, no_pairs, memo_at}
 use Rattle.lazy_binding.specs.Cursors.{ahead, number, IsOf}
 use Rattle.lazy_binding.specs.Keeping.{Keeps}
-use Rattle.plan_forms.specs.Links.{link_at}
+use Rattle.plan_forms.specs.Links.{links_at}
 use Rattle.lazy_binding.specs.Members.{member_label, AreMembers}
 use Rattle.lazy_binding.specs.Parts.{operators, world_of, IsFixed}
 use Rattle.lazy_binding.proofs.Bound.{inputs_at}
@@ -59,13 +59,13 @@ module _ {S : Type 0} {view : S → View} {came_from : S → S → Type 0} {s t 
   same_memo = (ran.asks.above n right_below).0
 
   -- the members as they were
-  old_good : AreMembers a (operators p) r (link_at (operators p) n) (memo_at a n)
+  old_good : AreMembers a (operators p) r (links_at (operators p) n) (memo_at a n)
   old_good = bench.members n l r tests is
 
   -- what is left of memos of which this one is another
   module _ (memos : Vec (Kept (Rc Position Global)) Global) (stay : OthersStay h.memos.items memos.items n) (m : Kept (Rc Position Global)) (here : slice_index_or memos.items n no_pairs ≡ m)
       (more : length (memo_at b n).pairs ≤ length m.pairs) (prefix : (k : ℕ) → k ≤ length (memo_at b n).pairs → take k m.pairs ≡ take k (memo_at b n).pairs)
-      (good : AreMembers b (operators p) r (link_at (operators p) n) m) where
+      (good : AreMembers b (operators p) r (links_at (operators p) n) m) where
     keeps : Keeps b (world (view t) h.buffers.items h.seen.items memos.items h.walked)
     keeps =
         memo_keeps b memos.items n stay (subst (λ (z : Kept (Rc Position Global)). length (memo_at b n).pairs ≤ length z.pairs) (sym here) more)
@@ -89,8 +89,8 @@ module _ {S : Type 0} {view : S → View} {came_from : S → S → Type 0} {s t 
     pub ended_ran : Ran view came_from (operators p) n (ahead a (operators p) r (last_at a n)) s g t (record { buffers = h.buffers; seen = h.seen; memos = memos; walked = h.walked })
     ended_ran =
         memos_ran memos stay (record { pairs = (memo_at b n).pairs; ended = true }) here (omega arith) (λ k l. refl)
-        (subst (λ (z : Kept (Rc Position Global)). AreMembers b (operators p) r (link_at (operators p) n) (record { pairs = z.pairs; ended = true })) (sym same_memo)
-        (members_end ran.asks.kept (operators p) bench r (link_at (operators p) n) (memo_at a n) old_good none))
+        (subst (λ (z : Kept (Rc Position Global)). AreMembers b (operators p) r (links_at (operators p) n) (record { pairs = z.pairs; ended = true })) (sym same_memo)
+        (members_end ran.asks.kept (operators p) bench r (links_at (operators p) n) (memo_at a n) old_good none))
 
     pub ended_grown : IsGrown a (world (view t) h.buffers.items h.seen.items memos.items h.walked) (operators p) n r false
     ended_grown = (here ∙ ap (λ (z : Kept (Rc Position Global)). record { pairs = z.pairs; ended = true }) same_memo, none)
@@ -99,17 +99,17 @@ module _ {S : Type 0} {view : S → View} {came_from : S → S → Type 0} {s t 
   module _ (memos : Vec (Kept (Rc Position Global)) Global) (stay : OthersStay h.memos.items memos.items n) (label : List ℕ) (d : Rc Position Global)
       (here : slice_index_or memos.items n no_pairs ≡ record { pairs = (memo_at b n).pairs ++ (label, d) ∷ []; ended = false })
       (f : Finds a b (operators p) r (shape_at (operators p) r) (ahead a (operators p) r (last_at a n)) (number a (operators p) r (last_at a n)) d.value)
-      (label_is : IsTrue (is_told b (operators p)) → label ≡ member_label b (operators p) r (link_at (operators p) n) d.value) where
+      (label_is : IsTrue (is_told b (operators p)) → label ≡ member_label b (operators p) r (links_at (operators p) n) d.value) where
     longer : length (memo_at b n).pairs ≤ length ((memo_at b n).pairs ++ (label, d) ∷ [])
     longer = omega (arith, length-append (memo_at b n).pairs ((label, d) ∷ []))
 
     prefixes : (k : ℕ) → k ≤ length (memo_at b n).pairs → take k ((memo_at b n).pairs ++ (label, d) ∷ []) ≡ take k (memo_at b n).pairs
     prefixes k l = take_prefix (memo_at b n).pairs ((label, d) ∷ []) k l
 
-    good : AreMembers b (operators p) r (link_at (operators p) n) (record { pairs = (memo_at b n).pairs ++ (label, d) ∷ []; ended = false })
+    good : AreMembers b (operators p) r (links_at (operators p) n) (record { pairs = (memo_at b n).pairs ++ (label, d) ∷ []; ended = false })
     good =
-        subst (λ (z : Kept (Rc Position Global)). AreMembers b (operators p) r (link_at (operators p) n) (record { pairs = z.pairs ++ (label, d) ∷ []; ended = false })) (sym same_memo)
-        (members_push ran.asks.kept (operators p) bench r (link_at (operators p) n) (memo_at a n) old_good label d f label_is)
+        subst (λ (z : Kept (Rc Position Global)). AreMembers b (operators p) r (links_at (operators p) n) (record { pairs = z.pairs ++ (label, d) ∷ []; ended = false })) (sym same_memo)
+        (members_push ran.asks.kept (operators p) bench r (links_at (operators p) n) (memo_at a n) old_good label d f label_is)
 
     pub pushed_ran : Ran view came_from (operators p) n (ahead a (operators p) r (last_at a n)) s g t (record { buffers = h.buffers; seen = h.seen; memos = memos; walked = h.walked })
     pushed_ran = memos_ran memos stay (record { pairs = (memo_at b n).pairs ++ (label, d) ∷ []; ended = false }) here longer prefixes good

@@ -1,6 +1,8 @@
 -- Members of a join's right side that are known: those that no comparison lets through are passed.
 use Rattle.std.proofs.Common.{◌≡◌, ◌<◌, ◌≤◌, ◌+◌, ◌-◌, ℕ, zero, suc, Bool, true, false, List, [], ◌∷◌, ◌++◌, Option, None, Some, length, get_or, refl, ◌∙◌, sym, ap, subst, arith, length-append}
-use Rattle.std.specs.Prelude.{IsTrue, Result, IfOk}
+use Rattle.std.specs.Hash as fed
+use Rattle.std.specs.List.{AllByRecursion}
+use Rattle.std.specs.Prelude.{IsTrue, Result, IfOk, is_some}
 use Rattle.std.specs.declared.alloc.Global.{Global}
 use Rattle.std.specs.declared.rc.Rc.{Rc}
 use Rattle.std.proofs.lemmas.Result.{IfOk-weaker}
@@ -27,37 +29,38 @@ use Rattle.lazy_binding.specs.declared.position.Position.{Position, Start, Pair'
 use Rattle.lazy_binding.specs.Bench.{IsBench}
 use Rattle.lazy_binding.specs.World.{World, docs_of, is_told, spot_node, Member, memo_at, passed, last_of}
 use Rattle.lazy_binding.specs.Cursors.{binding, ahead, size, stands, weighs, IsIn, IsOf, has_row}
-use Rattle.plan_forms.specs.Links.{shape_link, best_link, link_at}
-use Rattle.lazy_binding.specs.Members.{link_label, member_label, AreMembers}
-use Rattle.lazy_binding.specs.Spots.{spot_text}
+use Rattle.plan_forms.specs.declared.link.Side.TheVariants.{Left as on_left, Right as on_right}
+use Rattle.plan_forms.specs.Links.{shape_links, all_links, links_at, if_label}
+use Rattle.lazy_binding.specs.Members.{link_label, link_fed, links_fed, member_label, AreMembers}
+use Rattle.lazy_binding.specs.Spots.{spot_in, hash_text, spot_fed, spot_text}
 use Rattle.lazy_binding.specs.Parts.{operators, world_of}
-use Rattle.lazy_binding.proofs.Bound.{inputs_at, fit_at}
+use Rattle.lazy_binding.proofs.Bound.{inputs_at}
 use Rattle.lazy_binding.proofs.FirstLists.{take_all}
 use Rattle.lazy_binding.proofs.Keep.{keeps_same}
 use Rattle.lazy_binding.proofs.Spots.{lacks, spot_is}
 use Rattle.lazy_binding.proofs.Stay.{size_kept}
-use Rattle.lazy_steps.specs.Beside.{sought_label, is_label, is_by_label, HasSought, NoneBetween, IsNextPlace, IsPairAt, lets, IsMemberStep, beside_events, beside_number, last_at, IsGrown}
+use Rattle.lazy_steps.specs.Beside.{sought_label, is_by_label, HasSought, NoneBetween, IsNextPlace, IsPairAt, lets, IsMemberStep, beside_events, beside_number, last_at, IsGrown}
 use Rattle.lazy_steps.specs.declared.step.Step.{Step}
 use Rattle.lazy_steps.specs.Steps.{Asks, Steps, Ran, CanStep, left_events, left_number}
 use Rattle.lazy_steps.proofs.Goes.{Goes, goes_result, asks_nothing, tells_on, in_place}
 use Rattle.lazy_steps.proofs.Growing.{take_more, member_at, members_few}
 use Rattle.lazy_steps.proofs.Holding.{holds}
-use Rattle.lazy_steps.proofs.Agreeing.{Agree, labels_differ, labels_agree, nodes_differ}
-use Rattle.lazy_steps.proofs.Linked.{LinkFits, link_fits, tests_fail, test_holds, none_next, label_some}
+use Rattle.lazy_steps.proofs.Agreeing.{Agree, Alike, labels_agree, not_true, one_spot_of}
+use Rattle.lazy_steps.proofs.Linked.{LinkFits, join_fits, tests_say, test_holds, none_next, label_some}
 use Rattle.lazy_steps.proofs.PairSteps.{right_over, right_past, member_steps, can_then}
 
 module _ (ops : List Operator) (n l r : ℕ) (tests : List Test) (typed : IsTyped ops) (within : n < length ops) (is : shape_at ops n ≡ pairs_up l r tests) (w : World) (bench : IsBench w ops) (x : Position) (here : IsOf w ops l x) (row : IsTrue (has_row x)) where
   abbrev ms : List Member
   ms = (memo_at w n).pairs
 
-  members : AreMembers w ops r (link_at ops n) (memo_at w n)
+  members : AreMembers w ops r (links_at ops n) (memo_at w n)
   members = bench.members n l r tests is
 
   smaller : (l < length ops) × (r < length ops)
   smaller = (let z = inputs_at ops typed n within (pairs_up l r tests) is in (omega (arith, z.0, within), omega (arith, z.1.0, within)))
 
-  linked : link_at ops n ≡ best_link (kinds ops l) tests
-  linked = ap (shape_link ops) is
+  linked : links_at ops n ≡ all_links (kinds ops l) tests
+  linked = ap (shape_links ops) is
 
   -- the nodes of a pair by which its member is looked up are those of its two sides
   pair_nodes : (d : Position) (link : Link) → LinkFits (kinds ops l) (kinds ops r) link
@@ -69,8 +72,8 @@ module _ (ops : List Operator) (n l r : ℕ) (tests : List Test) (typed : IsType
   )
 
   -- the variables by which they are looked up
-  fits_at : (link : Link) → link_at ops n ≡ Some link → LinkFits (kinds ops l) (kinds ops r) link
-  fits_at link e = link_fits (kinds ops l) (kinds ops r) link tests (fit_at ops typed n within (pairs_up l r tests) is) (sym linked ∙ e)
+  fits_all : AllByRecursion (LinkFits (kinds ops l) (kinds ops r)) (links_at ops n)
+  fits_all = join_fits ops typed n within l r tests is (links_at ops n) refl
 
   -- where the two sides agree or don't, so do they in their pair
   pair_agrees : (d : Position) (link : Link) (verdict : Bool) → LinkFits (kinds ops l) (kinds ops r) link
@@ -81,47 +84,81 @@ module _ (ops : List Operator) (n l r : ℕ) (tests : List Test) (typed : IsType
       subst (λ (m : Node). Agree link.by (docs_of w) m (row_node (binding w ops l x ++ binding w ops r d) link.right) verdict) (sym z.0)
       (subst (λ (m : Node). Agree link.by (docs_of w) (row_node (binding w ops l x) link.left) m verdict) (sym z.1) h)
 
-  -- where what is looked up differs, the two sides don't agree
-  sides_differ : (d : Position) → IsOf w ops r d → IsTrue (has_row d) → (link : Link) → LinkFits (kinds ops l) (kinds ops r) link → (by : LinkKind)
-      → (link_label w ops r by link.right d ≡ link_label w ops l by link.left x → ⊥) → Agree by (docs_of w) (row_node (binding w ops l x) link.left) (row_node (binding w ops r d) link.right) false
-  sides_differ d of at link fits by_label f = labels_differ (docs_of w) _ _ f
-  sides_differ d of at link fits by_node f =
+  -- where a pair is alike, so are its two sides
+  sides_alike : (d : Position) (link : Link) → LinkFits (kinds ops l) (kinds ops r) link
+      → Alike link.by (docs_of w) (row_node (binding w ops l x ++ binding w ops r d) link.left) (row_node (binding w ops l x ++ binding w ops r d) link.right)
+      → Alike link.by (docs_of w) (row_node (binding w ops l x) link.left) (row_node (binding w ops r d) link.right)
+  sides_alike d link fits h =
+      let z = pair_nodes d link fits in
+      subst (λ (m : Node). Alike link.by (docs_of w) m (row_node (binding w ops r d) link.right)) z.0
+      (subst (λ (m : Node). Alike link.by (docs_of w) (row_node (binding w ops l x ++ binding w ops r d) link.left) m) z.1 h)
+
+  -- where two sides have one node, they have one spot
+  same_spots : (d : Position) → IsOf w ops r d → IsTrue (has_row d) → (link : Link) → LinkFits (kinds ops l) (kinds ops r) link
+      → row_node (binding w ops l x) link.left ≡ row_node (binding w ops r d) link.right → spot_in ops r d link.right ≡ spot_in ops l x link.left
+  same_spots d of at link fits h =
       let s = spot_is ops typed w l smaller.0 (shape_at ops l) refl x here row link.left fits.left_is in
       let t = spot_is ops typed w r smaller.1 (shape_at ops r) refl d of at link.right fits.right_is in
-      let g : spot_text (Some (t.source, t.spot)) ≡ spot_text (Some (s.source, s.spot)) → ⊥ = λ e. f (ap spot_text t.is ∙ e ∙ sym (ap spot_text s.is)) in
-      subst (λ (m : Node). Agree by_node (docs_of w) m (row_node (binding w ops r d) link.right) false) (sym (ap source_node s.value))
-      (subst (λ (m : Node). Agree by_node (docs_of w) (spot_node w s.source s.spot) m false) (sym (ap source_node t.value))
-      (nodes_differ w s.source t.source s.spot t.spot s.known t.known (docs_of w) g))
+      t.is ∙ sym (one_spot_of w s.source t.source s.spot t.spot s.known t.known (sym (ap source_node s.value) ∙ h ∙ ap source_node t.value)) ∙ sym s.is
+
+  -- where two sides are alike, what they are looked up by alone is the same
+  same_label : (d : Position) → IsOf w ops r d → IsTrue (has_row d) → (link : Link) → LinkFits (kinds ops l) (kinds ops r) link → (by : LinkKind)
+      → Alike by (docs_of w) (row_node (binding w ops l x) link.left) (row_node (binding w ops r d) link.right) → link_label w ops r by link.right d ≡ link_label w ops l by link.left x
+  same_label d of at link fits by_label h = sym h
+  same_label d of at link fits by_node h = ap spot_text (same_spots d of at link fits h)
+
+  -- where two sides are alike, a hasher is fed the same of them
+  same_fed : (d : Position) → IsOf w ops r d → IsTrue (has_row d) → (link : Link) → LinkFits (kinds ops l) (kinds ops r) link → (by : LinkKind)
+      → Alike by (docs_of w) (row_node (binding w ops l x) link.left) (row_node (binding w ops r d) link.right) → link_fed w ops r by link.right d ≡ link_fed w ops l by link.left x
+  same_fed d of at link fits by_label h = ap (fed.slice fed.u8) (sym h)
+  same_fed d of at link fits by_node h = ap spot_fed (same_spots d of at link fits h)
+
+  -- a pair is alike by a link
+  abbrev AlikeBy : Position → Link → Type 0
+  AlikeBy d link = Alike link.by (docs_of w) (row_node (binding w ops l x ++ binding w ops r d) link.left) (row_node (binding w ops l x ++ binding w ops r d) link.right)
+
+  -- where a pair is alike by all links, a hasher is fed the same of its two sides
+  all_fed : (d : Position) → IsOf w ops r d → IsTrue (has_row d) → (links : List Link) → AllByRecursion (LinkFits (kinds ops l) (kinds ops r)) links → AllByRecursion (AlikeBy d) links
+      → links_fed w ops r on_right links d ≡ links_fed w ops l on_left links x
+  all_fed d of at [] fits alike = refl
+  all_fed d of at (link ∷ links) fits alike =
+      ap (λ (z : fed.HashWrites). z ++ links_fed w ops r on_right links d) (same_fed d of at link fits.0 link.by (sides_alike d link fits.0 alike.0))
+      ∙ ap (λ (z : fed.HashWrites). link_fed w ops l link.by link.left x ++ z) (all_fed d of at links fits.1 alike.1)
+
+  -- where a pair is alike by all links, its two sides are looked up by the same
+  same_key : (d : Position) → IsOf w ops r d → IsTrue (has_row d) → (links : List Link) → AllByRecursion (LinkFits (kinds ops l) (kinds ops r)) links → AllByRecursion (AlikeBy d) links
+      → member_label w ops r links d ≡ sought_label w ops l links x
+  same_key d of at [] fits alike = refl
+  same_key d of at (link ∷ []) fits alike = same_label d of at link fits.0 link.by (sides_alike d link fits.0 alike.0)
+  same_key d of at (link ∷ other ∷ links) fits alike = ap hash_text (all_fed d of at (link ∷ other ∷ links) fits alike)
 
   -- a member of another label is let through nowhere
-  other_fails : (d : Position) → IsOf w ops r d → IsTrue (has_row d) → (member_label w ops r (link_at ops n) d ≡ sought_label w ops l (link_at ops n) x → ⊥) → lets w ops l r tests x d ≡ false
-  other_fails d of at other = by_case (link_at ops n) refl other
+  other_fails : (d : Position) → IsOf w ops r d → IsTrue (has_row d) → (member_label w ops r (links_at ops n) d ≡ sought_label w ops l (links_at ops n) x → ⊥) → lets w ops l r tests x d ≡ false
+  other_fails d of at other = not_true (lets w ops l r tests x d) (λ holds. other (same_key d of at (links_at ops n) fits_all (alike holds)))
     where
-      by_case : (by : Option Link) → link_at ops n ≡ by → (member_label w ops r by d ≡ sought_label w ops l by x → ⊥) → lets w ops l r tests x d ≡ false
-      by_case None e f = absurd (f refl)
-      by_case (Some link) e f =
-          let fits = fits_at link e in
-          tests_fail (kinds ops l) link (docs_of w) (binding w ops l x ++ binding w ops r d) (pair_agrees d link false fits (sides_differ d of at link fits link.by f)) tests (sym linked ∙ e)
+      alike : lets w ops l r tests x d ≡ true → AllByRecursion (AlikeBy d) (links_at ops n)
+      alike holds = subst (AllByRecursion (AlikeBy d)) (sym linked) (tests_say (kinds ops l) (docs_of w) (binding w ops l x ++ binding w ops r d) tests holds)
 
   -- a member that was found by its label is let through, where nothing else is compared
-  pub found_lets : (p : ℕ) → p < length ms → (length tests ≡ 1) × (is_by_label (link_at ops n) ≡ true) → IsTrue (is_told w ops)
-      → HasSought ms (sought_label w ops l (link_at ops n) x) (link_at ops n) p → lets w ops l r tests x (passed ms (suc p)) ≡ true
-  found_lets p less alone t has = by_case (link_at ops n) refl alone.1 (sym ((member_at members p less).label_is t) ∙ has (label_some (link_at ops n) alone.1))
+  pub found_lets : (p : ℕ) → p < length ms → (length tests ≡ 1) × (is_by_label (links_at ops n) ≡ true) → IsTrue (is_told w ops)
+      → HasSought ms (sought_label w ops l (links_at ops n) x) (links_at ops n) p → lets w ops l r tests x (passed ms (suc p)) ≡ true
+  found_lets p less alone t has = by_case (links_at ops n) refl fits_all alone.1 (sym ((member_at members p less).label_is t) ∙ has (label_some (links_at ops n) alone.1))
     where
-      same : (by : LinkKind) (link : Link) → is_label by ≡ true → link_label w ops r by link.right (passed ms (suc p)) ≡ link_label w ops l by link.left x
+      same : (by : LinkKind) (link : Link) → is_some (if_label by link) ≡ true → link_label w ops r by link.right (passed ms (suc p)) ≡ link_label w ops l by link.left x
           → Agree by (docs_of w) (row_node (binding w ops l x) link.left) (row_node (binding w ops r (passed ms (suc p))) link.right) true
       same by_label link is f = labels_agree (docs_of w) _ _ f
       same by_node link is f = cc
 
-      by_case : (by : Option Link) → link_at ops n ≡ by → is_by_label by ≡ true
+      by_case : (by : List Link) → links_at ops n ≡ by → AllByRecursion (LinkFits (kinds ops l) (kinds ops r)) by → is_by_label by ≡ true
           → member_label w ops r by (passed ms (suc p)) ≡ sought_label w ops l by x → lets w ops l r tests x (passed ms (suc p)) ≡ true
-      by_case None e some f = cc
-      by_case (Some link) e some f =
+      by_case [] e fits some f = cc
+      by_case (link ∷ []) e fits some f =
           test_holds (kinds ops l) link (docs_of w) (binding w ops l x ++ binding w ops r (passed ms (suc p)))
-          (pair_agrees (passed ms (suc p)) link true (fits_at link e) (same link.by link some f)) tests alone.0 (sym linked ∙ e)
+          (pair_agrees (passed ms (suc p)) link true fits.0 (same link.by link some f)) tests alone.0 (sym linked ∙ e)
+      by_case (link ∷ other ∷ links) e fits some f = cc
 
   -- a member without the label that is looked up is passed
-  pass_one : IsTrue (is_told w ops) → (k : ℕ) → k < length ms → (get_or (labels_of ms) k [] ≡ sought_label w ops l (link_at ops n) x → ⊥)
+  pass_one : IsTrue (is_told w ops) → (k : ℕ) → k < length ms → (get_or (labels_of ms) k [] ≡ sought_label w ops l (links_at ops n) x → ⊥)
       → (found (beside_events w ops l r tests x (passed ms k)) ≡ found (beside_events w ops l r tests x (passed ms (suc k))))
       × (cost (beside_events w ops l r tests x (passed ms (suc k))) ≤ cost (beside_events w ops l r tests x (passed ms k)))
   pass_one t k less other =
@@ -136,7 +173,7 @@ module _ (ops : List Operator) (n l r : ℕ) (tests : List Test) (typed : IsType
       )
 
   -- members without the label that is looked up are passed, one after another
-  pass_many : IsTrue (is_told w ops) → (c k p : ℕ) → k + c ≡ p → p ≤ length ms → NoneBetween ms (sought_label w ops l (link_at ops n) x) k p
+  pass_many : IsTrue (is_told w ops) → (c k p : ℕ) → k + c ≡ p → p ≤ length ms → NoneBetween ms (sought_label w ops l (links_at ops n) x) k p
       → (found (beside_events w ops l r tests x (passed ms k)) ≡ found (beside_events w ops l r tests x (passed ms p)))
       × (cost (beside_events w ops l r tests x (passed ms p)) ≤ cost (beside_events w ops l r tests x (passed ms k)))
   pass_many t zero k p e low other = (ap (λ (z : ℕ). found (beside_events w ops l r tests x (passed ms z))) (omega (arith, e)), omega (arith, ap (λ (z : ℕ). cost (beside_events w ops l r tests x (passed ms z))) (let f : k ≡ p = omega (arith, e) in f)))
@@ -146,7 +183,7 @@ module _ (ops : List Operator) (n l r : ℕ) (tests : List Test) (typed : IsType
       (first.0 ∙ rest.0, omega (arith, first.1, rest.1))
 
   -- where none before a place has the label that is looked up, a step goes on from there
-  pub pass_known : (k p : ℕ) → k ≤ p → p ≤ length ms → (IsTrue (is_told w ops) → NoneBetween ms (sought_label w ops l (link_at ops n) x) k p)
+  pub pass_known : (k p : ℕ) → k ≤ p → p ≤ length ms → (IsTrue (is_told w ops) → NoneBetween ms (sought_label w ops l (links_at ops n) x) k p)
       → Goes w w ops n (beside_events w ops l r tests x (passed ms k)) (beside_events w ops l r tests x (passed ms p)) (beside_number w ops l r x k) (beside_number w ops l r x p)
   pass_known k p le low other = record {
     kept = keeps_same w ops bench;
@@ -181,7 +218,7 @@ module _ (ops : List Operator) (n l r : ℕ) (tests : List Test) (typed : IsType
   pair_stands p less z at = ((pair_is p less z at).0, pair_lets p z at)
 
   -- the event at the pair with the next member, as a step comes to it
-  pub known_steps : (k p : ℕ) → (k ≤ p) × (p < length ms) → (IsTrue (is_told w ops) → NoneBetween ms (sought_label w ops l (link_at ops n) x) k p)
+  pub known_steps : (k p : ℕ) → (k ≤ p) × (p < length ms) → (IsTrue (is_told w ops) → NoneBetween ms (sought_label w ops l (links_at ops n) x) k p)
       → (res : Result Step WalkFault) → IfOk res (IsMemberStep w ops l r tests ms x p)
       → IfOk res (Steps w w ops n (pairs_up l r tests) (beside_events w ops l r tests x (passed ms k)) (beside_number w ops l r x k))
   known_steps k p at other res h =
@@ -191,7 +228,7 @@ module _ (ops : List Operator) (n l r : ℕ) (tests : List Test) (typed : IsType
       (let few = m.few in omega (arith, few)) (omega (arith, at.1)) refl s g) h)
 
   -- where no member from one place on has the label, a step goes on after all of them
-  pub pass_all : (k : ℕ) → k ≤ length ms → (IsTrue (is_told w ops) → NoneBetween ms (sought_label w ops l (link_at ops n) x) k (length ms))
+  pub pass_all : (k : ℕ) → k ≤ length ms → (IsTrue (is_told w ops) → NoneBetween ms (sought_label w ops l (links_at ops n) x) k (length ms))
       → Goes w w ops n (beside_events w ops l r tests x (passed ms k)) (beside_events w ops l r tests x (last_at w n)) (beside_number w ops l r x k) (beside_number w ops l r x (length ms))
   pass_all k le other =
       subst (λ (z : Position). Goes w w ops n (beside_events w ops l r tests x (passed ms k)) (beside_events w ops l r tests x z) (beside_number w ops l r x k) (beside_number w ops l r x (length ms)))
@@ -261,7 +298,7 @@ module _ {S : Type 0} {view : S → View} {came_from : S → S → Type 0} {s t 
 
   -- where it isn't found, the events after it are ahead
   pub more_goes : (res : Option ℕ) → ((j : ℕ) → res ≡ Some j → ⊥)
-      → (IsTrue (is_told b (operators p)) → IsNextPlace (memo_at b n).pairs (sought_label b (operators p) l (link_at (operators p) n) x) k res)
+      → (IsTrue (is_told b (operators p)) → IsNextPlace (memo_at b n).pairs (sought_label b (operators p) l (links_at (operators p) n) x) k res)
       → Goes a b (operators p) n (beside_events a (operators p) l r tests x (last_at a n)) (beside_events b (operators p) l r tests x (last_at b n))
       (beside_number a (operators p) l r x (length (memo_at a n).pairs)) (beside_number b (operators p) l r x (length (memo_at b n).pairs))
   more_goes res never next =
@@ -271,8 +308,8 @@ module _ {S : Type 0} {view : S → View} {came_from : S → S → Type 0} {s t 
       less : k < length (memo_at b n).pairs
       less = omega (arith, one_more)
 
-      none : IsTrue (is_told b (operators p)) → NoneBetween (memo_at b n).pairs (sought_label b (operators p) l (link_at (operators p) n) x) k (length (memo_at b n).pairs)
-      none u = none_next (memo_at b n).pairs (sought_label b (operators p) l (link_at (operators p) n) x) k res never (next u)
+      none : IsTrue (is_told b (operators p)) → NoneBetween (memo_at b n).pairs (sought_label b (operators p) l (links_at (operators p) n) x) k (length (memo_at b n).pairs)
+      none u = none_next (memo_at b n).pairs (sought_label b (operators p) l (links_at (operators p) n) x) k res never (next u)
 
       fails : IsTrue (is_told b (operators p)) → lets b (operators p) l r tests x (passed (memo_at b n).pairs (suc k)) ≡ false
       fails u =
@@ -302,7 +339,7 @@ module _ {v : View} {g : Growing} {p : Fixed} {n : ℕ} {c : Position} (can : Ca
     -- a step to the next member that is known
     pub at_known : (j : ℕ) → (k ≤ j) × (j < length (memo_at (world_of v g) n).pairs)
         → (IsTrue (is_told (world_of v g) (operators p))
-        → NoneBetween (memo_at (world_of v g) n).pairs (sought_label (world_of v g) (operators p) l (link_at (operators p) n) x) k j)
+        → NoneBetween (memo_at (world_of v g) n).pairs (sought_label (world_of v g) (operators p) l (links_at (operators p) n) x) k j)
         → (res : Result Step WalkFault) → IfOk res (IsMemberStep (world_of v g) (operators p) l r tests (memo_at (world_of v g) n).pairs x j)
         → IfOk res (Steps (world_of v g) (world_of v g) (operators p) n (pairs_up l r tests) (stands (world_of v g) (operators p) n (pairs_up l r tests) (Pair' q x q' y k)).ahead
         (weighs (world_of v g) (operators p) n (pairs_up l r tests) (Pair' q x q' y k)))
@@ -313,7 +350,7 @@ module _ {v : View} {g : Growing} {p : Fixed} {n : ℕ} {c : Position} (can : Ca
 
     -- where none is known, a step goes on after all members
     pub at_none : (IsTrue (is_told (world_of v g) (operators p))
-        → NoneBetween (memo_at (world_of v g) n).pairs (sought_label (world_of v g) (operators p) l (link_at (operators p) n) x) k (length (memo_at (world_of v g) n).pairs))
+        → NoneBetween (memo_at (world_of v g) n).pairs (sought_label (world_of v g) (operators p) l (links_at (operators p) n) x) k (length (memo_at (world_of v g) n).pairs))
         → Goes (world_of v g) (world_of v g) (operators p) n (stands (world_of v g) (operators p) n (pairs_up l r tests) (Pair' q x q' y k)).ahead
         (beside_events (world_of v g) (operators p) l r tests x (last_at (world_of v g) n)) (weighs (world_of v g) (operators p) n (pairs_up l r tests) (Pair' q x q' y k))
         (beside_number (world_of v g) (operators p) l r x (length (memo_at (world_of v g) n).pairs))

@@ -1,5 +1,5 @@
 -- Steps of a join over the members of its right side.
-use Rattle.std.specs.Prelude.{◌≡◌, ◌<◌, ◌≤◌, ◌+◌, ◌-◌, ◌++◌, ◌∷◌, [], ℕ, suc, Bool, true, false, IsTrue, List, Option, Some, None, MatchOption, Result, IfOk, is_some, length, slice_index_or}
+use Rattle.std.specs.Prelude.{◌≡◌, ◌<◌, ◌≤◌, ◌+◌, ◌-◌, ◌++◌, ◌∷◌, [], ℕ, suc, Bool, true, false, IsTrue, List, Option, MatchOption, Result, IfOk, is_some, length, slice_index_or}
 use Rattle.std.specs.declared.alloc.Global.{Global}
 use Rattle.std.specs.declared.rc.Rc.{Rc}
 use Rattle.join_memo.specs.Kept.{Kept, labels_of}
@@ -11,9 +11,9 @@ use Rattle.plan_core.specs.Plans.{Operator}
 use Rattle.plan_core.specs.Shapes.{pairs_up, shape_at}
 use Rattle.plan_core.specs.Events.{RowEvents, pairs, passes_all}
 use Rattle.plan_forms.specs.declared.link.Link.{Link}
-use Rattle.plan_forms.specs.declared.link.LinkKind.{LinkKind}
-use Rattle.plan_forms.specs.declared.link.LinkKind.TheVariants.{Label as by_label, Node as by_node}
-use Rattle.lazy_binding.specs.Members.{link_label}
+use Rattle.plan_forms.specs.declared.link.Side.TheVariants.{Left as on_left}
+use Rattle.plan_forms.specs.Links.{only_label}
+use Rattle.lazy_binding.specs.Members.{key_by}
 use Rattle.lazy_binding.specs.declared.parts.Growing.{Growing}
 use Rattle.lazy_binding.specs.declared.parts.Walk.{Walk}
 use Rattle.lazy_binding.specs.declared.position.Position.{Position, Start, Pair'}
@@ -39,19 +39,12 @@ abbrev pub memo_in : Growing → ℕ → Kept (Rc Position Global)
 memo_in g n = slice_index_or g.memos.items n no_pairs
 
 -- the label that is looked up beside a binding of a join's left side; no bytes where nothing is looked up
-abbrev pub sought_label : World → List Operator → ℕ → Option Link → Position → List ℕ
-sought_label w ops l None x = []
-sought_label w ops l (Some link) x = link_label w ops l link.by link.left x
+abbrev pub sought_label : World → List Operator → ℕ → List Link → Position → List ℕ
+sought_label w ops l by x = key_by w ops l on_left by x
 
--- whether members are looked up by labels, and not by nodes
-abbrev pub is_label : LinkKind → Bool
-is_label by_label = true
-is_label by_node = false
-
--- whether a join looks its members up, and by labels
-abbrev pub is_by_label : Option Link → Bool
-is_by_label None = false
-is_by_label (Some link) = is_label link.by
+-- whether a join looks its members up by one link alone, which is by labels
+abbrev pub is_by_label : List Link → Bool
+is_by_label by = is_some (only_label by)
 
 -- no member at a place from k on, and before p, has this label
 abbrev pub NoneBetween : List Member → List ℕ → ℕ → ℕ → Type 0
@@ -66,8 +59,8 @@ abbrev pub IsNextPlace : List Member → List ℕ → ℕ → Option ℕ → Typ
 IsNextPlace ms key k r = MatchOption r (NoneBetween ms key k (length ms)) (NoneBetween ms key k)
 
 -- where members are looked up, the one at place p has the label that is looked up
-abbrev pub HasSought : List Member → List ℕ → Option Link → ℕ → Type 0
-HasSought ms key by p = is_some by ≡ true → slice_index_or (labels_of ms) p [] ≡ key
+abbrev pub HasSought : List Member → List ℕ → List Link → ℕ → Type 0
+HasSought ms key by p = (by ≡ [] → ⊥) → slice_index_or (labels_of ms) p [] ≡ key
 
 -- a position is the pair of a position of a join's left side and the member at place p
 abbrev pub IsPairAt : List Member → Position → ℕ → Position → Type 0

@@ -5,7 +5,7 @@ ghost use Rattle.lxp_core.specs.View.{View};
 ghost use Rattle.lxp_core.specs.declared.fault.WalkFault.TheVariants.{OutOfMemory};
 ghost use Rattle.lazy_binding.specs.Bench.{IsBench};
 ghost use Rattle.lazy_binding.specs.Cursors.{has_row};
-ghost use Rattle.plan_forms.specs.Links.{link_at};
+ghost use Rattle.plan_forms.specs.Links.{links_at};
 ghost use Rattle.lazy_binding.specs.Members.{member_label};
 ghost use Rattle.lazy_binding.specs.Parts.{operators, shape_walked, world_of, IsFixed};
 ghost use Rattle.lazy_binding.specs.Reading.{HasStand, Tells};
@@ -18,11 +18,20 @@ use lazy_binding::growth::{end_members, last_member, push_member};
 use lazy_binding::{Growing, Position, Walk, share};
 use lxp_core::{Sources, WalkFault};
 use mix_tree::Label;
-use plan_forms::LinkKind;
+use plan_forms::{Link, Side, only_label};
 use std::alloc::{AllocError, Global};
 use std::rc::Rc;
 
 impl Join<'_> {
+    /// The links by which members of the right side are looked up.
+    fn links(&self) -> &[Link]
+        requires fixed { IsFixed self.now.walk.fixed.now }
+        requires op { self.now.walk.op < length (operators self.now.walk.fixed.now) }
+        ensures { result.now ≡ links_at (operators self.now.walk.fixed.now) self.now.walk.op }
+    {
+        &self.walk.fixed.links[self.walk.op]
+    }
+
     /// The place of the next member beside a binding of the left side, at or after one: the next of the label that is looked up, or whichever
     /// is next; `None` where none is known yet. No fill is asked.
     pub(crate) fn next_known(
@@ -39,12 +48,12 @@ impl Join<'_> {
         requires row { IsTrue (has_row l.now.value) }
         ensures place { IfOk result (IsPlaceFrom (memo_in growing.now self.now.walk.op).pairs from) }
         ensures next { let ops = operators self.now.walk.fixed.now in
-            let by = link_at ops self.now.walk.op in
+            let by = links_at ops self.now.walk.op in
             let ms = (memo_in growing.now self.now.walk.op).pairs in
             IfOk result (λ r. Tells growing.now (left_of self.now) l.now.value
             (λ w docs row. IsNextPlace ms (sought_label w ops self.now.left by l.now.value) from r)) }
         ensures label { let ops = operators self.now.walk.fixed.now in
-            let by = link_at ops self.now.walk.op in
+            let by = links_at ops self.now.walk.op in
             let ms = (memo_in growing.now self.now.walk.op).pairs in
             IfOk result (λ r. Tells growing.now (left_of self.now) l.now.value
             (λ w docs row. IfSome r (HasSought ms (sought_label w ops self.now.left by l.now.value) by))) }
@@ -57,15 +66,16 @@ impl Join<'_> {
         if memo.len() <= from {
             return Ok(None);
         }
-        match &self.walk.fixed.links[self.walk.op] {
-            Some(link) => match link.by {
-                LinkKind::Label => Ok(memo.find(left.label_of(growing, l, link.left), from)),
-                LinkKind::Node => {
-                    let text = left.text_of(alloc, l, link.left)?;
-                    Ok(memo.find(&text, from))
-                }
-            },
-            None => Ok(Some(from)),
+        let by = self.links();
+        if by.is_empty() {
+            return Ok(Some(from));
+        }
+        match only_label(by) {
+            Some(link) => Ok(memo.find(left.label_of(growing, l, link.left), from)),
+            None => {
+                let key = left.key_by(alloc, growing, l, by, Side::Left)?;
+                Ok(memo.find(&key, from))
+            }
         }
     }
 
@@ -118,13 +128,11 @@ impl Join<'_> {
     fn label_decides(&self) -> bool
         requires fixed { IsFixed self.now.walk.fixed.now }
         requires op { self.now.walk.op < length (operators self.now.walk.fixed.now) }
-        ensures { let by = link_at (operators self.now.walk.fixed.now) self.now.walk.op in
+        ensures { let by = links_at (operators self.now.walk.fixed.now) self.now.walk.op in
             IsTrue result → (length self.now.tests.now ≡ 1) × (is_by_label by ≡ true) }
     {
-        match &self.walk.fixed.links[self.walk.op] {
-            Some(link) => self.tests.len() == 1 && matches!(link.by, LinkKind::Label),
-            None => false,
-        }
+        let only = only_label(self.links());
+        self.tests.len() == 1 && only.is_some()
     }
 
     /// The event at the pair of a binding of the left side and a member that was looked up: where its label decides, nothing more is compared.
@@ -136,7 +144,7 @@ impl Join<'_> {
     ) -> Result<Step, WalkFault>
         requires can { CanPair growing.now self.now l.now.value place }
         requires label { let ops = operators self.now.walk.fixed.now in
-            let by = link_at ops self.now.walk.op in
+            let by = links_at ops self.now.walk.op in
             let ms = (memo_in growing.now self.now.walk.op).pairs in
             Tells growing.now (left_of self.now) l.now.value
             (λ w docs row. HasSought ms (sought_label w ops self.now.left by l.now.value) by place) }
@@ -165,7 +173,7 @@ impl Join<'_> {
         requires cursor { HasStand growing.now (right_of self.now) r.now.value }
         requires row { IsTrue (has_row r.now.value) }
         ensures { let ops = operators self.now.walk.fixed.now in
-            let by = link_at ops self.now.walk.op in
+            let by = links_at ops self.now.walk.op in
             IfOk result (λ label. Tells growing.now (right_of self.now) r.now.value
             (λ w docs row. label ≡ member_label w ops self.now.right by r.now.value)) }
     {
@@ -173,13 +181,8 @@ impl Join<'_> {
             fixed: self.walk.fixed,
             op: self.right,
         };
-        match &self.walk.fixed.links[self.walk.op] {
-            Some(link) => match link.by {
-                LinkKind::Label => right.label_of(growing, r, link.right).copy(alloc),
-                LinkKind::Node => right.text_of(alloc, r, link.right),
-            },
-            None => Label::of_text(alloc, &[]),
-        }
+        let by = self.links();
+        right.key_by(alloc, growing, r, by, Side::Right)
     }
 
     /// One more member, the next binding of the right side; `false` where there is none, and then the memo has ended. Whatever is answered, the

@@ -1,3 +1,2 @@
-pub mod Better
 pub mod Binding
 pub mod Lasts

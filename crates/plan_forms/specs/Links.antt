@@ -1,5 +1,5 @@
 -- By which variables the bindings of a join's right side are looked up.
-use Rattle.std.specs.Prelude.{ℕ, Bool, true, false, cond, is_some, Option, None, Some, List, [], ◌∷◌}
+use Rattle.std.specs.Prelude.{ℕ, cond, is_some, Option, None, Some, List, [], ◌∷◌}
 use Rattle.mix_tree.specs.declared.comparing.Operand.{Operand}
 use Rattle.mix_tree.specs.declared.comparing.Operand.TheVariants.{Var as var_operand, Text as text_operand}
 use Rattle.mix_tree.specs.declared.comparing.Test.{Test}
@@ -10,6 +10,8 @@ use Rattle.plan_core.specs.Shapes.{Shape, pairs_up, shape_of, shape_at}
 use Rattle.plan_core.specs.Valid.{Kinds, kinds}
 use Rattle.plan_forms.specs.declared.link.Link.{Link}
 use Rattle.plan_forms.specs.declared.link.LinkKind.{LinkKind}
+use Rattle.plan_forms.specs.declared.link.Side.{Side}
+use Rattle.plan_forms.specs.declared.link.Side.TheVariants.{Left as on_left, Right as on_right}
 use Rattle.plan_forms.specs.declared.link.LinkKind.TheVariants.{Label as by_label, Node as by_node}
 
 -- by what the two sides of a comparison are looked up by each other: of equal labels by the label, of nodes by the node; of others by nothing
@@ -37,31 +39,41 @@ kind_link left (Some by) v o = operand_link left by v o
 abbrev pub test_link : Kinds → Test → Option Link
 test_link left t = kind_link left (link_kind t.op) t.left t.right
 
--- whether of two links the earlier is the better one: where it is by nodes and the later by labels
-abbrev pub is_earlier_better : LinkKind → LinkKind → Bool
-is_earlier_better by_node by_label = true
-is_earlier_better earlier later = false
+-- a list of links with one more before it, where there is one
+abbrev pub with_link : Option Link → List Link → List Link
+with_link None links = links
+with_link (Some link) links = link ∷ links
 
--- of two links, an earlier and a later, the one to look up by: one by nodes before one by labels, and of two by the same the later
-abbrev pub better_link : Option Link → Option Link → Option Link
-better_link None later = later
-better_link (Some earlier) None = Some earlier
-better_link (Some earlier) (Some later) = cond (is_earlier_better earlier.by later.by) (Some earlier) (Some later)
+-- the links of a join's comparisons, in their order
+abbrev pub all_links : Kinds → List Test → List Link
+all_links left [] = []
+all_links left (t ∷ tests) = with_link (test_link left t) (all_links left tests)
 
--- the link to look up by among those of a join's comparisons: the last one by nodes, or else the last one by labels
-abbrev pub best_link : Kinds → List Test → Option Link
-best_link left [] = None
-best_link left (t ∷ tests) = better_link (test_link left t) (best_link left tests)
+-- the links by which an operator of this shape looks members up; only a shape that pairs two sides has some
+abbrev pub shape_links : List Operator → Shape → List Link
+shape_links ops (pairs_up l r tests) = all_links (kinds ops l) tests
+shape_links ops f = []
 
--- the link by which an operator of this shape looks members up; only a shape that pairs two sides has one
-abbrev pub shape_link : List Operator → Shape → Option Link
-shape_link ops (pairs_up l r tests) = best_link (kinds ops l) tests
-shape_link ops f = None
+-- the links by which this operator of a plan looks members up
+abbrev pub op_links : List Operator → Operator → List Link
+op_links ops op = shape_links ops (shape_of op)
 
--- the link by which this operator of a plan looks members up
-abbrev pub op_link : List Operator → Operator → Option Link
-op_link ops op = shape_link ops (shape_of op)
+-- the links by which operator n of a plan looks members up
+abbrev pub links_at : List Operator → ℕ → List Link
+links_at ops n = shape_links ops (shape_at ops n)
 
--- the link by which operator n of a plan looks members up
-abbrev pub link_at : List Operator → ℕ → Option Link
-link_at ops n = shape_link ops (shape_at ops n)
+-- the variable of a link on a side of its join
+abbrev pub side_var : Side → Link → ℕ
+side_var on_left link = link.left
+side_var on_right link = link.right
+
+-- a link where it is by labels
+abbrev pub if_label : LinkKind → Link → Option Link
+if_label by_label link = Some link
+if_label by_node link = None
+
+-- the only one of these links, where it is by labels
+abbrev pub only_label : List Link → Option Link
+only_label [] = None
+only_label (link ∷ []) = if_label link.by link
+only_label (link ∷ other ∷ links) = None

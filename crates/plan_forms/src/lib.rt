@@ -8,5 +8,5 @@ mod variables;
 pub use forms::{
     count_pieces, element_label, element_list, group_keys, input_of, last, operator, piece, text,
 };
-pub use link::{Link, LinkKind, links};
+pub use link::{Link, LinkKind, Side, links, only_label};
 pub use variables::{binds, names_var, var_of};

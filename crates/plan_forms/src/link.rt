@@ -5,7 +5,7 @@ ghost use Rattle.plan_core.specs.PlanMade.{op_of};
 ghost use Rattle.plan_core.specs.Typed.{IsTyped};
 ghost use Rattle.plan_core.specs.Valid.{kinds, inputs_of};
 ghost use Rattle.plan_forms.specs.Links as spec;
-ghost use Rattle.plan_forms.specs.Links.{test_link, better_link, best_link, op_link};
+ghost use Rattle.plan_forms.specs.Links.{test_link, all_links, op_links};
 
 use crate::variables::binds;
 use mix_tree::{Operand, Test, TestOp, Var};
@@ -25,6 +25,38 @@ pub struct Link {
     pub left: Var,
     pub right: Var,
     pub by: LinkKind,
+}
+
+/// A side of a join.
+#[derive(Clone, Copy)]
+pub enum Side {
+    Left,
+    Right,
+}
+
+impl Link {
+    /// The variable of a link on a side of its join.
+    pub fn var(&self, side: Side) -> Var
+        ensures { result ≡ spec.side_var side self.now }
+    {
+        match side {
+            Side::Left => self.left,
+            Side::Right => self.right,
+        }
+    }
+}
+
+/// The only one of these links, where it is by labels.
+pub fn only_label(links: &[Link]) -> Option<Link>
+    ensures { result ≡ spec.only_label links.now }
+{
+    match links {
+        [link] => match link.by {
+            LinkKind::Label => Some(*link),
+            LinkKind::Node => None,
+        },
+        _ => None,
+    }
 }
 
 /// By what a comparison lets members be looked up; only `=` and `is` do.
@@ -65,54 +97,41 @@ fn link_of(ops: &[Op], left: u32, test: &Test) -> Option<Link>
     }
 }
 
-/// Of two links the one to look up by: one by nodes before one by labels, and of two by the same the later.
-fn better(earlier: Option<Link>, later: Option<Link>) -> Option<Link>
-    ensures { result ≡ better_link earlier later }
-{
-    match (earlier, later) {
-        (None, other) => other,
-        (Some(only), None) => Some(only),
-        (Some(first), Some(second)) => match (first.by, second.by) {
-            (LinkKind::Node, LinkKind::Label) => Some(first),
-            _ => Some(second),
-        },
-    }
-}
-
-/// The best link of a join's comparisons; `None` where none of them has one.
-#[tactic(auto, using(crate::proofs::Better::better_assoc, crate::proofs::Better::better_none))]
-fn best_of(ops: &[Op], left: u32, tests: &[Test]) -> Option<Link>
+/// The links of a join's comparisons, in their order.
+fn all_of(alloc: Global, ops: &[Op], left: u32, tests: &[Test]) -> Result<Vec<Link>, AllocError>
     requires typed { IsTyped (map op_of ops.now) }
     requires op { left < length (map op_of ops.now) }
-    ensures { result ≡ best_link (kinds (map op_of ops.now) left) tests.now }
+    ensures { IfOk result (λ links. links.items ≡ all_links (kinds (map op_of ops.now) left) tests.now) }
 {
-    let mut best = None;
+    let mut links = Vec::new(alloc);
     for test in tests {
-        best = better(best, link_of(ops, left, test));
+        if let Some(link) = link_of(ops, left, test) {
+            links.push(link)?;
+        }
     }
-    best
+    Ok(links)
 }
 
-/// The link by which an operator looks members up; only a join has one.
-fn join_link(ops: &[Op], op: &Op) -> Option<Link>
+/// The links by which an operator looks members up; only a join has some.
+fn join_links(alloc: Global, ops: &[Op], op: &Op) -> Result<Vec<Link>, AllocError>
     requires typed { IsTyped (map op_of ops.now) }
     requires left { AllByRecursion (λ i. i < length (map op_of ops.now)) (inputs_of (op_of op.now)) }
-    ensures { result ≡ op_link (map op_of ops.now) (op_of op.now) }
+    ensures { IfOk result (λ links. links.items ≡ op_links (map op_of ops.now) (op_of op.now)) }
 {
     match op {
-        Op::Join { left, tests, .. } => best_of(ops, *left, tests),
-        _ => None,
+        Op::Join { left, tests, .. } => all_of(alloc, ops, *left, tests),
+        _ => Ok(Vec::new(alloc)),
     }
 }
 
-/// The link by which each operator of a plan looks members up.
-pub fn links(alloc: Global, ops: &[Op]) -> Result<Vec<Option<Link>>, AllocError>
+/// The links by which each operator of a plan looks members up.
+pub fn links(alloc: Global, ops: &[Op]) -> Result<Vec<Vec<Link>>, AllocError>
     requires { IsTyped (map op_of ops.now) }
-    ensures { IfOk result (λ links. links.items ≡ map (op_link (map op_of ops.now)) (map op_of ops.now)) }
+    ensures { IfOk result (λ links. map (λ of. of.items) links.items ≡ map (op_links (map op_of ops.now)) (map op_of ops.now)) }
 {
     let mut links = Vec::new(alloc);
     for op in ops {
-        links.push(join_link(ops, op))?;
+        links.push(join_links(alloc, ops, op)?)?;
     }
     Ok(links)
 }

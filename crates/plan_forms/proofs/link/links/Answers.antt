@@ -8,8 +8,8 @@ use Rattle.plan_core.specs.Valid.{inputs_of}
 use Rattle.plan_core.proofs.Numbers.{op_read}
 use Rattle.plan_forms.proofs.link.links.Goals as goal
 
-pub join_link-requires-clause-left : goal.join_link-requires-clause-left
-join_link-requires-clause-left c =
+pub join_links-requires-clause-left : goal.join_links-requires-clause-left
+join_links-requires-clause-left c =
     let n = length-map c.args.ops.now op_of in
     let within : c.loop-op.op-index < length (map op_of c.args.ops.now) = omega (arith, n, c.loop-op-test.true) in
     subst (λ (o : Operator). AllByRecursion (λ i. i < length (map op_of c.args.ops.now)) (inputs_of o)) (op_read c.args.ops.now c.loop-op.op-index c.op-item.result c.loop-op-test.true c.op-item.is)
