@@ -4,7 +4,7 @@ use crate::setting::Twist;
 use case_text::{Defect, Fault, Part, numbers, part_of};
 use std::alloc::Global;
 
-/// Adds to a report in which run it differs.
+/// Adds to a report in which run a case differs.
 pub fn tell_run(alloc: Global, report: &mut String, kind: &str, number: u64) -> Result<(), Fault> {
     let line = format!(in alloc; "  with {kind} {number}\n")?;
     report.push_str(&line)?;
@@ -129,7 +129,7 @@ fn count_answers(input: &[u8], silent: &[u64]) -> u64 {
     count
 }
 
-// So many of the first lines.
+// The first lines of a text, as many as a number says.
 fn first_lines(lines: &[u8], count: u64) -> &[u8] {
     let mut left = count;
     for (at, byte) in lines.iter().enumerate() {

@@ -105,7 +105,7 @@ fn is_as_wanted(
     Ok(has_status && has_pages && has_lines)
 }
 
-/// Runs a case so, and tells whether it left what is wanted; what differs is added to a report.
+/// Runs a case, and tells whether it left what is wanted; what differs is added to a report.
 pub fn runs(
     alloc: Global,
     parts: &[Part<'_>],

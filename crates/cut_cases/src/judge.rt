@@ -71,7 +71,7 @@ fn turn_differs(
 }
 
 // What differs in the runs of a script by the plan of commands and by the plan as it is made. Where fills fail by their numbers there is no
-// second one, since it asks them in another order.
+// second run, since it asks them in another order.
 fn plans_differ(
     alloc: Global,
     parts: &[Part<'_>],

@@ -20,7 +20,7 @@ use plan_make::make_plan;
 use plan_rewrite::plan_view;
 use std::alloc::{AllocError, Global};
 
-/// What is run of a case.
+/// What is run of a case: its script, and how it is run.
 #[derive(Clone, Copy)]
 pub struct Turn<'a> {
     /// The script that is answered.
@@ -65,7 +65,7 @@ fn failed_name(alloc: Global, s: &Watched, names: &[Label]) -> Result<Vec<u8>, A
     }
 }
 
-// What a run left that answered so.
+// What a run left, from its sources, its sink and its answer.
 fn left(
     alloc: Global,
     s: &Watched,
@@ -138,7 +138,7 @@ pub fn has_view(parts: &[Part<'_>]) -> bool {
     part_of(parts, "view").is_some()
 }
 
-/// Runs a case so.
+/// Runs a case, of a view or of a document.
 pub fn run(alloc: Global, parts: &[Part<'_>], turn: &Turn<'_>) -> Result<Outcome, Fault> {
     if has_view(parts) {
         run_view(alloc, parts, turn)

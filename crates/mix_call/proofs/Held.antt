@@ -20,15 +20,15 @@ use Rattle.mix_call.specs.Over.{IsReady, IsReadyStop, TalkOver}
 use Rattle.mix_call.specs.Talks.{IsTalkRefused, Talks}
 use Rattle.mix_call.specs.declared.talking.Ready.{Ready}
 
--- what lines come to in one manner
+-- what lines come to in one manner: by what was heard, their status and their text
 abbrev Course : Type 1
 Course = List Heard → SinkView → SinkView → ℕ → List ℕ → Type 0
 
--- memory ran out before anything was taken
+-- where memory ran out before anything was taken, the talk took nothing and wrote nothing
 pub untaken : (C : Course) (input : InputView) (before : SinkView) → TalkedAlong C input input before before (Err OutOfMemory)
 untaken C input before = record { bytes = []; took = took_none input; ends = inl refl }
 
--- a talk that ends in one course ends so in any that has its lines
+-- a talk that ends in one course ends in any course that has its lines
 ends_weaker : (C D : SinkView → SinkView → ℕ → List ℕ → Type 0) (input input' : InputView) (before after : SinkView)
     → ((status : ℕ) (lines : List ℕ) → C before after status lines → D before after status lines) → (end : Result Bool TalkFault) → EndsSo C input input' before after end → EndsSo D input input' before after end
 ends_weaker C D input input' before after w (Ok marked) h = (h.0, (h.1.0, w _ h.1.0 h.1.1, h.1.2))
@@ -38,11 +38,11 @@ ends_weaker C D input input' before after w (Err OutOfMemory) (inl h) = inl h
 ends_weaker C D input input' before after w (Err OutOfMemory) (inr h) = inr (h.0, h.1, w h.0 h.1 h.2, h.3)
 
 module _ (old new : FilesView) (tables tables' : TablesView) (view catalog : List ℕ) (input input' : InputView) (before after : SinkView) where
-  -- so the talk ends
+  -- the talk over the files and tables ends with a status
   abbrev Ended : ℕ → Type 0
   Ended status = TalkEnds (outside old tables) (outside new tables') view catalog input input' before after status
 
-  -- a talk over what was made ready was held
+  -- where a talk over what was made ready was held, the talk ends
   pub held : (ready : Ready) → IsReady old view catalog ready → (end : Result Bool TalkFault)
       → (fills : ℕ) × TalkedAlong (TalkOver fills tables tables' ready.docs.items ready.basis) input input' before after end → (status : ℕ) → status ≡ talk_status end → Ended status
   held ready is end h status same =
@@ -66,7 +66,7 @@ module _ (old new : FilesView) (tables tables' : TablesView) (view catalog : Lis
         h.2,
       )
 
--- a talk was refused, and the line of its refusal was written, or cut short
+-- where a talk was refused, and the line of its refusal was written or cut short, the talk ends
 pub refused : (old new : FilesView) (tables : TablesView) (view catalog : List ℕ) (input : InputView) (before after : SinkView) (r : Refusal) (status : ℕ) → IsReadyStop old new view catalog (stop.Refused r)
     → Ends (λ s lines. (s ≡ r.status) × (lines ≡ string_bytes r.line)) before after status → TalkEnds (outside old tables) (outside new tables) view catalog input input before after status
 refused old new tables view catalog input before after r status cause ends = inl (refl, ended ends)
@@ -88,6 +88,6 @@ refused old new tables view catalog input before after r status cause ends = inl
     ended (inr (inl w)) = inr (inl (record { five = w.five; cause = w.cause; prefix = prefix w.prefix }))
     ended (inr (inr w)) = inr (inr (record { six = w.six; prefix = elim w.prefix [ inl same ↦ inl same | inr f ↦ inr (prefix f) ] }))
 
--- a talk was stopped before it began, since memory ran out
+-- where a talk was stopped before it began, since memory ran out, the talk ends
 pub unbegun : (old new : FilesView) (tables : TablesView) (view catalog : List ℕ) (input : InputView) (before : SinkView) → TalkEnds (outside old tables) (outside new tables) view catalog input input before before 6
 unbegun old new tables view catalog input before = inl (refl, inr (inr (record { six = refl; prefix = inl refl })))

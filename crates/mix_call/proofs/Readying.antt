@@ -16,14 +16,14 @@ use Rattle.mix_top.proofs.Readiness.{rule_before, source_refused_before}
 use Rattle.mix_call.specs.Over.{IsReadyStop}
 use Rattle.mix_call.specs.Talks.{TalkMayRead}
 
--- the file of a source is refused, after a view that is accepted
+-- where the file of a source is refused after a view that is accepted, a talk is not ready
 pub sources_unready : (old mid new : FilesView) (view catalog : List ℕ) (sources : List SourceSpec) (v : RuleValue) (stop : Stop) → IsSteady old mid
     → IsCatalogFile old catalog sources → IsRuleFile old view (names_of_sources sources) v → IsMountStop mid new v sources stop → IsReadyStop old new view catalog stop
 sources_unready old mid new view catalog sources v (Refused r) steady cat rule h = inr (sources, cat, inr (v, rule, source_refused_before old mid new v sources r.status (string_bytes r.line) steady h))
 sources_unready old mid new view catalog sources v SinkFailed steady cat rule h = absurd h
 sources_unready old mid new view catalog sources v OutOfMemory steady cat rule h = tt
 
--- the catalog was read, then the view, and then the files of the sources
+-- where the catalog, then the view and then the sources' files were read, only what a talk may read was
 pub sources_read : (old mid late new : FilesView) (view catalog : List ℕ) (sources : List SourceSpec) (v : RuleValue) → IsCatalogFile old catalog sources → IsRuleFile mid view (names_of_sources sources) v
     → KeepsFiles old mid → KeepsFiles mid late → ReadsOnly catalog old mid → ReadsOnly view mid late → ReadsAmong (SourceMayRead late v sources) late new → ReadsAmong (TalkMayRead old view catalog) old new
 sources_read old mid late new view catalog sources v cat rule keeps later first second reads =

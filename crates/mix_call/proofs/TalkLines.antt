@@ -36,7 +36,7 @@ use Rattle.mix_call.specs.Over.{TalkOver}
 use Rattle.mix_call.specs.Talks.{in_talk}
 use Rattle.mix_call.specs.declared.talking.Basis.{Basis}
 
--- so lines of a talk are written
+-- the lines of a talk are written in a lawful manner
 in_talk_is_manner : (asked : List Heard) (q : Question) → IsManner (in_talk asked q) q.tree (steps_in asked)
 in_talk_is_manner asked q = record {
   begins = λ answers of. let on = spoken_on q.tree (names_of_sources q.sources) no_names asked answers of in (on.0, on.1);
@@ -74,7 +74,7 @@ module _ (files : FilesView) (a b : Mounting) (came : CameFrom a b) (basis : Bas
     run : IsAnswering (in_talk asked q) a b basis.catalog (rule_of basis.rule) steps st t before after
     run = answering files a b came basis.catalog (rule_of basis.rule) steps mounted accepted (in_talk asked q) st same docs_are ahead t document_is unasked few before after (in_talk_is_manner asked q)
 
-    -- the lines of the first that was heard are a prefix of all lines
+    -- where a prefix of lines of the answers was written, a prefix of a talk's lines was
     took : (answers : List Answer) → Are answers → Frugal (in_talk asked q) a b q before after answers → (lines rest : List ℕ) → lines ++ rest ≡ spoken names asked answers
         → (n : ℕ) → Appends before.written after.written (take n lines) → TookPrefix (Course asked before after) before after
     took answers are less lines rest begin n h =
@@ -82,12 +82,12 @@ module _ (files : FilesView) (a b : Mounting) (came : CameFrom a b) (basis : Bas
         let whole : lines ++ (rest ++ f.rest) ≡ f.lines = sym (append_assoc lines rest f.rest) ∙ ap (λ l. l ++ f.rest) begin ∙ f.begun in
         (f.status, f.lines, (t, finished, f.is), prefix_of before.written after.written n lines (rest ++ f.rest) f.lines whole h)
 
-    -- they are, and what comes after them
+    -- the lines of what was heard first and of what comes after it are the lines of all
     spoken_parts : (done later : List Heard) (answers last : List Answer) → asked ≡ done ++ later → length answers ≡ length (steps_in done)
         → spoken names done answers ++ spoken names later last ≡ spoken names asked (answers ++ last)
     spoken_parts done later answers last parts all = sym (ap (λ (h : List Heard). spoken names h (answers ++ last)) parts ∙ spoken_append names done later answers last all)
 
-    -- between two lines
+    -- where a talk's lines stopped between two lines, a prefix of them was written
     between : StopsBetween Are Cost names asked before after → TookPrefix (Course asked before after) before after
     between w =
         let lines = spoken names w.done w.answers in
@@ -96,7 +96,7 @@ module _ (files : FilesView) (a b : Mounting) (came : CameFrom a b) (basis : Bas
         (spoken_parts w.done w.later w.answers [] w.parts w.all ∙ ap (spoken names asked) (append_nil w.answers)) (length lines)
         (subst (Appends before.written after.written) (sym (take_all (length lines) lines (omega arith))) w.written)
 
-    -- within a line
+    -- where a talk's lines stopped within a line, a prefix of them was written
     within : StopsWithin Are Cost names asked before after → TookPrefix (Course asked before after) before after
     within w =
         let lines = spoken names w.done w.answers in
@@ -109,7 +109,7 @@ module _ (files : FilesView) (a b : Mounting) (came : CameFrom a b) (basis : Bas
         (append_assoc lines line later ∙ ap (λ l. lines ++ l) (sym next) ∙ spoken_parts w.done (w.next ∷ w.later) w.answers w.last w.parts w.all) (length lines + w.count)
         (subst (Appends before.written after.written) (sym (take_append lines line w.count)) w.written)
 
-    -- all lines were written
+    -- where all lines of a talk were written, the talk was done
     whole : (marked : Bool) → IsWhole Are Cost names asked before after marked → IsDoneWith (Course asked before after) (outcome_status (outcome_of marked)) before after
     whole marked w =
         let lines = spoken names asked w.answers in
@@ -118,7 +118,7 @@ module _ (files : FilesView) (a b : Mounting) (came : CameFrom a b) (basis : Bas
         let Is : ℕ → Type 0 = λ n. IsAnsweredIn (in_talk asked q) a.tables b.tables q b.fills before after n lines in
         (lines, (t, finished, subst Is (outcome_is marked w.answers w.marks) (run.whole w.answers w.are less' w.all)), w.written)
 
-    -- the lines came to their end, or were cut short
+    -- the lines of a talk came to their end, or were cut short
     lines_end : (r : Result Bool TalkFault) → EndsBy Are Cost names asked input input' before after r → EndsSo (Course asked) input input' before after r
     lines_end (Ok marked) e = (e.0, whole marked e.1)
     lines_end (Err InputFailed) e = (e.0, outcome_status (outcome_of e.1), whole e.1 e.2)
@@ -126,6 +126,6 @@ module _ (files : FilesView) (a b : Mounting) (came : CameFrom a b) (basis : Bas
     lines_end (Err OutOfMemory) (inl w) = inr (between w)
     lines_end (Err OutOfMemory) (inr w) = inr (within w)
 
-  -- so a talk ends
+  -- a talk over mounted documents ends as its lines do
   pub talk_lines_end : (r : Result Bool TalkFault) → TalkEnds (plan_course st) (view_of a) (view_of b) names input input' before after r → TalkedAlong Course input input' before after r
   talk_lines_end r e = record { bytes = e.bytes; took = e.took; ends = lines_end (heard_by e.bytes r) r e.ends }

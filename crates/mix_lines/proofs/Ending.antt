@@ -14,7 +14,7 @@ use Rattle.mix_lines.specs.Lines.{IsWhole, EndsWithin, EndsBy}
 use Rattle.mix_lines.specs.Written.{AreWritten}
 use Rattle.mix_lines.proofs.Stepping.{line_more}
 
--- what was written, with a prefix of a line
+-- the lines that were written and a prefix of a line are a prefix of the lines with that one
 prefix : (names : List (List ℕ)) (steps : List Step) (step : Step) (answers : List Answer) (a : Answer) → answer_lines names (answers ++ a ∷ []) steps ≡ answer_lines names answers steps ++ line_of names step.client a
     → (o now after : Option (List ℕ)) → Appends o now (answer_lines names answers steps) → AppendsPrefix now after (line_of names step.client a)
     → (count : ℕ) × Appends o after (take (length (answer_lines names answers steps) + count) (answer_lines names (answers ++ a ∷ []) steps))
@@ -29,7 +29,7 @@ prefix names steps step answers a more (Some w) now after h k =
     )
 
 module _ (Are Cost : List Answer → Type 0) (names : List (List ℕ)) (steps later : List Step) (sink mid sink' : SinkView) (marked : Bool) (answers : List Answer) where
-  -- all steps were answered
+  -- where all steps were answered, the lines of a run are whole
   pub run_whole : later ≡ [] → AreWritten names steps later sink.written mid.written marked answers → Are answers → Cost answers → IsWhole Are Cost names steps sink mid marked
   run_whole none so are cost = record {
     answers = answers;
@@ -40,7 +40,7 @@ module _ (Are Cost : List Answer → Type 0) (names : List (List ℕ)) (steps la
     marks = so.marks;
   }
 
-  -- a step was cut short
+  -- where a step's line was cut short, a run ends so
   pub run_cut : (step : Step) → AreWritten names steps (step ∷ later) sink.written mid.written marked answers → (IsAnswer : Answer → Type 0) → Are answers → ((a : Answer) → IsAnswer a → Are (answers ++ a ∷ [])) → Cost answers
       → sink.faults ≤ mid.faults → (fault : LinesFault) → IsStepCut IsAnswer names step.client mid sink' fault → EndsBy Are Cost names steps sink sink' (Err fault)
   run_cut step so IsAnswer are more cost count SinkFailed h = (omega (arith, h.0, count), within h.1)

@@ -37,17 +37,17 @@ module _ (May May' : ℕ → Type 0) (more : (s : ℕ) → May s → May' s) whe
   find_more answer.NoNode h = h
   find_more (answer.Fault s) h = more s h
 
-  -- so may one to a search for the root
+  -- an answer to a search for the root may be given where more sources may fail
   root_more : (roots : Bool) (a : Answer) → MayFindRoot roots May a → MayFindRoot roots May' a
   root_more true a h = find_more a h
   root_more false a h = h
 
-  -- and one to a search from what a name holds
+  -- an answer to a search from what a name holds may be given where more sources may fail
   held_more : (o : Option (Unit {0})) (a : Answer) → WhereHeld o (MayFind May) a → WhereHeld o (MayFind May') a
   held_more None a h = h
   held_more (Some node) a h = find_more a h
 
-  -- and one to a print
+  -- an answer to a print may be given where more sources may fail
   print_more : (a : Answer) → MayPrint May a → MayPrint May' a
   print_more answer.Node h = h
   print_more answer.None h = h
@@ -56,12 +56,12 @@ module _ (May May' : ℕ → Type 0) (more : (s : ℕ) → May s → May' s) whe
   print_more answer.NoNode h = h
   print_more (answer.Fault s) h = more s h
 
-  -- of what a name holds
+  -- an answer to a print of what a name holds may be given where more sources may fail
   text_more : (o : Option (Unit {0})) (a : Answer) → WhereHeld o (MayPrint May) a → WhereHeld o (MayPrint May') a
   text_more None a h = h
   text_more (Some node) a h = print_more a h
 
-  -- and each answer
+  -- an answer to any act may be given where more sources may fail
   answer_more : (roots : Bool) (nodes : NamesOf (Unit {0})) (client : List ℕ) (act : Act) (a : Answer) → MayAnswer roots May nodes client act a → MayAnswer roots May' nodes client act a
   answer_more roots nodes client (Root name) a h = root_more roots a h
   answer_more roots nodes client (Move way name from) a h = held_more (nodes client from) a h
@@ -69,11 +69,11 @@ module _ (May May' : ℕ → Type 0) (more : (s : ℕ) → May s → May' s) whe
   answer_more roots nodes client (Fetch from) a h = h
   answer_more roots nodes client (Print from) a h = text_more (nodes client from) a h
 
--- answers, and one more before those to come
+-- answers with one more at their end before others are the answers before that one and the others
 pushed : (answers : List Answer) (a : Answer) (more : List Answer) → (answers ++ a ∷ []) ++ more ≡ answers ++ a ∷ more
 pushed answers a more = append_assoc answers (a ∷ []) more
 
--- no step was answered yet
+-- before any step no answer was given
 pub so_far_start : {V W : Type 0} (m : Meaning V W) (v : View) (values : NamesOf V) (steps : List Step) → values ≡ no_names → IsSoFar m.course m v v values steps steps []
 so_far_start {V} {W} m v values steps none = record {
   course = goes_on_same m.course;
@@ -87,7 +87,7 @@ so_far_start {V} {W} m v values steps none = record {
   spent_on = λ tolls t one. spent_start m.IsAt (tree_toll m.course t) (names_after t) v.fills values steps none;
 }
 
--- the answers so far are those of a run
+-- the answers to the first steps so far are those of a run
 pub so_far_run : {V W : Type 0} (c : Course W) (m : Meaning V W) (old now last : View) (values : NamesOf V) (steps later : List Step) (answers : List Answer) → IsSoFar c m old now values steps later answers
     → ((s : ℕ) → now.faults s ≤ last.faults s) → IsRun c old.faults last.faults steps answers
 so_far_run c m old now last values steps later answers so rises = record {
@@ -99,7 +99,7 @@ so_far_run c m old now last values steps later answers so rises = record {
     nothing : List Step → Unit {0}
     nothing xs = tt
 
--- what the answers so far cost
+-- the answers so far cost no more than the tolls of their steps
 pub so_far_lazy : {V W : Type 0} (c : Course W) (m : Meaning V W) (old now : View) (values : NamesOf V) (steps later : List Step) (answers : List Answer) → IsSoFar c m old now values steps later answers
     → IsLazy c old.fills now.fills steps answers
 so_far_lazy c m old now values steps later answers so = record {
@@ -107,7 +107,7 @@ so_far_lazy c m old now values steps later answers so = record {
   tree = λ tolls t one. spent_whole m.IsAt (tree_toll c t) (names_after t) old.fills now.fills values steps later answers (so.spent_on tolls t one);
 }
 
--- the source of an answer has a name
+-- the source that an answer names has a name
 pub so_far_named : {V W : Type 0} (c : Course W) (m m' : Meaning V W) (old v v' : View) (values values' : NamesOf V) (count : ℕ) (steps : List Step) (step : Step) (later : List Step) (answers : List Answer)
     → IsSoFar c m old v values steps (step ∷ later) answers → (a : Answer) → IsStep m m' v.faults v'.faults values values' step.client step.act a → ((s : ℕ) → c.MayFail s → s < count) → IsNamed count a
 so_far_named c m m' old v v' values values' count steps step later answers so a is named =
@@ -120,12 +120,12 @@ module _ {V W : Type 0} (c : Course W) (m m' : Meaning V W) (old v v' : View) (v
   asked ways tolls xs hold =
       let h = done.toll (so.ways ways).0 (so.course.tolls tolls) xs hold in omega (arith, h, act_toll_less c m.course so.course xs step.client step.act)
 
-  -- and where a tree is the document
+  -- the fills that were asked for the step, where a tree is the document
   asked_on : c.HasTolls → (t : LabelledTree) → c.IsDocument t → (places : Names) → HoldPlaces m values places → v'.fills ≤ v.fills + tree_toll c t places step.client step.act
   asked_on tolls t one places hold =
       let h = done.cost (so.course.tolls tolls) t (so.course.document t one) places hold in omega (arith, h, tree_toll_less c m.course so.course t places step.client step.act)
 
-  -- what the answers so far and this step cost
+  -- the answers so far and this step cost no more than their tolls
   pub lazy_begun : IsLazy c old.fills v'.fills steps answers
   lazy_begun = record {
     ways = λ ways tolls.
@@ -136,12 +136,12 @@ module _ {V W : Type 0} (c : Course W) (m m' : Meaning V W) (old v v' : View) (v
         spent_begun m.IsAt (tree_toll c t) (names_after t) old.fills v.fills v'.fills values steps step later answers spent (asked_on tolls t one spent.names spent.hold);
   }
 
-  -- the answers so far are those of a run
+  -- the answers before this step are those of a run
   pub earlier : IsRun c old.faults v'.faults steps answers
   earlier = so_far_run c m old v v' values steps (step ∷ later) answers so rises
 
   module _ (a : Answer) (is : IsStep m m' v.faults v'.faults values values' step.client step.act a) where
-    -- the answers with this one are the tree's
+    -- the answers so far with the one to this step are the tree's
     on_tree : (t : LabelledTree) → c.IsDocument t → IsOnTree m'.IsAt t values' steps later (answers ++ a ∷ [])
     on_tree t one =
         let on = so.told t one in
@@ -152,12 +152,12 @@ module _ {V W : Type 0} (c : Course W) (m m' : Meaning V W) (old v v' : View) (v
           then = λ more h. subst (λ xs. AreOf t no_names xs steps) (sym (pushed answers a more)) (on.then (a ∷ more) (both.0, h));
         }
 
-    -- this one may be given
+    -- the answer to this step may be given
     may : MayAnswer c.roots c.MayFail so.nodes step.client step.act a
     may = subst (λ b. MayAnswer b c.MayFail so.nodes step.client step.act a) so.course.roots
         (answer_more m.course.MayFail c.MayFail so.course.may m.course.roots so.nodes step.client step.act a (is.allowed so.nodes so.hold).0)
 
-    -- one step more was answered
+    -- where the step was answered, one step more is
     pub next : IsSoFar c m' old v' values' steps later (answers ++ a ∷ [])
     next = record {
       course = goes_on_twice so.course done.stays.course;

@@ -18,7 +18,7 @@ use Rattle.mix_lines.specs.declared.fault.LinesFault.TheVariants.{SinkFailed, Ou
 use Rattle.mix_lines.specs.Lines.{IsRun, IsLazy, EndsWithin, EndsBy, Ends}
 use Rattle.mix_lines.specs.Told.{AreLinesOn, EndsOn, EndsUnmarked}
 
--- a prefix of lines is a prefix of those that begin with them
+-- a prefix of lines is a prefix of the lines that begin with them
 prefix_of_more : (before after : Option (List ℕ)) (n : ℕ) (lines rest whole : List ℕ) → lines ++ rest ≡ whole → Appends before after (take n lines) → AppendsPrefix before after whole
 prefix_of_more None after n lines rest whole e h = h
 prefix_of_more (Some b) after n lines rest whole e h =
@@ -31,11 +31,11 @@ whole_prefix lines = sym (append_nil lines) ∙ sym (take_append lines [] 0) ∙
 
 module _ (Are Cost : List Answer → Type 0) (t : LabelledTree) (names : List (List ℕ)) (steps : List Step) (before after : SinkView) where
   module _ (roots : Bool) (MayFail : ℕ → Type 0) (allowed : (answers : List Answer) → Are answers → AreAnswers roots MayFail no_names answers steps) (of : (answers : List Answer) → Are answers → AreOf t no_names answers steps) where
-    -- lines of answers that are the tree's
+    -- lines of answers that are the tree's are lines on the tree
     on_tree : (answers : List Answer) → Are answers → AreLinesOn roots t names steps (transcript t names (marks_of answers) steps)
     on_tree answers h = record { marks = marks_of answers; allowed = answers_show_marks roots MayFail t answers steps (allowed answers h) (of answers h); are = refl }
 
-    -- a prefix of a line was written
+    -- where a prefix of a line was written, a run ends on the tree's lines
     within : EndsWithin Are Cost names steps before after → (fault : LinesFault) → EndsOn roots t names steps before.written after.written (Err fault)
     within w fault =
         let begin = lines_begin_transcript t names (w.answers ++ w.last ∷ []) steps (of (w.answers ++ w.last ∷ []) w.are) in (
@@ -44,7 +44,7 @@ module _ (Are Cost : List Answer → Type 0) (t : LabelledTree) (names : List (L
           prefix_of_more before.written after.written (length (answer_lines names w.answers steps) + w.count) (answer_lines names (w.answers ++ w.last ∷ []) steps) begin.0 _ begin.1 w.written,
         )
 
-    -- a run over a document that is told
+    -- a run over a document that is told ends on the tree's lines
     ends_on : (r : Result Bool LinesFault) → EndsBy Are Cost names steps before after r → EndsOn roots t names steps before.written after.written r
     ends_on (Ok marked) e = (
       transcript t names (marks_of e.answers) steps,
@@ -62,14 +62,14 @@ module _ (Are Cost : List Answer → Type 0) (t : LabelledTree) (names : List (L
     ends_on (Err OutOfMemory) (inr w) = within w OutOfMemory
 
   module _ (none : (answers : List Answer) → Are answers → has_fault answers ≡ false) (of : (answers : List Answer) → Are answers → AreOf t no_names answers steps) where
-    -- a prefix of a line was written
+    -- where a prefix of a line was written without faults, a prefix of the transcript was
     within_unmarked : EndsWithin Are Cost names steps before after → AppendsPrefix before.written after.written (transcript t [] [] steps)
     within_unmarked w =
         let answers = w.answers ++ w.last ∷ [] in
         let lines = unmarked_lines t names [] no_names answers steps (of answers w.are) (none answers w.are) in
         prefix_of_more before.written after.written (length (answer_lines names w.answers steps) + w.count) (answer_lines names answers steps) lines.0 _ lines.1 w.written
 
-    -- a run without faults
+    -- a run without faults ends with a prefix of the transcript, or all of it
     pub ends_unmarked : (r : Result Bool LinesFault) → EndsBy Are Cost names steps before after r → EndsUnmarked t steps before.written after.written r
     ends_unmarked (Ok marked) w =
         let none_here = none w.answers w.are in
@@ -84,7 +84,7 @@ module _ (Are Cost : List Answer → Type 0) (t : LabelledTree) (names : List (L
         (subst (Appends before.written after.written) (whole_prefix (answer_lines names w.answers steps)) w.written)
     ends_unmarked (Err OutOfMemory) (inr w) = within_unmarked w
 
--- nothing was written, which is a prefix of any lines
+-- where nothing was written, a prefix of any lines was
 pub nothing_on : (roots : Bool) (t : LabelledTree) (names : List (List ℕ)) (steps : List Step) (before : Option (List ℕ)) (fault : LinesFault) → EndsOn roots t names steps before before (Err fault)
 nothing_on roots t names steps before fault = (transcript t names [] steps, record { marks = []; allowed = answers_show_marks roots (λ s. ⊥) t [] steps tt tt; are = refl }, nothing before)
   where
@@ -92,7 +92,7 @@ nothing_on roots t names steps before fault = (transcript t names [] steps, reco
     nothing None = refl
     nothing (Some b) = (0, ap Some (sym (append_nil b)))
 
--- lines on a course whose document is told
+-- lines on a course whose document is told end on the tree's lines
 pub ends_told : {W : Type 0} (c : Course W) (old new : View) (names : List (List ℕ)) (steps : List Step) (before after : SinkView) (r : Result Bool LinesFault) → Ends c old new names steps before after r → (t : LabelledTree) → c.IsDocument t
     → EndsOn c.roots t names steps before.written after.written r
 ends_told c old new names steps before after r ends t one =

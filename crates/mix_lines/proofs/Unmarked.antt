@@ -14,18 +14,18 @@ use Rattle.mix_lines.specs.Lines.{IsRun, IsLazy, Ends}
 use Rattle.mix_lines.specs.Told.{EndsUnmarked}
 use Rattle.mix_lines.proofs.Telling.{ends_unmarked}
 
--- the counts of the sources that may fail stand, and not at their end
+-- of sources that may fail and did not: their counts are as they were, and not at their limit
 module _ {W : Type 0} (c : Course W) (old new : View) (names : List (List ℕ)) (steps : List Step) (before after : SinkView) (steady : (s : ℕ) → c.MayFail s → new.faults s ≡ old.faults s)
     (room : (s : ℕ) → c.MayFail s → old.faults s + 1 < 2 ^ 64) where
-  -- no fault of a source was answered
+  -- where the sources' counts stand, no fault of a source is among the answers
   faultless_source : (answers : List Answer) → IsRun c old.faults new.faults steps answers → (s : ℕ) → c.MayFail s → faults_of s answers ≡ 0
   faultless_source answers run s may = let h = run.counted s in let e = steady s may in let r = room s may in omega (arith, h, e, r)
 
-  -- no fault was answered
+  -- where the sources' counts stand, no fault is among the answers
   faultless : (answers : List Answer) → IsRun c old.faults new.faults steps answers → has_fault answers ≡ false
   faultless answers run = unmarked c.roots c.MayFail no_names answers steps run.allowed (faultless_source answers run)
 
-  -- lines over sources that didn't fail in them
+  -- lines over sources that didn't fail while they were written are the transcript without marks
   pub lines_unmarked : (t : LabelledTree) → c.IsDocument t → (r : Result Bool LinesFault) → Ends c old new names steps before after r → EndsUnmarked t steps before.written after.written r
   lines_unmarked t one r ends =
       ends_unmarked (IsRun c old.faults new.faults steps) (IsLazy c old.fills new.fills steps) t names steps before after faultless (λ answers run. run.told t one) r ends

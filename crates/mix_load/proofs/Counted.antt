@@ -36,7 +36,7 @@ escaped_parts b y = by_cases (b == 34) (b == 92) (b == 10) (b == 9) refl refl
     by_cases false false false true e f = omega arith
     by_cases false false false false e f = rw (e, f) (omega arith)
 
--- so do all bytes of a label
+-- the bytes of a label as they stand between quotes part nothing, and the quotes stay open
 inside_parts : (l y : List ℕ) → parts Quoted (flat_map escaped l ++ y) ≡ parts Quoted y
 inside_parts [] y = refl
 inside_parts (b ∷ l) y =
@@ -58,12 +58,12 @@ label_parts l y = by_cases l (is_bare_label l) refl
     by_cases (c ∷ l) true e = bare_parts (c ∷ l) y e
     by_cases l false e = quoted_parts l y
 
--- the text of trees has a part less than there are nodes
+-- the canonical text of a forest has one part less than it has nodes
 abbrev AreCounted : Forest → Type 0
 AreCounted none = Unit {0}
 AreCounted (tree l k n) = (y : List ℕ) → parts Outside (canon_trees (tree l k n) ++ y) + 1 ≡ nodes_of (tree l k n) + parts Outside y
 
--- the brackets round children have one more
+-- the brackets round children have as many parts as the children have nodes
 brackets_counted : (k : Forest) (y : List ℕ) → AreCounted k → parts Outside (canon_brackets k (canon_trees k) ++ y) ≡ nodes_of k + parts Outside y
 brackets_counted none y h = omega arith
 brackets_counted (tree l k n) y h =
@@ -72,12 +72,12 @@ brackets_counted (tree l k n) y h =
     ap (λ r. parts Outside r + 1) (append_assoc x (93 ∷ []) y) ∙ h (93 ∷ y) in
     omega (arith, inner)
 
--- and so has the comma before other trees
+-- the comma before other trees and their text have as many parts as these have nodes
 rest_counted : (n : Forest) (y : List ℕ) → AreCounted n → parts Outside (canon_rest n (canon_trees n) ++ y) ≡ nodes_of n + parts Outside y
 rest_counted none y h = omega arith
 rest_counted (tree l k n) y h = omega (arith, h y)
 
--- all trees are counted so
+-- the canonical text of each forest has one part less than it has nodes
 trees_counted : (f : Forest) → AreCounted f
 trees_counted none = tt
 trees_counted (tree l k n) = λ y.

@@ -16,11 +16,11 @@ use Rattle.csv_wrap.specs.Csv.{IsRow}
 use Rattle.mix_base.proofs.Utf8.{one_utf8}
 use Rattle.mix_load.specs.People.{person, record_line}
 
--- no byte of the field calls for quotes
+-- no byte of a field calls for quotes
 abbrev IsBare : List ℕ → Type 0
 IsBare x = list_any (needs_byte default_writer) x ≡ false
 
--- a digit calls for none
+-- a digit calls for no quotes
 digit_bare : (d : ℕ) → digit_value d < 10 → needs_byte default_writer d ≡ false
 digit_bare d h =
     let r = digit_from_value d h in
@@ -30,12 +30,12 @@ digit_bare d h =
     let feed = ne_eqb d 10 (λ e. absurd (omega (arith, r, e))) in
     rw (comma, quote, return, feed) refl
 
--- digits call for none
+-- digits call for no quotes
 digits_bare : (ds : List ℕ) → AllDigits 10 ds → IsBare ds
 digits_bare [] h = refl
 digits_bare (d ∷ ds) h = rw (digit_bare d h.0) (digits_bare ds h.1)
 
--- nor does a number
+-- a number calls for no quotes
 number_bare : (n : ℕ) → n < 2 ^ 64 → IsBare (decimal n)
 number_bare n h = digits_bare (decimal n) (decimal_is_IsNumeral n h).0.1
 

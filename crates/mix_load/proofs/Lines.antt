@@ -12,17 +12,17 @@ use Rattle.csv_wrap.specs.Csv.{IsFile, IsRow, file_records, without_marks}
 use Rattle.mix_load.specs.People.{people, people_columns, people_text, person, record_line}
 use Rattle.mix_load.proofs.Fields.{person_is_line, person_is_row}
 
--- the lines of so many people
+-- the lines of the records of some number of people
 abbrev lines : ℕ → List ℕ
 lines n = concat (map record_line (people n))
 
--- the lines of one person more
+-- the lines of one person more are those before and that person's
 lines_more : (n : ℕ) → lines (suc n) ≡ lines n ++ record_line (person n)
 lines_more n =
     ap concat (map-append record_line (people n) (person n ∷ [])) ∙ concat-append (map record_line (people n)) (record_line (person n) ∷ [])
     ∙ ap (λ x. lines n ++ x) (append-nil (record_line (person n)))
 
--- the text of one person more
+-- the text of one person more is the text before and that person's line
 pub text_more : (n : ℕ) → people_text (n + 1) ≡ people_text n ++ record_line (person n)
 text_more n =
     let e : n + 1 ≡ suc n = omega arith in
@@ -47,7 +47,7 @@ lines_read (suc n) k tail h =
     ∙ lines_read n (suc k) (line ++ tail) (omega (arith, h))
     ∙ rw (line_reads n tail (omega (arith, h))) (sym (append_assoc (people n) (person n ∷ []) (records_from default_config k st.StartRecord tail)))
 
--- there are as many bytes as lines at least
+-- the lines of people have as many bytes as there are people, at least
 lines_long : (n : ℕ) → n ≤ length (lines n)
 lines_long zero = omega arith
 lines_long (suc n) =
@@ -62,7 +62,7 @@ unfolding records_from next_record
 none_read zero = refl
 none_read (suc k) = refl
 
--- the lines of people and nothing after them
+-- the lines of people with nothing after them read as their records
 all_read : (n k : ℕ) → n ≤ 2 ^ 32 → records_from default_config (n + k) st.StartRecord (lines n) ≡ people n
 all_read n k h =
     ap (records_from default_config (n + k) st.StartRecord) (sym (append-nil (lines n))) ∙ lines_read n k [] h

@@ -7,17 +7,17 @@ use Rattle.csv_wrap.specs.Csv.{Explains, IsFile, IsRow}
 use Rattle.csv_wrap.specs.declared.fault.CsvFault.{CsvFault}
 use Rattle.csv_wrap.specs.declared.fault.CsvFault.TheVariants.{HeaderDiffers, Length, NoHeader, NotUtf8, OutOfMemory}
 
--- the first record
+-- the first record of a file
 abbrev header_of : List (List (List ℕ)) → List (List ℕ)
 header_of [] = []
 header_of (h ∷ rows) = h
 
--- the records after it
+-- the records of a file after the first
 abbrev rows_of : List (List (List ℕ)) → List (List (List ℕ))
 rows_of [] = []
 rows_of (h ∷ rows) = rows
 
--- a row among rows
+-- a record among rows is a row
 row_among : (n : ℕ) (before : List (List (List ℕ))) (fields : List (List ℕ)) (after : List (List (List ℕ))) → All (IsRow n) (before ++ fields ∷ after) → IsRow n fields
 row_among n before fields after h =
     let less : length before < length (before ++ fields ∷ after) = omega (arith, length-append before (fields ∷ after)) in
@@ -41,7 +41,7 @@ never_refused bytes columns rows h (NotUtf8 row) x =
     absurd (x.2 is.1)
 never_refused bytes columns rows h OutOfMemory x = refl
 
--- so it is with an answer that was explained
+-- an answer that was explained refuses a file for want of memory alone
 pub refused_by : {A : Type 0} (bytes : List ℕ) (columns : List (List ℕ)) (rows : List (List (List ℕ))) → IsFile bytes columns rows → (r : Result A CsvFault) → IfErr r (Explains bytes columns) → IfErr r (λ e. e ≡ OutOfMemory)
 refused_by bytes columns rows h (Ok doc) x = tt
 refused_by bytes columns rows h (Err e) x = never_refused bytes columns rows h e x

@@ -61,7 +61,7 @@ taken old new client act a none came step t places on =
     )
 
 module _ (t : LabelledTree) (places : Names) (new : Visitor) where
-  -- the root is held
+  -- where the root was asked for, a name holds it
   pub root_held : (a : Answer) → a ≡ answer_of t places None [] (Root (codes "r")) → IsOn t (names_after t places [] (Root (codes "r")) a) new → HoldsRoot t new
   root_held a e on = record {
     places = names_after t places [] (Root (codes "r")) a;
@@ -69,7 +69,7 @@ module _ (t : LabelledTree) (places : Names) (new : Visitor) where
     root = ap (λ (b : Answer). names_after t places [] (Root (codes "r")) b [] (codes "r")) e;
   }
 
-  -- it stays held where the name x was given something
+  -- the root stays held where the name x was given something
   pub root_stays : (way : Way) (from : List ℕ) (a : Answer) → places [] (codes "r") ≡ Some [] → IsOn t (names_after t places [] (Move way (codes "x") from) a) new → HoldsRoot t new
   root_stays way from a root on = record { places = names_after t places [] (Move way (codes "x") from) a; on = on; root = same a ∙ root }
     where

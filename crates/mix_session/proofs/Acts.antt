@@ -44,38 +44,38 @@ on_goal {V} {W} With With' stay values client name act same found.None xs goal h
     subst Holds (sym (same xs None)) (hold_with With' values xs client name None None (hold_weaker With With' values xs stay hold) tt)
 on_goal With With' stay values client name act same (found.Fault s) xs goal hold asked = hold_weaker With With' values xs stay hold
 
--- a search may be answered so
+-- the search's answer may be given to a search
 may_find : {V : Type 0} (MayFail : ℕ → Type 0) (before after : ℕ → ℕ) (r : Found V) → HasCause MayFail before after r → MayFind MayFail (answer_found r)
 may_find MayFail before after (found.Node n) h = tt
 may_find MayFail before after found.None h = tt
 may_find MayFail before after (found.Fault s) h = h.0
 
--- a fault that was answered was counted
+-- the fault that a search was answered with was counted
 fault_counted : {V : Type 0} (MayFail : ℕ → Type 0) (before after : ℕ → ℕ) (r : Found V) (s : ℕ) → HasCause MayFail before after r → answer_found r ≡ answer.Fault s → HasRisen (before s) (after s)
 fault_counted MayFail before after (found.Node n) s h e = cc
 fault_counted MayFail before after found.None s h e = cc
 fault_counted MayFail before after (found.Fault n) s h e = let same : n ≡ s = cc in subst (λ k. HasRisen (before k) (after k)) same h.1
 
--- a search of a tree is answered as the tree's, under the mark that it shows
+-- a search of a tree is answered as the tree answers it, under the mark that the answer shows
 moved_answer : {V : Type 0} (IsAt : V → List ℕ → Type 0) (t : LabelledTree) (goal : Option (List ℕ)) (r : Found V) → IsMoved IsAt t goal r
     → answer_found r ≡ unless_marked (mark_of (answer_found r)) (move_answer t goal)
 moved_answer IsAt t goal (found.Node n) h = sym h.0
 moved_answer IsAt t goal found.None h = sym h
 moved_answer IsAt t goal (found.Fault s) h = refl
 
--- what was found stands where it was asked for
+-- the node that a search found stands where it was asked for
 moved_asked : {V : Type 0} (IsAt : V → List ℕ → Type 0) (t : LabelledTree) (goal : Option (List ℕ)) (r : Found V) → IsMoved IsAt t goal r → IfNode (IsAsked IsAt goal) r
 moved_asked IsAt t goal (found.Node n) h = h.1
 moved_asked IsAt t goal found.None h = tt
 moved_asked IsAt t goal (found.Fault s) h = tt
 
--- a node that was found is one
+-- the node that a search found is a node
 node_asked : {V : Type 0} (Is : V → Type 0) (r : Found V) → IfNode Is r → IfNode (IsAsked (λ n node. Is n) (Some (tt {0}))) r
 node_asked Is (found.Node n) h = (tt, refl, h)
 node_asked Is found.None h = tt
 node_asked Is (found.Fault s) h = tt
 
--- the names after what was found
+-- the names after a search hold what was found, as its answer says
 names_given : {V : Type 0} (values : NamesOf V) (client name : List ℕ) (act : Act) (r : Found V) → ((xs : NamesOf V) (x : Option V) → with_named xs client act x ≡ with_name xs client name x)
     → NamesGiven values (names_found values client name r) client act (answer_found r)
 names_given values client name act (found.Node n) same = (n, sym (same values (Some n)))
@@ -83,7 +83,7 @@ names_given values client name act found.None same = sym (same values None)
 names_given values client name act (found.Fault s) same = refl
 
 module _ {V W : Type 0} (m m' : Meaning V W) (v v' : View) (rises : (s : ℕ) → v.faults s ≤ v'.faults s) (stays : Stays m m') (values : NamesOf V) (session : IsSession m values) where
-  -- the names hold nodes still
+  -- after a call the names still hold nodes
   kept_session : IsSession m' values
   kept_session = record {
     ready = stays.ready;
@@ -91,7 +91,7 @@ module _ {V W : Type 0} (m m' : Meaning V W) (v v' : View) (rises : (s : ℕ) �
   }
 
   module _ (client : List ℕ) (act : Act) (toll : IsTolled m v.fills v'.fills values client act) (cost : IsTolledOn m v.fills v'.fills values client act) where
-    -- memory ran out
+    -- where memory ran out, the step left what a step leaves
     pub refused : (values' : NamesOf V) (e : AllocError) → values' ≡ values → Stepped m m' v v' values values' client act (Err e)
     refused values' e still = record {
       session = subst (IsSession m') (sym still) kept_session;
@@ -103,7 +103,7 @@ module _ {V W : Type 0} (m m' : Meaning V W) (v v' : View) (rises : (s : ℕ) �
       cost = cost;
     }
 
-    -- a step was answered
+    -- a step that was answered left what a step leaves
     pub answered : (values' : NamesOf V) (a : Answer) → IsStep m m' v.faults v'.faults values values' client act a → NamesGiven values values' client act a → Stepped m m' v v' values values' client act (Ok a)
     answered values' a step given = record {
       session = record { ready = stays.ready; nodes = (nodes_after session.nodes.0 client act a, (step.allowed session.nodes.0 session.nodes.1).1) };
@@ -121,7 +121,7 @@ module _ {V W : Type 0} (m m' : Meaning V W) (v v' : View) (rises : (s : ℕ) �
         (place : (t : LabelledTree) → m.course.IsDocument t → (places : Names) → HoldPlaces m values places → ((mark : Option ℕ) → answer_of t places mark client act ≡ unless_marked mark (move_answer t (goal_of t places client act)))
         × IsMoved m'.IsAt t (goal_of t places client act) r)
         (told : IsTrue (takes_one_way act) → m.course.HasTolls → (xs : NamesOf W) → HoldTold m values xs → IfNode (IsAsked m'.IsTold (goal_on m.course.trail xs client act)) r) where
-      -- a search is a step
+      -- the search of an act is a step
       found_step : IsStep m m' v.faults v'.faults values (names_found values client name r) client act (answer_found r)
       found_step = record {
         allowed = λ nodes hold. (
@@ -139,7 +139,7 @@ module _ {V W : Type 0} (m m' : Meaning V W) (v v' : View) (rises : (s : ℕ) �
         counted = counted_answer v.faults v'.faults (answer_found r) rises (λ s e. fault_counted m.course.MayFail v.faults v'.faults r s cause e);
       }
 
-      -- and leaves what a step leaves
+      -- where a search was answered, it left what a step leaves
       taken : (values' : NamesOf V) (o : Result Answer AllocError) → IfOk o (λ a. a ≡ answer_found r) → IfOk o (λ a. values' ≡ names_found values client name r) → OnErr o (values' ≡ values)
           → Stepped m m' v v' values values' client act o
       taken values' (Ok a) is after still =
@@ -148,7 +148,7 @@ module _ {V W : Type 0} (m m' : Meaning V W) (v v' : View) (rises : (s : ℕ) �
           (answered (names_found values client name r) (answer_found r) found_step (names_given values client name act r (λ xs x. same V xs x))))
       taken values' (Err e) is after still = refused values' e still
 
-  -- the root was sought
+  -- of a step that seeks the root
   module _ (client name : List ℕ) (toll : m.course.HasTolls → v'.fills ≤ v.fills + m.course.root_toll) where
     pub root_tolled : IsTolled m v.fills v'.fills values client (Root name)
     root_tolled one tolls xs hold = toll tolls
@@ -156,7 +156,7 @@ module _ {V W : Type 0} (m m' : Meaning V W) (v v' : View) (rises : (s : ℕ) �
     pub root_costs : IsTolledOn m v.fills v'.fills values client (Root name)
     root_costs tolls t one places hold = toll tolls
 
-    -- the root may be answered so
+    -- the answer to a search of the root may be given
     may_root : (roots : Bool) (MayFail : ℕ → Type 0) (r : Found V) → (roots ≡ false → answer_found r ≡ answer.Node) → MayFind MayFail (answer_found r) → MayFindRoot roots MayFail (answer_found r)
     may_root true MayFail r sure may = may
     may_root false MayFail r sure may = sure refl
@@ -167,26 +167,26 @@ module _ {V W : Type 0} (m m' : Meaning V W) (v v' : View) (rises : (s : ℕ) �
         (λ nodes hold. may_root m.course.roots m.course.MayFail r root.sure (may_find m.course.MayFail v.faults v'.faults r root.cause))
         (λ t one places hold. (λ mark. refl, root.place t one)) (λ one tolls xs hold. root.told tolls)
 
-  -- a node was sought from the one that a name holds
+  -- of a step that seeks a node from the one that a name holds
   module _ (client from : List ℕ) (n : V) (held : values client from ≡ Some n) where
-    -- the place that the name holds
+    -- the place of the document that the name holds
     own_place : (places : Names) → HoldPlaces m values places → (p : List ℕ) × (places client from ≡ Some p) × m.IsAt n p
     own_place places hold = some_other m.IsAt (values client from) (places client from) n held (hold client from)
 
-    -- one may be answered so
+    -- the answer to a search from a node that is held may be given
     sought_may : (r : Found V) → HasCause m.course.MayFail v.faults v'.faults r → (nodes : Nodes) → HoldNodes m values nodes → WhereHeld (nodes client from) (MayFind m.course.MayFail) (answer_found r)
     sought_may r cause nodes hold =
         let node = some_other (λ n node. m.IsNode n) (values client from) (nodes client from) n held (hold client from) in
         subst (λ o. WhereHeld o (MayFind m.course.MayFail) (answer_found r)) (sym node.1) (may_find m.course.MayFail v.faults v'.faults r cause)
 
-    -- what is asked from its place costs at most the toll there
+    -- what is asked from a node's place costs at most the toll at the place that the name holds
     own_costs : (toll : LabelledTree → List ℕ → ℕ) → (m.course.HasTolls → (p : List ℕ) → m.IsAt n p → (t : LabelledTree) → m.course.IsDocument t → v'.fills ≤ v.fills + toll t p)
         → m.course.HasTolls → (t : LabelledTree) → m.course.IsDocument t → (places : Names) → HoldPlaces m values places → v'.fills ≤ v.fills + toll_from (toll t) (places client from)
     own_costs toll asks tolls t one places hold =
         let place = own_place places hold in
         subst (λ (o : Option (List ℕ)). v'.fills ≤ v.fills + toll_from (toll t) o) (sym place.1) (asks tolls place.0 place.2 t one)
 
-    -- by a way
+    -- of a step that goes one way from a node
     module _ (name : List ℕ) (way : Way) (toll : (x : W) → m.IsTold n x → m.course.HasTolls → v'.fills ≤ v.fills + m.course.toll way x) where
       pub move_tolled : IsTolled m v.fills v'.fills values client (Move way name from)
       move_tolled one tolls xs hold =
@@ -208,7 +208,7 @@ module _ {V W : Type 0} (m m' : Meaning V W) (v v' : View) (rises : (s : ℕ) �
           let x = some_other m.IsTold (values client from) (xs client from) n held (hold client from) in
           subst (λ (o : Option W). IfNode (IsAsked m'.IsTold (option_and_then (m.course.trail.to way) o)) r) (sym x.1) (next.told x.0 x.2 tolls))
 
-    -- among later siblings
+    -- of a step that seeks among later siblings of a node
     module _ (name label : List ℕ) (cost : CostsOn m n v.fills v'.fills (λ toll t p. select_toll toll t label p)) where
       pub select_tolled : IsTolled m v.fills v'.fills values client (Select name from label)
       select_tolled one = cc
@@ -226,7 +226,7 @@ module _ {V W : Type 0} (m m' : Meaning V W) (v v' : View) (rises : (s : ℕ) �
           ))
           (λ one. cc)
 
-    -- the text of its subtree was asked for
+    -- of a step that asks for the text of a node's subtree
     module _ (cost : CostsOn m n v.fills v'.fills print_toll) where
       pub print_tolled : IsTolled m v.fills v'.fills values client (Print from)
       print_tolled one = cc
@@ -234,7 +234,7 @@ module _ {V W : Type 0} (m m' : Meaning V W) (v v' : View) (rises : (s : ℕ) �
       pub print_costs : IsTolledOn m v.fills v'.fills values client (Print from)
       print_costs = own_costs (print_toll (place_toll m.course)) cost
 
-      -- the answer may be given
+      -- the answer to a question for a text may be given
       print_may : (a : Answer) → IsPrinted m v.faults v'.faults n a → MayPrint m.course.MayFail a
       print_may answer.Node h = h
       print_may answer.None h = h
@@ -243,7 +243,7 @@ module _ {V W : Type 0} (m m' : Meaning V W) (v v' : View) (rises : (s : ℕ) �
       print_may answer.NoNode h = h
       print_may (answer.Fault s) h = h.0
 
-      -- it is that of a tree, under the mark that it shows
+      -- the answer to a question for a text is that of a tree, under the mark that it shows
       print_told : (a : Answer) → IsPrinted m v.faults v'.faults n a → (t : LabelledTree) → m.course.IsDocument t → (p : List ℕ) → m.IsAt n p → a ≡ unless_marked (mark_of a) (text_answer (tree_at t p))
       print_told answer.Node h t one p at = absurd h
       print_told answer.None h t one p at = absurd h
@@ -252,7 +252,7 @@ module _ {V W : Type 0} (m m' : Meaning V W) (v v' : View) (rises : (s : ℕ) �
       print_told answer.NoNode h t one p at = absurd h
       print_told (answer.Fault s) h t one p at = refl
 
-      -- a fault was counted
+      -- the fault that a question for a text was answered with was counted
       print_counted : (a : Answer) → IsPrinted m v.faults v'.faults n a → (s : ℕ) → a ≡ answer.Fault s → HasRisen (v.faults s) (v'.faults s)
       print_counted answer.Node h s e = cc
       print_counted answer.None h s e = cc
@@ -261,7 +261,7 @@ module _ {V W : Type 0} (m m' : Meaning V W) (v v' : View) (rises : (s : ℕ) �
       print_counted answer.NoNode h s e = cc
       print_counted (answer.Fault k) h s e = let same : k ≡ s = cc in subst (λ j. HasRisen (v.faults j) (v'.faults j)) same h.1
 
-      -- no name is given
+      -- after a question for a text the names hold what they held
       print_names : {X : Type 0} (a : Answer) → IsPrinted m v.faults v'.faults n a → (goal : Option X) (xs : NamesOf X) → names_with goal xs client (Print from) a ≡ xs
       print_names answer.Node h goal xs = refl
       print_names answer.None h goal xs = refl
@@ -298,15 +298,15 @@ module _ {V W : Type 0} (m m' : Meaning V W) (v v' : View) (rises : (s : ℕ) �
       printed (Err e) h = refused client (Print from) print_tolled print_costs values e refl
 
 module _ {V W : Type 0} (m : Meaning V W) (v : View) (stays : Stays m m) (values : NamesOf V) (session : IsSession m values) (client from : List ℕ) where
-  -- nothing was asked
+  -- where nothing was asked, an act costs no more than its toll
   idle : (act : Act) → IsTolled m v.fills v.fills values client act
   idle act one tolls xs hold = omega arith
 
-  -- so it cost nothing
+  -- where nothing was asked, an act costs no more than its toll at the places that the names hold
   free : (act : Act) → IsTolledOn m v.fills v.fills values client act
   free act tolls t one places hold = omega arith
 
-  -- no node where the name holds nothing
+  -- where the name holds nothing, the step is answered with no node
   module _ (none : values client from ≡ None) where
     no_node : (nodes : Nodes) → HoldNodes m values nodes → nodes client from ≡ None
     no_node nodes hold = none_other (λ n node. m.IsNode n) (values client from) (nodes client from) none (hold client from)
@@ -350,7 +350,7 @@ module _ {V W : Type 0} (m : Meaning V W) (v : View) (stays : Stays m m) (values
           counted = λ s. omega arith;
         }) refl
 
-  -- the label of what the name holds
+  -- of a step that asks for the label of the node that a name holds
   pub fetched : (n : V) (label : List ℕ) → values client from ≡ Some n → ReadsLabel m n label → Stepped m m v v values values client (Fetch from) (Ok (answer.Label label))
   fetched n label held reads = answered m m v v (λ s. omega arith) stays values session client (Fetch from) (idle (Fetch from)) (free (Fetch from)) values (answer.Label label)
       (record {
@@ -367,6 +367,6 @@ module _ {V W : Type 0} (m : Meaning V W) (v : View) (stays : Stays m m) (values
         counted = λ s. omega arith;
       }) refl
 
-  -- memory ran out while a label was copied
+  -- where memory ran out while a label was copied, the step left what a step leaves
   pub unread : (e : AllocError) → Stepped m m v v values values client (Fetch from) (Err e)
   unread e = refused m m v v (λ s. omega arith) stays values session client (Fetch from) (idle (Fetch from)) (free (Fetch from)) values e refl

@@ -21,7 +21,7 @@ use Rattle.mix_session.proofs.Walking.{stays_twice, place_toll_less, trees_at-ne
 
 -- TREES
 
--- where there is a place there is a tree
+-- where a document has a place, a tree stands at it
 tree_there : (t : LabelledTree) (p : List ℕ) → has_place (alone t) p ≡ true → (u : LabelledTree) × (trees_at (alone t) p ≡ tree u.label u.kids (after_first (trees_at (alone t) p)))
 tree_there t p h = of (trees_at (alone t) p) h
   where
@@ -29,7 +29,7 @@ tree_there t p h = of (trees_at (alone t) p) h
     of none e = cc
     of (tree label kids rest) e = (record { label = label; kids = kids }, refl)
 
--- a tree at a place, and those after it
+-- the trees at a place are the tree there and those after it
 trees_of : (t u : LabelledTree) (p : List ℕ) → tree_at t p ≡ Some u → trees_at (alone t) p ≡ tree u.label u.kids (after_first (trees_at (alone t) p))
 trees_of t u p h = of (trees_at (alone t) p) h
   where
@@ -53,7 +53,7 @@ no_trees t q h = of (trees_at (alone t) q) refl
     of none e = refl
     of (tree label kids rest) e = let z : answer.Node ≡ answer.None = ap (λ g. cond (is_some (first_label g)) answer.Node answer.None) (sym e) ∙ h in cc
 
--- there is a place where a node was found
+-- where a move found a node, there is a place
 has_there : (t : LabelledTree) (q : List ℕ) → move_answer t (Some q) ≡ answer.Node → has_place (alone t) q ≡ true
 has_there t q h = of (has_place (alone t) q) h
   where
@@ -81,18 +81,18 @@ after_none t p h = by_next (next_place p) refl h
 
 -- TEXTS
 
--- a tree before others
+-- the text of a tree before others is its own, a comma, and that of the others
 canon_prefix : (u : LabelledTree) (label : List ℕ) (kids rest : Forest) → canon_trees (tree u.label u.kids (tree label kids rest)) ≡ canon u ++ 44 ∷ canon_trees (tree label kids rest)
 canon_prefix u label kids rest = refl
 
--- a tree alone
+-- the text of a tree alone is its own
 canon_alone : (u : LabelledTree) → canon_trees (tree u.label u.kids none) ≡ canon u
 canon_alone u = append_nil (canon u)
 
 -- TOLLS
 
 module _ (toll toll' : Way → List ℕ → ℕ) (less : (way : Way) (p : List ℕ) → toll' way p ≤ toll way p) where
-  -- lower tolls of ways make a lower toll of trees
+  -- where the tolls of all ways are no greater, the toll of trees is no greater
   pub trees_less : (f : Forest) (p : List ℕ) → trees_toll toll' f p ≤ trees_toll toll f p
   trees_less none p = omega arith
   trees_less (tree label kids rest) p =
@@ -118,11 +118,11 @@ siblings_are toll t p h = of (trees_at (alone t) p) h
 module _ {V W : Type 0} (m : Meaning V W) (n : V) where
   -- A NODE'S SUBTREE
 
-  -- the way down costs no more
+  -- a way down from a node costs no more than its subtree's text
   pub down_costs : (fills fills' : ℕ) → CostsOn m n fills fills' (λ toll t p. toll Down p) → CostsOn m n fills fills' print_toll
   down_costs fills fills' cost tolls p at t one = let h = cost tolls p at t one in omega (arith, h)
 
-  -- a node without children was printed
+  -- a node without children is printed where its label was printed
   pub prints_leaf : (m' : Meaning V W) (label before mid after : List ℕ) → ReadsLabel m n label → IsStepTo m m' Down n None → mid ≡ before ++ spelling label → after ≡ mid → PrintsTree m n before after
   prints_leaf m' label before mid after reads step text same = record {
     subtree = record { label = label; kids = none };
@@ -135,12 +135,12 @@ module _ {V W : Type 0} (m : Meaning V W) (n : V) where
         there.1 ∙ ap Some (ap (λ l. record { label = l; kids = there.0.kids }) (sym there.2) ∙ ap (λ k. record { label = label; kids = k }) kids);
   }
 
-  -- a node without children was printed when its label was
+  -- a node without children was printed when its label was printed
   pub opened_leaf : (m' : Meaning V W) (before after : List ℕ) → OpensTree m m' n before after None → PrintsTree m n before after
   opened_leaf m' before after o = prints_leaf m' o.label before (before ++ spelling o.label) after o.reads o.step refl (o.text ∙ append_nil (before ++ spelling o.label))
 
   module _ (m' : Meaning V W) (first : V) (stays : Stays m m') (step : IsStepTo m m' Down n (Some first)) where
-    -- the place of the first child
+    -- the first child stands at the place of the node's first child
     child_at : (p : List ℕ) → m.IsAt n p → (t : LabelledTree) → m.course.IsDocument t → m'.IsAt first (child_place p)
     child_at p at t one =
         let asked = (step.place p at t one).1 in
@@ -150,7 +150,7 @@ module _ {V W : Type 0} (m : Meaning V W) (n : V) where
         of : (x y : List ℕ) → Some x ≡ Some y → x ≡ y
         of x y e = cc
 
-    -- the trees below were printed between brackets
+    -- a node is printed where the trees below it were printed between brackets after its label
     pub prints_node : (label before mid inner inner' after : List ℕ) → ReadsLabel m n label → mid ≡ before ++ spelling label → inner ≡ mid ++ 91 ∷ [] → PrintsTrees m' first inner inner' → after ≡ inner' ++ 93 ∷ []
         → PrintsTree m n before after
     prints_node label before mid inner inner' after reads text open' trees close = record {
@@ -171,16 +171,16 @@ module _ {V W : Type 0} (m : Meaning V W) (n : V) where
         bracketed x y z =
             append_assoc ((x ++ y) ++ 91 ∷ []) z (93 ∷ []) ∙ append_assoc (x ++ y) (91 ∷ []) (z ++ 93 ∷ []) ∙ append_assoc x y ((91 ∷ z) ++ 93 ∷ [])
 
-    -- what stands below was printed after the opening bracket
+    -- a node is printed where what stands below it was printed after the opening bracket
     pub opened_node : (before mid after : List ℕ) → OpensTree m m' n before mid (Some first) → PrintsBelow m' first mid after → PrintsTree m n before after
     opened_node before mid after o below = prints_node o.label before (before ++ spelling o.label) mid below.inner after o.reads refl o.text below.trees below.text
 
-    -- so it was, where the call came to it
+    -- a node is printed where a call printed what stands below it, if it didn't fail
     pub opened_below : (before mid after : List ℕ) (r : Result (Unit {0}) WalkFault) → OpensTree m m' n before mid (Some first) → OnOk r (PrintsBelow m' first mid after) → OnOk r (PrintsTree m n before after)
     opened_below before mid after (Ok x) o below = opened_node before mid after o below
     opened_below before mid after (Err e) o below = tt
 
-    -- what both cost
+    -- the way down and the trees below cost together no more than the node's text
     pub node_costs : (fills fills' fills'' : ℕ) → CostsOn m n fills fills' (λ toll t p. toll Down p) → CostsOn m' first fills' fills'' siblings_toll → CostsOn m n fills fills'' print_toll
     node_costs fills fills' fills'' down cost tolls p at t one =
         let own = down tolls p at t one in
@@ -193,14 +193,14 @@ module _ {V W : Type 0} (m : Meaning V W) (n : V) where
 pub read_there : {V W : Type 0} (m : Meaning V W) (n : V) (label : List ℕ) → ReadsLabel m n label → IsThere m n
 read_there m n label reads p at t one = let there = reads p at t one in ap (λ o. is_some (first_label o)) (trees_of t there.0 p there.1)
 
--- the trees from a node on were printed up to a node, which stands here
+-- the trees from a node on were printed up to another node, which stands at some place among the later siblings
 pub record IsOnWay {V W : Type 0} (m m' : Meaning V W) (fills fills' : ℕ) (prefix : Forest) (node : V) (p : List ℕ) (t : LabelledTree) : Type 0 where
   pub here : List ℕ
   pub at : m'.IsAt node here
   pub trees : trees_at (alone t) p ≡ followed prefix (trees_at (alone t) here)
   pub cost : m.course.HasTolls → fills' + siblings_toll (place_toll m.course) t here ≤ fills + siblings_toll (place_toll m.course) t p
 
--- so they were, wherever the first one stands; a comma stands after each
+-- wherever the first node stands, the trees from it on were printed up to another node, with a comma after each
 pub record ArePrinted {V W : Type 0} (m m' : Meaning V W) (fills fills' : ℕ) (before now : List ℕ) (first node : V) : Type 0 where
   pub stays : Stays m m'
   pub is_node : m'.IsNode node
@@ -209,7 +209,7 @@ pub record ArePrinted {V W : Type 0} (m m' : Meaning V W) (fills fills' : ℕ) (
   pub text : (label : List ℕ) (kids rest : Forest) → now ++ canon_trees (tree label kids rest) ≡ before ++ canon_trees (followed prefix (tree label kids rest))
   pub place : (p : List ℕ) → m.IsAt first p → (t : LabelledTree) → m.course.IsDocument t → IsOnWay m m' fills fills' prefix node p t
 
--- none was printed yet
+-- before any tree was printed, the trees from a node on are printed up to the node itself
 pub printed_start : {V W : Type 0} (m : Meaning V W) (first : V) (fills : ℕ) (before : List ℕ) → Stays m m → m.IsNode first → ArePrinted m m fills fills before before first first
 printed_start m first fills before stays node = record {
   stays = stays;
@@ -220,12 +220,12 @@ printed_start m first fills before stays node = record {
   place = λ p at t one. record { here = p; at = at; trees = refl; cost = λ tolls. omega arith };
 }
 
--- trees after others are trees
+-- a forest followed by one tree more has a first tree
 trees_after : (prefix : Forest) (u : LabelledTree) → (label : List ℕ) × (kids : Forest) × (rest : Forest) × (followed prefix (tree u.label u.kids none) ≡ tree label kids rest)
 trees_after none u = (u.label, u.kids, none, refl)
 trees_after (tree label kids rest) u = (label, kids, followed rest (tree u.label u.kids none), refl)
 
--- a way seen from before a call
+-- a step from a node, as it is seen from before a call
 pub step_later : {V W : Type 0} (m m' m'' : Meaning V W) (way : Way) (n : V) (r : Option V) → Stays m m' → m.IsNode n → IsStepTo m' m'' way n r → IsStepTo m m'' way n r
 step_later {V} m m' m'' way n r stays node step = record {
   node = step.node;
@@ -238,11 +238,11 @@ step_later {V} m m' m'' way n r stays node step = record {
     of Down (Some c) h = let a = stays.height n node in omega (arith, a, h)
     of Right (Some c) h = let a = stays.height n node in let b = stays.left n node in (let x = h.0 in omega (arith, b, x), let y = h.1 in omega (arith, a, y))
 
--- the way after a tree costs no less than none
+-- the text of a tree costs no more than the tree with the way after it
 pub tree_costs : {V W : Type 0} (m : Meaning V W) (n : V) (fills fills' : ℕ) → CostsOn m n fills fills' print_toll → CostsOn m n fills fills' one_toll
 tree_costs m n fills fills' own tolls p at t one = let a = own tolls p at t one in omega (arith, a)
 
--- what a tree and the way after it cost together
+-- a tree and the way to the right of it cost together no more than both tolls
 pub one_costs : {V W : Type 0} (m m' : Meaning V W) (n : V) (fills fills' fills'' : ℕ) → Stays m m' → CostsOn m n fills fills' print_toll → CostsOn m' n fills' fills'' (λ toll t p. toll Right p) → CostsOn m n fills fills'' one_toll
 one_costs m m' n fills fills' fills'' stays own right tolls p at t one =
     let a = own tolls p at t one in
@@ -252,7 +252,7 @@ one_costs m m' n fills fills' fills'' stays own right tolls p at t one =
 
 module _ {V W : Type 0} (m m' m3 : Meaning V W) (first node : V) (fills fills' fills3 : ℕ) (before now : List ℕ) (so : ArePrinted m m' fills fills' before now first node) (stays : Stays m' m3) (there : IsThere m' node)
     (cost : CostsOn m' node fills' fills3 one_toll) where
-  -- the next one was printed
+  -- of the trees from a first node on: one more of them was printed
   module _ (p : List ℕ) (at : m.IsAt first p) (t : LabelledTree) (one : m.course.IsDocument t) where
     on : IsOnWay m m' fills fills' so.prefix node p t
     on = so.place p at t one
@@ -268,17 +268,17 @@ module _ {V W : Type 0} (m m' m3 : Meaning V W) (first node : V) (fills fills' f
         let below = trees_less (place_toll m.course) (place_toll m'.course) (place_toll_less m.course m'.course so.stays.course) (first_kids (trees_at (alone t) on.here)) (child_place on.here) in
         omega (arith, own, so_far, all, down, right, below)
 
-  -- and costs no more
+  -- the trees up to the one that was printed cost no more than all of them
   pub printed_costs : CostsOn m first fills fills3 siblings_toll
   printed_costs tolls p at t one = let h = paid p at t one tolls in omega (arith, h)
 
   module _ (now' : List ℕ) (tree' : PrintsTree m' node now now') where
-    -- the subtree of the node, and those after it
+    -- the trees at the node's place are its subtree and those after it
     own_trees : (p : List ℕ) (at : m.IsAt first p) (t : LabelledTree) (one : m.course.IsDocument t)
         → trees_at (alone t) (on p at t one).here ≡ tree tree'.subtree.label tree'.subtree.kids (after_first (trees_at (alone t) (on p at t one).here))
     own_trees p at t one = trees_of t tree'.subtree (on p at t one).here (tree'.place (on p at t one).here (on p at t one).at t (so.stays.course.document t one))
 
-    -- there is no next sibling
+    -- where there is no next sibling, all trees from the first node on are printed
     pub printed_all : IsStepTo m' m3 Right node None → PrintsTrees m first before now'
     printed_all step =
         let u = tree'.subtree in
@@ -294,7 +294,7 @@ module _ {V W : Type 0} (m m' m3 : Meaning V W) (first node : V) (fills fills' f
               (on p at t one).trees ∙ ap (followed so.prefix) (own_trees p at t one ∙ ap (tree tree'.subtree.label tree'.subtree.kids) last) ∙ all.3;
         }
 
-    -- there is one, and a comma was put after the text
+    -- where there is a next sibling, and a comma was put after the text, the trees are printed up to that sibling
     pub printed_more : (next : V) → IsStepTo m' m3 Right node (Some next) → (now'' : List ℕ) → now'' ≡ now' ++ 44 ∷ [] → ArePrinted m m3 fills fills3 before now'' first next
     printed_more next step now'' comma =
         record {
@@ -329,22 +329,22 @@ module _ {V W : Type 0} (m m' m3 : Meaning V W) (first node : V) (fills fills' f
 
 -- MARKS
 
--- a first child's mark
+-- the mark of a first child is an opening bracket
 pub opening_some : {V : Type 0} (r : Option V) → is_some r ≡ true → opening r ≡ 91 ∷ []
 opening_some None e = cc
 opening_some (Some n) e = refl
 
--- no first child's
+-- without a first child no mark is put
 pub opening_none : {V : Type 0} (r : Option V) → is_some r ≡ false → opening r ≡ []
 opening_none None e = refl
 opening_none (Some n) e = cc
 
--- a next sibling's mark
+-- the mark of a next sibling is a comma
 pub closing_some : {V : Type 0} (r : Option V) → is_some r ≡ true → closing r ≡ 44 ∷ []
 closing_some None e = cc
 closing_some (Some n) e = refl
 
--- no next sibling's
+-- without a next sibling the mark is a closing bracket
 pub closing_none : {V : Type 0} (r : Option V) → is_some r ≡ false → closing r ≡ 93 ∷ []
 closing_none None e = refl
 closing_none (Some n) e = cc

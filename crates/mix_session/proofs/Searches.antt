@@ -17,12 +17,12 @@ use Rattle.mix_session.specs.Printing.{place_toll, CostsOn}
 use Rattle.mix_session.specs.Tolls.{toll_from, search_toll, select_toll}
 use Rattle.mix_session.proofs.Walking.{stays_twice, place_toll_less, cause_before, trees_at-next}
 
--- the place of the first with a label, of the node at a place, if one is there, and its later siblings
+-- the place of the first with a label of the node at an optional place and its later siblings
 abbrev pub labelled_on : LabelledTree → List ℕ → Option (List ℕ) → Option (List ℕ)
 labelled_on t label None = None
 labelled_on t label (Some q) = labelled_at t label q
 
--- what a search costs from there on
+-- what a search for a label costs from an optional place on
 abbrev pub ahead_on : (Way → List ℕ → ℕ) → LabelledTree → List ℕ → Option (List ℕ) → ℕ
 ahead_on toll t label None = 0
 ahead_on toll t label (Some q) = ahead_at toll t label q
@@ -47,7 +47,7 @@ selected_on t label p = by_next (next_place p) refl
     by_next None e = nowhere (after_first (trees_at (alone t) p)) e
     by_next (Some q) e = there (after_first (trees_at (alone t) p)) q e ∙ ap (λ f. labelled_from label f q) (sym (trees_at-next (alone t) p q e))
 
--- and the toll is that of the way to the next sibling and what the search costs from there on
+-- the toll of a search is that of the way to the next sibling and what the search costs from there on
 pub toll_on : (toll : Way → List ℕ → ℕ) (t : LabelledTree) (label p : List ℕ) → select_toll toll t label p ≡ toll Right p + ahead_on toll t label (next_place p)
 toll_on toll t label p = by_next (next_place p) refl
   where
@@ -67,25 +67,25 @@ toll_on toll t label p = by_next (next_place p) refl
     by_next None e = nowhere (after_first (trees_at (alone t) p)) e
     by_next (Some q) e = there (after_first (trees_at (alone t) p)) q e ∙ ap (λ f. toll Right p + ahead_from toll label f q) (sym (trees_at-next (alone t) p q e))
 
--- a search from a node on has come to a node
+-- a search from a node at a place has come to another node
 pub record IsOnWay {V W : Type 0} (m m' : Meaning V W) (fills fills' : ℕ) (label : List ℕ) (first node : V) (p : List ℕ) (t : LabelledTree) : Type 0 where
   pub here : List ℕ
   pub at : m'.IsAt node here
   pub same : labelled_at t label p ≡ labelled_at t label here
   pub cost : m.course.HasTolls → fills' + ahead_at (place_toll m.course) t label here ≤ fills + ahead_at (place_toll m.course) t label p
 
--- so it has, wherever it began
+-- wherever it began, a search from a node has come to another node
 pub record IsSought {V W : Type 0} (m m' : Meaning V W) (fills fills' : ℕ) (label : List ℕ) (first node : V) : Type 0 where
   pub stays : Stays m m'
   pub is_node : m'.IsNode node
   pub place : (p : List ℕ) → m.IsAt first p → (t : LabelledTree) → m.course.IsDocument t → IsOnWay m m' fills fills' label first node p t
 
--- a node has a label
+-- the first tree of a forest has a label or has another, as told
 abbrev HasLabel : List ℕ → Bool → Forest → Type 0
 HasLabel label b none = ⊥
 HasLabel label b (tree other kids rest) = bytes_eq other label ≡ b
 
--- the label that was read is that of the trees there
+-- a label that was read of a node is that of the trees at its place
 label_there : (t : LabelledTree) (q label read : List ℕ) (b : Bool) (u : LabelledTree) → tree_at t q ≡ Some u → read ≡ u.label → bytes_eq read label ≡ b → HasLabel label b (trees_at (alone t) q)
 label_there t q label read b u at is h = of (trees_at (alone t) q) at
   where
@@ -97,22 +97,22 @@ label_there t q label read b u at is h = of (trees_at (alone t) q) at
         label_of None = other
         label_of (Some x) = x.label
 
--- where the first tree has the label
+-- where the first tree has the label, a search from it on finds it
 own_from : (label : List ℕ) (f : Forest) (x : List ℕ) → HasLabel label true f → labelled_from label f x ≡ Some x
 own_from label none x h = absurd h
 own_from label (tree other kids rest) x h = ap (λ b. cond b (Some x) (first_labelled label rest x)) h
 
--- where it has another, the search goes on after it
+-- where the first tree has another label, a search goes on after it
 other_from : (label : List ℕ) (f : Forest) (x : List ℕ) → HasLabel label false f → labelled_from label f x ≡ first_labelled label (after_first f) x
 other_from label none x h = absurd h
 other_from label (tree other kids rest) x h = ap (λ b. cond b (Some x) (first_labelled label rest x)) h
 
--- and costs what it costs after it
+-- where the first tree has another label, a search costs what it costs after that tree
 other_toll : (toll : Way → List ℕ → ℕ) (label : List ℕ) (f : Forest) (x : List ℕ) → HasLabel label false f → ahead_from toll label f x ≡ search_toll toll label (after_first f) x
 other_toll toll label none x h = absurd h
 other_toll toll label (tree other kids rest) x h = ap (λ b. cond b 0 (search_toll toll label rest x)) h
 
--- lower tolls of ways make a lower toll of a search
+-- where the tolls of all ways are no greater, the toll of a search is no greater
 module _ (toll toll' : Way → List ℕ → ℕ) (less : (way : Way) (p : List ℕ) → toll' way p ≤ toll way p) where
   pub search_less : (label : List ℕ) (f : Forest) (p : List ℕ) → search_toll toll' label f p ≤ search_toll toll label f p
   search_less label none p = less Right p
@@ -135,7 +135,7 @@ module _ (toll toll' : Way → List ℕ → ℕ) (less : (way : Way) (p : List �
           either true = omega arith
           either false = search_less label rest p
 
--- no place is found where none is
+-- where there is no place, a search finds none
 nowhere : (t : LabelledTree) (label : List ℕ) (goal : Option (List ℕ)) → move_answer t goal ≡ answer.None → labelled_on t label goal ≡ None
 nowhere t label None h = refl
 nowhere t label (Some q) h = empty (trees_at (alone t) q) refl
@@ -144,7 +144,7 @@ nowhere t label (Some q) h = empty (trees_at (alone t) q) refl
     empty none e = refl
     empty (tree other kids rest) e = let z : answer.Node ≡ answer.None = ap (λ g. cond (is_some (first_label g)) answer.Node answer.None) (sym e) ∙ h in cc
 
--- there is a node where a subtree is
+-- where a subtree is at a place, a move there finds a node
 node_there : (t u : LabelledTree) (q : List ℕ) → tree_at t q ≡ Some u → move_answer t (Some q) ≡ answer.Node
 node_there t u q e = of (trees_at (alone t) q) refl e
   where
@@ -153,7 +153,7 @@ node_there t u q e = of (trees_at (alone t) q) refl e
     of (tree other kids rest) k h = ap (λ g. cond (is_some (first_label g)) answer.Node answer.None) k
 
 module _ {V W : Type 0} (m : Meaning V W) (label : List ℕ) (first : V) where
-  -- a search begins with the node itself
+  -- a search from a node has come to that node before any step
   pub sought_start : (fills : ℕ) → Stays m m → m.IsNode first → IsSought m m fills fills label first first
   sought_start fills stays node = record {
     stays = stays;
@@ -162,11 +162,11 @@ module _ {V W : Type 0} (m : Meaning V W) (label : List ℕ) (first : V) where
   }
 
   module _ (m' : Meaning V W) (fills fills' : ℕ) (node : V) (so : IsSought m m' fills fills' label first node) (read : List ℕ) (reads : ReadsLabel m' node read) where
-    -- so far it costs no more
+    -- a search that has come to a node costs so far no more than a whole one
     pub sought_costs : CostsOn m first fills fills' (λ toll t p. ahead_at toll t label p)
     sought_costs tolls p at t one = let cost = (so.place p at t one).cost tolls in omega (arith, cost)
 
-    -- the node has the label
+    -- where the node that a search has come to has the label, the search found it
     pub sought_found : (before after : ℕ → ℕ) → bytes_eq read label ≡ true → IsFirst m m' before after label first (found.Node node)
     sought_found before after same = record {
       cause = tt;
@@ -180,7 +180,7 @@ module _ {V W : Type 0} (m : Meaning V W) (label : List ℕ) (first : V) where
     }
 
     module _ (m'' : Meaning V W) (fills'' : ℕ) (other : bytes_eq read label ≡ false) (stays : Stays m' m'') (toll : (x : W) → m'.IsTold node x → m'.course.HasTolls → fills'' ≤ fills' + m'.course.toll Right x) where
-      -- the node has another label, and the way to its next sibling was paid for
+      -- of a search at a node with another label, whose way to the next sibling was paid for
       module _ (p : List ℕ) (at : m.IsAt first p) (t : LabelledTree) (one : m.course.IsDocument t) where
         on : IsOnWay m m' fills fills' label first node p t
         on = so.place p at t one
@@ -204,7 +204,7 @@ module _ {V W : Type 0} (m : Meaning V W) (label : List ℕ) (first : V) where
       more_costs tolls p at t one = let h = paid p at t one tolls in omega (arith, h)
 
       module _ (before mid after : ℕ → ℕ) (rises : (s : ℕ) → before s ≤ mid s) (r : Found V) (next : IsNext m' m'' mid after Right node r) where
-        -- the search goes on
+        -- a search goes on at the next sibling of a node with another label
         pub sought_more : (q : V) → r ≡ found.Node q → IsSought m m'' fills fills'' label first q
         sought_more q is = record {
           stays = stays_twice so.stays stays;
@@ -220,7 +220,7 @@ module _ {V W : Type 0} (m : Meaning V W) (label : List ℕ) (first : V) where
               };
         }
 
-        -- there is no later sibling
+        -- where there is no later sibling, a search finds none
         pub sought_none : r ≡ found.None → IsFirst m m'' before after label first found.None
         sought_none is = record {
           cause = tt;
@@ -238,10 +238,10 @@ start_costs m label n fills fills' toll tolls p at t one =
     let paid : fills' ≤ fills + place_toll m.course Right p = toll (m.course.at p) (m.told_at n p at) tolls in
     let all = toll_on (place_toll m.course) t label p in omega (arith, paid, all)
 
--- the later siblings of a node are searched from the next one on
+-- of a search among the later siblings of a node, from the next one on
 module _ {V W : Type 0} (m m' : Meaning V W) (label : List ℕ) (n : V) (before mid : ℕ → ℕ) (fills fills' : ℕ) (stays : Stays m m') (toll : (x : W) → m.IsTold n x → m.course.HasTolls → fills' ≤ fills + m.course.toll Right x)
     (r : Found V) (next : IsNext m m' before mid Right n r) where
-  -- there is none
+  -- where there is no next sibling, none of the later siblings is found
   pub select_none : r ≡ found.None → IsSelected m m' before mid label n found.None
   select_none is = record {
     cause = tt;
@@ -252,12 +252,12 @@ module _ {V W : Type 0} (m m' : Meaning V W) (label : List ℕ) (n : V) (before 
   }
 
   module _ (q : V) (is : r ≡ found.Node q) where
-    -- the place of the next sibling
+    -- the next sibling stands at the next place
     module _ (p : List ℕ) (at : m.IsAt n p) (t : LabelledTree) (one : m.course.IsDocument t) where
       there : IsAsked m'.IsAt (next_place p) q
       there = (subst (IsMoved m'.IsAt t (next_place p)) is (next.place p at t one)).1
 
-    -- what is found from there on is what was searched
+    -- what is found from the next sibling on is what was searched among the later siblings
     pub select_found : (m'' : Meaning V W) (after : ℕ → ℕ) → ((s : ℕ) → before s ≤ mid s) → (r' : Found V) → IsFirst m' m'' mid after label q r' → IsSelected m m'' before after label n r'
     select_found m'' after rises r' found = record {
       cause = cause_before m.course m'.course stays.course before mid after rises r' found.cause;
@@ -267,7 +267,7 @@ module _ {V W : Type 0} (m m' : Meaning V W) (label : List ℕ) (n : V) (before 
           subst (λ g. IsMoved m''.IsAt t g r') (sym same) (found.place (there p at t one).0 (there p at t one).2 t (stays.course.document t one));
     }
 
-    -- and costs what both cost
+    -- a search among later siblings costs what the way to the next one and the search from it cost
     pub select_costs : (fills'' : ℕ) → CostsOn m' q fills' fills'' (λ toll t p. ahead_at toll t label p) → CostsOn m n fills fills'' (λ toll t p. select_toll toll t label p)
     select_costs fills'' cost tolls p at t one =
         let paid : fills' ≤ fills + place_toll m.course Right p = toll (m.course.at p) (m.told_at n p at) tolls in

@@ -28,14 +28,14 @@ Lifts P (Ok None) = P found.None
 Lifts P (Ok (Some x)) = P (found.Node x)
 Lifts P (Err fault) = Unit {0}
 
--- and of each fault that it named
+-- what is said of what a buffer found, and of each fault that it named, is so of the search's answer
 lifted : (P : Found Spot → Type 0) (o : Result (Option Spot) WalkFault) (r : Found Spot) → of_walk o r → Lifts P o → ((s : ℕ) → o ≡ Err (walk.Failed s) → P (found.Fault s)) → P r
 lifted P (Ok None) r is h k = subst P (sym is) h
 lifted P (Ok (Some x)) r is h k = subst P (sym is) h
 lifted P (Err (walk.Failed s)) r is h k = subst P (sym is) (k s refl)
 lifted P (Err walk.OutOfMemory) r is h k = absurd is
 
--- the document node above a tree
+-- the document node above a tree, as a forest
 abbrev above : LabelledTree → Forest
 above t = tree [] (alone t) none
 
@@ -43,12 +43,12 @@ above t = tree [] (alone t) none
 node_is : (v : View) (n : ℕ) (t : LabelledTree) → document v n ≡ alone t → document_node v n ≡ above t
 node_is v n t e = ap (λ f. tree [] f none) e
 
--- an exact answer over a document that is one tree
+-- an exact answer of a buffer is exact over a document that is one tree
 exact_on : (o : Result (Option Spot) WalkFault) (P : Type 0) (x y : Option Spot → Type 0) → P → ((r : Option Spot) → x r → y r) → IfOk o (λ r. P → x r) → IfOk o y
 exact_on (Ok r) P x y h f k = f r (k h)
 exact_on (Err fault) P x y h f k = tt
 
--- what `down` found from a place of a tree
+-- what `down` found from a place of a tree is what the tree has as the first child there
 moved_down : (t : LabelledTree) (b : Buffer) (x : Spot) (place : List ℕ) (o : Result (Option Spot) WalkFault) → place_of b x ≡ place
     → IfOk o (λ r. IfSome r (IsChildSpot b x 0)) → IfOk o (λ r. is_some r ≡ has_place (above t) (child_place place))
     → (goal : List ℕ) → child_place place ≡ 0 ∷ goal → Lifts (IsMoved (IsPlace b) t (Some goal)) o
@@ -82,7 +82,7 @@ next_is (i ∷ place) q e t h = given (next_place (i ∷ place)) e h
     given None k there = cc
     given (Some goal) k there = (goal, refl, ap tail_of k)
 
--- what `right` found from a place of a tree
+-- what `right` found from a place of a tree is what the tree has as the next sibling there
 moved_right : (t : LabelledTree) (b : Buffer) (x : Spot) (place : List ℕ) (o : Result (Option Spot) WalkFault) → place_of b x ≡ 0 ∷ place
     → IfOk o (λ r. IfSome r (IsNextSpot b x)) → IfOk o (λ r. is_some r ≡ has_next (above t) (0 ∷ place)) → Lifts (IsMoved (IsPlace b) t (next_place place)) o
 moved_right t b x place (Ok None) at next exact = nowhere (next_place place) (exact ∙ next_above t place)
@@ -99,26 +99,26 @@ moved_right t b x place (Ok (Some q)) at next exact =
     )
 moved_right t b x place (Err fault) at next exact = tt
 
--- what is said of each child that was found
+-- what holds of each spot of a buffer holds of a child that was found
 child_found : (P : Spot → Type 0) (b : Buffer) (x : Spot) (o : Result (Option Spot) WalkFault) → ((c : Spot) → IsSpot b c → P c) → IfOk o (λ r. IfSome r (IsChildSpot b x 0)) → Lifts (IfNode P) o
 child_found P b x (Ok None) f h = tt
 child_found P b x (Ok (Some c)) f h = f c h.spot
 child_found P b x (Err fault) f h = tt
 
--- and of each next sibling
+-- what holds of each spot of a buffer holds of a next sibling that was found
 next_found : (P : Spot → Type 0) (b : Buffer) (x : Spot) (o : Result (Option Spot) WalkFault) → ((c : Spot) → IsSpot b c → P c) → IfOk o (λ r. IfSome r (IsNextSpot b x)) → Lifts (IfNode P) o
 next_found P b x (Ok None) f h = tt
 next_found P b x (Ok (Some c)) f h = f c h.spot
 next_found P b x (Err fault) f h = tt
 
--- no cause is asked of what was found
+-- a search that a buffer answered has its cause, since it was not refused
 found_cause : (MayFail : ℕ → Type 0) (before after : ℕ → ℕ) (o : Result (Option Spot) WalkFault) → Lifts (HasCause MayFail before after) o
 found_cause MayFail before after (Ok None) = tt
 found_cause MayFail before after (Ok (Some x)) = tt
 found_cause MayFail before after (Err fault) = tt
 
 module _ (v v' : View) (b b' : Buffer) (goes : Goes v b v' b') where
-  -- what a call of a buffer leaves
+  -- what a call of a buffer leaves, a call of the walker leaves
   pub source_stays : IsSourcesOf v' b' → Stays (source_meaning v b) (source_meaning v' b')
   source_stays sources = record {
     ready = sources;
@@ -139,14 +139,14 @@ module _ (v v' : View) (b b' : Buffer) (goes : Goes v b v' b') where
     height = λ x h. let b = goes.below x h in let a = goes.after x h in omega (arith, a, b);
   }
 
-  -- the numbers of a child that was found
+  -- the child that a buffer found has smaller numbers
   smaller_down : (x : Spot) (o : Result (Option Spot) WalkFault) → IfOk o (λ r. IfSome r (λ c. from_spot v' b' c ≤ below v b x))
       → Lifts (IfNode (IsSmaller (source_meaning v b) (source_meaning v' b') Down x)) o
   smaller_down x (Ok None) h = tt
   smaller_down x (Ok (Some c)) h = let less : 1 + below v' b' c + after v' b' c ≤ below v b x = h in omega (arith, less)
   smaller_down x (Err fault) h = tt
 
-  -- and of a next sibling
+  -- the next sibling that a buffer found has smaller numbers
   smaller_right : (x : Spot) (o : Result (Option Spot) WalkFault) → IfOk o (λ r. IfSome r (λ c. from_spot v' b' c ≤ after v b x))
       → Lifts (IfNode (IsSmaller (source_meaning v b) (source_meaning v' b') Right x)) o
   smaller_right x (Ok None) h = tt
@@ -158,15 +158,15 @@ module _ (v v' : View) (b b' : Buffer) (goes : Goes v b v' b') where
     cause = lifted (HasCause (λ s. s ≡ number_of b) v.faults v'.faults) o r is (found_cause (λ s. s ≡ number_of b) v.faults v'.faults o)
         (λ s e. subst (λ z. IfErr z (Causes.HasRose (IsSourceOf b) v v')) e refused)
 
-    -- a node was found
+    -- what is said of a node that a buffer found is so of the search's answer
     given : (P : Spot → Type 0) → Lifts (IfNode P) o → IfNode P r
     given P h = lifted (IfNode P) o r is h (λ s e. tt)
 
-    -- a place was found
+    -- what is said of the place that a buffer found is so of the search's answer
     moved : (t : LabelledTree) (goal : Option (List ℕ)) → Lifts (IsMoved (IsPlace b') t goal) o → IsMoved (IsPlace b') t goal r
     moved t goal h = lifted (IsMoved (IsPlace b') t goal) o r is h (λ s e. tt)
 
-    -- the first child was sought
+    -- a buffer's search for the first child of a spot is one of the walker
     pub source_down : (x : Spot) → IsSpot b x → IfOk o (λ r. IfSome r (IsChildSpot b' x 0))
         → IfOk o (λ r. v.told (number_of b) ≡ true → is_some r ≡ has_place (document_node v (number_of b)) (child_place (place_of b x)))
         → IfOk o (λ r. IfSome r (λ c. from_spot v' b' c ≤ below v b x)) → IsNext (source_meaning v b) (source_meaning v' b') v.faults v'.faults Down x r
@@ -181,7 +181,7 @@ module _ (v v' : View) (b b' : Buffer) (goes : Goes v b v' b') where
       smaller = given (IsSmaller (source_meaning v b) (source_meaning v' b') Down x) (smaller_down x o less);
     }
 
-    -- the next sibling was sought
+    -- a buffer's search for the next sibling of a spot is one of the walker
     pub source_right : (x : Spot) → IsSpot b x → IfOk o (λ r. IfSome r (IsNextSpot b' x))
         → IfOk o (λ r. v.told (number_of b) ≡ true → is_some r ≡ has_next (document_node v (number_of b)) (place_of b x))
         → IfOk o (λ r. IfSome r (λ c. from_spot v' b' c ≤ after v b x)) → IsNext (source_meaning v b) (source_meaning v' b') v.faults v'.faults Right x r
@@ -196,7 +196,7 @@ module _ (v v' : View) (b b' : Buffer) (goes : Goes v b v' b') where
       smaller = given (IsSmaller (source_meaning v b) (source_meaning v' b') Right x) (smaller_right x o less);
     }
 
-    -- the root was sought, which is the first child of the document node
+    -- a buffer's search for the root, which is the first child of the document node, is one of the walker
     pub source_root : (top : Spot) → IsSpot b top → place_of b top ≡ [] → IfOk o (λ r. IfSome r (IsChildSpot b' top 0))
         → IfOk o (λ r. v.told (number_of b) ≡ true → is_some r ≡ has_place (document_node v (number_of b)) (child_place (place_of b top)))
         → IsRoot (source_meaning v b) (source_meaning v' b') v.faults v'.faults r
@@ -211,7 +211,7 @@ module _ (v v' : View) (b b' : Buffer) (goes : Goes v b v' b') where
       told = λ tolls. given (IsAsked (λ x node. IsSpot b' x) (Some tt)) (child_found (IsAsked (λ x node. IsSpot b' x) (Some tt)) b' top o (λ c h. (tt, refl, h)) child);
     }
 
--- what a fact about an answer gives
+-- what follows from a fact about an answer holds of it
 pub if_ok : {T E : Type 0} (r : Result T E) (P Q : T → Type 0) → ((x : T) → P x → Q x) → IfOk r P → IfOk r Q
 if_ok (Ok x) P Q f p = f x p
 if_ok (Err e) P Q f p = tt

@@ -12,7 +12,7 @@ use Rattle.mix_session.specs.Meaning.{Course, Meaning, GoesOn, Stays}
 use Rattle.mix_session.specs.Seeking.{HasCause}
 use Rattle.mix_session.specs.Printing.{place_toll, FailsBy}
 
--- a walk that goes on and on goes on
+-- a course that goes on and goes on again goes on from the first to the last
 pub goes_on_twice : {W : Type 0} {c d e : Course W} → GoesOn c d → GoesOn d e → GoesOn c e
 goes_on_twice g h = record {
   roots = h.roots ∙ g.roots;
@@ -25,7 +25,7 @@ goes_on_twice g h = record {
   toll = λ way x. omega (arith, h.toll way x, g.toll way x);
 }
 
--- what stays over two calls
+-- what stays over each of two calls stays over both
 pub stays_twice : {V W : Type 0} {m m' m'' : Meaning V W} → Stays m m' → Stays m' m'' → Stays m m''
 stays_twice g h = record {
   ready = h.ready;
@@ -37,12 +37,12 @@ stays_twice g h = record {
   height = λ n k. omega (arith, h.height n (g.node n k), g.height n k);
 }
 
--- no toll of a place rose
+-- no toll of a place rose on a course that goes on
 pub place_toll_less : {W : Type 0} (c d : Course W) → GoesOn c d → (way : Way) (p : List ℕ) → place_toll d way p ≤ place_toll c way p
 place_toll_less c d g way p =
     let same = ap (λ at. d.toll way (at p)) g.at in let less = g.toll way (c.at p) in omega (arith, same, less)
 
--- the cause of a fault, seen from an earlier call
+-- where a fault has a cause since a later call, it has it since an earlier one
 pub cause_before : {V W : Type 0} (c d : Course W) → GoesOn c d → (before mid after : ℕ → ℕ) → ((s : ℕ) → before s ≤ mid s) → (r : Found V) → HasCause d.MayFail mid after r → HasCause c.MayFail before after r
 cause_before c d g before mid after rises (found.Node n) h = tt
 cause_before c d g before mid after rises found.None h = tt
@@ -66,11 +66,11 @@ trees_at-next f (i ∷ j ∷ p) q e = deeper (next_place (j ∷ p)) (λ r z. tre
     deeper None more h k = cc
     deeper (Some r) more h k = let is : i ∷ r ≡ q = cc in subst (λ x. trees_at f x ≡ after_first (trees_at f (i ∷ j ∷ p))) is (more r h)
 
--- a walk goes on where there is no call
+-- a course goes on where there is no call
 pub goes_on_same : {W : Type 0} (c : Course W) → GoesOn c c
 goes_on_same c = record { roots = refl; may = λ s h. h; document = λ t h. h; tolls = λ h. h; trail = refl; at = refl; root_toll = omega arith; toll = λ way x. omega arith }
 
--- where there is no call, all stays
+-- where there is no call, all that a walker means stays
 pub stays_same : {V W : Type 0} (m : Meaning V W) → m.IsReady → Stays m m
 stays_same m ready = record {
   ready = ready;
@@ -82,7 +82,7 @@ stays_same m ready = record {
   height = λ n h. omega arith;
 }
 
--- the cause of a refusal, seen from an earlier call
+-- where a refusal has a cause since a later call, it has it since an earlier one
 pub fails_before : {V W X : Type 0} {m m' : Meaning V W} → Stays m m' → (before mid after : ℕ → ℕ) → ((s : ℕ) → before s ≤ mid s) → (r : Result X WalkFault) → FailsBy m'.course.MayFail mid after r → FailsBy m.course.MayFail before after r
 fails_before stays before mid after rises (Ok x) h = tt
 fails_before stays before mid after rises (Err (Failed s)) h = (stays.course.may s h.0, risen_before (before s) (mid s) (after s) (rises s) h.1)

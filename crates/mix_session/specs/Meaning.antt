@@ -16,9 +16,9 @@ pub record Course (W : Type 0) : Type 1 where
   pub HasTolls : Type 0
   -- what is told of nodes for their tolls
   pub trail : Trail W
-  -- what is told so of the node at a place of the document
+  -- what is told for tolls of the node at a place of the document
   pub at : List ℕ → W
-  -- the toll of the root
+  -- the toll of coming to the root
   pub root_toll : ℕ
   -- the toll of a way from a node
   pub toll : Way → W → ℕ

@@ -32,24 +32,24 @@ use Rattle.mix_talk.proofs.Talking.{IsTalking, all_asks, all_steps, prefix, talk
 
 module _ {V W : Type 0} (c : Course W) (m : Meaning V W) (old now : View) (values : NamesOf V) (names : List (List ℕ)) (input mid : InputView) (r : LineReader) (sink between : SinkView) (marked : Bool) where
   module _ (s : Step) (far : IsTalking c m old now values names input mid r sink.written between.written marked (step s ∷ [])) where
-    -- the source of its answer has a name
+    -- the source that an answer names has a name
     pub talking_named : (m' : Meaning V W) (v' : View) (values' : NamesOf V) (a : Answer) → IsStep m m' now.faults v'.faults values values' s.client s.act a → ((n : ℕ) → c.MayFail n → n < length names) → IsNamed (length names) a
     talking_named m' v' values' a is named = so_far_named c m m' old now v' values values' (length names) (steps_in far.done ++ s ∷ []) s [] far.answers (far.so (s ∷ [])) a is named
 
     module _ (m' : Meaning V W) (v' : View) (values' : NamesOf V) (rises : (n : ℕ) → now.faults n ≤ v'.faults n) (answered : Result Answer AllocError) (stepped : Stepped m m' now v' values values' s.client s.act answered) where
-      -- the answers so far, before the steps among all that the bytes ask for
+      -- the answers of a talk so far are those to steps before the one that comes next
       here : IsSoFar c m old now values (steps_in (heard far.bytes)) (s ∷ steps_in (heard r.page)) far.answers
       here = subst (λ steps. IsSoFar c m old now values steps (s ∷ steps_in (heard r.page)) far.answers) (sym (all_steps c m old now values names input mid r sink between marked (step s ∷ []) far)) (far.so (s ∷ steps_in (heard r.page)))
 
-      -- they are those of a run
+      -- the answers of a talk so far are those of a run
       are_here : IsRun c old.faults v'.faults (steps_in (heard far.bytes)) far.answers
       are_here = earlier c m m' old now v' values values' (steps_in (heard far.bytes)) s (steps_in (heard r.page)) far.answers here rises answered stepped
 
-      -- and this is what they and the step cost
+      -- the answers of a talk so far and the step that comes next cost no more than their tolls
       cost_here : IsLazy c old.fills v'.fills (steps_in (heard far.bytes)) far.answers
       cost_here = lazy_begun c m m' old now v' values values' (steps_in (heard far.bytes)) s (steps_in (heard r.page)) far.answers here rises answered stepped
 
-      -- a talk stops before the step's line
+      -- a talk stops before the line of the step that comes next
       before_line : (sink' : SinkView) → sink' ≡ between → StopsBetween (IsRun c old.faults v'.faults (steps_in (heard far.bytes))) (IsLazy c old.fills v'.fills (steps_in (heard far.bytes))) names (heard far.bytes) sink sink'
       before_line sink' same = record {
         done = far.done;
@@ -62,12 +62,12 @@ module _ {V W : Type 0} (c : Course W) (m : Meaning V W) (old now : View) (value
         cost = cost_here;
       }
 
-      -- memory ran out before there was an answer
+      -- where memory ran out before there was an answer, the talk ends
       pub talking_short : TalkEnds c old v' names input mid sink between (Err OutOfMemory)
       talking_short = talk_ends c old v' names input mid sink between far.bytes far.took (Err OutOfMemory) (inl (before_line between refl))
 
       module _ (a : Answer) (is : IsStep m m' now.faults v'.faults values values' s.client s.act a) where
-        -- the step was answered
+        -- where a step's line was written, the talk has come one step further
         pub talking_step : (after : Option (List ℕ)) → Appends between.written after (line_of names s.client a) → IsTalking c m' old v' values' names input mid r sink.written after (marked || is_fault a) []
         talking_step after wrote =
             let same : steps_in (far.done ++ step s ∷ []) ≡ steps_in far.done ++ s ∷ [] = steps_append far.done (step s ∷ []) in
@@ -92,7 +92,7 @@ module _ {V W : Type 0} (c : Course W) (m : Meaning V W) (old now : View) (value
               marks = ap (λ k. k || is_fault a) far.marks ∙ sym (has_fault_push far.answers a);
             }
 
-        -- a prefix of its line was written
+        -- where a prefix of a step's line was written, the talk stops within that line
         within_line : (sink' : SinkView) → WrotePrefix (λ x. x ≡ a) names s.client between sink'
             → StopsWithin (IsRun c old.faults v'.faults (steps_in (heard far.bytes))) (IsLazy c old.fills v'.fills (steps_in (heard far.bytes))) names (heard far.bytes) sink sink'
         within_line sink' w =
@@ -115,7 +115,7 @@ module _ {V W : Type 0} (c : Course W) (m : Meaning V W) (old now : View) (value
               cost = cost_here;
             }
 
-        -- its line was cut short
+        -- where a step's line was cut short, the talk ends
         pub talking_cut : (sink' : SinkView) → sink.faults ≤ between.faults → (fault : LinesFault) → IsStepCut (λ x. x ≡ a) names s.client between sink' fault → TalkEnds c old v' names input mid sink sink' (Err (of_lines fault))
         talking_cut sink' rises lines.SinkFailed cut = talk_ends c old v' names input mid sink sink' far.bytes far.took (Err SinkFailed) (let h = cut.0 in omega (arith, h, rises), within_line sink' cut.1)
         talking_cut sink' rises lines.OutOfMemory (inl same) = talk_ends c old v' names input mid sink sink' far.bytes far.took (Err OutOfMemory) (inl (before_line sink' same))

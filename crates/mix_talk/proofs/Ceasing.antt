@@ -25,7 +25,7 @@ use Rattle.mix_talk.proofs.Whole.{whole_of}
 
 module _ {V W : Type 0} (c : Course W) (m : Meaning V W) (old now : View) (values : NamesOf V) (names : List (List ℕ)) (input mid : InputView) (r : LineReader) (sink between : SinkView) (marked : Bool)
     (far : IsTalking c m old now values names input mid r sink.written between.written marked []) where
-  -- all was answered
+  -- all lines that were heard were answered
   all_answered : IsWhole (IsRun c old.faults now.faults (steps_in far.done)) (IsLazy c old.fills now.fills (steps_in far.done)) names far.done sink between marked
   all_answered =
       let So : List Step → Type 0 = λ steps. IsSoFar c m old now values steps [] far.answers in
@@ -39,13 +39,13 @@ module _ {V W : Type 0} (c : Course W) (m : Meaning V W) (old now : View) (value
         marks = far.marks;
       }
 
-  -- so it was where what was heard is the same
+  -- all lines were answered where the lines that were heard are the same
   answered_all : (heard : List Heard) → heard ≡ far.done → IsWhole (IsRun c old.faults now.faults (steps_in heard)) (IsLazy c old.fills now.fills (steps_in heard)) names heard sink between marked
   answered_all heard same =
       let Whole : List Heard → Type 0 = λ h. IsWhole (IsRun c old.faults now.faults (steps_in h)) (IsLazy c old.fills now.fills (steps_in h)) names h sink between marked in
       subst Whole (sym same) all_answered
 
-  -- the next line couldn't be read
+  -- where the next line couldn't be read, the talk ends
   pub talking_failed : (new : InputView) (fault : TakeFault) → TookSome mid new r fault → input.faults ≤ mid.faults
       → (fault ≡ take.Failed → HasRisen mid.faults new.faults) → TalkEnds c old now names input new sink between (Err (of_take fault))
   talking_failed new take.Failed took rises cause =
@@ -65,7 +65,7 @@ module _ {V W : Type 0} (c : Course W) (m : Meaning V W) (old now : View) (value
       talk_ends c old now names input new sink between bytes (took_more input mid new far.bytes took.bytes far.took took.took) (Err OutOfMemory)
       (inl (stops c m old now values names input mid r sink between marked [] far bytes later parts))
 
-  -- there is no next line
+  -- where there is no next line, the talk ends
   pub talking_done : (new : InputView) (r' : LineReader) → Reads mid new r r' None → TalkEnds c old now names input new sink between (Ok marked)
   talking_done new r' reads =
       let read = talking_read c m old now values names input mid r sink between marked new r' None far reads in

@@ -12,8 +12,8 @@ use Rattle.mix_talk.specs.declared.reader.LineReader.{LineReader}
 use Rattle.mix_talk.proofs.Long.{no_lf_append, no_lf_take, kept_asks, kept_line, lines_without}
 use Rattle.mix_talk.proofs.Taken.{took_none, took_more}
 
--- bytes of a line with no LF among them were moved, of which no more are kept than a line may have with its end, and some pages were taken
--- for it
+-- the part of a line that was read so far: bytes without LF were moved, no more of them kept than a line may have with its end, and the pages taken
+-- for them were taken of the input
 pub record IsCutting (old now : InputView) (r r' : LineReader) (line : List ℕ) : Type 0 where
   pub bytes : List ℕ
   pub took : Took old now bytes
@@ -29,7 +29,7 @@ pub record IsCutting (old now : InputView) (r r' : LineReader) (line : List ℕ)
 abbrev pub pages_left : InputView → LineReader → ℕ
 pages_left input r = cond r.ended 0 (2 ^ 64 - input.taken + 1)
 
--- fewer where a page more was taken
+-- fewer pages can still be taken where one more was taken
 pub pages_fewer : (now new : InputView) (r r' : LineReader) → r.ended ≡ false → Refilled now new r'.page → (r'.page ≡ [] → r'.ended ≡ true) → pages_left new r' < pages_left now r
 pages_fewer now new r r' more filled end = rw more (by_end r'.ended refl)
   where
@@ -56,13 +56,13 @@ some_part part body e = let long = ap (λ (xs : List ℕ). length xs) e ∙ leng
 not_both : {b : Bool} → b ≡ false → b ≡ true → ⊥
 not_both h k = let e : false ≡ true = sym h ∙ k in cc
 
--- a prefix of a prefix with more after it
+-- a prefix of a prefix and some bytes after it is a prefix of the whole and these bytes
 prefix_again : (n : ℕ) (xs ys : List ℕ) → take n (take n xs ++ ys) ≡ take n (xs ++ ys)
 prefix_again zero xs ys = refl
 prefix_again (suc n) [] ys = refl
 prefix_again (suc n) (x ∷ xs) ys = ap (λ r. x ∷ r) (prefix_again n xs ys)
 
--- a reader begins with a line
+-- a reader begins with no part of a line read
 pub cutting_start : (input : InputView) (r : LineReader) → IsReaderOf input r → IsCutting input input r r []
 cutting_start input r reader = record {
   bytes = [];
@@ -77,16 +77,16 @@ cutting_start input r reader = record {
 }
 
 module _ (old now : InputView) (r r' : LineReader) (line : List ℕ) (cut : IsCutting old now r r' line) where
-  -- no more of it is kept than of a line with its end
+  -- no more of a line is kept than a line may have with its end
   pub kept_length : length line ≤ 1048578
   kept_length = let long = ap (λ (xs : List ℕ). length xs) cut.kept ∙ length-take 1048578 cut.body in omega (arith, long)
 
-  -- what is kept with a part after it
+  -- what is kept of a line with a part more is a prefix of the body and the part
   kept_more : (page line' : List ℕ) (whole : Bool) → (moved : Moved r'.page page line line' whole) → line' ≡ take 1048578 (cut.body ++ moved.part)
   kept_more page line' whole moved =
       moved.kept ∙ ap (λ l. take 1048578 (l ++ moved.part)) cut.kept ∙ prefix_again 1048578 cut.body moved.part
 
-  -- what was taken is the body, the part after it, and what is left of the page
+  -- what was taken of the input is the body, the part after it, and what is left of the page
   cut_more : (page line' : List ℕ) (whole : Bool) → (moved : Moved r'.page page line line' whole) → r.page ++ cut.bytes ≡ (cut.body ++ moved.part) ++ page
   cut_more page line' whole moved = cut.cut ∙ ap (λ p. cut.body ++ p) moved.cut ∙ sym (append_assoc cut.body moved.part page)
 
@@ -94,7 +94,7 @@ module _ (old now : InputView) (r r' : LineReader) (line : List ℕ) (cut : IsCu
   page_moved : (page line' : List ℕ) → (moved : Moved r'.page page line line' false) → r.page ++ cut.bytes ≡ cut.body ++ moved.part
   page_moved page line' moved = cut_more page line' false moved ∙ ap (λ p. (cut.body ++ moved.part) ++ p) moved.is.1 ∙ append_nil (cut.body ++ moved.part)
 
-  -- the line's part of a page was moved, and another page was taken
+  -- where a part without LF was moved and another page was taken, the line is read on
   pub cutting_more : (new : InputView) (r'' : LineReader) (page line' : List ℕ) → Moved r'.page page line line' false → Refilled now new r''.page → (r''.ended ≡ true → r''.page ≡ []) → r'.ended ≡ false → IsCutting old new r r'' line'
   cutting_more new r'' page line' moved filled end goes = record {
     bytes = cut.bytes ++ r''.page;
@@ -110,7 +110,7 @@ module _ (old now : InputView) (r r' : LineReader) (line : List ℕ) (cut : IsCu
         omega (arith, cut.less, filled.took.counted, filled.few, long, length-append cut.body moved.part);
   }
 
-  -- the input failed before the line's end came
+  -- where the input failed before the line's end came, some bytes were taken
   pub cutting_failed : (new : InputView) (page line' : List ℕ) → Moved r'.page page line line' false → Took now new [] → r'.ended ≡ false → (fault : TakeFault) → TookSome old new r fault
   cutting_failed new page line' moved took goes fault = record {
     bytes = cut.bytes ++ [];
@@ -125,7 +125,7 @@ module _ (old now : InputView) (r r' : LineReader) (line : List ℕ) (cut : IsCu
       not_yet true e = absurd (not_both goes (cut.still e).1)
       not_yet false e = e
 
-  -- memory ran out
+  -- where memory ran out, some bytes were taken
   pub cutting_short : TookSome old now r OutOfMemory
   cutting_short = record {
     bytes = cut.bytes;
@@ -152,11 +152,11 @@ module _ (old now : InputView) (r r' : LineReader) (line : List ℕ) (cut : IsCu
     is_kept : line' ≡ take 1048578 (body ++ 10 ∷ [])
     is_kept = kept_more page line' true moved ∙ ap (take 1048578) with_end
 
-    -- it is one line
+    -- a part that was moved with its LF makes one line
     pub whole_line : IsLine line'
     whole_line = subst IsLine (sym is_kept) (kept_line body none_in).0
 
-    -- and that was read
+    -- a line whose end was moved was read
     pub reads_line : (r'' : LineReader) (read : Option LineRead) → r''.page ≡ page → r'.ended ≡ false → r''.ended ≡ false → heard line' ≡ next_asks read → (read ≡ None → line' ≡ []) → Reads old now r r'' read
     reads_line r'' read is open_before goes asks none = record {
       bytes = cut.bytes;
@@ -181,7 +181,7 @@ module _ (old now : InputView) (r r' : LineReader) (line : List ℕ) (cut : IsCu
             let same = ap (λ (xs : List ℕ). length xs) (sym is_kept ∙ e) in
             omega (arith, long, same)
 
-  -- the input has ended, and what was moved is one line or nothing
+  -- where the input has ended, what was moved is one line or nothing
   pub last_line : IsLine line
   last_line = by_line line (subst HasNoLf (sym cut.kept) (no_lf_take 1048578 cut.body cut.free))
     where
@@ -189,7 +189,7 @@ module _ (old now : InputView) (r r' : LineReader) (line : List ℕ) (cut : IsCu
       by_line [] h = inl refl
       by_line (b ∷ bs) h = inr (ap (λ ls. length ls) (lines_without (b ∷ bs) h (omega arith)))
 
-  -- and that was read
+  -- where the input has ended, what was moved was read
   pub reads_last : (read : Option LineRead) → r'.ended ≡ true → heard line ≡ next_asks read → (line ≡ [] → read ≡ None) → Reads old now r r' read
   reads_last read ended asks none = record {
     bytes = cut.bytes;

@@ -9,28 +9,28 @@ use Rattle.mix_script.specs.Steps.{line_steps}
 use Rattle.mix_talk.specs.Heard.{no_form, asked, heard, line_asks, lines_ask}
 use Rattle.mix_talk.specs.Reading.{HasNoLf, IsLine}
 
--- the same said by the words of the lines' definition
+-- a text without LF is free of it in the words of the lines' definition
 free : (text : List ℕ) → HasNoLf text → Free is_lf text
 free [] h = tt
 free (b ∷ bs) h = (h.0, free bs h.1)
 
--- one text after another
+-- a text without LF after another without LF has none
 pub no_lf_append : (xs ys : List ℕ) → HasNoLf xs → HasNoLf ys → HasNoLf (xs ++ ys)
 no_lf_append [] ys h k = k
 no_lf_append (b ∷ bs) ys h k = (h.0, no_lf_append bs ys h.1 k)
 
--- a prefix
+-- a prefix of a text without LF has none
 pub no_lf_take : (n : ℕ) (xs : List ℕ) → HasNoLf xs → HasNoLf (take n xs)
 no_lf_take zero xs h = tt
 no_lf_take (suc n) [] h = tt
 no_lf_take (suc n) (b ∷ bs) h = (h.0, no_lf_take n bs h.1)
 
--- the byte after a text
+-- the byte after a text is what stands at the text's length
 byte_after : (body more : List ℕ) (b : ℕ) → get_or (body ++ b ∷ more) (length body) 0 ≡ b
 byte_after [] more b = refl
 byte_after (c ∷ body) more b = let e : length (c ∷ body) ≡ suc (length body) = omega arith in ap (λ n. get_or (c ∷ body ++ b ∷ more) n 0) e ∙ byte_after body more b
 
--- what stands after that
+-- what stands after a text and one byte more is what is left without them
 rest_after : (body more : List ℕ) (b : ℕ) → drop (length body + 1) (body ++ b ∷ more) ≡ more
 rest_after [] more b = let e : 0 + 1 ≡ 1 = omega arith in ap (λ n. drop n (b ∷ more)) e
 rest_after (c ∷ body) more b = let e : length (c ∷ body) + 1 ≡ suc (length body + 1) = omega arith in ap (λ n. drop n (c ∷ body ++ b ∷ more)) e ∙ rest_after body more b
@@ -59,19 +59,19 @@ lines_with_lf body more none =
     after : drop (at + 1) text ≡ more
     after = rest_after body more 10
 
--- what a text asks for with an LF in it
+-- what a text with an LF asks for is what the line before it asks for, and then the rest
 pub heard_line : (body more : List ℕ) → HasNoLf body → heard (body ++ 10 ∷ more) ≡ line_asks (without_cr body) ++ heard more
 heard_line body more none = ap lines_ask (lines_with_lf body more none)
 
--- the lines of a text without one
+-- a text without LF has one line, itself
 pub lines_without : (line : List ℕ) → HasNoLf line → 0 < length line → lines_of line ≡ line ∷ []
 lines_without line none some = sym (last_line line 0 [] (line ∷ []) (lines_of line) some (free line none) refl refl)
 
--- and what it asks for
+-- a text without LF asks for what its one line asks for
 pub heard_last : (line : List ℕ) → HasNoLf line → 0 < length line → heard line ≡ line_asks line
 heard_last line none some = ap lines_ask (lines_without line none some) ∙ append_nil (line_asks line)
 
--- a line that is too long
+-- a line that is too long is of no form
 long_line : (line : List ℕ) → 1048576 < length line → line_asks line ≡ no_form ∷ []
 long_line line long = let e : nat_lt 1048576 (length line) ≡ true = grind arith in ap (λ b. asked (cond b None (line_steps line))) e
 
@@ -81,7 +81,7 @@ cr_length [] = omega arith
 cr_length (b ∷ []) = omega arith
 cr_length (b ∷ c ∷ bs) = let h = cr_length (c ∷ bs) in omega (arith, h)
 
--- what stands after the first LF
+-- what stands after the first LF of a text
 abbrev after_lf : List ℕ → List ℕ
 after_lf [] = []
 after_lf (b ∷ bs) = cond (b == 10) bs (after_lf bs)

@@ -3,7 +3,7 @@ use Rattle.std.proofs.Common.{◌≡◌, ◌≤◌, ◌+◌, ◌-◌, ◌∙◌,
 use Rattle.std.proofs.lemmas.List.{take_all, drop-drop, drop-take}
 use Rattle.mix_base.proofs.Lists.{take_append}
 
--- a prefix of a prefix
+-- a prefix of a prefix is the shorter of the two
 take_twice : (n m : ℕ) (xs : List ℕ) → take n (take m xs) ≡ take (min m n) xs
 take_twice zero m xs = let e : min m 0 ≡ 0 = omega arith in ap (λ k. take k xs) (sym e)
 take_twice (suc n) zero xs = let e : min 0 (suc n) ≡ 0 = omega arith in ap (λ k. take k xs) (sym e)
@@ -12,7 +12,7 @@ take_twice (suc n) (suc m) (x ∷ xs) =
     let e : min (suc m) (suc n) ≡ suc (min m n) = omega arith in
     ap (λ r. x ∷ r) (take_twice n m xs) ∙ ap (λ k. take k (x ∷ xs)) (sym e)
 
--- of a line and a part after it no more are kept than so many
+-- of a line and a part after it no more bytes are kept than a limit
 pub kept_of : (line bytes : List ℕ) (count most : ℕ) → length line ≤ most → line ++ take (min count (most - length line)) bytes ≡ take most (line ++ take count bytes)
 kept_of line bytes count most h =
     let e : length line + (most - length line) ≡ most = omega (arith, h) in

@@ -2,7 +2,7 @@
 use Rattle.std.proofs.Common.{◌∙◌, ℕ, List, [], ◌++◌, Option, Some, None, refl, ap, sym, subst, arith, append_assoc, length-append}
 use Rattle.mix_io.specs.Input.{InputView, Gone, Took}
 
--- nothing was taken
+-- where nothing was taken of an input, no bytes are gone
 gone_none : (left : Option (List ℕ)) → Gone left left []
 gone_none None = refl
 gone_none (Some left) = (left, refl, refl)
@@ -10,7 +10,7 @@ gone_none (Some left) = (left, refl, refl)
 pub took_none : (input : InputView) → Took input input []
 took_none input = record { gone = gone_none input.left; counted = omega arith }
 
--- and then more
+-- bytes that are gone and then more of them are gone together
 gone_more : (old between new : Option (List ℕ)) (bytes more : List ℕ) → Gone old between bytes → Gone between new more → Gone old new (bytes ++ more)
 gone_more None between new bytes more first second = subst (λ (o : Option (List ℕ)). Gone o new more) first second
 gone_more (Some left) between new bytes more first second =

@@ -45,17 +45,17 @@ pub record IsTalking {V W : Type 0} (c : Course W) (m : Meaning V W) (old now : 
   pub written : Appends before after (spoken names done answers)
   pub marks : marked ≡ has_fault answers
 
--- nothing more is marked
+-- where nothing more is marked, the mark is as it was
 pub or_false : (a : Bool) → (a || false) ≡ a
 or_false true = refl
 or_false false = refl
 
--- nothing was written
+-- where nothing was written, no lines were appended
 appends_nothing : (before : Option (List ℕ)) → Appends before before []
 appends_nothing None = refl
 appends_nothing (Some w) = ap Some (sym (append_nil w))
 
--- what was written, with a prefix of a line
+-- lines that were written and then a prefix of a line are a prefix of all
 pub prefix : (o now after : Option (List ℕ)) (lines line : List ℕ) → Appends o now lines → AppendsPrefix now after line → (count : ℕ) × Appends o after (lines ++ take count line)
 prefix None now after lines line h k = (0, subst (λ (m : Option (List ℕ)). AppendsPrefix m after line) h k)
 prefix (Some w) now after lines line h k =
@@ -71,7 +71,7 @@ first_none (x ∷ xs) ys e = cc
 whole_more : (text line : List ℕ) → EndsInLf line → AreWhole (text ++ line)
 whole_more text line end = inr (text ++ end.0, ap (λ l. text ++ l) end.1 ∙ sym (append_assoc text end.0 (10 ∷ [])))
 
--- a talk begins
+-- a talk begins with nothing heard or answered
 pub talking_start : {V W : Type 0} (m : Meaning V W) (v : View) (values : NamesOf V) (names : List (List ℕ)) (input : InputView) (r : LineReader) (before : Option (List ℕ))
     → IsSession m values → values ≡ no_names → r.page ≡ [] → r.ended ≡ false → IsTalking m.course m v v values names input input r before before false []
 talking_start m v values names input r before session none page goes = record {
@@ -94,7 +94,7 @@ talking_start m v values names input r before session none page goes = record {
     no : false ≡ true → ⊥
     no h = cc
 
--- so a talk ends over a document that is told, too
+-- over a document that is told a talk ends as the tree's lines tell
 pub talk_ends : {W : Type 0} (c : Course W) (old new : View) (names : List (List ℕ)) (input input' : InputView) (sink sink' : SinkView) (bytes : List ℕ) → Took input input' bytes → (r : Result Bool TalkFault)
     → EndsBy (IsRun c old.faults new.faults (steps_in (heard_by bytes r))) (IsLazy c old.fills new.fills (steps_in (heard_by bytes r))) names (heard_by bytes r) input input' sink sink' r
     → TalkEnds c old new names input input' sink sink' r
@@ -107,7 +107,7 @@ talk_ends c old new names input input' sink sink' bytes took r ends = record {
       ends_on (IsRun c old.faults new.faults steps) (IsLazy c old.fills new.fills steps) t names (heard_by bytes r) input input' sink sink' c.roots c.MayFail (λ answers are. are.allowed) (λ answers are. are.told t one) r ends;
 }
 
--- memory ran out before a talk began
+-- where memory ran out before a talk began, the talk ends
 pub talk_unbegun : {V W : Type 0} (m : Meaning V W) (v : View) (names : List (List ℕ)) (input : InputView) (sink : SinkView) → TalkEnds m.course v v names input input sink sink (Err OutOfMemory)
 talk_unbegun m v names input sink =
     let so = so_far_start m v no_names [] refl in
@@ -123,7 +123,7 @@ talk_unbegun m v names input sink =
     })
 
 module _ {V W : Type 0} (c : Course W) (m : Meaning V W) (old now : View) (values : NamesOf V) (names : List (List ℕ)) (input mid : InputView) (r : LineReader) (sink between : SinkView) (marked : Bool) where
-  -- a line was read
+  -- where a line was read, the talk has come to it
   pub talking_read : (new : InputView) (r' : LineReader) (read : Option LineRead) → IsTalking c m old now values names input mid r sink.written between.written marked [] → Reads mid new r r' read
       → IsTalking c m old now values names input new r' sink.written between.written marked (next_asks read)
   talking_read new r' read far reads = record {
@@ -150,26 +150,26 @@ module _ {V W : Type 0} (c : Course W) (m : Meaning V W) (old now : View) (value
     marks = far.marks;
   }
 
-  -- no more was answered then
+  -- reading a line answers no more than was answered
   pub read_done : (new : InputView) (r' : LineReader) (read : Option LineRead) (far : IsTalking c m old now values names input mid r sink.written between.written marked []) (reads : Reads mid new r r' read)
       → (talking_read new r' read far reads).done ≡ far.done
   unfolding talking_read
   read_done new r' read far reads = refl
 
-  -- all that the bytes ask for which were taken: what was answered, what comes next, and what the reader has
+  -- the bytes that were taken ask for what was answered, what comes next, and what the reader has
   pub all_asks : (coming : List Heard) (far : IsTalking c m old now values names input mid r sink.written between.written marked coming) → heard far.bytes ≡ far.done ++ (coming ++ heard r.page)
   all_asks coming far = ap heard far.cut ∙ far.ask r.page (λ ended. (far.reader ended).0)
 
-  -- what the lines ask for that were read
+  -- the lines that were read ask for what was answered
   pub passed_asks : (far : IsTalking c m old now values names input mid r sink.written between.written marked []) → heard far.passed ≡ far.done
   passed_asks far = ap heard (sym (append_nil far.passed)) ∙ far.ask [] (λ ended. refl) ∙ append_nil far.done
 
-  -- the steps among it
+  -- the steps that the bytes ask for are those answered, those that come next, and the reader's
   pub all_steps : (coming : List Heard) (far : IsTalking c m old now values names input mid r sink.written between.written marked coming)
       → steps_in (heard far.bytes) ≡ steps_in far.done ++ steps_in (coming ++ heard r.page)
   all_steps coming far = ap steps_in (all_asks coming far) ∙ steps_append far.done (coming ++ heard r.page)
 
-  -- a talk stops where nothing is begun
+  -- a talk stops between two lines where nothing is begun
   pub stops : (coming : List Heard) (far : IsTalking c m old now values names input mid r sink.written between.written marked coming) (bytes : List ℕ) (later : List Heard) → heard bytes ≡ far.done ++ later
       → StopsBetween (IsRun c old.faults now.faults (steps_in (heard bytes))) (IsLazy c old.fills now.fills (steps_in (heard bytes))) names (heard bytes) sink between
   stops coming far bytes later parts =

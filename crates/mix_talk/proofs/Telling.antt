@@ -20,13 +20,13 @@ use Rattle.mix_talk.specs.Told.{AreLinesOn, EndsOn}
 use Rattle.mix_talk.specs.declared.fault.TalkFault.{TalkFault}
 use Rattle.mix_talk.specs.declared.fault.TalkFault.TheVariants.{InputFailed, SinkFailed, OutOfMemory}
 
--- the steps among what was heard first, and then
+-- the steps among what was heard first and then are those of each, one after the other
 pub steps_append : (done later : List Heard) → steps_in (done ++ later) ≡ steps_in done ++ steps_in later
 steps_append [] later = refl
 steps_append (step s ∷ done) later = ap (λ steps. s ∷ steps) (steps_append done later)
 steps_append (no_form ∷ done) later = steps_append done later
 
--- the lines of what was heard first, all of it answered, and then
+-- the lines of what was heard first, all of it answered, and then are those of each, one after the other
 pub spoken_append : (names : List (List ℕ)) (done later : List Heard) (answers more : List Answer) → length answers ≡ length (steps_in done)
     → spoken names (done ++ later) (answers ++ more) ≡ spoken names done answers ++ spoken names later more
 spoken_append names [] later [] more all = refl
@@ -66,7 +66,7 @@ spoken_more sources (step s ∷ asked) (a ∷ answers) more =
     let rest = spoken_more sources asked answers more in
     (rest.0, ap (λ r. line_of sources s.client a ++ r) rest.1 ∙ sym (append_assoc (line_of sources s.client a) (spoken sources asked answers) rest.0))
 
--- a prefix of lines is a prefix of those that begin with them
+-- a prefix of lines is a prefix of the lines that begin with them
 prefix_of_more : (before after : Option (List ℕ)) (lines rest whole : List ℕ) (n : ℕ) → lines ++ rest ≡ whole → Appends before after (take n lines) → AppendsPrefix before after whole
 prefix_of_more None after lines rest whole n e h = h
 prefix_of_more (Some b) after lines rest whole n e h =
@@ -79,11 +79,11 @@ whole_prefix lines = sym (append_nil lines) ∙ sym (take_append lines [] 0) ∙
 
 module _ (Are Cost : List Answer → Type 0) (t : LabelledTree) (names : List (List ℕ)) (heard : List Heard) (input input' : InputView) (before after : SinkView) (roots : Bool) (MayFail : ℕ → Type 0)
     (allowed : (answers : List Answer) → Are answers → AreAnswers roots MayFail no_names answers (steps_in heard)) (of : (answers : List Answer) → Are answers → AreOf t no_names answers (steps_in heard)) where
-  -- lines of answers that are the tree's
+  -- lines of answers that are the tree's are lines on the tree
   on_tree : (answers : List Answer) → Are answers → AreLinesOn roots t names heard (talk_transcript t names (marks_of answers) heard)
   on_tree answers h = record { marks = marks_of answers; allowed = answers_show_marks roots MayFail t answers (steps_in heard) (allowed answers h) (of answers h); are = refl }
 
-  -- what is left of all lines after those of the first that was heard
+  -- after the lines of what was heard first come the rest of all lines of the tree
   rest_of : (answers : List Answer) → Are answers → (done later : List Heard) → heard ≡ done ++ later → length answers ≡ length (steps_in done)
       → (rest : List ℕ) × (spoken names done answers ++ rest ≡ talk_transcript t names (marks_of answers) heard)
   rest_of answers are done later parts all =
@@ -96,7 +96,7 @@ module _ (Are Cost : List Answer → Type 0) (t : LabelledTree) (names : List (L
   abbrev PrefixOn : Type 0
   PrefixOn = (lines : List ℕ) × AreLinesOn roots t names heard lines × AppendsPrefix before.written after.written lines
 
-  -- the lines of the first that was heard were written
+  -- where the lines of what was heard first were written, a prefix of the tree's lines was
   between : StopsBetween Are Cost names heard before after → PrefixOn
   between w =
       let lines = spoken names w.done w.answers in
@@ -106,7 +106,7 @@ module _ (Are Cost : List Answer → Type 0) (t : LabelledTree) (names : List (L
         prefix_of_more before.written after.written lines rest.0 _ (length lines + 0) rest.1 (subst (Appends before.written after.written) (whole_prefix lines) w.written),
       )
 
-  -- and a prefix of the next
+  -- where a prefix of the next line was written too, a prefix of the tree's lines was
   within : StopsWithin Are Cost names heard before after → PrefixOn
   within w =
       let answers = w.answers ++ w.last in
@@ -124,7 +124,7 @@ module _ (Are Cost : List Answer → Type 0) (t : LabelledTree) (names : List (L
       two : (done : List Heard) (next : Heard) (answers last : List Answer) → length answers ≡ length (steps_in done) → length last ≡ length (steps_in (next ∷ [])) → length (answers ++ last) ≡ length (steps_in (done ++ next ∷ []))
       two done next answers last h k = length-append answers last ∙ ap (λ n. n + length last) h ∙ ap (λ n. length (steps_in done) + n) k ∙ sym (ap (λ (xs : List Step). length xs) (steps_append done (next ∷ [])) ∙ length-append (steps_in done) (steps_in (next ∷ [])))
 
-  -- the lines of all that was heard were written
+  -- where the lines of all that was heard were written, the tree's lines were
   whole : (marked : Bool) → IsWhole Are Cost names heard before after marked → (lines : List ℕ) × AreLinesOn roots t names heard lines × Appends before.written after.written lines
   whole marked w =
       let begin = spoken_on t names no_names heard w.answers (of w.answers w.are) in
@@ -132,7 +132,7 @@ module _ (Are Cost : List Answer → Type 0) (t : LabelledTree) (names : List (L
       sym (append_nil (spoken names heard w.answers)) ∙ ap (λ r. spoken names heard w.answers ++ r) (sym (begin.2 w.all)) ∙ begin.1 in
       (talk_transcript t names (marks_of w.answers) heard, on_tree w.answers w.are, subst (Appends before.written after.written) lines w.written)
 
-  -- a talk over a document that is told
+  -- a talk over a document that is told ends on the tree's lines
   pub ends_on : (r : Result Bool TalkFault) → EndsBy Are Cost names heard input input' before after r → EndsOn roots t names heard before.written after.written r
   ends_on (Ok marked) e = whole marked e.1
   ends_on (Err InputFailed) e = whole e.1 e.2

@@ -25,7 +25,7 @@ use Rattle.mix_talk.proofs.Telling.{steps_append, spoken_append}
 use Rattle.mix_talk.proofs.Talking.{IsTalking, all_asks, all_steps, stops, prefix, talk_ends}
 
 module _ {V W : Type 0} (c : Course W) (m : Meaning V W) (old now : View) (values : NamesOf V) (names : List (List ℕ)) (input mid : InputView) (r : LineReader) (sink between : SinkView) (marked : Bool) where
-  -- a line of no form was answered
+  -- where the line that says that a line has no form was written, the talk has come further
   pub talking_no_form : (after : Option (List ℕ)) → IsTalking c m old now values names input mid r sink.written between.written marked (no_form ∷ []) → Appends between.written after no_form_line
       → IsTalking c m old now values names input mid r sink.written after marked []
   talking_no_form after far wrote =
@@ -49,7 +49,7 @@ module _ {V W : Type 0} (c : Course W) (m : Meaning V W) (old now : View) (value
         marks = far.marks;
       }
 
-  -- its line was cut short
+  -- where the line that says that a line has no form was cut short, the talk ends
   pub talking_no_form_cut : (sink' : SinkView) → IsTalking c m old now values names input mid r sink.written between.written marked (no_form ∷ []) → sink.faults ≤ between.faults
       → (fault : LinesFault) → IsNoFormCut between sink' fault → TalkEnds c old now names input mid sink sink' (Err (of_lines fault))
   talking_no_form_cut sink' far rises fault cut = by_fault fault cut

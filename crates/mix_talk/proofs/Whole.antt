@@ -3,7 +3,7 @@ use Rattle.std.proofs.Common.{◌≡◌, ◌⊎◌, ◌∙◌, inl, inr, ℕ, Bo
 use Rattle.mix_talk.specs.Heard.{has_lf, whole_lines}
 use Rattle.mix_talk.specs.Reading.{EndsInLf, HasNoLf}
 
--- no bytes, or lines of which each has its end
+-- a text is empty, or made of lines of which each has its end
 abbrev pub AreWhole : List ℕ → Type 0
 AreWhole text = (text ≡ []) ⊎ EndsInLf text
 
@@ -26,13 +26,13 @@ part_has_none : (part : List ℕ) → HasNoLf part → whole_lines part ≡ []
 part_has_none [] none = refl
 part_has_none (b ∷ bs) none = ap (λ lf. cond lf (b ∷ whole_lines bs) []) (none_found (b ∷ bs) none)
 
--- lines with a part of one after them
+-- the whole lines of one line with its end and a part of a line after it are that line
 after_body : (body part : List ℕ) → HasNoLf part → whole_lines (body ++ 10 ∷ part) ≡ body ++ 10 ∷ []
 after_body [] part none = ap (λ ls. 10 ∷ ls) (part_has_none part none)
 after_body (b ∷ body) part none =
     ap (λ lf. cond lf (b ∷ whole_lines (body ++ 10 ∷ part)) []) (one_found (b ∷ body) part) ∙ ap (λ ls. b ∷ ls) (after_body body part none)
 
--- the whole lines of whole lines with a part of one after them
+-- the whole lines of whole lines with a part of one after them are the whole lines
 pub whole_of : (text part : List ℕ) → AreWhole text → HasNoLf part → whole_lines (text ++ part) ≡ text
 whole_of text part (inl empty) none = ap (λ t. whole_lines (t ++ part)) empty ∙ part_has_none part none ∙ sym empty
 whole_of text part (inr end) none =

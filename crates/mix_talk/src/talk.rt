@@ -80,7 +80,7 @@ fn talk<W: Walker + Drop, S: Sources, I: Input, K: Sink>(
     'lines: while let Some(read) = reader.next(alloc, &mut streams.input)? {
         let asked = Asked { read, names };
         let answered = answer_read(alloc, s, &mut session, &asked, &mut streams.out);
-        // It is given to `drop`, so that how its parts are dropped is proved once.
+        // What was asked is given to `drop`, so that how its parts are dropped is proved once.
         drop(asked);
         let fault = answered?;
         marked |= fault;

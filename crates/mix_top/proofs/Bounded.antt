@@ -30,13 +30,13 @@ use Rattle.mix_top.specs.Outside.{Outside}
 use Rattle.mix_top.proofs.NamedTables.{told_at}
 
 module _ (files : FilesAreLaid) (tables : TablesAreLaid) (before : Outside) (v : RuleValue) (sources : List SourceSpec) (declared : AreDeclared before.tables v sources) where
-  -- the rows of a table that is told
+  -- the rows of a table that is told are laid out as its columns say
   rows_laid : (name : List ℕ) (d : Declared) (f : Forest) (rows : Option (List Row)) → is_some rows ≡ true → IfSome rows (AreRows d.columns)
       → IfSome rows (λ r. f ≡ alone (table_tree name d.columns r)) → IsLaid (rows_layout name (map declared_column d.columns)) f
   rows_laid name d f None told are is = absurd (let z : false ≡ true = told in cc)
   rows_laid name d f (Some r) told are is = subst (λ (x : Forest). IsLaid (rows_layout name (map declared_column d.columns)) x) (sym is) (tables name d.columns r are)
 
-  -- the document of a source that the rule names
+  -- the document of a source that the rule names is laid out as its kind says
   kind_laid : (s : ℕ) (spec : SourceSpec) (f : Forest) → slice_get sources s ≡ Some spec → IsTrue (names_source v s) → is_table_told before.tables (declared_in spec.kind) ≡ true → IsDocumentOf before spec f
       → (k : SourceKind) → spec.kind ≡ k → IsLaid (kind_layout spec.name k) f
   kind_laid s spec f at named told is (Bracket file deep) e = tt
@@ -51,7 +51,7 @@ module _ (files : FilesAreLaid) (tables : TablesAreLaid) (before : Outside) (v :
       rows_laid spec.name d f (before.tables.told d) (subst (λ (o : Option Declared). is_table_told before.tables o ≡ true) declares told)
       (declared s d (record { spec = spec; there = at; named = named; declares = declares })) (is.rows d declares)
 
-  -- what stands after a number
+  -- the document of the source at a number is laid out as the catalog says
   there_laid : (s : ℕ) (f : Forest) → (all_told before.tables v sources ≡ true) → ((spec : SourceSpec) → slice_get sources s ≡ Some spec → HasDocument before v s spec f)
       → IsLaid (layout_in v sources s) f
   there_laid s f all has =

@@ -10,7 +10,7 @@ use Rattle.mix_script.specs.declared.step.Step.{Step}
 use Rattle.mix_script.specs.declared.answer.Answer.{Answer}
 use Rattle.mix_script.specs.declared.answer.Answer.TheVariants as answer
 
--- one where something is so, else nothing
+-- one where a condition holds, else zero
 abbrev one_if : Bool → ℕ
 one_if b = cond b 1 0
 
@@ -19,7 +19,7 @@ abbrev or_no_node : Option (Unit {0}) → Answer → Answer
 or_no_node None a = answer.NoNode
 or_no_node (Some node) a = a
 
--- an answer without a fault to an act
+-- the answer to an act that is no fault: a node for the root, and else none or no node
 abbrev any_answer : Nodes → List ℕ → Act → Answer
 any_answer nodes client (Root name) = answer.Node
 any_answer nodes client (Move way name from) = or_no_node (nodes client from) answer.None
@@ -27,12 +27,12 @@ any_answer nodes client (Select name from label) = or_no_node (nodes client from
 any_answer nodes client (Fetch from) = or_no_node (nodes client from) (answer.Label [])
 any_answer nodes client (Print from) = or_no_node (nodes client from) (answer.Text (canon (record { label = []; kids = none })))
 
--- it is one that may be given where the name holds a node
+-- an answer with a property has it where the name holds a node, and where it holds none the answer is no node
 held_any : (P : Answer → Type 0) (a : Answer) → P a → (o : Option (Unit {0})) → WhereHeld o P (or_no_node o a)
 held_any P a p None = refl
 held_any P a p (Some node) = p
 
--- it is no fault
+-- the answer for a name that may hold a node is no fault, where the answer itself is none
 held_unmarked : (a : Answer) → mark_of a ≡ None → (o : Option (Unit {0})) → mark_of (or_no_node o a) ≡ None
 held_unmarked a e None = refl
 held_unmarked a e (Some node) = e
@@ -45,7 +45,7 @@ any_unmarked nodes client (Fetch from) = held_unmarked (answer.Label []) refl (n
 any_unmarked nodes client (Print from) = held_unmarked (answer.Text (canon (record { label = []; kids = none }))) refl (nodes client from)
 
 module _ (May : ℕ → Type 0) (names : List (List ℕ)) where
-  -- the act may be answered so
+  -- an act may be answered by the answer without a fault
   any_may : (nodes : Nodes) (client : List ℕ) (act : Act) → MayAnswer false May nodes client act (any_answer nodes client act)
   any_may nodes client (Root name) = refl
   any_may nodes client (Move way name from) = held_any (MayFind May) answer.None tt (nodes client from)
@@ -64,7 +64,7 @@ module _ (May : ℕ → Type 0) (names : List (List ℕ)) where
     pub rest : List ℕ
     pub lines : answer_lines names answers steps ++ rest ≡ answer_lines names (answers ++ more) steps
 
-  -- there always are such
+  -- answers that may be given are always completed by more without a fault
   pub complete : (nodes : Nodes) (answers : List Answer) (steps : List Step) → AreAnswers false May nodes answers steps → (more : List Answer) × IsCompleted nodes answers steps more
   complete nodes [] [] h = ([], record { allowed = tt; all = refl; fault = refl; faults = λ s. refl; rest = []; lines = refl })
   complete nodes [] (step ∷ steps) h =
@@ -103,7 +103,7 @@ module _ (May : ℕ → Type 0) (names : List (List ℕ)) where
 no_sum : (n m : ℕ) → n ≡ 1 → n + m ≡ 0 → ⊥
 no_sum n m e z = omega (arith, e, z)
 
--- a fault of a source is counted
+-- a fault of a source among answers is counted
 marked_counts : (s : ℕ) (a : Answer) (answers : List Answer) → mark_of a ≡ Some s → faults_of s (a ∷ answers) ≡ 0 → ⊥
 marked_counts s a answers e z =
     let one : one_if (is_mark_of s (mark_of a)) ≡ 1 = ap (λ m. one_if (is_mark_of s m)) e ∙ ap one_if (eq-eqb s s refl) in
@@ -143,7 +143,7 @@ module _ (May Real : ℕ → Type 0) where
   answer_may nodes client (Fetch from) a w h = h
   answer_may nodes client (Print from) a w h = held_may (MayPrint May) (MayPrint Real) a (print_may a w) (nodes client from) h
 
-  -- so it is with answers, where each source that has a fault among them has that property
+  -- answers may be given by a property of sources that each source with a fault among them has
   pub answers_may : (nodes : Nodes) (answers : List Answer) (steps : List Step) → ((s : ℕ) → May s → (faults_of s answers ≡ 0 → ⊥) → Real s) → AreAnswers false May nodes answers steps
       → AreAnswers false Real nodes answers steps
   answers_may nodes [] steps w h = tt

@@ -21,7 +21,7 @@ use Rattle.mix_top.specs.Stops.{IsCut, IsDoneAs, IsStop, outcome_status, stop_fo
 use Rattle.mix_top.proofs.Further.{TookOn, answered_on}
 use Rattle.mix_top.proofs.Lines.{cut_last, cut_on, first_prefix, nothing_more}
 
--- these are the counts of a run
+-- the counts of a run: its commands, its fills, its pages and the class of its view
 pub record AreCounts (tables tables' : TablesView) (asked : Asked) (counts : Counts) : Type 0 where
   pub commands : counts.commands ≡ length asked.steps.items
   pub pages : counts.spent.pages ≡ tables'.pages - tables.pages
@@ -38,7 +38,7 @@ module _ (tables tables' : TablesView) (docs : List Mount) (asked : Asked) (coun
   more = lines_of_counts counts
 
   module _ (before mid after : SinkView) (on : TookOn mid after) where
-    -- the answers of a run, and its counts after them
+    -- the lines of a run's answers with those of its counts after them are a run with counts
     with_counts : (status : ℕ) (answers : List ℕ) → Answers before mid status answers → Counted before after status (answers ++ more)
     with_counts status answers h = (h.0, h.1, (counts.spent.fills, answers, answered_on before mid after on tables tables' (question tables docs asked h.0) counts.spent.fills status answers h.2, ap (λ x. answers ++ x) same))
       where
@@ -48,25 +48,25 @@ module _ (tables tables' : TablesView) (docs : List Mount) (asked : Asked) (coun
             ∙ ap (λ n. lines_of_counts (record { commands = length asked.steps.items; spent = record { fills = counts.spent.fills; pages = n }; class = counts.class })) are.pages
             ∙ ap (λ k. lines_of_counts (record { commands = length asked.steps.items; spent = record { fills = counts.spent.fills; pages = tables'.pages - tables.pages }; class = k })) are.class
 
-    -- lines that were cut short stop a command that has them
+    -- answers with counts whose lines were cut short stop the command
     cut_counted : (status : ℕ) (all : List ℕ) (stop : Stop) → Counted before after status all → IsCut before after all stop → IsStop (Counted before after) before after stop
     cut_counted status all (Refused r) course h = absurd h
     cut_counted status all SinkFailed course h = (h.0, (status, all, course, h.1))
     cut_counted status all OutOfMemory course h = inr (status, all, course, h)
 
   module _ (before mid after : SinkView) where
-    -- a prefix of the answers is one of all lines
+    -- a prefix of the lines of the answers is a prefix of the lines of answers and counts
     prefix_counted : TookPrefix (Answers before mid) before mid → TookPrefix (Counted before mid) before mid
     prefix_counted h = (h.0, h.1 ++ more, with_counts before mid mid (nothing_more mid.written) h.0 h.1 h.2, first_prefix before.written mid.written h.1 more h.3)
 
-    -- a run that was cut short in its answers
+    -- a run with counts that was cut short in its answers was stopped
     cut_short : (fault : LinesFault) → IsStop (Answers before mid) before mid (stop_for fault) → IsStop (Counted before mid) before mid (stop_for fault)
     cut_short lines.SinkFailed h = (h.0, prefix_counted h.1)
     cut_short lines.OutOfMemory (inl h) = inl h
     cut_short lines.OutOfMemory (inr h) = inr (prefix_counted h)
 
     module _ (count : before.faults ≤ mid.faults) where
-      -- answers and counts were written
+      -- a run with counts was done where its answers and its counts were written
       pub counted_done : (end : Result Outcome LinesFault) (r : Result Outcome Stop) → IsLinesEnd Answers before mid end → IfOk r (IsCounted end mid after more)
           → IfOk r (IsDoneAs (Counted before after) before after)
       counted_done end (Ok outcome) h w =
@@ -74,7 +74,7 @@ module _ (tables tables' : TablesView) (docs : List Mount) (asked : Asked) (coun
           (done.0 ++ more, with_counts before mid after (more, w.1) (outcome_status outcome) done.0 done.1, one_more before.written mid.written after.written done.0 more done.2 w.1)
       counted_done end (Err stop) h w = tt
 
-      -- or they were cut short
+      -- a run with counts was stopped where its answers or its counts were cut short
       pub counted_stopped : (end : Result Outcome LinesFault) (r : Result Outcome Stop) → IsLinesEnd Answers before mid end → IfErr r (IsCountStop end mid after more)
           → IfErr r (IsStop (Counted before after) before after)
       counted_stopped end (Ok outcome) h w = tt

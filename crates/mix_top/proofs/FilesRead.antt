@@ -17,7 +17,7 @@ use Rattle.mix_top.proofs.MountLaws.{AreMountedTo, document_before}
 pub reads_twice : (May : List ℕ → Type 0) (old mid new : FilesView) → ReadsAmong May old mid → ReadsAmong May mid new → ReadsAmong May old new
 reads_twice May old mid new a b = λ path no. b path no ∙ a path no
 
--- a file that may be read was read alone
+-- where one file alone was read, and it may be read, only files that may be read were
 pub reads_one : (May : List ℕ → Type 0) (path : List ℕ) (old new : FilesView) → May path → ReadsOnly path old new → ReadsAmong May old new
 reads_one May path old new may only = λ other no. only other (λ e. no (subst May (sym e) may))
 
@@ -25,14 +25,14 @@ reads_one May path old new may only = λ other no. only other (λ e. no (subst M
 reads_wider : (A B : List ℕ → Type 0) (old new : FilesView) → ((path : List ℕ) → A path → B path) → ReadsAmong A old new → ReadsAmong B old new
 reads_wider A B old new wider reads = λ path no. reads path (λ a. no (wider path a))
 
--- the document of a walk was read, and then its script
+-- where the document of a walk was read and then its script, only what a walk may read was read
 pub walk_reads : (old mid new : FilesView) (file script : List ℕ) (t : LabelledTree) → IsDocument SpellsTree old file t → ReadsOnly file old mid → ReadsOnly script mid new
     → ReadsAmong (WalkMayRead old file script) old new
 walk_reads old mid new file script t document first second =
     let May = WalkMayRead old file script in
     reads_twice May old mid new (reads_one May file old mid (inl refl) first) (reads_one May script mid new (inr (refl, t, document)) second)
 
--- a catalog was read, and then a view
+-- where a catalog was read and then a view, only what a view's reading may read was read
 pub view_reads : (old mid new : FilesView) (view catalog : List ℕ) (sources : List SourceSpec) → IsCatalogFile old catalog sources → ReadsOnly catalog old mid → ReadsOnly view mid new
     → ReadsAmong (ViewMayRead old view catalog) old new
 view_reads old mid new view catalog sources accepted first second =
@@ -43,7 +43,7 @@ view_reads old mid new view catalog sources accepted first second =
 pub mounted_accepted : (files : FilesView) (v : RuleValue) (sources : List SourceSpec) (n : ℕ) (docs : List Mount) → AreMountedTo files v sources n docs → AreAccepted files v sources n
 mounted_accepted files v sources n docs h = λ k before less at is file. let f = ((h.each k before less at).named is).file file in (f.tree, f.document_is)
 
--- the file of one source more was read, where the rule names it
+-- where the sources before it were read as allowed and then the next source's file, sources were read as allowed
 pub source_reads : (old mid new : FilesView) (v : RuleValue) (sources : List SourceSpec) (n : ℕ) (docs : List Mount) (spec : SourceSpec) → AreMountedTo old v sources n docs
     → slice_get sources n ≡ Some spec → ReadsAmong (SourceMayRead old v sources) old mid → ReadsAmong (IsFileFor v n spec) mid new → ReadsAmong (SourceMayRead old v sources) old new
 source_reads old mid new v sources n docs spec h there before now =
@@ -51,52 +51,52 @@ source_reads old mid new v sources n docs spec h there before now =
     reads_twice May old mid new before
     (reads_wider (IsFileFor v n spec) May mid new (λ path is. (n, spec, there, is, mounted_accepted old v sources n docs h)) now)
 
--- what is accepted later was accepted before
+-- the files of sources that are accepted later were accepted before
 accepted_before : (old mid : FilesView) (v : RuleValue) (sources : List SourceSpec) (n : ℕ) → KeepsFiles old mid → AreAccepted mid v sources n → AreAccepted old v sources n
 accepted_before old mid v sources n keeps h = λ k before less at is file.
     let f = h k before less at is file in
     (f.0, document_before (StandsFor before.name before.kind) old mid (file_of before.kind) f.0 keeps f.1)
 
 module _ (Then : List SourceSpec → RuleValue → List ℕ → Type 0) (old : FilesView) (view catalog : List ℕ) where
-  -- the catalog was read
+  -- after the reading of the catalog, only what the command may read was read
   pub reads_catalog : (new : FilesView) → ReadsOnly catalog old new → ReadsAmong (MayReadAfter Then old view catalog) old new
   reads_catalog new only = reads_one (MayReadAfter Then old view catalog) catalog old new (inl refl) only
 
   module _ (sources : List SourceSpec) (cat : IsCatalogFile old catalog sources) where
-    -- then the view
+    -- after the reading of the catalog and then the view, only what the command may read was read
     pub reads_view : (mid new : FilesView) → ReadsAmong (MayReadAfter Then old view catalog) old mid → ReadsOnly view mid new → ReadsAmong (MayReadAfter Then old view catalog) old new
     reads_view mid new before only =
         let May = MayReadAfter Then old view catalog in
         reads_twice May old mid new before (reads_one May view mid new (inr (sources, cat, inl refl)) only)
 
-    -- then what comes after them
+    -- where after the view only what comes next may be read, only what the command may read was read
     pub reads_then : (v : RuleValue) → IsRuleFile old view (names_of_sources sources) v → (mid new : FilesView) → ReadsAmong (MayReadAfter Then old view catalog) old mid → (May : List ℕ → Type 0)
         → ((path : List ℕ) → May path → Then sources v path) → ReadsAmong May mid new → ReadsAmong (MayReadAfter Then old view catalog) old new
     reads_then v rule mid new before May is reads =
         reads_twice (MayReadAfter Then old view catalog) old mid new before
         (reads_wider May (MayReadAfter Then old view catalog) mid new (λ path h. inr (sources, cat, inr (v, rule, is path h))) reads)
 
--- the files of sources may be read that may be read at a later moment
+-- where the files of sources may be read at a later moment, they may be read at an earlier one
 pub source_may_before : (old mid : FilesView) (v : RuleValue) (sources : List SourceSpec) → KeepsFiles old mid → (path : List ℕ) → SourceMayRead mid v sources path → SourceMayRead old v sources path
 source_may_before old mid v sources keeps path h = (h.0, h.1, h.2, h.3, accepted_before old mid v sources h.0 keeps h.4)
 
 module _ (old : FilesView) (view catalog script : List ℕ) where
-  -- the catalog of a run was read
+  -- after the reading of its catalog a run has read only what it may
   pub run_reads_catalog : (new : FilesView) → ReadsOnly catalog old new → ReadsAmong (RunMayRead old view catalog script) old new
   run_reads_catalog = reads_catalog (ScriptMayRead old script) old view catalog
 
   module _ (sources : List SourceSpec) (cat : IsCatalogFile old catalog sources) where
-    -- then its view
+    -- after the reading of its view a run has read only what it may
     pub run_reads_view : (mid new : FilesView) → ReadsAmong (RunMayRead old view catalog script) old mid → ReadsOnly view mid new → ReadsAmong (RunMayRead old view catalog script) old new
     run_reads_view = reads_view (ScriptMayRead old script) old view catalog sources cat
 
     module _ (v : RuleValue) (rule : IsRuleFile old view (names_of_sources sources) v) where
-      -- then its script
+      -- after the reading of its script a run has read only what it may
       pub run_reads_script : (mid new : FilesView) → ReadsAmong (RunMayRead old view catalog script) old mid → ReadsOnly script mid new → ReadsAmong (RunMayRead old view catalog script) old new
       run_reads_script mid new before only =
           reads_then (ScriptMayRead old script) old view catalog sources cat v rule mid new before (λ path. path ≡ script) (λ path h. inl h) (λ path no. only path no)
 
-      -- then the files of its sources
+      -- after the reading of its sources' files a run has read only what it may
       pub run_reads_sources : (mid new : FilesView) (steps : List Step) → IsScript old script steps → KeepsFiles old mid → ReadsAmong (RunMayRead old view catalog script) old mid
           → ReadsAmong (SourceMayRead mid v sources) mid new → ReadsAmong (RunMayRead old view catalog script) old new
       run_reads_sources mid new steps scr keeps before reads =

@@ -23,18 +23,18 @@ pub rule_course : (P : (ℕ → List ℕ → Type 0) → Type 0) (before after :
 rule_course P before after s0 s1 Canonical view catalog h = h
 rule_course P before after s0 s1 Plan view catalog h = h
 
--- so it is with the course of a run
+-- what is so of the course of a run is so of its command's, in each form
 pub run_course : (P : (ℕ → List ℕ → Type 0) → Type 0) (before after : Outside) (s0 s1 : SinkView) (form : RunForm) (view catalog script : List ℕ)
     → P (Runs (run_lines form) before after view catalog script s0 s1) → P (IsCourse before after (run_command form view catalog script) s0 s1)
 run_course P before after s0 s1 Answers view catalog script h = h
 run_course P before after s0 s1 Counts view catalog script h = h
 
--- and with what a view's reading may read
+-- what is so of what a view's reading may read is so of its command's, in each form
 pub rule_may_read : (P : (List ℕ → Type 0) → Type 0) (files : FilesView) (form : RuleForm) (view catalog : List ℕ) → P (ViewMayRead files view catalog) → P (MayRead files (rule_command form view catalog))
 rule_may_read P files Canonical view catalog h = h
 rule_may_read P files Plan view catalog h = h
 
--- and what a run may read
+-- what is so of what a run may read is so of its command's, in each form
 pub run_may_read : (P : (List ℕ → Type 0) → Type 0) (files : FilesView) (form : RunForm) (view catalog script : List ℕ) → P (RunMayRead files view catalog script)
     → P (MayRead files (run_command form view catalog script))
 run_may_read P files Answers view catalog script h = h
@@ -52,7 +52,7 @@ module _ (before after : Outside) (s0 s1 : SinkView) (command words : Command) (
       subst (λ (c : Command). IfOk end (IsDoneAs (IsCourse before after c s0 s1) s0 s1)) is
       (subst (λ (x : Result Outcome Stop). IfOk x (IsDoneAs (IsCourse before after command s0 s1) s0 s1)) (sym e) (unmarked_done (IsCourse before after command s0 s1) s0 s1 r h))
 
-  -- or it was stopped
+  -- a command without fault lines, which the words are, was stopped
   pub words_stopped : IfErr r (IsStop (IsCourse before after command s0 s1) s0 s1) → IfErr end (IsStop (IsCourse before after words s0 s1) s0 s1)
   words_stopped h =
       subst (λ (c : Command). IfErr end (IsStop (IsCourse before after c s0 s1) s0 s1)) is

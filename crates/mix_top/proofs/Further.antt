@@ -19,12 +19,12 @@ use Rattle.mix_top.specs.declared.refusal.Refusal.{Refusal}
 use Rattle.mix_top.specs.declared.refusal.Stop.TheVariants.{Refused}
 use Rattle.mix_top.proofs.Lines.{prefix_on, nothing_more}
 
--- a sink took these lines more
+-- a sink took some lines more
 abbrev pub TookOn : SinkView → SinkView → Type 0
 TookOn before after = (more : List ℕ) × Appends before.written after.written more
 
 module _ (before mid after : SinkView) (on : TookOn mid after) where
-  -- steps that asked no more than their tolls asked no more still
+  -- steps that asked no more than their tolls asked no more after the sink took more lines
   frugal_on : (q : Question) (fills : ℕ) (answers : List Answer) → IsFrugal (in_order q) before.written mid.written q fills answers → IsFrugal (in_order q) before.written after.written q fills answers
   frugal_on q fills answers h = record {
     whole = h.whole;
@@ -36,7 +36,7 @@ module _ (before mid after : SinkView) (on : TookOn mid after) where
     cost = h.cost;
   }
 
-  -- the answers are those of a run still
+  -- the answers of a run are those of that run after the sink took more lines
   pub answered_on : (tables tables' : TablesView) (q : Question) (fills status : ℕ) (lines : List ℕ) → IsAnswered tables tables' q fills before mid status lines
       → IsAnswered tables tables' q fills before after status lines
   answered_on tables tables' q fills status lines h = record {
@@ -50,7 +50,7 @@ module _ (before mid after : SinkView) (on : TookOn mid after) where
     untold = h.untold;
   }
 
-  -- the lines are those of the command's course still
+  -- the lines of a command's course are those of it after the sink took more lines
   course_on : (o o' : Outside) (command : Command) (status : ℕ) (lines : List ℕ) → IsCourse o o' command before mid status lines → IsCourse o o' command before after status lines
   course_on o o' help status lines h = h
   course_on o o' version status lines h = h
@@ -64,7 +64,7 @@ module _ (before mid after : SinkView) (on : TookOn mid after) where
   course_on o o' (load people) status lines h = h
   course_on o o' unknown status lines h = h
 
--- a run that ends took lines, or none
+-- a command that ended took lines, or none
 ends_on : (Course : ℕ → List ℕ → Type 0) (before after : SinkView) (status : ℕ) → Ends Course before after status → TookOn before after
 ends_on Course before after status (inl w) = (w.lines, w.written)
 ends_on Course before after status (inr (inl w)) = prefix_on w.prefix.1 before.written after.written w.prefix.3
@@ -86,7 +86,7 @@ refused_ends o o' command before mid after r status steady stop ends = ended end
     on : TookOn mid after
     on = ends_on Line mid after status ends
 
-    -- the line is the command's
+    -- the line of the refusal is a line of the command's course
     lines_are : (s : ℕ) (lines : List ℕ) → Line s lines → IsCourse o o' command before after s lines
     lines_are s lines l =
         subst (λ (n : ℕ). IsCourse o o' command before after n lines) (sym l.0)

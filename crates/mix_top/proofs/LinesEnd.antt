@@ -31,13 +31,13 @@ use Rattle.mix_top.specs.Running.{IsLinesEnd, LinesOver, by_fills, documents_of,
 use Rattle.mix_top.proofs.Answering.{Frugal, IsAnswering, IsManner, answering, prefix_of}
 use Rattle.mix_top.specs.Stops.{IsDoneAlong, end_of, outcome_of, outcome_status}
 
--- how lines end is said under the names and steps that these are
+-- the end of lines under equal names and steps is the same end
 pub renamed : {W : Type 0} (c : Course W) (old new : View) (names names' : List (List ℕ)) (steps steps' : List Step) (before after : SinkView) (r : Result Bool LinesFault) → names' ≡ names → steps' ≡ steps
     → Ends c old new names' steps' before after r → Ends c old new names steps before after r
 renamed c old new names names' steps steps' before after r e f h =
     subst (λ (n : List (List ℕ)). Ends c old new n steps before after r) e (subst (λ (s : List Step). Ends c old new names' s before after r) f h)
 
--- the lines of answers are a prefix of those of these and more
+-- the lines of answers are the first ones of the lines of these answers and more
 lines_more : (names : List (List ℕ)) (answers more : List Answer) (steps : List Step) → (rest : List ℕ) × (answer_lines names (answers ++ more) steps ≡ answer_lines names answers steps ++ rest)
 lines_more names [] more steps = (answer_lines names more steps, refl)
 lines_more names (x ∷ answers) more [] = ([], refl)
@@ -85,13 +85,13 @@ module _ (files : FilesView) (a b : Mounting) (came : CameFrom a b) (asked : Ask
   run : IsAnswering (in_order q) a b asked.catalog (rule_of asked.rule) steps st t before after
   run = answering files a b came asked.catalog (rule_of asked.rule) steps mounted accepted (in_order q) st same docs_are ahead t document_is unasked few before after (in_order_is_manner q)
 
-  -- the lines of all answers were written
+  -- where the lines of some answers were written, no more was asked than their tolls
   spent : (answers : List Answer) → Cost answers → Appends before.written after.written (answer_lines names answers steps) → Frugal (in_order q) a b q before after answers
   spent answers lazy h =
       subst (λ (all : List Answer). Frugal (in_order q) a b q before after all) (append_nil answers)
       (run.frugal answers [] (answer_lines names answers steps) lazy ([], sym (append_nil (answer_lines names answers steps))) h)
 
-  -- a prefix of the last line was
+  -- where the lines of some answers and a prefix of the last line were written, no more was asked than the tolls of all these answers
   spent_within : (answers : List Answer) (last : Answer) (n : ℕ) → Cost answers
       → Appends before.written after.written (take (length (answer_lines names answers steps) + n) (answer_lines names (answers ++ last ∷ []) steps)) → Frugal (in_order q) a b q before after (answers ++ last ∷ [])
   spent_within answers last n lazy h =
@@ -99,24 +99,24 @@ module _ (files : FilesView) (a b : Mounting) (came : CameFrom a b) (asked : Ask
       let lines = answer_lines names answers steps in
       run.frugal answers (last ∷ []) (take (length lines + n) (answer_lines names (answers ++ last ∷ []) steps)) lazy (take n more.0, ap (take (length lines + n)) more.1 ∙ take_append lines more.0 n) h
 
-  -- a prefix of the lines of answers was written
+  -- where a prefix of the lines of a run's answers was written, a prefix of the run's lines was
   took : (answers : List Answer) → Are answers → Frugal (in_order q) a b q before after answers → (n : ℕ) → Appends before.written after.written (take n (answer_lines names answers steps))
       → TookPrefix (Answers before after) before after
   took answers are less n h =
       let f = run.prefix answers are less in
       (f.status, f.lines, (t, finished, f.is), prefix_of before.written after.written n (answer_lines names answers steps) f.rest f.lines f.begun h)
 
-  -- so it is within a line
+  -- where the lines ended within a line, a prefix of the lines of answers was written
   within : EndsWithin Are Cost names steps before after → TookPrefix (Answers before after) before after
   within w = took (w.answers ++ w.last ∷ []) w.are (spent_within w.answers w.last w.count w.cost w.written) (length (answer_lines names w.answers steps) + w.count) w.written
 
-  -- and between lines
+  -- where the lines ended between two lines, a prefix of the lines of answers was written
   between : EndsBetween Are Cost names steps before after → TookPrefix (Answers before after) before after
   between w =
       let lines = answer_lines names w.answers steps in
       took w.answers w.are (spent w.answers w.cost w.written) (length lines) (subst (λ (x : List ℕ). Appends before.written after.written x) (sym (take_all (length lines) lines (omega arith))) w.written)
 
-  -- all lines were written
+  -- where all lines were written, the answers are those of a run
   whole : (marked : Bool) → IsWhole Are Cost names steps before after marked → IsDoneAlong Answers before after (outcome_of marked)
   whole marked w =
       (answer_lines names w.answers steps, (t, finished, subst Is (outcome_is marked w.answers w.marks) (run.whole w.answers w.are (spent w.answers w.cost w.written) w.all)), w.written)
@@ -124,7 +124,7 @@ module _ (files : FilesView) (a b : Mounting) (came : CameFrom a b) (asked : Ask
       Is : ℕ → Type 0
       Is n = IsAnswered a.tables b.tables q b.fills before after n (answer_lines names w.answers steps)
 
-  -- the lines came to their end, or were cut short
+  -- the lines of a run over mounted documents came to their end, or were cut short
   pub lines_end : (r : Result Bool LinesFault) → Ends (plan_course st) (view_of a) (view_of b) names steps before after r → IsLinesEnd Answers before after (end_of r)
   lines_end (Ok marked) w = whole marked w
   lines_end (Err lines_fault.SinkFailed) w = (w.0, within w.1)

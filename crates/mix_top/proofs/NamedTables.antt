@@ -24,17 +24,17 @@ of_shape : (test : ℕ → Bool) (f : Shape) (s : ℕ) → source_number f ≡ S
 of_shape test (one_source r out) s e t = (let g : r ≡ s = cc in ap test (sym g) ∙ t)
 of_shape test f s e t = cc
 
--- what holds of each source that operators read holds of each
+-- what holds of each source that operators read holds of the source of each operator
 all_read : (test : ℕ → Bool) (ops : List Operator) (n : ℕ) → n < length ops → (s : ℕ) → source_number (shape_at ops n) ≡ Some s → list_all (reads test) ops ≡ true → test s ≡ true
 all_read test [] n h s e t = absurd (omega (arith, h))
 all_read test (o ∷ ops) zero h s e t = of_shape test (shape_of o) s e (and_parts (reads test o) (list_all (reads test) ops) t).0
 all_read test (o ∷ ops) (suc n) h s e t = all_read test ops n (omega (arith, h)) s e (and_parts (reads test o) (list_all (reads test) ops) t).1
 
--- a smaller number is smaller
+-- a number that is smaller tests as smaller
 less_test : (s n : ℕ) → s < n → nat_lt s n ≡ true
 less_test s n h = grind (arith, nat_tests)
 
--- a number that tests as smaller is
+-- a number that tests as smaller is smaller
 test_less : (s n : ℕ) → nat_lt s n ≡ true → s < n
 test_less s n h = grind (arith, nat_tests)
 
@@ -58,18 +58,18 @@ is_no_table (Bracket file deep) h = refl
 is_no_table (Csv file columns) h = refl
 is_no_table (Table file table key columns) h = cc
 
--- a source that declares a table is one
+-- a source that declares a table is a table
 pub is_table : (kind : SourceKind) (d : Declared) → declared_in kind ≡ Some d → is_table_of kind ≡ true
 is_table (Bracket file deep) d h = cc
 is_table (Csv file columns) d h = cc
 is_table (Table file table key columns) d h = refl
 
--- what holds where something is named holds where it is
+-- what holds wherever something is named holds where it is named
 named_told : (b c : Bool) → b ≡ true → not b || c ≡ true → c ≡ true
 named_told true c e h = h
 named_told false c e h = (let z : false ≡ true = e in cc)
 
--- where all tables that a rule names are told, each is
+-- where all tables that a rule names are told, each of them is
 pub told_at : (tables : TablesView) (v : RuleValue) (n : ℕ) (sources : List SourceSpec) → told_from tables v n sources ≡ true → (s : ℕ) (spec : SourceSpec) → slice_get sources s ≡ Some spec
     → names_source v (n + s) ≡ true → is_table_told tables (declared_in spec.kind) ≡ true
 told_at tables v n [] h s spec e named = absurd (let w = slice_get_within [] s spec e in omega (arith, w))

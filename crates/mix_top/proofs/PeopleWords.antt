@@ -17,11 +17,11 @@ use Rattle.mix_top.specs.Commands.{people_in}
 own : IsNumeralModel (AllDigits 10) (digits_value 10)
 own = numerals_by_value (AllDigits 10) tells_digits
 
--- a number in the range
+-- a number in the range of numbers of people tests as one
 in_range : (n : ℕ) → 0 < n → n ≤ 10000 → (nat_lt 0 n && nat_lt n 10001) ≡ true
 in_range n low high = and_both (nat_lt 0 n) (nat_lt n 10001) (grind (arith, nat_tests)) (grind (arith, nat_tests))
 
--- a test that tells a number in the range
+-- a test that holds of a number tells that it is in the range of numbers of people
 out_range : (n : ℕ) → (nat_lt 0 n && nat_lt n 10001) ≡ true → (0 < n) × (n ≤ 10000)
 out_range n h =
     let parts = and_parts (nat_lt 0 n) (nat_lt n 10001) h in
@@ -30,7 +30,7 @@ out_range n h =
     (low, omega (arith, high))
 
 module _ {E : Type 0} (word : List ℕ) where
-  -- a number that is read of a word without a zero or a sign in front
+  -- a number in the range that is read of a word with no zero or sign at its beginning is the word's number of people
   pub people_read : (r : Result ℕ E) (n : ℕ) → ParsesUnsigned 32 10 word r → r ≡ Ok n → 49 ≤ get_or word 0 0 → n ≤ 10000 → Some n ≡ people_in word
   people_read r n parses e first small =
       let p = subst (λ (x : Result ℕ E). OkIff x (AllDigits 10 word × (0 < length word) × (digits_value 10 word < 2 ^ 32)) (digits_value 10 word)) e
@@ -54,7 +54,7 @@ module _ {E : Type 0} (word : List ℕ) where
                 )
           ]
 
-  -- where no such number is read, the word is of none
+  -- where no number in the range is read of a word, the word is of no number of people
   pub people_unread : (r : Result ℕ E) → ParsesUnsigned 32 10 word r → ((n : ℕ) → r ≡ Ok n → 49 ≤ get_or word 0 0 → n ≤ 10000 → ⊥) → None ≡ people_in word
   people_unread r parses never = by_test (bytes_eq word (decimal n) && (nat_lt 0 n && nat_lt n 10001)) refl
     where
@@ -72,6 +72,6 @@ module _ {E : Type 0} (word : List ℕ) where
           let head : get_or word 0 0 ≡ get_or (decimal n) 0 0 = ap (λ x. get_or x 0 0) digits in
           absurd (never n read (omega (arith, first, head)) range.1)
 
--- the first byte of a word
+-- the first byte that is read of a word is the word's first byte
 pub first_byte : (word : List ℕ) (b : ℕ) → Some b ≡ slice_get word 0 → get_or word 0 0 ≡ b
 first_byte word b e = get_or_from_slice_get word 0 b 0 (sym e)

@@ -22,7 +22,7 @@ use Rattle.xmas_read.specs.Results.{names_of_sources}
 use Rattle.mix_top.specs.Answered.{IsTableOf, RunsWithoutTablesAreUnmarked, is_table_told, all_told, told_from}
 use Rattle.view_class.specs.Named.{names_source}
 
--- what holds a place, or not, is answered without a fault
+-- an answer that is no fault is no fault either where a name may hold no place
 held_quiet : (o : Option (List ℕ)) (a : Answer) → mark_of a ≡ None → mark_of (if_held o a) ≡ None
 held_quiet None a e = refl
 held_quiet (Some place) a e = e
@@ -70,7 +70,7 @@ module _ (t : LabelledTree) (sources : List (List ℕ)) where
       ap (λ l. l ++ lines_from t sources now.1 [] steps) (same_line sources step.client now.0 (quiet t names step.client step.act))
       ∙ ap (λ r. line_of [] step.client now.0 ++ r) (unnamed now.1 steps)
 
-  -- nor do those under the marks of answers without a fault
+  -- the lines under the marks of answers without a fault name no source
   unmarked_transcript : (names : Names) (answers : List Answer) (steps : List Step) → has_fault answers ≡ false → lines_from t sources names (marks_of answers) steps ≡ lines_from t [] names [] steps
   unmarked_transcript names [] steps h = unnamed names steps
   unmarked_transcript names (a ∷ answers) [] h = refl
@@ -81,7 +81,7 @@ module _ (t : LabelledTree) (sources : List (List ℕ)) where
       ∙ ap (λ l. l ++ lines_from t sources now.1 (marks_of answers) steps) (same_line sources step.client now.0 (quiet t names step.client step.act))
       ∙ ap (λ r. line_of [] step.client now.0 ++ r) (unmarked_transcript now.1 answers steps both.1)
 
--- what isn't named, or is no table, has nothing untold
+-- a source that isn't named, or is no table, has nothing untold
 told_head : (tables : TablesView) (b : Bool) (o : Option Declared) → (b ≡ true → o ≡ None) → not b || is_table_told tables o ≡ true
 told_head tables true o h = ap (λ (x : Option Declared). is_table_told tables x) (h refl)
 told_head tables false o h = refl
@@ -107,7 +107,7 @@ declares_none v sources none s spec at named =
       | Some d ↦ λ e. absurd (none s (d, record { spec = spec; there = at; named = subst (λ (k : ℕ). names_source v k ≡ true) place named; declares = e }))
     ] refl
 
--- a run of a rule that names no table
+-- a run of a rule that names no table writes the transcript without marks
 pub without_tables : RunsWithoutTablesAreUnmarked
 without_tables before after q fills sink sink' status lines none is =
     let faultless = unmarked false (IsTableOf q.rule q.sources) no_names is.answers q.steps is.allowed (λ s may. absurd (none s may)) in
