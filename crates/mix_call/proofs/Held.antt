@@ -8,13 +8,14 @@ use Rattle.mix_talk.specs.declared.fault.TalkFault.{TalkFault}
 use Rattle.mix_talk.specs.declared.fault.TalkFault.TheVariants.{InputFailed, SinkFailed, OutOfMemory}
 use Rattle.mix_talk.proofs.Taken.{took_none}
 use Rattle.table_keep.specs.Views.{TablesView}
-use Rattle.xmas_rule.specs.RuleMade.{rule_of}
+use Rattle.plan_core.specs.Events.{VisitedAreMatches}
+use Rattle.plan_core.specs.PlanMade.{plan_value}
 use Rattle.mix_top.specs.Ends.{Ends, TookPrefix}
 use Rattle.mix_top.specs.Outside.{outside}
 use Rattle.mix_top.specs.Running.{question_of}
 use Rattle.mix_top.specs.declared.refusal.Refusal.{Refusal}
 use Rattle.mix_top.specs.declared.refusal.Stop.TheVariants as stop
-use Rattle.mix_top.proofs.Mounts.{documents_mounted}
+use Rattle.mix_top.proofs.RunCourse.{view_question}
 use Rattle.mix_call.specs.Ends.{EndsSo, TalkEnds, TalkedAlong, talk_status}
 use Rattle.mix_call.specs.Over.{IsReady, IsReadyStop, TalkOver}
 use Rattle.mix_call.specs.Talks.{IsTalkRefused, Talks}
@@ -37,8 +38,8 @@ ends_weaker C D input input' before after w (Err SinkFailed) h = (h.0, (h.1.0, h
 ends_weaker C D input input' before after w (Err OutOfMemory) (inl h) = inl h
 ends_weaker C D input input' before after w (Err OutOfMemory) (inr h) = inr (h.0, h.1, w h.0 h.1 h.2, h.3)
 
-module _ (old new : FilesView) (tables tables' : TablesView) (view catalog : List ℕ) (input input' : InputView) (before after : SinkView) where
-  -- the talk over the files and tables ends with a status
+module _ (old new : FilesView) (tables tables' : TablesView) (view catalog : List ℕ) (visits : VisitedAreMatches) (input input' : InputView) (before after : SinkView) where
+  -- so the talk ends
   abbrev Ended : ℕ → Type 0
   Ended status = TalkEnds (outside old tables) (outside new tables') view catalog input input' before after status
 
@@ -54,13 +55,10 @@ module _ (old new : FilesView) (tables tables' : TablesView) (view catalog : Lis
       talks : (asked : List Heard) (fills status : ℕ) (lines : List ℕ) → TalkOver fills tables tables' ready.docs.items ready.basis asked before after status lines
           → Talks (outside old tables) (outside new tables') view catalog asked before after status lines
       talks asked fills status lines h = (
-        question_of tables ready.docs.items ready.basis.catalog (rule_of ready.basis.rule) (steps_in asked) h.0,
+        question_of tables ready.docs.items ready.basis.catalog (plan_value ready.basis.plan).ops (steps_in asked) h.0,
         record {
-          catalog_is = is.catalog_is;
-          rule_is = is.rule_is;
+          view_is = view_question old tables view catalog ready.basis.catalog (plan_value ready.basis.plan) (steps_in asked) ready.docs.items visits is.catalog_is is.plan_is is.mounted h.0 h.1;
           steps_are = refl;
-          documents = documents_mounted old (rule_of ready.basis.rule) ready.basis.catalog ready.docs.items is.mounted tables;
-          finished = h.1;
         },
         fills,
         h.2,

@@ -6,11 +6,8 @@ use Rattle.mix_io.specs.Input.{InputView}
 use Rattle.mix_io.specs.Views.{FilesView, SinkView}
 use Rattle.mix_tree.specs.Forest.{LabelledTree}
 use Rattle.mix_mount.specs.Mounts.{CameFrom, Mounting, view_of}
-use Rattle.xmas_rule.specs.RuleMade.{rule_of}
-use Rattle.xmas_rule.specs.Rules.{IsAccepted}
-use Rattle.xmas_rule.specs.Meaning.{IsFinished}
+use Rattle.plan_core.specs.PlanMade.{plan_value}
 use Rattle.xmas_read.specs.Results.{names_of_sources}
-use Rattle.plan_rewrite.specs.Rewritten.{operators_for}
 use Rattle.lazy_plan.specs.Bench.{BenchState, ops_of, documents, forward}
 use Rattle.mix_script.specs.Names.{no_names}
 use Rattle.mix_script.specs.declared.answer.Answer.{Answer}
@@ -27,10 +24,11 @@ use Rattle.mix_top.specs.Answered.{IsAnsweredIn, all_told}
 use Rattle.mix_top.specs.Ends.{TookPrefix}
 use Rattle.mix_top.specs.Mounting.{AreMounted}
 use Rattle.mix_top.specs.Question.{Question}
-use Rattle.mix_top.specs.Running.{documents_of, question_of}
+use Rattle.mix_top.specs.Running.{IsPlanDocument, IsPlanOver, documents_of, question_of}
 use Rattle.mix_top.specs.Stops.{IsDoneWith, outcome_of, outcome_status}
 use Rattle.mix_top.proofs.Answering.{Frugal, IsAnswering, IsManner, answering, prefix_of}
 use Rattle.mix_top.proofs.LinesEnd.{outcome_is}
+use Rattle.mix_top.proofs.ReadTables.{plan_within}
 use Rattle.mix_call.specs.Ends.{EndsSo, TalkedAlong}
 use Rattle.mix_call.specs.Over.{TalkOver}
 use Rattle.mix_call.specs.Talks.{in_talk}
@@ -47,11 +45,11 @@ in_talk_is_manner asked q = record {
   more = λ answers more. spoken_more (names_of_sources q.sources) asked answers more;
 }
 
-module _ (files : FilesView) (a b : Mounting) (came : CameFrom a b) (basis : Basis) (mounted : AreMounted files (rule_of basis.rule) basis.catalog a.docs)
-    (accepted : IsAccepted (length (names_of_sources basis.catalog)) (rule_of basis.rule)) (st : BenchState) (same : ops_of st ≡ operators_for (rule_of basis.rule))
+module _ (files : FilesView) (a b : Mounting) (came : CameFrom a b) (basis : Basis) (mounted : AreMounted files (plan_value basis.plan).ops basis.catalog a.docs)
+    (over : IsPlanOver basis.catalog (plan_value basis.plan)) (st : BenchState) (same : ops_of st ≡ (plan_value basis.plan).ops)
     (docs_are : documents st ≡ documents_of a.tables a.docs) (ahead : IsTrue (forward st)) (t : LabelledTree)
-    (document_is : all_told a.tables (rule_of basis.rule) basis.catalog ≡ true → IsDocument st t) (unasked : a.fills ≡ 0) (few : b.tables.pages ≤ a.tables.pages + b.fills)
-    (finished : IsFinished (documents_of a.tables a.docs) (rule_of basis.rule) t) (input input' : InputView) (before after : SinkView) where
+    (document_is : all_told a.tables (plan_value basis.plan).ops basis.catalog ≡ true → IsDocument st t) (unasked : a.fills ≡ 0) (few : b.tables.pages ≤ a.tables.pages + b.fills)
+    (is_document : IsPlanDocument (documents_of a.tables a.docs) (plan_value basis.plan).ops t) (input input' : InputView) (before after : SinkView) where
   abbrev names : List (List ℕ)
   names = names_of_sources basis.catalog
 
@@ -63,7 +61,7 @@ module _ (files : FilesView) (a b : Mounting) (came : CameFrom a b) (basis : Bas
     steps = steps_in asked
 
     abbrev q : Question
-    q = question_of a.tables a.docs basis.catalog (rule_of basis.rule) steps t
+    q = question_of a.tables a.docs basis.catalog (plan_value basis.plan).ops steps t
 
     abbrev Are : List Answer → Type 0
     Are answers = IsRun (plan_course st) (view_of a).faults (view_of b).faults steps answers
@@ -71,8 +69,8 @@ module _ (files : FilesView) (a b : Mounting) (came : CameFrom a b) (basis : Bas
     abbrev Cost : List Answer → Type 0
     Cost answers = IsLazy (plan_course st) (view_of a).fills (view_of b).fills steps answers
 
-    run : IsAnswering (in_talk asked q) a b basis.catalog (rule_of basis.rule) steps st t before after
-    run = answering files a b came basis.catalog (rule_of basis.rule) steps mounted accepted (in_talk asked q) st same docs_are ahead t document_is unasked few before after (in_talk_is_manner asked q)
+    run : IsAnswering (in_talk asked q) a b basis.catalog (plan_value basis.plan).ops steps st t before after
+    run = answering files a b came basis.catalog (plan_value basis.plan).ops steps mounted (plan_within basis.catalog (plan_value basis.plan) over) (in_talk asked q) st same docs_are ahead t document_is unasked few before after (in_talk_is_manner asked q)
 
     -- where a prefix of lines of the answers was written, a prefix of a talk's lines was
     took : (answers : List Answer) → Are answers → Frugal (in_talk asked q) a b q before after answers → (lines rest : List ℕ) → lines ++ rest ≡ spoken names asked answers
@@ -80,7 +78,7 @@ module _ (files : FilesView) (a b : Mounting) (came : CameFrom a b) (basis : Bas
     took answers are less lines rest begin n h =
         let f = run.prefix answers are less in
         let whole : lines ++ (rest ++ f.rest) ≡ f.lines = sym (append_assoc lines rest f.rest) ∙ ap (λ l. l ++ f.rest) begin ∙ f.begun in
-        (f.status, f.lines, (t, finished, f.is), prefix_of before.written after.written n lines (rest ++ f.rest) f.lines whole h)
+        (f.status, f.lines, (t, is_document, f.is), prefix_of before.written after.written n lines (rest ++ f.rest) f.lines whole h)
 
     -- the lines of what was heard first and of what comes after it are the lines of all
     spoken_parts : (done later : List Heard) (answers last : List Answer) → asked ≡ done ++ later → length answers ≡ length (steps_in done)
@@ -116,7 +114,7 @@ module _ (files : FilesView) (a b : Mounting) (came : CameFrom a b) (basis : Bas
         let less = run.frugal w.answers [] lines w.cost (asked, [], sym (append_nil asked), w.all, [], sym (append_nil lines)) w.written in
         let less' : Frugal (in_talk asked q) a b q before after w.answers = subst (λ (x : List Answer). Frugal (in_talk asked q) a b q before after x) (append_nil w.answers) less in
         let Is : ℕ → Type 0 = λ n. IsAnsweredIn (in_talk asked q) a.tables b.tables q b.fills before after n lines in
-        (lines, (t, finished, subst Is (outcome_is marked w.answers w.marks) (run.whole w.answers w.are less' w.all)), w.written)
+        (lines, (t, is_document, subst Is (outcome_is marked w.answers w.marks) (run.whole w.answers w.are less' w.all)), w.written)
 
     -- the lines of a talk came to their end, or were cut short
     lines_end : (r : Result Bool TalkFault) → EndsBy Are Cost names asked input input' before after r → EndsSo (Course asked) input input' before after r

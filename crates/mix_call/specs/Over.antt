@@ -8,37 +8,35 @@ use Rattle.mix_talk.specs.Heard.{Heard, steps_in}
 use Rattle.mix_talk.specs.declared.fault.TalkFault.{TalkFault}
 use Rattle.mix_tree.specs.Forest.{LabelledTree}
 use Rattle.table_keep.specs.Views.{TablesView}
-use Rattle.xmas_rule.specs.Rules.{IsAccepted}
-use Rattle.xmas_rule.specs.RuleMade.{rule_of}
-use Rattle.xmas_rule.specs.Meaning.{IsFinished}
-use Rattle.xmas_read.specs.Results.{names_of_sources}
+use Rattle.plan_core.specs.PlanMade.{plan_value}
 use Rattle.mix_top.specs.Answered.{IsAnsweredIn}
-use Rattle.mix_top.specs.Course.{IsCatalogFile, IsRuleFile, IsSourceRefused}
+use Rattle.mix_top.specs.Course.{IsCatalogFile, IsSourceRefused, by_view}
 use Rattle.mix_top.specs.Mounting.{AreMounted}
-use Rattle.mix_top.specs.Running.{IsStopAfter, documents_of, question_of}
+use Rattle.mix_top.specs.Running.{IsPlanDocument, IsPlanOver, IsStopAfter, IsViewPlan, documents_of, question_of}
 use Rattle.mix_top.specs.declared.refusal.Stop.{Stop}
 use Rattle.mix_call.specs.Ends.{TalkedAlong}
 use Rattle.mix_call.specs.Talks.{in_talk}
 use Rattle.mix_call.specs.declared.talking.Basis.{Basis}
 use Rattle.mix_call.specs.declared.talking.Ready.{Ready}
 
--- all files of a talk were accepted: what was read of them is the catalog, the rule and the mounted sources
+-- all files of a talk were accepted: what was read of them is the catalog, the plan of the view and the mounted sources
 pub record IsReady (files : FilesView) (view catalog : List ℕ) (r : Ready) : Type 0 where
   pub catalog_is : IsCatalogFile files catalog r.basis.catalog
-  pub rule_is : IsRuleFile files view (names_of_sources r.basis.catalog) (rule_of r.basis.rule)
-  pub mounted : AreMounted files (rule_of r.basis.rule) r.basis.catalog r.docs.items
+  pub plan_is : IsViewPlan files view r.basis.catalog (plan_value r.basis.plan)
+  pub over : IsPlanOver r.basis.catalog (plan_value r.basis.plan)
+  pub mounted : AreMounted files (plan_value r.basis.plan).ops r.basis.catalog r.docs.items
   pub few : length r.docs.items ≤ 32
-  pub accepted : IsAccepted (length (names_of_sources r.basis.catalog)) (rule_of r.basis.rule)
 
 -- a file of a talk is refused, or memory ran out
 abbrev pub IsReadyStop : FilesView → FilesView → List ℕ → List ℕ → Stop → Type 0
-IsReadyStop old new view catalog = IsStopAfter (λ sources v. IsSourceRefused old new v sources) old new view catalog
+IsReadyStop old new view catalog = IsStopAfter by_view (λ sources ops. IsSourceRefused old new ops sources) old new view catalog
 
--- given lines answer what was heard on the rule's finished document over what is mounted, by a number of fills
+-- given lines answer what was heard on the plan's document over what is mounted, by a number of fills
 abbrev pub TalkOver : ℕ → TablesView → TablesView → List Mount → Basis → List Heard → SinkView → SinkView → ℕ → List ℕ → Type 0
 TalkOver fills before after docs basis asked sink sink' status lines =
-    (t : LabelledTree) × IsFinished (documents_of before docs) (rule_of basis.rule) t
-    × (let q = question_of before docs basis.catalog (rule_of basis.rule) (steps_in asked) t in IsAnsweredIn (in_talk asked q) before after q fills sink sink' status lines)
+    (t : LabelledTree) × IsPlanDocument (documents_of before docs) (plan_value basis.plan).ops t
+    × (let q = question_of before docs basis.catalog (plan_value basis.plan).ops (steps_in asked) t in
+    IsAnsweredIn (in_talk asked q) before after q fills sink sink' status lines)
 
 -- how a talk ends over what is mounted, by all its fills, where no more pages were asked than fills
 abbrev pub IsMountedEnd : Mounting → Mounting → Basis → InputView → InputView → SinkView → SinkView → Result Bool TalkFault → Type 0

@@ -2,14 +2,13 @@
 ghost use Rattle.std.specs.Prelude.{◌≡◌, ◌≤◌, ℕ, length, IfOk, IfErr};
 ghost use Rattle.mix_io.specs.Input.{InputView};
 ghost use Rattle.mix_io.specs.Views.{FilesView, SinkView, KeepsFiles};
-ghost use Rattle.xmas_rule.specs.RuleMade.{rule_of};
-ghost use Rattle.xmas_rule.specs.Rules.{IsAccepted};
-ghost use Rattle.xmas_read.specs.Results.{names_of_sources};
+ghost use Rattle.plan_core.specs.PlanMade.{plan_value};
 ghost use Rattle.mix_mount.specs.Mounts.{CameFrom, docs_of, fills_of, mounted_in};
 ghost use Rattle.table_keep.specs.Views.{KeepsTables, TablesView};
 ghost use Rattle.mix_top.specs.FilesRead.{ReadsAmong};
 ghost use Rattle.mix_top.specs.Mounting.{AreMounted};
 ghost use Rattle.mix_top.specs.Outside.{outside};
+ghost use Rattle.mix_top.specs.Running.{IsPlanOver};
 ghost use Rattle.mix_call.specs.Ends.{TalkEnds, TalkedAlong, talk_status};
 ghost use Rattle.mix_call.specs.Over.{IsMountedEnd, IsReady, IsReadyStop, TalkOver};
 ghost use Rattle.mix_call.specs.Talks.{TalkMayRead};
@@ -19,12 +18,10 @@ use mix_catalog::Catalog;
 use mix_io::{Files, Input, Sink, Streams};
 use mix_mount::{Mount, Mounted};
 use mix_talk::{TalkFault, talk_lines};
-use mix_top::{Stop, load_catalog, load_rule, mount_sources, refuse, source_names};
-use plan_core::visited_are_matches;
-use plan_rewrite::plan_view;
+use mix_top::{Stop, load_catalog, load_view, mount_sources, refuse, source_names};
+use plan_core::{Plan, visited_are_matches};
 use std::alloc::Global;
 use table_keep::Tables;
-use xmas_rule::Rule;
 
 /// A talk: the files of its view and its catalog.
 #[derive(Clone, Copy, Debug)]
@@ -33,22 +30,22 @@ pub struct Talking<'a> {
     pub catalog: &'a str,
 }
 
-/// What a talk is over: what its catalog and its view say.
+/// What a talk is over: what its catalog says, and the plan of its view.
 #[derive(Drop)]
 pub struct Basis {
     pub catalog: Catalog,
-    pub rule: Rule,
+    pub plan: Plan,
 }
 
-/// What a talk needs: what it is over, and the documents of the sources that the view names.
+/// What a talk needs: what it is over, and the documents of the sources that the plan reads.
 #[derive(Drop)]
 pub struct Ready {
     pub basis: Basis,
     pub docs: Vec<Mount>,
 }
 
-// Reads the files of a talk, each accepted before the next is read: the catalog, the view, and then those of the sources that the view
-// names, in the order of the catalog.
+// Reads the files of a talk, each accepted before the next is read: the catalog, the view, and then those of the sources that the view's
+// plan reads, in the order of the catalog.
 fn make_ready<F: Files>(alloc: Global, talking: &Talking<'_>, files: &mut F) -> Result<Ready, Stop>
     ensures keeps { KeepsFiles (F.view files.old) (F.view files.new) }
     ensures reads { let old = F.view files.old in
@@ -57,34 +54,33 @@ fn make_ready<F: Files>(alloc: Global, talking: &Talking<'_>, files: &mut F) -> 
     ensures err { let t = talking.now in IfErr result (IsReadyStop (F.view files.old) (F.view files.new) t.view.now t.catalog.now) }
 {
     let catalog = load_catalog(alloc, files, talking.catalog)?;
-    let rule = load_rule(alloc, files, talking.view, &catalog)?;
-    let docs = mount_sources(alloc, files, &catalog, &rule)?;
+    let plan = load_view(alloc, files, talking.view, &catalog)?;
+    let docs = mount_sources(alloc, files, &catalog, &plan)?;
     Ok(Ready {
-        basis: Basis { catalog, rule },
+        basis: Basis { catalog, plan },
         docs,
     })
 }
 
-// Answers the lines of an input on the finished document of a rule over mounted sources, of which no fill was asked yet.
+// Answers the lines of an input on the document of a plan over mounted sources, of which no fill was asked yet.
 fn talk_over<T: Tables, I: Input, K: Sink>(
     alloc: Global,
-    basis: &Basis,
+    basis: Basis,
     sources: &mut Mounted<T>,
     streams: &mut Streams<I, K>,
 ) -> Result<bool, TalkFault>
-    requires accepted { IsAccepted (length (names_of_sources basis.now.catalog)) (rule_of basis.now.rule) }
-    requires mounted { (files : FilesView) × AreMounted files (rule_of basis.now.rule) basis.now.catalog (docs_of sources.old) }
+    requires over { IsPlanOver basis.catalog (plan_value basis.plan) }
+    requires mounted { (files : FilesView) × AreMounted files (plan_value basis.plan).ops basis.catalog (docs_of sources.old) }
     requires unasked { fills_of sources.old ≡ 0 }
     ensures came { CameFrom (mounted_in T.view sources.old) (mounted_in T.view sources.new) }
-    ensures end { IsMountedEnd (mounted_in T.view sources.old) (mounted_in T.view sources.new) basis.now
+    ensures end { IsMountedEnd (mounted_in T.view sources.old) (mounted_in T.view sources.new) basis
         (I.view streams.old.input) (I.view streams.new.input) (K.view streams.old.out) (K.view streams.new.out) result }
     ensures input { (I.view streams.old.input).faults ≤ (I.view streams.new.input).faults }
     ensures count { (K.view streams.old.out).faults ≤ (K.view streams.new.out).faults }
 {
-    visited_are_matches();
     valid_plans_have_documents();
-    let names = source_names(alloc, &basis.catalog)?;
-    let plan = plan_view(alloc, &basis.rule, &names)?;
+    let Basis { catalog, plan } = basis;
+    let names = source_names(alloc, &catalog)?;
     let mediator = Mediator::open(alloc, plan, sources)?;
     talk_lines(alloc, sources, mediator, &names, streams)
 }
@@ -96,8 +92,8 @@ fn talk_ready<T: Tables, I: Input, K: Sink>(
     tables: T,
     streams: &mut Streams<I, K>,
 ) -> (Result<bool, TalkFault>, T)
-    requires accepted { IsAccepted (length (names_of_sources ready.basis.catalog)) (rule_of ready.basis.rule) }
-    requires mounted { (files : FilesView) × AreMounted files (rule_of ready.basis.rule) ready.basis.catalog ready.docs.items }
+    requires over { IsPlanOver ready.basis.catalog (plan_value ready.basis.plan) }
+    requires mounted { (files : FilesView) × AreMounted files (plan_value ready.basis.plan).ops ready.basis.catalog ready.docs.items }
     requires few { length ready.docs.items ≤ 32 }
     ensures keeps { KeepsTables (T.view tables) (T.view result.1) }
     ensures end { (fills : ℕ) × TalkedAlong (TalkOver fills (T.view tables) (T.view result.1) ready.docs.items ready.basis)
@@ -107,7 +103,7 @@ fn talk_ready<T: Tables, I: Input, K: Sink>(
 {
     let Ready { basis, docs } = ready;
     let mut sources = Mounted::new(docs, tables);
-    let end = talk_over(alloc, &basis, &mut sources, streams);
+    let end = talk_over(alloc, basis, &mut sources, streams);
     let tables = sources.into_tables();
     let pages = tables.pages();
     prove!(pages <= u64::MAX);
@@ -147,6 +143,7 @@ pub fn talk<F: Files, T: Tables, I: Input, K: Sink>(
     ensures input { (I.view streams.old.input).faults ≤ (I.view streams.new.input).faults }
     ensures count { (K.view streams.old.out).faults ≤ (K.view streams.new.out).faults }
 {
+    visited_are_matches();
     match make_ready(alloc, talking, files) {
         Ok(ready) => {
             let (end, tables) = talk_ready(alloc, ready, tables, streams);

@@ -6,14 +6,14 @@ use Rattle.mix_lines.specs.declared.fault.LinesFault.{LinesFault}
 use Rattle.mix_lines.specs.declared.fault.LinesFault.TheVariants as lines
 use Rattle.mix_mount.specs.declared.mount.Mount.{Mount}
 use Rattle.table_keep.specs.Views.{TablesView}
-use Rattle.xmas_rule.specs.RuleMade.{rule_of}
+use Rattle.plan_core.specs.PlanMade.{plan_value}
 use Rattle.mix_top.specs.declared.counting.Counts.{Counts}
 use Rattle.mix_top.specs.declared.refusal.Outcome.{Outcome}
 use Rattle.mix_top.specs.declared.refusal.Stop.{Stop}
 use Rattle.mix_top.specs.declared.refusal.Stop.TheVariants.{Refused, SinkFailed, OutOfMemory}
 use Rattle.mix_top.specs.declared.asked.Asked.{Asked}
 use Rattle.mix_top.specs.Counting.{IsCounted, IsCountStop, lines_of_counts}
-use Rattle.mix_top.specs.Counts.{view_class}
+use Rattle.mix_top.specs.Counts.{class_over}
 use Rattle.mix_top.specs.Course.{lines_of_count}
 use Rattle.mix_top.specs.Ends.{TookPrefix}
 use Rattle.mix_top.specs.Running.{IsLinesEnd, LinesOver, by_fills, question}
@@ -25,7 +25,7 @@ use Rattle.mix_top.proofs.Lines.{cut_last, cut_on, first_prefix, nothing_more}
 pub record AreCounts (tables tables' : TablesView) (asked : Asked) (counts : Counts) : Type 0 where
   pub commands : counts.commands ≡ length asked.steps.items
   pub pages : counts.spent.pages ≡ tables'.pages - tables.pages
-  pub class : counts.class ≡ view_class (rule_of asked.rule) asked.catalog
+  pub class : counts.class ≡ class_over asked.catalog (plan_value asked.plan).ops
 
 module _ (tables tables' : TablesView) (docs : List Mount) (asked : Asked) (counts : Counts) (are : AreCounts tables tables' asked counts) where
   abbrev Answers : SinkView → SinkView → ℕ → List ℕ → Type 0
@@ -42,7 +42,7 @@ module _ (tables tables' : TablesView) (docs : List Mount) (asked : Asked) (coun
     with_counts : (status : ℕ) (answers : List ℕ) → Answers before mid status answers → Counted before after status (answers ++ more)
     with_counts status answers h = (h.0, h.1, (counts.spent.fills, answers, answered_on before mid after on tables tables' (question tables docs asked h.0) counts.spent.fills status answers h.2, ap (λ x. answers ++ x) same))
       where
-        same : more ≡ lines_of_counts (record { commands = length asked.steps.items; spent = record { fills = counts.spent.fills; pages = tables'.pages - tables.pages }; class = view_class (rule_of asked.rule) asked.catalog })
+        same : more ≡ lines_of_counts (record { commands = length asked.steps.items; spent = record { fills = counts.spent.fills; pages = tables'.pages - tables.pages }; class = class_over asked.catalog (plan_value asked.plan).ops })
         same =
             ap (λ n. lines_of_counts (record { commands = n; spent = counts.spent; class = counts.class })) are.commands
             ∙ ap (λ n. lines_of_counts (record { commands = length asked.steps.items; spent = record { fills = counts.spent.fills; pages = n }; class = counts.class })) are.pages

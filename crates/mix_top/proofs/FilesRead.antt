@@ -5,10 +5,9 @@ use Rattle.mix_catalog.specs.declared.source.SourceSpec.{SourceSpec}
 use Rattle.mix_catalog.specs.Grammar.{file_of}
 use Rattle.mix_script.specs.declared.step.Step.{Step}
 use Rattle.mix_tree.specs.Forest.{LabelledTree}
-use Rattle.xmas_rule.specs.Rules.{RuleValue}
-use Rattle.xmas_read.specs.Results.{names_of_sources}
+use Rattle.plan_core.specs.Plans.{Operator}
 use Rattle.mix_mount.specs.declared.mount.Mount.{Mount}
-use Rattle.mix_top.specs.Course.{AreAccepted, IsCatalogFile, IsRuleFile, IsScript}
+use Rattle.mix_top.specs.Course.{AreAccepted, IsCatalogFile, IsScript, PlanFile, by_view}
 use Rattle.mix_top.specs.Documents.{SpellsTree, StandsFor, IsDocument}
 use Rattle.mix_top.specs.FilesRead.{ReadsAmong, WalkMayRead, ViewMayRead, IsFileFor, MayReadAfter, ScriptMayRead, SourceMayRead, RunMayRead}
 use Rattle.mix_top.proofs.MountLaws.{AreMountedTo, document_before}
@@ -40,65 +39,65 @@ view_reads old mid new view catalog sources accepted first second =
     reads_twice May old mid new (reads_one May catalog old mid (inl refl) first) (reads_one May view mid new (inr (refl, sources, accepted)) second)
 
 -- the sources before a number were mounted, so their files are accepted
-pub mounted_accepted : (files : FilesView) (v : RuleValue) (sources : List SourceSpec) (n : ℕ) (docs : List Mount) → AreMountedTo files v sources n docs → AreAccepted files v sources n
-mounted_accepted files v sources n docs h = λ k before less at is file. let f = ((h.each k before less at).named is).file file in (f.tree, f.document_is)
+pub mounted_accepted : (files : FilesView) (ops : List Operator) (sources : List SourceSpec) (n : ℕ) (docs : List Mount) → AreMountedTo files ops sources n docs → AreAccepted files ops sources n
+mounted_accepted files ops sources n docs h = λ k before less at is file. let f = ((h.each k before less at).read is).file file in (f.tree, f.document_is)
 
 -- where the sources before it were read as allowed and then the next source's file, sources were read as allowed
-pub source_reads : (old mid new : FilesView) (v : RuleValue) (sources : List SourceSpec) (n : ℕ) (docs : List Mount) (spec : SourceSpec) → AreMountedTo old v sources n docs
-    → slice_get sources n ≡ Some spec → ReadsAmong (SourceMayRead old v sources) old mid → ReadsAmong (IsFileFor v n spec) mid new → ReadsAmong (SourceMayRead old v sources) old new
-source_reads old mid new v sources n docs spec h there before now =
-    let May = SourceMayRead old v sources in
+pub source_reads : (old mid new : FilesView) (ops : List Operator) (sources : List SourceSpec) (n : ℕ) (docs : List Mount) (spec : SourceSpec) → AreMountedTo old ops sources n docs
+    → slice_get sources n ≡ Some spec → ReadsAmong (SourceMayRead old ops sources) old mid → ReadsAmong (IsFileFor ops n spec) mid new → ReadsAmong (SourceMayRead old ops sources) old new
+source_reads old mid new ops sources n docs spec h there before now =
+    let May = SourceMayRead old ops sources in
     reads_twice May old mid new before
-    (reads_wider (IsFileFor v n spec) May mid new (λ path is. (n, spec, there, is, mounted_accepted old v sources n docs h)) now)
+    (reads_wider (IsFileFor ops n spec) May mid new (λ path is. (n, spec, there, is, mounted_accepted old ops sources n docs h)) now)
 
 -- the files of sources that are accepted later were accepted before
-accepted_before : (old mid : FilesView) (v : RuleValue) (sources : List SourceSpec) (n : ℕ) → KeepsFiles old mid → AreAccepted mid v sources n → AreAccepted old v sources n
-accepted_before old mid v sources n keeps h = λ k before less at is file.
+accepted_before : (old mid : FilesView) (ops : List Operator) (sources : List SourceSpec) (n : ℕ) → KeepsFiles old mid → AreAccepted mid ops sources n → AreAccepted old ops sources n
+accepted_before old mid ops sources n keeps h = λ k before less at is file.
     let f = h k before less at is file in
     (f.0, document_before (StandsFor before.name before.kind) old mid (file_of before.kind) f.0 keeps f.1)
 
-module _ (Then : List SourceSpec → RuleValue → List ℕ → Type 0) (old : FilesView) (view catalog : List ℕ) where
+module _ (given : PlanFile) (Then : List SourceSpec → List Operator → List ℕ → Type 0) (old : FilesView) (view catalog : List ℕ) where
   -- after the reading of the catalog, only what the command may read was read
-  pub reads_catalog : (new : FilesView) → ReadsOnly catalog old new → ReadsAmong (MayReadAfter Then old view catalog) old new
-  reads_catalog new only = reads_one (MayReadAfter Then old view catalog) catalog old new (inl refl) only
+  pub reads_catalog : (new : FilesView) → ReadsOnly catalog old new → ReadsAmong (MayReadAfter given Then old view catalog) old new
+  reads_catalog new only = reads_one (MayReadAfter given Then old view catalog) catalog old new (inl refl) only
 
   module _ (sources : List SourceSpec) (cat : IsCatalogFile old catalog sources) where
     -- after the reading of the catalog and then the view, only what the command may read was read
-    pub reads_view : (mid new : FilesView) → ReadsAmong (MayReadAfter Then old view catalog) old mid → ReadsOnly view mid new → ReadsAmong (MayReadAfter Then old view catalog) old new
+    pub reads_view : (mid new : FilesView) → ReadsAmong (MayReadAfter given Then old view catalog) old mid → ReadsOnly view mid new → ReadsAmong (MayReadAfter given Then old view catalog) old new
     reads_view mid new before only =
-        let May = MayReadAfter Then old view catalog in
+        let May = MayReadAfter given Then old view catalog in
         reads_twice May old mid new before (reads_one May view mid new (inr (sources, cat, inl refl)) only)
 
     -- where after the view only what comes next may be read, only what the command may read was read
-    pub reads_then : (v : RuleValue) → IsRuleFile old view (names_of_sources sources) v → (mid new : FilesView) → ReadsAmong (MayReadAfter Then old view catalog) old mid → (May : List ℕ → Type 0)
-        → ((path : List ℕ) → May path → Then sources v path) → ReadsAmong May mid new → ReadsAmong (MayReadAfter Then old view catalog) old new
-    reads_then v rule mid new before May is reads =
-        reads_twice (MayReadAfter Then old view catalog) old mid new before
-        (reads_wider May (MayReadAfter Then old view catalog) mid new (λ path h. inr (sources, cat, inr (v, rule, is path h))) reads)
+    pub reads_then : (ops : List Operator) → given.Gives old view sources ops → (mid new : FilesView) → ReadsAmong (MayReadAfter given Then old view catalog) old mid → (May : List ℕ → Type 0)
+        → ((path : List ℕ) → May path → Then sources ops path) → ReadsAmong May mid new → ReadsAmong (MayReadAfter given Then old view catalog) old new
+    reads_then ops gives mid new before May is reads =
+        reads_twice (MayReadAfter given Then old view catalog) old mid new before
+        (reads_wider May (MayReadAfter given Then old view catalog) mid new (λ path h. inr (sources, cat, inr (ops, gives, is path h))) reads)
 
 -- where the files of sources may be read at a later moment, they may be read at an earlier one
-pub source_may_before : (old mid : FilesView) (v : RuleValue) (sources : List SourceSpec) → KeepsFiles old mid → (path : List ℕ) → SourceMayRead mid v sources path → SourceMayRead old v sources path
-source_may_before old mid v sources keeps path h = (h.0, h.1, h.2, h.3, accepted_before old mid v sources h.0 keeps h.4)
+pub source_may_before : (old mid : FilesView) (ops : List Operator) (sources : List SourceSpec) → KeepsFiles old mid → (path : List ℕ) → SourceMayRead mid ops sources path → SourceMayRead old ops sources path
+source_may_before old mid ops sources keeps path h = (h.0, h.1, h.2, h.3, accepted_before old mid ops sources h.0 keeps h.4)
 
 module _ (old : FilesView) (view catalog script : List ℕ) where
   -- after the reading of its catalog a run has read only what it may
   pub run_reads_catalog : (new : FilesView) → ReadsOnly catalog old new → ReadsAmong (RunMayRead old view catalog script) old new
-  run_reads_catalog = reads_catalog (ScriptMayRead old script) old view catalog
+  run_reads_catalog = reads_catalog by_view (ScriptMayRead old script) old view catalog
 
   module _ (sources : List SourceSpec) (cat : IsCatalogFile old catalog sources) where
     -- after the reading of its view a run has read only what it may
     pub run_reads_view : (mid new : FilesView) → ReadsAmong (RunMayRead old view catalog script) old mid → ReadsOnly view mid new → ReadsAmong (RunMayRead old view catalog script) old new
-    run_reads_view = reads_view (ScriptMayRead old script) old view catalog sources cat
+    run_reads_view = reads_view by_view (ScriptMayRead old script) old view catalog sources cat
 
-    module _ (v : RuleValue) (rule : IsRuleFile old view (names_of_sources sources) v) where
-      -- after the reading of its script a run has read only what it may
+    module _ (ops : List Operator) (gives : by_view.Gives old view sources ops) where
+      -- then its script
       pub run_reads_script : (mid new : FilesView) → ReadsAmong (RunMayRead old view catalog script) old mid → ReadsOnly script mid new → ReadsAmong (RunMayRead old view catalog script) old new
       run_reads_script mid new before only =
-          reads_then (ScriptMayRead old script) old view catalog sources cat v rule mid new before (λ path. path ≡ script) (λ path h. inl h) (λ path no. only path no)
+          reads_then by_view (ScriptMayRead old script) old view catalog sources cat ops gives mid new before (λ path. path ≡ script) (λ path h. inl h) (λ path no. only path no)
 
       -- after the reading of its sources' files a run has read only what it may
       pub run_reads_sources : (mid new : FilesView) (steps : List Step) → IsScript old script steps → KeepsFiles old mid → ReadsAmong (RunMayRead old view catalog script) old mid
-          → ReadsAmong (SourceMayRead mid v sources) mid new → ReadsAmong (RunMayRead old view catalog script) old new
+          → ReadsAmong (SourceMayRead mid ops sources) mid new → ReadsAmong (RunMayRead old view catalog script) old new
       run_reads_sources mid new steps scr keeps before reads =
-          reads_then (ScriptMayRead old script) old view catalog sources cat v rule mid new before (SourceMayRead mid v sources)
-          (λ path h. inr (steps, scr, source_may_before old mid v sources keeps path h)) reads
+          reads_then by_view (ScriptMayRead old script) old view catalog sources cat ops gives mid new before (SourceMayRead mid ops sources)
+          (λ path h. inr (steps, scr, source_may_before old mid ops sources keeps path h)) reads

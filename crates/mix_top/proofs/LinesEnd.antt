@@ -5,11 +5,8 @@ use Rattle.mix_io.specs.Views.{FilesView, SinkView}
 use Rattle.mix_io.specs.Contents.{Appends}
 use Rattle.mix_tree.specs.Forest.{LabelledTree}
 use Rattle.mix_mount.specs.Mounts.{CameFrom, Mounting, view_of}
-use Rattle.xmas_rule.specs.RuleMade.{rule_of}
-use Rattle.xmas_rule.specs.Rules.{IsAccepted}
-use Rattle.xmas_rule.specs.Meaning.{IsFinished}
+use Rattle.plan_core.specs.PlanMade.{plan_value}
 use Rattle.xmas_read.specs.Results.{names_of_sources}
-use Rattle.plan_rewrite.specs.Rewritten.{operators_for}
 use Rattle.lazy_plan.specs.Bench.{BenchState, ops_of, documents, forward}
 use Rattle.mix_script.specs.Allowed.{answer_lines, has_fault}
 use Rattle.mix_script.specs.Answers.{line_of}
@@ -27,8 +24,9 @@ use Rattle.mix_top.specs.Ends.{TookPrefix}
 use Rattle.mix_top.specs.Mounting.{AreMounted}
 use Rattle.mix_top.specs.declared.asked.Asked.{Asked}
 use Rattle.mix_top.specs.Question.{Question}
-use Rattle.mix_top.specs.Running.{IsLinesEnd, LinesOver, by_fills, documents_of, question}
+use Rattle.mix_top.specs.Running.{IsLinesEnd, IsPlanDocument, IsPlanOver, LinesOver, by_fills, documents_of, question}
 use Rattle.mix_top.proofs.Answering.{Frugal, IsAnswering, IsManner, answering, prefix_of}
+use Rattle.mix_top.proofs.ReadTables.{plan_within}
 use Rattle.mix_top.specs.Stops.{IsDoneAlong, end_of, outcome_of, outcome_status}
 
 -- the end of lines under equal names and steps is the same end
@@ -59,11 +57,11 @@ in_order_is_manner q = record {
   more = λ answers more. lines_more (names_of_sources q.sources) answers more q.steps;
 }
 
-module _ (files : FilesView) (a b : Mounting) (came : CameFrom a b) (asked : Asked) (mounted : AreMounted files (rule_of asked.rule) asked.catalog a.docs)
-    (accepted : IsAccepted (length (names_of_sources asked.catalog)) (rule_of asked.rule)) (st : BenchState) (same : ops_of st ≡ operators_for (rule_of asked.rule))
+module _ (files : FilesView) (a b : Mounting) (came : CameFrom a b) (asked : Asked) (mounted : AreMounted files (plan_value asked.plan).ops asked.catalog a.docs)
+    (over : IsPlanOver asked.catalog (plan_value asked.plan)) (st : BenchState) (same : ops_of st ≡ (plan_value asked.plan).ops)
     (docs_are : documents st ≡ documents_of a.tables a.docs) (ahead : IsTrue (forward st)) (t : LabelledTree)
-    (document_is : all_told a.tables (rule_of asked.rule) asked.catalog ≡ true → IsDocument st t) (unasked : a.fills ≡ 0) (few : b.tables.pages ≤ a.tables.pages + b.fills) (before after : SinkView)
-    (finished : IsFinished (documents_of a.tables a.docs) (rule_of asked.rule) t) where
+    (document_is : all_told a.tables (plan_value asked.plan).ops asked.catalog ≡ true → IsDocument st t) (unasked : a.fills ≡ 0) (few : b.tables.pages ≤ a.tables.pages + b.fills) (before after : SinkView)
+    (is_document : IsPlanDocument (documents_of a.tables a.docs) (plan_value asked.plan).ops t) where
   abbrev names : List (List ℕ)
   names = names_of_sources asked.catalog
 
@@ -82,8 +80,8 @@ module _ (files : FilesView) (a b : Mounting) (came : CameFrom a b) (asked : Ask
   abbrev Answers : SinkView → SinkView → ℕ → List ℕ → Type 0
   Answers = LinesOver (by_fills b.fills) a.tables b.tables a.docs asked
 
-  run : IsAnswering (in_order q) a b asked.catalog (rule_of asked.rule) steps st t before after
-  run = answering files a b came asked.catalog (rule_of asked.rule) steps mounted accepted (in_order q) st same docs_are ahead t document_is unasked few before after (in_order_is_manner q)
+  run : IsAnswering (in_order q) a b asked.catalog (plan_value asked.plan).ops steps st t before after
+  run = answering files a b came asked.catalog (plan_value asked.plan).ops steps mounted (plan_within asked.catalog (plan_value asked.plan) over) (in_order q) st same docs_are ahead t document_is unasked few before after (in_order_is_manner q)
 
   -- where the lines of some answers were written, no more was asked than their tolls
   spent : (answers : List Answer) → Cost answers → Appends before.written after.written (answer_lines names answers steps) → Frugal (in_order q) a b q before after answers
@@ -104,7 +102,7 @@ module _ (files : FilesView) (a b : Mounting) (came : CameFrom a b) (asked : Ask
       → TookPrefix (Answers before after) before after
   took answers are less n h =
       let f = run.prefix answers are less in
-      (f.status, f.lines, (t, finished, f.is), prefix_of before.written after.written n (answer_lines names answers steps) f.rest f.lines f.begun h)
+      (f.status, f.lines, (t, is_document, f.is), prefix_of before.written after.written n (answer_lines names answers steps) f.rest f.lines f.begun h)
 
   -- where the lines ended within a line, a prefix of the lines of answers was written
   within : EndsWithin Are Cost names steps before after → TookPrefix (Answers before after) before after
@@ -119,7 +117,7 @@ module _ (files : FilesView) (a b : Mounting) (came : CameFrom a b) (asked : Ask
   -- where all lines were written, the answers are those of a run
   whole : (marked : Bool) → IsWhole Are Cost names steps before after marked → IsDoneAlong Answers before after (outcome_of marked)
   whole marked w =
-      (answer_lines names w.answers steps, (t, finished, subst Is (outcome_is marked w.answers w.marks) (run.whole w.answers w.are (spent w.answers w.cost w.written) w.all)), w.written)
+      (answer_lines names w.answers steps, (t, is_document, subst Is (outcome_is marked w.answers w.marks) (run.whole w.answers w.are (spent w.answers w.cost w.written) w.all)), w.written)
     where
       Is : ℕ → Type 0
       Is n = IsAnswered a.tables b.tables q b.fills before after n (answer_lines names w.answers steps)

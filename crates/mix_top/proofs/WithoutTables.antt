@@ -1,4 +1,4 @@
--- Where a rule names no table, the lines are the transcript without marks.
+-- Where a plan reads no table, the lines are the transcript without marks.
 use Rattle.std.proofs.Common.{◌≡◌, ◌∙◌, ◌+◌, ◌||◌, not, ℕ, suc, Bool, true, false, cond, is_some, List, [], ◌∷◌, ◌++◌, Option, Some, None, refl, ap, subst, arith, slice_get}
 use Rattle.std.specs.Prelude.{option_and_then}
 use Rattle.mix_base.proofs.Choices.{and_both}
@@ -17,10 +17,10 @@ use Rattle.mix_script.specs.declared.step.Step.{Step}
 use Rattle.mix_script.specs.declared.answer.Answer.{Answer}
 use Rattle.mix_script.specs.declared.answer.Answer.TheVariants as answer
 use Rattle.mix_script.proofs.Answering.{unmarked}
-use Rattle.xmas_rule.specs.Rules.{RuleValue}
+use Rattle.plan_core.specs.Plans.{Operator}
 use Rattle.xmas_read.specs.Results.{names_of_sources}
 use Rattle.mix_top.specs.Answered.{IsTableOf, RunsWithoutTablesAreUnmarked, is_table_told, all_told, told_from}
-use Rattle.view_class.specs.Named.{names_source}
+use Rattle.view_class.specs.Reads.{reads_source}
 
 -- an answer that is no fault is no fault either where a name may hold no place
 held_quiet : (o : Option (List ℕ)) (a : Answer) → mark_of a ≡ None → mark_of (if_held o a) ≡ None
@@ -81,37 +81,37 @@ module _ (t : LabelledTree) (sources : List (List ℕ)) where
       ∙ ap (λ l. l ++ lines_from t sources now.1 (marks_of answers) steps) (same_line sources step.client now.0 (quiet t names step.client step.act))
       ∙ ap (λ r. line_of [] step.client now.0 ++ r) (unmarked_transcript now.1 answers steps both.1)
 
--- a source that isn't named, or is no table, has nothing untold
+-- what isn't read, or is no table, has nothing untold
 told_head : (tables : TablesView) (b : Bool) (o : Option Declared) → (b ≡ true → o ≡ None) → not b || is_table_told tables o ≡ true
 told_head tables true o h = ap (λ (x : Option Declared). is_table_told tables x) (h refl)
 told_head tables false o h = refl
 
--- where no source that the rule names is a table, there is nothing that isn't told
-nothing_untold : (tables : TablesView) (v : RuleValue) (n : ℕ) (sources : List SourceSpec)
-    → ((s : ℕ) (spec : SourceSpec) → slice_get sources s ≡ Some spec → names_source v (n + s) ≡ true → declared_in spec.kind ≡ None) → told_from tables v n sources ≡ true
-nothing_untold tables v n [] h = refl
-nothing_untold tables v n (x ∷ xs) h =
+-- where no source that the plan reads is a table, there is nothing that isn't told
+nothing_untold : (tables : TablesView) (ops : List Operator) (n : ℕ) (sources : List SourceSpec)
+    → ((s : ℕ) (spec : SourceSpec) → slice_get sources s ≡ Some spec → reads_source ops (n + s) ≡ true → declared_in spec.kind ≡ None) → told_from tables ops n sources ≡ true
+nothing_untold tables ops n [] h = refl
+nothing_untold tables ops n (x ∷ xs) h =
     let place : n ≡ n + 0 = omega arith in
-    and_both (not (names_source v n) || is_table_told tables (declared_in x.kind)) (told_from tables v (n + 1) xs)
-    (told_head tables (names_source v n) (declared_in x.kind) (λ named. h 0 x refl (subst (λ (k : ℕ). names_source v k ≡ true) place named)))
-    (nothing_untold tables v (n + 1) xs
-    (λ s spec at named. h (suc s) spec at (let next : n + 1 + s ≡ n + suc s = omega arith in subst (λ (k : ℕ). names_source v k ≡ true) next named)))
+    and_both (not (reads_source ops n) || is_table_told tables (declared_in x.kind)) (told_from tables ops (n + 1) xs)
+    (told_head tables (reads_source ops n) (declared_in x.kind) (λ read. h 0 x refl (subst (λ (k : ℕ). reads_source ops k ≡ true) place read)))
+    (nothing_untold tables ops (n + 1) xs
+    (λ s spec at read. h (suc s) spec at (let next : n + 1 + s ≡ n + suc s = omega arith in subst (λ (k : ℕ). reads_source ops k ≡ true) next read)))
 
--- a source that the rule names declares no table, where the rule names none
-declares_none : (v : RuleValue) (sources : List SourceSpec) → ((s : ℕ) → IsTableOf v sources s → ⊥) → (s : ℕ) (spec : SourceSpec) → slice_get sources s ≡ Some spec → names_source v (0 + s) ≡ true
+-- a source that the plan reads declares no table, where the plan reads none
+declares_none : (ops : List Operator) (sources : List SourceSpec) → ((s : ℕ) → IsTableOf ops sources s → ⊥) → (s : ℕ) (spec : SourceSpec) → slice_get sources s ≡ Some spec → reads_source ops (0 + s) ≡ true
     → declared_in spec.kind ≡ None
-declares_none v sources none s spec at named =
+declares_none ops sources none s spec at read =
     let place : 0 + s ≡ s = omega arith in
     elim (declared_in spec.kind) as (λ o. declared_in spec.kind ≡ o → o ≡ None) [
       | None ↦ λ e. refl
-      | Some d ↦ λ e. absurd (none s (d, record { spec = spec; there = at; named = subst (λ (k : ℕ). names_source v k ≡ true) place named; declares = e }))
+      | Some d ↦ λ e. absurd (none s (d, record { spec = spec; there = at; read = subst (λ (k : ℕ). reads_source ops k ≡ true) place read; declares = e }))
     ] refl
 
--- a run of a rule that names no table writes the transcript without marks
+-- a run of a plan that reads no table
 pub without_tables : RunsWithoutTablesAreUnmarked
 without_tables before after q fills sink sink' status lines none is =
-    let faultless = unmarked false (IsTableOf q.rule q.sources) no_names is.answers q.steps is.allowed (λ s may. absurd (none s may)) in
-    let told : all_told before q.rule q.sources ≡ true = nothing_untold before q.rule 0 q.sources (declares_none q.rule q.sources none) in (
+    let faultless = unmarked false (IsTableOf q.ops q.sources) no_names is.answers q.steps is.allowed (λ s may. absurd (none s may)) in
+    let told : all_told before q.ops q.sources ≡ true = nothing_untold before q.ops 0 q.sources (declares_none q.ops q.sources none) in (
       is.status_is ∙ ap (λ b. cond b 1 0) faultless,
       (is.told told).1 ∙ unmarked_transcript q.tree (names_of_sources q.sources) no_names is.answers q.steps faultless,
     )

@@ -12,40 +12,39 @@ use Rattle.mix_script.specs.Transcript.{transcript, AreMarks, names_after}
 use Rattle.mix_script.specs.declared.answer.Answer.{Answer}
 use Rattle.mix_session.specs.Stepped.{act_toll_by}
 use Rattle.mix_session.specs.Walks.{place_toll}
-use Rattle.plan_rewrite.specs.Rewritten.{operators_for}
-use Rattle.xmas_rule.specs.Rules.{RuleValue}
+use Rattle.plan_core.specs.Plans.{Operator}
 use Rattle.xmas_read.specs.Results.{names_of_sources}
 use Rattle.mix_top.specs.Question.{Question}
-use Rattle.view_class.specs.Named.{names_source}
+use Rattle.view_class.specs.Reads.{reads_source}
 
--- a rule names the source of this number, which is this declared table
-pub record IsTable (v : RuleValue) (sources : List SourceSpec) (s : ℕ) (d : Declared) : Type 0 where
+-- a plan's operators read the source of this number, which is this declared table
+pub record IsTable (ops : List Operator) (sources : List SourceSpec) (s : ℕ) (d : Declared) : Type 0 where
   pub spec : SourceSpec
   pub there : slice_get sources s ≡ Some spec
-  pub named : IsTrue (names_source v s)
+  pub read : IsTrue (reads_source ops s)
   pub declares : declared_in spec.kind ≡ Some d
 
--- a rule names the source of this number, which is a table
-abbrev pub IsTableOf : RuleValue → List SourceSpec → ℕ → Type 0
-IsTableOf v sources s = (d : Declared) × IsTable v sources s d
+-- a plan's operators read the source of this number, which is a table
+abbrev pub IsTableOf : List Operator → List SourceSpec → ℕ → Type 0
+IsTableOf ops sources s = (d : Declared) × IsTable ops sources s d
 
 -- whether the rows of a declared table are told; true where no table is declared
 abbrev pub is_table_told : TablesView → Option Declared → Bool
 is_table_told tables None = true
 is_table_told tables (Some d) = is_some (tables.told d)
 
--- whether the rows are told of each table that a rule names among given sources, which are numbered from a given number on
-abbrev pub told_from : TablesView → RuleValue → ℕ → List SourceSpec → Bool
-told_from tables v n [] = true
-told_from tables v n (spec ∷ sources) = (not (names_source v n) || is_table_told tables (declared_in spec.kind)) && told_from tables v (n + 1) sources
+-- whether the rows are told of each table that a plan's operators read among given sources, which are numbered from a given number on
+abbrev pub told_from : TablesView → List Operator → ℕ → List SourceSpec → Bool
+told_from tables ops n [] = true
+told_from tables ops n (spec ∷ sources) = (not (reads_source ops n) || is_table_told tables (declared_in spec.kind)) && told_from tables ops (n + 1) sources
 
--- whether the rows of each table that a rule names are told
-abbrev pub all_told : TablesView → RuleValue → List SourceSpec → Bool
-all_told tables v sources = told_from tables v 0 sources
+-- whether the rows of each table that a plan's operators read are told
+abbrev pub all_told : TablesView → List Operator → List SourceSpec → Bool
+all_told tables ops sources = told_from tables ops 0 sources
 
--- the tolls on the document of a rule's plan of the steps with given answers, and of the next step where there is one
+-- the tolls on the document of a plan of the steps with given answers, and of the next step where there is one
 abbrev pub steps_toll : Question → List Answer → ℕ
-steps_toll q answers = begun (act_toll_by 0 (place_toll q.docs (operators_for q.rule)) q.tree) (names_after q.tree) no_names answers q.steps
+steps_toll q answers = begun (act_toll_by 0 (place_toll q.docs q.ops) q.tree) (names_after q.tree) no_names answers q.steps
 
 -- how answers to steps are written: the lines of the first answers, all lines under marks, and when a text begins with the whole lines of given answers
 pub record Manner : Type 1 where
@@ -74,28 +73,28 @@ pub record IsFrugal (w : Manner) (before after : Option (List ℕ)) (q : Questio
 -- what steps come to that are answered over tables that meant the first before and mean the second after, what it asked, and what a sink has
 -- taken of their lines
 pub record IsAnsweredIn (w : Manner) (before after : TablesView) (q : Question) (fills : ℕ) (sink sink' : SinkView) (status : ℕ) (lines : List ℕ) : Type 0 where
-  -- the answers to the first steps; a fault is one of a table that the rule names
+  -- the answers to the first steps; a fault is one of a table that the plan reads
   pub answers : List Answer
-  pub allowed : AreAnswers false (IsTableOf q.rule q.sources) no_names answers q.steps
+  pub allowed : AreAnswers false (IsTableOf q.ops q.sources) no_names answers q.steps
   -- a table failed as often as it is marked
-  pub counted : (s : ℕ) (d : Declared) → IsTable q.rule q.sources s d → HasRisenBy (faults_of s answers) (before.faults d) (after.faults d)
+  pub counted : (s : ℕ) (d : Declared) → IsTable q.ops q.sources s d → HasRisenBy (faults_of s answers) (before.faults d) (after.faults d)
   pub status_is : status ≡ cond (has_fault answers) 1 0
   -- each page was asked for a fill
   pub pages : after.pages ≤ before.pages + fills
   -- over told tables no more fills were asked than the tolls of the steps come to that were begun
-  pub cost : all_told before q.rule q.sources ≡ true → IsFrugal w sink.written sink'.written q fills answers
+  pub cost : all_told before q.ops q.sources ≡ true → IsFrugal w sink.written sink'.written q fills answers
   -- over told tables the lines are those of all steps on the tree, under the marks that the answers show
-  pub told : all_told before q.rule q.sources ≡ true → let marks = marks_of answers in
+  pub told : all_told before q.ops q.sources ≡ true → let marks = marks_of answers in
       AreMarks false q.tree no_names marks q.steps × (lines ≡ w.under marks)
   -- else they are those of answers to all steps
-  pub untold : all_told before q.rule q.sources ≡ false → (length answers ≡ length q.steps) × (lines ≡ w.lines_of answers)
+  pub untold : all_told before q.ops q.sources ≡ false → (length answers ≡ length q.steps) × (lines ≡ w.lines_of answers)
 
 -- the answers to the steps of a run, its status and lines, over tables that meant the first before and mean the second after
 abbrev pub IsAnswered : TablesView → TablesView → Question → ℕ → SinkView → SinkView → ℕ → List ℕ → Type 0
 IsAnswered before after q = IsAnsweredIn (in_order q) before after q
 
--- where a rule names no table, the lines of a run are the transcript without marks, and the status is 0
+-- where a plan reads no table, the lines of a run are the transcript without marks, and the status is 0
 abbrev pub RunsWithoutTablesAreUnmarked : Type 0
 RunsWithoutTablesAreUnmarked =
     (before after : TablesView) (q : Question) (fills : ℕ) (sink sink' : SinkView) (status : ℕ) (lines : List ℕ)
-    → ((s : ℕ) → IsTableOf q.rule q.sources s → ⊥) → IsAnswered before after q fills sink sink' status lines → (status ≡ 0) × (lines ≡ transcript q.tree [] [] q.steps)
+    → ((s : ℕ) → IsTableOf q.ops q.sources s → ⊥) → IsAnswered before after q fills sink sink' status lines → (status ≡ 0) × (lines ≡ transcript q.tree [] [] q.steps)

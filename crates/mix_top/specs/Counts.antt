@@ -1,17 +1,16 @@
--- What `count` writes after the answers, and the class of a view.
+-- What `count` writes after the answers, and the class of a plan.
 use Rattle.std.specs.Prelude.{ℕ, List, ◌++◌, codes}
 use Rattle.std.specs.Fmt.{decimal}
 use Rattle.browse_class.specs.declared.class.Class.{Class}
 use Rattle.browse_class.specs.Classes.{class_in}
 use Rattle.mix_catalog.specs.declared.source.SourceSpec.{SourceSpec}
-use Rattle.plan_rewrite.specs.Rewritten.{operators_for}
+use Rattle.plan_core.specs.Plans.{Operator}
 use Rattle.view_class.specs.Layouts.{layout_in}
 use Rattle.view_class.specs.Lines.{class_line}
-use Rattle.xmas_rule.specs.Rules.{RuleValue}
 
--- the class of a rule's plan over the sources of a catalog
-abbrev pub view_class : RuleValue → List SourceSpec → Class
-view_class v sources = class_in (layout_in v sources) (operators_for v)
+-- the class of a plan's operators over the sources of a catalog
+abbrev pub class_over : List SourceSpec → List Operator → Class
+class_over sources ops = class_in (layout_in sources) ops
 
 -- the lines that tell the numbers of commands, fills and pages
 abbrev pub number_lines : (commands fills pages : ℕ) → List ℕ

@@ -6,11 +6,10 @@ use Rattle.mix_script.specs.declared.step.Step.{Step}
 use Rattle.mix_catalog.specs.declared.source.SourceSpec.{SourceSpec}
 use Rattle.mix_catalog.specs.Grammar.{file_of}
 use Rattle.table_wrap.specs.Document.{is_table_of}
-use Rattle.xmas_rule.specs.Rules.{RuleValue}
-use Rattle.xmas_read.specs.Results.{names_of_sources}
+use Rattle.plan_core.specs.Plans.{Operator}
 use Rattle.mix_top.specs.Commands.{Command, help, version, walk, read, plan, run, count, load, unknown}
-use Rattle.mix_top.specs.Course.{AreAccepted, IsCatalogFile, IsRuleFile, IsScript}
-use Rattle.view_class.specs.Named.{names_source}
+use Rattle.mix_top.specs.Course.{AreAccepted, IsCatalogFile, IsScript, PlanFile, by_view}
+use Rattle.view_class.specs.Reads.{reads_source}
 use Rattle.mix_top.specs.Documents.{SpellsTree, IsDocument}
 
 -- of no path but those that a given property lets be read was more read than before
@@ -29,28 +28,28 @@ ViewMayRead files view catalog path = (path ≡ catalog) ⊎ ((path ≡ view) ×
 abbrev pub IsWholeFile : SourceSpec → List ℕ → Type 0
 IsWholeFile spec path = (is_table_of spec.kind ≡ false) × (path ≡ file_of spec.kind)
 
--- a path is that of the file of a source that a rule names, where the source is no table
-abbrev pub IsFileFor : RuleValue → ℕ → SourceSpec → List ℕ → Type 0
-IsFileFor v s spec path = IsTrue (names_source v s) × IsWholeFile spec path
+-- a path is that of the file of a source that a plan's operators read, where the source is no table
+abbrev pub IsFileFor : List Operator → ℕ → SourceSpec → List ℕ → Type 0
+IsFileFor ops s spec path = IsTrue (reads_source ops s) × IsWholeFile spec path
 
--- the files of sources that a rule may read: each where those of all sources before it that the rule names are accepted
-abbrev pub SourceMayRead : FilesView → RuleValue → List SourceSpec → List ℕ → Type 0
-SourceMayRead files v sources path =
-    (s : ℕ) × (spec : SourceSpec) × (slice_get sources s ≡ Some spec) × IsFileFor v s spec path × AreAccepted files v sources s
+-- the files of sources that may be read for a plan: each where those of all sources before it that the plan's operators read are accepted
+abbrev pub SourceMayRead : FilesView → List Operator → List SourceSpec → List ℕ → Type 0
+SourceMayRead files ops sources path =
+    (s : ℕ) × (spec : SourceSpec) × (slice_get sources s ≡ Some spec) × IsFileFor ops s spec path × AreAccepted files ops sources s
 
--- the files that a command may read: the catalog, after it the view, and after that those that a given relation says
-abbrev pub MayReadAfter : (List SourceSpec → RuleValue → List ℕ → Type 0) → FilesView → List ℕ → List ℕ → List ℕ → Type 0
-MayReadAfter Then files view catalog path =
+-- the files that a command may read: the catalog, after it the file that is to give a plan, and after that those that a given relation says
+abbrev pub MayReadAfter : PlanFile → (List SourceSpec → List Operator → List ℕ → Type 0) → FilesView → List ℕ → List ℕ → List ℕ → Type 0
+MayReadAfter given Then files view catalog path =
     (path ≡ catalog) ⊎ ((sources : List SourceSpec) × IsCatalogFile files catalog sources
-    × ((path ≡ view) ⊎ ((v : RuleValue) × IsRuleFile files view (names_of_sources sources) v × Then sources v path)))
+    × ((path ≡ view) ⊎ ((ops : List Operator) × given.Gives files view sources ops × Then sources ops path)))
 
--- after its catalog and view, the files that a run may read: the script, and after it the files of the sources that the view names
-abbrev pub ScriptMayRead : FilesView → List ℕ → List SourceSpec → RuleValue → List ℕ → Type 0
-ScriptMayRead files script sources v path = (path ≡ script) ⊎ ((steps : List Step) × IsScript files script steps × SourceMayRead files v sources path)
+-- after the files of its catalog and its plan, the files that a run may read: the script, and after it the files of the sources that the plan reads
+abbrev pub ScriptMayRead : FilesView → List ℕ → List SourceSpec → List Operator → List ℕ → Type 0
+ScriptMayRead files script sources ops path = (path ≡ script) ⊎ ((steps : List Step) × IsScript files script steps × SourceMayRead files ops sources path)
 
--- the files that a run may read: the catalog, the view, the script, and then the files of the sources that the view names
+-- the files that a run may read: the catalog, the view, the script, and then the files of the sources that the view's plan reads
 abbrev pub RunMayRead : FilesView → List ℕ → List ℕ → List ℕ → List ℕ → Type 0
-RunMayRead files view catalog script = MayReadAfter (ScriptMayRead files script) files view catalog
+RunMayRead files view catalog script = MayReadAfter by_view (ScriptMayRead files script) files view catalog
 
 -- the files that a command may read
 abbrev pub MayRead : FilesView → Command → List ℕ → Type 0

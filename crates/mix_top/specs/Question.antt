@@ -4,12 +4,12 @@ use Rattle.mix_tree.specs.Forest.{LabelledTree}
 use Rattle.mix_tree.specs.Nodes.{Documents}
 use Rattle.mix_catalog.specs.declared.source.SourceSpec.{SourceSpec}
 use Rattle.mix_script.specs.declared.step.Step.{Step}
-use Rattle.xmas_rule.specs.Rules.{RuleValue}
+use Rattle.plan_core.specs.Plans.{Operator}
 
--- what is asked of a run: sources, a rule, steps, the documents of the sources, and a tree that is to be the rule's finished document over them
+-- what is asked of a run: sources, the operators of a plan, steps, the documents of the sources, and a tree that is to be the plan's document over them
 pub record Question : Type 0 where
   pub sources : List SourceSpec
-  pub rule : RuleValue
+  pub ops : List Operator
   pub steps : List Step
   pub docs : Documents
   pub tree : LabelledTree

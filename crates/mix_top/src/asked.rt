@@ -1,13 +1,11 @@
 // What is asked of a run, and the answers to its steps.
 ghost use Rattle.std.specs.Prelude.{◌≡◌, ◌≤◌, ◌-◌, length};
 ghost use Rattle.mix_io.specs.Views.{FilesView, SinkView};
-ghost use Rattle.xmas_rule.specs.RuleMade.{rule_of};
-ghost use Rattle.xmas_rule.specs.Rules.{IsAccepted};
-ghost use Rattle.xmas_read.specs.Results.{names_of_sources};
+ghost use Rattle.plan_core.specs.PlanMade.{plan_value};
 ghost use Rattle.mix_top.specs.Mounting.{AreMounted};
 ghost use Rattle.mix_mount.specs.Mounts.{CameFrom, docs_of, fills_of, mounted_in};
 ghost use Rattle.table_keep.specs.Views.{KeepsTables, TablesView};
-ghost use Rattle.mix_top.specs.Running.{IsLinesEnd, IsMountedEnd, LinesOver, by_fills};
+ghost use Rattle.mix_top.specs.Running.{IsLinesEnd, IsMountedEnd, IsPlanOver, LinesOver, by_fills};
 ghost use Rattle.mix_top.specs.Stops.{end_of, outcome_of};
 
 use crate::reading::source_names;
@@ -18,21 +16,19 @@ use mix_io::Sink;
 use mix_lines::{LinesFault, run_lines};
 use mix_mount::{Mount, Mounted};
 use mix_script::Step;
-use plan_core::visited_are_matches;
-use plan_rewrite::plan_view;
+use plan_core::Plan;
 use std::alloc::Global;
 use table_keep::Tables;
-use xmas_rule::Rule;
 
-/// What is asked of a run: all that its catalog, its view and its script say.
+/// What is asked of a run: what its catalog and its script say, and the plan of its view.
 #[derive(Drop)]
 pub struct Asked {
     pub catalog: Catalog,
-    pub rule: Rule,
+    pub plan: Plan,
     pub steps: Vec<Step>,
 }
 
-/// What a run needs: what is asked, and the documents of the sources that the view names.
+/// What a run needs: what is asked, and the documents of the sources that the plan reads.
 #[derive(Drop)]
 pub struct Ready {
     pub asked: Asked,
@@ -75,44 +71,45 @@ fn end_of(end: Result<bool, LinesFault>) -> Result<Outcome, LinesFault>
     }
 }
 
-// Answers the steps of a run on the finished document of its rule over mounted sources, of which no fill was asked yet, each line by one
-// write.
+// Answers the steps of a run on the document of its plan over mounted sources, of which no fill was asked yet, each line by one write.
 fn answer_over<T: Tables, K: Sink>(
     alloc: Global,
-    asked: &Asked,
+    asked: Asked,
     sources: &mut Mounted<T>,
     out: &mut K,
 ) -> Result<Outcome, LinesFault>
-    requires accepted { IsAccepted (length (names_of_sources asked.now.catalog)) (rule_of asked.now.rule) }
-    requires mounted { (files : FilesView) × AreMounted files (rule_of asked.now.rule) asked.now.catalog (docs_of sources.old) }
+    requires over { IsPlanOver asked.catalog (plan_value asked.plan) }
+    requires mounted { (files : FilesView) × AreMounted files (plan_value asked.plan).ops asked.catalog (docs_of sources.old) }
     requires unasked { fills_of sources.old ≡ 0 }
     ensures came { CameFrom (mounted_in T.view sources.old) (mounted_in T.view sources.new) }
-    ensures end { IsMountedEnd (mounted_in T.view sources.old) (mounted_in T.view sources.new) asked.now
+    ensures end { IsMountedEnd (mounted_in T.view sources.old) (mounted_in T.view sources.new) asked
         (K.view out.old) (K.view out.new) result }
     ensures count { (K.view out.old).faults ≤ (K.view out.new).faults }
 {
-    visited_are_matches();
     valid_plans_have_documents();
-    let names = source_names(alloc, &asked.catalog)?;
-    let plan = plan_view(alloc, &asked.rule, &names)?;
+    let Asked {
+        catalog,
+        plan,
+        steps,
+    } = asked;
+    let names = source_names(alloc, &catalog)?;
     let mediator = Mediator::open(alloc, plan, sources)?;
-    end_of(run_lines(alloc, sources, mediator, &asked.steps, &names, out))
+    end_of(run_lines(alloc, sources, mediator, &steps, &names, out))
 }
 
-/// Answers the steps of a run on the finished document of its rule, over mounted documents and tables, which are handed back, each line by one
-/// write.
+/// Answers the steps of a run on the document of its plan, over mounted documents and tables, which are handed back, each line by one write.
 pub fn answer<T: Tables, K: Sink>(
     alloc: Global,
-    asked: &Asked,
+    asked: Asked,
     docs: Vec<Mount>,
     tables: T,
     out: &mut K,
 ) -> Answered<T>
-    requires accepted { IsAccepted (length (names_of_sources asked.now.catalog)) (rule_of asked.now.rule) }
-    requires mounted { (files : FilesView) × AreMounted files (rule_of asked.now.rule) asked.now.catalog docs.items }
+    requires over { IsPlanOver asked.catalog (plan_value asked.plan) }
+    requires mounted { (files : FilesView) × AreMounted files (plan_value asked.plan).ops asked.catalog docs.items }
     requires few { length docs.items ≤ 32 }
     ensures keeps { KeepsTables (T.view tables) (T.view result.tables) }
-    ensures end { IsLinesEnd (LinesOver (by_fills result.spent.fills) (T.view tables) (T.view result.tables) docs.items asked.now)
+    ensures end { IsLinesEnd (LinesOver (by_fills result.spent.fills) (T.view tables) (T.view result.tables) docs.items asked)
         (K.view out.old) (K.view out.new) result.end }
     ensures pages { result.spent.pages ≡ (T.view result.tables).pages - (T.view tables).pages }
     ensures count { (K.view out.old).faults ≤ (K.view out.new).faults }

@@ -2,44 +2,30 @@
 ghost use Rattle.std.specs.Prelude.{◌≡◌, ◌≤◌, List, ℕ, length, IfOk, IfErr, string_bytes};
 ghost use Rattle.mix_io.specs.Views.{FilesView, SinkView};
 ghost use Rattle.table_keep.specs.Views.{KeepsTables, TablesView};
-ghost use Rattle.xmas_rule.specs.RuleMade.{rule_of};
-ghost use Rattle.xmas_rule.specs.Rules.{IsAccepted};
-ghost use Rattle.xmas_read.specs.Results.{names_of_sources};
+ghost use Rattle.plan_core.specs.PlanMade.{plan_value};
 ghost use Rattle.mix_top.specs.Counting.{IsCounted, IsCountStop, lines_of_counts};
-ghost use Rattle.mix_top.specs.Counts.{number_lines, view_class};
+ghost use Rattle.mix_top.specs.Counts.{number_lines};
 ghost use Rattle.mix_top.specs.Course.{lines_of_count};
 ghost use Rattle.mix_top.specs.Mounting.{AreMounted};
-ghost use Rattle.mix_top.specs.Running.{LinesOver};
+ghost use Rattle.mix_top.specs.Running.{IsPlanOver, LinesOver};
 ghost use Rattle.mix_top.specs.Stops.{IsDoneAlong, IsStopAlong};
 
-use crate::asked::{Asked, Ready, Spent, answer};
-use crate::reading::source_names;
+use crate::asked::{Ready, Spent, answer};
 use crate::refusal::{Outcome, Stop};
 use crate::writing::write_lines;
 use browse_class::Class;
 use mix_io::Sink;
 use mix_lines::LinesFault;
-use plan_rewrite::plan_view;
 use std::alloc::{AllocError, Global};
 use table_keep::Tables;
 use view_class::{class_line, class_over};
 
-/// What `count` writes after the answers: how many commands there were, what they asked, and the class of the view.
+/// What `count` writes after the answers: how many commands there were, what they asked, and the class of the plan.
 #[derive(Clone, Copy)]
 pub struct Counts {
     pub commands: u64,
     pub spent: Spent,
     pub class: Class,
-}
-
-// The class of the view of a run.
-fn class_asked(alloc: Global, asked: &Asked) -> Result<Class, AllocError>
-    requires { IsAccepted (length (names_of_sources asked.now.catalog)) (rule_of asked.now.rule) }
-    ensures { IfOk result (λ class. class ≡ view_class (rule_of asked.now.rule) asked.now.catalog) }
-{
-    let names = source_names(alloc, &asked.catalog)?;
-    let plan = plan_view(alloc, &asked.rule, &names)?;
-    class_over(alloc, &asked.catalog, &asked.rule, &plan)
 }
 
 // The lines that tell how many commands, fills and pages there were.
@@ -50,7 +36,7 @@ fn numbers_text(alloc: Global, commands: u64, spent: Spent) -> Result<String, Al
     format!(in alloc; "commands {commands}\nfills {fills}\npages {pages}\n")
 }
 
-// The lines that tell the counts of a run, and the class of its view.
+// The lines that tell the counts of a run, and the class of its plan.
 fn counts_text(alloc: Global, counts: &Counts) -> Result<String, AllocError>
     ensures { IfOk result (λ text. string_bytes text ≡ lines_of_counts counts.now) }
 {
@@ -84,8 +70,8 @@ pub fn count_ready<T: Tables, K: Sink>(
     tables: T,
     out: &mut K,
 ) -> (Result<Outcome, Stop>, T)
-    requires accepted { IsAccepted (length (names_of_sources ready.asked.catalog)) (rule_of ready.asked.rule) }
-    requires mounted { (files : FilesView) × AreMounted files (rule_of ready.asked.rule) ready.asked.catalog ready.docs.items }
+    requires over { IsPlanOver ready.asked.catalog (plan_value ready.asked.plan) }
+    requires mounted { (files : FilesView) × AreMounted files (plan_value ready.asked.plan).ops ready.asked.catalog ready.docs.items }
     requires few { length ready.docs.items ≤ 32 }
     ensures keeps { KeepsTables (T.view tables) (T.view result.1) }
     ensures done { IfOk result.0 (IsDoneAlong (LinesOver lines_of_count (T.view tables) (T.view result.1) ready.docs.items ready.asked)
@@ -95,13 +81,14 @@ pub fn count_ready<T: Tables, K: Sink>(
     ensures count { (K.view out.old).faults ≤ (K.view out.new).faults }
 {
     let Ready { asked, docs } = ready;
-    let class = match class_asked(alloc, &asked) {
+    let commands = asked.steps.as_slice().len() as u64;
+    let class = match class_over(alloc, &asked.catalog, &asked.plan) {
         Ok(class) => class,
         Err(_) => return (Err(Stop::OutOfMemory), tables),
     };
-    let answered = answer(alloc, &asked, docs, tables, out);
+    let answered = answer(alloc, asked, docs, tables, out);
     let counts = Counts {
-        commands: asked.steps.as_slice().len() as u64,
+        commands,
         spent: answered.spent,
         class,
     };

@@ -1,9 +1,9 @@
-// The documents of the sources that a rule names, read and mounted one after another.
+// The documents of the sources that a plan reads, read and mounted one after another.
 ghost use Rattle.std.specs.Prelude.{◌≡◌, ◌≤◌, List, ℕ, true, false, length, slice_get, Some, OnOk, IfOk, IfErr};
 ghost use Rattle.mix_catalog.specs.Sources.{IsCatalog, IsChunk};
 ghost use Rattle.mix_io.specs.Views.{FilesView, KeepsFiles};
 ghost use Rattle.mix_mount.specs.declared.mount.Mount.TheVariants.{Absent};
-ghost use Rattle.xmas_rule.specs.RuleMade.{rule_of};
+ghost use Rattle.plan_core.specs.PlanMade.{plan_value};
 ghost use Rattle.mix_top.specs.Mounting.{AreMounted, IsMountStop, IsMountedSpec, IsMountFor, IsSourceStop, IsSpecStop};
 ghost use Rattle.mix_top.specs.FilesRead.{ReadsAmong, IsFileFor, IsWholeFile, SourceMayRead};
 
@@ -13,11 +13,11 @@ use mix_catalog::{Catalog, SourceKind, SourceSpec};
 use mix_io::Files;
 use mix_mount::Mount;
 use mix_tree::Label;
+use plan_core::Plan;
 use std::alloc::Global;
 use std::str;
 use table_wrap::TableDoc;
-use view_class::names_source;
-use xmas_rule::Rule;
+use view_class::reads_source;
 
 // The path that a label is.
 fn path_of(file: &Label) -> &str
@@ -49,48 +49,48 @@ fn mount_spec<F: Files>(alloc: Global, files: &mut F, spec: &SourceSpec) -> Resu
     }
 }
 
-// The mount of a source's number for a rule: the source's document where the rule names the source, else `Absent`.
+// The mount of a source's number for a plan: the source's document where the plan reads the source, else `Absent`.
 fn mount_source<F: Files>(
     alloc: Global,
     files: &mut F,
-    rule: &Rule,
+    plan: &Plan,
     s: u32,
     spec: &SourceSpec,
 ) -> Result<Mount, Stop>
     requires { IsChunk spec.now.chunk }
     ensures keeps { KeepsFiles (F.view files.old) (F.view files.new) }
-    ensures reads { ReadsAmong (IsFileFor (rule_of rule.now) s spec.now) (F.view files.old) (F.view files.new) }
+    ensures reads { ReadsAmong (IsFileFor (plan_value plan.now).ops s spec.now) (F.view files.old) (F.view files.new) }
     ensures steady { OnOk result ((p : List ℕ) → (F.view files.new).faults p ≡ (F.view files.old).faults p) }
-    ensures ok { IfOk result (IsMountFor (F.view files.old) (rule_of rule.now) s spec.now) }
-    ensures err { IfErr result (IsSourceStop (F.view files.old) (F.view files.new) (rule_of rule.now) s spec.now) }
+    ensures ok { IfOk result (IsMountFor (F.view files.old) (plan_value plan.now).ops s spec.now) }
+    ensures err { IfErr result (IsSourceStop (F.view files.old) (F.view files.new) (plan_value plan.now).ops s spec.now) }
 {
-    if names_source(rule, s) {
+    if reads_source(plan, s) {
         mount_spec(alloc, files, spec)
     } else {
         Ok(Mount::Absent)
     }
 }
 
-/// The mounts of a catalog's sources for a rule, by their numbers: the documents of those that the rule names, read in the order of the
+/// The mounts of a catalog's sources for a plan, by their numbers: the documents of those that the plan reads, read in the order of the
 /// catalog, each accepted before the next is read, and `Absent` for all others. An error names the first file that is refused.
 pub fn mount_sources<F: Files>(
     alloc: Global,
     files: &mut F,
     catalog: &Catalog,
-    rule: &Rule,
+    plan: &Plan,
 ) -> Result<Vec<Mount>, Stop>
     requires { (text : List ℕ) × IsCatalog text catalog.now }
     ensures keeps { KeepsFiles (F.view files.old) (F.view files.new) }
     ensures reads { let old = F.view files.old in
-        ReadsAmong (SourceMayRead old (rule_of rule.now) catalog.now) old (F.view files.new) }
+        ReadsAmong (SourceMayRead old (plan_value plan.now).ops catalog.now) old (F.view files.new) }
     ensures steady { OnOk result ((p : List ℕ) → (F.view files.new).faults p ≡ (F.view files.old).faults p) }
-    ensures ok { IfOk result (λ docs. AreMounted (F.view files.old) (rule_of rule.now) catalog.now docs.items) }
+    ensures ok { IfOk result (λ docs. AreMounted (F.view files.old) (plan_value plan.now).ops catalog.now docs.items) }
     ensures few { IfOk result (λ docs. length docs.items ≤ 32) }
-    ensures err { IfErr result (IsMountStop (F.view files.old) (F.view files.new) (rule_of rule.now) catalog.now) }
+    ensures err { IfErr result (IsMountStop (F.view files.old) (F.view files.new) (plan_value plan.now).ops catalog.now) }
 {
     let mut docs = Vec::new(alloc);
     for s in 0..catalog.len() {
-        docs.push(mount_source(alloc, files, rule, s, catalog.spec(s))?)?;
+        docs.push(mount_source(alloc, files, plan, s, catalog.spec(s))?)?;
     }
     Ok(docs)
 }

@@ -1,8 +1,8 @@
 -- Rows of files and of tables are laid out as their columns say.
-use Rattle.std.proofs.Common.{◌≡◌, inl, inr, ℕ, Bool, true, false, cond, List, [], ◌∷◌, Option, Some, None, IsSome, refl, subst, sym, arith, length, map}
+use Rattle.std.proofs.Common.{◌≡◌, inl, inr, ℕ, Bool, true, false, List, [], ◌∷◌, Option, Some, None, IsSome, refl, arith, length, map}
 use Rattle.std.specs.List.{All}
 use Rattle.std.proofs.lemmas.List.Elements.{All-head, All-tail}
-use Rattle.mix_tree.specs.Forest.{Forest, forest_of}
+use Rattle.mix_tree.specs.Forest.{forest_of}
 use Rattle.mix_catalog.specs.declared.column.Column.{Column}
 use Rattle.csv_wrap.specs.Csv.{IsRow}
 use Rattle.csv_wrap.specs.Rows as csv

@@ -1,2 +1,5 @@
 pub mod Laid
+pub mod Lists
 pub mod ShapeLists
+pub mod Sourced
+pub mod Unread

@@ -8,27 +8,25 @@ use Rattle.std.proofs.Math.Path.{fun_ext}
 use Rattle.mix_catalog.specs.declared.source.SourceSpec.{SourceSpec}
 use Rattle.browse_visit.specs.declared.shape.Shape.{Shape}
 use Rattle.browse_visit.specs.declared.shape.Shape.TheVariants.{Any}
-use Rattle.browse_visit.specs.Layouts.{Layout}
 use Rattle.browse_visit.specs.Shapes.{shape_at, shape_layout, shapes_of}
-use Rattle.xmas_rule.specs.Rules.{RuleValue}
-use Rattle.view_class.specs.Layouts.{layout_for, layout_in, layout_there}
+use Rattle.view_class.specs.Layouts.{layout_in, layout_there, spec_layout}
 
 -- the shapes of the first n sources
-pub record AreShapesTo (v : RuleValue) (sources : List SourceSpec) (n : ℕ) (shapes : List Shape) : Type 0 where
+pub record AreShapesTo (sources : List SourceSpec) (n : ℕ) (shapes : List Shape) : Type 0 where
   pub count : length shapes ≡ n
-  pub each : (s : ℕ) → s < n → shapes_of shapes s ≡ layout_in v sources s
+  pub each : (s : ℕ) → s < n → shapes_of shapes s ≡ layout_in sources s
 
 -- there are none yet
-pub no_shapes : (v : RuleValue) (sources : List SourceSpec) → AreShapesTo v sources 0 []
-no_shapes v sources = record { count = refl; each = λ s h. absurd (omega (arith, h)) }
+pub no_shapes : (sources : List SourceSpec) → AreShapesTo sources 0 []
+no_shapes sources = record { count = refl; each = λ s h. absurd (omega (arith, h)) }
 
 -- one more
-pub one_shape_more : (v : RuleValue) (sources : List SourceSpec) (n : ℕ) (shapes : List Shape) (spec : SourceSpec) (shape : Shape) → AreShapesTo v sources n shapes → slice_get sources n ≡ Some spec
-    → shape_layout shape ≡ layout_for v n spec → AreShapesTo v sources (n + 1) (shapes ++ shape ∷ [])
-one_shape_more v sources n shapes spec shape h there new = record {
+pub one_shape_more : (sources : List SourceSpec) (n : ℕ) (shapes : List Shape) (spec : SourceSpec) (shape : Shape) → AreShapesTo sources n shapes → slice_get sources n ≡ Some spec
+    → shape_layout shape ≡ spec_layout spec → AreShapesTo sources (n + 1) (shapes ++ shape ∷ [])
+one_shape_more sources n shapes spec shape h there new = record {
   count = (let l = length-append shapes (shape ∷ []) in let c = h.count in omega (arith, l, c));
   each = λ s less.
-      elim (cases_lt s n) as (λ _. shapes_of (shapes ++ shape ∷ []) s ≡ layout_in v sources s) [
+      elim (cases_lt s n) as (λ _. shapes_of (shapes ++ shape ∷ []) s ≡ layout_in sources s) [
         | inl low ↦ (
             let c = h.count in
             let inside : s < length shapes = omega (arith, low, c) in
@@ -36,15 +34,15 @@ one_shape_more v sources n shapes spec shape h there new = record {
             )
         | inr high ↦ (
             let e : n ≡ s = omega (arith, less, high) in
-            subst (λ (k : ℕ). shapes_of (shapes ++ shape ∷ []) k ≡ layout_in v sources k) e last
+            subst (λ (k : ℕ). shapes_of (shapes ++ shape ∷ []) k ≡ layout_in sources k) e last
             )
       ];
 }
   where
-    last : shapes_of (shapes ++ shape ∷ []) n ≡ layout_in v sources n
+    last : shapes_of (shapes ++ shape ∷ []) n ≡ layout_in sources n
     last =
         let place : shape_at (shapes ++ shape ∷ []) n ≡ shape = subst (λ (k : ℕ). get_or (shapes ++ shape ∷ []) k Any ≡ shape) h.count (get_or-append_seam shapes shape [] Any) in
-        ap shape_layout place ∙ new ∙ ap (layout_there v n) (sym there)
+        ap shape_layout place ∙ new ∙ ap layout_there (sym there)
 
 -- there is no source after the last
 none_past : (sources : List SourceSpec) (s : ℕ) → length sources ≤ s → slice_get sources s ≡ None
@@ -55,15 +53,15 @@ none_past sources s h =
     ]
 
 -- all of them
-pub all_shapes : (v : RuleValue) (sources : List SourceSpec) (n : ℕ) (shapes : List Shape) → n ≡ length sources → AreShapesTo v sources n shapes → shapes_of shapes ≡ layout_in v sources
-all_shapes v sources n shapes e h = fun_ext at
+pub all_shapes : (sources : List SourceSpec) (n : ℕ) (shapes : List Shape) → n ≡ length sources → AreShapesTo sources n shapes → shapes_of shapes ≡ layout_in sources
+all_shapes sources n shapes e h = fun_ext at
   where
-    at : (s : ℕ) → shapes_of shapes s ≡ layout_in v sources s
+    at : (s : ℕ) → shapes_of shapes s ≡ layout_in sources s
     at s =
-        elim (cases_lt s n) as (λ _. shapes_of shapes s ≡ layout_in v sources s) [
+        elim (cases_lt s n) as (λ _. shapes_of shapes s ≡ layout_in sources s) [
           | inl low ↦ h.each s low
           | inr high ↦ (
               let c = h.count in
-              ap shape_layout (get_or_past shapes s Any (omega (arith, c, high))) ∙ ap (layout_there v s) (sym (none_past sources s (omega (arith, e, high))))
+              ap shape_layout (get_or_past shapes s Any (omega (arith, c, high))) ∙ ap layout_there (sym (none_past sources s (omega (arith, e, high))))
               )
         ]

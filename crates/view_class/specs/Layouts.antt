@@ -1,5 +1,5 @@
 -- How the documents of a catalog's sources are laid out.
-use Rattle.std.specs.Prelude.{ℕ, true, cond, List, map, Option, Some, None, slice_get}
+use Rattle.std.specs.Prelude.{ℕ, true, List, map, Option, Some, None, slice_get}
 use Rattle.mix_catalog.specs.declared.column.Column.{Column}
 use Rattle.mix_catalog.specs.declared.source.SourceKind.{SourceKind}
 use Rattle.mix_catalog.specs.declared.source.SourceKind.TheVariants.{Bracket, Csv, Table}
@@ -7,8 +7,6 @@ use Rattle.mix_catalog.specs.declared.source.SourceSpec.{SourceSpec}
 use Rattle.browse_visit.specs.declared.visit.TableColumn.{TableColumn}
 use Rattle.browse_visit.specs.Layouts.{Layout, no_trees, a_tree, any_rows, any_trees}
 use Rattle.browse_visit.specs.Shapes.{row_label, row_of}
-use Rattle.xmas_rule.specs.Rules.{RuleValue}
-use Rattle.view_class.specs.Named.{names_source}
 
 -- a column of a CSV file: each row has a value in it, be it the empty text
 abbrev pub field_column : List ℕ → TableColumn
@@ -32,15 +30,11 @@ kind_layout name (Table file table key columns) = rows_layout name (map declared
 abbrev pub spec_layout : SourceSpec → Layout
 spec_layout spec = kind_layout spec.name spec.kind
 
--- what stands after the number of a source for a rule: of a source that it doesn't name nothing is known
-abbrev pub layout_for : RuleValue → ℕ → SourceSpec → Layout
-layout_for v s spec = cond (names_source v s) (spec_layout spec) any_trees
+-- the documents of a source, where there is one; of none nothing is known
+abbrev pub layout_there : Option SourceSpec → Layout
+layout_there None = any_trees
+layout_there (Some spec) = spec_layout spec
 
--- so after a number, where there is a source of it
-abbrev pub layout_there : RuleValue → ℕ → Option SourceSpec → Layout
-layout_there v s None = any_trees
-layout_there v s (Some spec) = layout_for v s spec
-
--- so after each number of a catalog
-abbrev pub layout_in : RuleValue → List SourceSpec → ℕ → Layout
-layout_in v sources s = layout_there v s (slice_get sources s)
+-- the documents of the source of a number among the sources of a catalog; of a number that no source has nothing is known
+abbrev pub layout_in : List SourceSpec → ℕ → Layout
+layout_in sources s = layout_there (slice_get sources s)

@@ -12,7 +12,7 @@ returns-in-Ok-clause-ends g c =
     let tables = g.T.Tables.view in
     let input = g.I.Input.view in
     let sink = g.K.Sink.view in
-    held (files c.args.files.now) (files c.make_ready.new.files) (tables c.args.tables) (tables c.talk_ready-end.result.1) c.args.talking.now.view.now c.args.talking.now.catalog.now
+    held (files c.args.files.now) (files c.make_ready.new.files) (tables c.args.tables) (tables c.talk_ready-end.result.1) c.args.talking.now.view.now c.args.talking.now.catalog.now c.visited_are_matches.ensures
     (input c.args.streams.now.input) (input c.talk_ready-end.new.streams.input) (sink c.args.streams.now.out) (sink c.talk_ready-end.new.streams.out) c.in-Ok.ready c.in-Ok.ensures.ok c.talk_ready-end.result.0 c.talk_ready-end.ensures.end
     c.status_of.result c.status_of.ensures
 

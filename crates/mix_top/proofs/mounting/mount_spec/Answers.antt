@@ -1,6 +1,6 @@
 use Rattle.std.proofs.Common.{◌≡◌, ◌∙◌, true, false, refl, sym}
 use Rattle.table_wrap.specs.Document.{declared_of}
-use Rattle.mix_top.proofs.NamedTables.{is_table}
+use Rattle.mix_top.proofs.ReadTables.{is_table}
 use Rattle.mix_top.proofs.mounting.mount_spec.Goals as goal
 
 pub returns-in_ok-open-in-Table-clause-ok : goal.returns-in_ok-open-in-Table-clause-ok
