@@ -1,0 +1,13 @@
+pub mod Checks
+pub mod Drafts
+pub mod Grammar
+pub mod Lines
+pub mod Numbers
+pub mod Ops
+pub mod PiecesMade
+pub mod Reading
+pub mod Results
+pub mod Scopes
+pub mod Stops
+pub mod Variables
+pub mod Words
