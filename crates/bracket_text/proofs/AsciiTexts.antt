@@ -16,6 +16,6 @@ all_ascii (b ∷ bs) h zero = ascii_below b (and_parts (is_ascii b) (list_all is
     ascii_below b h = grind (arith, nat_tests)
 all_ascii (b ∷ bs) h (suc i) = all_ascii bs (and_parts (is_ascii b) (list_all is_ascii bs) h).1 i
 
--- so it is UTF-8
+-- a text whose bytes are all tested as ASCII is UTF-8
 pub ascii_utf8 : (text : List ℕ) → list_all is_ascii text ≡ true → IsUtf8 text
 ascii_utf8 text h = IsUtf8-from_ascii text (all_ascii text h)

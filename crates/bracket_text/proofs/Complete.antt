@@ -14,12 +14,12 @@ abbrev pub trees_of : Forest → List LabelledTree
 trees_of none = []
 trees_of (tree l k n) = record { label = l; kids = k } ∷ trees_of n
 
--- and back
+-- the list of a forest's trees makes that forest again
 pub forest_of-trees_of : (f : Forest) → forest_of (trees_of f) ≡ f
 forest_of-trees_of none = refl
 forest_of-trees_of (tree l k n) = ap (tree l k) (forest_of-trees_of n)
 
--- with trees below the innermost open one
+-- a frame with more trees among its children
 abbrev pub with_kids : Frame → List LabelledTree → Frame
 with_kids f ts = record { label = f.label; kids = f.kids ++ ts }
 
@@ -44,11 +44,11 @@ TreeAfter o t r = (m : Mode) × (r ≡ Some (at o m)) × (tree_in m ≡ Some t)
 abbrev pub ReadsTrees : Forest → List ℕ → Type 0
 ReadsTrees k x = (f : Frame) (o : List Frame) (m : Mode) → MayBegin m → Ends (After f o (trees_of k)) (run (at (f ∷ o) m) x)
 
--- a blank after a label
+-- a blank after a label ends it
 blank_label : (o : List Frame) (l : List ℕ) (b : ℕ) → IsTrue (is_blank b) → after_label o l b ≡ Some (at o (named l))
 blank_label o l b h = rw h refl
 
--- blanks after a label
+-- blanks after a label leave that label at hand
 name_blanks : (a : List ℕ) (o : List Frame) (m : Mode) (l : List ℕ) → IsNamed m l → IsBlanks a → NamedAfter o l (run (at o m) a)
 name_blanks [] o m l n h = (m, refl, n)
 name_blanks (b ∷ a) o m l n h =
@@ -111,7 +111,7 @@ rest_read f o m t (tree l' k' n') x reads (a, b, y, ha, hb, hy, e) h =
       },
     )
 
--- text of trees is read
+-- the text of trees is read as those trees
 pub trees_read : (k : Forest) (x : List ℕ) → SpellsTrees k x → ReadsTrees k x
 trees_read none x h f o m b = absurd h
 trees_read (tree l k n) x (w, y, z, hl, hk, hn, e) f o m b =

@@ -48,12 +48,12 @@ comma_lies nodes opened f o t l = record {
   places_are = l.places_are;
 }
 
--- and a closing bracket closes the tree round it
+-- a closing bracket after a whole tree closes the tree round it
 pub tree_shuts : (nodes : List LaidNode) (opened : List ℕ) (f : Frame) (o : List Frame) (t : LabelledTree) → Lies nodes opened (laid (alone t)) (f ∷ o)
     → Shuts nodes opened f.label (forest_of (f.kids ++ t ∷ [])) o
 tree_shuts nodes opened f o t l = let c = comma_lies nodes opened f o t l in record { nodes_are = c.nodes_are; places_are = c.places_are }
 
--- so do empty brackets
+-- empty brackets close the tree whose label is before them
 pub empty_shuts : (nodes : List LaidNode) (opened : List ℕ) (f : Frame) (o : List Frame) → Lies nodes opened [] (f ∷ o) → Shuts nodes opened f.label (forest_of f.kids) o
 empty_shuts nodes opened f o l = record { nodes_are = l.nodes_are; places_are = l.places_are }
 
@@ -68,7 +68,7 @@ open_lies nodes opened more place o l h e p =
 pub none_open : {Q : Type 0} (o : List Frame) (f : Frame) (opened : List ℕ) → opened ≡ places (f ∷ o) → opened ≡ [] → Q
 none_open o f opened e n = some_last (places o) (length (open_nodes o)) (sym n ∙ e)
 
--- as many are open
+-- there are as many places of open trees as open trees
 pub open_count : (o : List Frame) → length (places o) ≡ length o
 open_count [] = refl
 open_count (f ∷ o) = omega (arith, length-append (places o) (length (open_nodes o) ∷ []), open_count o)
@@ -84,7 +84,7 @@ not_none xs n b e f l h = by_count n (omega (arith, l, ap length h)) (sym e ∙ 
 pub tree_blank : (r : Reader) (at : ℕ) (o : List Frame) (t : LabelledTree) (b : ℕ) → Lies r.store r.«open».items (laid (alone t)) o → r.mode ≡ Closed → IsTrue (is_blank b) → Gives (Ok tt) at r (after_tree o t b)
 tree_blank r at o t b l m h = (machine.at o (machine.closed t), rw h refl, record { lies = l; same = m })
 
--- a comma
+-- a comma after a tree leaves the reader where a tree must come, as the machine is
 pub tree_comma : (r : Reader) (at : ℕ) (o : List Frame) (t : LabelledTree) (b : ℕ) → Lies r.store r.«open».items (laid (alone t)) o → r.mode ≡ Start → is_blank b ≡ false → b ≡ 44 → (r.«open».items ≡ [] → ⊥)
     → Gives (Ok tt) at r (after_tree o t b)
 tree_comma r at [] t b l m n e some = absurd (some l.places_are)
@@ -95,7 +95,7 @@ tree_comma r at (f ∷ o) t b l m n e some =
 abbrev pub ClosesTree : Reader → List LaidNode → List ℕ → Type 0
 ClosesTree r nodes opened = (t : LabelledTree) (o : List Frame) → Shuts nodes opened t.label t.kids o → Holds r o (machine.closed t)
 
--- a closing bracket
+-- a closing bracket after a tree leaves the reader with the tree round it at hand, as the machine is
 pub tree_close : (r : Reader) (at : ℕ) (nodes : List LaidNode) (opened : List ℕ) (o : List Frame) (t : LabelledTree) (b : ℕ) → Lies nodes opened (laid (alone t)) o → is_blank b ≡ false → b ≡ 93 → (opened ≡ [] → ⊥)
     → ClosesTree r nodes opened → Gives (Ok tt) at r (after_tree o t b)
 tree_close r at nodes opened [] t b l n e some k = absurd (some l.places_are)
@@ -107,7 +107,7 @@ pub tree_alone : (opened : List ℕ) (o : List Frame) (t : LabelledTree) (b : �
 tree_alone opened [] t b l n e = rw n refl
 tree_alone opened (f ∷ o) t b l n e = none_open o f opened l e
 
--- else no other byte does
+-- after a tree, no byte goes on but a blank, a comma and a closing bracket
 pub tree_stops : (o : List Frame) (t : LabelledTree) (b : ℕ) → is_blank b ≡ false → (b == 44) ≡ false → (b == 93) ≡ false → after_tree o t b ≡ None
 tree_stops [] t b n c d = rw n refl
 tree_stops (f ∷ o) t b n c d = rw (n, c, d) refl
@@ -119,7 +119,7 @@ empty_close r at nodes opened [] b l e some k = absurd (some l.places_are)
 empty_close r at nodes opened (f ∷ o) b l e some k =
     (machine.at o (machine.closed (record { label = f.label; kids = forest_of f.kids })), ap (λ c. cond (c == 93) (close_empty (f ∷ o)) None) e, k (record { label = f.label; kids = forest_of f.kids }) o (empty_shuts nodes opened f o l))
 
--- where none is open
+-- where no bracket is open, no closing bracket goes on
 pub empty_alone : (opened : List ℕ) (o : List Frame) (b : ℕ) → opened ≡ places o → opened ≡ [] → cond (b == 93) (close_empty o) None ≡ None
 empty_alone opened [] b l e = same (b == 93)
   where
@@ -132,7 +132,7 @@ empty_alone opened (f ∷ o) b l e = none_open o f opened l e
 pub label_blank : (r : Reader) (at : ℕ) (o : List Frame) (l : List ℕ) (b : ℕ) → Lies r.store r.«open».items (laid (alone (leaf l))) o → r.mode ≡ Named → IsTrue (is_blank b) → Gives (Ok tt) at r (after_label o l b)
 label_blank r at o l b h m k = (machine.at o (machine.named l), rw k refl, record { lies = h; same = m })
 
--- an opening bracket
+-- an opening bracket after a label leaves the reader with that tree open, as the machine is
 pub label_opens : (r : Reader) (at place : ℕ) (nodes : List LaidNode) (opened : List ℕ) (o : List Frame) (l : List ℕ) (b : ℕ) → Lies nodes opened (laid (alone (leaf l))) o → r.store ≡ nodes → r.«open».items ≡ opened ++ place ∷ []
     → place + 1 ≡ length nodes → r.mode ≡ First → is_blank b ≡ false → b ≡ 91 → Gives (Ok tt) at r (after_label o l b)
 label_opens r at place nodes opened o l b h s p n m k e = (
@@ -142,13 +142,13 @@ label_opens r at place nodes opened o l b h s p n m k e = (
   record { lies = subst (λ ns. Lies ns r.«open».items [] (record { label = l; kids = [] } ∷ o)) (sym s) (open_lies nodes opened r.«open».items place o l h p n); same = m },
 )
 
--- another byte after a label is one after a leaf
+-- a byte after a label that is no blank and no opening bracket stands as after a leaf
 pub label_tree : (o : List Frame) (l : List ℕ) (b : ℕ) → is_blank b ≡ false → (b == 91) ≡ false → after_tree o (leaf l) b ≡ after_label o l b
 label_tree o l b n c =
     sym (ap (λ k. cond k (Some (machine.at o (machine.named l))) (cond (b == 91) (Some (machine.at (record { label = l; kids = [] } ∷ o) machine.first)) (after_tree o (leaf l) b))) n
     ∙ ap (λ k. cond k (Some (machine.at (record { label = l; kids = [] } ∷ o) machine.first)) (after_tree o (leaf l) b)) c)
 
--- the document is whole
+-- where no bracket is open, closing the document node gives the document of the tree at hand
 pub whole_holds : (r : Reader) (o : List Frame) (m : machine.Mode) (d : List LaidNode) → Holds r o m → r.«open».items ≡ [] → Closes r.store 0 d → (t : LabelledTree) → machine.tree_in m ≡ Some t → hand_nodes m ≡ laid (alone t)
     → (t : LabelledTree) × (machine.at_end (machine.whole_in o m) ≡ machine.reads t) × IsDocument d t
 whole_holds r [] m d h n c t e k = (
@@ -159,7 +159,7 @@ whole_holds r [] m d h n c t e k = (
 )
 whole_holds r (f ∷ o) m d h n c t e k = none_open o f r.«open».items h.lies.places_are n
 
--- an opening quote
+-- what is seen from an opening quote on is what is seen between quotes from the next byte on
 pub quote_begins : (x : List ℕ) (i : ℕ) → i < length x → slice_index x i ≡ 34 → spelled.seen_from spelled.start i (drop i x) ≡ spelled.seen_from (spelled.in_quotes []) (i + 1) (drop (i + 1) x)
 quote_begins x i inside e =
     ap (spelled.seen_from spelled.start i) (drop_more x i 0 inside)
@@ -171,7 +171,7 @@ pushes_before text at from s z (Ok end) old new h e p =
     record { label = p.label; nodes = p.nodes; next = omega (arith, h, p.next); inside = p.inside; boundary = p.boundary; seen_is = e ∙ p.seen_is }
 pushes_before text at from s z (Err f) old new h e p = subst (IsSeenFault f) (sym e) p
 
--- which mode of the machine the reader's is
+-- where the reader is at its start, so is the machine
 pub is_start : (r : Reader) (o : List Frame) (m : machine.Mode) → Holds r o m → r.mode ≡ Start → m ≡ machine.start
 is_start r o machine.start h e = refl
 is_start r o machine.first h e = let k = h.same in cc
@@ -206,13 +206,13 @@ start_blank r at o m b h e k =
     let is = is_start r o m h e in
     subst (λ n. Gives (Ok tt) at r (step_in o n b)) (sym is) (machine.at o machine.start, rw k refl, subst (Holds r o) is h)
 
--- or may
+-- a blank right after an opening bracket changes nothing
 pub first_blank : (r : Reader) (at : ℕ) (o : List Frame) (m : machine.Mode) (b : ℕ) → Holds r o m → r.mode ≡ First → IsTrue (is_blank b) → Gives (Ok tt) at r (step_in o m b)
 first_blank r at o m b h e k =
     let is = is_first r o m h e in
     subst (λ n. Gives (Ok tt) at r (step_in o n b)) (sym is) (machine.at o machine.first, rw k refl, subst (Holds r o) is h)
 
--- with no other byte a tree begins
+-- with a byte that begins no label, no tree begins
 no_begin : (o : List Frame) (b : ℕ) → machine.begins b ≡ false → machine.begin o b ≡ None
 no_begin o b n = by_tests (is_bare b) (b == 34) n
   where
@@ -234,7 +234,7 @@ first_gives r w res at o m b h e k n g =
     ap (λ q. step_in o q b) is ∙ ap (λ c. cond c (Some (machine.at o machine.first)) (cond (b == 93) (close_empty o) (machine.begin o b))) k ∙ ap (cond (b == 93) (close_empty o)) (no_begin o b n) in
     subst (Gives res at w) (sym same) (g o held.lies)
 
--- a byte after a label
+-- a byte after a label leaves the reader as the machine is, or stops both
 pub named_gives : (r w : Reader) (res : Result Unit BracketFault) (at : ℕ) (o : List Frame) (m : machine.Mode) (b : ℕ) → Holds r o m → r.mode ≡ Named
     → ((p : List Frame) (l : List ℕ) → Lies r.store r.«open».items (laid (alone (leaf l))) p → Gives res at w (after_label p l b)) → Gives res at w (step_in o m b)
 named_gives r w res at o m b h e g =
@@ -242,7 +242,7 @@ named_gives r w res at o m b h e g =
     let held = subst (Holds r o) is.1 h in
     subst (λ n. Gives res at w (step_in o n b)) (sym is.1) (g o is.0 held.lies)
 
--- a byte after a tree
+-- a byte after a tree leaves the reader as the machine is, or stops both
 pub closed_gives : (r w : Reader) (res : Result Unit BracketFault) (at : ℕ) (o : List Frame) (m : machine.Mode) (b : ℕ) → Holds r o m → r.mode ≡ Closed
     → ((p : List Frame) (t : LabelledTree) → Lies r.store r.«open».items (laid (alone t)) p → Gives res at w (after_tree p t b)) → Gives res at w (step_in o m b)
 closed_gives r w res at o m b h e g =
@@ -258,7 +258,7 @@ may r o (machine.spelling s) h k = absurd h.same
 may r o (machine.named l) h k = absurd (subst reader.MayBegin h.same k)
 may r o (machine.closed t) h k = absurd (subst reader.MayBegin h.same k)
 
--- and else it may not
+-- where the reader's label may not begin, the machine's may not
 pub may_not : (r : Reader) (o : List Frame) (m : machine.Mode) → Holds r o m → ¬ reader.MayBegin r.mode → (b : ℕ) → IsTrue (machine.begins b) → (machine.is_deep_in o m b ≡ false) × (step_in o m b ≡ None)
 may_not r o machine.start h k b n = absurd (k (subst reader.MayBegin (sym h.same) tt))
 may_not r o machine.first h k b n = absurd (k (subst reader.MayBegin (sym h.same) tt))
@@ -266,7 +266,7 @@ may_not r o (machine.spelling s) h k b n = absurd h.same
 may_not r o (machine.named l) h k b n = (refl, label_refuses o l b n)
 may_not r o (machine.closed t) h k b n = (refl, tree_refuses o t b n)
 
--- then no node is at hand
+-- where a label may begin, no node is at hand
 hand_none : (m : machine.Mode) → MayBegin m → hand_nodes m ≡ []
 hand_none machine.start h = refl
 hand_none machine.first h = refl
@@ -274,7 +274,7 @@ hand_none (machine.spelling s) h = absurd h
 hand_none (machine.named l) h = absurd h
 hand_none (machine.closed t) h = absurd h
 
--- a label is put in
+-- a label that is put in lies after the nodes of the open trees
 pub label_lies : (r : Reader) (o : List Frame) (m : machine.Mode) (nodes : List LaidNode) (l : List ℕ) → Holds r o m → MayBegin m → nodes ≡ bare_node l ∷ r.store → Lies nodes r.«open».items (laid (alone (leaf l))) o
 label_lies r o m nodes l h k e = record {
   nodes_are = e ∙ ap (λ ns. bare_node l ∷ ns) (h.lies.nodes_are ∙ ap (λ ns. ns ++ open_nodes o) (hand_none m k));
@@ -285,7 +285,7 @@ label_lies r o m nodes l h k e = record {
 pub few_open : (r : Reader) (o : List Frame) (m : machine.Mode) → Holds r o m → length o ≡ length r.«open».items
 few_open r o m h = sym (open_count o) ∙ ap length (sym h.lies.places_are)
 
--- a label that lies too deep
+-- a label that begins inside 200 or more open trees is answered as too deep
 pub deep_at : (o : List Frame) (m : machine.Mode) (text : List ℕ) (i : ℕ) → MayBegin m → 200 ≤ length o → i < length text → IsTrue (machine.begins (slice_index text i)) → machine.verdict (machine.at o m) i (drop i text) ≡ machine.too_deep i
 deep_at o m text i h many inside k =
     ap (machine.verdict (machine.at o m) i) (drop_more text i 0 inside)
@@ -316,7 +316,7 @@ pub answers : (x : List ℕ) (r : Result (List LaidNode) BracketFault) → IsUtf
 answers x (Ok d) u (t, s, k) = let a = trees.answers x (Ok t) u s in (t, k, a.0, a.1)
 answers x (Err e) u g = trees.answers x (Err e) u g
 
--- and no other
+-- the document is that of the one tree that the text spells
 pub only_tree : (x : List ℕ) (r : Result (List LaidNode) BracketFault) (t : LabelledTree) → IsUtf8 x → GivesDocument r (machine.verdict machine.empty 0 x) → SpellsShallow x t → IsDocumentOf r t
 only_tree x (Ok d) t u (w, s, k) h = subst (IsDocument d) (trees.only_tree x (Ok w) t (trees.answers x (Ok w) u s) u h) k
 only_tree x (Err e) t u g h = trees.only_tree x (Err e) t (trees.answers x (Err e) u g) u h
@@ -327,13 +327,13 @@ named_whole r o m d h e n c =
     let is = is_named r o m h e in
     whole_holds r o m d h n c (leaf is.0) (ap machine.tree_in is.1) (ap hand_nodes is.1)
 
--- and after a tree
+-- the document is whole after a tree where no bracket is open
 pub closed_whole : (r : Reader) (o : List Frame) (m : machine.Mode) (d : List LaidNode) → Holds r o m → r.mode ≡ Closed → r.«open».items ≡ [] → Closes r.store 0 d → GivesDocument (Ok d) (machine.at_end (machine.whole_in o m))
 closed_whole r o m d h e n c =
     let is = is_closed r o m h e in
     whole_holds r o m d h n c is.0 (ap machine.tree_in is.1) (ap hand_nodes is.1)
 
--- a list of no members
+-- a list that is counted to have no members is empty
 pub no_members : (xs : List ℕ) (n : ℕ) → (n == 0) ≡ true → n ≡ length xs → xs ≡ []
 no_members [] n e l = refl
 no_members (x ∷ xs) n e l = absurd (by_count n e (omega (arith, l)))

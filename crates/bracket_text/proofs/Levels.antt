@@ -46,12 +46,12 @@ comma_levels f o t = omega (arith, levels_push f.kids t)
 pub close_levels : (f : Frame) (o : List Frame) (t : LabelledTree) → reached (at o (closed (record { label = f.label; kids = forest_of (f.kids ++ t ∷ []) }))) ≡ levels_in (f ∷ o) (closed t)
 close_levels f o t = omega (arith, levels_push f.kids t)
 
--- nor does either of them after a tree
+-- a comma or a closing bracket after a tree adds no levels
 tree_in_levels : (o : List Frame) (t : LabelledTree) (b : ℕ) → Gives (Has (levels_in o (closed t))) (after_tree_in o t b)
 tree_in_levels [] t b = tt
 tree_in_levels (f ∷ o) t b = either _ (b == 44) _ _ (λ e. comma_levels f o t) (λ n. either _ (b == 93) _ _ (λ e. close_levels f o t) (λ k. tt))
 
--- nor does any byte after a tree
+-- a byte after a tree adds no levels
 tree_levels : (o : List Frame) (t : LabelledTree) (b : ℕ) → Gives (Has (levels_in o (closed t))) (after_tree o t b)
 tree_levels o t b = either _ (is_blank b) _ _ (λ h. refl) (λ n. tree_in_levels o t b)
 
@@ -59,24 +59,24 @@ tree_levels o t b = either _ (is_blank b) _ _ (λ h. refl) (λ n. tree_in_levels
 open_one : (o : List Frame) (l : List ℕ) → reached (at (record { label = l; kids = [] } ∷ o) first) ≡ levels_in o (named l)
 open_one o l = omega arith
 
--- nor does any byte after a label
+-- a byte after a label adds no levels
 label_levels : (o : List Frame) (l : List ℕ) (b : ℕ) → Gives (Has (levels_in o (named l))) (after_label o l b)
 label_levels o l b =
     let same : levels_in o (closed (leaf l)) ≡ levels_in o (named l) = omega arith in
     either _ (is_blank b) _ _ (λ h. refl)
     (λ n. either _ (b == 91) _ _ (λ e. open_one o l) (λ k. subst (λ i. Gives (Has i) (after_tree o (leaf l) b)) same (tree_levels o (leaf l) b)))
 
--- nor does a byte that ends a label
+-- a byte that ends a label adds no levels
 after_levels : (o : List Frame) (l : Option (List ℕ)) (b : ℕ) → Gives (Has (max (open_levels o) (length o + 1))) (after o l b)
 after_levels o None b = tt
 after_levels o (Some l) b = label_levels o l b
 
--- nor does a byte of a label
+-- a byte of a label adds no levels
 spelling_levels : (o : List Frame) (r : Option spelled.Spot) (other : Option State) → Gives (Has (max (open_levels o) (length o + 1))) other → Gives (Has (max (open_levels o) (length o + 1))) (or_other o other r)
 spelling_levels o None other h = h
 spelling_levels o (Some s) other h = refl
 
--- nor do empty brackets
+-- empty brackets add no levels
 empty_levels : (o : List Frame) → Gives (Has (levels_in o first)) (close_empty o)
 empty_levels [] = tt
 empty_levels (f ∷ o) = omega arith
@@ -124,7 +124,7 @@ begun_levels o m b e low h s = record {
     by_other true false q r = cc
     by_other true true q r = grind (arith, nat_tests)
 
--- the same of the byte with which one may begin
+-- the byte with which a label may begin adds that label's level at most
 begin_levels : (o : List Frame) (m : Mode) (b : ℕ) → is_deep_in o m b ≡ (begins b && nat_le 200 (length o)) → levels_in o m ≤ max (open_levels o) (length o + 1) → Gives (Stepped o m b) (begin o b)
 begin_levels o m b e low = by_spot (spelled.step spelled.start b) refl
   where
@@ -149,7 +149,7 @@ step_levels o (spelling s) b = same_levels o (spelling s) b (step_in o (spelling
 step_levels o (named l) b = same_levels o (named l) b (after_label o l b) refl (label_levels o l b)
 step_levels o (closed t) b = same_levels o (closed t) b (after_tree o t b) refl (tree_levels o t b)
 
--- the same of a state that a byte leads to
+-- a state that a byte leads to has more levels only where a label begins
 pub stepped : (s t : State) (b : ℕ) → step s b ≡ Some t → Stepped s.open' s.mode b t
 stepped s t b e = by_step (step s b) e (step_levels s.open' s.mode b)
   where

@@ -34,7 +34,7 @@ text_on x s t u e k h = record {
   shallow = λ d. h.shallow (k d);
 }
 
--- the same of one byte
+-- a state goes on where one byte leads from it to a state that goes on
 byte_on : (b : ℕ) (s t : State) → b < 128 → step s b ≡ Some t → (reached s ≤ 200 → reached t ≤ 200) → GoesOn t → GoesOn s
 byte_on b s t low e k h = text_on (b ∷ []) s t (one_utf8 b low) (run_byte step b [] s t e) k h
 
@@ -53,7 +53,7 @@ label_on o s =
     text_on h.bytes (at o (spelling s)) (at o (spelling h.spot)) h.utf8 (label_run h.bytes o s h.spot h.runs) (λ d. d)
     (hand_on o (spelling h.spot) (leaf h.label) (named_hand (spelling h.spot) h.label h.ends))
 
--- each state goes on
+-- each state goes on to a whole tree
 pub goes_on : (o : List Frame) (m : Mode) → GoesOn (at o m)
 goes_on o start = byte_on 97 (at o start) (at o (spelling (spelled.in_bare (97 ∷ [])))) (omega arith) refl (λ d. d) (label_on o (spelled.in_bare (97 ∷ [])))
 goes_on [] first = byte_on 97 (at [] first) (at [] (spelling (spelled.in_bare (97 ∷ [])))) (omega arith) refl (λ d. omega arith) (label_on [] (spelled.in_bare (97 ∷ [])))
@@ -70,7 +70,7 @@ run_prefix x s u e =
     let on = goes_on s.open' s.mode in
     (on.bytes, on.tree, IsUtf8-append x on.bytes u on.utf8, read_spelled (x ++ on.bytes) on.tree (ap (option_and_then whole) (run_then step x on.bytes empty s e) ∙ on.read))
 
--- a prefix of a tree that is not too deep, where no level was
+-- what a run with at most 200 levels has read is a prefix of a text whose tree is not too deep
 pub shallow_prefix : (x : List ℕ) (s : State) → IsUtf8 x → run empty x ≡ Some s → reached s ≤ 200 → IsPrefix SpellsShallow x
 shallow_prefix x s u e d =
     let on = goes_on s.open' s.mode in
@@ -86,13 +86,13 @@ deep_tree : (r : Option State) (s : State) (t : LabelledTree) → option_and_the
 deep_tree None s t e k = none_some t e
 deep_tree (Some u) s t e k = omega (arith, k u refl, whole_levels u t e)
 
--- where too deep a tree was read, no other goes on
+-- a text in which a run has come to more than 200 levels is no prefix of one whose tree is not too deep
 pub deep_prefix : (x : List ℕ) (s : State) → run empty x ≡ Some s → 200 < reached s → IsPrefix SpellsShallow x → ⊥
 deep_prefix x s e d (y, t, u, h) =
     let read : option_and_then whole (run s y) ≡ Some t = sym (ap (option_and_then whole) (run_then step x y empty s e)) ∙ spelled_read (x ++ y) t h.0 in
     let least = deep_tree (run s y) s t read (λ v f. run_levels y s v f) in
     absurd (omega (arith, least, h.1))
 
--- a prefix of a prefix
+-- a prefix of a prefix of a text of the grammar is one too
 pub shorter_prefix : (x z : List ℕ) → IsPrefix Spells (x ++ z) → IsPrefix Spells x
 shorter_prefix x z (y, t, u, h) = (z ++ y, t, subst IsUtf8 (append_assoc x z y) u, subst (λ w. Spells w t) (append_assoc x z y) h)

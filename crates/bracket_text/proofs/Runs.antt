@@ -20,7 +20,7 @@ blank_not_bare b h = grind (arith, nat_tests)
 pub begins_not_blank : (b : ℕ) → IsTrue (begins b) → is_blank b ≡ false
 begins_not_blank b h = grind (arith, nat_tests)
 
--- nor with a closing bracket
+-- no label begins with a closing bracket
 pub begins_not_close : (b : ℕ) → IsTrue (begins b) → (b == 93) ≡ false
 begins_not_close b h = grind (arith, nat_tests)
 
@@ -40,14 +40,14 @@ start_blanks (b ∷ a) o h =
     let parts = and_parts (is_blank b) (list_all is_blank a) h in
     rw parts.0 (start_blanks a o parts.1)
 
--- the same right after an opening bracket
+-- blanks right after an opening bracket change nothing
 pub first_blanks : (a : List ℕ) (o : List Frame) → IsBlanks a → run (at o first) a ≡ Some (at o first)
 first_blanks [] o h = refl
 first_blanks (b ∷ a) o h =
     let parts = and_parts (is_blank b) (list_all is_blank a) h in
     rw parts.0 (first_blanks a o parts.1)
 
--- the label is at hand
+-- the label is at hand in the mode
 abbrev pub IsNamed : Mode → List ℕ → Type 0
 IsNamed start l = ⊥
 IsNamed first l = ⊥
@@ -97,7 +97,7 @@ tree_blank o m t b e h = hand_cases m t e
     (λ l is same. (named l, named_by o m l b is (blank_not_bare b h) ∙ rw h refl, ap Some same))
     (λ same. (closed t, ap (λ k. step_in o k b) same ∙ rw h refl, refl))
 
--- blanks after a tree
+-- after blanks the tree at hand is still at hand
 pub tree_blanks : (a : List ℕ) (o : List Frame) (m : Mode) (t : LabelledTree) → tree_in m ≡ Some t → IsBlanks a → (n : Mode) × (run (at o m) a ≡ Some (at o n)) × (tree_in n ≡ Some t)
 tree_blanks [] o m t e h = (m, refl, e)
 tree_blanks (b ∷ a) o m t e h =
@@ -112,7 +112,7 @@ tree_comma f o m t e = hand_cases m t e
     (λ l is same. named_by (f ∷ o) m l 44 is refl ∙ ap (λ u. after_tree_in (f ∷ o) u 44) same)
     (λ same. ap (λ k. step_in (f ∷ o) k 44) same)
 
--- the same of a closing bracket
+-- after a tree, a closing bracket puts it below the innermost open one and closes that
 pub tree_close : (f : Frame) (o : List Frame) (m : Mode) (t : LabelledTree) → tree_in m ≡ Some t
     → step_in (f ∷ o) m 93 ≡ Some (at o (closed (record { label = f.label; kids = forest_of (f.kids ++ t ∷ []) })))
 tree_close f o m t e = hand_cases m t e
@@ -125,7 +125,7 @@ label_more : (o : List Frame) (s t : spelled.Spot) (b : ℕ) (x : List ℕ) (r :
 label_more o s t b x None f e k = none_some t e
 label_more o s t b x (Some u) f e k = run_byte step b x (at o (spelling s)) (at o (spelling u)) (ap (or_other o (after o (spelled.label_in s) b)) f) ∙ k u e
 
--- the bytes of a label
+-- the bytes of a label lead the machine as they lead its spelling
 pub label_run : (x : List ℕ) (o : List Frame) (s t : spelled.Spot) → spelled.run s x ≡ Some t → run (at o (spelling s)) x ≡ Some (at o (spelling t))
 label_run [] o s t e = ap (λ u. Some (at o (spelling u))) (some_is s t e)
 label_run (b ∷ x) o s t e = label_more o s t b x (spelled.step s b) refl e (λ u f. label_run x o u t f)

@@ -9,7 +9,7 @@ use Rattle.mix_tree.proofs.LabelSound as labels
 use Rattle.bracket_text.specs.Grammar.{is_blank, IsBlanks, SpellsBrackets, SpellsTrees, Spells}
 use Rattle.bracket_text.specs.Machine.{Frame, Mode, start, first, spelling, named, closed, State, leaf, after_tree, after_tree_in, after_label, or_other, begin, after, close_empty, step_in, step, run, tree_in, whole_in, whole, empty, tree_of}
 
--- the text of one tree
+-- the text is that of one tree
 abbrev pub SpellsOne : LabelledTree → List ℕ → Type 0
 SpellsOne t x = SpellsTrees (alone t) x
 
@@ -37,7 +37,7 @@ HandText o t p = (q x a : List ℕ) × OpenText o q × SpellsOne t x × IsBlanks
 abbrev pub NameText : List Frame → List ℕ → List ℕ → Type 0
 NameText o l p = (q w a : List ℕ) × OpenText o q × SpellsLabel w l × IsBlanks a × (p ≡ q ++ (w ++ a))
 
--- the text up to each mode
+-- the text leads up to the mode below the open trees
 abbrev pub ModeText : List Frame → Mode → List ℕ → Type 0
 ModeText o start p = OpenText o p
 ModeText o first p = OpenText o p × NoKids o
@@ -45,19 +45,19 @@ ModeText o (spelling s) p = (q w : List ℕ) × OpenText o q × labels.Writes w 
 ModeText o (named l) p = NameText o l p
 ModeText o (closed t) p = HandText o t p
 
--- the text up to a state
+-- the text leads up to the state
 abbrev pub StateText : List ℕ → State → Type 0
 StateText p s = ModeText s.open' s.mode p
 
--- a name is a tree at hand
+-- a text that leads up to a label that has ended leads up to a leaf at hand
 pub hand_of_name : (o : List Frame) (l p : List ℕ) → NameText o l p → HandText o (leaf l) p
 hand_of_name o l p (q, w, a, ho, hl, ha, e) = (q, w, a, ho, (w, [], [], hl, inl refl, refl, sym (append_nil (w ++ []) ∙ append_nil w)), ha, e)
 
--- a label that may end
+-- a text that leads up to a label that may end leads up to that label ended
 pub name_of_spelling : (o : List Frame) (s : spelled.Spot) (l p : List ℕ) → spelled.label_in s ≡ Some l → ModeText o (spelling s) p → NameText o l p
 name_of_spelling o s l p f (q, w, ho, hw, e) = (q, w, [], ho, labels.label_spelled w s l hw f, refl, e ∙ ap (λ r. q ++ r) (sym (append_nil w)))
 
--- more after a comma
+-- texts one after another are the same however they are grouped
 comma_then : (c x d w g y : List ℕ) → c ++ (x ++ d ++ (w ++ (g ++ y))) ≡ (c ++ (x ++ d ++ (w ++ g))) ++ y
 comma_then c x d w g y = simp append_assoc
 
@@ -71,7 +71,7 @@ kids_blank (t ∷ ts) c m b h hc (x, d, g, hx, hd, hg, e) =
     let regrouped : (91 ∷ c) ++ (x ++ d ++ 44 ∷ (g ++ b ∷ [])) ≡ ((91 ∷ c) ++ (x ++ d ++ 44 ∷ g)) ++ b ∷ [] = ap (λ r. 91 ∷ r) inner in
     (c, x ++ d ++ 44 ∷ (g ++ b ∷ []), hc, (x, d, g ++ b ∷ [], hx, hd, list_all-push is_blank g b hg h, refl), regrouped ∙ ap (λ r. ((91 ∷ c) ++ r) ++ b ∷ []) (sym e))
 
--- one blank more
+-- a text up to where a tree may begin stays one with a blank added
 open_blank : (o : List Frame) (p : List ℕ) (b : ℕ) → IsTrue (is_blank b) → OpenText o p → OpenText o (p ++ b ∷ [])
 open_blank [] p b h ho = list_all-push is_blank p b ho h
 open_blank (f ∷ o) p b h (q, w, a, c, m, ho, hl, ha, hc, hm, e) =
@@ -79,19 +79,19 @@ open_blank (f ∷ o) p b h (q, w, a, c, m, ho, hl, ha, hc, hm, e) =
     let out : (q ++ (w ++ (a ++ 91 ∷ c ++ m))) ++ b ∷ [] ≡ q ++ (w ++ (a ++ (((91 ∷ c) ++ m) ++ b ∷ []))) = simp append_assoc in
     (q, w, a, k.0, k.1, ho, hl, ha, k.2, k.3, ap (λ r. r ++ b ∷ []) e ∙ out ∙ ap (λ r. q ++ (w ++ (a ++ r))) (sym k.4) ∙ ap (λ r. q ++ (w ++ r)) (sym (append_assoc a (91 ∷ k.0) k.1)))
 
--- the same after a tree
+-- a text up to a tree at hand stays one with a blank added
 hand_blank : (o : List Frame) (t : LabelledTree) (p : List ℕ) (b : ℕ) → IsTrue (is_blank b) → HandText o t p → HandText o t (p ++ b ∷ [])
 hand_blank o t p b h (q, x, a, ho, hx, ha, e) =
     let out : (q ++ (x ++ a)) ++ b ∷ [] ≡ q ++ (x ++ (a ++ b ∷ [])) = simp append_assoc in
     (q, x, a ++ b ∷ [], ho, hx, list_all-push is_blank a b ha h, ap (λ r. r ++ b ∷ []) e ∙ out)
 
--- the same after a label
+-- a text up to an ended label stays one with a blank added
 name_blank : (o : List Frame) (l p : List ℕ) (b : ℕ) → IsTrue (is_blank b) → NameText o l p → NameText o l (p ++ b ∷ [])
 name_blank o l p b h (q, w, a, ho, hl, ha, e) =
     let out : (q ++ (w ++ a)) ++ b ∷ [] ≡ q ++ (w ++ (a ++ b ∷ [])) = simp append_assoc in
     (q, w, a ++ b ∷ [], ho, hl, list_all-push is_blank a b ha h, ap (λ r. r ++ b ∷ []) e ∙ out)
 
--- another tree after trees, with a comma between
+-- the text of another tree after that of trees, with a comma between, spells them all
 joined : (u : LabelledTree) (us : List LabelledTree) (t : LabelledTree) (y c d x : List ℕ) → SpellsTrees (forest_of (u ∷ us)) y → IsBlanks c → IsBlanks d → SpellsOne t x → SpellsTrees (forest_of (u ∷ us ++ t ∷ [])) (y ++ (c ++ 44 ∷ d) ++ x)
 joined u [] t y c d x (l, k, w, hl, hk, hw, e) hc hd hx =
     let out : ((l ++ k) ++ []) ++ (c ++ 44 ∷ d) ++ x ≡ l ++ k ++ (c ++ 44 ∷ d ++ x) = simp (append_assoc, append_nil) in
@@ -134,7 +134,7 @@ pub record Within (f : Frame) (o : List Frame) (t : LabelledTree) (p : List ℕ)
   pub is_tail : IsBlanks tail
   pub text : p ≡ before ++ (label ++ ((gap ++ 91 ∷ lead) ++ (trees ++ tail)))
 
--- the parts of such a text
+-- a text that leads up to a tree at hand below an open one has these parts
 within : (f : Frame) (o : List Frame) (t : LabelledTree) (p : List ℕ) → HandText (f ∷ o) t p → Within f o t p
 within f o t p (q, x, a, (q0, l, a0, b0, m, ho, hl, ha0, hb0, hm, e0), hx, ha, e) = record {
   before = q0;
@@ -155,7 +155,7 @@ within f o t p (q, x, a, (q0, l, a0, b0, m, ho, hl, ha0, hb0, hm, e0), hx, ha, e
     regrouped : (q l z m x a : List ℕ) → (q ++ (l ++ (z ++ m))) ++ (x ++ a) ≡ q ++ (l ++ (z ++ ((m ++ x) ++ a)))
     regrouped q l z m x a = simp append_assoc
 
--- a comma after a tree
+-- a comma after a tree leads up to where a tree may begin
 comma_text : (f : Frame) (o : List Frame) (t : LabelledTree) (p : List ℕ) → Within f o t p → OpenText (record { label = f.label; kids = f.kids ++ t ∷ [] } ∷ o) (p ++ 44 ∷ [])
 comma_text f o t p h = (
   h.before,
@@ -199,7 +199,7 @@ hand_in (f ∷ o) t p b h =
     either _ (b == 44) _ _ (λ e. subst (λ c. OpenText (more ∷ o) (p ++ c ∷ [])) (number_is b 44 e) (comma_text f o t p parts))
     (λ n. either _ (b == 93) _ _ (λ e. subst (λ c. HandText o shut (p ++ c ∷ [])) (number_is b 93 e) (close_text f o t p parts)) (λ k. tt))
 
--- a byte after a tree
+-- a byte after a tree goes on with the text
 hand_step : (o : List Frame) (t : LabelledTree) (p : List ℕ) (b : ℕ) → HandText o t p → Gives (StateText (p ++ b ∷ [])) (after_tree o t b)
 hand_step o t p b h = either _ (is_blank b) _ _ (λ k. hand_blank o t p b k h) (λ n. hand_in o t p b h)
 
@@ -211,7 +211,7 @@ opened_text o l p (q, w, a, ho, hl, ha, e) =
     regrouped : (q l a w : List ℕ) → (q ++ (l ++ a)) ++ w ≡ q ++ (l ++ ((a ++ w) ++ []))
     regrouped q l a w = simp (append_assoc, append_nil)
 
--- a byte after a label
+-- a byte after a label goes on with the text
 name_step : (o : List Frame) (l p : List ℕ) (b : ℕ) → NameText o l p → Gives (StateText (p ++ b ∷ [])) (after_label o l b)
 name_step o l p b h =
     let f : Frame = record { label = l; kids = [] } in
@@ -279,7 +279,7 @@ after_step : (x y : List ℕ) (b : ℕ) (s : Option State) → Gives (StateText 
 after_step x y b None h k = tt
 after_step x y b (Some t) h k = subst (λ z. Gives (StateText z) (run t y)) (append_assoc x (b ∷ []) y) (k t h)
 
--- so does a run
+-- a run goes on with the text
 pub run_text : (y x : List ℕ) (s : State) → StateText x s → Gives (StateText (x ++ y)) (run s y)
 run_text [] x s h = subst (λ z. StateText z s) (sym (append_nil x)) h
 run_text (b ∷ y) x s h = after_step x y b (step s b) (step_text s.open' s.mode x b h) (λ t k. run_text y (x ++ b ∷ []) t k)
@@ -301,7 +301,7 @@ whole_text : (o : List Frame) (m : Mode) (x : List ℕ) (t : LabelledTree) → M
 whole_text [] m x t h e = let (q, y, a, hq, hy, ha, f) = hand_in_mode m x t h e in (q, y, a, hq, ha, hy, f ∙ sym (append_assoc q y a))
 whole_text (f ∷ o) m x t h e = none_some t e
 
--- the same at the end of a run
+-- at the end of a run, the text spells the tree that was read
 run_whole : (x : List ℕ) (t : LabelledTree) (r : Option State) → Gives (StateText x) r → option_and_then whole r ≡ Some t → Spells x t
 run_whole x t None h e = none_some t e
 run_whole x t (Some s) h e = whole_text s.open' s.mode x t h e

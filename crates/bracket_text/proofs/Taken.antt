@@ -38,11 +38,11 @@ label_verdict : (x : List ℕ) (o : List Frame) (s : spelled.Spot) (i : ℕ) →
 label_verdict [] o s i = end_same o s i (spelled.label_in s) refl
 label_verdict (b ∷ x) o s i = byte_same o i b x (spelled.step s b) (spelled.label_in s) (λ t. label_verdict x o t (i + 1))
 
--- a byte where no label lies too deep
+-- at a byte where no label lies too deep, the verdict is that of the machine's next step
 not_too_deep : (s : State) (i b : ℕ) (x : List ℕ) → is_deep s b ≡ false → verdict s i (b ∷ x) ≡ or_stop (λ t. verdict t (i + 1) x) (unexpected i) (step s b)
 not_too_deep s i b x n = ap (λ c. cond c (too_deep i) (or_stop (λ t. verdict t (i + 1) x) (unexpected i) (step s b))) n
 
--- where a label may begin, it is too deep below 200 open trees
+-- where a label may begin, a byte that begins one lies too deep exactly inside 200 or more open trees
 deep_test : (o : List Frame) (m : Mode) (b : ℕ) → MayBegin m → is_deep_in o m b ≡ (begins b && nat_le 200 (length o))
 deep_test o start b h = refl
 deep_test o first b h = refl
@@ -50,7 +50,7 @@ deep_test o (spelling s) b h = absurd h
 deep_test o (named l) b h = absurd h
 deep_test o (closed t) b h = absurd h
 
--- below fewer it is not
+-- below fewer than 200 open trees no label is too deep
 few_not_deep : (o : List Frame) (c : Bool) → length o < 200 → (c && nat_le 200 (length o)) ≡ false
 few_not_deep o false h = refl
 few_not_deep o true h = grind (arith, nat_tests)
@@ -107,11 +107,11 @@ tree_in_refuses (f ∷ o) t b h =
     let d : (b == 93) ≡ false = grind (arith, nat_tests) in
     rw (c, d) refl
 
--- nor after any tree
+-- no label stands after a tree
 pub tree_refuses : (o : List Frame) (t : LabelledTree) (b : ℕ) → IsTrue (begins b) → after_tree o t b ≡ None
 tree_refuses o t b h = rw (begins_not_blank b h) (tree_in_refuses o t b h)
 
--- nor after a label
+-- no label stands right after a label
 pub label_refuses : (o : List Frame) (l : List ℕ) (b : ℕ) → IsTrue (begins b) → after_label o l b ≡ None
 label_refuses o l b h =
     let c : (b == 91) ≡ false = grind (arith, nat_tests) in

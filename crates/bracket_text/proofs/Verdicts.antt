@@ -34,7 +34,7 @@ SpotHigh (spelled.in_quotes l) = Unit {0}
 SpotHigh (spelled.in_escape l) = ⊥
 SpotHigh (spelled.after_quote l) = ⊥
 
--- the same of a mode
+-- each byte of a character that is not ASCII goes on from the mode
 abbrev ModeHigh : Mode → Type 0
 ModeHigh start = ⊥
 ModeHigh first = ⊥
@@ -42,7 +42,7 @@ ModeHigh (spelling s) = SpotHigh s
 ModeHigh (named l) = ⊥
 ModeHigh (closed t) = ⊥
 
--- the same of a state
+-- each byte of a character that is not ASCII goes on from the state
 abbrev StateHigh : State → Type 0
 StateHigh s = ModeHigh s.mode
 
@@ -50,11 +50,11 @@ StateHigh s = ModeHigh s.mode
 not_high : {Q : Type 0} (b c : ℕ) → c < 128 → 128 ≤ b → (b == c) ≡ true → Q
 not_high b c low high e = absurd (omega (arith, number_is b c e))
 
--- nor a blank
+-- no byte of 128 or more is a blank
 high_blank : {Q : Type 0} (b : ℕ) → 128 ≤ b → IsTrue (is_blank b) → Q
 high_blank b high h = let no : ⊥ = grind (arith, nat_tests) in absurd no
 
--- after such a byte of a label, another goes on
+-- after a byte of 128 or more in a label, another goes on
 spot_high_step : (s : spelled.Spot) (b : ℕ) → 128 ≤ b → Gives SpotHigh (spelled.step s b)
 spot_high_step spelled.start b h = either _ (is_bare b) _ _ (λ k. tt) (λ n. either _ (b == 34) _ _ (λ e. tt) (λ k. tt))
 spot_high_step (spelled.in_bare l) b h = either _ (is_bare b) _ _ (λ k. tt) (λ n. tt)
@@ -63,7 +63,7 @@ spot_high_step (spelled.in_quotes l) b h =
 spot_high_step (spelled.in_escape l) b h = either _ (is_escape b) _ _ (λ k. tt) (λ n. tt)
 spot_high_step (spelled.after_quote l) b h = tt
 
--- the same where a label goes on or something else follows
+-- where a byte of 128 or more goes on a label, or stands after it, another goes on
 label_high : (o : List Frame) (r : Option spelled.Spot) (other : Option State) → Gives SpotHigh r → Gives StateHigh other → Gives StateHigh (or_other o other r)
 label_high o None other h k = k
 label_high o (Some s) other h k = h
@@ -73,24 +73,24 @@ tree_in_high : (o : List Frame) (t : LabelledTree) (b : ℕ) → 128 ≤ b → G
 tree_in_high [] t b h = tt
 tree_in_high (f ∷ o) t b h = either _ (b == 44) _ _ (λ e. not_high b 44 (omega arith) h e) (λ n. either _ (b == 93) _ _ (λ e. not_high b 93 (omega arith) h e) (λ k. tt))
 
--- nor after any tree
+-- no byte of 128 or more fits after a tree
 tree_high : (o : List Frame) (t : LabelledTree) (b : ℕ) → 128 ≤ b → Gives StateHigh (after_tree o t b)
 tree_high o t b h = either _ (is_blank b) _ _ (λ k. high_blank b h k) (λ n. tree_in_high o t b h)
 
--- nor after a label
+-- no byte of 128 or more fits after a label
 pub label_after_high : (o : List Frame) (l : List ℕ) (b : ℕ) → 128 ≤ b → Gives StateHigh (after_label o l b)
 label_after_high o l b h = either _ (is_blank b) _ _ (λ k. high_blank b h k) (λ n. either _ (b == 91) _ _ (λ e. not_high b 91 (omega arith) h e) (λ k. tree_high o _ b h))
 
--- nor where a label has ended
+-- no byte of 128 or more fits where a label has ended
 after_high : (o : List Frame) (l : Option (List ℕ)) (b : ℕ) → 128 ≤ b → Gives StateHigh (after o l b)
 after_high o None b h = tt
 after_high o (Some l) b h = label_after_high o l b h
 
--- such a byte begins a bare label
+-- a byte of 128 or more begins a bare label
 begin_high : (o : List Frame) (b : ℕ) → 128 ≤ b → Gives StateHigh (begin o b)
 begin_high o b h = label_high o (spelled.step spelled.start b) None (spot_high_step spelled.start b h) tt
 
--- after such a byte, another goes on
+-- after a byte of 128 or more, another goes on
 mode_high_step : (o : List Frame) (m : Mode) (b : ℕ) → 128 ≤ b → Gives StateHigh (step_in o m b)
 mode_high_step o start b h = either _ (is_blank b) _ _ (λ k. high_blank b h k) (λ n. begin_high o b h)
 mode_high_step o first b h = either _ (is_blank b) _ _ (λ k. high_blank b h k) (λ n. either _ (b == 93) _ _ (λ e. not_high b 93 (omega arith) h e) (λ k. begin_high o b h))
@@ -98,7 +98,7 @@ mode_high_step o (spelling s) b h = label_high o (spelled.step s b) (after o (sp
 mode_high_step o (named l) b h = label_after_high o l b h
 mode_high_step o (closed t) b h = tree_high o t b h
 
--- such a byte is one of a bare character
+-- a byte of 128 or more belongs to a bare character
 high_bare : (b : ℕ) → 128 ≤ b → is_bare b ≡ true
 high_bare b h = grind (arith, nat_tests)
 
@@ -119,7 +119,7 @@ spot_goes (spelled.in_quotes l) b h k e = by_tests (b == 34) (b == 92) _ _ _ e
 spot_goes (spelled.in_escape l) b h k e = absurd h
 spot_goes (spelled.after_quote l) b h k e = absurd h
 
--- the same of a mode
+-- no byte of 128 or more stops in a mode from which such bytes go on
 mode_goes : (o : List Frame) (m : Mode) (b : ℕ) → ModeHigh m → 128 ≤ b → step_in o m b ≡ None → ⊥
 mode_goes o start b h k e = absurd h
 mode_goes o first b h k e = absurd h
@@ -131,7 +131,7 @@ mode_goes o (spelling s) b h k e = by_spot (spelled.step s b) refl e
 mode_goes o (named l) b h k e = absurd h
 mode_goes o (closed t) b h k e = absurd h
 
--- no label begins there
+-- no label begins in a mode from which bytes of 128 or more go on
 mode_not_deep : (o : List Frame) (m : Mode) (b : ℕ) → ModeHigh m → is_deep_in o m b ≡ true → ⊥
 mode_not_deep o start b h e = absurd h
 mode_not_deep o first b h e = absurd h
@@ -170,7 +170,7 @@ bound_more x p y s t i b h e = elim (low_or_high b) [
     by_step None f g = none_some t f
     by_step (Some u) f g = subst StateHigh (some_is u t f) g
 
--- one byte more
+-- after a byte that fits, the place is one on, and one byte more was read
 read_more : (x p y : List ℕ) (s t : State) (i b : ℕ) → Read x p (b ∷ y) s i → step s b ≡ Some t → is_deep s b ≡ false → Read x (p ++ b ∷ []) y t (i + 1)
 read_more x p y s t i b h e n = record {
   utf8 = h.utf8;
@@ -189,7 +189,7 @@ inside_of x p y s i b h = omega (arith, h.place, ap length h.parts, length-appen
 up_to : (x p y : List ℕ) (s : State) (i b : ℕ) → Read x p (b ∷ y) s i → take i x ≡ p
 up_to x p y s i b h = ap (take i) h.parts ∙ prefix_is p y b i h.place
 
--- and with the byte there
+-- the text up to and with a byte is what was read and that byte
 up_with : (x p y : List ℕ) (s : State) (i b : ℕ) → Read x p (b ∷ y) s i → take (i + 1) x ≡ p ++ b ∷ []
 up_with x p y s i b h = ap (take (i + 1)) h.parts ∙ prefix_with p y b i h.place
 
@@ -241,7 +241,7 @@ record HighFirst (y : List ℕ) : Type 0 where
   bare : IsTrue (list_all is_bare high)
   low : LowFirst rest
 
--- the same with one byte more before it
+-- a text as bytes of 128 or more and the rest, with one byte more before it
 high_more : (c : ℕ) (y : List ℕ) → HighFirst y → (c < 128) ⊎ (128 ≤ c) → HighFirst (c ∷ y)
 high_more c y h (inl k) = record { high = []; rest = c ∷ y; parts = refl; bare = refl; low = k }
 high_more c y h (inr k) = record {
@@ -252,7 +252,7 @@ high_more c y h (inr k) = record {
   low = h.low;
 }
 
--- each text is so
+-- each text is bytes of characters that are not ASCII, and the rest
 high_first : (y : List ℕ) → HighFirst y
 high_first [] = record { high = []; rest = []; parts = refl; bare = refl; low = tt }
 high_first (c ∷ y) = high_more c y (high_first y) (low_or_high c)
@@ -281,7 +281,7 @@ begun_in o m b h k = by_tests (is_bare b) (b == 34) refl refl k
         record { spot = spelled.in_quotes []; is = begin_step o m b h k ∙ ap (or_other o None) one; bare = λ high. not_high b 34 (omega arith) high f }
     by_tests false false e f g = cc
 
--- a label that lies too deep begins
+-- where a label lies too deep, a label begins
 begun : (o : List Frame) (m : Mode) (b : ℕ) → is_deep_in o m b ≡ true → Begun o m b
 begun o start b e = begun_in o start b tt (and_parts (begins b) (nat_le 200 (length o)) e).0
 begun o first b e = begun_in o first b tt (and_parts (begins b) (nat_le 200 (length o)) e).0
@@ -309,7 +309,7 @@ low_on x p y s i b h k low =
     let u : IsUtf8 p = (utf8_split p y b low (subst IsUtf8 h.parts h.utf8)).0 in
     run_prefix (p ++ b ∷ []) (at s.open' (spelling k.spot)) (utf8_push p b low u) (run_then step p (b ∷ []) empty s h.runs ∙ run_byte step b [] s (at s.open' (spelling k.spot)) k.is)
 
--- what is said at a label that lies too deep
+-- a text is refused as too deep at a label that lies too deep
 said_too_deep : (x p y : List ℕ) (s : State) (i b : ℕ) → Read x p (b ∷ y) s i → is_deep s b ≡ true → Refuses x (TooDeep i)
 said_too_deep x p y s i b h e =
     let u : IsUtf8 p = before_stop x p y s i b h (λ k high. mode_not_deep s.open' s.mode b k e) in
@@ -326,7 +326,7 @@ said_too_deep x p y s i b h e =
       },
     )
 
--- what is said at a byte
+-- what is said at a byte is so
 said_byte : (x p y : List ℕ) (s : State) (i b : ℕ) (c : Bool) (r : Option State) → Read x p (b ∷ y) s i → is_deep s b ≡ c → step s b ≡ r
     → ((t : State) → step s b ≡ Some t → is_deep s b ≡ false → Says x (verdict t (i + 1) y)) → Says x (cond c (too_deep i) (or_stop (λ t. verdict t (i + 1) y) (unexpected i) r))
 said_byte x p y s i b true r h e f k = said_too_deep x p y s i b h e
@@ -361,7 +361,7 @@ whole_prefix x n t u h =
     let all = take-append-drop n x in
     (drop n x, t, subst IsUtf8 (sym all) u, subst (λ z. Spells z t) (sym all) h)
 
--- the same of a tree that is not too deep
+-- each prefix of a text whose tree is not too deep is a prefix by the shallow grammar too
 shallow_whole : (x : List ℕ) (n : ℕ) (t : LabelledTree) → IsUtf8 x → SpellsShallow x t → IsPrefix SpellsShallow (take n x)
 shallow_whole x n t u h =
     let all = take-append-drop n x in

@@ -19,12 +19,12 @@ brackets_spell (tree l k n) h =
     let x = canon_trees (tree l k n) in
     ([], [], x, [], refl, refl, refl, h, ap (λ r. 91 ∷ r ++ 93 ∷ []) (sym (append_nil x)))
 
--- and the trees after a tree
+-- the canonical text of the trees after a tree is spelled as the grammar has it
 rest_spells : (n : Forest) → AreSpelled n → SpellsRest n (SpellsTrees n) (canon_rest n (canon_trees n))
 rest_spells none h = refl
 rest_spells (tree l k n) h = ([], [], canon_trees (tree l k n), refl, refl, h, refl)
 
--- and all trees of a list
+-- the canonical text of all trees of a list spells them, where there are any
 trees_spell : (f : Forest) → AreSpelled f
 trees_spell none = tt
 trees_spell (tree l k n) =

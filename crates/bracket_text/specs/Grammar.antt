@@ -4,11 +4,11 @@ use Rattle.std.specs.List.{list_all}
 use Rattle.mix_tree.specs.Forest.{Forest, none, tree, LabelledTree, alone}
 use Rattle.mix_tree.specs.LabelGrammar.{SpellsLabel}
 
--- a space, a tab, LF or CR
+-- whether a byte is a blank: a space, a tab, LF or CR
 abbrev pub is_blank : ℕ → Bool
 is_blank b = b == 32 || b == 9 || b == 10 || b == 13
 
--- none or more blanks
+-- the text is none or more blanks
 abbrev pub IsBlanks : List ℕ → Type 0
 IsBlanks x = IsTrue (list_all is_blank x)
 

@@ -44,7 +44,7 @@ after_tree_in (f ∷ o) t b =
 abbrev pub after_tree : List Frame → LabelledTree → ℕ → Option State
 after_tree o t b = cond (is_blank b) (Some (at o (closed t))) (after_tree_in o t b)
 
--- a byte after a label
+-- the state after a byte that follows a label
 abbrev pub after_label : List Frame → List ℕ → ℕ → Option State
 after_label o l b =
     cond (is_blank b) (Some (at o (named l)))
@@ -69,7 +69,7 @@ abbrev pub close_empty : List Frame → Option State
 close_empty [] = None
 close_empty (f ∷ o) = Some (at o (closed (record { label = f.label; kids = forest_of f.kids })))
 
--- a byte more, by the mode
+-- the state after a byte more, by the mode
 abbrev pub step_in : List Frame → Mode → ℕ → Option State
 step_in o start b = cond (is_blank b) (Some (at o start)) (begin o b)
 step_in o first b = cond (is_blank b) (Some (at o first)) (cond (b == 93) (close_empty o) (begin o b))
@@ -81,7 +81,7 @@ step_in o (closed t) b = after_tree o t b
 abbrev pub step : State → ℕ → Option State
 step s b = step_in s.open' s.mode b
 
--- some bytes more
+-- the state after some bytes more
 abbrev pub run : State → List ℕ → Option State
 run = run_by step
 
@@ -134,7 +134,7 @@ pub data Verdict : Type 0 where
   too_deep : ℕ → Verdict
   ends : Verdict
 
--- at the end of the text
+-- what the machine says at the end of a text: the tree that was read, or that the text ends too early
 abbrev pub at_end : Option LabelledTree → Verdict
 at_end None = ends
 at_end (Some t) = reads t

@@ -47,7 +47,7 @@ hand_nodes (machine.spelling s) = []
 hand_nodes (machine.named l) = bare_node l ∷ []
 hand_nodes (machine.closed t) = laid (alone t)
 
--- the modes are the same
+-- the mode of the reader is that of the machine
 abbrev pub SameMode : Mode → machine.Mode → Type 0
 SameMode m machine.start = m ≡ Start
 SameMode m machine.first = m ≡ First
@@ -60,7 +60,7 @@ pub record Holds (r : Reader) (o : List machine.Frame) (m : machine.Mode) : Type
   pub lies : Lies r.store r.«open».items (hand_nodes m) o
   pub same : SameMode r.mode m
 
--- a tree may begin
+-- in the mode a tree may begin
 abbrev pub MayBegin : Mode → Type 0
 MayBegin Start = Unit {0}
 MayBegin First = Unit {0}
@@ -107,7 +107,7 @@ pub record Went (text : List ℕ) (at next : ℕ) (s : machine.State) (r : Reade
   pub same : machine.verdict s at (drop at text) ≡ machine.verdict state next (drop next text)
   pub holds : Holds r state.open' state.mode
 
--- the same, or the fault is what the machine says
+-- what a call took of a text leaves what the machine says in the end, or its fault is what the machine says
 abbrev pub Goes : List ℕ → ℕ → Result ℕ BracketFault → machine.State → Reader → Type 0
 Goes text at (Ok next) s r = Went text at next s r
 Goes text at (Err e) s r = GivesFault e (machine.verdict s at (drop at text))
@@ -129,7 +129,7 @@ pub record Pushed (text : List ℕ) (at end : ℕ) (seen : spelled.Seen) (old ne
   pub boundary : IsCharBoundary text end
   pub seen_is : seen ≡ spelled.got label end (drop end text)
 
--- the same, or why not
+-- the label that is seen of a text was put in after some nodes, or the fault says why not
 abbrev pub Pushes : List ℕ → ℕ → spelled.Seen → Result ℕ BracketFault → List LaidNode → List LaidNode → Type 0
 Pushes text at seen (Ok end) old new = Pushed text at end seen old new
 Pushes text at seen (Err e) old new = IsSeenFault e seen

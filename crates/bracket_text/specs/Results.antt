@@ -30,7 +30,7 @@ abbrev pub Answers : List ℕ → Result LabelledTree BracketFault → Type 0
 Answers x (Ok t) = IsUtf8 x × SpellsShallow x t
 Answers x (Err e) = Refuses x e
 
--- memory ran out
+-- the fault says that memory ran out
 abbrev pub IsWantOfMemory : BracketFault → Type 0
 IsWantOfMemory (NotUtf8 at) = ⊥
 IsWantOfMemory (Unexpected at) = ⊥

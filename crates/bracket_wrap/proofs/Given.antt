@@ -14,7 +14,7 @@ use Rattle.document_store.specs.Between.{before, fits, between}
 use Rattle.bracket_wrap.specs.Holes.{rest_hole, all_of, is_known, hole_trees, rest_given, kids_given, given_from}
 use Rattle.document_store.proofs.Between.{fits_some, between_none, between_some}
 
--- a choice by a test
+-- what holds of both sides of a choice by a test holds of the choice
 by_test : (P : Open → Type 0) (b : Bool) (x y : Open) → (b ≡ true → P x) → (b ≡ false → P y) → P (cond b x y)
 by_test P true x y h k = h refl
 by_test P false x y h k = k refl
@@ -52,7 +52,7 @@ module _ (ns : List LaidNode) where
   apart-kids true i = IsApart-without_holes (between ns (before ns i) i)
   apart-kids false i = by_test IsApart (fits ns (before ns i) i) (hole (rest_hole (all_of i)) nil) nil (λ h. (refl, tt)) (λ h. tt)
 
-  -- and in no list that is given
+  -- in no list that is given two holes stand side by side
   apart-given : (whole : Bool) (parent most to : ℕ) → IsApart (given_from ns whole parent most to)
   apart-given whole parent zero to =
       by_test IsApart (fits ns (before ns parent) to) (hole (rest_hole (record { node = parent; to = to })) nil) nil (λ h. (refl, tt)) (λ h. tt)
@@ -71,11 +71,11 @@ module _ (ns : List LaidNode) where
       by_test Top (fits ns (before ns parent) to) (node (node_at ns i).label (kids_given ns whole i) (given_from ns whole parent most (before ns i))) nil
       (λ h. ((λ k. refl), refl)) (λ h. ((λ k. cc), refl))
 
-  -- the list keeps progress
+  -- the list that is given keeps progress
   pub progress-given : (whole : Bool) (parent most to : ℕ) → 1 ≤ most → IsProgress (given_from ns whole parent most to)
   progress-given whole parent most to some = record { top = (top-given whole parent most to some).0; apart = apart-given whole parent most to }
 
-  -- it begins with no hole
+  -- the list that is given begins with no hole
   pub forward-given : (whole : Bool) (parent most to : ℕ) → 1 ≤ most → begins_with_hole (given_from ns whole parent most to) ≡ false
   forward-given whole parent most to some = (top-given whole parent most to some).1
 
@@ -92,7 +92,7 @@ module _ (ns : List LaidNode) where
   known-kids false i h =
       by_test (AllHoles (is_known ns)) (fits ns (before ns i) i) (hole (rest_hole (all_of i)) nil) nil (λ k. (known-rest i i h (omega arith) (omega arith), tt)) (λ k. tt)
 
-  -- all its holes are known
+  -- all holes of the list that is given are known
   pub known-given : (whole : Bool) (parent most to : ℕ) → parent < length ns → before ns parent ≤ to → to ≤ parent → AllHoles (is_known ns) (given_from ns whole parent most to)
   known-given whole parent zero to h k m =
       by_test (AllHoles (is_known ns)) (fits ns (before ns parent) to) (hole (rest_hole (record { node = parent; to = to })) nil) nil
@@ -103,7 +103,7 @@ module _ (ns : List LaidNode) where
       (λ p. let some = fits_some ns (before ns parent) to p in
       (known-kids whole i (omega (arith, some)), known-given whole parent most (before ns i) h (omega (arith, some)) (omega (arith, some)))) (λ p. tt)
 
-  -- it weighs no more than the hole
+  -- the list that is given weighs no more than the trees that its hole stands for
   pub lighter-given : (whole : Bool) (parent most to : ℕ) → weight_of (λ h. nodes_of (hole_trees ns h)) (given_from ns whole parent most to) ≤ nodes_of (between ns (before ns parent) to)
   lighter-given whole parent most to =
       let o = given_from ns whole parent most to in

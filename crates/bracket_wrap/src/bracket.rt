@@ -58,7 +58,7 @@ impl BracketDoc {
         ensures known { IfOk result (λ list. AllHoles (knows self.now) (plain list.items)) }
         ensures lighter { IfOk result (λ list. weight_of (weight self.now) (plain list.items) ≤ weight self.now hole) }
         ensures forward { IfOk result (λ list. begins_with_hole (plain list.items) ≡ false) }
-        // The causes.
+        // For which causes a fill fails.
         ensures never_failed { ¬ IsErrOf result SourceFault.Failed }
         ensures unknown { IsErrOf result SourceFault.UnknownHole → knows self.now hole ≡ false }
         ensures only_unknown { knows self.now hole ≡ false → IsErrOf result SourceFault.UnknownHole }

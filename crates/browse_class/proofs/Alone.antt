@@ -13,7 +13,7 @@ use Rattle.browse_profile.specs.Fits.{FourFit}
 use Rattle.browse_profile.specs.Profiles.{many}
 use Rattle.browse_class.proofs.EventFits.{HasNone, no_bindings, none_after}
 
--- of one binding at most
+-- a list has at most one stop
 IsAlone : Costs → Type 0
 IsAlone (ends t) = Unit {0}
 IsAlone (stop t c) = HasNone c
@@ -71,6 +71,6 @@ module _ (docs : Documents) (keys : List Key) (make : TolledRow → RowEvents �
   none_seen (skip ∷ es) = none_seen es
   none_seen (bind b ∷ es) = (refl, none_seen es)
 
-  -- none is passed over
+  -- where no two bindings agree by keys, keeping the first ones by them costs what all cost
   pub costs-distinct : (es : RowEvents) → AreApart docs keys es → costs_of (distinct docs keys make [] es) ≡ costs_of es
   costs-distinct es d = all_kept [] es (none_seen es) d

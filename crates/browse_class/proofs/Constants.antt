@@ -25,7 +25,7 @@ use Rattle.browse_class.proofs.Sound.{IsShapeWithin, events_as_known}
 use Rattle.browse_class.proofs.StageSteps.{IsMadeWithin, IsStageWithin}
 use Rattle.browse_class.proofs.Tolls.{value_of, within_zero}
 
--- both bounds are at most the greater
+-- a bound that is at least the greater of two is at least the first
 larger_left : (x y n : Option ℕ) → AtMost (larger x y) n → AtMost x n
 larger_left x y None h = tt
 larger_left None y (Some n) h = h
@@ -67,7 +67,7 @@ shape_within (pairs_up left right tests) of n h = tt
 shape_within (passes_on input stage) of n h = stage_within stage (of input) n h
 shape_within (no_events input made) of n h = tt
 
--- each of some operators is within what all are
+-- the new element's list of each operator stays within what bounds all operators
 pub all_within : (ops : List Operator) (of : ℕ → Facts) (n : Option ℕ) → AtMost (all_bounds ops of) n → (i : ℕ) → i < length ops → IsShapeWithin n (shape_at ops i) of
 all_within [] of n h i b = absurd (omega (arith, b))
 all_within (op ∷ ops) of n h zero b = shape_within (shape_of op) of n (larger_left (op_bound op of) (all_bounds ops of) n h)
@@ -82,7 +82,7 @@ pub one_within : (ops : List Operator) (of : ℕ → Facts) (n : Option ℕ) →
 one_within [] of n h = least n h
 one_within (op ∷ ops) of n h = one_within ops of n (larger_right (op_bound op of) (all_bounds ops of) n h)
 
--- cheap trees
+-- the trees after the first of a cheap list are cheap
 cheap_after : (most : Option ℕ) (f : Tolled) → IsCheap most f → IsCheap most (trees_after f)
 cheap_after most (the_end t) h = within_zero most
 cheap_after most (item t label kids rest) h = h.2
@@ -148,7 +148,7 @@ module _ (shapes : ℕ → Layout) (docs : Documents) (laid : AreLaid shapes doc
           events_as_known shapes docs laid most (one_within p.ops (facts shapes p.ops) most bounded) p valid typed (λ i h. all_within p.ops (facts shapes p.ops) most bounded i h) input c in
           found_cheap docs most (kinds p.ops input) (facts shapes p.ops input) (events docs p.ops input) made fit known.bound (found (events docs p.ops input)) refl
 
-  -- the document is cheap
+  -- every toll of the plan's document is within the bound
   pub document_cheap : IsCheap most (tolled_document docs p.ops)
   document_cheap = last_cheap (last_or None p.ops) refl
 

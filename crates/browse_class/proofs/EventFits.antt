@@ -26,7 +26,7 @@ costs-nodes out start row [] = refl
 costs-nodes out start row (skip ∷ es) = ap (more 1) (costs-nodes out start row es)
 costs-nodes out start row (bind p ∷ es) = ap (stop 1) (costs-nodes out start row es)
 
--- bindings made anew
+-- bindings made anew cost what the bindings cost
 pub costs-each_row : (f : TolledRow → TolledRow) (es : RowEvents) → costs_of (each_row f es) ≡ costs_of es
 costs-each_row f [] = refl
 costs-each_row f (skip ∷ es) = ap (more 1) (costs-each_row f es)
@@ -53,23 +53,23 @@ expand_replaced Q f (bind row ∷ es) h = (
   costs-append (skip ∷ f row) (expand f es) ∙ sym (more-zero (followed (costs_of (skip ∷ f row)) (costs_of (expand f es)))),
 )
 
--- without a stop
+-- a list has no stop
 abbrev pub HasNone : Costs → Type 0
 HasNone (ends t) = Unit {0}
 HasNone (stop t c) = ⊥
 
--- nor after a smaller cost
+-- a list that has no stop after a further cost has none
 pub none_more : (n : ℕ) (c : Costs) → HasNone (more n c) → HasNone c
 none_more n (ends t) h = tt
 none_more n (stop t c) h = h
 
--- there is no binding, whatever is said of them
+-- events whose costs have no stop have no binding, whatever is said of each
 pub no_bindings : (Q : TolledRow → Type 0) (es : RowEvents) → HasNone (costs_of es) → EachBinding Q es
 no_bindings Q [] h = tt
 no_bindings Q (skip ∷ es) h = no_bindings Q es (none_more 1 (costs_of es) h)
 no_bindings Q (bind row ∷ es) h = absurd h
 
--- after the only stop there is none
+-- after the only stop that a profile allows there is none
 pub none_after : (i : Profile) → many i.most ≡ false → (c : Costs) → After i c → HasNone c
 none_after i o (ends t) h = tt
 none_after i o (stop t c) h = (let e : true ≡ false = sym h.1 ∙ o in cc)

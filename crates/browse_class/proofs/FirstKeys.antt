@@ -31,7 +31,7 @@ map_snoc : (k x : List KeyValue) (si : List (List KeyValue)) → map (λ s. k ++
 map_snoc k x [] = refl
 map_snoc k x (s ∷ si) = ap (λ (z : List (List KeyValue)). (k ++ s) ∷ z) (map_snoc k x si)
 
--- the same values are values
+-- two values that a key compares as the same are equal
 value_same : (x y : KeyValue) → same_value x y ≡ true → x ≡ y
 value_same (by_node m) (by_node n) h = ap by_node (same_node-true m n h)
 value_same (by_node m) (by_label l) h = cc
@@ -110,7 +110,7 @@ module _ (docs : Documents) (d e : List Key) (make : TolledRow → RowEvents →
         | false ↦ ap (stop 1) fresh
       ]
 
-  -- other values stay free
+  -- where no values that begin with a binding's were seen, none are after those of a binding that differs from it
   other_free : (a b : TolledRow) (seen si : List (List KeyValue)) → IsFree (key_values docs d b) seen → Differ docs d a b → IsFree (key_values docs d b) (seen ++ map (λ s. key_values docs d a ++ s) si)
   other_free a b seen si free apart x =
       list_any-append (λ s. same_values s (key_values docs d b ++ x)) seen (map (λ s. key_values docs d a ++ s) si)
@@ -170,7 +170,7 @@ module _ (docs : Documents) (d e : List Key) (make : TolledRow → RowEvents →
     pub level_expand : (es : RowEvents) → EachBinding P es → AreApart docs d es → IsReplaced Q (costs_of es) (costs_of (distinct docs (d ++ e) make [] (expand f es)))
     level_expand es p h = level_from [] es p h (nothing_seen es)
 
--- by no keys the first binding alone counts
+-- first bindings by no keys: the first binding alone counts
 module _ (docs : Documents) (make : TolledRow → RowEvents → TolledRow) where
   none_left : (seen : List (List KeyValue)) (es : RowEvents) → is_seen [] seen ≡ true → costs_of (distinct docs [] make seen es) ≡ ends (total (costs_of es))
   none_left seen [] h = refl
@@ -225,7 +225,7 @@ module _ (docs : Documents) (d k : List Key) (make made : TolledRow → RowEvent
             second false true e h = refl
             second false false e h = h
 
-    -- they are kept as among all
+    -- bindings kept by finer keys and then by coarser ones cost what they cost kept by the coarser ones at once
     distinct_from : (sk sd : List (List KeyValue)) (es : RowEvents) → Follows sk sd → costs_of (distinct docs d make sd (distinct docs k made sk es)) ≡ costs_of (distinct docs d make sd es)
     distinct_from sk sd [] f = refl
     distinct_from sk sd (skip ∷ es) f = ap (more 1) (distinct_from sk sd es f)

@@ -23,7 +23,7 @@ use Rattle.browse_class.specs.Levels.{own_level}
 use Rattle.browse_class.proofs.Alone.{apart_once, costs-distinct}
 use Rattle.browse_class.proofs.FirstKeys.{costs-first, costs-coarser}
 
--- level 0
+-- level 0 of events is the profile of their first binding alone
 pub level_zero : (docs : Documents) (p : Profile) (es : RowEvents) (make : TolledRow → RowEvents → TolledRow) → Fits p (costs_of es) → Fits (once p) (costs_of (distinct docs [] make [] es))
 level_zero docs p es make h = subst (Fits (once p)) (sym (costs-first docs make es)) (fits_once p es h)
 

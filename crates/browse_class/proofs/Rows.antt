@@ -16,14 +16,14 @@ use Rattle.browse_visit.specs.Layouts.{Layout}
 use Rattle.plan_core.specs.Beside.{EachBinding}
 use Rattle.plan_core.proofs.Bindings.{EachSuffix}
 
--- of the nodes of a visit
+-- what holds of a binding with each place of a visit holds of each binding of the visit
 pub places_found : (P : List ℕ → Type 0) (Q : TolledRow → Type 0) (out : ℕ) (start : Node) (row : TolledRow) → ((place : List ℕ) → P place → Q (with_node out start row place))
     → (es : List (Event (List ℕ))) → EachBinding P es → EachBinding Q (nodes_found out start row es)
 places_found P Q out start row h [] b = tt
 places_found P Q out start row h (skip ∷ es) b = places_found P Q out start row h es b
 places_found P Q out start row h (bind place ∷ es) b = (h place b.0, places_found P Q out start row h es b.1)
 
--- of what is made of first bindings and the events after them
+-- what holds of all that is made of bindings and the events after them holds of each first binding by keys
 pub suffix_distinct : (R : TolledRow → RowEvents → Type 0) (Q : TolledRow → Type 0) (docs : Documents) (keys : List Key) (make : TolledRow → RowEvents → TolledRow) → ((row : TolledRow) (es : RowEvents) → R row es → Q (make row es))
     → (seen : List (List KeyValue)) (es : RowEvents) → EachSuffix R es → EachBinding Q (distinct docs keys make seen es)
 suffix_distinct R Q docs keys make h seen [] b = tt
@@ -57,7 +57,7 @@ either_value docs most false k None gs hs p q x row more v h r = r
 either_value docs most false k (Some j) gs hs p q x row more v h r = r
 
 module _ (docs : Documents) (most : Option ℕ) where
-  -- one variable more
+  -- a binding with one variable more has values as the facts with this variable say
   pub bound_with : (kinds : Kinds) (f g : Facts) (out : ℕ) (k : Kind) (gs : List Layout) (p : Profile) (x : TolledValue) (row : TolledRow)
       → ((v : ℕ) → with_at out gs f.layouts v ≡ g.layouts v) → ((v : ℕ) → with_at out p f.lists v ≡ g.lists v)
       → IsValue docs most k gs p x → IsBound docs most kinds f row → IsBound docs most (with_kind out k kinds) g ((out, x) ∷ row)
@@ -67,7 +67,7 @@ module _ (docs : Documents) (most : Option ℕ) where
       (subst (λ (q : Profile). By docs most (with_kind out k kinds v) (with_at out gs f.layouts v) q (tolled_value ((out, x) ∷ (row ++ more)) v) (tolled_value ((out, x) ∷ row) v) (tolled_value more v)) (b v)
       (either_value docs most (out == v) k (kinds v) gs (f.layouts v) p (f.lists v) x row more v h (r v more))))
 
-  -- no variable at all
+  -- a binding without variables has values as any facts of no variables say
   pub bound_none : (f : Facts) (kinds : Kinds) → ((v : ℕ) → kinds v ≡ None) → IsBound docs most kinds f []
   bound_none f kinds e v more = subst (λ (k : Option Kind). HasValue docs most k (f.layouts v) (f.lists v) [] more v) (sym (e v)) refl
 
@@ -104,7 +104,7 @@ module _ (docs : Documents) (most : Option ℕ) where
           of_node : (j : Option Kind) → j ≡ Some a_node → HasValue docs most j (f.layouts v) (f.lists v) row more v → IsValue docs most a_node (f.layouts v) (f.lists v) (tolled_value row v)
           of_node j e h = (let z : HasValue docs most (Some a_node) (f.layouts v) (f.lists v) row more v = subst (λ (i : Option Kind). HasValue docs most i (f.layouts v) (f.lists v) row more v) e h in z.1)
 
-  -- both sides of a join
+  -- a pair of bindings has values as the facts of both sides of a join say
   pub bound_both : (kl kr : Kinds) (f g h : Facts) (a b : TolledRow) → ((v : ℕ) → of_side (kl v) (f.layouts v) (g.layouts v) ≡ h.layouts v) → ((v : ℕ) → of_side (kl v) (f.lists v) (g.lists v) ≡ h.lists v)
       → IsBound docs most kl f a → IsBound docs most kr g b → IsBound docs most (λ v. either_kind (kl v) (kr v)) h (a ++ b)
   bound_both kl kr f g h a b ls ps x y v more =

@@ -45,7 +45,7 @@ use Rattle.browse_class.proofs.Rows.{places_found, bound_with, bound_both, bound
 use Rattle.browse_class.proofs.StageSteps.{part_nodes, leveled_none}
 use Rattle.browse_class.proofs.Tolls.{value_of}
 
--- a source
+-- a source's events are as its facts say
 pub source_step : (shapes : ℕ → Layout) (docs : Documents) → AreLaid shapes docs → (most : Option ℕ) (s out : ℕ)
     → AreAsKnown docs most (with_kind out a_node no_kinds) [] (source_facts (shapes s) out) (bind ((out, of_source (document_node s)) ∷ []) ∷ [])
 source_step shapes docs laid most s out =
@@ -68,7 +68,7 @@ source_step shapes docs laid most s out =
     either_same true = refl
     either_same false = refl
 
--- keys of two lists
+-- keys of nodes and more keys of nodes are together keys of nodes
 nodes_append : (keys more : List Key) (kinds : Kinds) → AreNodes keys kinds → AreNodes more kinds → AreNodes (keys ++ more) kinds
 nodes_append keys more kinds h k v t =
     (elim (has_var keys v) as (λ w. has_var keys v ≡ w → (w || has_var more v) ≡ true → kinds v ≡ Some a_node) [
@@ -76,7 +76,7 @@ nodes_append keys more kinds h k v t =
       | false ↦ λ e g. k v g
     ]) refl (sym (list_any-append (λ k. key_var k == v) keys more) ∙ t)
 
--- keys of fronts
+-- the node keys of two lists of variables are those of the first and then those of the second
 node_keys_more : (vs ws : List ℕ) → node_keys (vs ++ ws) ≡ node_keys vs ++ node_keys ws
 node_keys_more [] ws = refl
 node_keys_more (v ∷ vs) ws = ap (λ (z : List Key). node_key v ∷ z) (node_keys_more vs ws)
@@ -103,7 +103,7 @@ module _ (docs : Documents) (most : Option ℕ) (kinds : Kinds) (fr : Front) (f 
     laid_visit : (row : TolledRow) → IsBound docs most kinds f row → Rattle.browse_visit.specs.Laid.IsVisitAsLaid path gs (tree [] (docs (row_node row start).source) none) (row_node row start).place
     laid_visit row b = visits_are_as_laid path gs (tree [] (docs (row_node row start).source) none) (row_node row start).place (start_laid row b)
 
-    -- is as its profile says
+    -- the visit below a binding's start node, after a skip, is as its profile says
     visit_fits : (row : TolledRow) → IsBound docs most kinds f row → Fits (visit_below path gs) (costs_of (skip ∷ descendants docs start path out row))
     visit_fits row b =
         let n : Node = row_node row start in
@@ -112,7 +112,7 @@ module _ (docs : Documents) (most : Option ℕ) (kinds : Kinds) (fr : Front) (f 
         subst (λ (d : Costs). Fits (visit_below path gs) (more 1 d)) (sym (costs-nodes out n row (visits docs path n)))
         (fits_in_turn one_skip (path_profile path gs) (ends 1) c one (laid_visit row b).fits)
 
-    -- its bindings have the new variable
+    -- each binding of a row's descendants has the new variable and is bound as known
     with_is : (row : TolledRow) → IsBound docs most kinds f row → EachBinding (IsBound docs most (with_kind out a_node kinds) (visits_facts start path out fr f)) (descendants docs start path out row)
     with_is row b =
         let n : Node = row_node row start in
@@ -141,14 +141,14 @@ module _ (docs : Documents) (most : Option ℕ) (kinds : Kinds) (fr : Front) (f 
         binding_nodes (λ a. key_values docs (node_keys fr.vars) a ≡ key_values docs (node_keys fr.vars) row) out (row_node row start) row
         (λ place. keys_with docs kinds (node_keys fr.vars) out (of_source (record { source = (row_node row start).source; place = place })) row fronted.nodes fresh) (visits docs path (row_node row start))
 
-    -- by the whole front no two agree
+    -- where the input's front is whole, no two bindings of visits agree by it and the new variable
     front_apart : fr.whole ≡ true → AreApart docs (node_keys (fr.vars ++ out ∷ [])) all_events
     front_apart e =
         subst (λ (ks : List Key). AreApart docs ks all_events) (sym (node_keys_more fr.vars (out ∷ [])))
         (apart_expand docs (node_keys fr.vars) (node_key out ∷ []) (IsBound docs most kinds f) (descendants docs start path out) (λ row b. same_front row)
         (λ row b. apart_nodes docs out (row_node row start) row (visits docs path (row_node row start)) (visits_are_matches docs path (row_node row start)).ascending) es known.bound (fronted.front.whole e))
 
-    -- of each visit the first binding alone
+    -- by all variables of the input's whole front just the first binding of each visit counts
     first_of_each : fr.whole ≡ true → (make : TolledRow → RowEvents → TolledRow) → Fits (replaced f.profile (once (visit_below path gs))) (costs_of (distinct docs (node_keys fr.vars) make [] all_events))
     first_of_each e make =
         subst (λ (ks : List Key). Fits (replaced f.profile (once (visit_below path gs))) (costs_of (distinct docs ks make [] all_events))) (append_nil (node_keys fr.vars))
@@ -189,7 +189,7 @@ module _ (docs : Documents) (most : Option ℕ) (kinds : Kinds) (fr : Front) (f 
     part_level zero make = level_zero docs own_profile all_events make own_fits
     part_level (suc j) make = fits_unbounded (costs_of (distinct docs (node_keys (take (suc j) fr.vars)) make [] all_events))
 
-    -- its levels
+    -- the first bindings of visits by a part of their front are as the levels say
     visits_leveled : AreLeveled docs (fr.vars ++ cond fr.whole (out ∷ []) []) (with_zero own_profile (visits_level (length fr.vars) fr.whole own_profile f.profile (visit_below path gs))) all_events
     visits_leveled =
         (elim fr.whole as (λ w. fr.whole ≡ w → AreLeveled docs (fr.vars ++ cond w (out ∷ []) []) (with_zero own_profile (visits_level (length fr.vars) w own_profile f.profile (visit_below path gs))) all_events) [
@@ -199,7 +199,7 @@ module _ (docs : Documents) (most : Option ℕ) (kinds : Kinds) (fr : Front) (f 
               (λ j h make. part_level j make)
         ]) refl
 
-    -- visits below the bindings
+    -- the events of visits below bindings are as is known of them
     pub visits_step : AreAsKnown docs most (with_kind out a_node kinds) (fr.vars ++ cond fr.whole (out ∷ []) []) (visits_facts start path out fr f) all_events
     visits_step = record {
       fits = own_fits;
@@ -214,7 +214,7 @@ module _ (docs : Documents) (most : Option ℕ) (kinds : Kinds) (fr : Front) (f 
       leveled = visits_leveled;
     }
 
--- comparisons above an expansion
+-- a test of two lists of events, one after the other, tests each of them
 only_append : (test : TolledRow → Bool) (xs ys : RowEvents) → only test (xs ++ ys) ≡ only test xs ++ only test ys
 only_append test [] ys = refl
 only_append test (skip ∷ xs) ys = ap (λ (z : RowEvents). skip ∷ z) (only_append test xs ys)
@@ -322,7 +322,7 @@ module _ (docs : Documents) (most : Option ℕ) (kl kr : Kinds) (fr gr : Front) 
   part_join zero make = level_zero docs plain_profile all_rows make plain_fits
   part_join (suc j) make = fits_unbounded (costs_of (distinct docs (node_keys (take (suc j) (fr.vars ++ []))) make [] all_rows))
 
-  -- their levels
+  -- the first pairs by a part of their front are as the levels of a join without comparisons say
   plain_leveled : AreLeveled docs (fr.vars ++ cond fr.whole gr.vars []) (with_zero plain_profile (pairs_level (length fr.vars) fr.whole f.profile g.levels)) all_rows
   plain_leveled =
       (elim fr.whole as (λ w. fr.whole ≡ w → AreLeveled docs (fr.vars ++ cond w gr.vars []) (with_zero plain_profile (pairs_level (length fr.vars) w f.profile g.levels)) all_rows) [
@@ -330,7 +330,7 @@ module _ (docs : Documents) (most : Option ℕ) (kl kr : Kinds) (fr gr : Front) 
         | false ↦ λ e. λ j h make. part_join j make
       ]) refl
 
-  -- all pairs
+  -- the pairs of a join without comparisons are as its facts say
   plain_pairs : AreAsKnown docs most both_kinds (fr.vars ++ cond fr.whole gr.vars []) (pairs_facts [] kl fr f g) all_rows
   plain_pairs = record {
     fits = plain_fits;
@@ -350,13 +350,13 @@ module _ (docs : Documents) (most : Option ℕ) (kl kr : Kinds) (fr gr : Front) 
     leveled = plain_leveled;
   }
 
-  -- those of which all comparisons hold
+  -- the first of the pairs that pass a test, by a part of their front, are as the levels of a join with comparisons say
   tested_leveled : (test : TolledRow → Bool) → AreLeveled docs (fr.vars ++ cond fr.whole gr.vars []) (with_zero (passed plain_profile) (λ j. own_level (passed plain_profile))) (only test all_rows)
   tested_leveled test zero h make = level_zero docs (passed plain_profile) (only test all_rows) make (fits_only plain_profile test all_rows plain_fits)
   tested_leveled test (suc j) h make =
       level_own docs (node_keys (take (suc j) (fr.vars ++ cond fr.whole gr.vars []))) (passed plain_profile) (only test all_rows) make (fits_only plain_profile test all_rows plain_fits)
 
-  -- a join
+  -- a join's events are as its facts say
   pub pairs_step : (tests : List Test) → AreAsKnown docs most both_kinds (fr.vars ++ cond fr.whole gr.vars []) (pairs_facts tests kl fr f g) (expand (pairs docs tests rs) ls)
   pairs_step [] =
       subst (AreAsKnown docs most both_kinds (fr.vars ++ cond fr.whole gr.vars []) (pairs_facts [] kl fr f g)) (sym (expand_only (passes_all docs []) beside ls ∙ only_all docs (expand beside ls)))

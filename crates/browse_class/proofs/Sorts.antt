@@ -48,7 +48,7 @@ differ_back docs keys a b d =
       | false ↦ λ e. refl
     ]) refl
 
--- no two of a list agree
+-- no two bindings of a list agree by keys
 abbrev Apart : Documents → List Key → List TolledRow → Type 0
 Apart docs keys [] = Unit {0}
 Apart docs keys (row ∷ rows) = AllByRecursion (Differ docs keys row) rows × Apart docs keys rows

@@ -62,7 +62,7 @@ module _ (shapes : ℕ → Layout) (docs : Documents) (laid : AreLaid shapes doc
   abbrev Holds : Kinds → Front → Facts → RowEvents → Type 0
   Holds ks fr f es = AreFronted docs ks fr es × AreAsKnown docs most ks fr.vars f es
 
-  -- those of an operator
+  -- operator n's events have its front and are as its facts say
   abbrev Known : ℕ → Type 0
   Known n = Holds (kinds p.ops n) (front p.ops n) (facts shapes p.ops n) (events docs p.ops n)
 
@@ -71,7 +71,7 @@ module _ (shapes : ℕ → Layout) (docs : Documents) (laid : AreLaid shapes doc
   anew n b f e i v x y =
       out_fresh p valid typed n i v b (subst (λ (g : Shape). Among i (shape_inputs g)) (sym e) x) (subst (λ (g : Shape). Among v (shape_outs g)) (sym e) y)
 
-  -- so after a stage
+  -- what a stage of the plan binds anew is not bound before it
   stage_anew : (n : ℕ) → n < length p.ops → (i : ℕ) (stage : Stage) → shape_at p.ops n ≡ passes_on i stage → IsStageFresh stage (kinds p.ops i)
   stage_anew n b i (filters test) e = tt
   stage_anew n b i (extends out made) e = anew n b (passes_on i (extends out made)) e i out (inl refl) (inl refl)
@@ -80,7 +80,7 @@ module _ (shapes : ℕ → Layout) (docs : Documents) (laid : AreLaid shapes doc
   stage_anew n b i (one_group piece out) e = tt
   stage_anew n b i (in_order v desc) e = tt
 
-  -- the front after a stage
+  -- the events of a stage have its front, where those of its input have theirs
   stage_fronted : (n : ℕ) → n < length p.ops → (i : ℕ) (stage : Stage) → shape_at p.ops n ≡ passes_on i stage → IsStageFit (kinds p.ops i) stage
       → AreFronted docs (kinds p.ops i) (front p.ops i) (events docs p.ops i)
       → AreFronted docs (stage_kinds stage (kinds p.ops i)) (stage_front stage (front p.ops i)) (stage_events docs (front p.ops i).vars stage (events docs p.ops i))
@@ -94,7 +94,7 @@ module _ (shapes : ℕ → Layout) (docs : Documents) (laid : AreLaid shapes doc
   stage_fronted n b i (one_group piece out) e fit h = grouped_fronted docs (kinds p.ops i) (front p.ops i) (events docs p.ops i) h piece out
   stage_fronted n b i (in_order v desc) e fit h = ordered_fronted docs (kinds p.ops i) (front p.ops i) (events docs p.ops i) h v desc
 
-  -- a shape, from its inputs
+  -- a shape's events have its front and are as its facts say, where its inputs' do
   shape_known : (n : ℕ) → n < length p.ops → (f : Shape) → shape_at p.ops n ≡ f → IsShapeFit f (kinds p.ops) → IsShapeWithin most f (facts shapes p.ops) → ((i : ℕ) → Among i (shape_inputs f) → Known i)
       → Holds (shape_kinds f (kinds p.ops)) (shape_front f (front p.ops)) (shape_facts shapes (kinds p.ops) (front p.ops) f (facts shapes p.ops)) (shape_events docs (front p.ops) f (events docs p.ops))
   shape_known n b (one_source s out) e fit w h = (source_fronted docs s out, source_step shapes docs laid most s out)

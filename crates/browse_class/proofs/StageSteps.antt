@@ -43,7 +43,7 @@ use Rattle.browse_class.proofs.Tolls.{concatenation_is, element_is, gathered_is,
 kept_none : (kinds : Kinds) (keys : List Key) (v : ℕ) → kinds v ≡ None → kept keys kinds v ≡ None
 kept_none kinds keys v e = elim (has_var keys v) as (λ w. cond w (kinds v) None ≡ None) [ true ↦ e | false ↦ refl ]
 
--- fewer variables of a front are nodes as well
+-- where variables are nodes, the first j of them are nodes
 pub part_nodes : (kinds : Kinds) (j : ℕ) (vs : List ℕ) → AreNodes (node_keys vs) kinds → AreNodes (node_keys (take j vs)) kinds
 part_nodes kinds zero vs n v t = cc
 part_nodes kinds (suc j) [] n v t = cc
@@ -56,12 +56,12 @@ part_nodes kinds (suc j) (x ∷ vs) n v t =
     later : (u : ℕ) → has_var (node_keys vs) u ≡ true → has_var (node_keys (x ∷ vs)) u ≡ true
     later u s = elim (x == u) as (λ w. (w || has_var (node_keys vs) u) ≡ true) [ true ↦ refl | false ↦ s ]
 
--- of no variables the level is that of the first binding
+-- with a front of no variables the only level is that of the first binding
 pub leveled_none : (docs : Documents) (p : Profile) (es : RowEvents) → Fits p (costs_of es) → AreLeveled docs [] (with_zero p (λ j. unbounded)) es
 leveled_none docs p es f zero h make = level_zero docs p es make f
 leveled_none docs p es f (suc j) h make = absurd (omega (arith, h))
 
--- BINDINGS AND THOSE BEHIND THEM
+-- BINDINGS AND THOSE AFTER THEM
 
 -- what holds of all bindings holds of each and of those after it
 suffix_bindings : (P : TolledRow → Type 0) (es : RowEvents) → EachBinding P es → EachSuffix (λ row rest. P row × EachBinding P rest) es
@@ -69,19 +69,19 @@ suffix_bindings P [] b = tt
 suffix_bindings P (skip ∷ es) b = suffix_bindings P es b
 suffix_bindings P (bind row ∷ es) b = ((b.0, b.1), suffix_bindings P es b.1)
 
--- of two facts
+-- two relations of each binding and the events after it hold together
 suffix_both : (R S : TolledRow → RowEvents → Type 0) (es : RowEvents) → EachSuffix R es → EachSuffix S es → EachSuffix (λ row rest. R row rest × S row rest) es
 suffix_both R S [] a b = tt
 suffix_both R S (skip ∷ es) a b = suffix_both R S es a b
 suffix_both R S (bind row ∷ es) a b = ((a.0, b.0), suffix_both R S es a.1 b.1)
 
--- after each binding the events go on as the profile says
+-- where events go on after a stop as a profile says, so do the events after each binding
 suffix_after : (i : Profile) (es : RowEvents) (n : ℕ) → After i (more n (costs_of es)) → EachSuffix (λ row rest. After i (costs_of rest)) es
 suffix_after i [] n h = tt
 suffix_after i (skip ∷ es) n h = suffix_after i es (n + 1) (subst (After i) (more-more n 1 (costs_of es)) h)
 suffix_after i (bind row ∷ es) n h = (h.2, suffix_after i es 0 (subst (After i) (sym (more-zero (costs_of es))) h.2))
 
--- so from the start
+-- where events are as a profile says, the events after each binding go on as it says
 suffix_fits : (i : Profile) (es : RowEvents) (n : ℕ) → FourFit i (more n (costs_of es)) → EachSuffix (λ row rest. After i (costs_of rest)) es
 suffix_fits i [] n h = tt
 suffix_fits i (skip ∷ es) n h = suffix_fits i es (n + 1) (subst (FourFit i) (more-more n 1 (costs_of es)) h)
@@ -94,7 +94,7 @@ any_after : (c : Costs) → After open_list c
 any_after (ends t) = tt
 any_after (stop t c) = (tt, refl, any_after c)
 
--- after the only member
+-- after the only member of a group its list goes on as the profile of a single item says
 last_after : (i : Profile) → many i.most ≡ false → (c : Costs) → After i c → After (single_list i) c
 last_after i e (ends t) h = h
 last_after i e (stop t c) h = (let f : true ≡ false = sym h.1 ∙ e in cc)
@@ -119,7 +119,7 @@ costs-run_none test [] h = refl
 costs-run_none test (skip ∷ es) h = ap (more 1) (costs-run_none test es (none_more 1 (costs_of es) h))
 costs-run_none test (bind row ∷ es) h = absurd h
 
--- nor where they stop
+-- where there is no binding, the events of a group cost what all cost, whether they stop or not
 costs-passing_none : (stops : Bool) (test : TolledRow → Bool) (es : RowEvents) → HasNone (costs_of es) → costs_of (passing stops test es) ≡ costs_of es
 costs-passing_none true test es h = costs-run_none test es h
 costs-passing_none false test es h = costs-only_none test es h
@@ -147,7 +147,7 @@ abbrev pub IsMadeWithin : Option ℕ → Made → Facts → Type 0
 IsMadeWithin most (a_list_of pieces) f = Unit {0}
 IsMadeWithin most (an_element_of label list) f = IsWithin most (f.lists list)
 
--- so after a stage
+-- the list of a new element that a stage makes stays within a bound
 abbrev pub IsStageWithin : Option ℕ → Stage → Facts → Type 0
 IsStageWithin most (filters test) f = Unit {0}
 IsStageWithin most (extends out made) f = IsMadeWithin most made f
@@ -170,7 +170,7 @@ module _ (docs : Documents) (most : Option ℕ) (one : Within 1 most) (kinds : K
   leveled_only test p fit zero h make = level_zero docs p (only test es) make fit
   leveled_only test p fit (suc j) h make = level_own docs (node_keys (take (suc j) fr.vars)) p (only test es) make fit
 
-  -- a comparison
+  -- the events that a comparison leaves are as its facts say
   filters_step : (test : TolledRow → Bool) → AreAsKnown docs most kinds fr.vars
       (record { profile = passed f.profile; layouts = f.layouts; lists = f.lists; keys = f.keys; levels = with_zero (passed f.profile) (λ j. own_level (passed f.profile)) }) (only test es)
   filters_step test = record {
@@ -187,7 +187,7 @@ module _ (docs : Documents) (most : Option ℕ) (one : Within 1 most) (kinds : K
   made_is (a_list_of pieces) fit w row b = concatenation_is docs most one kinds f pieces row [] fit b
   made_is (an_element_of label list) fit w row b = element_is docs most one kinds f label list row [] costless w fit b
 
-  -- one variable more
+  -- events with one variable more are as the facts of the stage say
   extends_step : (out : ℕ) (made : Made) → IsMadeFit kinds made → kinds out ≡ None → IsMadeWithin most made f
       → AreAsKnown docs most (with_kind out (made_kind made) kinds) fr.vars (stage_facts (extends out made) kinds fr.vars f) (each_row (extended docs out made) es)
   extends_step out made fit fresh w = record {
@@ -227,11 +227,11 @@ module _ (docs : Documents) (most : Option ℕ) (one : Within 1 most) (kinds : K
         | false ↦ λ e t. apart_once docs keys f.profile e es known.fits.0
       ]) refl h
 
-  -- else there can be several
+  -- where it does not hold that there is one binding at most, there can be several
   some_dropped : (b : Bool) → (not (many f.profile.most) || b) ≡ false → many f.profile.most ≡ true
   some_dropped b h = elim (many f.profile.most) as (λ w. (not w || b) ≡ false → w ≡ true) [ true ↦ λ g. refl | false ↦ λ g. sym g ] h
 
-  -- of the front that keys share
+  -- the first variables that keys share with a front are first variables of the front
   shared_take : (keys : List Key) (j : ℕ) → j ≤ length (shared keys fr.vars) → (j ≤ length fr.vars) × (take j fr.vars ≡ take j (shared keys fr.vars))
   shared_take keys j h =
       let s = shared_front keys fr.vars in
@@ -260,7 +260,7 @@ module _ (docs : Documents) (most : Option ℕ) (one : Within 1 most) (kinds : K
           | false ↦ λ c. fits_distinct f.profile some docs keys made es known.fits
         ]) refl
 
-    -- they are as their profile says
+    -- the first bindings by keys are as their profile says
     kept_fits : Fits (distinct_profile keys fr.vars f) (costs_of kept_events)
     kept_fits =
         (elim (not (many f.profile.most) || covers keys f.keys)
@@ -270,11 +270,11 @@ module _ (docs : Documents) (most : Option ℕ) (one : Within 1 most) (kinds : K
           | false ↦ λ e. front_fits (some_dropped (covers keys f.keys) e)
         ]) refl
 
-    -- no two agree
+    -- no two of the first bindings by keys agree by these
     kept_differ : AreApart docs keys kept_events
     kept_differ = (distinct_is docs keys made (λ row rest. values_alike docs keys (made row rest) row (λ v h. values row rest v h)) [] es).apart
 
-    -- their levels
+    -- the first of the first bindings by keys, by a part of their front, are as the input's levels say
     kept_leveled : AreLeveled docs (shared keys fr.vars) (with_zero (distinct_profile keys fr.vars f) f.levels) kept_events
     kept_leveled zero h make = level_zero docs (distinct_profile keys fr.vars f) kept_events make kept_fits
     kept_leveled (suc j) h make =
@@ -283,7 +283,7 @@ module _ (docs : Documents) (most : Option ℕ) (one : Within 1 most) (kinds : K
         (ap (λ (vs : List ℕ). costs_of (distinct docs (node_keys vs) make [] es)) s.1 ∙ sym (costs-part docs keys fr.vars made values (suc j) make es))
         (known.leveled (suc j) s.0 make)
 
-  -- each by itself
+  -- a project's events are as its facts say
   project_step : (keys : List Key) → AreNodes keys kinds
       → AreAsKnown docs most (kept keys kinds) (shared keys fr.vars) (kept_facts keys fr.vars f f.layouts f.lists) (distinct docs keys (kept_row docs keys (are_contiguous keys fr.vars) None) [] es)
   project_step keys n =
@@ -309,7 +309,7 @@ module _ (docs : Documents) (most : Option ℕ) (one : Within 1 most) (kinds : K
     abbrev group_facts : Facts
     group_facts = kept_facts keys fr.vars f (with_at out [] f.layouts) (with_at out (group_profile stops f.profile) f.lists)
 
-    -- the group's list
+    -- the value of the list of a group, by its first member and the events after it
     abbrev group_list : TolledRow → RowEvents → TolledValue
     group_list row rest = trees (piece_items docs piece row (collected docs piece (group_after docs keys stops row rest) (the_end 0)))
 
@@ -318,11 +318,11 @@ module _ (docs : Documents) (most : Option ℕ) (one : Within 1 most) (kinds : K
     group_values row rest v h =
         ap (λ (w : Bool). cond w (group_list row rest) (tolled_value (tolled_restrict keys row) v)) (fresh_differs kinds out v a_node fresh (n v h)) ∙ restrict_value keys row v h
 
-    -- those of a group pass a test
+    -- a binding is in the group of another
     group_test : TolledRow → TolledRow → Bool
     group_test row r = same_values (key_values docs keys row) (key_values docs keys r)
 
-    -- bindings that pass are bound as well
+    -- where all bindings are bound, the bindings that pass a test are bound
     passing_bound : (test : TolledRow → Bool) (b : Bool) (rest : RowEvents) → EachBinding (IsBound docs most kinds f) rest → EachBinding (IsBound docs most kinds f) (passing b test rest)
     passing_bound test true rest h = run_bound rest h
       where
@@ -353,7 +353,7 @@ module _ (docs : Documents) (most : Option ℕ) (one : Within 1 most) (kinds : K
       leveled = kept_leveled keys (group_row docs keys stops piece out) group_values;
     }
 
-  -- all in one group
+  -- the events of a groupBy without keys are as its facts say
   gather_step : (piece : Piece) (out : ℕ) → IsSinglePiece kinds piece
       → AreAsKnown docs most (with_kind out a_list no_kinds) [] (stage_facts (one_group piece out) kinds fr.vars f) (bind (whole_row docs piece out es) ∷ [])
   gather_step piece out s = record {
@@ -371,7 +371,7 @@ module _ (docs : Documents) (most : Option ℕ) (one : Within 1 most) (kinds : K
       own : Fits one_binding (stop 1 (ends 0))
       own = ((omega arith, refl, omega arith), omega arith)
 
-  -- in an order
+  -- an order's events are as its facts say
   order_step : (v : ℕ) (desc : Bool) → AreAsKnown docs most kinds [] (stage_facts (in_order v desc) kinds fr.vars f) (skips es ++ map bind (sorted_rows docs v desc es))
   order_step v desc =
       let less : TolledRow → TolledRow → Bool = λ a b. comes_before desc (label_at docs (row_node a v)) (label_at docs (row_node b v)) in
@@ -384,7 +384,7 @@ module _ (docs : Documents) (most : Option ℕ) (one : Within 1 most) (kinds : K
         leveled = leveled_none docs unbounded all (fits_unbounded (costs_of all));
       }
 
-  -- after a stage
+  -- a stage's events are as its facts say, where its input's are as theirs say
   pub stage_step : (stage : Stage) → IsStageFit kinds stage → IsStageFresh stage kinds → IsStageWithin most stage f
       → AreAsKnown docs most (stage_kinds stage kinds) (stage_front stage fr).vars (stage_facts stage kinds fr.vars f) (stage_events docs fr.vars stage es)
   stage_step (filters test) fit fresh w = filters_step (λ row. passes docs test (row_node row))

@@ -27,12 +27,12 @@ use Rattle.browse_profile.proofs.Following.{more-zero, followed_assoc, fits_in_t
 pub value_of : (docs : Documents) (most : Option ℕ) (kinds : Kinds) (f : Facts) (row : TolledRow) → IsBound docs most kinds f row → (v : ℕ) (k : Kind) → kinds v ≡ Some k → IsValue docs most k (f.layouts v) (f.lists v) (tolled_value row v)
 value_of docs most kinds f row b v k e = (let h : HasValue docs most (Some k) (f.layouts v) (f.lists v) row [] v = subst (λ (j : Option Kind). HasValue docs most j (f.layouts v) (f.lists v) row [] v) e (b v []) in h.1)
 
--- a further toll
+-- a further toll of a list is a further cost of its own tolls
 spine-dearer : (n : ℕ) (f : Tolled) → spine (dearer n f) ≡ more n (spine f)
 spine-dearer n (the_end t) = refl
 spine-dearer n (item t label kids rest) = refl
 
--- one list after another
+-- the own tolls of one list after another are those of the one after those of the other
 pub spine-followed : (f g : Tolled) → spine (tolled_followed f g) ≡ followed (spine f) (spine g)
 spine-followed (the_end t) g = spine-dearer t g
 spine-followed (item t label kids rest) g = ap (stop t) (spine-followed rest g)
@@ -45,7 +45,7 @@ cheap_followed : (most : Option ℕ) (f g : Tolled) → IsCheapBelow most f → 
 cheap_followed most (the_end t) g h k = cheap_dearer most t g k
 cheap_followed most (item t label kids rest) g h k = (h.0, cheap_followed most rest g h.1 k)
 
--- trees of a source
+-- trees of a source have no toll above 1
 cheap_charged : (most : Option ℕ) → Within 1 most → (f : Forest) → IsCheap most (charged f)
 cheap_charged most m none = m
 cheap_charged most m (tree label kids rest) = (m, cheap_charged most m kids, cheap_charged most m rest)
@@ -89,7 +89,7 @@ module _ (docs : Documents) (most : Option ℕ) (one : Within 1 most) (kinds : K
   cheap_piece (label_piece v) row rest h b r = (within_zero most, r)
   cheap_piece (text_piece label) row rest h b r = (within_zero most, r)
 
-  -- a value as costs
+  -- the costs of the own tolls of a value's trees
   abbrev value_costs : TolledValue → Costs
   value_costs (of_source n) = stop 0 (ends 0)
   value_costs (element label kids) = stop 0 (ends 0)
@@ -157,7 +157,7 @@ module _ (docs : Documents) (most : Option ℕ) (one : Within 1 most) (kinds : K
     cheap_pieces pieces row h b,
   )
 
-  -- the element over a list
+  -- the element over a list whose tolls are within a bound is an element below which all is cheap
   pub element_is : (label : List ℕ) (list : ℕ) (row : TolledRow) (gs : List Layout) (p : Profile) → IsWithin most (f.lists list) → kinds list ≡ Some a_list → IsBound docs most kinds f row
       → IsValue docs most an_element gs p (element label (piece_items docs (var_piece list) row (the_end 0)))
   element_is label list row gs p w e b = whole (tolled_value row list) (value_of docs most kinds f row b list a_list e)

@@ -30,7 +30,7 @@ abbrev pub HasValue : Documents → Option ℕ → Option Kind → List Layout �
 HasValue docs most None gs p row more v = tolled_value (row ++ more) v ≡ tolled_value more v
 HasValue docs most (Some k) gs p row more v = (tolled_value (row ++ more) v ≡ tolled_value row v) × IsValue docs most k gs p (tolled_value row v)
 
--- so of each variable
+-- a binding has of each variable a value of its kind, laid out and with tolls as the facts say
 abbrev pub IsBound : Documents → Option ℕ → Kinds → Facts → TolledRow → Type 0
 IsBound docs most kinds f row = (v : ℕ) (more : TolledRow) → HasValue docs most (kinds v) (f.layouts v) (f.lists v) row more v
 

@@ -26,7 +26,7 @@ AtMost x None = Unit {0}
 AtMost None (Some m) = ⊥
 AtMost (Some n) (Some m) = n ≤ m
 
--- so are the four bounds of a profile
+-- the four bounds of a profile from stop to stop are at most a bound
 pub record IsWithin (most : Option ℕ) (p : Profile) : Type 0 where
   pub lead : AtMost p.lead most
   pub between : AtMost p.between most

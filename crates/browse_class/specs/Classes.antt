@@ -20,7 +20,7 @@ abbrev pub made_bound : Made → Facts → Option ℕ
 made_bound (a_list_of pieces) f = Some 0
 made_bound (an_element_of label list) f = greatest (f.lists list)
 
--- so after a stage
+-- the greatest number from stop to stop of the list of a new element that a stage makes; 0 where it makes none
 abbrev pub stage_bound : Stage → Facts → Option ℕ
 stage_bound (filters test) f = Some 0
 stage_bound (extends out made) f = made_bound made f
@@ -28,7 +28,7 @@ stage_bound (first_by_keys keys group) f = Some 0
 stage_bound (one_group piece out) f = Some 0
 stage_bound (in_order v desc) f = Some 0
 
--- so of a shape
+-- the greatest number from stop to stop of the list of a new element that a shape makes; 0 where it makes none
 abbrev pub shape_bound : Shape → (ℕ → Facts) → Option ℕ
 shape_bound (one_source s out) of = Some 0
 shape_bound (visits_below input start path out) of = Some 0
@@ -36,7 +36,7 @@ shape_bound (pairs_up left right tests) of = Some 0
 shape_bound (passes_on input stage) of = stage_bound stage (of input)
 shape_bound (no_events input made) of = Some 0
 
--- so of an operator
+-- the greatest number from stop to stop of the list of a new element that an operator makes; 0 where it makes none
 abbrev pub op_bound : Operator → (ℕ → Facts) → Option ℕ
 op_bound op of = shape_bound (shape_of op) of
 
@@ -49,7 +49,7 @@ all_bounds (op ∷ ops) of = larger (op_bound op of) (all_bounds ops of)
 abbrev pub constant : (ℕ → Layout) → List Operator → Option ℕ
 constant shapes ops = all_bounds ops (facts shapes ops)
 
--- a stage sorts
+-- a stage orders its input's bindings
 abbrev pub stage_sorts : Stage → Bool
 stage_sorts (filters test) = false
 stage_sorts (extends out made) = false
@@ -57,7 +57,7 @@ stage_sorts (first_by_keys keys group) = false
 stage_sorts (one_group piece out) = false
 stage_sorts (in_order v desc) = true
 
--- a shape sorts
+-- a shape orders its input's bindings
 abbrev pub shape_sorts : Shape → Bool
 shape_sorts (one_source s out) = false
 shape_sorts (visits_below input start path out) = false
@@ -65,11 +65,11 @@ shape_sorts (pairs_up left right tests) = false
 shape_sorts (passes_on input stage) = stage_sorts stage
 shape_sorts (no_events input made) = false
 
--- so does an operator
+-- an operator orders its input's bindings
 abbrev pub op_sorts : Operator → Bool
 op_sorts op = shape_sorts (shape_of op)
 
--- some operator sorts
+-- some operator of a plan orders its input's bindings
 abbrev pub sorts_any : List Operator → Bool
 sorts_any [] = false
 sorts_any (op ∷ ops) = op_sorts op || sorts_any ops

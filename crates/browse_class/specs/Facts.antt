@@ -28,16 +28,16 @@ pub record Facts : Type 0 where
   pub keys : List Key
   pub levels : ℕ → Profile
 
--- of one variable more
+-- a function with one value more, for a variable
 abbrev pub with_at : {A : Type 0} → ℕ → A → (ℕ → A) → ℕ → A
 with_at v a f w = cond (v == w) a (f w)
 
--- of the side that binds the variable
+-- of two things the first where the left side of a join binds the variable, else the second
 abbrev pub of_side : {A : Type 0} → Option Kind → A → A → A
 of_side None a b = b
 of_side (Some k) a b = a
 
--- nothing is known
+-- the facts of no operator: nothing is known
 abbrev pub no_facts : Facts
 no_facts = record { profile = costless; layouts = λ v. []; lists = λ v. costless; keys = []; levels = with_zero costless (λ j. unbounded) }
 
@@ -64,7 +64,7 @@ open_list = record { lead = Some 0; between = None; trail = None; none = Some 0;
 abbrev pub run_list : Profile → Profile
 run_list p = record { lead = Some 0; between = p.between; trail = larger p.between p.trail; none = Some 0; all = None; sure = true; most = Many }
 
--- one with a single item
+-- the profile of a list that stands at its single item
 abbrev pub single_list : Profile → Profile
 single_list p = record { lead = Some 0; between = Some 0; trail = p.trail; none = Some 0; all = None; sure = true; most = Once }
 
@@ -72,7 +72,7 @@ single_list p = record { lead = Some 0; between = Some 0; trail = p.trail; none 
 abbrev pub group_profile : Bool → Profile → Profile
 group_profile stops p = cond (many p.most) (cond stops (run_list p) open_list) (single_list p)
 
--- an item by itself
+-- the profile of an item by itself
 abbrev pub one_item : Profile
 one_item = record { lead = Some 0; between = Some 0; trail = Some 0; none = Some 0; all = None; sure = true; most = Once }
 
@@ -83,7 +83,7 @@ kind_profile (Some a_node) p = one_item
 kind_profile (Some an_element) p = one_item
 kind_profile (Some a_list) p = p
 
--- the trees of a piece
+-- the profile of the trees of a piece
 abbrev pub piece_profile : Kinds → (ℕ → Profile) → Piece → Profile
 piece_profile kinds lists (label_piece v) = one_item
 piece_profile kinds lists (text_piece label) = one_item
@@ -98,7 +98,7 @@ pieces_from before kinds lists (p ∷ pieces) = pieces_from (in_turn before (pie
 abbrev pub pieces_profile : Kinds → (ℕ → Profile) → List Piece → Profile
 pieces_profile kinds lists pieces = pieces_from costless kinds lists pieces
 
--- the list of what is made
+-- the profile of the list that is made of pieces; that of an element says nothing
 abbrev pub made_profile : Kinds → (ℕ → Profile) → Made → Profile
 made_profile kinds lists (a_list_of pieces) = pieces_profile kinds lists pieces
 made_profile kinds lists (an_element_of label list) = costless
@@ -108,7 +108,7 @@ abbrev pub kept_facts : List Key → List ℕ → Facts → (ℕ → List Layout
 kept_facts keys vars f layouts lists =
     record { profile = distinct_profile keys vars f; layouts = layouts; lists = lists; keys = keys; levels = with_zero (distinct_profile keys vars f) f.levels }
 
--- after a stage, over events with a front of these variables
+-- the facts after a stage, over events with a front of these variables
 abbrev pub stage_facts : Stage → Kinds → List ℕ → Facts → Facts
 stage_facts (filters test) kinds vars f =
     record { profile = passed f.profile; layouts = f.layouts; lists = f.lists; keys = f.keys; levels = with_zero (passed f.profile) (λ j. own_level (passed f.profile)) }
@@ -132,7 +132,7 @@ stage_facts (in_order v desc) kinds vars f =
 abbrev pub visits_profile : Form → ℕ → Facts → Profile
 visits_profile path start f = replaced f.profile (visit_below path (f.layouts start))
 
--- of visits below the bindings of an input with this front
+-- the facts of visits below the bindings of an input with this front
 abbrev pub visits_facts : ℕ → Form → ℕ → Front → Facts → Facts
 visits_facts start path out fr f =
     record {
@@ -152,7 +152,7 @@ abbrev pub join_levels : List Test → Front → Facts → Facts → ℕ → Pro
 join_levels [] fr f g = with_zero (beside_profile f g) (pairs_level (length fr.vars) fr.whole f.profile g.levels)
 join_levels (t ∷ tests) fr f g = with_zero (passed (beside_profile f g)) (λ j. own_level (passed (beside_profile f g)))
 
--- of pairs
+-- the facts of a join, of which the left side has this front
 abbrev pub pairs_facts : List Test → Kinds → Front → Facts → Facts → Facts
 pairs_facts tests kinds fr f g =
     record {
@@ -163,7 +163,7 @@ pairs_facts tests kinds fr f g =
       levels = join_levels tests fr f g;
     }
 
--- of a source that is laid out so
+-- the facts of a source with a given layout
 abbrev pub source_facts : Layout → ℕ → Facts
 source_facts g out =
     record { profile = one_binding; layouts = with_at out (g ∷ []) (λ v. []); lists = λ v. costless; keys = []; levels = with_zero one_binding (λ j. unbounded) }
@@ -176,7 +176,7 @@ shape_facts shapes kinds_of fronts (pairs_up left right tests) of = pairs_facts 
 shape_facts shapes kinds_of fronts (passes_on input stage) of = stage_facts stage (kinds_of input) (fronts input).vars (of input)
 shape_facts shapes kinds_of fronts (no_events input made) of = no_facts
 
--- so of an operator
+-- the facts of an operator, from those of its inputs
 abbrev pub op_facts : (ℕ → Layout) → (ℕ → Kinds) → (ℕ → Front) → Operator → (ℕ → Facts) → Facts
 op_facts shapes kinds_of fronts op of = shape_facts shapes kinds_of fronts (shape_of op) of
 

@@ -3,7 +3,7 @@ ghost use Rattle.browse_class.specs.Classes.{KnownOfEvents, BoundedTolls};
 
 use plan_core::valid_plans_are_typed;
 
-/// In a valid plan over documents that are laid out so, the events of each operator are as its profile says, the trees below the nodes of its
+/// In a valid plan over documents laid out as its sources are, the events of each operator are as its profile says, the trees below the nodes of
 /// bindings are laid out as is known, no two bindings agree by its distinct keys, and the first bindings by a part of its front are as its
 /// levels say.
 pub fn events_are_as_known()

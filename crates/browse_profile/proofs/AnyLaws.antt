@@ -78,7 +78,7 @@ one_of_comm : (a b : Profile) → one_of a b ≡ one_of b a
 one_of_comm a b =
     same_fields (one_of a b) (one_of b a) (larger_comm a.lead b.lead) (larger_comm a.between b.between) (larger_comm a.trail b.trail) (larger_comm a.none b.none) (larger_comm a.all b.all) (and_comm a.sure b.sure) (greater_comm a.most b.most)
 
--- of three lists it does not matter which two are taken together
+-- of three profiles of which any may hold, it does not matter which two are taken together first
 pub one_of_assoc : (a b c : Profile) → one_of (one_of a b) c ≡ one_of a (one_of b c)
 one_of_assoc a b c =
     same_fields (one_of (one_of a b) c) (one_of a (one_of b c)) (larger_assoc a.lead b.lead c.lead) (larger_assoc a.between b.between c.between) (larger_assoc a.trail b.trail c.trail) (larger_assoc a.none b.none c.none)
@@ -88,7 +88,7 @@ one_of_itself : (a : Profile) → one_of a a ≡ a
 one_of_itself a = same_fields (one_of a a) a (larger_itself a.lead) (larger_itself a.between) (larger_itself a.trail) (larger_itself a.none) (larger_itself a.all) (and_itself a.sure) (greater_itself a.most)
 
 module _ {X : Type 0} (f : X → Profile) where
-  -- each is below any
+  -- either a list of some or any of them is any of them
   one_below : (xs : List X) (x : X) → Among x xs → one_of (f x) (any_of f xs) ≡ any_of f xs
   one_below [] x a = absurd a
   one_below (y ∷ []) x (inl e) = ap (λ (z : X). one_of (f z) (f y)) e ∙ one_of_itself (f y)

@@ -24,7 +24,7 @@ fits_in_turn a b c d h k =
 pub fits_first : (a b : Profile) (c : Costs) → Fits a c → Fits (one_of a b) c
 fits_first a b c h = (repeating.fits_first a b c h.0, within_left a.all b.all (total c) h.1)
 
--- so does what fits the second
+-- what fits the second profile fits either of two
 pub fits_second : (a b : Profile) (c : Costs) → Fits b c → Fits (one_of a b) c
 fits_second a b c h = (repeating.fits_second a b c h.0, within_right a.all b.all (total c) h.1)
 
@@ -39,7 +39,7 @@ repeated_all a n = elim a.sure as (λ w. Within n (cond w (repeated_sure a) unbo
 pub fits_repeated_none : (a : Profile) → Fits (repeated a) (ends 0)
 fits_repeated_none a = (repeating.fits_repeated_none a, repeated_all a 0)
 
--- so is one more before any number
+-- a list that fits, before any number of lists, is any number of lists
 pub fits_repeated_more : (a : Profile) (c d : Costs) → Fits a c → Fits (repeated a) d → Fits (repeated a) (followed c d)
 fits_repeated_more a c d h k = (repeating.fits_repeated_more a c d h.0 k.0, repeated_all a (total (followed c d)))
 
@@ -66,7 +66,7 @@ total-first (stop t c) = refl
 pub fits_once : {B : Type 0} (p : Profile) (es : List (Event B)) → Fits p (costs_of es) → Fits (once p) (first_only (costs_of es))
 fits_once p es h = (four_once p es h.0 h.1, subst (Within (total (first_only (costs_of es)))) (sym (once_all p)) (subst (λ (n : ℕ). Within n p.all) (sym (total-first (costs_of es))) h.1))
 
--- any of the lists
+-- a list that fits one of some profiles fits any of them
 pub fits_any : {X : Type 0} (f : X → Profile) (xs : List X) (x : X) (c : Costs) → Among x xs → Fits (f x) c → Fits (any_of f xs) c
 fits_any f [] x c a h = absurd a
 fits_any f (y ∷ []) x c (inl e) h = subst (λ z. Fits (f z) c) e h
@@ -74,7 +74,7 @@ fits_any f (y ∷ []) x c (inr a) h = absurd a
 fits_any f (y ∷ z ∷ xs) x c (inl e) h = fits_first (f y) (any_of f (z ∷ xs)) c (subst (λ w. Fits (f w) c) e h)
 fits_any f (y ∷ z ∷ xs) x c (inr a) h = fits_second (f y) (any_of f (z ∷ xs)) c (fits_any f (z ∷ xs) x c a h)
 
--- all of it
+-- profiles are sound, each way to make them of others
 pub sound : ProfilesAreSound
 sound = record {
   in_turn = fits_in_turn;

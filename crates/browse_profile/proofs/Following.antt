@@ -31,7 +31,7 @@ pub followed_assoc : (x y z : Costs) → followed (followed x y) z ≡ followed 
 followed_assoc (ends t) y z = sym (more-followed t y z)
 followed_assoc (stop t x) y z = ap (stop t) (followed_assoc x y z)
 
--- of one list of events after another
+-- the costs of one list of events after another are those of the one after those of the other
 pub costs-append : {B : Type 0} (xs ys : List (Event B)) → costs_of (xs ++ ys) ≡ followed (costs_of xs) (costs_of ys)
 costs-append [] ys = sym (more-zero (costs_of ys))
 costs-append (skip ∷ xs) ys = ap (more 1) (costs-append xs ys) ∙ more-followed 1 (costs_of xs) (costs_of ys)
@@ -43,12 +43,12 @@ pub record IsLooserAfter (a r : Profile) : Type 0 where
   pub between : (n : ℕ) → Within n a.between → Within n r.between
   pub many : many a.most ≡ true → many r.most ≡ true
 
--- after a stop
+-- what goes on after a stop as a profile says goes on as a looser one says
 pub after_looser : (a r : Profile) → IsLooserAfter a r → (c : Costs) → After a c → After r c
 after_looser a r l (ends t) h = l.trail t h
 after_looser a r l (stop t c) h = (l.between t h.0, l.many h.1, after_looser a r l c h.2)
 
--- from the start
+-- a list that is as a profile says is as a looser one says
 pub fits_looser : (a r : Profile) → IsLooserAfter a r → ((n : ℕ) → Within n a.lead → Within n r.lead) → ((n : ℕ) → Within n a.none → Within n r.none)
     → (a.sure ≡ false → r.sure ≡ false) → (may a.most ≡ true → may r.most ≡ true) → (c : Costs) → FourFit a c → FourFit r c
 fits_looser a r l lead none sure m (ends t) h = (none t h.0, sure h.1)
@@ -60,13 +60,13 @@ pub after_followed : (a r : Profile) → ((n : ℕ) → Within n a.between → W
 after_followed a r b m d rest (ends t) h = rest t h
 after_followed a r b m d rest (stop t c) h = (b t h.0, m h.1, after_followed a r b m d rest c h.2)
 
--- numbers of stops
+-- there can be several stops in two lists where the first can have several
 pub many_left : (a b : Most) → many a ≡ true → many (added a b) ≡ true
 many_left Never b h = cc
 many_left Once b h = cc
 many_left Many b h = refl
 
--- there can be several stops where the second list can have several
+-- there can be several stops in two lists where the second can have several
 pub many_right : (a b : Most) → many b ≡ true → many (added a b) ≡ true
 many_right Never b h = h
 many_right Once Never h = cc
@@ -74,7 +74,7 @@ many_right Once Once h = refl
 many_right Once Many h = refl
 many_right Many b h = refl
 
--- so where both can have one
+-- there can be several stops in two lists where each can have one
 pub many_both : (a b : Most) → may a ≡ true → may b ≡ true → many (added a b) ≡ true
 many_both Never b h k = cc
 many_both Once Never h k = cc
@@ -82,7 +82,7 @@ many_both Once Once h k = refl
 many_both Once Many h k = refl
 many_both Many b h k = refl
 
--- there can be a stop where the first list can have one
+-- there can be a stop in two lists where the first can have one
 pub may_left : (a b : Most) → may a ≡ true → may (added a b) ≡ true
 may_left Never b h = cc
 may_left Once Never h = refl
@@ -90,7 +90,7 @@ may_left Once Once h = refl
 may_left Once Many h = refl
 may_left Many b h = refl
 
--- so where the second can
+-- there can be a stop in two lists where the second can have one
 pub may_right : (a b : Most) → may b ≡ true → may (added a b) ≡ true
 may_right Never b h = h
 may_right Once Never h = cc
@@ -109,7 +109,7 @@ or_false true b h k = cc
 or_false false b h k = k
 
 module _ (a b : Profile) where
-  -- after a stop of the first list
+  -- after a stop of the first list, and its end, the second goes on as the profiles in turn say
   turn_after : may a.most ≡ true → (d : Costs) → FourFit b d → (k : ℕ) → Within k a.trail → After (in_turn a b) (more k d)
   turn_after m (ends u) h k w =
       within_right b.trail (only_if (may a.most && not b.sure) (sum a.trail b.none)) (k + u)

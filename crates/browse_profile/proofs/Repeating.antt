@@ -45,14 +45,14 @@ and_right : (a b : Bool) → b ≡ false → (a && b) ≡ false
 and_right true b h = h
 and_right false b h = refl
 
--- the first of two
+-- a list that is as the first profile says is as that of either of two says
 pub fits_first : (a b : Profile) (c : Costs) → FourFit a c → FourFit (one_of a b) c
 fits_first a b c h =
     fits_looser a (one_of a b)
     (record { trail = λ n v. within_left a.trail b.trail n v; between = λ n v. within_left a.between b.between n v; many = many_greater_left a.most b.most })
     (λ n v. within_left a.lead b.lead n v) (λ n v. within_left a.none b.none n v) (and_left a.sure b.sure) (may_greater_left a.most b.most) c h
 
--- the second of two
+-- a list that is as the second profile says is as that of either of two says
 pub fits_second : (a b : Profile) (c : Costs) → FourFit b c → FourFit (one_of a b) c
 fits_second a b c h =
     fits_looser b (one_of a b)
@@ -69,12 +69,12 @@ pub fits_unbounded : (c : Costs) → FourFit unbounded c
 fits_unbounded (ends t) = (tt, refl)
 fits_unbounded (stop t c) = (tt, refl, after_unbounded c)
 
--- another cost of all
+-- a list is as a profile's four bounds say whatever its bound on the cost of all is
 pub four_with_all : (x : Option ℕ) (p : Profile) (c : Costs) → FourFit p c → FourFit (with_all x p) c
 four_with_all x p c h =
     fits_looser p (with_all x p) (record { trail = λ n v. v; between = λ n v. v; many = λ m. m }) (λ n v. v) (λ n v. v) (λ s. s) (λ m. m) c h
 
--- no list at all
+-- no list at all is as the profile of any number of lists says
 pub fits_repeated_none : (a : Profile) → FourFit (repeated a) (ends 0)
 fits_repeated_none a = elim a.sure as (λ w. FourFit (cond w (repeated_sure a) unbounded) (ends 0)) [ true ↦ (omega arith, refl) | false ↦ (tt, refl) ]
 
@@ -89,7 +89,7 @@ module _ (a : Profile) where
   more_sure s (stop t c) d h k =
       (h.0, refl, after_followed a (repeated_sure a) (λ n v. within_left a.between (sum a.trail a.lead) n v) (λ m. refl) d (again d k) c h.2)
 
-  -- one list more
+  -- a list as a profile says, before any number of such lists, is as the profile of any number of them says
   pub fits_repeated_more : (c d : Costs) → FourFit a c → FourFit (repeated a) d → FourFit (repeated a) (followed c d)
   fits_repeated_more c d h k =
       (elim a.sure as (λ w. a.sure ≡ w → FourFit (cond w (repeated_sure a) unbounded) d → FourFit (cond w (repeated_sure a) unbounded) (followed c d)) [

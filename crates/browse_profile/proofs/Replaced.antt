@@ -28,7 +28,7 @@ may_else false b h = h
 no_both : true ≡ false → ⊥
 no_both e = cc
 
--- each list has a stop
+-- a list each stop of which is replaced by a list that has a stop
 module _ (i p : Profile) (sure : p.sure ≡ true) where
   inside : (e : Costs) → After p e → (d : Costs) → ((k : ℕ) → Within k p.trail → After (replaced_sure i p) (more k d)) → After (replaced_sure i p) (followed e d)
   inside e h d rest =
@@ -55,7 +55,7 @@ module _ (i p : Profile) (sure : p.sure ≡ true) where
   rest_fits (stop t c) d h (u, e, r, same, f, next, is) k w =
       subst (λ (x : Costs). After (replaced_sure i p) (more k x)) (sym is) (first_after t u e r same h.0 h.1 f (rest_fits c r h.2 next) k w)
 
-  -- the first of all
+  -- the list that stands for the first stop, and the others after it, are as the profile says
   first_of_all : (t u : ℕ) (e r : Costs) → t ≡ suc u → Within t i.lead → FourFit p e → ((k : ℕ) → Within k p.trail → After (replaced_sure i p) (more k r)) → FourFit (replaced_sure i p) (more u (followed e r))
   first_of_all t u (ends v) r same b f rest = absurd (no_both (sym sure ∙ f.1))
   first_of_all t u (stop v e) r same b f rest = (
@@ -97,7 +97,7 @@ module _ (i p : Profile) (once : many i.most ≡ false) where
       let l = last_alone c r h.2 next in
       subst (FourFit (replaced_once i p)) (sym (is ∙ ap (λ (x : Costs). more u (followed e x)) l.1)) (list_alone t u l.0 e same h.0 l.2 f)
 
--- no stop at all
+-- a list that has no stop stays as its profile says when each stop is replaced
 never_fits : (i p : Profile) → may i.most ≡ false → (c d : Costs) → FourFit i c → IsReplaced (FourFit p) c d → FourFit i d
 never_fits i p never (ends t) d h r = subst (FourFit i) (sym r) h
 never_fits i p never (stop t c) d h r = absurd (no_both (sym h.1 ∙ never))

@@ -22,13 +22,13 @@ pub total-followed : (c d : Costs) → total (followed c d) ≡ total c + total 
 total-followed (ends t) d = total-more t d
 total-followed (stop t c) d = (let h = total-followed c d in omega (arith, h))
 
--- a product within bounds
+-- a number within the product of two bounds, where both are numbers, is within their product as a bound
 within_times : (x y : Option ℕ) (n : ℕ) → ((a b : ℕ) → x ≡ Some a → y ≡ Some b → n ≤ a * b) → Within n (times x y)
 within_times None y n h = tt
 within_times (Some a) None n h = tt
 within_times (Some a) (Some b) n h = within_capped (a * b) n (h a b refl refl)
 
--- replaced lists
+-- where each stop is replaced by a list that costs at most b, the whole costs at most b times as much
 replaced_total : (b : ℕ) (c d : Costs) → 1 ≤ b → IsReplaced (λ e. total e ≤ b) c d → total d ≤ total c * b
 replaced_total b (ends t) d one r = subst (λ (x : Costs). total x ≤ t * b) (sym r) (let h : t * 1 ≤ t * b = mul-le-mul_left t one in omega (arith, h))
 replaced_total b (stop t c) d one (u, e, r, same, f, next, is) =
@@ -55,7 +55,7 @@ within_replaced (Some a) (Some b) c d w r =
     weaker (ends t) d r = r
     weaker (stop t c) d (u, e, r, same, f, next, is) = (let g : total e ≤ max 1 b = omega (arith, f) in (u, e, r, same, g, weaker c r next, is))
 
--- the first stop alone
+-- a further cost before a list is one before its first stop alone
 pub first_only-more : (n : ℕ) (c : Costs) → first_only (more n c) ≡ more n (first_only c)
 first_only-more n (ends t) = refl
 first_only-more n (stop t c) = refl

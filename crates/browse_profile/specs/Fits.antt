@@ -5,7 +5,7 @@ use Rattle.browse_profile.specs.Bounds.{Within}
 use Rattle.browse_profile.specs.Costs.{Costs, ends, stop, total}
 use Rattle.browse_profile.specs.Profiles.{may, many}
 
--- after a stop, the list goes on as the profile says
+-- after a stop, a list goes on as the profile says
 abbrev pub After : Profile → Costs → Type 0
 After p (ends t) = Within t p.trail
 After p (stop t c) = Within t p.between × (many p.most ≡ true) × After p c

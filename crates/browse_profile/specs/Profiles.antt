@@ -5,19 +5,19 @@ use Rattle.browse_profile.specs.declared.profile.Most.{Most}
 use Rattle.browse_profile.specs.declared.profile.Most.TheVariants.{Never, Once, Many}
 use Rattle.browse_profile.specs.Bounds.{larger, sum, less_one, only_if, all_replaced}
 
--- there can be a stop
+-- there can be a stop in a list
 abbrev pub may : Most → Bool
 may Never = false
 may Once = true
 may Many = true
 
--- there can be several
+-- there can be several stops in a list
 abbrev pub many : Most → Bool
 many Never = false
 many Once = false
 many Many = true
 
--- of one list after another
+-- how many stops there can be in one list after another
 abbrev pub added : Most → Most → Most
 added Never m = m
 added Once Never = Once
@@ -25,7 +25,7 @@ added Once Once = Many
 added Once Many = Many
 added Many m = Many
 
--- of either of two lists
+-- how many stops there can be in either of two lists
 abbrev pub greater : Most → Most → Most
 greater Never m = m
 greater Once Never = Once
@@ -33,19 +33,19 @@ greater Once Once = Once
 greater Once Many = Many
 greater Many m = Many
 
--- one skip
+-- the profile of one skip
 abbrev pub one_skip : Profile
 one_skip = record { lead = Some 0; between = Some 0; trail = Some 0; none = Some 1; all = Some 1; sure = false; most = Never }
 
--- one binding
+-- the profile of one binding
 abbrev pub one_binding : Profile
 one_binding = record { lead = Some 1; between = Some 0; trail = Some 0; none = Some 0; all = Some 1; sure = true; most = Once }
 
--- nothing is known
+-- the profile of which nothing is known
 abbrev pub unbounded : Profile
 unbounded = record { lead = None; between = None; trail = None; none = None; all = None; sure = false; most = Many }
 
--- no events at all
+-- the profile of no events at all
 abbrev pub costless : Profile
 costless = record { lead = Some 0; between = Some 0; trail = Some 0; none = Some 0; all = Some 0; sure = false; most = Never }
 
@@ -61,7 +61,7 @@ in_turn a b = record {
   most = added a.most b.most;
 }
 
--- one list or another
+-- the profile of either of two lists
 abbrev pub one_of : Profile → Profile → Profile
 one_of a b = record {
   lead = larger a.lead b.lead;
@@ -77,7 +77,7 @@ one_of a b = record {
 abbrev pub repeated_sure : Profile → Profile
 repeated_sure a = record { lead = a.lead; between = larger a.between (sum a.trail a.lead); trail = a.trail; none = Some 0; all = None; sure = false; most = Many }
 
--- any number of lists
+-- the profile of any number of lists
 abbrev pub repeated : Profile → Profile
 repeated a = cond a.sure (repeated_sure a) unbounded
 
@@ -111,7 +111,7 @@ replaced_by Never i p = i
 replaced_by Once i p = cond p.sure (replaced_sure i p) (replaced_once i p)
 replaced_by Many i p = cond p.sure (replaced_sure i p) unbounded
 
--- the same but for the cost of all
+-- a profile with another bound on the cost of all
 abbrev pub with_all : Option ℕ → Profile → Profile
 with_all x p = record { lead = p.lead; between = p.between; trail = p.trail; none = p.none; all = x; sure = p.sure; most = p.most }
 
@@ -123,13 +123,13 @@ replaced i p = with_all (all_replaced i.all p.all) (replaced_by i.most i p)
 abbrev pub passed_once : Profile → Profile
 passed_once i = record { lead = i.lead; between = i.between; trail = i.trail; none = larger i.none (sum i.lead i.trail); all = i.all; sure = false; most = i.most }
 
--- stops may be passed over
+-- the profile of a list whose stops may be passed over, by the number of stops
 abbrev pub passed_by : Most → Profile → Profile
 passed_by Never i = i
 passed_by Once i = passed_once i
 passed_by Many i = with_all i.all unbounded
 
--- stops may be passed over
+-- the profile of a list whose stops may be passed over
 abbrev pub passed : Profile → Profile
 passed i = passed_by i.most i
 
@@ -141,7 +141,7 @@ first_kept i = record { lead = i.lead; between = None; trail = None; none = i.no
 abbrev pub once_of_many : Profile → Profile
 once_of_many p = record { lead = p.lead; between = Some 0; trail = less_one p.all; none = p.none; all = p.all; sure = p.sure; most = Once }
 
--- the first stop alone
+-- the profile of a list's first stop alone
 abbrev pub once : Profile → Profile
 once p = cond (many p.most) (once_of_many p) p
 

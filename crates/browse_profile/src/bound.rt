@@ -31,7 +31,7 @@ pub fn sum(x: Option<u64>, y: Option<u64>) -> Option<u64>
     }
 }
 
-/// One less.
+/// One less than a bound.
 pub fn less_one(x: Option<u64>) -> Option<u64>
     ensures { result ≡ less_one x }
 {
@@ -61,7 +61,7 @@ pub fn times(x: Option<u64>, y: Option<u64>) -> Option<u64>
     }
 }
 
-/// Of a list each stop of which is replaced by a list.
+/// The bound of the cost of all of a list each stop of which is replaced by a list.
 pub fn all_replaced(x: Option<u64>, y: Option<u64>) -> Option<u64>
     ensures { result ≡ all_replaced x y }
 {

@@ -26,21 +26,21 @@ pub struct Profile {
 }
 
 impl Most {
-    /// There can be a stop.
+    /// Whether there can be a stop.
     pub fn may(self) -> bool
         ensures { result ≡ may self }
     {
         !matches!(self, Most::Never)
     }
 
-    /// There can be several.
+    /// Whether there can be several stops.
     pub fn many(self) -> bool
         ensures { result ≡ many self }
     {
         matches!(self, Most::Many)
     }
 
-    /// Of one list after another.
+    /// How many stops there can be in one list after another.
     pub fn added(self, other: Most) -> Most
         ensures { result ≡ added self other }
     {
@@ -51,7 +51,7 @@ impl Most {
         }
     }
 
-    /// Of either of two lists.
+    /// How many stops there can be in either of two lists.
     pub fn greater(self, other: Most) -> Most
         ensures { result ≡ greater self other }
     {
@@ -65,7 +65,7 @@ impl Most {
 }
 
 impl Profile {
-    /// One skip.
+    /// The profile of one skip.
     pub fn one_skip() -> Profile
         ensures { result ≡ one_skip }
     {
@@ -80,7 +80,7 @@ impl Profile {
         }
     }
 
-    /// One binding.
+    /// The profile of one binding.
     pub fn one_binding() -> Profile
         ensures { result ≡ one_binding }
     {
@@ -95,7 +95,7 @@ impl Profile {
         }
     }
 
-    /// Nothing is known.
+    /// The profile of which nothing is known.
     pub fn unbounded() -> Profile
         ensures { result ≡ unbounded }
     {
@@ -110,7 +110,7 @@ impl Profile {
         }
     }
 
-    /// No events at all.
+    /// The profile of no events at all.
     pub fn costless() -> Profile
         ensures { result ≡ costless }
     {
@@ -149,7 +149,7 @@ impl Profile {
         }
     }
 
-    /// One list or another.
+    /// The profile of either of two lists.
     pub fn one_of(self, b: Profile) -> Profile
         ensures { result ≡ one_of self b }
     {
@@ -164,7 +164,7 @@ impl Profile {
         }
     }
 
-    /// Any number of lists.
+    /// The profile of any number of lists.
     pub fn repeated(self) -> Profile
         ensures { result ≡ repeated self }
     {
@@ -219,7 +219,7 @@ impl Profile {
         }
     }
 
-    // The same but for the cost of all.
+    // The profile with another bound on the cost of all.
     fn with_all(self, all: Option<u64>) -> Profile
         ensures { result ≡ with_all all self }
     {
@@ -267,7 +267,7 @@ impl Profile {
         }
     }
 
-    /// The first stop alone.
+    /// The profile of a list's first stop alone.
     pub fn once(self) -> Profile
         ensures { result ≡ once self }
     {

@@ -8,7 +8,7 @@ use Rattle.browse_visit.proofs.SampleLaws.{are_samples}
 use Rattle.browse_visit.proofs.VisitFits.{below_fits}
 use Rattle.browse_visit.proofs.VisitKinds.{below_kinds}
 
--- they fit, and the trees below their bindings are laid out so
+-- visits below nodes with one of some layouts are as their profile says, and the trees below their bindings have the layouts that were found
 pub visits_are_as_laid : VisitsAreAsLaid
 visits_are_as_laid path gs whole start h = record {
   fits = below_fits (machine_of (table_of path)) (sample_labels (table_of path).labels) (are_samples (table_of path)) gs (child_place start) (first_kids (trees_at whole start)) h;

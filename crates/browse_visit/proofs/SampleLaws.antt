@@ -75,7 +75,7 @@ are_samples t l =
       | inr h ↦ (other, among_right (written t.labels) (other ∷ []) other (inl refl), λ q. step_alike t.labels t.after 0 q l other (alike_other t.labels l h))
     ]
 
--- those of one list of tests after another
+-- the labels that two lists of tests write are those of the first and then those of the second
 pub written_append : (a b : List (Option (List ℕ))) → written (a ++ b) ≡ written a ++ written b
 written_append [] b = refl
 written_append (None ∷ a) b = written_append a b
@@ -89,6 +89,6 @@ names_pushed old mid new first rest a b =
     let more : List (List ℕ) = written (tests_of (paths_of rest)) in
     b ∙ ap (λ (z : List (List ℕ)). z ++ more) a ∙ append_assoc old one more ∙ ap (λ (z : List (List ℕ)). old ++ z) (sym (written_append (tests_by first.head (tests_of first.members)) (tests_of (paths_of rest))))
 
--- those of a path alone
+-- the labels that a list of one path writes are those that the path writes
 pub names_alone : (p : Form) → written (tests_of (paths_of (p ∷ []))) ≡ written (tests_by p.head (tests_of p.members))
 names_alone p = ap written (tests_only p)

@@ -132,7 +132,7 @@ flat_cases f (x ∷ xs) g h =
     ]
 
 module _ (shape : Shape) where
-  -- no sort has no layout
+  -- the set of no sorts has no layouts
   pub set_none : IsSet shape no_sorts []
   set_none = record { into = λ g a. absurd a; out = λ g i. (let n = has_none i.0 in let z : true ≡ false = sym i.1 ∙ n in cc) }
 
@@ -181,7 +181,7 @@ module _ (shape : Shape) where
     set_own true = set_only Value
     set_own false = set_only MaybeValue
 
-    -- the parts of a tree
+    -- what a visit finds at a tree has the tree's own layout where it is accepted, and those below where the visit goes on
     set_tree : (q : ℕ) (own : Sort) (below : Sorts) (g : Layout) (gs : List Layout) → IsSet shape (only own) (g ∷ []) → IsSet shape below gs
         → IsSet shape (tree_found m q own below) (cond (m.accepts q) (g ∷ []) [] ++ cond (m.goes_on q) gs [])
     set_tree q own below g gs s t =
@@ -207,7 +207,7 @@ module _ (shape : Shape) where
               | inr b ↦ elim (among_cases ys zs g b) [ inl c ↦ among_left (xs ++ ys) zs g (among_right xs ys g c) | inr c ↦ among_right (xs ++ ys) zs g c ]
             ]
 
-    -- after it nothing
+    -- a set has the layouts of lists together, with nothing after them
     set_last : (k : Sorts) (xs ys : List Layout) → IsSet shape k (xs ++ ys) → IsSet shape k (xs ++ (ys ++ []))
     set_last k xs ys s =
         set_same k (xs ++ ys) (xs ++ (ys ++ [])) s

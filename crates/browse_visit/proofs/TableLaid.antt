@@ -38,6 +38,6 @@ records_are : (columns : List TableColumn) (records : List (List (List ℕ))) �
 records_are columns [] h = tt
 records_are columns (r ∷ rs) h = (fields_are columns r h.0, records_are columns rs h.1)
 
--- so is one of records that have a field for each column
+-- a document of records that have a field for each column is laid out as its shape says
 pub files_laid : FilesAreLaid
 files_laid shape records h = shapes_laid shape (map (λ fields. map (λ (field : List ℕ). Some field) fields) records) (records_are (columns_of shape) records h)

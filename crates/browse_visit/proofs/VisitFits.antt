@@ -64,7 +64,7 @@ module _ (m : Machine) (labels : List (List ℕ)) (samples : AreSamples m labels
   rows_then : (q : ℕ) (a : Profile) (d : Costs) → (c : Costs) × Fits (repeated a) c × (d ≡ followed c (ends 1)) → Fits (in_turn (repeated a) one_skip) d
   rows_then q a d r = subst (Fits (in_turn (repeated a) one_skip)) (sym r.2) (fits_in_turn (repeated a) one_skip r.0 (ends 1) r.1 ((omega arith, refl), omega arith))
 
-  -- a leaf of any label
+  -- the visit of a leaf of any label is as the profile of a leaf of any of the sample labels says
   value_fits : (q : ℕ) (at label : List ℕ) (kids : Forest) → IsNone kids → Fits (any_of (λ l. tree_profile m (m.step q l) one_skip) labels) (costs_of (here (m.step q label) at kids))
   value_fits q at label kids h =
       let s = samples label in
@@ -92,6 +92,6 @@ module _ (m : Machine) (labels : List (List ℕ)) (samples : AreSamples m labels
   visit_fits (either a b) q at f (inr h) = fits_second (visit_profile m labels q a) (visit_profile m labels q b) (costs_of (visit m q at f)) (visit_fits b q at f h)
   visit_fits any_trees q at f h = fits_unbounded (costs_of (visit m q at f))
 
-  -- below a node
+  -- the visit below a node with one of some layouts is as their profile says
   pub below_fits : (gs : List Layout) (at : List ℕ) (f : Forest) → IsBelow gs f → Fits (profile_below m labels gs) (costs_of (visit m m.start at f))
   below_fits gs at f h = fits_any (visit_profile m labels m.start) gs h.0 (costs_of (visit m m.start at f)) h.1 (visit_fits h.0 m.start at f h.2)

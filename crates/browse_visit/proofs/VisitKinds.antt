@@ -38,7 +38,7 @@ trees_next whole p k =
     ∙ from_after k (first_kids (trees_at whole p))
     ∙ ap after_first (sym (trees_at-append whole p (k ∷ [])))
 
--- of a list that is taken or not
+-- a layout is in its own list where it is taken
 among_taken : (a : Bool) (g : Layout) → IsTrue a → Among g (cond a (g ∷ []) [])
 among_taken true g h = inl refl
 among_taken false g h = let f : false ≡ true = h in cc
@@ -48,7 +48,7 @@ only_own : (a : Bool) (own : List Layout) (g : Layout) → Among g (own ++ (cond
 only_own true own g h = elim (among_cases own [] g h) [ inl i ↦ i | inr i ↦ absurd i ]
 only_own false own g h = elim (among_cases own [] g h) [ inl i ↦ i | inr i ↦ absurd i ]
 
--- lists twice
+-- what is found in two lists, taken twice, is in the two lists
 only_once : (own taken : List Layout) (g : Layout) → Among g (own ++ (taken ++ (own ++ taken))) → Among g (own ++ taken)
 only_once own taken g h =
     elim (among_cases own (taken ++ (own ++ taken)) g h) [
@@ -73,7 +73,7 @@ module _ (m : Machine) (labels : List (List ℕ)) (samples : AreSamples m labels
   below_right : (gs hs : List Layout) (place : List ℕ) → BelowPlace hs place → BelowPlace (gs ++ hs) place
   below_right gs hs place h = (h.0, among_right gs hs h.0 h.1, h.2)
 
-  -- at a child
+  -- where a child is bound, the trees below it have the layouts of its own
   own_kinds : (q : ℕ) (p : List ℕ) (k : ℕ) (label : List ℕ) (kids rest : Forest) (gs : List Layout) → trees_at whole (p ++ k ∷ []) ≡ tree label kids rest
       → (IsTrue (m.accepts q) → IsBelow gs kids) → EachBinding (BelowPlace gs) (cond (m.accepts q) (bind (p ++ k ∷ [])) skip ∷ [])
   own_kinds q p k label kids rest gs at h =
@@ -82,7 +82,7 @@ module _ (m : Machine) (labels : List (List ℕ)) (samples : AreSamples m labels
         | false ↦ λ z. tt
       ]) h
 
-  -- below it
+  -- the trees below what is bound below a child have the layouts that are found there
   deep_kinds : (q : ℕ) (p : List ℕ) (k : ℕ) (label : List ℕ) (kids rest : Forest) (gs : List Layout) → trees_at whole (p ++ k ∷ []) ≡ tree label kids rest
       → ((trees_at whole ((p ++ k ∷ []) ++ 0 ∷ []) ≡ kids) → EachBinding (BelowPlace gs) (visit m q ((p ++ k ∷ []) ++ 0 ∷ []) kids))
       → EachBinding (BelowPlace (cond (m.goes_on q) gs [])) (cond (m.goes_on q) (visit m q (child_place (p ++ k ∷ [])) kids) [])
@@ -113,7 +113,7 @@ module _ (m : Machine) (labels : List (List ℕ)) (samples : AreSamples m labels
   nothing_found q gs at none h = tt
   nothing_found q gs at (tree label kids rest) h = absurd h
 
-  -- one of the labels is accepted where the label is
+  -- where a label leads to a state that accepts, one of the labels among which it is does
   accepted_any : (q : ℕ) (x : List ℕ) (ls : List (List ℕ)) → Among x ls → IsTrue (m.accepts (m.step q x)) → IsTrue (list_any (λ l. m.accepts (m.step q l)) ls)
   accepted_any q x [] a h = absurd a
   accepted_any q x (l ∷ ls) (inl e) h = (let t : IsTrue (m.accepts (m.step q l)) = subst (λ (z : List ℕ). IsTrue (m.accepts (m.step q z))) e h in rw t refl)
@@ -169,7 +169,7 @@ module _ (m : Machine) (labels : List (List ℕ)) (samples : AreSamples m labels
       binding_weaker (BelowPlace (layouts_found m labels q b)) (BelowPlace (layouts_found m labels q (either a b))) (λ x w. below_right (layouts_found m labels q a) (layouts_found m labels q b) x w) (visit m q (p ++ k ∷ []) f) (visit_kinds b q p k f at h)
   visit_kinds any_trees q p k f at h = each_binding (BelowPlace (any_trees ∷ [])) (λ b. (any_trees, inl refl, tt)) (visit m q (p ++ k ∷ []) f)
 
-  -- below a node
+  -- the trees below the bindings of a visit below a node have the layouts that are found
   pub below_kinds : (gs : List Layout) (start : List ℕ) → IsBelow gs (first_kids (trees_at whole start)) → EachBinding (BelowPlace (layouts_below m labels gs)) (visit m m.start (child_place start) (first_kids (trees_at whole start)))
   below_kinds gs start h =
       let f : Forest = first_kids (trees_at whole start) in

@@ -19,7 +19,7 @@ abbrev pub EachTree : List ℕ → (Forest → Type 0) → Forest → Type 0
 EachTree label below none = Unit {0}
 EachTree label below (tree l kids rest) = (l ≡ label) × below kids × EachTree label below rest
 
--- no trees at all
+-- a list has no trees at all
 abbrev pub IsNone : Forest → Type 0
 IsNone none = Unit {0}
 IsNone (tree label kids rest) = ⊥
@@ -29,7 +29,7 @@ abbrev pub HasFirst : List ℕ → (Forest → Type 0) → (Forest → Type 0) �
 HasFirst label below rest none = ⊥
 HasFirst label below rest (tree l kids later) = (l ≡ label) × below kids × rest later
 
--- one leaf
+-- a list is one leaf
 abbrev pub IsLeaf : Forest → Type 0
 IsLeaf none = ⊥
 IsLeaf (tree label kids rest) = IsNone kids × IsNone rest
@@ -43,7 +43,7 @@ IsLaid (any_rows label kids) f = EachTree label (IsLaid kids) f
 IsLaid (either a b) f = IsLaid a f ⊎ IsLaid b f
 IsLaid any_trees f = Unit {0}
 
--- the value of a column
+-- the layout of what stands below a column: one value, or one or none
 abbrev pub value_layout : Bool → Layout
 value_layout always = cond always one_value (either no_trees one_value)
 
@@ -55,6 +55,6 @@ AreLaid shapes docs = (s : ℕ) → IsLaid (shapes s) (docs s)
 abbrev pub IsBelow : List Layout → Forest → Type 0
 IsBelow gs f = (g : Layout) × Among g gs × IsLaid g f
 
--- so are those below a node of a source
+-- the trees below a node of a source have one of these layouts
 abbrev pub IsLaidAt : Documents → List Layout → Node → Type 0
 IsLaidAt docs gs n = IsBelow gs (kids_at docs n)

@@ -1,13 +1,13 @@
 -- The labels that a path writes, and one that it does not write.
 use Rattle.std.specs.Prelude.{ℕ, List, [], ◌∷◌, ◌++◌, Option, Some, None}
 
--- the labels of the tests
+-- the labels that the tests of a path write
 abbrev pub written : List (Option (List ℕ)) → List (List ℕ)
 written [] = []
 written (None ∷ ts) = written ts
 written (Some l ∷ ts) = l ∷ written ts
 
--- labels, one after another
+-- the bytes of labels, one label after another
 abbrev pub all_bytes : List (List ℕ) → List ℕ
 all_bytes [] = []
 all_bytes (l ∷ ls) = l ++ all_bytes ls

@@ -8,21 +8,21 @@ use Rattle.browse_visit.specs.declared.shape.Sorts.{Sorts}
 use Rattle.browse_visit.specs.declared.visit.TableColumn.{TableColumn}
 use Rattle.browse_visit.specs.Layouts.{Layout, no_trees, a_tree, any_rows, any_trees, value_layout}
 
--- the columns of a row
+-- the layout of the columns of a row
 abbrev pub row_of : List TableColumn → Layout
 row_of [] = no_trees
 row_of (c ∷ cs) = a_tree c.label (value_layout c.has_value) (row_of cs)
 
--- the label of a row
+-- the label of a row: the word row
 abbrev pub row_label : List ℕ
 row_label = 114 ∷ 111 ∷ 119 ∷ []
 
--- the name of its root
+-- the label of a shape's root
 abbrev pub name_of : Shape → List ℕ
 name_of Any = row_label
 name_of (Rows name columns) = name
 
--- its columns
+-- the columns of a shape's rows
 abbrev pub columns_of : Shape → List TableColumn
 columns_of Any = []
 columns_of (Rows name columns) = columns.items
@@ -46,7 +46,7 @@ first_sort (Rows name columns) = Document
 abbrev pub shape_layout : Shape → Layout
 shape_layout shape = sort_layout shape (first_sort shape)
 
--- the shape of a source
+-- the shape of a source by its number; past the end nothing is known of it
 abbrev pub shape_at : List Shape → ℕ → Shape
 shape_at shapes s = slice_index_or shapes s Any
 
@@ -54,7 +54,7 @@ shape_at shapes s = slice_index_or shapes s Any
 abbrev pub shapes_of : List Shape → ℕ → Layout
 shapes_of shapes s = shape_layout (shape_at shapes s)
 
--- a sort is in a set
+-- whether a sort is in a set
 abbrev pub has_sort : Sorts → Sort → Bool
 has_sort k Document = k.document
 has_sort k Root = k.root
@@ -64,11 +64,11 @@ has_sort k MaybeValue = k.maybe_value
 has_sort k Leaf = k.leaf
 has_sort k Anything = k.anything
 
--- no sort
+-- the set of no sorts
 abbrev pub no_sorts : Sorts
 no_sorts = record { document = false; root = false; row = false; value = false; maybe_value = false; leaf = false; anything = false }
 
--- one sort
+-- the set of one sort alone
 abbrev pub only : Sort → Sorts
 only Document = record { document = true; root = false; row = false; value = false; maybe_value = false; leaf = false; anything = false }
 only Root = record { document = false; root = true; row = false; value = false; maybe_value = false; leaf = false; anything = false }
@@ -78,7 +78,7 @@ only MaybeValue = record { document = false; root = false; row = false; value = 
 only Leaf = record { document = false; root = false; row = false; value = false; maybe_value = false; leaf = true; anything = false }
 only Anything = record { document = false; root = false; row = false; value = false; maybe_value = false; leaf = false; anything = true }
 
--- the sorts of either set
+-- the set of the sorts of either of two sets
 abbrev pub both : Sorts → Sorts → Sorts
 both a b = record {
   document = a.document || b.document;
@@ -90,6 +90,6 @@ both a b = record {
   anything = a.anything || b.anything;
 }
 
--- all sorts
+-- the list of all sorts, each once
 abbrev pub all_sorts : List Sort
 all_sorts = Document ∷ Root ∷ Row ∷ Value ∷ MaybeValue ∷ Leaf ∷ Anything ∷ []

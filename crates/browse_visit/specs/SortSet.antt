@@ -11,7 +11,7 @@ use Rattle.browse_visit.specs.Shapes.{sort_layout, has_sort}
 abbrev pub In : Shape → Sorts → Layout → Type 0
 In shape k g = (s : Sort) × (has_sort k s ≡ true) × (sort_layout shape s ≡ g)
 
--- a set has these layouts
+-- the layouts of a set's sorts are exactly these
 pub record IsSet (shape : Shape) (k : Sorts) (gs : List Layout) : Type 0 where
   pub into : (g : Layout) → Among g gs → In shape k g
   pub out : (g : Layout) → In shape k g → Among g gs

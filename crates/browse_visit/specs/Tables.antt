@@ -18,12 +18,12 @@ row_trees [] cells = none
 row_trees (c ∷ cs) [] = tree c.label none (row_trees cs [])
 row_trees (c ∷ cs) (x ∷ xs) = tree c.label (cell_trees x) (row_trees cs xs)
 
--- the rows
+-- the trees of rows, one for each
 abbrev pub rows_trees : List TableColumn → List (List (Option (List ℕ))) → Forest
 rows_trees columns [] = none
 rows_trees columns (r ∷ rs) = tree row_label (row_trees columns r) (rows_trees columns rs)
 
--- the document
+-- the document of a table with a name, columns and rows of cells
 abbrev pub table_document : List ℕ → List TableColumn → List (List (Option (List ℕ))) → Forest
 table_document name columns rows = tree name (rows_trees columns rows) none
 
@@ -32,7 +32,7 @@ abbrev pub IsCell : Bool → Option (List ℕ) → Type 0
 IsCell has None = has ≡ false
 IsCell has (Some value) = Unit {0}
 
--- so has each column in a row
+-- each cell of a row has a value where its column always has one
 abbrev pub AreCells : List TableColumn → List (Option (List ℕ)) → Type 0
 AreCells [] cells = Unit {0}
 AreCells (c ∷ cs) [] = (c.has_value ≡ false) × AreCells cs []

@@ -11,7 +11,7 @@ use Rattle.browse_profile.specs.Profiles.{one_skip, one_binding, unbounded, in_t
 abbrev pub AreSamples : Machine → List (List ℕ) → Type 0
 AreSamples m labels = (l : List ℕ) → (x : List ℕ) × Among x labels × ((q : ℕ) → m.step q l ≡ m.step q x)
 
--- the event at a tree
+-- the profile of a visit's event at a tree, from the states after its label
 abbrev pub own_profile : Machine → ℕ → Profile
 own_profile m q = cond (m.accepts q) one_binding one_skip
 

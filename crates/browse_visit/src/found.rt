@@ -20,7 +20,7 @@ fn if_taken(can: bool, sorts: Sorts) -> Sorts
     if can { sorts } else { Sorts::none() }
 }
 
-// At a tree: its own sort, and those below it.
+// The sorts found at a tree: its own sort where it is accepted, and those below it where the visit goes on.
 fn tree_found(automaton: &Auto, states: StateSet, own: Sort, below: Sorts) -> Sorts
     ensures { result ≡ tree_found (machine_of automaton.now) states own below }
 {
@@ -40,7 +40,7 @@ fn any_accepts(automaton: &Auto, labels: &[Label], states: StateSet) -> bool
     false
 }
 
-// At a value.
+// The sorts found at a value, from the states above it.
 fn value_found(automaton: &Auto, labels: &[Label], states: StateSet) -> Sorts
     ensures { result ≡ value_found (machine_of automaton.now) labels.now states }
 {
@@ -61,7 +61,7 @@ fn value_sort(has_value: bool) -> Sort
     }
 }
 
-// At columns.
+// The sorts found at columns, from the states above them.
 fn row_found(automaton: &Auto, labels: &[Label], states: StateSet, columns: &[TableColumn]) -> Sorts
     ensures { result ≡ row_found (machine_of automaton.now) labels.now states columns.now }
 {
@@ -82,7 +82,7 @@ fn row_found(automaton: &Auto, labels: &[Label], states: StateSet, columns: &[Ta
     found
 }
 
-// At the columns of a shape.
+// The sorts found at the columns of a shape, from the states above them.
 fn columns_found(automaton: &Auto, labels: &[Label], states: StateSet, shape: &Shape) -> Sorts
     ensures { result ≡ row_found (machine_of automaton.now) labels.now states (columns_of shape.now) }
 {
@@ -103,7 +103,7 @@ fn name_step(automaton: &Auto, row: &Label, states: StateSet, shape: &Shape) -> 
     }
 }
 
-// At rows.
+// The sorts found at rows, from the states above them.
 fn root_found(
     automaton: &Auto,
     labels: &[Label],
@@ -123,7 +123,7 @@ fn root_found(
     )
 }
 
-// At the root.
+// The sorts found at the root, from the states above it.
 fn document_found(
     automaton: &Auto,
     labels: &[Label],
@@ -143,7 +143,7 @@ fn document_found(
     )
 }
 
-// Below a node of a sort.
+// The sorts found below a node of a sort.
 fn sort_found(automaton: &Auto, labels: &[Label], row: &Label, shape: &Shape, sort: Sort) -> Sorts
     requires { row.now ≡ row_label }
     ensures { result ≡ sort_found (machine_of automaton.now) labels.now shape.now sort }
@@ -215,7 +215,7 @@ pub fn sorts_found(
     )
 }
 
-// The columns of a shape.
+// The profile of the visit of a shape's columns, from the states above them.
 fn columns_profile(automaton: &Auto, labels: &[Label], states: StateSet, shape: &Shape) -> Profile
     ensures { result ≡ visit_profile (machine_of automaton.now) labels.now states (row_of (columns_of shape.now)) }
 {
@@ -225,7 +225,7 @@ fn columns_profile(automaton: &Auto, labels: &[Label], states: StateSet, shape: 
     }
 }
 
-// Rows.
+// The profile of the visit of a shape's rows, from the states above them.
 fn root_profile(
     automaton: &Auto,
     labels: &[Label],
@@ -245,7 +245,7 @@ fn root_profile(
     each.repeated().in_turn(Profile::one_skip())
 }
 
-// The root.
+// The profile of the visit of a shape's root, from the states above it.
 fn document_profile(
     automaton: &Auto,
     labels: &[Label],
@@ -265,7 +265,7 @@ fn document_profile(
     root.in_turn(Profile::one_skip())
 }
 
-// Below a node of a sort.
+// The profile of the visit below a node of a sort.
 fn sort_profile(
     automaton: &Auto,
     labels: &[Label],

@@ -36,7 +36,7 @@ fn push_names(alloc: Global, path: &Path, labels: &mut Vec<Label>) -> Result<(),
     }
 }
 
-// So for several paths.
+// Puts the labels that several paths write after other labels.
 #[cycle(names)]
 #[tactic(auto, using(crate::proofs::SampleLaws::names_pushed))]
 fn push_all_names(alloc: Global, paths: &[Path], labels: &mut Vec<Label>) -> Result<(), AllocError>

@@ -8,7 +8,7 @@ use mix_tree::Label;
 /// How the document of a source is laid out.
 #[derive(Drop)]
 pub enum Shape {
-    /// Nothing is known of it.
+    /// Nothing is known of the document.
     Any,
     /// A root of this name with any number of rows, each with these columns in order.
     Rows {
@@ -20,19 +20,19 @@ pub enum Shape {
 /// What can stand below a node of a source.
 #[derive(Clone, Copy, PartialEq, Eq)]
 pub enum Sort {
-    /// The root.
+    /// Below a document node: the root.
     Document,
-    /// Rows.
+    /// Below a root: rows.
     Root,
-    /// The columns of a row.
+    /// Below a row: its columns.
     Row,
-    /// A value.
+    /// Below a column that always has a value: the value.
     Value,
-    /// A value or nothing.
+    /// Below any other column: a value or nothing.
     MaybeValue,
-    /// Nothing.
+    /// Below a value: nothing.
     Leaf,
-    /// Any trees.
+    /// Below a node of which nothing is known: any trees.
     Anything,
 }
 
@@ -49,7 +49,7 @@ pub struct Sorts {
 }
 
 impl Sorts {
-    /// No sort.
+    /// The set of no sorts.
     pub fn none() -> Sorts
         ensures { result ≡ no_sorts }
     {
@@ -64,7 +64,7 @@ impl Sorts {
         }
     }
 
-    /// One sort.
+    /// The set of one sort alone.
     pub fn only(sort: Sort) -> Sorts
         ensures { result ≡ only sort }
     {
@@ -100,7 +100,7 @@ impl Sorts {
         }
     }
 
-    /// The sort is in the set.
+    /// Whether a sort is in the set.
     pub fn has(self, sort: Sort) -> bool
         ensures { result ≡ has_sort self sort }
     {

@@ -17,7 +17,7 @@ pub struct TableColumn {
     pub has_value: bool,
 }
 
-// The event at a tree.
+// The profile of a visit's event at a tree, from the states after its label.
 fn own_profile(automaton: &Auto, states: StateSet) -> Profile
     ensures { result ≡ own_profile (machine_of automaton.now) states }
 {
@@ -39,7 +39,7 @@ pub fn tree_profile(automaton: &Auto, states: StateSet, below: Profile) -> Profi
     }
 }
 
-// The list of one value.
+// The profile of the visit of one value, from the states above it.
 pub fn one_value_profile(automaton: &Auto, labels: &[Label], states: StateSet) -> Profile
     ensures { result ≡ visit_profile (machine_of automaton.now) labels.now states one_value }
 {
@@ -71,7 +71,7 @@ fn any_leaf_profile(automaton: &Auto, labels: &[Label], states: StateSet) -> Pro
     found
 }
 
-// The value of a column.
+// The profile of the visit of what stands below a column, from the states above it.
 pub fn value_profile(
     automaton: &Auto,
     labels: &[Label],
@@ -88,7 +88,7 @@ pub fn value_profile(
     }
 }
 
-/// The columns of a row.
+/// The profile of the visit of a row's columns, from the states above them.
 pub fn row_profile(
     automaton: &Auto,
     labels: &[Label],

@@ -6,9 +6,9 @@ use crate::part::{Part, has_part, is_head};
 #[derive(Clone, Copy, PartialEq, Eq)]
 pub enum Shape {
     Nothing,
-    /// Words after it.
+    /// Words after the part's word.
     Words,
-    /// Pieces that follow.
+    /// Pieces that follow the part's word.
     Pieces,
     /// Words after it, and pieces that follow.
     WordsAndPieces,

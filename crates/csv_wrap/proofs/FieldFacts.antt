@@ -60,7 +60,7 @@ differs_end xs ys i l m = λ e.
     let b = slice_get-get_or xs i [] m in
     cc
 
--- a column that was read
+-- a column that was read at an index is the column there
 pub column_at : (xs : List (List ℕ)) (i : ℕ) (s : List ℕ) → i < length xs → s ≡ get_or xs i s → slice_get xs i ≡ Some s
 column_at xs i s l e = slice_get_read xs (length xs) i s refl l e
 

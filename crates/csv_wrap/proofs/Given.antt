@@ -14,7 +14,7 @@ use Rattle.csv_wrap.specs.Parts.{hole_of}
 use Rattle.csv_wrap.specs.Rows.{row_tree, row_forest}
 use Rattle.csv_wrap.specs.Document.{columns_of, rows_of, part_forest, rest_given, part_given, knows, forest, weight}
 
--- a choice by a test
+-- what holds of both sides of a choice by a test holds of the choice
 by_test : (P : Open → Type 0) (b : Bool) (x y : Open) → (b ≡ true → P x) → (b ≡ false → P y) → P (cond b x y)
 by_test P true x y h k = h refl
 by_test P false x y h k = k refl
@@ -36,7 +36,7 @@ top_of columns [] o h = (λ k. absurd (cc (h refl, k)), cc (h refl))
 top_of columns (r ∷ rows) o h = (λ k. refl, refl)
 
 module _ (d : CsvDoc) where
-  -- after the last row nothing is left
+  -- after the last row no hole is given
   pub rest_none : (first : ℕ) → length (rows_of d) ≤ first → rest_given d first ≡ nil
   rest_none first h = nothing (nat_lt first (length (rows_of d))) (past (length (rows_of d)) first h)
     where
@@ -102,7 +102,7 @@ module _ (d : CsvDoc) where
       past (suc chunk) [] some long e = omega (arith, long)
       past (suc chunk) (r ∷ rest) some long e = cc e
 
-  -- it keeps progress
+  -- the list of a part keeps progress
   pub progress-given : (p : Option Part) → IsProgress (part_given d p)
   progress-given None = record { top = λ k. cc k; apart = tt }
   progress-given (Some Name) = record { top = λ k. refl; apart = ((refl, tt), tt) }
@@ -115,14 +115,14 @@ module _ (d : CsvDoc) where
             (by_test IsApart (nat_lt (first + d.chunk) (length (rows_of d))) (hole (hole_of (RowsFrom (first + d.chunk))) nil) nil (λ k. (refl, tt)) (λ k. tt));
       }
 
-  -- it begins with no hole
+  -- the list of a part begins with no hole
   pub forward-given : (p : Option Part) → begins_with_hole (part_given d p) ≡ false
   forward-given None = refl
   forward-given (Some Name) = refl
   forward-given (Some (RowsFrom first)) =
       (top_of (columns_of d) (take d.chunk (drop first (rows_of d))) (rest_given d (first + d.chunk)) (none_left first)).1
 
-  -- all its holes are known
+  -- all holes of the list of a part are known
   pub known-given : (p : Option Part) → AllHoles (knows d) (part_given d p)
   known-given None = tt
   known-given (Some Name) = ((first_known (length (rows_of d)), tt), tt)
@@ -138,7 +138,7 @@ module _ (d : CsvDoc) where
       at_most : (f n : ℕ) → nat_lt f n ≡ true → nat_le f n ≡ true
       at_most f n k = grind (arith, nat_tests)
 
-  -- it weighs no more than the part
+  -- the list of a part weighs no more than the part
   pub lighter-given : (p : Option Part) → weight_of (weight d) (part_given d p) ≤ nodes_of (part_forest d p)
   lighter-given p =
       let same = nodes_of-closed (forest d) (part_given d p) in

@@ -67,7 +67,7 @@ reached_prefix cfg (suc n) s s2 xs ys (r ∷ rs) h l =
     let more = reached_prefix cfg n h.0.1 s2 h.0.2 ys rs h.3 (omega arith) in
     (more.0, rw (h.1, h.2, more.1) refl)
 
--- and are those where nothing is left
+-- where nothing is left of a text, its records are those that were reached
 pub reached_all : (cfg : Config) (n : ℕ) (s s2 : State) (xs ys : List ℕ) (rows : List (List (List ℕ))) → Reached cfg s xs rows s2 ys → next_record cfg s2 [] [] ys ≡ None
     → length rows ≤ n → records_from cfg n s xs ≡ rows
 unfolding Reached records_from

@@ -12,11 +12,11 @@ use Rattle.csv_wrap.specs.declared.table.Table.{Table}
 use Rattle.csv_wrap.specs.Csv.{IsAt, IsRow, without_marks}
 use Rattle.csv_wrap.specs.Table.{cut_rows, rows_in, IsFull}
 
--- one more of a number
+-- a number taken once more is that number more
 suc_mul : (i w : ℕ) → suc i * w ≡ w + i * w
 suc_mul i w = grind arith
 
--- none of a number
+-- a number taken no times is 0
 zero_mul : (w : ℕ) → 0 ≡ 0 * w
 zero_mul w = omega arith
 
@@ -33,7 +33,7 @@ flat_cut width (r ∷ rows) h =
     ∙ ap (λ fs. r ∷ cut_rows width (length rows) fs) (drop_at r (flat rows) width long)
     ∙ ap (λ rs. r ∷ rs) (flat_cut width rows (All-tail (IsRow width) r rows h))
 
--- so many fields have rows of one width
+-- rows of one width have as many fields as there are rows, times the width
 pub length-flat : (width : ℕ) (rows : List (List (List ℕ))) → All (IsRow width) rows → length (flat rows) ≡ length rows * width
 length-flat width [] h = zero_mul width
 length-flat width (r ∷ rows) h =
@@ -41,7 +41,7 @@ length-flat width (r ∷ rows) h =
     let more = length-flat width rows (All-tail (IsRow width) r rows h) in
     omega (arith, long, more, length-append r (flat rows), suc_mul (length rows) width)
 
--- one row more
+-- the fields of rows with one row more are theirs and then that row's
 pub flat_more : (rows : List (List (List ℕ))) (r : List (List ℕ)) → flat (rows ++ r ∷ []) ≡ flat rows ++ r
 flat_more rows r = flat_map-append (λ (x : List (List ℕ)). x) rows (r ∷ []) ∙ ap (λ f. flat rows ++ f) (append_nil r)
 
@@ -50,7 +50,7 @@ pub length-cut : (width count : ℕ) (fields : List (List ℕ)) → length (cut_
 length-cut width zero fields = refl
 length-cut width (suc count) fields = omega (arith, length-cut width count (drop width fields))
 
--- the row of an index
+-- the row of an index is as many fields as are wanted, from its place on
 pub row_at : (width count i : ℕ) (fields : List (List ℕ)) → i < count → get_or (cut_rows width count fields) i [] ≡ take width (drop (i * width) fields)
 row_at width zero i fields h = absurd (omega arith)
 row_at width (suc count) zero fields h = ap (λ n. take width (drop n fields)) (zero_mul width)
@@ -62,7 +62,7 @@ row_at width (suc count) (suc i) fields h =
 pub within : (width count i j : ℕ) → i < count → j < width → i * width + j < count * width
 within width count i j h k = omega (arith, k, suc_mul i width, mul-le-mul_right {m = suc i} {n = count} width (omega arith))
 
--- the same of a full table
+-- a field of a row of a full table stands before the end of all fields
 pub field_within : (width i j w : ℕ) (t : Table) → IsFull width t → w ≡ width → i < t.rows → j < width → i * w + j < length t.fields
 field_within width i j w t full e h k =
     let inside : i * width + j < t.rows * width = within width t.rows i j h k in

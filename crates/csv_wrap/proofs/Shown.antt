@@ -18,7 +18,7 @@ cells_step columns fields i h k =
     ap (λ cs. without_holes (forest_of (cells cs (drop i fields)))) (drop_more columns i [] h)
     ∙ ap (λ fs. without_holes (forest_of (cells (get_or columns i [] ∷ drop (i + 1) columns) fs))) (drop_more fields i [] k)
 
--- after the last there is none
+-- after the last column of a row there is none
 pub cells_end : (columns fields : List (List ℕ)) (i : ℕ) → length columns ≤ i → shown_cells columns fields i ≡ nil
 cells_end columns fields i h = ap (λ cs. without_holes (forest_of (cells cs (drop i fields)))) (drop_all i columns h)
 

@@ -50,7 +50,7 @@ impl CsvDoc {
         ensures document { IfOk result (λ doc. (rows : List (List (List ℕ))) × IsFile bytes.now columns.now rows
             × (document doc ≡ alone (file_tree name.now columns.now rows))) }
         ensures chunk { IfOk result (λ doc. chunk_of doc ≡ chunk) }
-        // Or it is no file with these columns, for this cause, or memory ran out.
+        // What is refused is no file with these columns, for this cause, or memory ran out.
         ensures refused { IfErr result (Explains bytes.now columns.now) }
     {
         let table = read_rows(alloc, bytes, columns)?;
@@ -78,7 +78,7 @@ impl CsvDoc {
         ensures known { IfOk result (λ list. AllHoles (knows self.now) (plain list.items)) }
         ensures lighter { IfOk result (λ list. weight_of (weight self.now) (plain list.items) ≤ weight self.now hole) }
         ensures forward { IfOk result (λ list. begins_with_hole (plain list.items) ≡ false) }
-        // The causes.
+        // For which causes a fill fails.
         ensures never_failed { ¬ IsErrOf result SourceFault.Failed }
         ensures unknown { IsErrOf result SourceFault.UnknownHole → knows self.now hole ≡ false }
         ensures only_unknown { knows self.now hole ≡ false → IsErrOf result SourceFault.UnknownHole }

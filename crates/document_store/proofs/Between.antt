@@ -58,16 +58,16 @@ between_step ns from (suc most) =
     ∙ ap (λ f. cond (fits ns from (suc most)) (tree (node_at ns (suc most - 1)).label (between ns (before ns (suc most - 1)) (suc most - 1)) f) none)
     (trees_enough ns most (before ns i) from (before ns i) (omega arith) (omega arith))
 
--- there is none
+-- where no tree fits between two positions, there is none between them
 pub between_none : (ns : List LaidNode) (from to : ℕ) → fits ns from to ≡ false → between ns from to ≡ none
 between_none ns from to h = between_step ns from to ∙ chosen_none (fits ns from to) _ h
 
--- there is one
+-- where a tree fits between two positions, the trees between them are that one and those after it
 pub between_some : (ns : List LaidNode) (from to : ℕ) → fits ns from to ≡ true
     → between ns from to ≡ tree (node_at ns (to - 1)).label (between ns (before ns (to - 1)) (to - 1)) (between ns from (before ns (to - 1)))
 between_some ns from to h = between_step ns from to ∙ chosen_some (fits ns from to) _ h
 
--- the same, where its node's position is given
+-- the trees between two positions are the first one, whose node's position is given, and those after it
 pub between_first : (ns : List LaidNode) (from to i : ℕ) → fits ns from to ≡ true → i + 1 ≡ to
     → between ns from to ≡ tree (node_at ns i).label (between ns (before ns i) i) (between ns from (before ns i))
 between_first ns from to i h e =

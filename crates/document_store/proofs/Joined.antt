@@ -26,7 +26,7 @@ shown_from before (t ∷ ts) =
 pub shows_texts : (bytes ends : List ℕ) (ts : List (List ℕ)) → KeepsTexts bytes ends ts → texts_from bytes 0 ends ≡ ts
 shows_texts bytes ends ts k = ap (λ b. texts_from b 0 ends) k.bytes_are ∙ ap (texts_from (concat ts) 0) k.ends_are ∙ shown_from [] ts
 
--- so it is kept
+-- what keeps texts keeps the texts that it shows
 pub texts_kept : (bytes ends : List ℕ) (ts : List (List ℕ)) → KeepsTexts bytes ends ts → AreKept bytes ends
 texts_kept bytes ends ts k = subst (KeepsTexts bytes ends) (sym (shows_texts bytes ends ts k)) k
 
@@ -38,7 +38,7 @@ ends_more start (x ∷ ts) t =
     let sum : first + length (concat ts) + length t ≡ start + length (x ++ concat ts) + length t = omega (arith, length-append x (concat ts)) in
     ap (λ r. first ∷ r) (ends_more first ts t) ∙ ap (λ n. first ∷ (ends_from first ts ++ n ∷ [])) sum
 
--- a text more
+-- what keeps texts, with the bytes and the end of one more, keeps that text after them
 pub text_added : (bytes ends bytes' ends' text : List ℕ) (ts : List (List ℕ)) → KeepsTexts bytes ends ts → IsUtf8 text → bytes' ≡ bytes ++ text
     → ends' ≡ ends ++ (length bytes + length text) ∷ [] → KeepsTexts bytes' ends' (ts ++ text ∷ [])
 text_added bytes ends bytes' ends' text ts k u b e =
@@ -50,12 +50,12 @@ text_added bytes ends bytes' ends' text ts k u b e =
       utf8 = ∥∥₁_map k.utf8 (λ a. All-append IsUtf8 ts (text ∷ []) a (All-cons IsUtf8 text [] u (All-nil IsUtf8)));
     }
 
--- as many are shown as are kept
+-- as many texts are shown as ends are kept
 pub length-texts : (bytes : List ℕ) (start : ℕ) (ends : List ℕ) → length (texts_from bytes start ends) ≡ length ends
 length-texts bytes start [] = refl
 length-texts bytes start (e ∷ ends) = omega (arith, length-texts bytes e ends)
 
--- the text at an index
+-- the text at an index that is shown lies between the end before it and its own
 pub text_shown : (bytes : List ℕ) (start : ℕ) (ends : List ℕ) (i : ℕ) → i < length ends → get_or (texts_from bytes start ends) i [] ≡ slice_range bytes (begin_at start ends i) (get_or ends i 0)
 text_shown bytes start [] i h = absurd (omega arith)
 text_shown bytes start (e ∷ ends) zero h = refl

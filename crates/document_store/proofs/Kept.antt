@@ -9,17 +9,17 @@ use Rattle.std.proofs.Math.Seq.{get_or-append_seam}
 use Rattle.document_store.specs.Laid.{LaidNode, node_at, longer}
 use Rattle.document_store.specs.Spots.{end_of, spot_of, end_at, nodes_in, bytes_of, spots_of, AreTexts, Keeps, IsKept}
 
--- the prefix of a list
+-- a list with more after it has the list as its prefix
 prefix : (l more : List ℕ) → take (length l) (l ++ more) ≡ l
 prefix [] more = refl
 prefix (x ∷ l) more = ap (λ r. x ∷ r) (prefix l more)
 
--- the middle of a list
+-- a list between two others is the part at its place
 middle : (a l more : List ℕ) → take (length l) (drop (length a) (a ++ (l ++ more))) ≡ l
 middle [] l more = prefix l more
 middle (x ∷ a) l more = middle a l more
 
--- the same, between two places
+-- a list between two others is the range between its two places
 pub piece : (a l more : List ℕ) → slice_range ((a ++ l) ++ more) (length a) (length (a ++ l)) ≡ l
 piece a l more =
     let long : length (a ++ l) - length a ≡ length l = omega (arith, length-append a l) in
@@ -52,16 +52,16 @@ shows bytes spots v k =
     ap (λ b. nodes_in b (reverse spots)) k.bytes_are ∙ ap (nodes_in (bytes_of v)) k.spots_are
     ∙ ap (λ b. nodes_in b (spots_of v)) (sym (append_nil (bytes_of v))) ∙ shown v []
 
--- so it is kept
+-- what keeps nodes keeps the nodes that it shows
 pub kept : (bytes : List ℕ) (spots : List Spot) (v : List LaidNode) → Keeps bytes spots v → IsKept bytes spots
 kept bytes spots v k = subst (Keeps bytes spots) (sym (shows bytes spots v k)) k
 
--- as many are kept as there are
+-- as many spots are kept as there are nodes
 pub length-spots_of : (v : List LaidNode) → length (spots_of v) ≡ length v
 length-spots_of [] = refl
 length-spots_of (n ∷ v) = omega (arith, length-spots_of v)
 
--- as many are shown as are kept
+-- as many nodes are shown as spots are kept
 pub length-shown : (bytes : List ℕ) (spots : List Spot) → length (nodes_in bytes (reverse spots)) ≡ length spots
 length-shown bytes spots = omega (arith, length-reverse spots, count (reverse spots))
   where
@@ -69,7 +69,7 @@ length-shown bytes spots = omega (arith, length-reverse spots, count (reverse sp
     count [] = refl
     count (s ∷ r) = omega (arith, count r)
 
--- a node more
+-- what keeps nodes, with the bytes and the spot of one more, keeps that node after them
 pub pushed : (bytes bytes' label : List ℕ) (spots spots' : List Spot) (v : List LaidNode) → Keeps bytes spots v → IsUtf8 label → bytes' ≡ bytes ++ label
     → spots' ≡ spots ++ record { end = length bytes + length label; below = 0 } ∷ [] → length spots' ≤ 4294967295 → Keeps bytes' spots' (node_of 0 label ∷ v)
 pushed bytes bytes' label spots spots' v k u b s few =
@@ -82,7 +82,7 @@ pushed bytes bytes' label spots spots' v k u b s few =
       few = few;
     }
 
--- the first one's end
+-- where the labels of some spots end is where the label at the first position ends
 end_first : (r : List Spot) → end_of r ≡ end_at r 0
 end_first [] = refl
 end_first (s ∷ r) = refl
@@ -102,7 +102,7 @@ ends-order (n ∷ v) (suc i) h =
     let more = ends-order v i (omega arith) in
     (more.0, omega (arith, more.1, length-append (bytes_of v) n.label))
 
--- each label is a text
+-- the label of the node at each position is a text
 pub text-at : (v : List LaidNode) (i : ℕ) → i < length v → AreTexts v → IsUtf8 (node_at v i).label
 text-at [] i h t = absurd (omega arith)
 text-at (n ∷ v) zero h t = t.0
@@ -164,7 +164,7 @@ turned_back t r s =
     ∙ ap (λ q. (q ++ s ∷ []) ++ reverse (reverse r)) (reverse-reverse t) ∙ ap (λ q. (t ++ s ∷ []) ++ q) (reverse-reverse r)
     ∙ append_assoc t (s ∷ []) r
 
--- one spot is written
+-- writing one spot of a list writes it at its position in the reversed list
 set-turned : (spots t r : List Spot) (s w : Spot) (place : ℕ) → reverse spots ≡ t ++ s ∷ r → length r ≡ place → reverse (set spots place w) ≡ t ++ w ∷ r
 set-turned spots t r s w place e l =
     let long : length (reverse r) ≡ place = omega (arith, length-reverse r) in
@@ -172,7 +172,7 @@ set-turned spots t r s w place e l =
     ap (λ q. reverse (set q place w)) (turned spots t r s e) ∙ ap reverse (set-append_right (reverse r) (s ∷ reverse t) place place w long (omega arith))
     ∙ ap (λ k. reverse (reverse r ++ set (s ∷ reverse t) k w)) none ∙ turned_back t r w
 
--- and read
+-- reading one spot of a list reads it at its position in the reversed list
 get-turned : (spots t r : List Spot) (s d : Spot) (place : ℕ) → reverse spots ≡ t ++ s ∷ r → length r ≡ place → get_or spots place d ≡ s
 get-turned spots t r s d place e l =
     let long : place ≡ length (reverse r) = omega (arith, length-reverse r) in
@@ -242,7 +242,7 @@ label-range bytes spots i before here k h a b =
       utf8 = subst (λ l. ∥ IsUtf8 l ∥₁) (sym label) (∥∥₁_map k.texts (λ t. text-at v i some t));
     }
 
--- the same, of the last of some nodes
+-- the label of the last of some nodes gets some bytes more
 pub lengthened_by : (bytes bytes' piece : List ℕ) (spots : List Spot) (v : List LaidNode) (here w : Spot) (place : ℕ) → Keeps bytes spots v → IsUtf8 piece → bytes' ≡ bytes ++ piece → place + 1 ≡ length v
     → here ≡ get_or spots place here → w.end ≡ length bytes + length piece → w.below ≡ here.below → Keeps bytes' (set spots place w) (longer piece v)
 lengthened_by bytes bytes' piece spots [] here w place k u b l at end below = absurd (omega (arith, l))

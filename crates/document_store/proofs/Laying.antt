@@ -13,7 +13,7 @@ laid-followed (tree label kids rest) g =
     ap (λ ns. ns ++ (laid kids ++ record { label = label; below = nodes_of kids } ∷ [])) (laid-followed rest g)
     ∙ append_assoc (laid g) (laid rest) (laid kids ++ record { label = label; below = nodes_of kids } ∷ [])
 
--- there are as many as the trees have
+-- there are as many laid nodes as the trees have
 pub length-laid : (f : Forest) → length (laid f) ≡ nodes_of f
 length-laid none = refl
 length-laid (tree label kids rest) =
@@ -39,6 +39,6 @@ pub closes_tree : (old new others : List LaidNode) (place : ℕ) (label : List �
 closes_tree old new others place label kids c e p =
     c (laid kids) others (bare_node label) e (sym p) ∙ laid-alone label kids (length (laid kids)) others (length-laid kids)
 
--- a tree more after others
+-- the nodes of one more tree before those of the trees laid so far are those of all of them
 pub laid_more : (ts : List LabelledTree) (t : LabelledTree) (others : List LaidNode) → laid (alone t) ++ (laid (forest_of ts) ++ others) ≡ laid (forest_of (ts ++ t ∷ [])) ++ others
 laid_more ts t others = sym (append_assoc (laid (alone t)) (laid (forest_of ts)) others) ∙ ap (λ ns. ns ++ others) (sym (laid-last ts t))

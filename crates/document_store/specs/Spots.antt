@@ -23,7 +23,7 @@ abbrev pub nodes_in : List ℕ → List Spot → List LaidNode
 nodes_in bytes [] = []
 nodes_in bytes (s ∷ r) = record { label = slice_range bytes (end_of r) s.end; below = s.below } ∷ nodes_in bytes r
 
--- the bytes of the labels
+-- the bytes of the labels of nodes, as they are kept
 abbrev pub bytes_of : List LaidNode → List ℕ
 bytes_of [] = []
 bytes_of (n ∷ v) = bytes_of v ++ n.label
@@ -33,7 +33,7 @@ abbrev pub spots_of : List LaidNode → List Spot
 spots_of [] = []
 spots_of (n ∷ v) = record { end = length (bytes_of v ++ n.label); below = n.below } ∷ spots_of v
 
--- each label is a text
+-- each label of the nodes is a text
 abbrev pub AreTexts : List LaidNode → Type 0
 AreTexts [] = Unit {0}
 AreTexts (n ∷ v) = IsUtf8 n.label × AreTexts v

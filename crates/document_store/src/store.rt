@@ -29,7 +29,7 @@ impl Model for Store {
 }
 
 impl Store {
-    /// No nodes.
+    /// A document of no nodes.
     pub fn new(alloc: Global) -> Store
         ensures { result ≡ [] }
     {

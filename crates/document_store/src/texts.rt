@@ -71,7 +71,7 @@ fn text_at<'a>(bytes: &'a [u8], ends: &[u32], i: usize) -> &'a [u8]
 }
 
 impl Texts {
-    /// No texts.
+    /// A list of no texts.
     pub fn new(alloc: Global) -> Texts
         ensures { result ≡ [] }
     {

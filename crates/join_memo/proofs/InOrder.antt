@@ -31,7 +31,7 @@ module _ (labels : List (List ℕ)) (key : List ℕ) where
       by_case (inl u) = absurd (omega (arith, x.before q.number u q.within, q.is, h.after))
       by_case (inr l) = rest l (below_or (get_or (places key 0 labels) k 0) p)
 
-  -- what is left after it
+  -- after the label's place of number k, its places go on from number k + 1
   next_from : (from k p : ℕ) → k < length (places key 0 labels) → get_or (places key 0 labels) k 0 ≡ p → IsFrom (suc p) (suc k)
   next_from from k p w e = record {
     before = λ i l v. omega (arith, not_falling (places key 0 labels) (places_ascend key 0 labels) i k (omega (arith, l)) w, e);
@@ -51,6 +51,6 @@ module _ (labels : List (List ℕ)) (key : List ℕ) where
       let rest = found_from found (suc p) (suc k) (next_from from k p f.0 f.1) h.1 in
       ap (λ ps. p ∷ ps) rest ∙ ap (λ m. m ∷ drop (suc k) (places key 0 labels)) (sym f.1) ∙ sym (drop-cons (places key 0 labels) k 0 f.0)
 
--- from the first place on they find all
+-- look-ups from the first place on find all places of the label
 pub finds_all : (labels : List (List ℕ)) (key : List ℕ) (found : List ℕ) → AreFound labels key 0 found → found ≡ places key 0 labels
 finds_all labels key found h = found_from labels key found 0 0 (record { before = λ i l w. absurd (omega (arith, l)); after = λ i l w. omega arith }) h

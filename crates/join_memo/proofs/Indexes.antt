@@ -30,14 +30,14 @@ places_then key n (x ∷ labels) label =
     by_case true h = ap (λ ps. n ∷ ps) h
     by_case false h = h
 
--- that label
+-- where the last label is the one that is looked up, its place comes after the others
 same_then : (key : List ℕ) (labels : List (List ℕ)) → places key 0 (labels ++ key ∷ []) ≡ places key 0 labels ++ length labels ∷ []
 same_then key labels =
     let e : bytes_eq key key ≡ true = grind (arith, bytes_eq-Decides key key) in
     let m : 0 + length labels ≡ length labels = omega arith in
     places_then key 0 labels key ∙ ap (λ b. places key 0 labels ++ cond b ((0 + length labels) ∷ []) []) e ∙ ap (λ n. places key 0 labels ++ n ∷ []) m
 
--- another one
+-- where the last label is another one, the places stay
 other_then : (key : List ℕ) (labels : List (List ℕ)) (label : List ℕ) → (key ≡ label → ⊥) → places key 0 (labels ++ label ∷ []) ≡ places key 0 labels
 other_then key labels label h =
     let e : bytes_eq key label ≡ false = grind (arith, bytes_eq-Decides key label, h) in
@@ -46,18 +46,18 @@ other_then key labels label h =
     none : (xs : List ℕ) → xs ++ [] ≡ xs
     none xs = grind (arith, common_steps)
 
--- a known label among more
+-- a known label keeps its number where one more label is known
 known_left : (known : List (List ℕ)) (key k : List ℕ) (i : ℕ) → IsKnown known k i → IsKnown (known ++ key ∷ []) k i
 known_left known key k i h = record {
   within = (let w = h.within in grind (arith, common_steps));
   is = get_or_append_left known (key ∷ []) [] i h.within ∙ h.is;
 }
 
--- the last of them
+-- the last of the known labels and one more is that one
 last_is : (known : List (List ℕ)) (key : List ℕ) → get_or (known ++ key ∷ []) (length known) [] ≡ key
 last_is known key = let e : length known ≡ length known + 0 = omega arith in ap (λ n. get_or (known ++ key ∷ []) n []) e ∙ get_or-append-add known (key ∷ []) 0 []
 
--- it is one of the first, or the last
+-- a label known among the first and one more is one of the first, or the last
 known_cases : (known : List (List ℕ)) (key k : List ℕ) (i : ℕ) → IsKnown (known ++ key ∷ []) k i → IsKnown known k i ⊎ ((i ≡ length known) × (key ≡ k))
 known_cases known key k i h = by_case (i == length known) refl
   where
@@ -71,7 +71,7 @@ known_cases known key k i h = by_case (i == length known) refl
         inl (record { within = w; is = sym (get_or_append_left known (key ∷ []) [] i w) ∙ h.is }))
 
 module _ (known groups labels : List (List ℕ)) (key : List ℕ) (x : IsIndex known groups labels) where
-  -- a label that is known
+  -- an index stays one when a label that is known comes
   pub index_grows : (i : ℕ) → IsKnown known key i → IsIndex known (set groups i (get_or groups i [] ++ length labels ∷ [])) (labels ++ key ∷ [])
   index_grows i h = record {
     lists = (let l = x.lists in grind (arith, common_steps));
@@ -99,7 +99,7 @@ module _ (known groups labels : List (List ℕ)) (key : List ℕ) (x : IsIndex k
           get_or-set_other groups i j (get_or groups i [] ++ length labels ∷ []) [] n ∙ x.found j w
           ∙ sym (other_then (get_or known j []) labels key (λ f. n (x.apart key j i (record { within = w; is = f }) h))))
 
-  -- a label that is new
+  -- an index stays one when a label that is new comes
   pub index_new : ((i : ℕ) → IsKnown known key i → ⊥) → IsIndex (known ++ key ∷ []) (groups ++ (length labels ∷ []) ∷ []) (labels ++ key ∷ [])
   index_new none = record {
     lists = (let l = x.lists in grind (arith, common_steps));
@@ -145,7 +145,7 @@ grow_vector known gs labels key x i h v w place at e n =
     subst (λ m. IsIndex known m (labels ++ key ∷ [])) (ap (set (map (λ g. g.items) gs) i) (sym items) ∙ sym (map-set (λ (g : SmallVec ℕ). g.items) gs i w))
     (index_grows known (map (λ g. g.items) gs) labels key x i h)
 
--- a further group
+-- an index of vectors stays one when a new label gets a further group
 pub new_vector : (known : List (List ℕ)) (gs hs : List (SmallVec ℕ)) (labels : List (List ℕ)) (key : List ℕ) → IsIndex known (map (λ g. g.items) gs) labels
     → ((i : ℕ) → IsKnown known key i → ⊥) → (v : SmallVec ℕ) (place : ℕ) → hs ≡ gs ++ v ∷ [] → v.items ≡ place ∷ [] → length labels ≡ place
     → IsIndex (known ++ key ∷ []) (map (λ g. g.items) hs) (labels ++ key ∷ [])

@@ -52,7 +52,7 @@ any_within key (x ∷ ks) h = by_case (any_within key ks) (bytes_eq key x) refl 
     by_case more true e h = rw e (omega arith)
     by_case more false e h = (let rest = more (rw e at h) in rw e (omega (arith, rest)))
 
--- one that is not has none
+-- a label that is not among the known has no place there
 none_within : (key : List ℕ) (ks : List (List ℕ)) → list_any (bytes_eq key) ks ≡ false → length ks ≤ position_or_len (bytes_eq key) ks
 none_within key [] h = omega arith
 none_within key (x ∷ ks) h = by_case (none_within key ks) (bytes_eq key x) refl h

@@ -25,7 +25,7 @@ not_falling ps h i j le w = by_case (i == j) refl
     by_case true e = (let n : i ≡ j = grind (arith, nat_tests, e) in subst (λ m. get_or ps i 0 ≤ get_or ps m 0) n (omega arith))
     by_case false e = (let l : i < j = grind (arith, nat_tests, e, le) in omega (arith, h i j l w))
 
--- a place that was found
+-- a place that is found among ascending places is the first at or after itself
 pub least_here : (ps : List ℕ) (from i : ℕ) → IsAscending ps → (i < length ps) × (get_or ps i 0 ≡ from) → IsLeast ps from from
 least_here ps from i h at = record {
   number = i;
@@ -46,7 +46,7 @@ least_next ps from i p gap w e = record {
   before = gap.1;
 }
 
--- there is none
+-- where a place lies after all ascending places, each of these lies before it
 pub least_none : (ps : List ℕ) (from i : ℕ) → (i ≤ length ps) × ((k : ℕ) → k < i → get_or ps k 0 < from) × ((k : ℕ) → i ≤ k → k < length ps → from < get_or ps k 0)
     → length ps ≤ i → (k : ℕ) → k < length ps → get_or ps k 0 < from
 least_none ps from i gap l k w = gap.1 k (omega (arith, l, w))
@@ -142,7 +142,7 @@ module _ (known groups labels : List (List ℕ)) (key : List ℕ) (x : IsIndex k
       let n : length (places key 0 labels) ≡ 0 = ap length (x.absent key h) in
       omega (arith, q.within, n))
 
--- a group among vectors
+-- the group at an index of vectors is the items of the vector there
 pub vector_at : (gs : List (SmallVec ℕ)) (i : ℕ) (v : SmallVec ℕ) → i < length gs → v ≡ get_or gs i v → get_or (map (λ g. g.items) gs) i [] ≡ v.items
 vector_at [] i v w e = absurd (omega (arith, w))
 vector_at (g ∷ gs) zero v w e = sym (ap (λ (u : SmallVec ℕ). u.items) e)
@@ -170,7 +170,7 @@ last_has labels x key last h e = record {
   before = λ j f l at. absurd (omega (arith, f, l));
 }
 
--- where it isn't
+-- where the last label isn't the one that is looked up, no place from there on has it
 pub last_lacks : (labels : List (List ℕ)) (x key : List ℕ) (last : ℕ) → length labels ≡ last + 1 → HasLabel labels x last → bytes_eq x key ≡ false
     → (j : ℕ) → last ≤ j → HasLabel labels key j → ⊥
 last_lacks labels x key last one h e j f at =

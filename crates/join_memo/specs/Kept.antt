@@ -10,7 +10,7 @@ pub record Kept (T : Type 0) : Type 0 where
 abbrev pub labels_of : {T : Type 0} → List (List ℕ × T) → List (List ℕ)
 labels_of pairs = map (λ p. p.0) pairs
 
--- this place has this label
+-- a place of a list of labels has this label
 pub record HasLabel (labels : List (List ℕ)) (key : List ℕ) (i : ℕ) : Type 0 where
   pub within : i < length labels
   pub is : slice_index_or labels i [] ≡ key

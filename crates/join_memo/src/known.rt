@@ -22,7 +22,7 @@ impl Model for KnownLabels {
 }
 
 impl KnownLabels {
-    /// No labels.
+    /// A set of no labels.
     pub(crate) fn new(alloc: Global) -> KnownLabels
         ensures { result ≡ [] }
     {

@@ -62,7 +62,7 @@ other_last a b (z ∷ s) h =
     (ap (λ (t : Bool). t || is_seen a s) y.0 ∙ k.0, k.1)
 
 module _ (ops : List Operator) (i : ℕ) (keys : List Key) {d e : Documents} (docs : e ≡ d) where
-  -- that no binding with other keys stands before some events stays so for the same keys and events
+  -- no binding with other keys stands before events still, where the documents, keys and events are the same
   pub none_before_kept : {s z : List (List KeyValue)} → z ≡ s → {l m : RowEvents} → m ≡ l → NoneBefore d keys (events d ops i) s l → NoneBefore e keys (events e ops i) z m
   none_before_kept {s} {z} seen {l} {m} later h =
       subst (λ (y : List (List KeyValue)). NoneBefore e keys (events e ops i) y m) (sym seen)

@@ -105,7 +105,7 @@ module _ (w : World) (ops : List Operator) (n i : ℕ) (keys : List Key) (group 
   abbrev members : List (Rc Position Global)
   members = slice_index_or (gathered_at w n).groups (number - 1) []
 
-  -- how far the walk came
+  -- the binding of the input up to which the walk came
   abbrev last : Position
   last = (gathered_at w n).last
 
@@ -136,7 +136,7 @@ module _ (w : World) (ops : List Operator) (n i : ℕ) (keys : List Key) (group 
           }
 
   module _ (at : Position) (place : ℕ) (here : IsFound w n number place at) where
-    -- some of them
+    -- the members of the group, of which there is one
     abbrev ms : Members
     ms = some_members
 

@@ -46,7 +46,7 @@ module _ (a b : World) (ops : List Operator) (bench : IsBench a ops) (k : Keeps 
   was_told : IsTrue (is_told b ops) → IsTrue (is_told a ops)
   was_told t = subst IsTrue (told-kept k ops) t
 
-  -- a member stays one
+  -- a next member of a group is one after every call
   member_kept : (at : Position) (n : ℕ) (m : Position) → IsOf a ops i at → IsNextMember a ops i keys row at n m → IsNextMember b ops i keys row at n m
   member_kept at n m of h = record {
     cursor = here.cursor;
@@ -202,7 +202,7 @@ module _ (w : World) (ops : List Operator) (i : ℕ) (keys : List Key) (row : To
   next_at at k (m ∷ ms) zero j l e h = (let z : k ≡ j = omega (arith, e) in subst (λ (x : ℕ). IsNextMember w ops i keys row at x m.value) z h.0)
   next_at at k (m ∷ ms) (suc p) j l e h = next_at m.value (suc k) ms p j (omega (arith, l)) (omega (arith, e)) h.1
 
-  -- after the last that was found the next one is the next after the binding that was walked to, at no greater cost
+  -- the next binding of a group after its last found member is the next after the walk's binding, at no greater cost
   pub last_past : (at : Position) (k : ℕ) (ms : List (Rc Position Global)) → AreInGroup w ops i keys row last at k ms → IsTrue (is_told w ops)
       → IsPast (same_group (docs_of w) keys row (ahead w ops i (at_place at ms (length ms)))) (same_group (docs_of w) keys row (ahead w ops i last))
   last_past at k [] h t = h.1 t

@@ -80,7 +80,7 @@ found_is w ops n c v s x k e =
     same : (p q : ℕ × Spot) → Some p ≡ Some q → p ≡ q
     same p q h = cc
 
--- nothing is not something
+-- a value that is none is not some value
 no_value : {X : Type 0} (x : X) → None ≡ Some x → ⊥
 no_value x h = cc
 

@@ -75,7 +75,7 @@ module _ (ops : List Operator) (typed : IsTyped ops) where
   kept_none : (keys : List Key) (of : Kinds) (v : ℕ) (there : Option (ℕ × Spot)) → kept keys of v ≡ None → (of v ≡ None → there ≡ None) → cond (has_var keys v) there None ≡ None
   kept_none keys of v there h g = elim (has_var keys v) as (λ t. cond t (of v) None ≡ None → cond t there None ≡ None) [ true ↦ λ e. g e | false ↦ λ e. refl ] h
 
-  -- the same with the list of a group
+  -- what first bindings by keys, with or without a list, don't bind has no spot, where what isn't bound by the input has none
   first_none : (keys : List Key) (group : Option (Piece × ℕ)) (of : Kinds) (v : ℕ) (there : Option (ℕ × Spot)) → stage_kinds (first_by_keys keys group) of v ≡ None → (of v ≡ None → there ≡ None)
       → cond (has_var keys v) there None ≡ None
   first_none keys None of v there h g = kept_none keys of v there h g
@@ -116,7 +116,7 @@ module _ (ops : List Operator) (typed : IsTyped ops) where
         no_spot_nth i (omega (arith, h, l.0)) list m v (sym (ap (λ (g : Kinds). g v) (kinds_at ops typed n h (passes_on i (in_order u desc)) e)) ∙ k)
     no_spot n h f e c v k = refl
 
-    -- nor has one of a sorted list
+    -- no member of a sorted list has a spot of a variable that the operator doesn't bind
     no_spot_nth : (i : ℕ) → i < length ops → {z : _} (list : Row z) (m v : ℕ) → kinds ops i v ≡ None → spot_nth ops i list m v ≡ None
     no_spot_nth i h no_more m v k = refl
     no_spot_nth i h (one_more q c rest) zero v k = no_spot i h (shape_at ops i) refl c v k

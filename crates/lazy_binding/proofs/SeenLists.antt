@@ -20,7 +20,7 @@ use Rattle.lazy_binding.proofs.FirstLists.{take_map}
 abbrev same_key : SmallVec KeyPart → SmallVec KeyPart → Bool
 same_key a b = same_parts a.items b.items
 
--- one less on both sides
+-- a number is less than another exactly where it is with one more on both sides
 one_less : (m n : ℕ) → nat_lt m n ≡ nat_lt (1 + m) (suc n)
 one_less m n = grind (arith, nat_tests)
 
@@ -55,7 +55,7 @@ module _ {X : Type 0} (p : X → Bool) where
       by_case true e = (let z : position_or_len p xs ≡ i = (let y = rw e at h in cc) in any_within xs few (grind (arith, nat_tests, e)) ∙ ap (λ (m : ℕ). nat_lt m few) z)
       by_case false e = (let y = rw e at h in cc)
 
-  -- without a place
+  -- where no element of a list passes a test, none of the first few does
   any_none : (xs : List X) (few : ℕ) → position p xs ≡ None → list_any p (take few xs) ≡ false
   any_none xs few h = by_case (nat_lt (position_or_len p xs) (length xs)) refl
     where
@@ -94,7 +94,7 @@ put_last key ks = by_case (list_any (same_key key) ks) refl
 pub is_new : (key : SmallVec KeyPart) (ks : List (SmallVec KeyPart)) → not (list_any (same_key key) ks) ≡ not (was_seen key.items (map (λ k. k.items) ks))
 is_new key ks = ap not (sym (seen_is key.items ks))
 
--- among all keys
+-- a key that was seen among all keys was seen
 pub seen_in_all : (key : List KeyPart) (xs : List (List KeyPart)) (n : ℕ) → n ≡ length xs → was_seen key (take n xs) ≡ true → was_seen key xs ≡ true
 seen_in_all key xs n e h = sym (ap (was_seen key) (ap (λ (m : ℕ). take m xs) e ∙ take-length xs)) ∙ h
 
@@ -106,7 +106,7 @@ or_true : (b : Bool) → (b || true) ≡ true
 or_true true = refl
 or_true false = refl
 
--- a key at a place
+-- of a key that stands at a place of the set
 module _ (key : List KeyPart) (k : SmallVec KeyPart) (same : same_parts k.items key ≡ true) where
   equal : IsEquivalence same_parts
   equal = lists_equiv part_equivalence

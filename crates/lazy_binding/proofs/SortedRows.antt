@@ -57,13 +57,13 @@ count_items : (m : _) (row : Row m) → count row ≡ length (items m row)
 count_items m no_more = refl
 count_items m (one_more q c rest) = ap suc (count_items _ rest)
 
--- the member at an index
+-- the member of a sorted list at an index is the position there
 nth_items : (m : _) (row : Row m) (k : ℕ) (p : Rc Position Global) → slice_get (items m row) k ≡ Some p → nth row k ≡ p.value
 nth_items m no_more k p h = cc
 nth_items m (one_more q c rest) zero p h = ap (λ (z : Option (Rc Position Global)). elim z as (λ _. Position) [ Some y ↦ y.value | None ↦ c ]) h
 nth_items m (one_more q c rest) (suc k) p h = nth_items _ rest k p h
 
--- after the end there is none
+-- after the end of a sorted list there is no member
 nth_past : (m : _) (row : Row m) (k : ℕ) → slice_get (items m row) k ≡ None → nth row k ≡ Start
 nth_past m no_more k h = refl
 nth_past m (one_more q c rest) zero h = cc
@@ -76,14 +76,14 @@ module _ (ops : List Operator) (i v : ℕ) where
   spot_items m (one_more q c rest) zero p h = ap (λ (z : Option (Rc Position Global)). elim z as (λ _. Option (ℕ × Spot)) [ Some y ↦ spot_in ops i y.value v | None ↦ None ]) h
   spot_items m (one_more q c rest) (suc k) p h = spot_items _ rest k p h
 
-  -- after the end it has none
+  -- after the end of a sorted list a variable has no spot
   spot_past : (m : _) (row : Row m) (k : ℕ) → slice_get (items m row) k ≡ None → spot_nth ops i row k v ≡ None
   spot_past m no_more k h = refl
   spot_past m (one_more q c rest) zero h = cc
   spot_past m (one_more q c rest) (suc k) h = spot_past _ rest k h
 
 module _ (w : World) (ops : List Operator) (i : ℕ) where
-  -- the bindings
+  -- the bindings of a sorted list are those at its positions
   rows_items : (m : _) (row : Row m) → rows_in w ops i row ≡ bindings_at w ops i (items m row)
   rows_items m no_more = refl
   rows_items m (one_more q c rest) = ap (λ (rows : List TolledRow). binding w ops i c ∷ rows) (rows_items _ rest)

@@ -17,7 +17,7 @@ member_more P (x ∷ xs) b base f g (suc n) c t =
     subst (λ (m : ℕ). P m c) (shift n)
     (member_more P xs b (suc base) (λ k d h. subst (λ (m : ℕ). P m d) (sym (shift k)) (f (suc k) d h)) (subst (λ (m : ℕ). P m b) (sym (shift (length xs))) g) n c t)
 
--- from zero on
+-- a number counted on from zero is the number
 from_zero : (k : ℕ) → 0 + k ≡ k
 from_zero k = omega arith
 

@@ -35,7 +35,7 @@ IsSpotAt w ops n f c v = IsSpotThere w ops (spot_at ops f c v) (stands w ops n f
 abbrev pub IsSpotOf : World → List Operator → ℕ → Position → ℕ → Type 0
 IsSpotOf w ops n c v = IsSpotAt w ops n (shape_at ops n) c v
 
--- nothing is no kind
+-- a kind that is none is not some kind
 no_kind : (k : Kind) → None ≡ Some k → ⊥
 no_kind k h = cc
 
@@ -94,7 +94,7 @@ module _ (ops : List Operator) (typed : IsTyped ops) (w : World) where
         lacks_nth i (omega (arith, h, l.0)) list m of.0 of.1 v (sym (ap (λ (g : Kinds). g v) (kinds_at ops typed n h (passes_on i (in_order u desc)) e)) ∙ k)
     lacks n h f e c of row v k = absurd of
 
-    -- nor in a sorted list
+    -- a variable that an operator doesn't bind has no spot and no value in a member of a sorted list
     lacks_nth : (i : ℕ) → i < length ops → {z : _} (list : Row z) (m : ℕ) → AreIn w ops i list → m < count list → (v : ℕ) → kinds ops i v ≡ None
         → (spot_nth ops i list m v ≡ None) × Lacks (get_or (rows_in w ops i list) m []) v
     lacks_nth i h no_more m of l v k = absurd (omega (arith, l))

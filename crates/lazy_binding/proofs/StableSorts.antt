@@ -20,7 +20,7 @@ module _ {X : Type 0} (lt : X → X → Bool) (o : IsStrictWeakOrder lt) where
   all_far x [] h = tt
   all_far x (y ∷ xs) h = (h zero y (omega arith), all_far x xs (λ i d l. h (suc i) d (omega (arith, l))))
 
-  -- from the words of a sort
+  -- a list of which none at a later index is before one at an earlier index rises
   pub rises : (xs : List X) → ((i j : ℕ) (d : X) → i ≤ j → j < length xs → lt (get_or xs j d) (get_or xs i d) ≡ false) → Rises xs
   rises [] h = tt
   rises (x ∷ xs) h = (all_far x xs (λ i d l. h zero (suc i) d (omega arith) (omega (arith, l))), rises xs (λ i j d k l. h (suc i) (suc j) d (omega (arith, k)) (omega (arith, l))))
@@ -29,7 +29,7 @@ module _ {X : Type 0} (lt : X → X → Bool) (o : IsStrictWeakOrder lt) where
   self : (x : X) → lt x x ≡ false
   self x = elim (lt x x) as (λ t. lt x x ≡ t → lt x x ≡ false) [ true ↦ λ e. o.one_way x x e | false ↦ λ e. e ] refl
 
-  -- it ties with itself
+  -- an element ties with itself
   ties_self : (x : X) → ties lt x x ≡ true
   ties_self x = rw (self x) refl
 
@@ -42,7 +42,7 @@ module _ {X : Type 0} (lt : X → X → Bool) (o : IsStrictWeakOrder lt) where
         | false ↦ λ e. (let c = o.chain x z y e a.0 in let d : true ≡ false = sym h ∙ c in cc)
       ] refl
 
-  -- nor with that one
+  -- an element that is before another ties neither with that one nor with what rises after it
   apart_all : (x y : X) (zs : List X) → lt x y ≡ true → AllByRecursion (λ z. lt z y ≡ false) zs → filter (ties lt x) (y ∷ zs) ≡ []
   apart_all x y zs h a = rw h (apart x y zs h a)
 
@@ -89,12 +89,12 @@ module _ {X : Type 0} (lt : X → X → Bool) (o : IsStrictWeakOrder lt) where
   all_sorted P [] a = tt
   all_sorted P (x ∷ xs) a = all_insert P x (sorted_by lt xs) a.0 (all_sorted P xs a.1)
 
-  -- an element more
+  -- putting an element in its place makes a list one longer
   length_insert : (x : X) (xs : List X) → length (insert_by lt x xs) ≡ suc (length xs)
   length_insert x [] = refl
   length_insert x (y ∷ xs) = elim (lt y x) as (λ t. length (cond t (y ∷ insert_by lt x xs) (x ∷ y ∷ xs)) ≡ suc (suc (length xs))) [ true ↦ ap suc (length_insert x xs) | false ↦ refl ]
 
-  -- sorting keeps the length
+  -- sorting a list keeps its length
   pub length_sorted : (xs : List X) → length (sorted_by lt xs) ≡ length xs
   length_sorted [] = refl
   length_sorted (x ∷ xs) = length_insert x (sorted_by lt xs) ∙ ap suc (length_sorted xs)
@@ -134,7 +134,7 @@ module _ {X : Type 0} (lt : X → X → Bool) (o : IsStrictWeakOrder lt) where
       first_false true u h = cc
       first_false false u h = refl
 
-  -- one of two that don't both pass, before or after the other
+  -- of two elements that don't both pass a test, the order doesn't matter to what passes
   swapped : (s t : Bool) (x y : X) (xs : List X) → (s ≡ true → t ≡ false) → cond t (y ∷ cond s (x ∷ xs) xs) (cond s (x ∷ xs) xs) ≡ cond s (x ∷ cond t (y ∷ xs) xs) (cond t (y ∷ xs) xs)
   swapped true true x y xs h = let c : true ≡ false = h refl in cc
   swapped true false x y xs h = refl
@@ -157,7 +157,7 @@ module _ {X : Type 0} (lt : X → X → Bool) (o : IsStrictWeakOrder lt) where
   stable_sorted [] z = refl
   stable_sorted (x ∷ xs) z = stable_insert z x (sorted_by lt xs) ∙ ap (λ (zs : List X). cond (ties lt z x) (x ∷ zs) zs) (stable_sorted xs z)
 
-  -- what a stable sort makes
+  -- what a stable sort of a list makes is the list as it is sorted by putting each element in its place
   pub sort_is : (xs ys : List X) → IsSortedBy lt ys → IsStableBy lt xs ys → ys ≡ sorted_by lt xs
   sort_is xs ys up stable = one_sort ys (sorted_by lt xs) (rises ys (sorted_far lt o ys up)) (rises_sorted xs) (λ z. stable z ∙ sym (stable_sorted xs z))
 

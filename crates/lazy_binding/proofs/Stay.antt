@@ -29,7 +29,7 @@ use Rattle.lazy_binding.specs.Keeping.{Keeps, StaysIn, KeepsCursors}
 use Rattle.lazy_binding.proofs.Keep.{told-kept, docs_kept, bound_kept, spot_kept, place_kept, node_kept}
 use Rattle.lazy_binding.proofs.FirstMembers.{none_before_kept, first_by_kept, binding_of_kept}
 
--- what is past stays so
+-- where events are past others, they are past them after a call that leaves both the same
 past_kept : {es fs later left : RowEvents} → fs ≡ es → left ≡ later → IsPast es later → IsPast fs left
 past_kept e f h = record { found = ap found e ∙ h.found ∙ ap found (sym f); costs = (let x = ap cost e in let y = ap cost f in omega (arith, x, y, h.costs)) }
 
@@ -99,7 +99,7 @@ module _ (a b : World) (k : Keeps a b) (ops : List Operator) (bench : IsBench a 
   pub seen_kept : (n m : ℕ) → m ≤ length (seen_at a n) → seen_values b (take m (seen_at b n)) ≡ seen_values a (take m (seen_at a n))
   seen_kept n m l = ap (seen_values b) (k.seen n m l) ∙ values_kept (take m (seen_at a n)) (first_parts (seen_at a n) m (bench.parts n))
 
-  -- sizes stay
+  -- the size of an operator is the same after a call
   pub size_kept : (n : ℕ) → size b ops n ≡ size a ops n
   unfolding size
   size_kept n = rw (bound_kept k ops bench) refl
@@ -272,6 +272,6 @@ module _ (a b : World) (k : Keeps a b) (ops : List Operator) (bench : IsBench a 
     number_is = number_kept n f c h;
   }
 
-  -- each earlier cursor stays
+  -- each earlier cursor stays a cursor, with the same binding and the same events ahead
   pub cursors_kept : KeepsCursors a b ops
   cursors_kept n c h = stays_in_shape n (shape_at ops n) c h

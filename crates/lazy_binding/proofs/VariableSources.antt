@@ -50,7 +50,7 @@ pub group_source : (keys : List Key) (piece : Piece) (out : ℕ) (of : ℕ → O
 group_source [] piece out of v = refl
 group_source (k ∷ keys) piece out of v = refl
 
--- the source of a spot
+-- the source of an optional spot
 abbrev source_in : Option (ℕ × Spot) → Option ℕ
 source_in None = None
 source_in (Some p) = Some p.0
@@ -60,7 +60,7 @@ source_either : (p q : Option (ℕ × Spot)) → source_in (or_else p q) ≡ or_
 source_either None q = refl
 source_either (Some p) q = refl
 
--- a new spot, or the other
+-- the source of a new spot or another is the new source or the other's
 source_new : (b : Bool) (p q : Option (ℕ × Spot)) → source_in (cond b p q) ≡ cond b (source_in p) (source_in q)
 source_new true p q = refl
 source_new false p q = refl
@@ -135,7 +135,7 @@ either_source (Some j) k None q e f g = let z = f e in let y : None ≡ Some z.0
 either_source None k (Some x) q e f g = (x, refl)
 either_source None k None q e f g = g e
 
--- a variable of the keys
+-- where a variable kept by keys is of a node, it has a source, if it has one below
 kept_source : (keys : List Key) (kinds : Kinds) (of : ℕ → Option ℕ) (v : ℕ) → kept keys kinds v ≡ Some a_node → (kinds v ≡ Some a_node → (s : ℕ) × (of v ≡ Some s)) → (s : ℕ) × (cond (has_var keys v) (of v) None ≡ Some s)
 kept_source keys kinds of v e f = elim (has_var keys v) as (λ t. cond t (kinds v) None ≡ Some a_node → (z : ℕ) × (cond t (of v) None ≡ Some z)) [ true ↦ λ g. f g | false ↦ λ g. cc ] e
 

@@ -4,7 +4,7 @@ use Rattle.std.specs.Prelude.{IsTrue, IfSome}
 use Rattle.mix_base.specs.Events.{Event, found, cost}
 use Rattle.lazy_descend.specs.Searches.{Telling, TellsOn, Cursors, AsksAtMost, FindsNone, Finds, Moves, Outcome, over, at_row, at_event, Steps, GivesFirst, Comes}
 
--- told sources still tell
+-- told sources still tell, where sources tell on
 pub still_told : {old new : Telling} → TellsOn old new → IsTrue old.told → IsTrue new.told
 still_told tells t = tells.told ∙ t
 
@@ -16,7 +16,7 @@ still_forward tells f = tells.forward ∙ f
 pub tells_then : {a b c : Telling} → TellsOn a b → TellsOn b c → TellsOn a c
 tells_then h k = record { told = k.told ∙ h.told; forward = k.forward ∙ h.forward }
 
--- at the beginning all events are ahead
+-- before any step of a search all its events are ahead
 pub comes_start : {B : Type 0} {old : Telling} {whole later : List (Event B)} {top number : ℕ} → whole ≡ later → top ≡ number → Comes old old whole later top number
 comes_start e f = record {
   tells = record { told = refl; forward = refl };
@@ -45,7 +45,7 @@ module _ {B : Type 0} {old mid : Telling} {whole later : List (Event B)} {top nu
     }
 
     module _ {new : Telling} where
-      -- a later event
+      -- a later event that a step reached is one that the search over all events reached
       pub comes_on : {d : C} → Moves mid new now later number d → Moves old new now whole top d
       comes_on m = record {
         cursor = m.cursor;
@@ -54,7 +54,7 @@ module _ {B : Type 0} {old mid : Telling} {whole later : List (Event B)} {top nu
         lazy = λ t f. omega (arith, c.lazy t f, m.lazy (still_told c.tells t) (still_forward c.tells f));
       }
 
-      -- from which the search goes on
+      -- from a later event that a step reached, the search goes on over what is ahead of it
       pub comes_then : {d : C} → TellsOn mid new → Moves mid new now later number d → Comes old new whole (now.ahead d) top (now.number d)
       comes_then {d} tells m =
           let step = comes_on m in

@@ -63,7 +63,7 @@ Steps old new now es top (at_event d) = Moves old new now es top d
 abbrev pub GivesFirst : {C B : Type 0} → Telling → Cursors C B → List (Event B) → ℕ → Option C → Type 0
 GivesFirst old now es top r = MatchOption r (FindsNone old es) (Finds old now es top)
 
--- of these events the later ones are still ahead, with no binding before them; each event that was passed cost at most a fill
+-- of some events the later ones are still ahead, with no binding before them; each event that was passed cost at most a fill
 pub record Comes {B : Type 0} (old new : Telling) (whole later : List (Event B)) (top number : ℕ) : Type 0 where
   pub tells : TellsOn old new
   pub falls : number ≤ top

@@ -56,7 +56,7 @@ module _ (ops : List Operator) (n i : ℕ) (keys : List Key) (made : Piece × �
   abbrev Comes : World → Type 0
   Comes w = ComesAfter ops n i keys count place first at a w
 
-  -- what was gathered
+  -- what was gathered of the operator is of its groups
   good : (w : World) → IsBench w ops → AreGathered w ops n i keys (Some made) (gathered_at w n)
   good w h = h.gathered n i keys (Some made) is by
 
@@ -100,7 +100,7 @@ module _ (ops : List Operator) (n i : ℕ) (keys : List Key) (made : Piece × �
         past_is none u ∙ found-only_none of_group (ahead b ops i (gathered_at b n).last) (ended u)
 
   module _ (b : World) (late : IsBench b ops) (come : Comes b) (none : member_at b n count (suc place) ≡ None) (e : World) (k : Asks b e ops n (ahead b ops i (gathered_at b n).last)) where
-    -- what both calls asked
+    -- a call for one more member after others asks in all for no more than the events of the group allow
     pub after_asks : Asks a e ops n whole
     after_asks = record {
       kept = keeps_then come.asks.kept k.kept;

@@ -96,7 +96,7 @@ module _ (w : World) (ops : List Operator) (n i : ℕ) (keys : List Key) (group 
   begins_in (Seen' q x k) h row = cc
   begins_in c h row = absurd h
 
--- the group at a cursor
+-- at a cursor of a groupBy by keys a group begins, at the member below
 pub group_begins : (w : World) (p : Plan) (n : ℕ) (c d : Position) (m : ℕ) → form (op_at (plan_value p).ops n) ≡ gathers_groups → IsCursor (record { world = w; plan = p }) n c
     → d ≡ part_at (plan_value p).ops n c (input_at (plan_value p).ops n) → m ≡ count_of c
     → IsGroup (record { world = w; plan = p }) n m d d 0
@@ -174,7 +174,7 @@ pub seen_read : (v : View) (g : Growing) (ops : List Operator) → IsBench (worl
     → keys ≡ seen_at (world_of v g) n
 seen_read v g ops bench n within keys e = e ∙ get_or_default g.seen.items n keys [] (let l = bench.lists in omega (arith, l, within))
 
--- from a member the walk of the input may go on
+-- from a member of a group the walk of the input may go on
 pub group_can : {place : ℕ} (v : View) (b : Bench) (op m : ℕ) (first at : Position) (q : Rc (Unit {0}) Global) → IsBenchOf v b → op < length (operators b.fixed) → form (op_at (operators b.fixed) op) ≡ gathers_groups
     → IsTrue (stops_at (operators b.fixed) op) → IsGroup (state_of v b) op m first at place → CanStep v b.growing b.fixed (input_at (operators b.fixed) op) at
 group_can {place} v b op m first at q bench within is stops g =
@@ -191,19 +191,19 @@ module _ {place : ℕ} (a b : World) (p : Plan) (op m : ℕ) (first at : Positio
     (is : form (op_at (plan_value p).ops op) ≡ gathers_groups) (stops : IsTrue (stops_at (plan_value p).ops op)) (bench : IsBench a (plan_value p).ops)
     (g : IsGroup (record { world = a; plan = p }) op m first at place) (k : Asks a b (plan_value p).ops (input_at (plan_value p).ops op) (ahead a (plan_value p).ops (input_at (plan_value p).ops op) at))
     (late : IsBench b (plan_value p).ops) where
-  -- the operators
+  -- the operators of the plan of a bench
   abbrev ops : List Operator
   ops = (plan_value p).ops
 
-  -- the input
+  -- the input of the groupBy
   abbrev i : ℕ
   i = input_at ops op
 
-  -- the keys
+  -- the keys of the groupBy
   abbrev keys : List Key
   keys = keys_of (op_at ops op)
 
-  -- what is made of a group
+  -- what the groupBy makes of a group
   abbrev made : Option (Piece × ℕ)
   made = Some (group_shape (op_at ops op) is).0
 

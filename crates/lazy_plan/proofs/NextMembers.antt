@@ -34,19 +34,19 @@ use Rattle.lazy_plan.proofs.GroupSteps.{group_shape, group_stops}
 
 module _ (a : World) (p : Plan) (op m place : ℕ) (first at : Position) (is : form (op_at (plan_value p).ops op) ≡ gathers_groups)
     (among : stops_at (plan_value p).ops op ≡ false) (bench : IsBench a (plan_value p).ops) (g : IsGroup (record { world = a; plan = p }) op m first at place) where
-  -- the operators
+  -- the operators of the plan of a bench
   abbrev ops : List Operator
   ops = (plan_value p).ops
 
-  -- the input
+  -- the input of the groupBy
   abbrev i : ℕ
   i = input_at ops op
 
-  -- the keys
+  -- the keys of the groupBy
   abbrev keys : List Key
   keys = keys_of (op_at ops op)
 
-  -- what is made of a group
+  -- what the groupBy makes of a group
   abbrev pub next_made : Piece × ℕ
   next_made = (group_shape (op_at ops op) is).0
 

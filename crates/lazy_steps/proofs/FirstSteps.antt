@@ -95,7 +95,7 @@ module _ (ops : List Operator) (n i : ℕ) (keys : List Key) (group : Option (Pi
               gathers_none j m ks gr at by e =
                   let z : true ≡ false = sym by ∙ ap (gathers_by ops) (sym at ∙ ap (shape_at ops) e ∙ is) ∙ no in cc
 
-          -- what the call asked
+          -- what the call of a step of first bindings asked of the sources
           pub firsts_asks : Asks a here ops n (stands a ops n F c).ahead
           firsts_asks = record {
             kept = keeps_then k.kept kept;
@@ -134,7 +134,7 @@ module _ (ops : List Operator) (n i : ℕ) (keys : List Key) (group : Option (Pi
                 lazy = λ t w. (let i = moves.lazy t w in let j = ap cost stay.ahead_is in omega (arith, i, j));
               }
 
-          -- what the step comes to
+          -- the step of first bindings after the input's next binding is one of the operator
           pub firsts_steps : (r : Step) → IsKeyEvent (seen_at b n) (slice_index_or seen n []) key d (count_of c) r
               → Steps a here ops n F (stands a ops n F c).ahead (weighs a ops n F c) r
           firsts_steps Done y = absurd y

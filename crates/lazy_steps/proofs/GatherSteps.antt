@@ -65,7 +65,7 @@ module _ (a c : World) (ops : List Operator) (n i : ℕ) (keys : List Key) (made
   abbrev group : Option (Piece × ℕ)
   group = Some made
 
-  -- what was found so far
+  -- what was gathered for the operator so far
   abbrev g : Gathered
   g = gathered_at a n
 
@@ -77,7 +77,7 @@ module _ (a c : World) (ops : List Operator) (n i : ℕ) (keys : List Key) (made
   pub gathered_good : AreGathered a ops n i keys group g
   gathered_good = bench.gathered n i keys group is by
 
-  -- the input stands below
+  -- the input has a smaller number than the operator
   pub gathers_less : i < n
   gathers_less = (inputs_at ops typed n within (passes_on i (first_by_keys keys group)) is).0
 
@@ -127,34 +127,34 @@ module _ (a c : World) (ops : List Operator) (n i : ℕ) (keys : List Key) (made
     module _ (d : Position) (f : Finds a c ops i (shape_at ops i) (ahead a ops i g.last) (number a ops i g.last) d) (key : List KeyPart) (parts : AllByRecursion (IsPart c) key)
         (val : IsTrue (is_told c ops) → map (part_value c) key ≡ key_values (docs_of c) keys (binding c ops i d)) (ones : SpotsAreOne)
         (seen : List (List (List KeyPart))) (walked : Walked) (grows : GrowsAt c.seen seen n key) (others : OthersGathered c.walked walked n) where
-      -- the world that is left
+      -- the world that is left after the call
       abbrev now : World
       now = here seen walked
 
-      -- where memory was wanting
+      -- where memory was wanting, the groups and the keys of the operator are as they were
       module _ (groups : groups_in walked n ≡ groups_in c.walked n) (same : slice_index_or seen n [] ≡ seen_at c n) where
         no_key : length (slice_index_or seen n []) ≡ length (seen_at c n) + 1 → (few ≡ length (seen_at c n)) × (was_seen key (take few (seen_at c n)) ≡ false)
         no_key e = absurd (omega (arith, e, ap length same))
 
-        -- what was found stays
+        -- where memory was wanting, the members that were found are found still
         refused_stay : FoundStay c now
         refused_stay = found_others c seen walked n others (λ j place m e. ap (λ (z : Gathered). slice_get (slice_index_or z.groups j []) place) groups ∙ e)
 
-        -- what every call keeps
+        -- where memory was wanting, what every call keeps is kept
         refused_keeps : Keeps c now
         refused_keeps = kept_here ops n i keys group is a g.last few gathered_good.walked c bench k.kept d f late key parts val ones seen walked grows no_key others.reached refused_stay
 
-        -- what is left is a bench
+        -- where memory was wanting, what is left is a sound bench
         pub refused_bench : IsBench now ops
         refused_bench =
             passed_bench ops n i keys group is a g.last few gathered_good.walked c bench k.kept d f late key parts val ones seen walked grows no_key others.reached refused_stay (others.lists ∙ late.walks)
             (all_gathered seen walked key grows others refused_keeps (gathered_there refused_keeps ops late n i keys group is by (ap length same) groups))
 
-        -- what was asked
+        -- where memory was wanting, what was asked is what the operator may ask
         pub refused_asks : Asks a now ops n (ahead a ops i g.last)
         refused_asks = gather_asks seen walked key grows others refused_keeps
 
-      -- one more member
+      -- where the next binding of the input is put into its group as one more member
       module _ (goes : IsGatheredBy g (groups_in walked n) (seen_at c n) (slice_index_or seen n []) key d) (ongoing : g.ended ≡ false) where
         -- the binding, as it is shared
         abbrev r : Rc Position Global
@@ -181,11 +181,11 @@ module _ (a c : World) (ops : List Operator) (n i : ℕ) (keys : List Key) (made
             let same : suc few - 1 ≡ few = omega arith in
             (r, ap (λ (z : ℕ). slice_get (slice_index_or (groups_in walked n).groups z []) 0) same ∙ ap (λ (z : List (Rc Position Global)). slice_get z 0) y.begun.here, goes.1)
 
-        -- what every call keeps
+        -- with one more member what every call keeps is kept
         pub gathered_keeps : Keeps c now
         gathered_keeps = kept_here ops n i keys group is a g.last few gathered_good.walked c bench k.kept d f late key parts val ones seen walked grows pushed others.reached gathered_found
 
-        -- the binding was found
+        -- the input's next binding was found by the call, in the world that is left
         further : Finds a now ops i (shape_at ops i) (ahead a ops i g.last) (number a ops i g.last) r.value
         further = subst (Finds a now ops i (shape_at ops i) (ahead a ops i g.last) (number a ops i g.last)) (sym goes.1) (finds_then a c now gathered_keeps late f)
 
@@ -243,7 +243,7 @@ module _ (a c : World) (ops : List Operator) (n i : ℕ) (keys : List Key) (made
             (keyed true x.0 j.within (stands_there key (seen_at c n) x.0 low j.known))
             (λ y l ne. keyed false y l (stands_alone key (seen_at c n) x.0 low j.known j.alone y (omega (arith, l, few_is)) ne))
 
-        -- a new one is there
+        -- where the new binding begins a group, what is gathered now is good
         with_a_new_one : (y : Begins g.groups (groups_in walked n).groups (seen_at c n) (slice_index_or seen n []) key r) → AreGathered now ops n i keys group (record { groups = (groups_in walked n).groups; last = r.value; ended = false })
         with_a_new_one y =
             let more : length (slice_index_or seen n []) ≡ suc (length (seen_at c n)) = (let e = ap length y.pushed in let l = length-append (seen_at c n) (key ∷ []) in omega (arith, e, l)) in
@@ -268,13 +268,13 @@ module _ (a c : World) (ops : List Operator) (n i : ℕ) (keys : List Key) (made
         now_good : AreGathered now ops n i keys group (groups_in walked n)
         now_good = subst (AreGathered now ops n i keys group) now_is (elim goes.2.member [ inl x ↦ with_one_more x | inr y ↦ with_a_new_one y ])
 
-        -- what is left is a bench
+        -- with one more member what is left is a sound bench
         pub gathered_bench : IsBench now ops
         gathered_bench =
             passed_bench ops n i keys group is a g.last few gathered_good.walked c bench k.kept d f late key parts val ones seen walked grows pushed others.reached gathered_found (others.lists ∙ late.walks)
             (all_gathered seen walked key grows others gathered_keeps now_good)
 
-        -- what was asked
+        -- with one more member what was asked is what the operator may ask
         pub gathered_asks : Asks a now ops n (ahead a ops i g.last)
         gathered_asks = gather_asks seen walked key grows others gathered_keeps
 
@@ -297,7 +297,7 @@ module _ (a c : World) (ops : List Operator) (n i : ℕ) (keys : List Key) (made
     -- where nothing is after the last binding, the walk has ended
     module _ (walked : Walked) (others : OthersGathered c.walked walked n) (ended : groups_in walked n ≡ record { groups = (groups_in c.walked n).groups; last = (groups_in c.walked n).last; ended = true })
         (none : FindsNone (telling a ops) (ahead a ops i g.last)) where
-      -- what is left
+      -- the world that is left where the walk has ended
       abbrev left : World
       left = world c.view c.buffers c.seen c.memos walked
 
@@ -305,7 +305,7 @@ module _ (a c : World) (ops : List Operator) (n i : ℕ) (keys : List Key) (made
       ended_keeps : Keeps c left
       ended_keeps = keeps_walked c walked (found_others c c.seen walked n others (λ j place m e. ap (λ (z : Gathered). slice_get (slice_index_or z.groups j []) place) ended ∙ e))
 
-      -- no key was seen
+      -- where the walk has ended, no key was seen anew
       same_seen : GrowsAt c.seen c.seen n []
       same_seen = record { lists = refl; others = λ j ne. refl; here = inl refl }
 
@@ -315,7 +315,7 @@ module _ (a c : World) (ops : List Operator) (n i : ℕ) (keys : List Key) (made
           subst (AreGathered left ops n i keys group) (ap (λ (z : Gathered). record { groups = z.groups; last = z.last; ended = true }) (sym untouched.2) ∙ sym ended)
           (gathered_ended a left ops bench (keeps_then k.kept ended_keeps) n i keys group g (ap length untouched.1) none gathered_good)
 
-      -- what is left is a bench
+      -- where the walk has ended, what is left is a sound bench
       pub ended_bench : IsBench left ops
       ended_bench = record {
         roots = late.roots;
@@ -333,7 +333,7 @@ module _ (a c : World) (ops : List Operator) (n i : ℕ) (keys : List Key) (made
         gathered = all_gathered c.seen walked [] same_seen others ended_keeps left_good;
       }
 
-      -- what was asked
+      -- where the walk has ended, what was asked is what the operator may ask
       pub ended_asks : Asks a left ops n (ahead a ops i g.last)
       ended_asks = gather_asks c.seen walked [] same_seen others ended_keeps
 

@@ -32,7 +32,7 @@ le_same n = omega arith
 pub tells_on : {a b : World} → Keeps a b → (ops : List Operator) → TellsOn (telling a ops) (telling b ops)
 tells_on k ops = record { told = told-kept k ops; forward = forward-kept k ops }
 
--- of these events of operator n some were passed without a binding, the later ones are still ahead, and what every call keeps was kept
+-- of the events `whole` of operator n some were passed without a binding, `now` are still ahead, and what every call keeps was kept
 pub record Goes (a b : World) (ops : List Operator) (n : ℕ) (whole now : RowEvents) (top num : ℕ) : Type 0 where
   pub kept : Keeps a b
   pub above : KeepsAbove a b n
@@ -56,7 +56,7 @@ module _ {a b c : World} {ops : List Operator} {n : ℕ} {whole now : RowEvents}
   pub goes_asks : Asks b c ops n now → Asks a c ops n whole
   goes_asks k = record { kept = keeps_then g.kept k.kept; above = λ j l. untouched_then a b c j (g.above j l) (k.above j l); lazy = comes_asks g.comes (telling c ops) k.lazy; none = λ s. k.none s ∙ g.none s }
 
-  -- from a later event the walk goes on
+  -- a step of the events that are still ahead goes on the walk over all events
   pub goes_on : (f : Shape) (d : Position) → Asks b c ops n now → Moves b c ops n f now num d → Goes a c ops n whole (stands c ops n f d).ahead top (weighs c ops n f d)
   goes_on f d k m = record {
     kept = keeps_then g.kept k.kept;
@@ -118,7 +118,7 @@ module _ {S : Type 0} {view : S → View} {came_from : S → S → Type 0} {ops 
     };
   }
 
--- what no call leaves
+-- where nothing is called, nothing is asked and the bench is as it was
 pub ran_nothing : {S : Type 0} {view : S → View} {came_from : S → S → Type 0} {ops : List Operator} → ((x : S) → came_from x x) → (n : ℕ) (es : RowEvents) (s : S) (g : Growing)
     → IsBench (world_of (view s) g) ops → Ran view came_from ops n es s g s g
 ran_nothing {S} {view} {came_from} {ops} same n es s g bench = record {

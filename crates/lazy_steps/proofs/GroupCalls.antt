@@ -50,15 +50,15 @@ module _ (v : View) (g : Growing) (k : Gather) (is : GathersGroups k) (fixed : I
   abbrev ops : List Operator
   ops = operators k.walk.fixed.now
 
-  -- the operator
+  -- the number of the operator that makes groups
   abbrev n : ℕ
   n = k.walk.op
 
-  -- before the call
+  -- the world before the call
   abbrev a : World
   a = world_of v g
 
-  -- the groups that are read
+  -- the groups that are read of what was walked are those of the operator
   pub read_groups : (m : Gathered) → m ≡ get_or g.walked.gathered.items n m → m ≡ gathered_at a n
   read_groups m e = groups_read v g ops bench n within m e
 
@@ -70,7 +70,7 @@ module _ (v : View) (g : Growing) (k : Gather) (is : GathersGroups k) (fixed : I
   pub groups_can : (c : Position) → c ≡ (gathered_at a n).last → CanStep v g k.walk.fixed.now k.input c
   groups_can c e = gathers_can n k.input k.keys.now is.0 fixed within is.1 is.2 bench c e
 
-  -- the input stands below
+  -- the input has a smaller number than the operator
   pub input_less : k.input < n
   input_less = gathers_less a a ops n k.input k.keys.now is.0 fixed.typed within is.1 is.2 bench
 
@@ -94,7 +94,7 @@ module _ (v : View) (g : Growing) (k : Gather) (is : GathersGroups k) (fixed : I
     module _ (d : Position) (f : Finds a c ops k.input (shape_at ops k.input) (unwalked a k) (number a ops k.input (gathered_at a n).last) d) (key : List KeyPart) (parts : AllByRecursion (IsPart c) key)
         (val : IsTrue (is_told c ops) → map (part_value c) key ≡ key_values (docs_of c) k.keys.now (binding c ops k.input d)) (ones : SpotsAreOne)
         (seen : List (List (List KeyPart))) (walked : Walked) (grows : GrowsAt c.seen seen n key) (others : OthersGathered c.walked walked n) where
-      -- where memory was wanting
+      -- where memory was wanting, a call for one more member leaves the groups and the keys as they were
       pub grow_refused : groups_in walked n ≡ groups_in c.walked n → slice_index_or seen n [] ≡ seen_at c n → LeavesGroups a (world c.view c.buffers seen c.memos walked) k
       grow_refused groups same = (
         refused_bench a c ops n k.input k.keys.now is.0 fixed.typed within is.1 is.2 bench asks late d f key parts val ones seen walked grows others groups same,
@@ -116,7 +116,7 @@ module _ (v : View) (g : Growing) (k : Gather) (is : GathersGroups k) (fixed : I
           )
 
 module _ {v : View} {g : Growing} (k : Gather) (c : Position) (can : CanWalk v g k.walk c) where
-  -- before the step
+  -- the world before the step
   abbrev old : World
   old = world_of v g
 
@@ -125,7 +125,7 @@ module _ {v : View} {g : Growing} (k : Gather) (c : Position) (can : CanWalk v g
   step_begins is = (is, comes_first (operators k.walk.fixed.now) k.walk.op k.input k.keys.now is.0 can.fixed.typed can.op is.1 is.2 old can.bench c (in_shape can (group_shape k is) is.1))
 
   module _ (b : World) (late : IsBench b (operators k.walk.fixed.now)) (come : StepCame k old b c) where
-    -- it makes groups of its input
+    -- the operator makes groups of its input
     abbrev is : GathersGroups k
     is = come.0
 
@@ -133,11 +133,11 @@ module _ {v : View} {g : Growing} (k : Gather) (c : Position) (can : CanWalk v g
     at : IsIn old (operators k.walk.fixed.now) k.walk.op (group_shape k is) c
     at = in_shape can (group_shape k is) is.1
 
-    -- the events ahead of it
+    -- the events ahead of the position of the step
     abbrev whole : RowEvents
     whole = whole_ahead (operators k.walk.fixed.now) k.walk.op k.input k.keys.now is.0 old c
 
-    -- the next group is there
+    -- where the next group is there, the step finds it
     pub step_found : (d : Position) → IsNextGroup (gathered_at b k.walk.op) (count_of c) (Some d)
         → Finds old b (operators k.walk.fixed.now) k.walk.op (group_shape k is) whole (weighs old (operators k.walk.fixed.now) k.walk.op (group_shape k is) c) d
     step_found d next =
@@ -149,7 +149,7 @@ module _ {v : View} {g : Growing} (k : Gather) (c : Position) (can : CanWalk v g
     step_count none = none_there (operators k.walk.fixed.now) k.walk.op k.input k.keys.now is.0 can.fixed.typed can.op is.1 is.2 old can.bench c at b late come.1 none
 
     module _ (none : IsNextGroup (gathered_at b k.walk.op) (count_of c) None) (e : World) (asks : Asks b e (operators k.walk.fixed.now) k.walk.op (unwalked b k)) where
-      -- what both calls asked
+      -- a call for one more member after others asks in all for no more than the events ahead of the step allow
       pub step_asks : Asks old e (operators k.walk.fixed.now) k.walk.op whole
       step_asks = comes_asks (operators k.walk.fixed.now) k.walk.op k.input k.keys.now is.0 can.fixed.typed can.op is.1 is.2 old can.bench c at b late come.1 e asks (step_count none)
 

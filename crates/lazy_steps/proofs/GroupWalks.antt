@@ -67,11 +67,11 @@ module _ (ops : List Operator) (n i : ℕ) (keys : List Key) (made : Piece × �
   abbrev F : Shape
   F = passes_on i (first_by_keys keys group)
 
-  -- what the walk has left
+  -- the events of the operator that the walk has left
   abbrev left : World → ℕ → RowEvents
   left w few = left_after ops n i keys made w few
 
-  -- what was gathered
+  -- what was gathered of the operator is of its groups
   good : (w : World) → IsBench w ops → AreGathered w ops n i keys group (gathered_at w n)
   good w bench = bench.gathered n i keys group is by
 
@@ -112,7 +112,7 @@ module _ (ops : List Operator) (n i : ℕ) (keys : List Key) (made : Piece × �
     }
 
     module _ (b : World) (late : IsBench b ops) (come : ComesTo ops n i keys made a b c) where
-      -- what was told is told
+      -- where all was told before a walk, all is told after it
       told_then : IsTrue (is_told a ops) → IsTrue (is_told b ops)
       told_then t = still_told (tells_on come.asks.kept ops) t
 
@@ -171,7 +171,7 @@ module _ (ops : List Operator) (n i : ℕ) (keys : List Key) (made : Piece × �
       group_none e none t = come.same e t ∙ left_none b (count_of c) (none (told_then t))
 
       module _ (e : World) (k : Asks b e ops n (ahead b ops i (gathered_at b n).last)) (count : length (gathered_at b n).groups ≡ count_of c) where
-        -- what both calls asked
+        -- a call for one more member after others asks in all for no more than the events ahead of the position allow
         pub comes_asks : Asks a e ops n (stands a ops n F c).ahead
         comes_asks = record {
           kept = keeps_then come.asks.kept k.kept;

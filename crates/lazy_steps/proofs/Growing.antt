@@ -42,14 +42,14 @@ module _ (w : World) (ops : List Operator) (i : ℕ) (by : List Link) where
   last_few at n [] l h = omega (arith, l)
   last_few at n (m ∷ ms) l h = (let r = last_few m.1.value (suc n) ms h.0.few h.1 in omega (arith, r))
 
-  -- a further member
+  -- members one after another with a next one at their end are members one after another
   next_push : (at : Position) (n : ℕ) (ms : List Member) (m : Member) → AreNext w ops i by at n ms → IsMember w ops i by (last_of at ms) (n + length ms) m.0 m.1.value → AreNext w ops i by at n (ms ++ m ∷ [])
   next_push at n [] m h new = (subst (λ (z : ℕ). IsMember w ops i by at z m.0 m.1.value) (omega arith) new, tt)
   next_push at n (x ∷ ms) m h new =
       let e : n + length (x ∷ ms) ≡ suc n + length ms = omega arith in
       (h.0, next_push x.1.value (suc n) ms m h.1 (subst (λ (z : ℕ). IsMember w ops i by (last_of x.1.value ms) z m.0 m.1.value) e new))
 
-  -- each of these members stands at the next binding after the one before it
+  -- of members one after another each stands at the next binding after the one before it
   member_in : (at : Position) (n : ℕ) (ms : List Member) (p : ℕ) → AreNext w ops i by at n ms → p < length ms
       → IsMember w ops i by (last_of at (take p ms)) (n + p) (get_or (labels_of ms) p []) (last_of at (take (suc p) ms))
   member_in at n [] p h l = absurd (omega (arith, l))
@@ -65,7 +65,7 @@ pub take_none : (ms : List Member) → passed ms 0 ≡ Start
 take_none [] = refl
 take_none (m ∷ ms) = refl
 
--- the one after them
+-- after all members of a list with one more at its end, the last position is that of the new one
 pub take_more : (at : Position) (ms : List Member) (m : Member) (n : ℕ) → n ≡ length ms → last_of at (take (suc n) (ms ++ m ∷ [])) ≡ m.1.value
 take_more at [] m zero e = refl
 take_more at [] m (suc n) e = absurd (omega (arith, e))
@@ -107,14 +107,14 @@ module _ {a b : World} (k : Keeps a b) (ops : List Operator) (bench : IsBench a 
         label_is = is;
       }
 
-  -- where there is none
+  -- where no binding is left after its last member, a memo that is marked as ended is a memo still
   pub members_end : (IsTrue (is_told a ops) → found (ahead a ops i (last_of Start m.pairs)) ≡ nothing) → AreMembers b ops i by (record { pairs = m.pairs; ended = true })
   members_end f = record {
     next = (members_kept k ops bench i by m h).next;
     all = λ e t. ap found last.ahead_is ∙ f (sym (told-kept k ops) ∙ t);
   }
 
--- no members
+-- a memo without members holds the first bindings of any operator
 pub no_members : (w : World) (ops : List Operator) (i : ℕ) (by : List Link) → AreMembers w ops i by no_pairs
 no_members w ops i by = record { next = tt; all = λ e t. cc }
 

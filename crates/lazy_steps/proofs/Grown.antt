@@ -54,11 +54,11 @@ module _ {S : Type 0} {view : S → View} {came_from : S → S → Type 0} {s t 
   pub grow_ran : Ran view came_from (operators p) n (ahead a (operators p) r (last_at a n)) s g t h
   grow_ran = ran_over ran (le_same _) right_below (λ z. (pairs_single (operators p) n l r tests fixed.typed within is z).1)
 
-  -- the memo as it was
+  -- the call of the right side leaves the memo of the join as it was
   same_memo : memo_at b n ≡ memo_at a n
   same_memo = (ran.asks.above n right_below).0
 
-  -- the members as they were
+  -- the members of the memo before the call are bindings of the right side
   old_good : AreMembers a (operators p) r (links_at (operators p) n) (memo_at a n)
   old_good = bench.members n l r tests is
 
@@ -71,7 +71,7 @@ module _ {S : Type 0} {view : S → View} {came_from : S → S → Type 0} {s t 
         memo_keeps b memos.items n stay (subst (λ (z : Kept (Rc Position Global)). length (memo_at b n).pairs ≤ length z.pairs) (sym here) more)
         (λ k l. ap (λ (z : Kept (Rc Position Global)). take k z.pairs) here ∙ prefix k l)
 
-    -- a bench
+    -- after the memo is changed, what is left is a sound bench
     memos_ran : Ran view came_from (operators p) n (ahead a (operators p) r (last_at a n)) s g t (record { buffers = h.buffers; seen = h.seen; memos = memos; walked = h.walked })
     memos_ran =
         ran_memo memos stay keeps

@@ -63,7 +63,7 @@ visit_same w ops bench s x k m n e =
     ∙ ap (visit_below m (tree [] (docs_of w s) none)) (sym (ap (of_buffer [] (λ (b : Buffer). place_of b x)) k.there))
     ∙ ap (λ (z : Machine). visit_below z (tree [] (docs_of w s) none) (place_in w s x)) (sym e)
 
--- the events after a match
+-- the events of a visit after a match in a source's buffer are those after that match in the world
 pub ahead_same : (w : World) (s : ℕ) (d : DescCursor) (k : IsMatchIn w s d) (m n : Machine) → n ≡ m → ahead_of w.view k.buffer m d ≡ match_ahead w s n d
 ahead_same w s d k m n e =
     ap (λ (z : Machine). ahead_of w.view k.buffer z d) (sym e) ∙ sym (ap (of_buffer [] (λ (b : Buffer). ahead_of w.view b n d)) k.there)
@@ -80,7 +80,7 @@ module _ (v v' : View) (bs : List Buffer) (seen : List (List (List KeyPart))) (m
       let c = ap cost e in
       omega (arith, a, c)
 
-  -- what it answers
+  -- what a call on the buffer of one source answers is the next match in the documents
   pub call_answer : (m : Machine) (es fs : List (Event (List ℕ))) → es ≡ fs → (top : ℕ) (r : Option DescCursor) → IfSome r (IsCursor y)
       → IfSome r (λ d. number_of_match v' y d < top) → Answers v x v' y m es r
       → GivesMatch (world v bs seen memos walked) (world v' (set bs s y) seen memos walked) ops m s fs top r

@@ -108,7 +108,7 @@ module _ (a b : World) (k : Keeps a b) (ops : List Operator) (bench : IsBench a 
       ap (λ (r : TolledRow). r ∷ rows_of b ops i rows) (cursors_kept a b k ops bench i x.place.value g.0.of).binding_is
       ∙ ap (λ (rs : List TolledRow). binding a ops i x.place.value ∷ rs) (rows_kept rows g.1)
 
--- of all bindings of an operator these were passed, and a cursor stands after them
+-- of all bindings of an operator `rows` were passed, and a cursor stands after them
 pub record Gathered (a b : World) (ops : List Operator) (i v : ℕ) (rows : List Labelled) (c : Position) : Type 0 where
   pub kept : Keeps a b
   pub above : KeepsAbove a b i
@@ -124,7 +124,7 @@ gathered_start a ops i v k c e = rw e record { kept = k; above = λ j l. (refl, 
 
 module _ {a b : World} (d : World) {ops : List Operator} {i v : ℕ} {rows : List Labelled} {c : Position} (g : Gathered a b ops i v rows c) (bench : IsBench b ops)
     (k : Asks b d ops i (ahead b ops i c)) where
-  -- what a walk has asked
+  -- a walk over all bindings and a last call ask for no more than all events of the operator allow
   pub gathered_lazy : AsksAtMost (telling a ops) (telling d ops) (length (events (docs_of a) ops i))
   gathered_lazy t f =
       let x = g.lazy t f in
@@ -174,7 +174,7 @@ module _ {a b : World} (d : World) {ops : List Operator} {i v : ℕ} {rows : Lis
         ∙ g.passed t;
   }
 
--- what no walk leaves
+-- where nothing is called, a walk through an operator leaves the bench as it was
 pub through_nothing : {S : Type 0} {view : S → View} {came_from : S → S → Type 0} {ops : List Operator} → ((x : S) → came_from x x) → (i : ℕ) (s : S) (g : Growing)
     → IsBench (world_of (view s) g) ops → RanThrough view came_from ops i s g s g
 through_nothing {S} {view} {came_from} {ops} same i s g bench = record {
@@ -308,7 +308,7 @@ module _ (ops : List Operator) (typed : IsTyped ops) (n : ℕ) (within : n < len
     labels t [] g = tt
     labels t (x ∷ xs) g = (g.0.label t, labels t xs g.1)
 
-    -- their bindings are those of the operator
+    -- the bindings at the sorted positions are the sorted bindings of the operator
     sorted_is : IsTrue (is_told a ops) → rows_of b ops i sorted ≡ sorted_rows (docs_of a) v desc (events (docs_of a) ops i)
     sorted_is t =
         ap (rows_of b ops i) is

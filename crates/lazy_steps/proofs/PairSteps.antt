@@ -243,7 +243,7 @@ module _ {v : View} {g : Growing} {p : Fixed} {n : ℕ} {c : Position} (can : Ca
     cursor = subst (λ (z : Position). IsOf (world_of v g) (operators p) l z) (sym e) tt;
   }
 
--- after a call, a position can step still
+-- where a position can step before a call, it can step after the call
 pub can_then : {v : View} {g : Growing} {p : Fixed} {l : ℕ} {x : Position} → CanStep v g p l x → (v' : View) (g' : Growing) → IsBench (world_of v' g') (operators p)
     → Keeps (world_of v g) (world_of v' g') → CanStep v' g' p l x
 can_then {v} {g} {p} {l} {x} can v' g' bench kept = record {
@@ -258,11 +258,11 @@ pub tests_fit : (ops : List Operator) → IsTyped ops → (n : ℕ) → n < leng
 tests_fit ops typed n within l r tests is =
     subst (λ (k : Kinds). AllByRecursion (IsTest k) tests) (sym (kinds_at ops typed n within (pairs_up l r tests) is)) (fit_at ops typed n within (pairs_up l r tests) is)
 
--- a call of the left side
+-- of a join: a call of its left side
 module _ {S : Type 0} {view : S → View} {came_from : S → S → Type 0} {s t : S} {g h : Growing} {p : Fixed} {x : Position} (l r n : ℕ) (tests : List Test) (can : CanStep (view s) g p l x)
     (within : n < length (operators p)) (is : shape_at (operators p) n ≡ pairs_up l r tests)
     (ran : Ran view came_from (operators p) l (ahead (world_of (view s) g) (operators p) l x) s g t h) where
-  -- what it leaves
+  -- what a call of the left side leaves, as a call on the join
   pub left_ran : Ran view came_from (operators p) n (left_events (world_of (view s) g) (operators p) l r tests x) s g t h
   left_ran =
       ran_over ran (left_costs (operators p) n l r tests can.fixed.typed within is (world_of (view s) g) (world_of (view s) g) can.bench x)
@@ -273,7 +273,7 @@ module _ {S : Type 0} {view : S → View} {came_from : S → S → Type 0} {s t 
 module _ {S : Type 0} {view : S → View} {came_from : S → S → Type 0} {s t : S} {g h : Growing} {p : Fixed} {x : Position} (l r n : ℕ) (tests : List Test) (can : CanStep (view s) g p l x)
     (row : IsTrue (has_row x)) (within : n < length (operators p)) (is : shape_at (operators p) n ≡ pairs_up l r tests)
     (ran : Ran view came_from (operators p) n (ahead (world_of (view s) g) (operators p) r (last_at (world_of (view s) g) n)) s g t h) where
-  -- what it leaves
+  -- what a call that brings one more member of the right side leaves, as a call on the join
   pub beside_ran : Ran view came_from (operators p) n (beside_events (world_of (view s) g) (operators p) l r tests x (last_at (world_of (view s) g) n)) s g t h
   beside_ran = record {
     came = ran.came;

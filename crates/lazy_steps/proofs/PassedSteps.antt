@@ -77,11 +77,11 @@ module _ (ops : List Operator) (n i : ℕ) (keys : List Key) (group : Option (Pi
       same_seen : up_to b n few ≡ up_to a n few
       same_seen = seen_kept a b kept ops bench n few h.within
 
-      -- what was told is told
+      -- where all is told after the call, all was told before it
       was_told : IsTrue (is_told b ops) → IsTrue (is_told a ops)
       was_told t = subst IsTrue (told-kept kept ops) t
 
-      -- what the key compares
+      -- the values of the key of the input's next binding are those of its parts
       key_is : IsTrue (is_told b ops) → map (part_value b) key ≡ key_values (docs_of a) keys (binding b ops i d)
       key_is t = val t ∙ ap (λ (z : Documents). key_values z keys (binding b ops i d)) same_docs
 
@@ -98,14 +98,14 @@ module _ (ops : List Operator) (n i : ℕ) (keys : List Key) (group : Option (Pi
           ap (λ (z : Documents). first_events z (up_to b n few) (ahead b ops i d)) same_docs
           ∙ ap (λ (z : List (List KeyValue)). first_events (docs_of a) z (ahead b ops i d)) same_seen
 
-      -- a key that was seen
+      -- where its key was seen, the input's next binding brings no binding of the operator
       pub old : IsTrue (is_told a ops) → was_seen key (take few (seen_at b n)) ≡ true
           → IsOld (docs_of a) keys (kept_row (docs_of a) keys (stops_over ops i keys) group) (up_to a n few) (ahead a ops i c) (ahead b ops i d)
       old t m =
           distinct_old (docs_of a) keys (kept_row (docs_of a) keys (stops_over ops i keys) group) (up_to a n few) (ahead a ops i c)
           (binding b ops i d) (ahead b ops i d) (f.found t) (same_test t ∙ m)
 
-      -- a key that was not
+      -- where its key was not seen, the input's next binding brings one of the operator
       fresh : IsTrue (is_told a ops) → was_seen key (take few (seen_at b n)) ≡ false
           → IsNew (docs_of a) keys (kept_row (docs_of a) keys (stops_over ops i keys) group) (up_to a n few) (ahead a ops i c) (binding b ops i d) (ahead b ops i d)
       fresh t m =
@@ -116,14 +116,14 @@ module _ (ops : List Operator) (n i : ℕ) (keys : List Key) (group : Option (Pi
       abbrev has_keys : TolledRow → TolledRow → Bool
       has_keys row r = same_values (key_values (docs_of a) keys row) (key_values (docs_of a) keys r)
 
-      -- after a binding whose key was seen, no event has other keys
+      -- no binding up to one whose key was seen has keys that were not seen
       still_before : IsTrue (is_told a ops) → was_seen key (take few (seen_at b n)) ≡ true → NoneBefore (docs_of a) keys (events (docs_of a) ops i) (up_to a n few) (ahead b ops i d)
       still_before t m = λ row e.
           h.before t row e
           ∙ found-only_no (has_keys row) (ahead a ops i c) (binding b ops i d) (ahead b ops i d) (f.found t)
           (other_key (key_values (docs_of a) keys row) (key_values (docs_of a) keys (binding b ops i d)) (up_to a n few) (same_test t ∙ m) e)
 
-      -- nor after one whose key was not, with that key
+      -- no binding up to one whose key was not seen has keys other than those seen and its own
       also_before : IsTrue (is_told a ops)
           → NoneBefore (docs_of a) keys (events (docs_of a) ops i) (up_to a n few ++ key_values (docs_of a) keys (binding b ops i d) ∷ []) (ahead b ops i d)
       also_before t = λ row e.
@@ -136,11 +136,11 @@ module _ (ops : List Operator) (n i : ℕ) (keys : List Key) (group : Option (Pi
           h.before t (binding b ops i d) (same_test t ∙ m)
           ∙ found-only_yes (has_keys (binding b ops i d)) (ahead a ops i c) (binding b ops i d) (ahead b ops i d) (f.found t) (same_values-refl (key_values (docs_of a) keys (binding b ops i d)))
 
-      -- sizes are the same
+      -- a call of the input leaves the size of the input as it was
       pub same_size : size b ops i ≡ size a ops i
       same_size = size_kept a b kept ops bench i
 
-      -- after a binding whose key was seen the next one is the same, and costs no more
+      -- after a binding whose key was seen the operator's next binding is the same, and costs no more
       past_old : IsTrue (is_told a ops) → was_seen key (take few (seen_at b n)) ≡ true
           → IsPast (past_first few (events (docs_of b) ops n)) (first_events (docs_of b) (up_to b n few) (ahead b ops i d))
       past_old t m =
@@ -222,7 +222,7 @@ module _ (ops : List Operator) (n i : ℕ) (keys : List Key) (group : Option (Pi
           | inr y ↦ subst (AllByRecursion (AllByRecursion (IsPart b))) (sym y) (all_push (AllByRecursion (IsPart b)) (seen_at b n) key (late.parts n) parts)
         ]
 
-        -- what is left is a bench
+        -- noting a key leaves a sound bench
         pub passed_bench : length walked.gathered.items ≡ length ops → HasGathered here ops → IsBench here ops
         passed_bench walks gathered = record {
           roots = late.roots;
@@ -270,7 +270,7 @@ module _ (ops : List Operator) (n i : ℕ) (keys : List Key) (group : Option (Pi
                   ∙ ap (take few) (first_seen t)
                   ∙ take_take few (length (seen_at b n)) (next_keys (docs_of b) [] (events (docs_of b) ops i)) (let j = h.within in let i = kept.longer n in omega (arith, j, i))
 
-          -- the binding stays
+          -- the input's next binding stays where a key is noted
           stay : Stays b here ops i d
           stay = cursors_kept b here kept_here ops late i d f.cursor
 

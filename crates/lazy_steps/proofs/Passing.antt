@@ -197,11 +197,11 @@ module _ (ops : List Operator) (n l r : ℕ) (tests : List Test) (typed : IsType
     none = λ s. refl;
   }
 
-  -- the pair with a member
+  -- the pair of the left position with the member at a place
   pub pair_in : (q q' : _) (p : ℕ) → p < length ms → IsIn w ops n (pairs_up l r tests) (Pair' q x q' (passed ms (suc p)) (suc p)) × IsTrue (has_row (passed ms (suc p)))
   pair_in q q' p less = (let m = member_at members p less in ((here, row, m.cursor, omega (arith, less), refl), m.row))
 
-  -- a position at that pair
+  -- the pair with the member at a place is a position of the join
   pub pair_is : (p : ℕ) → p < length ms → (z : Position) → IsPairAt ms x p z → IsOf w ops n z × IsTrue (has_row z)
   pair_is p less z at =
       let h = pair_in at.0 at.1 p less in
@@ -240,7 +240,7 @@ module _ (ops : List Operator) (n l r : ℕ) (tests : List Test) (typed : IsType
   ended_goes e =
       right_over ops n l r tests typed within is w w bench x (last_at w n) here row (asks_nothing w ops n (keeps_same w ops bench) (ahead w ops r (last_at w n))) (length ms) (λ t. members.all e t)
 
-  -- a member that came
+  -- a member of the right side that came by a call
   module _ (b : World) (k : Asks w b ops n (ahead w ops r (last_at w n))) (g : IsGrown w b ops n r true) where
     pub grown_few : suc (length ms) ≤ size w ops r
     grown_few = (let few = members_few members in let less = g.2.falls in omega (arith, few, less))
@@ -317,7 +317,7 @@ module _ {S : Type 0} {view : S → View} {came_from : S → S → Type 0} {s t 
           other_fails (operators p) n l r tests can.fixed.typed within is b ran.bench x (can_then can (view t) h ran.bench ran.asks.kept).cursor row (passed (memo_at b n).pairs (suc k)) m.cursor m.row
           (λ e. none u k (omega arith) less (m.label_is u ∙ e))
 
-  -- fewer may come
+  -- after one more member, fewer members may come
   pub more_falls : size b (operators p) r - length (memo_at b n).pairs < size a (operators p) r - length (memo_at a n).pairs
   more_falls =
       let same = size_kept a b ran.asks.kept (operators p) can.bench r in
@@ -332,7 +332,7 @@ module _ {S : Type 0} {view : S → View} {came_from : S → S → Type 0} {s t 
 
 module _ {v : View} {g : Growing} {p : Fixed} {n : ℕ} {c : Position} (can : CanStep v g p n c) (l r : ℕ) (tests : List Test) (is : shape_at (operators p) n ≡ pairs_up l r tests) where
   module _ (q q' : _) (x y : Position) (k : ℕ) (e : c ≡ Pair' q x q' y k) where
-    -- what is known at a pair
+    -- a position that is a pair is one in the shape of the join
     pub in_pair : IsIn (world_of v g) (operators p) n (pairs_up l r tests) (Pair' q x q' y k)
     in_pair = in_place can (pairs_up l r tests) is (Pair' q x q' y k) e
 
@@ -360,6 +360,6 @@ module _ {v : View} {g : Growing} {p : Fixed} {n : ℕ} {c : Position} (can : Ca
         (beside_number (world_of v g) (operators p) l r x (length (memo_at (world_of v g) n).pairs))) in_pair.4
         (pass_all (operators p) n l r tests can.fixed.typed can.op is (world_of v g) can.bench x in_pair.0 in_pair.1 k in_pair.3 none)
 
--- a pair that was made
+-- a position of a join that is not the first was made as a pair
 pub pair_made : {q q' : _} (ms : List Member) (x y z : Position) (p k : ℕ) → z ≡ Pair' q x q' y k → y ≡ passed ms (suc p) → k ≡ suc p → IsPairAt ms x p z
 pair_made {q} {q'} ms x y z p k made is one = (q, q', made ∙ ap (λ (c : Position). Pair' q x q' c k) is ∙ ap (Pair' q x q' (passed ms (suc p))) one)

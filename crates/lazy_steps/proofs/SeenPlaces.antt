@@ -6,7 +6,7 @@ use Rattle.std.proofs.lemmas.Bool.Decides.{nat_tests}
 use Rattle.lazy_binding.specs.declared.key.KeyPart.{KeyPart}
 use Rattle.lazy_binding.specs.Keys.{same_parts, was_seen}
 
--- neither of two
+-- where a choice of two fails, both fail
 neither : (a b : Bool) → (a || b) ≡ false → (a ≡ false) × (b ≡ false)
 neither true b h = cc
 neither false b h = (refl, h)
@@ -16,7 +16,7 @@ either : (a b : Bool) → b ≡ true → (a || b) ≡ true
 either true b h = refl
 either false b h = h
 
--- a lower number is below
+-- a number that is lower than another tests as lower
 pub below_is : (p q : ℕ) → p < q → nat_lt p q ≡ true
 below_is p q l = grind (arith, nat_tests, l)
 

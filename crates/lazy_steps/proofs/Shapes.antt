@@ -37,7 +37,7 @@ module _ (ops : List Operator) (typed : IsTyped ops) (n : ℕ) (within : n < len
       by_number-is (λ o. shape_size (bound_of w) (shape_of o)) 0 ops n (size-reads (bound_of w)) (typed.inputs n within)
       ∙ ap (λ (g : Shape). shape_size (bound_of w) g (size w ops)) e
 
-  -- whether it is single
+  -- whether an operator has a single binding, its shape tells from its inputs
   pub single_at : single ops n ≡ shape_single f (single ops)
   unfolding is_single_at
   single_at =

@@ -59,7 +59,7 @@ module _ (ops : List Operator) (typed : IsTyped ops) (n : ℕ) (within : n < len
     top_over w (Top t x) h ne = refl
     top_over w c h ne = absurd h
 
-    -- a buffer for it
+    -- a source that an operator reads has a buffer on the bench
     pub source_within : (w : World) → IsBench w ops → s < length w.buffers
     source_within w bench = subst (ReadsSource (length w.buffers)) e (all_at (HasSource (length w.buffers)) ops n within bench.enough)
 

@@ -75,7 +75,7 @@ next_sought {S} {view} {came_from} {ops} {s} {t} {g} {h} m k e src d top r sough
     subst (λ (z : Machine). Sought view came_from ops z src (match_ahead (world_of (view s) g) src z d) top s g t h r) e sought
 
 module _ (ops : List Operator) (n i start : ℕ) (path : Form) (out : ℕ) where
-  -- the shape
+  -- the shape of the getDescendants
   abbrev F : Shape
   F = visits_below i start path out
 
@@ -148,7 +148,7 @@ module _ (ops : List Operator) (n i start : ℕ) (path : Form) (out : ℕ) where
       visit_cost : cost visit ≡ cost places
       visit_cost = cost-nodes out (row_node (binding a ops i c) start) (binding a ops i c) places
 
-      -- what it asked
+      -- what a call of the visit asked, the events of the visit and those after it allow
       pub visit_asks : Asks a b ops n (visit ++ rest)
       visit_asks = record {
         kept = k;
@@ -233,7 +233,7 @@ module _ {v : View} {g : Growing} {p : Fixed} {n : ℕ} {c : Position} (can : Ca
   }
 
   module _ (q : _) (x : Position) (s : ℕ) (d : DescCursor) (e : c ≡ Found' s q x d) where
-    -- what is known at a match
+    -- a position that is a match is one in the shape of the getDescendants
     pub in_visit : IsIn (world_of v g) (operators p) n (visits_below i start path out) (Found' s q x d)
     in_visit = in_place can (visits_below i start path out) is (Found' s q x d) e
 
@@ -252,7 +252,7 @@ module _ {S : Type 0} {view : S → View} {came_from : S → S → Type 0} {s t 
       let w = world_of (view s) g in
       nodes_found out (row_node (binding w (operators p) i x) start) (binding w (operators p) i x) places ++ visit_events w (operators p) i start path out x
 
-  -- what it leaves
+  -- what a call of the visit leaves, as a call on the getDescendants
   pub visit_ran : Ran view came_from (operators p) n visit_whole s g t h
   visit_ran = record {
     came = asked.came;
@@ -282,7 +282,7 @@ module _ {S : Type 0} {view : S → View} {came_from : S → S → Type 0} {s t 
   here : IsIn (world_of (view s) g) (operators p) n (visits_below i start path out) (Found' src q x d)
   here = in_visit can i start path out is q x src d e
 
-  -- what it leaves
+  -- what a call of the visit after a match leaves, as a call on the getDescendants
   pub match_ran : Ran view came_from (operators p) n (stands (world_of (view s) g) (operators p) n (visits_below i start path out) (Found' src q x d)).ahead s g t h
   match_ran =
       visit_ran i start path out can.op is x (input_can can i start path out is q x src d e) here.1 src here.2 here.3 (match_ahead (world_of (view s) g) src (machine_of (table_of path)) d) asked
@@ -308,11 +308,11 @@ module _ {S : Type 0} {view : S → View} {came_from : S → S → Type 0} {s t 
       visit_found i start path out can.op is x (input_can can i start path out is q x src d e) here.1 src here.2 here.3 (match_ahead (world_of (view s) g) src (machine_of (table_of path)) d) asked
       (match_number (world_of (view s) g) src d)
 
--- from a binding of the input to the next one
+-- of a getDescendants: a call of its input from one binding to the next
 module _ {S : Type 0} {view : S → View} {came_from : S → S → Type 0} {s t : S} {g h : Growing} {p : Fixed} {n : ℕ} (i start : ℕ) (path : Form) (out : ℕ) (op : n < length (operators p))
     (is : shape_at (operators p) n ≡ visits_below i start path out) (x : Position) (can : CanStep (view s) g p i x)
     (ran : Ran view came_from (operators p) i (ahead (world_of (view s) g) (operators p) i x) s g t h) where
-  -- what that leaves
+  -- what a call of the input leaves, as a call on the getDescendants
   pub start_ran : Ran view came_from (operators p) n (visit_events (world_of (view s) g) (operators p) i start path out x) s g t h
   start_ran =
       ran_over ran (visits_costs (operators p) n i start path out can.fixed.typed op is (world_of (view s) g) (world_of (view s) g) can.bench x)

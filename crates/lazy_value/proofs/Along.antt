@@ -103,7 +103,7 @@ module _ (a b : BenchState) (k : KeepsBench a b) where
     held = λ v j e. held-kept n c h v m d (i.held v j (subst (λ (ops : List Operator). kinds ops m v ≡ Some j) ops_same e));
   }
 
-  -- a way stays one
+  -- a way from a cursor is one from it after a call
   IsWay-kept : (n : ℕ) (c : Position) → IsCursor a n c → (w : Way) → IsWay a n c w → IsWay b n c w
   IsWay-kept n c h (Top op at) i = i
   IsWay-kept n c h (Below' op at q above) i = (below-kept n c h op at i.0, IsWay-kept n c h above i.1)

@@ -32,7 +32,7 @@ use Rattle.lazy_value.proofs.Making.{cond_true}
 use Rattle.lazy_value.proofs.RowLabels.{Holds, Fits, each_first, rows_fit}
 use Rattle.plan_forms.proofs.Lasts.{valid_ends, last_is}
 
--- there is a binding among these events
+-- there is a binding among some events
 abbrev HasRow : RowEvents → Type 0
 HasRow es = (row : TolledRow) × ((rest : RowEvents) × (found es ≡ finds row rest))
 

@@ -35,7 +35,7 @@ module _ (st : BenchState) (op index input : ℕ) (c : Position) (p : Piece) (v 
     trees = λ rest. items_are (label_piece v) z rest ∙ ap (λ (n : Node). item 0 (label_at (documents st) n) (ends 0) rest) (ap source_node o.value);
   }
 
-  -- a node with all below it
+  -- a node with all below it is the head of its piece
   node_head : (s : ℕ) (x : Spot) → p ≡ var_piece v → IsOriginOf st input c v (node_origin s x) → IsHeadOf st op index c (Whole s x)
   node_head s x z o = record {
     head = o.origin;

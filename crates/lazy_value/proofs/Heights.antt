@@ -63,7 +63,7 @@ put_ranked x up op k e l m = subst (λ (n : ℕ). n ≤ k) (sym e) (max-le l m)
 pub member_ranked : (x : Head) (r : Rc Rest Global) (op : ℕ) (up : Rest) → head_rank x ≤ op → rest_rank r.value ≡ max op (rest_rank up) → KeepsRank op up (At (Item x r))
 member_ranked x r op up h e k l m = (omega (arith, h, l), put_ranked r.value up op k e l m)
 
--- a smaller rank
+-- a site that is within a rank is within a greater rank
 pub gives_ranked : (j k : ℕ) → j ≤ k → (r : Option Site) → GivesRanked j r → GivesRanked k r
 gives_ranked j k l None h = tt
 gives_ranked j k l (Some Root) h = absurd h
@@ -95,7 +95,7 @@ below_low v b h s p k =
 
 -- HEIGHTS
 
--- a spot below another
+-- a spot that a step reached is lower than the step's bound
 pub spot_lower : (a b : BenchState) (s : ℕ) (f : Forest) (there : Option (List ℕ)) (top : ℕ) (q : Spot) → IsSpotFor a b s f there top q → site_height b (Inside s q) < top
 spot_lower a b s f there top q h = h.falls
 
@@ -111,7 +111,7 @@ pub lower_more : (b : BenchState) (m n : ℕ) → m ≤ n → (r : Option Site) 
 lower_more b m n l None h = tt
 lower_more b m n l (Some x) h = omega (arith, l, h)
 
--- the trees after a member
+-- a member of the trees after another is no higher than that other
 pub ranked_after : (a b : BenchState) (x : Head) (k : ℕ) → roots_of b ≡ roots_of a → (r : Option Site) → GivesRanked k r → IsNoHigher (roots_of a + max (head_rank x) k) b r
 ranked_after a b x k e None h = tt
 ranked_after a b x k e (Some Root) h = absurd h

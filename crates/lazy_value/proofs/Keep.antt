@@ -46,7 +46,7 @@ module _ (a b : BenchState) (k : KeepsBench a b) where
   pub binding_kept : (op : ℕ) (c : Position) → IsCursor a (input_at (ops_of a) op) c → binding_at b (input_at (ops_of b) op) c ≡ binding_at a (input_at (ops_of a) op) c
   binding_kept op c h = ap (λ (n : ℕ). binding_at b n c) (input_kept op) ∙ (cursor_in op c h).binding
 
-  -- before the same events
+  -- an earlier cursor of an operator's input stands before the same events
   pub ahead_kept : (op : ℕ) (c : Position) → IsCursor a (input_at (ops_of a) op) c → ahead_at b (input_at (ops_of b) op) c ≡ ahead_at a (input_at (ops_of a) op) c
   ahead_kept op c h = ap (λ (n : ℕ). ahead_at b n c) (input_kept op) ∙ (cursor_in op c h).ahead
 
@@ -54,7 +54,7 @@ module _ (a b : BenchState) (k : KeepsBench a b) where
   pub number_kept : (op : ℕ) (c : Position) → IsCursor a (input_at (ops_of a) op) c → number_at b (input_at (ops_of b) op) c ≤ number_at a (input_at (ops_of a) op) c
   number_kept op c h = subst (λ (n : ℕ). number_at b n c ≤ number_at a (input_at (ops_of a) op) c) (sym (input_kept op)) (cursor_in op c h).number
 
-  -- events are the same
+  -- the events of each operator are the same after a call
   pub events_kept : (n : ℕ) → events_of b n ≡ events_of a n
   events_kept n = ap (λ (d : Documents). events d (ops_of b) n) k.documents ∙ ap (λ (ops : List Operator). events (documents a) ops n) ops_kept
 
@@ -158,7 +158,7 @@ module _ (a b : BenchState) (k : KeepsBench a b) where
     is = subst (λ (ops : List Operator). IsTrue (is_text (piece_at ops op index))) (sym ops_kept) h.is;
   }
 
-  -- the trees at a node
+  -- what is made of the node at a spot is the same after a call
   node-kept : {A : Type 0} (f : Documents → Node → A) (s : ℕ) (p : _) → IsSpotAt a s p → f (documents b) (node_at b s p) ≡ f (documents a) (node_at a s p)
   node-kept f s p h = ap (λ (d : Documents). f d (node_at b s p)) k.documents ∙ ap (f (documents a)) (k.spots s p h).node
 
@@ -179,7 +179,7 @@ module _ (a b : BenchState) (k : KeepsBench a b) where
   IsSite-kept (Inside s p) h = (k.spots s p h).spot
   IsSite-kept (Item x r) h = (IsHead-kept x h.0, IsRest-kept r.value h.1)
 
-  -- a place inside a source
+  -- the trees at a place inside a source, the first of them reached
   abbrev inside : Forest → Tolled
   inside f = item 0 (label_of_first f) (charged (first_kids f)) (charged (after_first f))
 

@@ -49,7 +49,7 @@ pub is_other : (b r : Bool) → r ≡ not b → r ≡ true → b ≡ false
 is_other true r e h = cc
 is_other false r e h = refl
 
--- a list without members
+-- a list whose length was tested to be zero has no members
 pub no_items : {X : Type 0} (xs : List X) (len : ℕ) (b : Bool) → len ≡ length xs → b ≡ (len == 0) → b ≡ true → xs ≡ []
 no_items [] len b e h t = refl
 no_items (x ∷ xs) len b e h t = let z : (len == 0) ≡ true = sym h ∙ t in absurd (grind (arith, nat_tests, e, z))
@@ -109,13 +109,13 @@ pub node_here : (p : Plan) (n v : ℕ) → IsMadeHere p n v → makes (op_at (pl
 node_here p n v (inl h) other = h
 node_here p n v (inr m) other = cc
 
--- the form of groups
+-- a groupBy by keys gathers groups
 pub groups_form : (i : ℕ) (keys : List Key) (piece : Piece) (out : ℕ) → (keys ≡ [] → ⊥) → form (over i (group_by keys piece out)) ≡ gathers_groups
 groups_form i [] piece out h = absurd (h refl)
 groups_form i (k ∷ keys) piece out h = refl
 
 module _ (st : BenchState) (typed : IsTyped (ops_of st)) (n : ℕ) (within : n < length (ops_of st)) (c : Position) (v : ℕ) where
-  -- a node of a source
+  -- a node variable of an operator is made of a node of a source
   pub node_made : (s : ℕ) (x : Spot) → kinds (ops_of st) n v ≡ Some a_node → IsSpotOf st n c v s x → IsOriginOf st n c v (Node s x)
   node_made s x k h = record {
     origin = h.spot;
@@ -149,7 +149,7 @@ module _ (st : BenchState) (typed : IsTyped (ops_of st)) (n : ℕ) (within : n <
   stands_over : (o : Operator) (f : Form) (d : Position) → o ≡ op_at (ops_of st) n → form o ≡ f → IsCursor st (input_of o) d → Stands st n f d
   stands_over o f d e h k = record { within = within; is = ap form (sym e) ∙ h; cursor = subst (λ (p : Operator). IsCursor st (input_of p) d) e k }
 
-  -- how the binding is made
+  -- the binding of a cursor is made of that of the cursor under it, as the operator does
   made_by : (o : Operator) (d : Position) → o ≡ op_at (ops_of st) n → IsUnder st n c (input_of o) d → IsMadeOf st (binding_at st n c) (input_of o) (binding_at st (input_of o) d) (ahead_at st (input_of o) d) o
   made_by o d e u = subst (λ (p : Operator). IsMadeOf st (binding_at st n c) (input_of o) (binding_at st (input_of o) d) (ahead_at st (input_of o) d) p) (sym e) u.made
 
@@ -159,7 +159,7 @@ module _ (st : BenchState) (typed : IsTyped (ops_of st)) (n : ℕ) (within : n <
   by_keys row below es i [] piece out some h = absurd (some refl)
   by_keys row below es i (k ∷ keys) piece out some h = h
 
-  -- a group
+  -- a groupBy by keys makes a group of the bindings of its input
   pub group_made : (i : ℕ) (keys : List Key) (piece : Piece) (out : ℕ) (d : Position) (number : ℕ) → over i (group_by keys piece out) ≡ op_at (ops_of st) n → (keys ≡ [] → ⊥) → (out == v) ≡ true
       → IsUnder st n c (input_at (ops_of st) n) d → IsGroup st n number d d 0 → IsOriginOf st n c v (Same n d number)
   group_made i keys piece out d number e some t under group =
@@ -179,7 +179,7 @@ module _ (st : BenchState) (typed : IsTyped (ops_of st)) (n : ℕ) (within : n <
         rank = omega arith;
       }
 
-  -- a concatenation
+  -- a concatenate makes a concatenation of its pieces
   pub list_made : (i : ℕ) (pieces : List Piece) (out : ℕ) (d : Position) → over i (concatenate pieces out) ≡ op_at (ops_of st) n → (out == v) ≡ true → IsUnder st n c i d → IsOriginOf st n c v (Joined n d)
   list_made i pieces out d e t u =
       let o : Operator = over i (concatenate pieces out) in
@@ -198,7 +198,7 @@ module _ (st : BenchState) (typed : IsTyped (ops_of st)) (n : ℕ) (within : n <
         rank = omega arith;
       }
 
-  -- an element
+  -- a createElement makes an element
   pub element_made : (i : ℕ) (label : List ℕ) (list out : ℕ) (d : Position) → over i (create_element label list out) ≡ op_at (ops_of st) n → (out == v) ≡ true → IsUnder st n c i d
       → IsOriginOf st n c v (Element n d)
   element_made i label list out d e t u =

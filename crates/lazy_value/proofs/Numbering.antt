@@ -39,7 +39,7 @@ module _ (ops : List Operator) (typed : IsTyped ops) (n : ℕ) (within : n < len
   pub inputs_below : AllByRecursion (λ i. i < n) (inputs_of o)
   inputs_below = subst (λ (p : Operator). AllByRecursion (λ i. i < n) (inputs_of p)) (sym e) (typed.inputs n within)
 
-  -- the kind of a variable
+  -- the kind of a variable of an operator, from the kinds of its inputs' variables
   pub kind_of : (v : ℕ) → kinds ops n v ≡ op_kinds o (kinds ops) v
   kind_of v = ap (λ (f : Kinds). f v) (kinds-of ops n o (sym e) inputs_below)
 
@@ -48,12 +48,12 @@ module _ (ops : List Operator) (typed : IsTyped ops) (n : ℕ) (within : n < len
   unfolding size
   size_of v = ap (λ (f : ℕ → ℕ). f v) (by_number-of op_size (λ v. 0) ops n o size-reads (sym e) inputs_below)
 
-  -- how many trees it has
+  -- how many trees a variable's value has, from its inputs' variables
   pub extent_of : (bound : ℕ → ℕ) (v : ℕ) → extent bound ops n v ≡ op_extent bound o (extent bound ops) v
   unfolding extent
   extent_of bound v = ap (λ (f : ℕ → ℕ). f v) (by_number-of (op_extent bound) (λ v. 0) ops n o (extent-reads bound) (sym e) inputs_below)
 
-  -- the label of its element
+  -- the label of a variable's element, from its inputs' variables
   pub labels_of : (v : ℕ) → labels ops n v ≡ op_labels o (labels ops) v
   unfolding labels
   labels_of v = ap (λ (f : Labels). f v) (by_number-of op_labels (λ v. None) ops n o labels-read (sym e) inputs_below)

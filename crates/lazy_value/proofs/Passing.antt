@@ -49,7 +49,7 @@ cond_le true x y h = cc
 cond_le false x y h = omega arith
 
 module _ (p : Plan) (typed : IsTyped (plan_value p).ops) (n : ℕ) (within : n < length (plan_value p).ops) (v : ℕ) where
-  -- from one input
+  -- a value that an operator has from one input is passed on from it
   passed : (o : Operator) → o ≡ op_at (plan_value p).ops n → (i : ℕ) → i < n → AmongInputs i o → HasUnder o
       → op_kinds o (kinds (plan_value p).ops) v ≡ kinds (plan_value p).ops i v
       → size (plan_value p).ops i v ≤ op_size o (size (plan_value p).ops) v

@@ -44,15 +44,15 @@ one_on xs i d h = rw add-one (drop-cons xs i d h)
 
 module _ (st : BenchState) (op next : ℕ) (at : Position) (up : Rest) (there : next < length (pieces_of (op_at (ops_of st) op))) (s : Stands st op makes_list at) (h : IsRest st up) (q : Rc (Unit {0}) Global)
     (ways : Ways) (along : IsWays st (input_at (ops_of st) op) at ways) where
-  -- the pieces from here on
+  -- the pieces from an index on are the piece there and those from the next index on
   pieces_on : drop next (pieces_of (op_at (ops_of st) op)) ≡ piece_at (ops_of st) op next ∷ drop (next + 1) (pieces_of (op_at (ops_of st) op))
   pieces_on = one_on (pieces_of (op_at (ops_of st) op)) next (text_piece []) there
 
-  -- their trees
+  -- the trees of the pieces from an index on are those of the piece there and of the later ones
   trees_on : pieces_trees st op at next (rest_trees st up) ≡ piece_items (documents st) (piece_at (ops_of st) op next) (binding_at st (input_at (ops_of st) op) at) (pieces_trees st op at (next + 1) (rest_trees st up))
   trees_on = ap (λ (ps : List Piece). all_items (documents st) ps (binding_at st (input_at (ops_of st) op) at) (rest_trees st up)) pieces_on
 
-  -- their number, each counting for so much
+  -- the count of the pieces from an index on is that of the piece there and of the later ones
   count_on : (of : ℕ → ℕ) → pieces_count of (drop next (pieces_of (op_at (ops_of st) op))) ≡ piece_count of (piece_at (ops_of st) op next) + pieces_count of (drop (next + 1) (pieces_of (op_at (ops_of st) op)))
   count_on of = ap (pieces_count of) pieces_on
 
@@ -133,7 +133,7 @@ rest_turns st x from ways q up t e h f =
     let k = subst (λ (r : Rest). IsRest st r) e h in
     subst (λ (r : Rest). Turns st st (rest_trees st r) (weight st r) t) (sym e) (f (record { stands = k.0; next = k.1; along = k.2; after = k.3 }))
 
--- after the last piece comes what is after them all
+-- after the last piece of a concatenation comes what is after them all
 pub over_pieces : (st : BenchState) (op next : ℕ) (at : Position) (up r : Rest) → next ≡ length (pieces_of (op_at (ops_of st) op)) → r ≡ up → IsRest st up
     → GoesOn st st (pieces_trees st op at next (rest_trees st up)) (suc (pieces_size st op next + weight st up)) r
 over_pieces st op next at up r n e h =

@@ -83,12 +83,12 @@ plain_below : (f : Tolled) → plain (trees_below f) ≡ first_kids (plain f)
 plain_below (ends t) = refl
 plain_below (item t x d r) = refl
 
--- the trees at a place
+-- the trees at a place without their tolls are those at it of the trees without theirs
 plain_at : (f : Tolled) (p : List ℕ) → plain (tolled_at f p) ≡ trees_at (plain f) p
 plain_at f [] = refl
 plain_at f (k ∷ p) = plain_at (trees_from k (trees_below f)) p ∙ ap (λ (g : Forest). trees_at g p) (plain_from k (trees_below f) ∙ ap (from k) (plain_below f))
 
--- whether there is one
+-- there is a tree with tolls where there is a tree without
 plain_some : (f : Tolled) → is_some (first_label (plain f)) ≡ is_item f
 plain_some (ends t) = refl
 plain_some (item t x d r) = refl
@@ -151,7 +151,7 @@ module _ (st : BenchState) (law : IsTolled st) (t : LabelledTree) (e : plan_docu
   has_is : (p : List ℕ) → has_place (alone t) p ≡ is_item (tolled_at (tolled st) p)
   has_is p = ap (λ (f : Forest). is_some (first_label f)) (ap (λ (f : Forest). trees_at f p) (sym document_is) ∙ sym (plain_at (tolled st) p)) ∙ plain_some (tolled_at (tolled st) p)
 
-  -- the label at a place
+  -- the label at a place of the tree with tolls is that of the document there
   label_is : (p : List ℕ) → is_item (tolled_at (tolled st) p) ≡ true → (u : LabelledTree) × (tree_at t p ≡ Some u) × (item_label (tolled_at (tolled st) p) ≡ u.label)
   label_is p h =
       let k = plain_label (tolled_at (tolled st) p) h in
@@ -171,7 +171,7 @@ module _ (a b : BenchState) (k : KeepsBench a b) where
   ops_same : ops_of b ≡ ops_of a
   ops_same = ap (λ (p : Plan). (plan_value p).ops) k.plan
 
-  -- the document is the same
+  -- the plan's document is the same after a call
   document_same : plan_document b ≡ plan_document a
   document_same = ap (λ (d : Documents). document (visited d) (ops_of b)) k.documents ∙ ap (λ (ops : List Operator). document (visited (documents a)) ops) ops_same
 
@@ -240,7 +240,7 @@ module _ (a b : BenchState) (k : KeepsBench a b) (law : IsTolled a) (f : Tolled)
   reached_none h t d p z = let i : q ≡ p = cc in ap (has_place (alone t)) (sym i) ∙ has_is a law t d q ∙ ap is_item (sym e) ∙ h
 
 module _ (a b : BenchState) (k : KeepsBench a b) (law : IsTolled a) (n : NodeId) (p : List ℕ) (h : IsAt a n p) where
-  -- no first child
+  -- where an identifier has no first child, there is no place of one
   pub down_none : Reaches a b (trees_below (here a n.site)) None → IsTrue (told a) → HasNoPlace a (Some (child_place p))
   down_none i y = reached_none a b k law (trees_below (here a n.site)) (child_place p) y (below_at a law n p h y) (i y)
 
@@ -248,11 +248,11 @@ module _ (a b : BenchState) (k : KeepsBench a b) (law : IsTolled a) (n : NodeId)
   pub down_some : (x : Site) (m : NodeId) → m.site ≡ x → StandsFor a b (trees_below (here a n.site)) x → IsTrue (told a) → IsThere a b (Some (child_place p)) m
   down_some x m z i y = reached_there a b k law (trees_below (here a n.site)) (child_place p) y (below_at a law n p h y) x m z i
 
-  -- no next sibling
+  -- where an identifier has no next sibling, there is no next place
   pub right_none : Reaches a b (trees_after (here a n.site)) None → IsTrue (told a) → HasNoPlace a (next_place p)
   right_none i y t d q z = reached_none a b k law (trees_after (here a n.site)) q y (after_here a law n p h y ∙ sym (at_right (tolled a) p q z)) (i y) t d q refl
 
-  -- the next sibling
+  -- a next sibling that was found stands at the next place
   pub right_some : (x : Site) (m : NodeId) → m.site ≡ x → StandsFor a b (trees_after (here a n.site)) x → IsTrue (told a) → IsThere a b (next_place p) m
   right_some x m z i y = goes (next_place p) refl
     where

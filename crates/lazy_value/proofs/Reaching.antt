@@ -23,7 +23,7 @@ charged_some : (f : Forest) → (f ≡ none → ⊥) → is_item (charged f) ≡
 charged_some none h = absurd (h refl)
 charged_some (tree x d r) h = refl
 
--- no trees
+-- where a source has no trees, there are none with tolls
 pub charged_none : (f : Forest) → f ≡ none → is_item (charged f) ≡ false
 charged_none f e = ap (λ (g : Forest). is_item (charged g)) e
 

@@ -19,7 +19,7 @@ use Rattle.lazy_value.proofs.Keep.{IsRest-kept, rest_trees-kept, weight-kept}
 pub tells_on : {a b : BenchState} → KeepsBench a b → TellsOn (told_by a) (told_by b)
 tells_on k = record { told = k.told; forward = k.forward }
 
--- of trees f the later trees g are left, after a toll that was paid
+-- of trees `f` the later trees `g` are left, after a toll that was paid
 pub record Paid (a b : BenchState) (f g : Tolled) : Type 0 where
   pub kept : KeepsBench a b
   pub trees : IsTrue (told a) → (t : ℕ) × (f ≡ dearer t g) × (IsTrue (forward a) → fills_of b ≤ fills_of a + t)
@@ -60,7 +60,7 @@ module _ {a b : BenchState} {f g : Tolled} (p : Paid a b f g) where
   pub paid_over : (IsTrue (told b) → is_item g ≡ false) → IsTrue (told a) → is_item f ≡ false
   paid_over h y = let q = p.trees y in ap is_item q.1 ∙ is_item_dearer q.0 g ∙ h (still_told (tells_on p.kept) y)
 
--- what no call leaves
+-- where no call was made, nothing was asked and the bench is as it was
 pub walked_same : {S : Type 0} {view : S → View} {came_from : S → S → Type 0} → ((s : S) → came_from s s) → (s : S) (b : Bench) → IsBenchOf (view s) b → (most : ℕ) → Walked view came_from s b s b most
 walked_same {S} {view} same s b h most = record { came = same s; bench = h; kept = keeps_on.same (state_of (view s) b); asks = λ y w. omega arith }
 
@@ -79,7 +79,7 @@ walked_then {S} {view} after {s} {t} {u} {b} {c} {d} came paid walked = record {
   asks = paid_asks paid walked.kept walked.asks;
 }
 
--- a rest of the same trees
+-- a walk goes on with a rest of the same trees
 pub on_same : (s : BenchState) (f : Tolled) (w : ℕ) (r : Rest) → IsRest s r → weight s r < w → f ≡ rest_trees s r → GoesOn s s f w r
 on_same s f w r h l e = record { rest = h; falls = l; trees = λ y. (0, e ∙ sym (dearer_zero (rest_trees s r)), λ v. omega arith) }
 
@@ -91,7 +91,7 @@ on_end a b k m asks f r h e = record {
   trees = λ y. (m, e y ∙ ap (dearer m) (sym (rest_trees-kept a b k r h)), λ v. asks y v);
 }
 
--- a node after a toll
+-- a node that stands for the first of trees stands for it before a toll too
 pub at_after : (a b : BenchState) → KeepsBench a b → (m : ℕ) (f g : Tolled) → (IsTrue (told a) → f ≡ dearer m g) → (n : Site) → StandsFor b b g n → StandsFor a b f n
 at_after a b k m f g e n h = record {
   node = h.node;

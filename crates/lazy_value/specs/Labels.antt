@@ -7,7 +7,7 @@ use Rattle.plan_core.specs.Unary.{Unary, project, group_by, concatenate, create_
 use Rattle.plan_core.specs.ByNumber.{by_number}
 use Rattle.plan_core.specs.TolledRows.{TolledRow}
 
--- of each variable that is bound the label of the element that it holds, or that it holds none
+-- for each variable that is bound, the label of the element that it holds, or that it holds none
 abbrev pub Labels : Type 0
 Labels = ℕ → Option (Option (List ℕ))
 

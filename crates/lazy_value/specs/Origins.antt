@@ -109,6 +109,6 @@ pub record IsHeadOf (st : BenchState) (op index : ℕ) (c : Position) (h : Head)
   pub trees : (rest : Tolled)
       → piece_items (documents st) (piece_at (ops_of st) op index) (binding_at st (input_at (ops_of st) op) c) rest ≡ item 0 (head_label st h) (head_trees st h) rest
 
--- from whatever cursor the ways are, the value of the variable in its binding is made there, and the ways then are from it too
+-- from whatever cursor some ways are, the value of a variable in its binding is made at the origin found, and the ways found are from it too
 abbrev pub FindsAlong : BenchState → ℕ → Ways → Found → Type 0
 FindsAlong st v ways f = (n : ℕ) (c : Position) → IsCursor st n c → IsWays st n c ways → IsOriginOf st n c v f.origin × IsWays st n c f.ways

@@ -22,9 +22,9 @@ use std::rc::Rc;
 /// Cursors on the way down from one, the lowest first: what the binding of one of them has, the uppermost has too.
 #[derive(Drop)]
 pub(crate) enum Way {
-    /// The uppermost.
+    /// The uppermost cursor of a way.
     Top { op: u32, at: Cursor },
-    /// One below others.
+    /// A cursor below others of a way.
     Below { op: u32, at: Cursor, above: Rc<Way> },
 }
 

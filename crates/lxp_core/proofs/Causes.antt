@@ -12,7 +12,7 @@ module _ (IsNamed IsOther : ℕ → Type 0) (u v w : View) (named : (s : ℕ) �
   rose_since (Failed s) h = (named s h.0, risen_before (u.faults s) (v.faults s) (w.faults s) (rose s) h.1)
   rose_since OutOfMemory h = tt
 
-  -- so has a refusal
+  -- a refusal by a later call has its cause since an earlier state
   pub cause_since : {T : Type 0} (r : Result T WalkFault) → HasCause IsNamed v w r → HasCause IsOther u w r
   cause_since (Ok x) h = tt
   cause_since (Err e) h = rose_since e h

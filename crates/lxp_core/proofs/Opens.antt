@@ -72,12 +72,12 @@ closed-without_holes forest (tree label kids rest) =
     ap (λ f. tree label f (closed forest (without_holes rest))) (closed-without_holes forest kids)
     ∙ ap (tree label kids) (closed-without_holes forest rest)
 
--- and its holes pass any test
+-- the holes of a list without holes pass any test
 pub AllHoles-without_holes : (test : HoleId → Bool) (f : Forest) → AllHoles test (without_holes f)
 AllHoles-without_holes test none = tt
 AllHoles-without_holes test (tree label kids rest) = (AllHoles-without_holes test kids, AllHoles-without_holes test rest)
 
--- and none stand side by side
+-- in a list without holes no two stand side by side
 pub IsApart-without_holes : (f : Forest) → IsApart (without_holes f)
 IsApart-without_holes none = tt
 IsApart-without_holes (tree label kids rest) = (IsApart-without_holes kids, IsApart-without_holes rest)

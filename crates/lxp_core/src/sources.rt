@@ -41,12 +41,12 @@ pub trait Sources {
             weight_of ((view self.new).weight s) (plain list.items) ≤ (view self.old).weight s hole) }
         ensures forward { IfOk result (λ list.
             (view self.old).forward s ≡ true → begins_with_hole (plain list.items) ≡ false) }
-        // The counts.
+        // How a fill changes the counts.
         ensures at_most_one { (view self.new).fills ≤ (view self.old).fills + 1 }
         ensures counted { OnOk result (HasRisen (view self.old).fills (view self.new).fills) }
         ensures counted_failed { IsErrOf result SourceFault.Failed
             → HasRisen (view self.old).fills (view self.new).fills }
-        // The causes.
+        // For which causes a fill fails.
         ensures failed { IsErrOf result SourceFault.Failed
             → HasRisen ((view self.old).faults s) ((view self.new).faults s) }
         ensures unknown { IsErrOf result SourceFault.UnknownHole → (view self.old).knows s hole ≡ false }

@@ -19,7 +19,7 @@ use Rattle.lxp_memory.proofs.CutLaws.{IsAnswer, answer-cut}
 abbrev to_last : List DocNode → HoleId → Bool
 to_last ns h = (hole_span h).to == count_of ns (hole_span h).node
 
--- such a hole, or none, before such holes
+-- a hole for children up to the last, or none, before holes for children up to the last
 last-hole_if : (ns : List DocNode) (wanted : Bool) (p : Span) (rest : Open) → (p.to == count_of ns p.node) ≡ true → AllHoles (to_last ns) rest → AllHoles (to_last ns) (hole_if wanted p rest)
 last-hole_if ns true p rest h k = (h, k)
 last-hole_if ns false p rest h k = k
@@ -62,7 +62,7 @@ both-pass f g nil p q = tt
 both-pass f g (node label kids rest) p q = (both-pass f g kids p.0 q.0, both-pass f g rest p.1 q.1)
 both-pass f g (hole id rest) p q = (both (f id) (g id) p.0 q.0, both-pass f g rest p.1 q.1)
 
--- and of known children too
+-- the holes of a list cut from the children from an index on stand for children from an index on
 pub rests-cut : (ns : List DocNode) (most : ℕ) (whole : Bool) (p : Span) → has_rest ns p ≡ true → AllHoles (λ h. has_span ns (hole_span h)) (cut ns (in_chunks most whole) p)
     → AllHoles (λ h. has_rest ns (hole_span h)) (cut ns (in_chunks most whole) p)
 rests-cut ns most whole p h known =

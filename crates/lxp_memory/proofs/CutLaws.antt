@@ -20,7 +20,7 @@ use Rattle.lxp_memory.proofs.NodeLaws.{run-suc, run-add}
 abbrev trees_in : List DocNode → HoleId → Forest
 trees_in ns h = span_trees ns (hole_span h)
 
--- which holes a document knows
+-- whether a document knows a hole
 abbrev known_in : List DocNode → HoleId → Bool
 known_in ns h = has_span ns (hole_span h)
 

@@ -66,7 +66,7 @@ within-push (x ∷ ns) n before after h more last zero lt = omega (arith, h zero
 within-push (x ∷ ns) n before after h more last (suc i) lt =
     omega (arith, within-push ns n before after (within-rest x ns (suc before) h) more last i (omega arith))
 
--- after placing a tree the children of each node are still within
+-- after placing a tree the children of each node are still among the nodes and the trees to be placed
 pub within-placed : (t : LabelledTree) (ns : List DocNode) (queue : List LabelledTree) (ns' : List DocNode) (queue' : List LabelledTree) → IsPlaced t ns queue ns' queue' → AreWithin ns (length (t ∷ queue))
     → AreWithin ns' (length queue')
 within-placed t ns queue ns' queue' p h =
@@ -103,7 +103,7 @@ rooted (n ∷ ns) root e h =
     let room : n.count ≤ length (drop n.ahead (trees_before ns [])) = omega (arith, h zero (omega arith), length-trees_before ns [], length-drop n.ahead (trees_before ns [])) in
     sym (length-take-le n.count (drop n.ahead (trees_before ns [])) room) ∙ one_tree _ root.label root.kids kids
 
--- and this child is the root
+-- where all trees are placed and the first is a document node above a root, its child is the root
 root_first : (ns : List DocNode) (root : LabelledTree) → first_tree (forest_of (trees_before ns [])) ≡ Some (record { label = []; kids = alone root }) → AreWithin ns 0 → span_trees ns root_span ≡ alone root
 root_first [] root e h = cc
 root_first (n ∷ ns) root e h =
@@ -130,7 +130,7 @@ pub record IsNodeAt (ns : List DocNode) (i : ℕ) (n : DocNode) : Type 0 where
   pub count : count_of ns i ≡ n.count
   pub label : label_of ns i ≡ n.label
 
--- reading a node
+-- a node that is read by its index is the node at that index
 pub node_at : (ns : List DocNode) (i : ℕ) (n : DocNode) → i < length ns → n ≡ get_or ns i n → IsNodeAt ns i n
 node_at [] i n h e = absurd (omega arith)
 node_at (x ∷ ns) zero n h e =
@@ -158,7 +158,7 @@ drop_twice [] (suc i) a = drop_nothing a ∙ sym (drop_nothing (suc i + a))
     drop_nothing (suc k) = refl
 drop_twice (x ∷ xs) (suc i) a = drop_twice xs i a ∙ (let e : suc (i + a) ≡ suc i + a = omega arith in ap (λ k. drop k (x ∷ xs)) e)
 
--- a run in two parts
+-- the trees of nodes side by side are those of a first part and those of the rest
 pub run-add : (ns : List DocNode) (i a b : ℕ) → run ns i (a + b) ≡ followed (run ns i a) (run ns (i + a) b)
 run-add ns i a b =
     let trees = trees_before ns [] in

@@ -18,7 +18,7 @@ abbrev pub kids_of : List DocNode → Choice → ℕ → Open
 kids_of ns choice i =
     if choice.whole then without_holes (run ns (first_of ns i) (count_of ns i)) else hole_if (wants_hole choice (count_of ns i)) (record { node = i; from = 0; to = count_of ns i }) nil
 
--- so many nodes, side by side from one on, before a list
+-- the list of so many nodes, side by side from one on, before another list
 abbrev pub children : List DocNode → Choice → ℕ → ℕ → Open → Open
 children ns choice i zero rest = rest
 children ns choice i (suc count) rest = node (label_of ns i) (kids_of ns choice i) (children ns choice (suc i) count rest)

@@ -7,7 +7,7 @@ ghost use Rattle.lxp_memory.specs.Choice.{choice_of, in_chunks, wants_hole};
 pub struct Choice {
     /// Whether the list begins with a hole.
     pub leads: bool,
-    /// For how many children this hole stands. One child at least is left.
+    /// For how many children the hole at the beginning of the list stands. One child at least is left.
     pub skipped: usize,
     /// How many children the list has at most.
     pub most: usize,

@@ -46,7 +46,7 @@ impl Document {
         ensures lighter { IfOk result (λ list.
             weight_of (document_weight self.now) (plain list.items) ≤ document_weight self.now hole) }
         ensures forward { IfOk result (λ list. begins_with_hole (plain list.items) ≡ false) }
-        // The causes.
+        // For which causes a fill fails.
         ensures never_failed { ¬ IsErrOf result SourceFault.Failed }
         ensures unknown { IsErrOf result SourceFault.UnknownHole → document_knows self.now hole ≡ false }
         ensures only_unknown { document_knows self.now hole ≡ false → IsErrOf result SourceFault.UnknownHole }

@@ -26,7 +26,7 @@ impl Circle {
         self.bytes.get(self.turn).copied().unwrap_or(0)
     }
 
-    /// Takes that byte.
+    /// Takes the byte whose turn it is.
     pub fn step(&mut self)
         ensures bytes { self.new.bytes.items ≡ self.old.bytes.items }
         ensures turn { self.new.turn ≡ turn_after (length self.old.bytes.items) self.old.turn }

@@ -143,14 +143,14 @@ impl Sources for MemSources {
         ensures forward { IfOk result (λ list.
             (memory_view self.old).forward s ≡ true → begins_with_hole (plain list.items) ≡ false) }
         ensures list { IfOk result (λ list. plain list.items ≡ next_list self.old s hole) }
-        // The counts.
+        // How a fill changes the counts.
         ensures at_most_one { (memory_view self.new).fills ≤ (memory_view self.old).fills + 1 }
         ensures counted { OnOk result (HasRisen (memory_view self.old).fills (memory_view self.new).fills) }
         ensures counted_failed { IsErrOf result SourceFault.Failed
             → HasRisen (memory_view self.old).fills (memory_view self.new).fills }
         ensures turn { OnOk result (turn_of self.new ≡ turn_after (length (choices_of self.old)) (turn_of self.old)) }
         ensures same_turn { OnErr result (turn_of self.new ≡ turn_of self.old) }
-        // The causes.
+        // For which causes a fill fails.
         ensures failed { IsErrOf result SourceFault.Failed
             → HasRisen ((memory_view self.old).faults s) ((memory_view self.new).faults s) }
         ensures others { (r : ℕ) → r ≢ s → (memory_view self.new).faults r ≡ (memory_view self.old).faults r }

@@ -11,7 +11,7 @@ module _ {S : Type 0} (step : S → ℕ → Option S) where
   after x y h None = refl
   after x y h (Some t) = h t
 
-  -- a run over two parts
+  -- a run over two parts goes over the first and from there over the second
   pub run_append : (x y : List ℕ) (s : S) → run_by step s (x ++ y) ≡ option_and_then (λ t. run_by step t y) (run_by step s x)
   run_append [] y s = refl
   run_append (b ∷ x) y s = after x y (λ t. run_append x y t) (step s b)
@@ -24,7 +24,7 @@ module _ {S : Type 0} (step : S → ℕ → Option S) where
   pub run_byte : (b : ℕ) (y : List ℕ) (s t : S) → step s b ≡ Some t → run_by step s (b ∷ y) ≡ run_by step t y
   run_byte b y s t e = ap (option_and_then (λ u. run_by step u y)) e
 
-  -- one byte alone
+  -- a run over one byte alone is its step
   pub run_one : (o : Option S) → option_and_then (λ t. run_by step t []) o ≡ o
   run_one None = refl
   run_one (Some t) = refl
@@ -46,12 +46,12 @@ module _ {S T : Type 0} (step : S → ℕ → Option S) (kept : S → T) (scan :
   scan_after None t b alike e = none_some t e
   scan_after (Some s) t b alike e = ap (option_map kept) (run_one step (step s b)) ∙ alike s refl ∙ ap (λ u. scan u b) (some_is _ _ e)
 
-  -- one byte more
+  -- after a text, a scan goes on with one byte more as the machine does
   pub scan_more : (first : S) (x : List ℕ) (t : T) (b : ℕ) → ((s : S) → run_by step first x ≡ Some s → option_map kept (step s b) ≡ scan (kept s) b)
       → LeadsTo step kept first x t → option_map kept (run_by step first (x ++ b ∷ [])) ≡ scan t b
   scan_more first x t b alike e = ap (option_map kept) (run_append step x (b ∷ []) first) ∙ scan_after (run_by step first x) t b alike e
 
-  -- one byte more of a text
+  -- after a prefix of a text, a scan goes on with the next byte as the machine does
   pub scan_prefix : (first : S) (x : List ℕ) (i : ℕ) (t : T) → ((s : S) (b : ℕ) → run_by step first (take i x) ≡ Some s → option_map kept (step s b) ≡ scan (kept s) b)
       → i < length x → LeadsTo step kept first (take i x) t → option_map kept (run_by step first (take (i + 1) x)) ≡ scan t (slice_index x i)
   scan_prefix first x i t alike h e =

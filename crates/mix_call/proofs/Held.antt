@@ -39,7 +39,7 @@ ends_weaker C D input input' before after w (Err OutOfMemory) (inl h) = inl h
 ends_weaker C D input input' before after w (Err OutOfMemory) (inr h) = inr (h.0, h.1, w h.0 h.1 h.2, h.3)
 
 module _ (old new : FilesView) (tables tables' : TablesView) (view catalog : List ℕ) (visits : VisitedAreMatches) (input input' : InputView) (before after : SinkView) where
-  -- so the talk ends
+  -- the talk of a run ends with this status
   abbrev Ended : ℕ → Type 0
   Ended status = TalkEnds (outside old tables) (outside new tables') view catalog input input' before after status
 

@@ -25,7 +25,7 @@ first_fault text lines i line before e cut inside same accepted fault =
     let here : IsFirstFault lines e = record { place = i; before = before; inside = inside; accepted = accepted; fault = subst (λ l. IsFault before l (i + 1) e) same fault } in
     subst (λ ls. IsFirstFault ls e) cut here
 
--- and the text is refused for it
+-- the text is refused for the fault of a line after accepted ones
 pub fault_refuses : (text : List ℕ) (lines : List (List ℕ)) (i : ℕ) (line : List ℕ) (before : List SourceSpec) (e : CatalogFault) → lines ≡ lines_of text → i < length lines → line ≡ get_or lines i []
     → Accepts [] (take i lines) before → IsFault before line (i + 1) e → Refuses text e
 fault_refuses text lines i line before (Line n) cut inside same accepted fault = first_fault text lines i line before (Line n) cut inside same accepted fault

@@ -19,7 +19,7 @@ no_comma : (y : List ℕ) → IsTrue (ends_word y) → has_comma y ≡ false
 no_comma [] h = refl
 no_comma (b ∷ y) h = grind (arith, nat_tests)
 
--- a comma in front
+-- a text that begins with a comma is that comma and the rest
 comma_first : (y : List ℕ) → has_comma y ≡ true → y ≡ 44 ∷ drop 1 y
 comma_first [] h = cc h
 comma_first (b ∷ y) h = ap (λ c. c ∷ y) (sym (number_is b 44 h))
@@ -63,7 +63,7 @@ pub others_of : {C : Type 0} (S : List ℕ → C → Type 0) (cs : List C) (x : 
 others_of S [] x h = absurd h
 others_of S (c ∷ cs) x h = (x, h, refl)
 
--- a column is the last one
+-- where no comma follows a column, it is the last one that was seen
 found_last : (x spelled y l : List ℕ) (done : List (List ℕ)) (j : ℕ) (seen : Seen) → SpellsLabel spelled l → x ≡ spelled ++ y → ended (with_last done l) j y ≡ seen → Found x done seen
 found_last x spelled y l done j seen s parts e = record {
   labels = l ∷ [];
@@ -73,7 +73,7 @@ found_last x spelled y l done j seen s parts e = record {
   parts = parts ∙ ap (λ (z : Seen). spelled ++ z.after) e;
 }
 
--- or others follow
+-- where a comma follows a column, other columns that were seen follow it
 found_more : (x spelled y l : List ℕ) (done : List (List ℕ)) (seen : Seen) → SpellsLabel spelled l → x ≡ spelled ++ y → has_comma y ≡ true → Found (drop 1 y) (with_last done l) seen → Found x done seen
 found_more x spelled y l done seen s parts comma h = record {
   labels = l ∷ h.labels;

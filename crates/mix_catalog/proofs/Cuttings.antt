@@ -19,7 +19,7 @@ pub mapped_some : {X Y : Type 0} (f : X → Y) (o : Option X) (y : Y) → option
 mapped_some f None y e = none_some y e
 mapped_some f (Some x) y e = (x, refl, some_is (f x) y e)
 
--- 1 to 9 digits
+-- what gives a number is 1 to 9 digits that write it
 number_of-found : (digits : List ℕ) (n : ℕ) → number_of digits ≡ Some n → IsNumber digits n
 number_of-found digits n e = by_case (nat_le 1 (length digits) && nat_le (length digits) 9) refl e
   where
@@ -32,14 +32,14 @@ number_of-found digits n e = by_case (nat_le 1 (length digits) && nat_le (length
         record { digits = written.0; some = grind (arith, nat_tests); short = grind (arith, nat_tests); means = written.1 }
     by_case false h f = none_some n f
 
--- are read as their number
+-- 1 to 9 digits are read as the number that they write
 pub number_of-given : (digits : List ℕ) (n : ℕ) → IsNumber digits n → number_of digits ≡ Some n
 number_of-given digits n h =
     let some : nat_le 1 (length digits) ≡ true = (let k : 1 ≤ length digits = h.some in grind (arith, nat_tests)) in
     let short : nat_le (length digits) 9 ≡ true = (let k : length digits ≤ 9 = h.short in grind (arith, nat_tests)) in
     rw (some, short) (number_after-given digits 0 h.digits ∙ ap Some h.means)
 
--- chunk and digits
+-- two words that give a chunk are chunk and its digits
 chunk_form-found : (a b : List ℕ) (n : ℕ) → chunk_form a b ≡ Some n → (a ≡ codes "chunk") × IsNumber b n
 chunk_form-found a b n e = by_case (bytes_eq a (codes "chunk")) refl e
   where
@@ -53,14 +53,14 @@ pub record CuttingIs (words : List (List ℕ)) (cutting : Cutting) : Type 0 wher
   pub are : words ≡ cutting_words digits cutting.deep
   pub numbered : IsNumber digits cutting.chunk
 
--- two words
+-- two words that give a cutting are those of one that is not deep
 two_words : (a b : List ℕ) (cutting : Cutting) → cutting_form a b false ≡ Some cutting → CuttingIs (a ∷ b ∷ []) cutting
 two_words a b cutting e =
     let m = mapped_some (cutting_with false) (chunk_form a b) cutting e in
     let parts = chunk_form-found a b m.0 m.1 in
     subst (CuttingIs (a ∷ b ∷ [])) m.2 (record { digits = b; are = ap (λ w. w ∷ b ∷ []) parts.0; numbered = parts.1 })
 
--- with deep after them
+-- two words with deep after them that give a cutting are those of a deep one
 deep_words : (a b c : List ℕ) (cutting : Cutting) (t : Bool) → bytes_eq c (codes "deep") ≡ t → cond t (cutting_form a b true) None ≡ Some cutting → CuttingIs (a ∷ b ∷ c ∷ []) cutting
 deep_words a b c cutting true h e =
     let m = mapped_some (cutting_with true) (chunk_form a b) cutting e in
@@ -81,7 +81,7 @@ cutting_of-found (a ∷ b ∷ c ∷ d ∷ words) cutting e = none_some cutting e
 pub cutting_found : (text : List ℕ) (cutting : Cutting) → cutting_of (words_of text) ≡ Some cutting → SpellsCutting cutting.chunk cutting.deep text
 cutting_found text cutting e = let h = cutting_of-found (words_of text) cutting e in record { digits = h.digits; words = h.are; numbered = h.numbered }
 
--- and a text that spells a cutting gives it
+-- a text that spells a cutting gives it
 pub cutting_given : (text : List ℕ) (chunk : ℕ) (deep : Bool) → SpellsCutting chunk deep text → cutting_of (words_of text) ≡ Some (cutting_with deep chunk)
 cutting_given text chunk true h = ap cutting_of h.words ∙ rw (number_of-given h.digits chunk h.numbered) refl
 cutting_given text chunk false h = ap cutting_of h.words ∙ rw (number_of-given h.digits chunk h.numbered) refl
@@ -101,11 +101,11 @@ chunk_found text n e = by_case (ends_word text) refl e
     by_case true h f = let m = chunk_of-found (words_of text) n f in (h, record { digits = m.0; words = m.1; numbered = m.2 })
     by_case false h f = none_some n f
 
--- and a text that spells a chunk gives it there
+-- a text that spells a chunk after columns gives it
 pub chunk_given : (text : List ℕ) (n : ℕ) → IsTrue (ends_word text) → SpellsCutting n false text → chunk_after text ≡ Some n
 chunk_given text n ends h = ap (λ t. cond t (chunk_of (words_of text)) None) ends ∙ ap chunk_of h.words ∙ number_of-given h.digits n h.numbered
 
--- the only word is columns
+-- words that pass the test are the one word columns
 pub columns_word : (words : List (List ℕ)) → is_columns_word words ≡ true → words ≡ codes "columns" ∷ []
 columns_word [] h = cc h
 columns_word (w ∷ []) h = ap (λ x. x ∷ []) (same_bytes w (codes "columns") h)

@@ -21,11 +21,11 @@ digit_small b d e = by_case (is_digit b) refl e
     by_case true h f = let same : b - 48 ≡ d = some_is (b - 48) d f in grind (arith, nat_tests)
     by_case false h f = none_some d f
 
--- one digit more
+-- a number below a power of ten, with one digit more, is below the next power of ten
 pub number_below : (n d i : ℕ) → n < 10 ^ i → d ≤ 9 → 10 * n + d < 10 ^ (i + 1)
 number_below n d i h k = let more : 10 ^ (i + 1) ≡ 10 * 10 ^ i = ap (λ j. 10 ^ j) (add-one i) ∙ pow-succ' 10 i in omega (arith, more)
 
--- the value of a digit
+-- the value of a digit is its byte less 48
 digit_value_is : (b : ℕ) → is_digit b ≡ true → digit_value b ≡ b - 48
 digit_value_is b h =
     let low : nat_lt b 48 ≡ false = grind (arith, nat_tests) in

@@ -42,7 +42,7 @@ new_last es key s named same none =
     let missing : position (λ k. bytes_eq key.items k.items) (keys_of es) ≡ None = found_by_name es key.items named ∙ ap (source_named (map (λ e. e.1) es)) same ∙ none in
     insert_entry-absent (λ a b. bytes_eq a.items b.items) key s es (Missing-position (λ k. bytes_eq key.items k.items) es missing).absent
 
--- and its key is its name
+-- entries whose keys are their names stay so with one more whose key is its name
 pub AreNamed-push : (es : List (Vec ℕ Global × SourceSpec)) (key : Vec ℕ Global) (s : SourceSpec) → AreNamed es → key.items ≡ s.name → AreNamed (es ++ (key, s) ∷ [])
 AreNamed-push es key s named same =
     map-append (λ e. e.0.items) es ((key, s) ∷ []) ∙ ap (λ xs. xs ++ key.items ∷ []) named ∙ ap (λ n. map (λ e. e.1.name) es ++ n ∷ []) same

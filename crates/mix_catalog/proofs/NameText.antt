@@ -12,7 +12,7 @@ use Rattle.mix_catalog.specs.Forms.{is_source_name}
 byte_ascii : (b : ℕ) → IsTrue (is_name_byte b) → b < 128
 byte_ascii b h = grind (arith, nat_tests)
 
--- so are all of them
+-- bytes of a name are all ASCII
 bytes_ascii : (xs : List ℕ) → IsTrue (list_all is_name_byte xs) → IsAscii xs
 bytes_ascii [] h i = omega arith
 bytes_ascii (x ∷ xs) h zero = byte_ascii x (and_parts (is_name_byte x) (list_all is_name_byte xs) h).0

@@ -11,7 +11,7 @@ any_named : (p : List ℕ → Bool) (xs : List Column) → list_any p (map (λ (
 any_named p [] = refl
 any_named p (x ∷ xs) = ap (λ t. p x.name || t) (any_named p xs)
 
--- by the first column and those after it
+-- no two columns have one name exactly where the first differs from those after it, and those differ too
 pub named_apart : (xs : List Column) (d : Column) → 1 ≤ length xs
     → are_apart (map (λ (c : Column). c.name) xs)
     ≡ (not (list_any (λ (c : Column). bytes_eq (get_or xs 0 d).name c.name) (take (length xs - 1) (drop 1 xs))) && are_apart (map (λ (c : Column). c.name) (take (length xs - 1) (drop 1 xs))))

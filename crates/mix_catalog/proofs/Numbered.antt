@@ -27,7 +27,7 @@ slice_get-push (x ∷ xs) y t (suc i) e = after (slice_get-push xs y t i e)
 at_first : {X : Type 0} (p : X → Bool) (xs : List X) (i : ℕ) → position_or_len p xs ≡ i → i < length xs → position p xs ≡ Some i
 at_first p xs i e inside = let found : nat_lt (position_or_len p xs) (length xs) ≡ true = grind (arith, nat_tests) in rw found (ap Some e)
 
--- is that of a longer list
+-- the first place that passes stays so in a longer list
 stays_first : {X : Type 0} (p : X → Bool) (xs : List X) (y : X) (i : ℕ) → position p xs ≡ Some i → position p (xs ++ y ∷ []) ≡ Some i
 stays_first p xs y i e = by_case (nat_lt (position_or_len p xs) (length xs)) refl e
   where

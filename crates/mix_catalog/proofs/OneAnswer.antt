@@ -16,18 +16,18 @@ use Rattle.mix_catalog.proofs.Spelled.{one_source}
 passed_once : {P : Type 0} (line : List ℕ) → is_passed line ≡ true → is_passed line ≡ false → P
 passed_once line h k = cc
 
--- no name is found and not
+-- no name is both found and not found
 found_once : {P : Type 0} (o : Option ℕ) → IsSome o → o ≡ None → P
 found_once o h e = let none : is_some o ≡ false = ap is_some e in let some : is_some o ≡ true = h in cc
 
--- a line adds one way
+-- a line adds to the sources before it in one way
 Adds-one : (before : List SourceSpec) (line : List ℕ) (a b : List SourceSpec) → Adds before line a → Adds before line b → a ≡ b
 Adds-one before line a b (inl (p, e)) (inl (q, f)) = e ∙ sym f
 Adds-one before line a b (inl (p, e)) (inr (q, s, h, t, f)) = passed_once line p q
 Adds-one before line a b (inr (p, s, h, t, e)) (inl (q, f)) = passed_once line q p
 Adds-one before line a b (inr (p, s, h, t, e)) (inr (q, r, k, u, f)) = e ∙ ap (λ x. before ++ x ∷ []) (one_source line s r h k) ∙ sym f
 
--- so do lines
+-- lines that are accepted add to the sources before them in one way
 Accepts-one : (lines : List (List ℕ)) (before a b : List SourceSpec) → Accepts before lines a → Accepts before lines b → a ≡ b
 Accepts-one [] before a b e f = e ∙ sym f
 Accepts-one (line ∷ lines) before a b (n, h, k) (m, i, j) = Accepts-one lines m a b (subst (λ x. Accepts x lines a) (Adds-one before line n m h i) k) j
@@ -93,11 +93,11 @@ SameFault e f = (e ≡ f) ⊎ (IsWantOfMemory e ⊎ IsWantOfMemory f)
 abbrev is_chunk : ℕ → Bool
 is_chunk n = nat_le 1 n && nat_le n 1000
 
--- a chunk that does
+-- a chunk from 1 to 1000 passes the test
 chunk_in : (n : ℕ) → IsChunk n → is_chunk n ≡ true
 chunk_in n (some, few) = grind (arith, nat_tests)
 
--- and one that does not
+-- a chunk that is not from 1 to 1000 fails the test
 chunk_out : (n : ℕ) → (IsChunk n → ⊥) → is_chunk n ≡ false
 chunk_out n h = at (is_chunk n) refl
   where
@@ -149,7 +149,7 @@ not_taken_once before line number e f (p, s, h, r) (q, t, k, u) = refused_once b
 abbrev Faults : List SourceSpec → List ℕ → ℕ → CatalogFault → Type 0
 Faults before line number e = IsWantOfMemory e ⊎ (((e ≡ Line number) × SpellsNone line) ⊎ IsNotTaken before line number e)
 
--- what a line's fault says
+-- a line's fault says that it fits no form or that its source is not taken, unless memory ran out
 fault_says : (before : List SourceSpec) (line : List ℕ) (number : ℕ) (e : CatalogFault) → IsFault before line number e → Faults before line number e
 fault_says before line number (Line n) h = inr (inl (ap Line h.0, h.2))
 fault_says before line number (Chunk n) h = inr (inr h)
@@ -171,7 +171,7 @@ fault_once before line number e f h k = by_cases (fault_says before line number 
     by_cases (inr (inr (q, t, k, u))) (inr (inl j)) = absurd (j.1 t k)
     by_cases (inr (inr i)) (inr (inr j)) = not_taken_once before line number e f i j
 
--- a prefix of a prefix
+-- a prefix of a longer prefix of a list is a prefix of the list
 take_twice : {X : Type 0} (xs : List X) (i j : ℕ) → i ≤ j → take i (take j xs) ≡ take i xs
 take_twice xs zero j h = refl
 take_twice [] (suc i) zero h = refl
@@ -193,7 +193,7 @@ earlier_fault lines e f h k before =
       fault = subst (λ x. IsFault h.before x (h.place + 1) e) (sym same) h.fault;
     })
 
--- faults at one place
+-- first faults at one place are the same, unless memory ran out
 same_place : (lines : List (List ℕ)) (e f : CatalogFault) (h : IsFirstFault lines e) (k : IsFirstFault lines f) → h.place ≡ k.place → SameFault e f
 same_place lines e f h k at =
     let there : Accepts [] (take h.place lines) k.before = subst (λ i. Accepts [] (take i lines) k.before) (sym at) k.accepted in

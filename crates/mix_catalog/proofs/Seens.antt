@@ -63,7 +63,7 @@ byte_stops (in_quotes k) b l e h = none_some l e
 byte_stops (in_escape k) b l e h = none_some l e
 byte_stops (after_quote k) b l e h = refl
 
--- a test that fails
+-- a test whose denial holds fails
 test_fails : (b : Bool) → IsTrue (not b) → b ≡ false
 test_fails true h = cc h
 test_fails false h = refl

@@ -55,7 +55,7 @@ record PrefixIs (words : List (List ℕ)) (prefix : Prefix) : Type 0 where
   pub are : words ≡ prefix_words prefix.name prefix.form
   pub named : IsName prefix.name
 
--- three words that say it
+-- three words that say a name and a form are source, the name and the word of the form
 three_words : (a b c : List ℕ) (prefix : Prefix) (t : Bool) → (bytes_eq a (codes "source") && is_source_name b) ≡ t → cond t (option_map (prefix_with b) (form_of c)) None ≡ Some prefix → PrefixIs (a ∷ b ∷ c ∷ []) prefix
 three_words a b c prefix true h e =
     let parts = and_parts (bytes_eq a (codes "source")) (is_source_name b) h in
@@ -171,7 +171,7 @@ record Placed (n at : ℕ) (text prefix rest : List ℕ) : Type 0 where
   pub prefix_is : take at text ≡ prefix
   pub rest_is : drop at text ≡ rest
 
--- it is found after the words before it
+-- what is spelled between words and blanks begins at the place after those words
 between_placed : (words : List (List ℕ)) (S B : List ℕ → Type 0) (text : List ℕ) (h : SpellsBetween words S B text) → Begins h.spelling → Placed (length words) (length h.prefix) text h.prefix (h.spelling ++ h.after)
 between_placed words S B text h begins =
     let cut : text ≡ h.prefix ++ begins.byte ∷ (begins.rest ++ h.after) = h.parts ∙ ap (λ x. h.prefix ++ (x ++ h.after)) begins.parts in
@@ -192,7 +192,7 @@ csv_given name file labels chunk after h =
     ∙ ap (λ ws. cond (is_columns_word ws) (columns_seen name file (columns_at after at)) None) (ap words_of p.prefix_is ∙ h.words_are)
     ∙ ap (columns_seen name file) seen ∙ ap (option_map (csv name file labels)) (chunk_given h.after chunk h.blank_after h.rest)
 
--- so is one of each kind
+-- a source of each kind that is spelled after its file is found there
 after_given : (name : List ℕ) (chunk : ℕ) (kind : SourceKind) (after : List ℕ) → SpellsAfter chunk kind after
     → form_after (form_in kind) name (file_of kind) after ≡ Some (record { name = name; chunk = chunk; kind = kind })
 after_given name chunk (Bracket file deep) after h = ap (option_map (bracket name file)) (cutting_given after chunk deep h)

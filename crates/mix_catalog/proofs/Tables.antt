@@ -22,7 +22,7 @@ use Rattle.mix_catalog.proofs.Cuttings.{same_bytes, mapped_some, number_of-given
 name_no_comma : (b : ℕ) → is_script_byte b ≡ true → b == 44 ≡ false
 name_no_comma b h = grind (arith, nat_tests)
 
--- and not the mark
+-- a byte of a name is not the mark
 name_no_mark : (b : ℕ) → is_script_byte b ≡ true → b == 33 ≡ false
 name_no_mark b h = grind (arith, nat_tests)
 
@@ -30,7 +30,7 @@ name_no_mark b h = grind (arith, nat_tests)
 first_in_name : (b : ℕ) → (is_letter b || b == 95) ≡ true → is_script_byte b ≡ true
 first_in_name b h = grind (arith, nat_tests)
 
--- so all of them are
+-- all bytes of an SQL name are bytes of a name
 sql_bytes : (xs : List ℕ) → IsTrue (is_sql_name xs) → IsTrue (list_all is_script_byte xs)
 sql_bytes [] h = cc
 sql_bytes (b ∷ bs) h =
@@ -44,12 +44,12 @@ no_commas (b ∷ bs) ys h k =
     let parts = and_parts (is_script_byte b) (list_all is_script_byte bs) h in
     All-cons (λ b. b == 44 ≡ false) b (bs ++ ys) (name_no_comma b parts.0) (no_commas bs ys parts.1 k)
 
--- nor in the mark
+-- no comma stands in the mark
 mark_plain : (never_null : Bool) → All (λ b. b == 44 ≡ false) (mark never_null)
 mark_plain true = All-cons (λ b. b == 44 ≡ false) 33 [] refl (All-nil (λ b. b == 44 ≡ false))
 mark_plain false = All-nil (λ b. b == 44 ≡ false)
 
--- so none in a column
+-- no comma stands in a column
 column_plain : (x : List ℕ) (c : Column) → SpellsColumn x c → All (λ b. b == 44 ≡ false) x
 column_plain x c (named, e) = subst (All (λ b. b == 44 ≡ false)) (sym e) (no_commas c.name (mark c.never_null) (sql_bytes c.name named) (mark_plain c.never_null))
 
@@ -85,7 +85,7 @@ named_found name never_null c e = by_case (is_sql_name name) refl e
     by_case true h f = (h, some_is _ c f)
     by_case false h f = none_some c f
 
--- there is a last byte where it is the mark
+-- a text whose last byte is the mark is not empty
 some_bytes : (x : List ℕ) → get_or x (length x - 1) 0 == 33 ≡ true → 1 ≤ length x
 some_bytes [] h = cc h
 some_bytes (b ∷ x) h = omega arith
@@ -119,7 +119,7 @@ pieces_given (c ∷ k ∷ cs) x done (spelled, others, s, (more, rest, comma), p
     ap (columns_after done) pieces ∙ ap (option_and_then (λ d. columns_after (done ++ d ∷ []) (slice_split (λ b. b == 44) more))) (column_given spelled c s)
     ∙ pieces_given (k ∷ cs) more (done ++ c ∷ []) rest ∙ ap Some (append_assoc done (c ∷ []) (k ∷ cs))
 
--- the next of pieces
+-- the columns from a piece on are that piece's column and those of the pieces after it
 pub next_piece : (items : List (Bor (List ℕ))) (i : ℕ) (d : Bor (List ℕ)) (done : List Column) (o : Option Column) → i < length items → o ≡ column_of (get_or items i d).now
     → columns_after done (drop i (map (λ (piece : Bor (List ℕ)). piece.now) items)) ≡ option_and_then (λ c. columns_after (done ++ c ∷ []) (drop (i + 1) (map (λ (piece : Bor (List ℕ)). piece.now) items))) o
 next_piece items i d done o inside e =
@@ -220,7 +220,7 @@ table_found (table ∷ a ∷ key ∷ b ∷ columns ∷ words) t e = by_case (byt
         subst (AreTableWords t.chunk t.table t.key t.columns) (sym said) (form_found table key columns words t f)
     by_case false h f = none_some t f
 
--- fewer words say none
+-- fewer than five words give no table
 pub few_words : (items : List (Bor (List ℕ))) → length items < 5 → table_of (map (λ (word : Bor (List ℕ)). word.now) items) ≡ None
 few_words [] h = refl
 few_words (a ∷ []) h = refl
@@ -243,7 +243,7 @@ five_words (a ∷ b ∷ c ∷ e ∷ f ∷ items) d t h k =
     ∙ ap (λ (ws : List (Bor (List ℕ))). cond t (table_form a.now c.now f.now (map (λ (word : Bor (List ℕ)). word.now) ws)) None)
     (sym (take_all (length (a ∷ b ∷ c ∷ e ∷ f ∷ items) - 5) items (omega arith)))
 
--- and a table's words say it
+-- the words of a table give it
 pub table_given : (chunk : ℕ) (table key : List ℕ) (columns : List Column) (words : List (List ℕ)) → AreTableWords chunk table key columns words → table_of words ≡ Some (table_with table key columns chunk)
 table_given chunk table key columns words h =
     ap table_of h.are

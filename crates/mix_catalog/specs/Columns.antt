@@ -30,7 +30,7 @@ pub record Seen : Type 0 where
 abbrev pub ended : List (List ℕ) → ℕ → List ℕ → Seen
 ended labels i x = record { labels = labels; end = i; after = x }
 
--- one more column
+-- columns with one more after them
 abbrev pub with_last : List (List ℕ) → List ℕ → List (List ℕ)
 with_last done l = done ++ l ∷ []
 
@@ -57,7 +57,7 @@ columns_at line at = columns_from [] start at (drop at line)
 abbrev pub seen_of : List ℕ → Columns → Seen
 seen_of line c = ended c.labels.items c.end (drop c.end line)
 
--- a comma stands in front
+-- whether a comma is the first byte of a text
 abbrev pub has_comma : List ℕ → Bool
 has_comma [] = false
 has_comma (b ∷ x) = b == 44

@@ -18,7 +18,7 @@ is_source_name word = nat_le 1 (length word) && list_all is_name_byte word
 abbrev pub form_of : List ℕ → Option Form
 form_of word = cond (bytes_eq word (codes "bracket")) (Some Bracket) (cond (bytes_eq word (codes "csv")) (Some Csv) (cond (bytes_eq word (codes "table")) (Some Table) None))
 
--- a name and a form
+-- the words before a file that have this name and this form
 abbrev pub prefix_with : List ℕ → Form → Prefix
 prefix_with name form = record { name = name; form = form }
 

@@ -8,7 +8,7 @@ use Rattle.mix_catalog.specs.Sources.{AreNumbered}
 abbrev pub AreNamed : List (Vec ℕ Global × SourceSpec) → Type 0
 AreNamed es = map (λ e. e.0.items) es ≡ map (λ e. e.1.name) es
 
--- at most 32 entries, whose keys are the names, and whose names are of one source each
+-- at most 32 entries, whose keys are the names of their sources, and no name is of two sources
 pub record IsKept (es : List (Vec ℕ Global × SourceSpec)) : Type 0 where
   pub keys : AreNamed es
   pub few : length es ≤ 32

@@ -15,15 +15,15 @@ use Rattle.mix_catalog.specs.Forms.{prefix_of, cutting_of, chunk_after, is_colum
 use Rattle.mix_catalog.specs.Tables.{table_of}
 use Rattle.mix_words.specs.Places.{place_of_word}
 
--- a bracket source
+-- the bracket source of a name, a file and a cutting
 abbrev pub bracket : List ℕ → List ℕ → Cutting → SourceSpec
 bracket name file cutting = record { name = name; chunk = cutting.chunk; kind = Bracket file cutting.deep }
 
--- a CSV source
+-- the CSV source of a name, a file, columns and a chunk
 abbrev pub csv : List ℕ → List ℕ → List (List ℕ) → ℕ → SourceSpec
 csv name file labels chunk = record { name = name; chunk = chunk; kind = Csv file labels }
 
--- a table source
+-- the table source of a name, a file, and what stands after the file
 abbrev pub table : List ℕ → List ℕ → TableAfter → SourceSpec
 table name file t = record { name = name; chunk = t.chunk; kind = Table file t.table t.key t.columns }
 

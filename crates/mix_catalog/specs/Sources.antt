@@ -17,11 +17,11 @@ source_named sources name = position (λ s. bytes_eq name s.name) sources
 abbrev pub AreNumbered : List SourceSpec → Type 0
 AreNumbered sources = (i : ℕ) (s : SourceSpec) → slice_get sources i ≡ Some s → IsName s.name × (source_named sources s.name ≡ Some i)
 
--- a chunk from 1 to 1000
+-- the chunk lies from 1 to 1000
 abbrev pub IsChunk : ℕ → Type 0
 IsChunk n = (1 ≤ n) × (n ≤ 1000)
 
--- at most 200 columns, none of them twice
+-- there are at most 200 columns, none of them twice
 abbrev pub AreColumns : List (List ℕ) → Type 0
 AreColumns columns = (length columns ≤ 200) × (are_apart columns ≡ true)
 
@@ -94,7 +94,7 @@ abbrev pub Answers : List ℕ → Result (List SourceSpec) CatalogFault → Type
 Answers text (Ok sources) = IsCatalog text sources
 Answers text (Err e) = Refuses text e
 
--- memory ran out
+-- the fault says that memory ran out
 abbrev pub IsWantOfMemory : CatalogFault → Type 0
 IsWantOfMemory (Line n) = ⊥
 IsWantOfMemory (Chunk n) = ⊥

@@ -33,7 +33,7 @@ abbrev pub columns_after : List Column → List (List ℕ) → Option (List Colu
 columns_after done [] = Some done
 columns_after done (piece ∷ pieces) = option_and_then (λ c. columns_after (done ++ c ∷ []) pieces) (column_of piece)
 
--- the columns of a word
+-- the columns that a word spells
 abbrev pub columns_in : List ℕ → Option (List Column)
 columns_in word = columns_after [] (slice_split (λ b. b == 44) word)
 

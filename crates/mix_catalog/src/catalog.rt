@@ -76,7 +76,7 @@ impl Catalog {
         ensures err { OnErr result (self.new ≡ self.old) }
     {
         let Ok(name) = Vec::from_slice(alloc, spec.name.bytes()) else {
-            // It is given to `drop`, so that how its parts are dropped is proved once.
+            // The source is given to `drop`, so that how its parts are dropped is proved once.
             drop(spec);
             return Err(AllocError);
         };

@@ -55,7 +55,7 @@ impl<T> Model for ColumnList<T> {
 }
 
 impl<T> ColumnList<T> {
-    /// These columns.
+    /// The list of these columns.
     pub fn new(columns: Vec<T>) -> ColumnList<T>
         ensures { result ≡ columns.items }
     {

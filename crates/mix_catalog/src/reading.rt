@@ -56,7 +56,7 @@ fn add_source(
     match check_source(catalog, &source, number) {
         Ok(()) => Ok(catalog.add(alloc, source)?),
         Err(fault) => {
-            // It is given to `drop`, so that how its parts are dropped is proved once.
+            // The source is given to `drop`, so that how its parts are dropped is proved once.
             drop(source);
             Err(fault)
         }

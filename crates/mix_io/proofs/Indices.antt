@@ -80,7 +80,7 @@ end_kept files ends path other i end d e apart = get_or-set_other ends i (positi
     one : position_or_len (is_at other) files ≡ i → other ≡ path
     one same = same_path (get_or files i d) (first_passes (is_at other) files i d found.0 same) found.1
 
--- so many ends of nothing
+-- the ends of so many files of which nothing was read
 abbrev pub no_ends : ℕ → List ℕ
 no_ends n = replicate n 0
 

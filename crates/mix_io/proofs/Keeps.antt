@@ -2,7 +2,7 @@
 use Rattle.std.proofs.Common.{◌∙◌, arith, refl}
 use Rattle.mix_io.specs.Views.{FilesView, KeepsFiles}
 
--- no call keeps everything
+-- where no call is made, files keep everything
 pub keeps_files_same : (view : FilesView) → KeepsFiles view view
 keeps_files_same view = record { told = λ _. refl; faults = λ _. omega arith; furthest = λ _. omega arith }
 

@@ -9,7 +9,7 @@ use Rattle.mix_io.specs.Input.{InputView, Gives, IsAtEnd}
 abbrev pub told : List ℕ → ℕ → ℕ → InputView
 told bytes from faults = record { left = Some (drop from bytes); taken = from; faults = faults }
 
--- so many of the bytes from a place on were copied into the beginning of room
+-- bytes from a place on that were copied into the beginning of room are given by the input
 pub given : (bytes piece rest : List ℕ) (from count faults : ℕ) → piece ≡ take count (drop from bytes) → from + count ≤ length bytes → length bytes < 2 ^ 64
     → (count ≡ 0 → (length (piece ++ rest) ≡ 0) ⊎ IsAtEnd (told bytes (from + count) faults)) → Gives (told bytes from faults) (told bytes (from + count) faults) count (piece ++ rest)
 given bytes piece rest from count faults is inside few end = record {

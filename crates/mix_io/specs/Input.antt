@@ -1,7 +1,7 @@
 -- What inputs mean to a caller, and what is taken of them.
 use Rattle.std.specs.Prelude.{◌≡◌, ◌⊎◌, ℕ, ◌+◌, ◌^◌, ◌<◌, ◌≤◌, List, [], ◌++◌, length, take, Option, Some, None, IfSome}
 
--- what an input means
+-- what an input means: the bytes that are left, how many were taken, and how often a take has failed
 pub record InputView : Type 0 where
   -- the bytes that are left, where they are told
   pub left : Option (List ℕ)

@@ -24,7 +24,7 @@ ReadsOnly path old new = (other : List ℕ) → ¬ (other ≡ path) → new.furt
 abbrev pub unread : (List ℕ → Option (List ℕ)) → FilesView
 unread told = record { told = told; faults = λ _. 0; furthest = λ _. 0 }
 
--- what a sink means
+-- what a sink means: the bytes that were written, and how often a write has failed
 pub record SinkView : Type 0 where
   -- the bytes that were written, where they are told
   pub written : Option (List ℕ)

@@ -19,7 +19,7 @@ bare_byte b y h =
     let comma : (b == 44) ≡ false = grind (arith, nat_tests) in
     rw (quote, bracket, comma) (omega arith)
 
--- bare bytes part nothing
+-- bare bytes before a text add no parts to it
 bare_parts : (l y : List ℕ) → IsTrue (list_all is_bare l) → parts Outside (l ++ y) ≡ parts Outside y
 bare_parts [] y h = refl
 bare_parts (b ∷ l) y h = let p = and_parts (is_bare b) (list_all is_bare l) h in bare_byte b (l ++ y) p.0 ∙ bare_parts l y p.1
@@ -49,7 +49,7 @@ quoted_parts l y =
     ap (parts Quoted) (append_assoc (flat_map escaped l) (34 ∷ []) y) ∙ inside_parts l (34 ∷ y) in
     omega (arith, inner)
 
--- a label parts nothing
+-- a label before a text adds no parts to it
 label_parts : (l y : List ℕ) → parts Outside (spelling l ++ y) ≡ parts Outside y
 label_parts l y = by_cases l (is_bare_label l) refl
   where

@@ -39,7 +39,7 @@ digits_bare (d ∷ ds) h = rw (digit_bare d h.0) (digits_bare ds h.1)
 number_bare : (n : ℕ) → n < 2 ^ 64 → IsBare (decimal n)
 number_bare n h = digits_bare (decimal n) (decimal_is_IsNumeral n h).0.1
 
--- a number is text
+-- the decimal digits of a number are UTF-8
 number_utf8 : (n : ℕ) → n < 2 ^ 64 → IsUtf8 (decimal n)
 number_utf8 n h = IsUtf8-from_ascii (decimal n) (IsAscii-decimal n h)
 

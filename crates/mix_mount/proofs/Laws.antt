@@ -16,7 +16,7 @@ in_memory_unfailed v (Bracket doc) h = refl
 in_memory_unfailed v (Csv doc) h = refl
 in_memory_unfailed v (Table doc) h = cc
 
--- that of a table failed as often as its table
+-- the mount of a table failed as often as its table
 pub table_failed : (v : TablesView) (m : Mount) (d : Declared) → table_of m ≡ Some d → faults v m ≡ v.faults d
 table_failed v Absent d h = cc
 table_failed v (Bracket doc) d h = cc
@@ -32,7 +32,7 @@ module _ (a : Mounting) (t : LabelledTree) (one : IsAlone a t) where
   pub alone_told : (view_of a).told 0 ≡ true
   alone_told = ap (λ (docs : List Mount). is_told a.tables (mount_at docs 0)) one.only ∙ one.told
 
-  -- and this is the tree
+  -- the document of a source that is alone is the tree
   pub alone_given : document_of (view_of a) 0 ≡ alone t
   alone_given = ap (λ (docs : List Mount). document a.tables (mount_at docs 0)) one.only ∙ one.given
 
@@ -41,7 +41,7 @@ module _ (a : Mounting) (t : LabelledTree) (one : IsAlone a t) where
   alone_unfailed zero = ap (λ (docs : List Mount). faults a.tables (mount_at docs 0)) one.only ∙ in_memory_unfailed a.tables one.mount one.in_memory
   alone_unfailed (suc s) = ap (λ (docs : List Mount). faults a.tables (mount_at docs (suc s))) one.only
 
-  -- it stays alone
+  -- a source that is alone stays alone
   pub alone_kept : (b : Mounting) → CameFrom a b → IsAlone b t
   alone_kept b came = record {
     mount = one.mount;

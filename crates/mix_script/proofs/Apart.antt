@@ -20,7 +20,7 @@ abbrev Agree : List ℕ → Names → Names → Type 0
 Agree client names others = (n : List ℕ) → names client n ≡ others client n
 
 module _ (t : LabelledTree) (client : List ℕ) (names others : Names) (same : Agree client names others) where
-  -- its acts ask for the same
+  -- an act of a client asks for the same goal where the client's names hold the same
   same_goal : (act : Act) → goal_of t names client act ≡ goal_of t others client act
   same_goal (Root name) = refl
   same_goal (Move way name from) = ap (option_and_then (place_to way)) (same from)
@@ -28,7 +28,7 @@ module _ (t : LabelledTree) (client : List ℕ) (names others : Names) (same : A
   same_goal (Fetch from) = refl
   same_goal (Print from) = refl
 
-  -- they are answered alike
+  -- a client's act is answered alike where its names hold the same
   same_answer : (mark : Option ℕ) (act : Act) → answer_of t names mark client act ≡ answer_of t others mark client act
   same_answer mark (Root name) = refl
   same_answer mark (Move way name from) = ap (λ o. if_held o (unless_marked mark (move_answer t (option_and_then (place_to way) o)))) (same from)
@@ -51,7 +51,7 @@ module _ (t : LabelledTree) (client : List ℕ) (names others : Names) (same : A
   same_named (Fetch from) v w e = same
   same_named (Print from) v w e = same
 
-  -- so does each answer
+  -- where a client's names hold the same, they do after each answer to the client
   same_after : (act : Act) (a : Answer) → Agree client (names_after t names client act a) (names_after t others client act a)
   same_after act answer.Node = same_named act (goal_of t names client act) (goal_of t others client act) (same_goal act)
   same_after act answer.None = same_named act None None refl
@@ -72,7 +72,7 @@ module _ (client other : List ℕ) (apart : bytes_eq other client ≡ false) (na
   apart_named (Fetch from) v = same
   apart_named (Print from) v = same
 
-  -- so does each answer to another client
+  -- an answer to another client leaves what a client's names hold
   apart_after : (t : LabelledTree) (act : Act) (a : Answer) → Agree client (names_after t names other act a) others
   apart_after t act answer.Node = apart_named act (goal_of t names other act)
   apart_after t act answer.None = apart_named act None

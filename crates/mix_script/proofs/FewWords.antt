@@ -38,7 +38,7 @@ pub record NoneFrom (xs : List ℕ) : Type 0 where
   pub apart : (n at : ℕ) → length (words_of xs) ≤ n → word_from true n at xs ≡ None
   pub within : (n at b : ℕ) → is_blank b ≡ false → length (words_of (b ∷ xs)) ≤ n + 1 → word_from false n at xs ≡ None
 
--- so it is in each text
+-- in each text, no word begins after as many as there are
 pub none_from : (xs : List ℕ) → NoneFrom xs
 none_from [] = record { apart = λ n at h. refl; within = λ n at b e h. refl }
 none_from (c ∷ cs) = by_case (is_blank c) refl (none_from cs)

@@ -9,7 +9,7 @@ use Rattle.std.specs.Map.{lookup}
 use Rattle.std.specs.BTreeMap.{BTreeMap, get, Updates, WritesThrough}
 use Rattle.mix_script.specs.Names.{NamesOf, with_name, HasNamed}
 
--- a client's names
+-- the names of one client, with what they hold
 abbrev Own : Type 0 → Type 0
 Own V = BTreeMap (List ℕ) V
 
@@ -27,7 +27,7 @@ module _ {V : Type 0} where
   own_in plain m [] = Some plain
   own_in plain m (b ∷ bs) = get (slice_cmp nat_cmp) m (b ∷ bs)
 
-  -- what all names hold
+  -- what the names of all clients hold
   abbrev held_in : Own V → BTreeMap (List ℕ) (Own V) → NamesOf V
   held_in plain m client name = maybe_held (own_in plain m client) name
 
@@ -48,7 +48,7 @@ module _ {V : Type 0} where
   own_plain plain own m [] = refl
   own_plain plain own m (b ∷ bs) = refl
 
-  -- another client has
+  -- where a client with a name gets other names, it has these and the others have theirs
   own_other : (plain own : Own V) (m n : BTreeMap (List ℕ) (Own V)) (client : List ℕ) → 0 < length client → Updates (slice_cmp nat_cmp) m n client (Some own)
       → HasOwn (own_in plain m) (own_in plain n) client own
   own_other plain own m n [] some u [] = absurd (omega (arith, some))
@@ -86,7 +86,7 @@ module _ {V : Type 0} where
   plain_named plain own m client name value none h =
       changed (own_in plain m) (own_in own m) [] own (own_plain plain own m) name value h ∙ ap (λ c. with_name (held_in plain m) c name value) (sym none)
 
-  -- its names have the entries that they had
+  -- where the client without a name keeps its entries, all names hold what they held
   pub plain_kept : (plain own : Own V) (m : BTreeMap (List ℕ) (Own V)) → own.entries ≡ plain.entries → held_in own m ≡ held_in plain m
   plain_kept plain own m e = unchanged (own_in plain m) (own_in own m) [] own (own_plain plain own m) (same_held plain own e)
 
@@ -102,7 +102,7 @@ module _ {V : Type 0} where
       changed (own_in plain m) (own_in plain n) client own (own_other plain own m n client some (w.3 (subst IsSome known refl))) name value
       (λ q. h q ∙ ap (λ o. cond (bytes_eq name q) value (maybe_held o q)) (own_known plain old m client some known))
 
-  -- its names have the entries that they had
+  -- where a client with a name keeps its entries, all names hold what they held
   pub other_kept : (plain old own : Own V) (m n : BTreeMap (List ℕ) (Own V)) (client : List ℕ) → 0 < length client → Some old ≡ get (slice_cmp nat_cmp) m client → own.entries ≡ old.entries
       → WritesThrough (slice_cmp nat_cmp) (slice_cmp nat_cmp client) m own n → held_in plain n ≡ held_in plain m
   other_kept plain old own m n client some known e w =

@@ -5,7 +5,7 @@ use Rattle.mix_script.specs.Names.{NamesOf, no_names, with_name}
 use Rattle.mix_script.specs.Holding.{Both, HoldBoth}
 
 module _ {V W : Type 0} where
-  -- names that hold nothing
+  -- names that hold nothing hold it in both ways
   pub hold_none : (With : V → W → Type 0) → HoldBoth With no_names no_names
   hold_none With client name = tt
 

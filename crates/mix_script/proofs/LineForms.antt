@@ -35,7 +35,7 @@ no_colon [] h = refl
 no_colon (b ∷ []) h = let e : b == 58 ≡ false = grind arith in rw e refl
 no_colon (b ∷ c ∷ xs) h = ap (option_map (λ name. b ∷ name)) (no_colon (c ∷ xs) (λ e. h (last_after b c xs ∙ e)))
 
--- nor in an empty text
+-- in an empty text, nothing is found before a colon
 pub empty_colon : (xs : List ℕ) → length xs < 1 → before_colon xs ≡ None
 empty_colon [] h = refl
 empty_colon (b ∷ xs) h = absurd (omega arith)
@@ -47,7 +47,7 @@ unread_select line words seen (Got l end) e never = absurd (never l end refl)
 unread_select line words seen (Unexpected at) e never = sym (ap (λ s. option_and_then (select_of words) (label_alone s)) e)
 unread_select line words seen Ends e never = sym (ap (λ s. option_and_then (select_of words) (label_alone s)) e)
 
--- nor where words stand after it
+-- nothing is asked for where words stand after the label
 pub followed_select : (line : List ℕ) (words : List (List ℕ)) (seen : Seen) (label : List ℕ) (end : ℕ) → seen ≡ got label end (drop end line) → no_words (words_of (drop end line)) ≡ false
     → None ≡ option_and_then (select_of words) (label_alone seen)
 followed_select line words seen label end e some =

@@ -21,7 +21,7 @@ word_before_blank text from end order free inside blank =
     sym (word_cut text from end [] (unless_empty (slice_range text from end)) (words_of (drop from text)) order inside free blank refl refl)
     ∙ ap (λ ws. unless_empty (slice_range text from end) ++ ws) (blank_passed text end inside blank)
 
--- so it is at the end of the text
+-- the word that begins at a place and ends with the text is the only one from there on
 pub word_at_end : (text : List ℕ) (from end : ℕ) → from ≤ end → Free is_blank (slice_range text from end) → end ≡ length text
     → words_of (drop from text) ≡ unless_empty (slice_range text from end) ++ words_of (drop end text)
 word_at_end text from end order free e =

@@ -59,7 +59,7 @@ record SelectWords (words : List (List ℕ)) (x y label given : List ℕ) : Type
   names : IsTrue (is_name x) × IsTrue (is_name y)
   label_is : given ≡ label
 
--- such words stand before the label
+-- words that ask for the select of a label are X = select Y
 select_words : (words : List (List ℕ)) (x y label given : List ℕ) → select_of words given ≡ Some (Select x y label) → SelectWords words x y label given
 select_words [] x y label given e = none_some _ e
 select_words (a ∷ []) x y label given e = none_some _ e
@@ -86,11 +86,11 @@ select_words (a ∷ is ∷ command ∷ b ∷ []) x y label given e = formed (is_
         }
 select_words (a ∷ b ∷ c ∷ d ∷ f ∷ words) x y label given e = none_some _ e
 
--- such words ask for the select of the label after them
+-- the words X = select Y ask for the select of the label after them
 words_select : (x y label : List ℕ) → IsTrue (is_name x) → IsTrue (is_name y) → select_of (x ∷ codes "=" ∷ codes "select" ∷ y ∷ []) label ≡ Some (Select x y label)
 words_select x y label h k = rw (h, k) refl
 
--- THE LABEL BEHIND THEM
+-- THE LABEL AFTER THEM
 
 -- what is seen after words with which a line asks for a select
 seen_select : (line : List ℕ) (at : ℕ) (x y label : List ℕ) (seen : Seen) → IsTrue (ends_blank true (take at line)) → Saw start at (drop at line) seen
@@ -135,7 +135,7 @@ blank_begins_none : (b : ℕ) → (b ≡ 32) ⊎ (b ≡ 9) → step start b ≡ 
 blank_begins_none b (inl e) = rw e refl
 blank_begins_none b (inr e) = rw e refl
 
--- and none that may end goes on with one
+-- no spelling that may end goes on with a blank
 blank_stops : (t : Spot) (l : List ℕ) (b : ℕ) → label_in t ≡ Some l → (b ≡ 32) ⊎ (b ≡ 9) → step t b ≡ None
 blank_stops start l b e h = none_some l e
 blank_stops (in_bare k) l b e (inl h) = rw h refl
@@ -213,6 +213,6 @@ spelled_is_asked line x y label h = spelled h.spelled refl
           | false ↦ λ k. k
         ]) refl
 
--- both ways
+-- a line asks for the select of a label exactly where it is of the form X = select Y LABEL
 pub selects_spelled : SelectsAreSpelled
 selects_spelled line x y label = (asked_is_spelled line x y label (place_of_word 4 line) refl, spelled_is_asked line x y label)

@@ -7,7 +7,7 @@ use Rattle.mix_script.specs.Steps.{steps_of}
 use Rattle.mix_script.specs.Transcript.{transcript}
 use Rattle.mix_script.specs.declared.step.Step.{Step}
 
--- a[b[d,e],c]
+-- the document of the worked walks: a[b[d,e],c]
 document : LabelledTree
 document = record { label = codes "a"; kids = tree (codes "b") (tree (codes "d") none (tree (codes "e") none none)) (tree (codes "c") none none) }
 
@@ -15,7 +15,7 @@ transcript_of : List (Option ℕ) → Result (List Step) ℕ → List ℕ
 transcript_of marks (Ok steps) = transcript document (codes "s" ∷ []) marks steps
 transcript_of marks (Err n) = []
 
--- a walk without marks
+-- the transcript of a walk without marks
 walked : transcript_of [] (steps_of (codes "r = root\nx = down r\ny = right x\nfetch y\nz = right y\nfetch x\nfetch z"))
     ≡ codes "node\nnode\nnode\nlabel c\nnone\nlabel b\nno node\n"
 unfolding document transcript_of is_utf8 chars encode
@@ -28,7 +28,7 @@ marked : transcript_of (None ∷ Some 0 ∷ None ∷ Some 0 ∷ Some 0 ∷ [])
 unfolding document transcript_of is_utf8 chars encode
 marked = refl
 
--- l[a,b,a,c]
+-- the document of the worked searches: l[a,b,a,c]
 siblings : LabelledTree
 siblings = record { label = codes "l"; kids = tree (codes "a") none (tree (codes "b") none (tree (codes "a") none (tree (codes "c") none none))) }
 

@@ -19,7 +19,7 @@ act_named x command y = option_map (λ way. Move way x y) (way_named command)
 abbrev pub move_form : List ℕ → List ℕ → List ℕ → List ℕ → Option Act
 move_form x is command y = cond (is_name x && bytes_eq is (codes "=") && is_name y) (act_named x command y) None
 
--- X = root
+-- the act of the words X = root
 abbrev pub root_form : List ℕ → List ℕ → List ℕ → Option Act
 root_form x is command = cond (is_name x && bytes_eq is (codes "=") && bytes_eq command (codes "root")) (Some (Root x)) None
 
@@ -27,7 +27,7 @@ root_form x is command = cond (is_name x && bytes_eq is (codes "=") && bytes_eq 
 abbrev pub reading_named : List ℕ → List ℕ → Option Act
 reading_named command y = cond (bytes_eq command (codes "fetch")) (Some (Fetch y)) (cond (bytes_eq command (codes "print")) (Some (Print y)) None)
 
--- fetch Y, and print Y
+-- the act of the words fetch Y or print Y
 abbrev pub read_form : List ℕ → List ℕ → Option Act
 read_form command y = cond (is_name y) (reading_named command y) None
 
@@ -40,7 +40,7 @@ act_of (x ∷ is ∷ command ∷ []) = root_form x is command
 act_of (x ∷ is ∷ command ∷ y ∷ []) = move_form x is command y
 act_of (x ∷ is ∷ command ∷ y ∷ w ∷ words) = None
 
--- X = select Y
+-- whether words are X = select Y
 abbrev pub is_select_form : List ℕ → List ℕ → List ℕ → List ℕ → Bool
 is_select_form x is command y = is_name x && bytes_eq is (codes "=") && bytes_eq command (codes "select") && is_name y
 

@@ -2,7 +2,7 @@
 use Rattle.std.specs.Prelude.{ℕ, List, Option, Some, None}
 use Rattle.mix_script.specs.Names.{NamesOf}
 
--- both are there, and go together; or neither is there
+-- both values are there and go together, or neither is there
 abbrev pub Both : {V W : Type 0} → (V → W → Type 0) → Option V → Option W → Type 0
 Both With None None = Unit {0}
 Both With None (Some w) = ⊥

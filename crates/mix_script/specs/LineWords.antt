@@ -4,7 +4,7 @@ use Rattle.mix_script.specs.Lines.{client_named}
 use Rattle.mix_script.specs.declared.words.LineWords.{LineWords}
 use Rattle.mix_script.specs.declared.words.LineWords.TheVariants.{Two, Three, Four, Other}
 
--- these are the words; or there are fewer than two, or more than four
+-- words are these two, three or four, or there are fewer than two or more than four of them
 abbrev pub AreWords : List (List ℕ) → LineWords → Type 0
 AreWords words (Two a b) = words ≡ a.now ∷ b.now ∷ []
 AreWords words (Three a b c) = words ≡ a.now ∷ b.now ∷ c.now ∷ []

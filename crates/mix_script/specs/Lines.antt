@@ -38,7 +38,7 @@ before_colon [] = None
 before_colon (b ∷ []) = cond (b == 58) (Some []) None
 before_colon (b ∷ c ∷ bs) = option_map (λ name. b ∷ name) (before_colon (c ∷ bs))
 
--- a script name
+-- the text, where it is a script name
 abbrev pub name_alone : List ℕ → Option (List ℕ)
 name_alone name = cond (is_name name) (Some name) None
 
@@ -52,7 +52,7 @@ client_of [] = None
 client_of (word ∷ []) = client_named word
 client_of (a ∷ b ∷ words) = None
 
--- the step of a client
+-- the step of a client that asks for an act
 abbrev pub step_with : List ℕ → Act → Step
 step_with client act = record { client = client; act = act }
 

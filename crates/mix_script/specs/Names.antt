@@ -10,7 +10,7 @@ use Rattle.mix_script.specs.declared.names.Names.{Names}
 abbrev pub NamesOf : Type 0 → Type 0
 NamesOf V = List ℕ → List ℕ → Option V
 
--- no name holds anything
+-- names of which none holds anything
 abbrev pub no_names : {V : Type 0} → NamesOf V
 no_names client name = None
 

@@ -29,7 +29,7 @@ impl Text {
         Text { bytes }
     }
 
-    /// The bytes.
+    /// The bytes of the text.
     pub fn bytes(&self) -> &[u8]
         ensures { result.now ≡ self.now }
     {

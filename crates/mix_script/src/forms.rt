@@ -72,7 +72,7 @@ fn read_move(
     Ok(None)
 }
 
-// `X = root`.
+// The act of the words `X = root`.
 fn read_root(
     alloc: Global,
     name: &[u8],
@@ -105,7 +105,7 @@ fn read_reading(alloc: Global, command: &[u8], from: &[u8]) -> Result<Option<Act
     }
 }
 
-// `fetch Y` and `print Y`.
+// The act of the words `fetch Y` and `print Y`.
 fn read_of(alloc: Global, command: &[u8], from: &[u8]) -> Result<Option<Act>, AllocError>
     ensures { IfOk result (λ act. act ≡ read_form command.now from.now) }
 {

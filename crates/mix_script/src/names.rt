@@ -9,7 +9,7 @@ use std::collections::BTreeMap;
 /// What the names of each client hold: a place of a tree, or whatever else stands for a node.
 #[derive(Drop)]
 pub struct Names<V> {
-    // Those of the client without a name, and those of the others.
+    // The names of the client without a name, and those of the others.
     plain: BTreeMap<Label, V>,
     clients: BTreeMap<Label, BTreeMap<Label, V>>,
 }

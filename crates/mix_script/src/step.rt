@@ -44,9 +44,9 @@ pub enum Act {
 /// What a line of a script comes to.
 #[derive(Drop)]
 pub enum LineRead {
-    /// It is passed over.
+    /// The line is passed over.
     Passed,
     Step(Step),
-    /// It is of no form.
+    /// The line is of no form.
     NoForm,
 }

@@ -86,7 +86,7 @@ abbrev after_lf : List ℕ → List ℕ
 after_lf [] = []
 after_lf (b ∷ bs) = cond (b == 10) bs (after_lf bs)
 
--- a line that is too long asks for one thing, however it goes on
+-- a text with too long a first line is of no form there, and then asks for what follows its first LF
 long_asks : (line more : List ℕ) → HasNoLf line → 1048577 < length line → heard (line ++ more) ≡ no_form ∷ heard (after_lf more)
 long_asks line [] none long = ap heard (append_nil line) ∙ heard_last line none (omega (arith, long)) ∙ long_line line (omega (arith, long))
 long_asks line (b ∷ bs) none long = by_lf (b == 10) refl (λ h. long_asks (line ++ b ∷ []) bs h (omega (arith, long, length-append line (b ∷ []))))

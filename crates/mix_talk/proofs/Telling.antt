@@ -106,7 +106,7 @@ module _ (Are Cost : List Answer → Type 0) (t : LabelledTree) (names : List (L
         prefix_of_more before.written after.written lines rest.0 _ (length lines + 0) rest.1 (subst (Appends before.written after.written) (whole_prefix lines) w.written),
       )
 
-  -- where a prefix of the next line was written too, a prefix of the tree's lines was
+  -- where a prefix of the next line was written, a prefix of the tree's lines was written
   within : StopsWithin Are Cost names heard before after → PrefixOn
   within w =
       let answers = w.answers ++ w.last in

@@ -83,7 +83,7 @@ bounded_plans tolls files tables unread before p q most valid made is way place 
     by_way Down down right = down
     by_way Right down right = right
 
--- so it is with the plan of a view
+-- where the tolls of valid plans are bounded, those of the plans of views are bounded too
 pub bounded_views : HasValidPlan → KeepsValidity → BoundedPlans → BoundedViews
 bounded_views valid keeps bounded before v q most accepted made is =
     let names = names_of_sources q.sources in bounded before (plan_for names v) q most (keeps (plan_of names v) (valid names v accepted)) made is

@@ -90,7 +90,7 @@ module _ (old : FilesView) (view catalog script : List ℕ) where
     run_reads_view = reads_view by_view (ScriptMayRead old script) old view catalog sources cat
 
     module _ (ops : List Operator) (gives : by_view.Gives old view sources ops) where
-      -- then its script
+      -- after the reading of its script a run has read only what it may
       pub run_reads_script : (mid new : FilesView) → ReadsAmong (RunMayRead old view catalog script) old mid → ReadsOnly script mid new → ReadsAmong (RunMayRead old view catalog script) old new
       run_reads_script mid new before only =
           reads_then by_view (ScriptMayRead old script) old view catalog sources cat ops gives mid new before (λ path. path ≡ script) (λ path h. inl h) (λ path no. only path no)

@@ -86,7 +86,7 @@ pub record IsAnsweredIn (w : Manner) (before after : TablesView) (q : Question) 
   -- over told tables the lines are those of all steps on the tree, under the marks that the answers show
   pub told : all_told before q.ops q.sources ≡ true → let marks = marks_of answers in
       AreMarks false q.tree no_names marks q.steps × (lines ≡ w.under marks)
-  -- else they are those of answers to all steps
+  -- over tables that are not all told the lines are those of answers to all steps
   pub untold : all_told before q.ops q.sources ≡ false → (length answers ≡ length q.steps) × (lines ≡ w.lines_of answers)
 
 -- the answers to the steps of a run, its status and lines, over tables that meant the first before and mean the second after

@@ -4,7 +4,7 @@ use Rattle.std.proofs.lemmas.Bool.Decides.{nat_tests}
 use Rattle.std.specs.Option.{MatchOption}
 use Rattle.mix_tree.specs.Forest.{Forest, none, LabelledTree, forest_of, first_label, first_tree, from}
 
--- from nothing on there is nothing
+-- of no trees none is left from any index on
 pub from_none : (i : ℕ) → from i none ≡ none
 from_none zero = refl
 from_none (suc i) = from_none i
@@ -20,7 +20,7 @@ from_within [] i t h e = absurd (omega arith)
 from_within (u ∷ ts) zero t h e = ap Some e
 from_within (u ∷ ts) (suc i) t h e = from_within ts i t (omega arith) e
 
--- what `get` finds
+-- the tree that `get` finds at an index is the first of the trees from there on
 pub first_tree-get : (ts : List LabelledTree) (i : ℕ) (found : Option LabelledTree)
     → MatchOption found (length ts ≤ i) (λ t. (i < length ts) × (t ≡ get_or ts i t)) → found ≡ first_tree (from i (forest_of ts))
 first_tree-get ts i None h = ap first_tree (sym (from_past ts i h))

@@ -47,7 +47,7 @@ ended s l e = record { bytes = []; utf8 = IsUtf8-nil; spot = s; label = l; runs 
 quotes_on : (l : List ℕ) → GoesOn (in_quotes l)
 quotes_on l = byte_on (in_quotes l) (after_quote l) 34 (omega arith) refl (ended (after_quote l) l refl)
 
--- from each spot some label goes on
+-- each spot goes on to the end of some label
 pub goes_on : (s : Spot) → GoesOn s
 goes_on start = byte_on start (in_bare (97 ∷ [])) 97 (omega arith) refl (ended (in_bare (97 ∷ [])) (97 ∷ []) refl)
 goes_on (in_bare l) = ended (in_bare l) l refl
@@ -85,7 +85,7 @@ unlabelled w l t r n s =
     let same : k.0 ≡ t = some_is k.0 t (sym k.1 ∙ r) in
     none_some l (sym n ∙ ap label_in (sym same) ∙ k.2)
 
--- nor does a prefix of it
+-- no prefix of a text that leads to no label's end spells a label
 within : (w z v l : List ℕ) (t : Spot) → run start w ≡ Some t → label_in t ≡ None → w ≡ z ++ v → SpellsLabel z l → ⊥
 within w z v l t r n e s =
     let k = spelled_reads z l s in
@@ -93,7 +93,7 @@ within w z v l t r n e s =
     let m = run_may_end v k.0 t (l, k.2) more in
     none_some m.0 (sym n ∙ m.1)
 
--- nor does more of the text, where the run stops
+-- where a run stops after a text that leads to no label's end, no longer text spells a label
 beyond : (w y l : List ℕ) (t : Spot) (m : ℕ) → run start w ≡ Some t → label_in t ≡ None → Stops t y → SpellsLabel (w ++ take m y) l → ⊥
 beyond w [] l t zero r n h s = unlabelled w l t r n (subst (λ z. SpellsLabel z l) (append_nil w) s)
 beyond w [] l t (suc m) r n h s = unlabelled w l t r n (subst (λ z. SpellsLabel z l) (append_nil w) s)
@@ -238,7 +238,7 @@ reads_inside x from inside bad =
         let parts : take (suc n) (drop from x) ≡ take 1 (drop from x) ++ take n (drop (from + 1) x) = ap (take (suc n)) one ∙ ap (λ r. take 1 r ++ take n (drop (from + 1) x)) (sym one) in
         no_text x from inside bad (take n (drop (from + 1) x)) (subst IsUtf8 parts u)
 
--- the same of a call
+-- where a call answers what is seen at a place where a character begins, its answer is that of the grammar
 pub call_reads : {E : Type 0} (x : List ℕ) (from : ℕ) (r : Result LabelRead E) → IsUtf8 x → from ≤ length x → IsCharBoundary x from → IfOk r (λ read. seen_from start from (drop from x) ≡ seen_of x read)
     → IfOk r (λ read. ReadsLabel x from read)
 call_reads x from (Ok read) u h b e = reads_at_boundary x from read u h b e

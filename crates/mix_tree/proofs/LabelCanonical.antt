@@ -32,26 +32,26 @@ piece_is b = by_cases (b == 34) (b == 92) (b == 10) (b == 9) refl refl refl refl
     by_cases false false false true p q r s = record { is = refl; written = λ ps. rw (p, q, r, s) refl; means = λ ps. ap (λ k. k ∷ meaning ps) (number_is b 9 s) }
     by_cases false false false false p q r s = record { is = rw (p, q) refl; written = λ ps. rw (p, q, r, s) refl; means = λ ps. refl }
 
--- they are pieces of the grammar
+-- the pieces of a label's bytes are pieces of the grammar
 pieces_are : (l : List ℕ) → ArePieces (pieces_of l)
 pieces_are [] = refl
 pieces_are (b ∷ l) = and_both (is_piece (piece_of b)) (list_all is_piece (pieces_of l)) (piece_is b).is (pieces_are l)
 
--- they are written with the four escapes
+-- the pieces of a label's bytes are written with the four escapes
 pieces_written : (l : List ℕ) → inside_quotes (pieces_of l) ≡ flat_map escaped l
 pieces_written [] = refl
 pieces_written (b ∷ l) = (piece_is b).written (pieces_of l) ∙ ap (λ r. escaped b ++ r) (pieces_written l)
 
--- they mean the label
+-- the pieces of a label's bytes mean the label
 pieces_mean : (l : List ℕ) → meaning (pieces_of l) ≡ l
 pieces_mean [] = refl
 pieces_mean (b ∷ l) = (piece_is b).means (pieces_of l) ∙ ap (λ r. b ∷ r) (pieces_mean l)
 
--- a label between quotes
+-- a label between quotes, with its escapes, spells that label
 pub quoted_spells : (l : List ℕ) → SpellsLabel (quoted l) l
 quoted_spells l = inr (pieces_of l, pieces_are l, ap (λ r. 34 ∷ r ++ 34 ∷ []) (sym (pieces_written l)), pieces_mean l)
 
--- the canonical spelling
+-- the canonical spelling of a label spells it
 pub spelling_spells : (l : List ℕ) → SpellsLabel (spelling l) l
 spelling_spells l = by_case (is_bare_label l) refl
   where

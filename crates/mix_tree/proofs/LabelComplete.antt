@@ -8,14 +8,14 @@ use Rattle.mix_tree.specs.Spelling.{is_bare, is_bare_label}
 use Rattle.mix_tree.specs.LabelGrammar.{Piece, plain, escape, is_plain, is_escape, is_piece, ArePieces, inside_quotes, escaped_byte, meaning, SpellsLabel}
 use Rattle.mix_tree.specs.LabelMachine.{Spot, start, in_bare, in_quotes, in_escape, after_quote, step, run, label_in}
 
--- bare characters after others
+-- a run inside a bare label goes on over bare characters and keeps them
 pub bare_goes_on : (l x : List ℕ) → IsTrue (list_all is_bare x) → run (in_bare l) x ≡ Some (in_bare (l ++ x))
 bare_goes_on l [] h = ap (λ r. Some (in_bare r)) (sym (append_nil l))
 bare_goes_on l (b ∷ x) h =
     let parts = and_parts (is_bare b) (list_all is_bare x) h in
     rw parts.0 (bare_goes_on (l ++ b ∷ []) x parts.1 ∙ ap (λ r. Some (in_bare r)) (append_assoc l (b ∷ []) x))
 
--- a bare label is read
+-- a bare label is read as itself
 reads_bare : (l : List ℕ) → IsTrue (is_bare_label l) → run start l ≡ Some (in_bare l)
 reads_bare [] h = cc
 reads_bare (b ∷ l) h =
@@ -31,7 +31,7 @@ plain_step b l h = by_cases (b == 34) (b == 92) _ _ _ h
     by_cases false true x y z h = cc
     by_cases false false x y z h = refl
 
--- an escape's second byte
+-- an escape's second byte is read as the byte that the escape means
 pub escape_step : (b : ℕ) (l : List ℕ) → IsTrue (is_escape b) → step (in_escape l) b ≡ Some (in_quotes (l ++ escaped_byte b ∷ []))
 escape_step b l h = rw h refl
 
@@ -51,7 +51,7 @@ quotes_go_on l (escape b ∷ ps) h =
 abbrev pub ReadsAs : List ℕ → List ℕ → Type 0
 ReadsAs x l = (s : Spot) × (run start x ≡ Some s) × (label_in s ≡ Some l)
 
--- each spelling is read
+-- each spelling is read as the label that it spells
 pub spelled_reads : (x l : List ℕ) → SpellsLabel x l → ReadsAs x l
 spelled_reads x l (inl (h, e)) = (in_bare x, reads_bare x h, ap Some e)
 spelled_reads x l (inr (ps, are, e, m)) = (
@@ -60,7 +60,7 @@ spelled_reads x l (inr (ps, are, e, m)) = (
   ap Some m,
 )
 
--- a label that may end
+-- a spot at which a label may end
 abbrev pub MayEnd : Spot → Type 0
 MayEnd s = (l : List ℕ) × (label_in s ≡ Some l)
 

@@ -18,6 +18,6 @@ tied_same a b h =
     let t : bytes_eq (order_key a) (order_key b) ≡ true = sym (is_eq-slice_cmp (order_key a) (order_key b)) ∙ ap is_eq h in
     same_keys (raised_number a) (raised_number b) a b ((bytes_eq-Decides (order_key a) (order_key b)).0 t)
 
--- the label order is one
+-- the label order is total, and equal for the same labels alone
 pub label_order_ok : IsLabelOrder
 label_order_ok = record { total = on_total order_key nat_list_cmp_total; same = λ a b. (tied_same a b, λ e. subst (λ c. label_order a c ≡ Equal) e (tied_itself (on_total order_key nat_list_cmp_total) a)) }

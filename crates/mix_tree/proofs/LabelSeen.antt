@@ -18,7 +18,7 @@ pub record SawLabel (s : Spot) (i : ℕ) (x : List ℕ) (l : List ℕ) (j : ℕ)
   pub place : j ≡ i + length spelled
   pub stops : Stops spot y
 
--- a byte that does not fit
+-- the text stops at a byte with which no spelling goes on
 pub record SawStop (s : Spot) (i : ℕ) (x : List ℕ) (j : ℕ) : Type 0 where
   pub prefix : List ℕ
   pub byte : ℕ
@@ -30,17 +30,17 @@ pub record SawStop (s : Spot) (i : ℕ) (x : List ℕ) (j : ℕ) : Type 0 where
   pub place : j ≡ i + length prefix
   pub stops : step spot byte ≡ None
 
--- the end in a spelling
+-- the text ends within a spelling
 abbrev pub SawEnd : Spot → List ℕ → Type 0
 SawEnd s x = (t : Spot) × (run s x ≡ Some t) × (label_in t ≡ None)
 
--- what was seen
+-- what was seen is so of the text: a label, a byte that does not fit, or an end within a spelling
 abbrev pub Saw : Spot → ℕ → List ℕ → Seen → Type 0
 Saw s i x (got l j y) = SawLabel s i x l j y
 Saw s i x (unexpected j) = SawStop s i x j
 Saw s i x ends = SawEnd s x
 
--- at the end of the text
+-- what is seen at the end of a text is so of the text
 at_end : (s : Spot) (i : ℕ) (o : Option (List ℕ)) → label_in s ≡ o → Saw s i [] (seen_at_end i o)
 at_end s i None e = (s, refl, e)
 at_end s i (Some l) e = record { spelled = []; spot = s; parts = refl; runs = refl; label = e; place = omega arith; stops = tt }
@@ -69,14 +69,14 @@ saw_more s t i b x (unexpected j) e h = record {
 }
 saw_more s t i b x ends e (u, r, l) = (u, run_byte step b x s t e ∙ r, l)
 
--- at a byte
+-- what is seen at a byte is so of the text from that byte on
 at_byte : (s : Spot) (i b : ℕ) (x : List ℕ) (o : Option Spot) (p : Option (List ℕ)) → step s b ≡ o → label_in s ≡ p → ((t : Spot) → Saw t (i + 1) x (seen_from t (i + 1) x))
     → Saw s i (b ∷ x) (or_stop (λ t. seen_from t (i + 1) x) (seen_at i (b ∷ x) p) o)
 at_byte s i b x None None e f h = record { prefix = []; byte = b; rest = x; spot = s; parts = refl; runs = refl; label = f; place = omega arith; stops = e }
 at_byte s i b x None (Some l) e f h = record { spelled = []; spot = s; parts = refl; runs = refl; label = f; place = omega arith; stops = e }
 at_byte s i b x (Some t) p e f h = saw_more s t i b x (seen_from t (i + 1) x) e (h t)
 
--- what is seen was seen
+-- what is seen of a text is so of the text
 pub saw : (x : List ℕ) (s : Spot) (i : ℕ) → Saw s i x (seen_from s i x)
 saw [] s i = at_end s i (label_in s) refl
 saw (b ∷ x) s i = at_byte s i b x (step s b) (label_in s) refl refl (λ t. saw x t (i + 1))

@@ -10,7 +10,7 @@ use Rattle.mix_tree.specs.LabelMachine.{Spot, start, in_bare, in_quotes, in_esca
 abbrev pub WritesPieces : List ℕ → List ℕ → List ℕ → Type 0
 WritesPieces x l y = (ps : List Piece) × ArePieces ps × (x ≡ 34 ∷ inside_quotes ps ++ y) × (meaning ps ≡ l)
 
--- the text up to a spot
+-- the text is what a spot has read of a spelling
 abbrev pub Writes : List ℕ → Spot → Type 0
 Writes x start = x ≡ []
 Writes x (in_bare l) = IsTrue (is_bare_label l) × (x ≡ l)
@@ -24,7 +24,7 @@ inside-push [] q = refl
 inside-push (plain b ∷ ps) q = ap (λ r. b ∷ r) (inside-push ps q)
 inside-push (escape b ∷ ps) q = ap (λ r. 92 ∷ b ∷ r) (inside-push ps q)
 
--- and as it is meant
+-- pieces with one more mean what they mean, with the meaning of that one after it
 pub meaning-push : (ps : List Piece) (q : Piece) → meaning (ps ++ q ∷ []) ≡ meaning ps ++ meaning (q ∷ [])
 meaning-push [] q = refl
 meaning-push (plain b ∷ ps) q = ap (λ r. b ∷ r) (meaning-push ps q)
@@ -34,7 +34,7 @@ meaning-push (escape b ∷ ps) q = ap (λ r. escaped_byte b ∷ r) (meaning-push
 plain_of : (b : ℕ) → (b == 34) ≡ false → (b == 92) ≡ false → is_plain b ≡ true
 plain_of b h k = rw (h, k) refl
 
--- one bare character more
+-- a bare label with one bare character more is a bare label
 bare-push : (l : List ℕ) (b : ℕ) → IsTrue (is_bare_label l) → IsTrue (is_bare b) → IsTrue (is_bare_label (l ++ b ∷ []))
 bare-push [] b h k = cc
 bare-push (c ∷ l) b h k = list_all-push is_bare (c ∷ l) b h k
@@ -52,7 +52,7 @@ plain_more x l b h (ps, are, e, m) = (
   meaning-push ps (plain b) ∙ ap (λ r. r ++ b ∷ []) m,
 )
 
--- one escape more
+-- the second byte of an escape after pieces makes one piece more, which means the escaped byte
 escape_more : (x l : List ℕ) (b : ℕ) → IsTrue (is_escape b) → WritesPieces x l (92 ∷ []) → WritesPieces (x ++ b ∷ []) (l ++ escaped_byte b ∷ []) []
 escape_more x l b h (ps, are, e, m) = (
   ps ++ escape b ∷ [],
@@ -65,13 +65,13 @@ escape_more x l b h (ps, are, e, m) = (
 byte_more : (x l : List ℕ) (b c : ℕ) → c ≡ b → WritesPieces x l [] → WritesPieces (x ++ b ∷ []) l (c ∷ [])
 byte_more x l b c same (ps, are, e, m) = (ps, are, text_more x ps b c same e, m)
 
--- the first byte
+-- the first byte is the text that its spot has read
 begin_writes : (x : List ℕ) (b : ℕ) → x ≡ [] → Gives (Writes (x ++ b ∷ [])) (step start b)
 begin_writes x b e =
     either _ (is_bare b) _ _ (λ h. (and_both (is_bare b) true h refl, ap (λ r. r ++ b ∷ []) e))
     (λ n. either _ (b == 34) _ _ (λ h. ([], refl, ap (λ r. r ++ b ∷ []) e ∙ ap (λ c. c ∷ []) (sym (number_is b 34 h)), refl)) (λ k. tt))
 
--- one byte more
+-- a text with one byte more is what the spot after that byte has read
 pub step_writes : (x : List ℕ) (s : Spot) (b : ℕ) → Writes x s → Gives (Writes (x ++ b ∷ [])) (step s b)
 step_writes x start b h = begin_writes x b h
 step_writes x (in_bare l) b h = either _ (is_bare b) _ _ (λ k. (bare-push l b h.0 k, ap (λ r. r ++ b ∷ []) h.1)) (λ n. tt)
@@ -87,7 +87,7 @@ after_step : (x y : List ℕ) (b : ℕ) (s : Option Spot) → Gives (Writes (x +
 after_step x y b None h k = tt
 after_step x y b (Some t) h k = subst (λ z. Gives (Writes z) (run t y)) (append_assoc x (b ∷ []) y) (k t h)
 
--- a text more
+-- a text with more after it is what the last spot of the run over it has read
 pub run_writes : (y x : List ℕ) (s : Spot) → Writes x s → Gives (Writes (x ++ y)) (run s y)
 run_writes [] x s h = subst (λ z. Writes z s) (sym (append_nil x)) h
 run_writes (b ∷ y) x s h = after_step x y b (step s b) (step_writes x s b h) (λ t k. run_writes y (x ++ b ∷ []) t k)

@@ -14,7 +14,7 @@ use Rattle.mix_tree.specs.LabelMachine.{Spot, start, in_bare, in_quotes, in_esca
 use Rattle.mix_tree.specs.LabelPieces.{escape_of}
 use Rattle.mix_tree.proofs.LabelComplete.{plain_step}
 
--- a byte that goes on
+-- where the spelling goes on with a byte, what is seen is what is seen after that byte
 pub seen_byte : (s t : Spot) (i b : ℕ) (y : List ℕ) → step s b ≡ Some t → seen_from s i (b ∷ y) ≡ seen_from t (i + 1) y
 seen_byte s t i b y e = ap (or_stop (λ u. seen_from u (i + 1) y) _) e
 
@@ -50,11 +50,11 @@ closed_seen l (b ∷ y) i = refl
 byte_seen : (x : List ℕ) (s t : Spot) (i : ℕ) → i < length x → step s (slice_index x i) ≡ Some t → seen_from s i (drop i x) ≡ seen_from t (i + 1) (drop (i + 1) x)
 byte_seen x s t i inside e = ap (seen_from s i) (drop_more x i 0 inside) ∙ seen_byte s t i (slice_index x i) (drop (i + 1) x) e
 
--- the closing quote
+-- at the closing quote the label is seen to end
 pub quote_seen : (x l : List ℕ) (end : ℕ) → end < length x → slice_index x end ≡ 34 → seen_from (in_quotes l) end (drop end x) ≡ got l (end + 1) (drop (end + 1) x)
 quote_seen x l end inside e = byte_seen x (in_quotes l) (after_quote l) end inside (ap (step (in_quotes l)) e) ∙ closed_seen l (drop (end + 1) x) (end + 1)
 
--- a backslash
+-- at a backslash between quotes an escape is seen to begin
 backslash_seen : (x l : List ℕ) (end : ℕ) → end < length x → slice_index x end ≡ 92 → seen_from (in_quotes l) end (drop end x) ≡ seen_from (in_escape l) (end + 1) (drop (end + 1) x)
 backslash_seen x l end inside e = byte_seen x (in_quotes l) (in_escape l) end inside (ap (step (in_quotes l)) e)
 
@@ -70,7 +70,7 @@ no_escape l b e = by_case (is_escape b) e
     by_case true f = none_some (escaped_byte b) (sym f)
     by_case false f = refl
 
--- an escape does
+-- a byte of an escape goes on after a backslash, as the byte that it means
 some_escape : (l : List ℕ) (b m : ℕ) → escape_of b ≡ Some m → step (in_escape l) b ≡ Some (in_quotes (l ++ m ∷ []))
 some_escape l b m e = by_case (is_escape b) e
   where
@@ -85,7 +85,7 @@ escape_wrong x l end inside e more n =
     backslash_seen x l end inside e ∙ ap (seen_from (in_escape l) (end + 1)) (drop_more x (end + 1) 0 more)
     ∙ ap (or_stop (λ t. seen_from t (end + 1 + 1) (drop (end + 1 + 1) x)) (unexpected (end + 1))) (no_escape l (slice_index x (end + 1)) n)
 
--- an escape
+-- an escape between quotes is seen as the byte that it means
 pub escape_seen : (x l : List ℕ) (end m : ℕ) → end < length x → slice_index x end ≡ 92 → end + 1 < length x → escape_of (slice_index x (end + 1)) ≡ Some m
     → seen_from (in_quotes l) end (drop end x) ≡ seen_from (in_quotes (l ++ m ∷ [])) (end + 2) (drop (end + 2) x)
 escape_seen x l end m inside e more n =
@@ -97,7 +97,7 @@ escape_seen x l end m inside e more n =
 pub not_plain : (b : ℕ) → is_plain b ≡ false → (b == 34) ≡ false → b ≡ 92
 not_plain b h k = grind (arith, nat_tests)
 
--- such a byte is ASCII
+-- a byte that does not stand for itself between quotes is ASCII
 pub not_plain_ascii : (b : ℕ) → is_plain b ≡ false → b < 128
 not_plain_ascii b h = grind (arith, nat_tests)
 
@@ -131,7 +131,7 @@ abbrev pub NoBare : List ℕ → Type 0
 NoBare [] = Unit {0}
 NoBare (b ∷ y) = is_bare b ≡ false
 
--- bare characters after others
+-- a bare label is seen up to the end of its bare characters
 bare_seen : (x y l : List ℕ) (i : ℕ) → IsTrue (list_all is_bare x) → NoBare y → seen_from (in_bare l) i (x ++ y) ≡ got (l ++ x) (i + length x) y
 bare_seen [] [] l i h k = let none : i ≡ i + length {A = ℕ} [] = omega arith in ap (λ m. got m i []) (sym (append_nil l)) ∙ ap (λ n. got (l ++ []) n []) none
 bare_seen [] (c ∷ y) l i h k =
@@ -179,7 +179,7 @@ passed x from end order bare inside h = by_cases (same_or_less from end order)
     by_cases (inl k) = k
     by_cases (inr e) = both (is_bare (slice_index x from)) bare (ap (λ n. is_bare (slice_index x n)) e ∙ h (subst (λ n. n < length x) e inside))
 
--- a bare label of a text
+-- the bare characters of a text from a place on are seen as a label
 pub bare_label_seen : (x : List ℕ) (from end : ℕ) → from ≤ end → end ≤ length x → from < length x → IsTrue (is_bare (slice_index x from)) → IsTrue (list_all is_bare (slice_range x from end))
     → (end < length x → is_bare (slice_index x end) ≡ false) → seen_from start from (drop from x) ≡ got (slice_range x from end) end (drop end x)
 bare_label_seen x from end order within inside first all h =

@@ -14,18 +14,18 @@ use Rattle.std.proofs.Math.Seq.{take-append_seam, drop-append_seam}
 use Rattle.std.proofs.lemmas.Grind.{merely}
 use Rattle.std.proofs.lemmas.List.{length-append, drop-replicate, length-take, length-drop, take-append-drop, get_or-take, get_or-drop, drop-drop}
 
--- numbers that are bytes
+-- each of these numbers is a byte
 abbrev AreBytes : List ℕ → Type 0
 AreBytes xs = (i : ℕ) → get_or xs i 0 < 256
 
--- the first of some bytes
+-- the first of some bytes are bytes
 take_bytes : (n : ℕ) (xs : List ℕ) → AreBytes xs → AreBytes (take n xs)
 take_bytes n xs h i = elim (cases_lt i n) [
   | inl l ↦ omega (arith, get_or-take n xs i 0 l, h i)
   | inr g ↦ (let over : length (take n xs) ≤ i = omega (arith, length-take n xs) in omega (arith, get_or-eq_default (take n xs) 0 over))
 ]
 
--- the last of some bytes
+-- the last of some bytes are bytes
 drop_bytes : (n : ℕ) (xs : List ℕ) → AreBytes xs → AreBytes (drop n xs)
 drop_bytes n xs h i = omega (arith, get_or-drop n xs i 0, h (n + i))
 

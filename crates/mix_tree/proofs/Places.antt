@@ -31,12 +31,12 @@ pub tree_at-step : (t : LabelledTree) (i : ℕ) (place : List ℕ) (kid : Option
 tree_at-step t i place None e = tree_at_nowhere (from i t.kids) place e
 tree_at-step t i place (Some u) e = tree_at_first (from i t.kids) u place e
 
--- a place after a place
+-- what stands at a place after a place is what stands at it from there
 pub trees_at-append : (f : Forest) (place more : List ℕ) → trees_at f (place ++ more) ≡ trees_at (trees_at f place) more
 trees_at-append f [] more = refl
 trees_at-append f (i ∷ place) more = trees_at-append (from i (first_kids f)) place more
 
--- the first child
+-- what stands at the place of the first child is the children of the tree there
 pub trees_at-child : (f : Forest) (place : List ℕ) → trees_at f (child_place place) ≡ first_kids (trees_at f place)
 trees_at-child f place = trees_at-append f place (0 ∷ [])
 

@@ -21,7 +21,7 @@ forests_from [] = []
 forests_from (None ∷ codes) = none ∷ forests_from codes
 forests_from (Some label ∷ codes) = with_label label (forests_from codes)
 
--- the first of these lists
+-- the first of some lists of trees; an empty one where there is none
 abbrev pub first_forest : List Forest → Forest
 first_forest [] = none
 first_forest (f ∷ others) = f

@@ -16,7 +16,7 @@ abbrev pub forest_of : List LabelledTree → Forest
 forest_of [] = none
 forest_of (t ∷ ts) = tree t.label t.kids (forest_of ts)
 
--- a tree alone
+-- the list of a tree alone
 abbrev pub alone : LabelledTree → Forest
 alone t = tree t.label t.kids none
 

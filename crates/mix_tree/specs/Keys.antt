@@ -15,7 +15,7 @@ key_var (label_key v) = v
 abbrev pub has_var : List Key → ℕ → Bool
 has_var keys v = list_any (λ k. key_var k == v) keys
 
--- the same key
+-- whether two keys are the same
 abbrev pub key_eq : Key → Key → Bool
 key_eq (node_key v) (node_key w) = v == w
 key_eq (node_key v) (label_key w) = false
@@ -46,7 +46,7 @@ abbrev pub same_key : Documents → Key → (ℕ → Node) → (ℕ → Node) �
 same_key docs (node_key v) a b = same_node (a v) (b v)
 same_key docs (label_key v) a b = bytes_eq (label_at docs (a v)) (label_at docs (b v))
 
--- they agree by all keys
+-- two ways to give each variable a node agree by all keys
 abbrev pub same_by : Documents → List Key → (ℕ → Node) → (ℕ → Node) → Bool
 same_by docs [] a b = true
 same_by docs (k ∷ keys) a b = same_key docs k a b && same_by docs keys a b

@@ -21,7 +21,7 @@ abbrev pub is_piece : Piece → Bool
 is_piece (plain b) = is_plain b
 is_piece (escape b) = is_escape b
 
--- such pieces alone
+-- each of the pieces is one of the grammar
 abbrev pub ArePieces : List Piece → Type 0
 ArePieces ps = IsTrue (list_all is_piece ps)
 

@@ -20,7 +20,7 @@ step (in_quotes l) b = cond (b == 34) (Some (after_quote l)) (cond (b == 92) (So
 step (in_escape l) b = cond (is_escape b) (Some (in_quotes (l ++ escaped_byte b ∷ []))) None
 step (after_quote l) b = None
 
--- the spot after a text
+-- the spot after a text, where a spelling goes on with all of it
 abbrev pub run : Spot → List ℕ → Option Spot
 run = run_by step
 
@@ -43,7 +43,7 @@ abbrev pub seen_at : ℕ → List ℕ → Option (List ℕ) → Seen
 seen_at i x None = unexpected i
 seen_at i x (Some l) = got l i x
 
--- the end of a text ends the label, or comes too early
+-- what is seen at the end of a text: the label that ends there, or that the text ends too early
 abbrev pub seen_at_end : ℕ → Option (List ℕ) → Seen
 seen_at_end i None = ends
 seen_at_end i (Some l) = got l i []

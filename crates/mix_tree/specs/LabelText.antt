@@ -3,7 +3,7 @@ use Rattle.std.specs.Prelude.{◌≡◌, ℕ, ◌≤◌, ◌-◌, List, length, 
 use Rattle.mix_tree.specs.declared.label_text.LabelText.{LabelText}
 use Rattle.mix_tree.specs.declared.label_text.LabelText.TheVariants.{Short, Long}
 
--- the bytes of a text
+-- the bytes of a text that lies in place or on the heap
 abbrev pub text_bytes : LabelText → List ℕ
 text_bytes (Short len bytes) = take len bytes
 text_bytes (Long text) = string_bytes text.value

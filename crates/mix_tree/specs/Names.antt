@@ -7,6 +7,6 @@ use Rattle.mix_tree.specs.Spelling.{is_between}
 abbrev pub is_name_byte : ℕ → Bool
 is_name_byte b = is_between 97 122 b || is_between 65 90 b || is_between 48 57 b || b == 95 || b == 45
 
--- one or more of these
+-- a name: one or more bytes that are ASCII letters, digits, _ or -
 abbrev pub IsName : List ℕ → Type 0
 IsName x = IsTrue (list_all is_name_byte x) × (0 < length x)

@@ -17,7 +17,7 @@ pub record Node : Type 0 where
 abbrev pub document_node : ℕ → Node
 document_node s = record { source = s; place = [] }
 
--- the same source and the same place
+-- whether two nodes have the same source and the same place
 abbrev pub same_node : Node → Node → Bool
 same_node a b = (a.source == b.source) && bytes_eq a.place b.place
 

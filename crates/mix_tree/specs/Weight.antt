@@ -9,7 +9,7 @@ abbrev pub nodes_of : Forest → ℕ
 nodes_of none = 0
 nodes_of (tree label kids rest) = 1 + nodes_of kids + nodes_of rest
 
--- the nodes of a tree
+-- how many nodes a tree has
 abbrev pub tree_nodes : LabelledTree → ℕ
 tree_nodes t = 1 + nodes_of t.kids
 

@@ -80,7 +80,7 @@ pub fn text_of(alloc: Global, text: &[u8]) -> Result<LabelText, AllocError>
     long(alloc, text)
 }
 
-/// Another such text on the heap.
+/// Another text of the same bytes on the heap.
 pub fn copied(alloc: Global, text: &Box<String>) -> Result<Box<String>, AllocError>
     ensures { IfOk result (λ copy. string_bytes copy.value ≡ string_bytes text.now.value) }
 {

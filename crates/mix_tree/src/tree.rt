@@ -39,14 +39,14 @@ impl Tree {
         Tree { label, kids }
     }
 
-    /// The label of the root.
+    /// The label of the tree's root.
     pub fn label(&self) -> &Label
         ensures { result.now ≡ self.now.label }
     {
         &self.label
     }
 
-    /// The subtrees in order.
+    /// The subtrees of the tree, in order.
     pub fn kids(&self) -> &[Tree]
         ensures { forest_of result.now ≡ self.now.kids }
     {

@@ -27,7 +27,7 @@ impl Var {
         Var(number)
     }
 
-    /// The number.
+    /// The number of a variable.
     pub fn number(self) -> u32
         ensures { result ≡ self }
     {
@@ -45,7 +45,7 @@ pub enum Key {
 impl Key {
     ghost use Rattle.mix_tree.specs.Keys.{key_var};
 
-    /// The variable.
+    /// The variable of a key.
     pub fn var(self) -> Var
         ensures { result ≡ key_var self }
     {

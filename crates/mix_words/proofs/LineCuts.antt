@@ -22,7 +22,7 @@ line_longer b c bs h k =
 lf_ends : (c : ℕ) (bs : List ℕ) → is_lf c ≡ true → lines_of (c ∷ bs) ≡ [] ∷ lines_of bs
 lf_ends c bs h = rw h refl
 
--- the byte before LF
+-- a byte before LF is a line, without a CR, before the lines after the LF
 byte_before_lf : (b c : ℕ) (bs : List ℕ) → is_lf b ≡ false → is_lf c ≡ true → lines_of (b ∷ c ∷ bs) ≡ without_cr (b ∷ []) ∷ lines_of bs
 byte_before_lf b c bs h k =
     ap (λ t. cond t ([] ∷ lines_of (c ∷ bs)) (cond (b == 13 && begins_with_lf (c ∷ bs)) (lines_of (c ∷ bs)) (with_first b (lines_of (c ∷ bs))))) h
@@ -34,7 +34,7 @@ byte_before_lf b c bs h k =
     by_cr true = refl
     by_cr false = refl
 
--- a line before LF
+-- what stands before LF is a line, without a CR at its end, before the lines after the LF
 lines_at_lf : (line : List ℕ) (c : ℕ) (bs : List ℕ) → Free is_lf line → is_lf c ≡ true → lines_of (line ++ c ∷ bs) ≡ without_cr line ∷ lines_of bs
 lines_at_lf [] c bs f h = lf_ends c bs h
 lines_at_lf (b ∷ []) c bs f h = byte_before_lf b c bs f.0 h
@@ -50,7 +50,7 @@ lines_at_end : (b : ℕ) (line : List ℕ) → Free is_lf (b ∷ line) → lines
 lines_at_end b [] f = last_byte b f.0
 lines_at_end b (d ∷ line) f = line_longer b d line f.0 f.1.0 ∙ ap (with_first b) (lines_at_end d line f.1)
 
--- one line more was cut
+-- the lines so far and those of the rest are all lines, also with one line more cut at LF
 pub line_cut : (text : List ℕ) (from at : ℕ) (prefix more whole : List (List ℕ)) → from ≤ at → at < length text → Free is_lf (slice_range text from at) → is_lf (slice_index text at) ≡ true
     → more ≡ prefix ++ without_cr (slice_range text from at) ∷ [] → prefix ++ lines_of (drop from text) ≡ whole → more ++ lines_of (drop (at + 1) text) ≡ whole
 line_cut text from at prefix more whole h k f s m e =
@@ -62,13 +62,13 @@ lines_at_any_end : (line : List ℕ) → 0 < length line → Free is_lf line →
 lines_at_any_end [] h f = absurd (omega arith)
 lines_at_any_end (b ∷ line) h f = lines_at_end b line f
 
--- the last line was cut
+-- the lines so far are all lines with the last line that was cut
 pub last_line : (text : List ℕ) (from : ℕ) (prefix more whole : List (List ℕ)) → from < length text → Free is_lf (drop from text)
     → more ≡ prefix ++ drop from text ∷ [] → prefix ++ lines_of (drop from text) ≡ whole → more ≡ whole
 last_line text from prefix more whole h f m e =
     m ∙ ap (λ ls. prefix ++ ls) (sym (lines_at_any_end (drop from text) (omega (arith, length-drop from text)) f)) ∙ e
 
--- no line is left
+-- where no line is left, the lines so far are all lines
 pub no_line_left : (text : List ℕ) (from : ℕ) (prefix whole : List (List ℕ)) → length text ≤ from → prefix ++ lines_of (drop from text) ≡ whole → prefix ≡ whole
 no_line_left text from prefix whole h e = sym (append_nil prefix) ∙ ap (λ ls. prefix ++ lines_of ls) (sym (drop_all from text h)) ∙ e
   where

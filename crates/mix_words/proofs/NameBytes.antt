@@ -6,7 +6,7 @@ use Rattle.std.specs.Str.{IsAscii, IsUtf8}
 use Rattle.std.specs.List.{list_all}
 use Rattle.mix_words.specs.Words.{is_name, is_sql_name, is_letter, is_script_byte}
 
--- both tests hold where their conjunction does
+-- where a conjunction holds, both of its tests hold
 and_parts : (a b : Bool) → IsTrue (a && b) → IsTrue a × IsTrue b
 and_parts true true h = (refl, refl)
 and_parts true false h = cc
@@ -16,7 +16,7 @@ and_parts false b h = cc
 letter_ascii : (b : ℕ) → IsTrue (is_letter b) → b < 128
 letter_ascii b h = grind (arith, nat_tests)
 
--- so is each byte of a name
+-- each byte of a name is ASCII
 script_byte_ascii : (b : ℕ) → IsTrue (is_script_byte b) → b < 128
 script_byte_ascii b h = grind (arith, nat_tests)
 
@@ -40,13 +40,13 @@ IsUtf8-name xs h = IsUtf8-from_ascii xs (IsAscii-name xs h)
 sql_first_ascii : (b : ℕ) → IsTrue (is_letter b || b == 95) → b < 128
 sql_first_ascii b h = grind (arith, nat_tests)
 
--- so it is ASCII
+-- an SQL name is ASCII
 IsAscii-sql_name : (xs : List ℕ) → IsTrue (is_sql_name xs) → IsAscii xs
 IsAscii-sql_name [] h i = omega arith
 IsAscii-sql_name (x ∷ xs) h zero = sql_first_ascii x (and_parts (is_letter x || x == 95) (list_all is_script_byte xs) h).0
 IsAscii-sql_name (x ∷ xs) h (suc i) = IsAscii-script_bytes xs (and_parts (is_letter x || x == 95) (list_all is_script_byte xs) h).1 i
 
--- and UTF-8
+-- an SQL name is UTF-8
 pub IsUtf8-sql_name : (xs : List ℕ) → IsTrue (is_sql_name xs) → IsUtf8 xs
 IsUtf8-sql_name xs h = IsUtf8-from_ascii xs (IsAscii-sql_name xs h)
 
@@ -62,7 +62,7 @@ pub is_name-parts : (xs : List ℕ) → 1 ≤ length xs → is_name xs ≡ (is_l
 is_name-parts [] h = absurd (omega arith)
 is_name-parts (x ∷ xs) h = let e : length (x ∷ xs) - 1 ≡ length xs = omega arith in ap (λ r. is_letter x && list_all is_script_byte r) (sym (take_length _ xs e))
 
--- so is an SQL name
+-- a text is an SQL name by the tests of its first byte and of those after it
 pub is_sql_name-parts : (xs : List ℕ) → 1 ≤ length xs → is_sql_name xs ≡ ((is_letter (get_or xs 0 0) || get_or xs 0 0 == 95) && list_all is_script_byte (take (length xs - 1) (drop 1 xs)))
 is_sql_name-parts [] h = absurd (omega arith)
 is_sql_name-parts (x ∷ xs) h = let e : length (x ∷ xs) - 1 ≡ length xs = omega arith in ap (λ r. (is_letter x || x == 95) && list_all is_script_byte r) (sym (take_length _ xs e))

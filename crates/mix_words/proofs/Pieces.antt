@@ -24,7 +24,7 @@ grown xs from to h k =
 pub Free-grown : (sep : ℕ → Bool) (xs : List ℕ) (from to : ℕ) → from ≤ to → to < length xs → Free sep (slice_range xs from to) → sep (slice_index xs to) ≡ false → Free sep (slice_range xs from (to + 1))
 Free-grown sep xs from to h k f s = subst (Free sep) (sym (grown xs from to h k)) (Free-append sep (slice_range xs from to) (slice_index xs to) f s)
 
--- an empty part
+-- an empty part has no separator
 pub Free-empty : (sep : ℕ → Bool) (xs : List ℕ) (i : ℕ) → Free sep (slice_range xs i i)
 Free-empty sep xs i = let e : 0 ≡ i - i = omega arith in subst (λ n. Free sep (take n (drop i xs))) e tt
 
@@ -51,7 +51,7 @@ cut_at xs from to h k =
     let i : from + (to - from) ≡ to = omega arith in
     sym (take-append-drop (to - from) (drop from xs)) ∙ ap (λ r. slice_range xs from to ++ r) (drop_twice (to - from) from xs ∙ ap (λ m. drop m xs) i ∙ drop_more xs to 0 k)
 
--- a part up to the end
+-- where a part without separators reaches the end, the rest of the text has no separator
 pub Free-rest : (sep : ℕ → Bool) (xs : List ℕ) (from to : ℕ) → from ≤ to → length xs ≤ to → Free sep (slice_range xs from to) → Free sep (drop from xs)
 Free-rest sep xs from to h k f = subst (Free sep) (take_all (to - from) (drop from xs) (omega (arith, length-drop from xs))) f
 

@@ -20,7 +20,7 @@ cr_trimmed [] h e = absurd (omega arith)
 cr_trimmed (b ∷ []) h e = let is : b ≡ 13 = e in rw is refl
 cr_trimmed (b ∷ c ∷ xs) h e = prefix_kept b c xs ∙ ap (λ r. b ∷ r) (cr_trimmed (c ∷ xs) (omega arith) (sym (last_after b c xs) ∙ e))
 
--- another last byte is kept
+-- a last byte that is no CR is kept
 pub cr_kept : (xs : List ℕ) → get_or xs (length xs - 1) 0 ≢ 13 → xs ≡ without_cr xs
 cr_kept [] h = refl
 cr_kept (b ∷ []) h = let e : b == 13 ≡ false = grind arith in rw e refl

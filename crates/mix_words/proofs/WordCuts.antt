@@ -7,14 +7,14 @@ use Rattle.mix_words.proofs.Pieces.{Free, cut_at, rest_whole}
 word_longer : (b c : ℕ) (bs : List ℕ) → is_blank b ≡ false → is_blank c ≡ false → words_of (b ∷ c ∷ bs) ≡ with_first b (words_of (c ∷ bs))
 word_longer b c bs h k = rw (h, k) refl
 
--- a byte that is a word
+-- a byte before a blank is a word of its own, before the words after the blank
 word_ends : (b c : ℕ) (bs : List ℕ) → is_blank b ≡ false → is_blank c ≡ true → words_of (b ∷ c ∷ bs) ≡ (b ∷ []) ∷ words_of bs
 word_ends b c bs h k = rw (h, k) refl
 
 blank_passed : (c : ℕ) (bs : List ℕ) → is_blank c ≡ true → words_of (c ∷ bs) ≡ words_of bs
 blank_passed c bs h = rw h refl
 
--- a word before a blank
+-- what stands before a blank is a word, unless it is empty, before the words after the blank
 words_at_blank : (word : List ℕ) (c : ℕ) (bs : List ℕ) → Free is_blank word → is_blank c ≡ true → words_of (word ++ c ∷ bs) ≡ unless_empty word ++ words_of bs
 words_at_blank [] c bs f h = blank_passed c bs h
 words_at_blank (b ∷ []) c bs f h = word_ends b c bs f.0 h
@@ -29,7 +29,7 @@ words_at_end [] f = refl
 words_at_end (b ∷ []) f = last_byte b f.0
 words_at_end (b ∷ d ∷ word) f = word_longer b d word f.0 f.1.0 ∙ ap (with_first b) (words_at_end (d ∷ word) f.1)
 
--- one word more was cut
+-- the words so far and those of the rest are all words, also with one word more cut at a blank
 pub word_cut : (line : List ℕ) (from at : ℕ) (prefix more whole : List (List ℕ)) → from ≤ at → at < length line → Free is_blank (slice_range line from at) → is_blank (slice_index line at) ≡ true
     → more ≡ prefix ++ unless_empty (slice_range line from at) → prefix ++ words_of (drop from line) ≡ whole → more ++ words_of (drop (at + 1) line) ≡ whole
 word_cut line from at prefix more whole h k f s m e =
@@ -37,7 +37,7 @@ word_cut line from at prefix more whole h k f s m e =
     ∙ append_assoc prefix (unless_empty (slice_range line from at)) (words_of (drop (at + 1) line))
     ∙ ap (λ ws. prefix ++ ws) (sym (ap words_of (cut_at line from at h k) ∙ words_at_blank (slice_range line from at) (slice_index line at) (drop (at + 1) line) f s)) ∙ e
 
--- the last word was cut
+-- the words so far are all words with the last word that was cut
 pub last_word : (line : List ℕ) (from : ℕ) (prefix more whole : List (List ℕ)) → Free is_blank (drop from line)
     → more ≡ prefix ++ unless_empty (slice_range line from (length line)) → prefix ++ words_of (drop from line) ≡ whole → more ≡ whole
 last_word line from prefix more whole f m e =

@@ -8,7 +8,7 @@ use Rattle.mix_base.proofs.Choices.{and_parts, some_is, none_some}
 use Rattle.mix_words.specs.Words.{is_blank, words_of, with_first, ends_word}
 use Rattle.mix_words.specs.Places.{ends_blank, word_from, place_of_word}
 
--- one byte more
+-- a text with one byte more ends in a blank where that byte is one
 pub ends_blank-push : (p : Bool) (xs : List ℕ) (b : ℕ) → ends_blank p (xs ++ b ∷ []) ≡ is_blank b
 ends_blank-push p [] b = refl
 ends_blank-push p (x ∷ xs) b = ends_blank-push (is_blank x) xs b
@@ -44,7 +44,7 @@ pub length-words_of : (xs : List ℕ) → length (words_of xs) ≡ begun true xs
 length-words_of [] = refl
 length-words_of (b ∷ bs) = by_case (is_blank b) refl (length-words_of bs)
   where
-    -- after a byte of a word
+    -- after a byte of a word, the words are those that begin in the rest, and that word
     inside : (bs : List ℕ) (b : ℕ) → length (words_of bs) ≡ begun true bs → length (cond (ends_word bs) ((b ∷ []) ∷ words_of bs) (with_first b (words_of bs))) ≡ 1 + begun false bs
     inside [] b h = refl
     inside (c ∷ cs) b h = at_next (is_blank c) refl
@@ -108,7 +108,7 @@ looked_next line at left p t whole inside blank begins some h =
     ∙ sym (word_from-next p left at (get_or line at 0) (drop (at + 1) line) (ap (λ u. p && not u) (sym blank) ∙ begins) some)
     ∙ sym (ap (word_from p left at) (drop_more line at 0 inside)) ∙ h
 
--- and after another byte
+-- the search for a word finds the same from after a byte at which no word begins
 pub looked_other : (line : List ℕ) (at left : ℕ) (p t : Bool) (whole : Option ℕ) → at < length line → t ≡ is_blank (get_or line at 0) → (p && not t) ≡ false
     → word_from p left at (drop at line) ≡ whole → word_from t left (at + 1) (drop (at + 1) line) ≡ whole
 looked_other line at left p t whole inside blank begins h =
@@ -135,7 +135,7 @@ apart_from (b ∷ bs) p (suc n) at place h = by_case (p && not (is_blank b)) h (
     by_case true e more other = let next = more e in (suc next.0, (let there = next.1 in omega arith), next.2)
     by_case false e more other = let next = other e in (suc next.0, (let there = next.1 in omega arith), next.2)
 
--- so it is before the word that is looked for
+-- a blank, or nothing, stands right before the word that is looked for
 pub place_apart : (line : List ℕ) (n at : ℕ) → place_of_word n line ≡ Some at → IsTrue (ends_blank true (take at line))
 place_apart line n at h =
     let found = apart_from line true n 0 at h in

@@ -58,7 +58,7 @@ meets n m h = elim (cases_eq (bit_and n m) 0) [
       (r.0, q.0, q.1))
 ]
 
--- and their bits do where they have one
+-- the bits of two sets have one in common where the sets have a member in common
 pub meet : (n m : ℕ) → Meet n m → IsTrue (not (bit_and n m == 0))
 meet n m (i, h, k) = by_test (bit_and n m == 0) refl
   where
@@ -75,7 +75,7 @@ meet n m (i, h, k) = by_test (bit_and n m == 0) refl
 abbrev machine_for : Form → Machine
 machine_for p = machine_of (table_of p)
 
--- it runs as the path does
+-- a run of the machine of a path's table is the run of the path
 runs : (p : Form) (n : ℕ) (x : Labels) → steps (machine_for p) n x ≡ run p n x
 unfolding machine_of
 runs p n [] = refl
@@ -89,7 +89,7 @@ after_is : (p : Form) (x : Labels) → states_after (machine_for p) x ≡ run p 
 unfolding machine_of
 after_is p x = runs p (first_set p) x
 
--- it accepts what the path describes
+-- the machine of a path's table accepts what the path describes
 accepts_for : (p : Form) (x : Labels) → Iff (IsTrue ((machine_for p).accepts (states_after (machine_for p) x))) (Describes p x)
 unfolding machine_of
 accepts_for p x =
@@ -104,7 +104,7 @@ IsText p = HeadUtf8 p.head × AreUtf8 p.members
 lives_are : (p : Form) → Lives (IsText p) (lives_in p) (listed_in p)
 lives_are p = live_by (IsText p) p.head p.members (λ u. u.0) (λ u. u.1) (all_live (IsText p) p.members) none true ((λ u h. ([], tt, refl)), (λ x h. refl))
 
--- it goes on only where the path describes a longer list
+-- the machine of a path's table goes on only where the path describes a longer list
 goes_for : (p : Form) → HeadUtf8 p.head → AreUtf8 p.members → (x : Labels) → IsTrue ((machine_for p).goes_on (states_after (machine_for p) x)) → GoesOn p x
 unfolding machine_of
 goes_for p u v x h =
@@ -141,7 +141,7 @@ few_by star m h = omega (arith, h)
 few_by plus m h = omega (arith, h)
 few_by opt m h = omega (arith, h)
 
--- so have paths
+-- paths have no more positions than label positions
 few : (m : Paths) → count m ≤ positions_of m
 few none = omega arith
 few (path h m after) = omega (arith, few_by h m (few m), few after)
@@ -173,7 +173,7 @@ rows_length (path h m after) one_of b n =
     length-append (rows_by h (rows m) (entry m) b n) (rows after one_of (b + c) n)
     ∙ omega (arith, rows_by_length h m (rows_length m) b n, rows_length after one_of (b + c) n)
 
--- it is said of each position whether any list leads on, by the paths under a head
+-- the list of which positions live has an entry for each position, by the paths under a head
 lives_by_length : (h : Head) (m : Paths) → ((w : How) (o : Bool) → length (lives m w o) ≡ count m) → (o : Bool) → length (lives_by h (lives m) o) ≡ count_by h (count m)
 lives_by_length (name l) m ih o = refl
 lives_by_length any m ih o = refl
@@ -183,7 +183,7 @@ lives_by_length star m ih o = ih one_of o
 lives_by_length plus m ih o = ih one_of o
 lives_by_length opt m ih o = ih one_of o
 
--- it is said of each position of paths
+-- the list of which positions live has an entry for each position of paths
 lives_length : (m : Paths) (w : How) (o : Bool) → length (lives m w o) ≡ count m
 lives_length none w o = refl
 lives_length (path h m after) in_turn o =

@@ -94,7 +94,7 @@ module _ (m : Machine) where
   abbrev IsBinding : ℕ → List ℕ → ℕ → Forest → List ℕ → Type 0
   IsBinding q p k f y = (i : ℕ) × (r : List ℕ) × (y ≡ p ++ (k + i) ∷ r) × Accepts q f i r
 
-  -- each binding is one
+  -- each binding of the visit is at a place to which the machine accepts the labels
   binding_is : (q : ℕ) (p : List ℕ) (k : ℕ) (f : Forest) (y : List ℕ) → Among y (bindings q p k f) → IsBinding q p k f y
   binding_is q p k none y h = absurd h
   binding_is q p k (tree x kids later) y c =
@@ -127,7 +127,7 @@ module _ (m : Machine) where
       after : IsBinding q p (k + 1) later y → IsBinding q p k (tree x kids later) y
       after (i, r, e, t) = let n : (k + 1) + i ≡ k + suc i = omega arith in (suc i, r, e ∙ ap (λ a. p ++ a ∷ r) n, t)
 
-  -- the bindings ascend
+  -- the bindings of the visit ascend
   ascends : (q : ℕ) (p : List ℕ) (k : ℕ) (f : Forest) → Ascending PlaceBefore (bindings q p k f)
   ascends q p k none = tt
   ascends q p k (tree x kids later) =
@@ -182,7 +182,7 @@ module _ (m : Machine) where
   accepted q (tree x kids later) zero [] h = h
   accepted q (tree x kids later) zero (j ∷ r) h = accepted (m.step q x) kids j r h
 
-  -- there is such a place
+  -- where the machine accepts down to a place, there is a tree at that place
   there_is : (q : ℕ) (f : Forest) (i : ℕ) (r : List ℕ) → Accepts q f i r → is_some (first_label (trees_at (from i f) r)) ≡ true
   there_is q none i r h = absurd h
   there_is q (tree x kids later) (suc i) r h = there_is q later i r h
@@ -209,7 +209,7 @@ module _ (m : Machine) where
   abbrev Reached : ℕ → Type 0
   Reached q = (x : Labels) × (states_after m x ≡ q)
 
-  -- so are those after one more label
+  -- the state one label after a reached state is reached too
   reached_step : (q : ℕ) (l : List ℕ) → Reached q → Reached (m.step q l)
   reached_step q l (x, e) = (x ++ l ∷ [], steps_append m.start x (l ∷ []) ∙ ap (λ n. m.step n l) e)
 
@@ -288,6 +288,6 @@ bindings_are_matches m p auto f start = record {
       ((λ c. match_of m p auto f start y (binding_is m m.start start 0 (first_kids (trees_at f start)) y c)), (λ h. of_match m p auto f start y h.way h.below h.place h.there h.described));
 }
 
--- so along the automaton of each path
+-- the bindings of the visit along the automaton of each path are the matches of the path
 pub visits_are_matches : VisitsAreMatches
 visits_are_matches docs p n = bindings_are_matches (machine_of (table_of p)) p (table_follows p) (tree [] (docs n.source) none) n.place

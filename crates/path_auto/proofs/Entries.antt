@@ -37,11 +37,11 @@ union_parts T m n x (i, h, t) = elim (max_one (bit_at m i) (bit_at n i) (sym (bi
 pub union_left : (T : Way) (m n : ℕ) (x : Labels) → Leads T m x → Leads T (bit_or m n) x
 union_left T m n x (i, h, t) = (i, bit_at_or m n i ∙ max_left (bit_at m i) (bit_at n i) (bit_at-lt m i) (bit_at-lt n i) h, t)
 
--- so on the other side
+-- what leads on from the second part of a union leads on from the union
 pub union_right : (T : Way) (m n : ℕ) (x : Labels) → Leads T n x → Leads T (bit_or m n) x
 union_right T m n x (i, h, t) = (i, bit_at_or m n i ∙ max_right (bit_at m i) (bit_at n i) (bit_at-lt m i) (bit_at-lt n i) h, t)
 
--- no number is 0 and 1
+-- no number is both 0 and 1
 zero_one : {Q : Type 0} (n : ℕ) → n ≡ 0 → n ≡ 1 → Q
 zero_one n h k = absurd (omega (arith, h, k))
 
@@ -80,7 +80,7 @@ length_by star m ih k = ih one_of (path star m k)
 length_by plus m ih k = ih one_of (path star m k)
 length_by opt m ih k = ih one_of k
 
--- so have all paths
+-- paths have as many positions as are counted
 pub length_is : (m : Paths) (w : How) (k : Paths) → length (listed m w k) ≡ count m
 length_is none w k = refl
 length_is (path h m after) in_turn k =
@@ -99,11 +99,11 @@ located_parts T b (a ∷ s) t h =
     let e : (b + 1) + length s ≡ b + length (a ∷ s) = omega arith in
     ((h.0, r.0), subst (λ c. Located T c t) e r.1)
 
--- so with the length of the first part
+-- positions in two parts are located, the second from the number after those of the first on
 pub parts_at : (T : Way) (b n : ℕ) (s t : List Position) → length s ≡ n → Located T b (s ++ t) → Located T b s × Located T (b + n) t
 parts_at T b n s t e h = let r = located_parts T b s t h in (r.0, subst (λ c. Located T (b + c) t) e r.1)
 
--- first listed
+-- a list begins at one of these first positions, or, where the paths may be empty, leads on from the set after
 abbrev pub Ways : Way → List Position → Bool → ℕ → Labels → Type 0
 Ways T s nl n x = Begins s x ⊎ (IsTrue nl × Leads T n x)
 
@@ -112,7 +112,7 @@ abbrev pub Enter : Way → Paths → Type 0
 -- the set of the first positions of paths leads where these positions do, and where the set after does if the paths may be empty
 Enter T m = (w : How) (k : Paths) (b n : ℕ) (x : Labels) → Located T b (listed m w k) → Iff (Leads T (entry m w b n) x) (Ways T (starts m w k) (nullable m w) n x)
 
--- so with the set after taken too
+-- the union of a path's first positions and the set after leads where either does
 with_before : (T : Way) (s : List Position) (nl : Bool) (n e : ℕ) (x : Labels) → Iff (Leads T e x) (Ways T s nl n x) → Iff (Leads T (bit_or n e) x) (Ways T s true n x)
 with_before T s nl n e x ih = (there, back)
   where
@@ -123,7 +123,7 @@ with_before T s nl n e x ih = (there, back)
     back (inl d) = union_right T n e x (ih.1 (inl d))
     back (inr d) = union_left T n e x d.1
 
--- so for one position
+-- the set of one position leads where that position does
 single_ways : (T : Way) (b n : ℕ) (s : Position) (x : Labels) → Iff (T b x) (Takes s x) → Iff (Leads T (2 ^ b) x) (Ways T (s ∷ []) false n x)
 single_ways T b n s x h = (there, back)
   where
@@ -135,7 +135,7 @@ single_ways T b n s x h = (there, back)
     back (inl (inr c)) = absurd c
     back (inr d) = let f : false ≡ true = d.0 in cc
 
--- so for a path, by its head
+-- the set of a path's first positions leads where these do, and where the set after does if it may be empty, by its head
 pub enters_by : (T : Way) (h : Head) (m : Paths) → Enter T m → (k : Paths) (b n : ℕ) (x : Labels) → Located T b (listed_by h m (listed m) k)
     → Iff (Leads T (entry_by h (entry m) b n) x) (Ways T (starts_by h m (starts m) k) (nullable_by h (nullable m)) n x)
 enters_by T (name l) m ih k b n x at = single_ways T b n (record { test = Some l; rest = k }) x (at.0 x)
@@ -146,7 +146,7 @@ enters_by T star m ih k b n x at = with_before T (starts m one_of (path star m k
 enters_by T plus m ih k b n x at = ih one_of (path star m k) b n x at
 enters_by T opt m ih k b n x at = with_before T (starts m one_of k) (nullable m one_of) n (entry m one_of b n) x (ih one_of k b n x at)
 
--- so for a path and those that follow it in turn
+-- the first set of a path and those after it in turn leads where their first positions do, or the set after
 then_ways : (T : Way) (s t : List Position) (p q : Bool) (n e f : ℕ) (x : Labels) → Iff (Leads T f x) (Ways T s p e x) → Iff (Leads T e x) (Ways T t q n x)
     → Iff (Leads T f x) (Ways T (s ++ positions_if p t) (p && q) n x)
 then_ways T s t p q n e f x a c = (there, back)
@@ -167,7 +167,7 @@ then_ways T s t p q n e f x a c = (there, back)
     ]
     back (inr d) = let r = and_parts p q d.0 in a.1 (inr (r.0, c.1 (inr (r.1, d.1))))
 
--- so for a choice of a path and others
+-- the first set of a choice of a path and others leads where the first positions of either do, or the set after
 or_ways : (T : Way) (s t : List Position) (p q : Bool) (n e f : ℕ) (x : Labels) → Iff (Leads T e x) (Ways T s p n x) → Iff (Leads T f x) (Ways T t q n x)
     → Iff (Leads T (bit_or e f) x) (Ways T (s ++ t) (p || q) n x)
 or_ways T s t p q n e f x a c = (there, back)
@@ -182,7 +182,7 @@ or_ways T s t p q n e f x a c = (there, back)
     back (inl d) = elim (begins_parts s t x d) [ inl g ↦ union_left T e f x (a.1 (inl g)) | inr g ↦ union_right T e f x (c.1 (inl g)) ]
     back (inr d) = elim (or_parts p q d.0) [ inl g ↦ union_left T e f x (a.1 (inr (g, d.1))) | inr g ↦ union_right T e f x (c.1 (inr (g, d.1))) ]
 
--- so for no paths in turn
+-- the first set of no paths in turn is the set after, and leads where that does
 end_ways : (T : Way) (n : ℕ) (x : Labels) → Iff (Leads T n x) (Ways T [] true n x)
 end_ways T n x = ((λ l. inr (refl, l)), back)
   where
@@ -190,7 +190,7 @@ end_ways T n x = ((λ l. inr (refl, l)), back)
     back (inl d) = absurd d
     back (inr d) = d.1
 
--- so for a choice of no paths
+-- the first set of a choice of no paths is empty, and leads nowhere
 no_ways : (T : Way) (n : ℕ) (x : Labels) → Iff (Leads T 0 x) (Ways T [] false n x)
 no_ways T n x = ((λ l. empty_leads T x l), back)
   where
@@ -198,7 +198,7 @@ no_ways T n x = ((λ l. empty_leads T x l), back)
     back (inl d) = absurd d
     back (inr d) = let f : false ≡ true = d.0 in cc
 
--- so for all paths
+-- the set of the first positions of all paths leads where these do, and where the set after does if they may be empty
 pub enters : (T : Way) (m : Paths) → Enter T m
 enters T none in_turn k b n x at = end_ways T n x
 enters T none one_of k b n x at = no_ways T n x

@@ -16,7 +16,7 @@ begins_left [] t x h = absurd h
 begins_left (a ∷ s) t x (inl h) = inl h
 begins_left (a ∷ s) t x (inr h) = inr (begins_left s t x h)
 
--- so with more before them
+-- what begins at one of some positions begins at one of these and more before them
 pub begins_right : (s t : List Position) (x : Labels) → Begins t x → Begins (s ++ t) x
 begins_right [] t x h = h
 begins_right (a ∷ s) t x h = inr (begins_right s t x h)
@@ -40,7 +40,7 @@ abbrev pub Complete : Paths → Type 0
 -- what paths describe, with what comes after them, begins at one of their first positions
 Complete m = (w : How) (k : Paths) (y z : Labels) → DescribesAs m w y → DescribesAs k in_turn z → Enters (nullable m w) (starts m w k) y z
 
--- so for repetitions
+-- what repetitions of paths describe is empty, or begins at one of the paths' first positions
 times_enter : (m : Paths) → Complete m → (k : Paths) (n : ℕ) (y z : Labels) → Times (DescribesAs m one_of) n y → DescribesAs k in_turn z
     → (y ≡ []) ⊎ Begins (starts m one_of (path star m k)) (y ++ z)
 times_enter m ih k zero y z e f = inl e
@@ -51,7 +51,7 @@ times_enter m ih k (suc n) y z (u, v, e, p, t) f =
       | inr b ↦ inr (subst (Begins (starts m one_of (path star m k))) (sym (append_assoc u v z) ∙ ap (λ q. q ++ z) e) b)
     ]
 
--- so for at least one repetition
+-- what at least one repetition of paths describes is empty, where they may be, or begins at one of their first positions
 plus_enter : (m : Paths) → Complete m → (k : Paths) (y z : Labels) → Then (DescribesAs m one_of) (Many (DescribesAs m one_of)) y → DescribesAs k in_turn z
     → Enters (nullable m one_of) (starts m one_of (path star m k)) y z
 plus_enter m ih k y z (u, v, e, p, (n, t)) f =
@@ -62,7 +62,7 @@ plus_enter m ih k y z (u, v, e, p, (n, t)) f =
       | inr b ↦ inr (subst (Begins (starts m one_of (path star m k))) (sym (append_assoc u v z) ∙ ap (λ q. q ++ z) e) b)
     ]
 
--- so for a path, by its head
+-- what a path describes, with what comes after it, begins at one of its first positions, by its head
 pub enter_by : (h : Head) (m : Paths) → Complete m → (k : Paths) (y z : Labels) → DescribesBy h (DescribesAs m) y → DescribesAs k in_turn z → Enters (nullable_by h (nullable m)) (starts_by h m (starts m) k) y z
 enter_by (name l) m ih k y z e f = inr (inl (l, z, ap (λ q. q ++ z) (sym e), same_label l, f))
 enter_by any m ih k y z (l, e) f = inr (inl (l, z, ap (λ q. q ++ z) (sym e), refl, f))
@@ -83,7 +83,7 @@ pub or_right : (a b : Bool) → IsTrue b → IsTrue (a || b)
 or_right true b h = refl
 or_right false b h = h
 
--- positions that are taken
+-- what begins at positions that are taken by a test that holds begins at the positions taken
 pub so_begins : (n : Bool) (s : List Position) (x : Labels) → IsTrue n → Begins s x → Begins (positions_if n s) x
 so_begins true s x h b = b
 so_begins false s x h b = cc
@@ -93,7 +93,7 @@ pub begins_so : (n : Bool) (s : List Position) (x : Labels) → Begins (position
 begins_so true s x b = (refl, b)
 begins_so false s x b = absurd b
 
--- so for all paths
+-- what any paths describe, with what comes after them, begins at one of their first positions
 pub complete : (m : Paths) → Complete m
 complete none in_turn k y z e f = inl (refl, e)
 complete none one_of k y z e f = absurd e
@@ -121,11 +121,11 @@ complete (path h m after) one_of k y z (inr d) f =
       | inr b ↦ inr (begins_right (starts_by h m (starts m) k) (starts after one_of k) (y ++ z) b)
     ]
 
--- the empty list
+-- paths that may be empty describe the empty list
 abbrev pub Nulls : Paths → Type 0
 Nulls m = (w : How) → IsTrue (nullable m w) → DescribesAs m w []
 
--- so for a path, by its head
+-- a path that may be empty describes the empty list, by its head
 pub nullable_by_describes : (h : Head) (m : Paths) → Nulls m → IsTrue (nullable_by h (nullable m)) → DescribesBy h (DescribesAs m) []
 nullable_by_describes (name l) m ih h = cc
 nullable_by_describes any m ih h = cc
@@ -140,7 +140,7 @@ pub or_parts : (a b : Bool) → IsTrue (a || b) → IsTrue a ⊎ IsTrue b
 or_parts true b h = inl refl
 or_parts false b h = inr h
 
--- so for all paths
+-- all paths that may be empty describe the empty list
 pub nullable_describes : (m : Paths) → Nulls m
 nullable_describes none in_turn h = refl
 nullable_describes none one_of h = cc
@@ -162,11 +162,11 @@ again m k x (y, z, e, p, (u, v, d, t, f)) = (y ++ u, v, append_assoc y u v ∙ a
 label_is : (l c : List ℕ) → IsTrue (passes (Some l) c) → l ≡ c
 label_is l c h = (bytes_eq-Decides l c).0 h
 
--- at least one repetition is any number
+-- at least one repetition is any number of repetitions
 to_many : (m : Paths) (x : Labels) → Then (DescribesAs m one_of) (Many (DescribesAs m one_of)) x → Many (DescribesAs m one_of) x
 to_many m x (y, z, e, p, (n, t)) = (suc n, (y, z, e, p, t))
 
--- so for a path, by its head
+-- what the first positions of a path take is what the path describes, with what comes after it, by its head
 pub sound_by : (h : Head) (m : Paths) → Sound m → (k : Paths) (x : Labels) → Begins (starts_by h m (starts m) k) x → Then (DescribesBy h (DescribesAs m)) (DescribesAs k in_turn) x
 sound_by (name l) m ih k x (inl (c, y, e, p, f)) = (l ∷ [], y, ap (λ q. q ∷ y) (label_is l c p) ∙ e, refl, f)
 sound_by (name l) m ih k x (inr b) = absurd b
@@ -182,7 +182,7 @@ sound_by opt m ih k x b = let r = ih one_of k x b in (r.0, r.1, r.2, inr r.3, r.
 sound_turn : (h : Head) (after m k : Paths) (x : Labels) → Then (DescribesBy h (DescribesAs m)) (DescribesAs (path seq after k) in_turn) x → Then (Then (DescribesBy h (DescribesAs m)) (DescribesAs after in_turn)) (DescribesAs k in_turn) x
 sound_turn h after m k x (y, z, e, p, (u, v, d, t, f)) = (y ++ u, v, append_assoc y u v ∙ ap (λ q. y ++ q) d ∙ e, (y, u, refl, p, t), f)
 
--- so for all paths
+-- what the first positions of any paths take is what the paths describe, with what comes after them
 pub sound : (m : Paths) → Sound m
 sound none in_turn k x b = absurd b
 sound none one_of k x b = absurd b

@@ -34,7 +34,7 @@ gone_less : (i n : ℕ) → IsLeast n i → bit_at (n - 1) i ≡ 0
 gone_less zero n h = omega (arith, bit_at_lowest (n - 1), bit_at_lowest n, h.has)
 gone_less (suc i) n h = bit_at-suc (n - 1) i ∙ ap (λ m. bit_at m i) (half_less n i h) ∙ gone_less i (n / 2) (halved n i h)
 
--- it has the same bits above that one
+-- a number less one has the same bits above its lowest bit
 kept_less : (i n j : ℕ) → IsLeast n i → i < j → bit_at (n - 1) j ≡ bit_at n j
 kept_less i n zero h l = absurd (omega arith)
 kept_less zero n (suc j) h l = bit_at-suc (n - 1) j ∙ ap (λ m. bit_at m j) (half_odd n h) ∙ sym (bit_at-suc n j)
@@ -60,7 +60,7 @@ step_same (t ∷ ts) (r ∷ rs) b n m l h =
     ap (λ c. bit_or (cond (c == 1 && passes t l) r 0) (step_from ts rs (b + 1) n l)) (h b (omega arith))
     ∙ ap (bit_or (cond (bit_at m b == 1 && passes t l) r 0)) (step_same ts rs (b + 1) n m l (λ j g. h j (omega arith)))
 
--- a step from no positions
+-- a step from no positions gives the empty set
 pub step_none : (ts : List (Option (List ℕ))) (rs : List ℕ) (b : ℕ) (l : List ℕ) → step_from ts rs b 0 l ≡ 0
 step_none [] rs b l = refl
 step_none (t ∷ ts) [] b l = refl
@@ -99,7 +99,7 @@ step_on ts rs i n m found given l h w g =
     or_assoc found given more
     ∙ ap (bit_or found) (ap (λ r. bit_or r more) g ∙ sym (step_parts ts rs 0 i i n m l (omega arith) h.has w))
 
--- what a position gives
+-- what a position gives to a step is its row, where the label may stand there
 pub row_here : (ts : List (Option (List ℕ))) (rs : List ℕ) (i : ℕ) (t : Option (List ℕ)) (l : List ℕ) → length rs ≡ length ts → i < length ts → t ≡ get_or ts i t
     → row_at ts rs i l ≡ cond (passes t l) (get_or rs i 0) 0
 row_here [] rs i t l n h e = absurd (omega arith)
@@ -107,14 +107,14 @@ row_here (u ∷ ts) [] i t l n h e = absurd (omega arith)
 row_here (u ∷ ts) (r ∷ rs) zero t l n h e = ap (λ v. cond (passes v l) r 0) (sym e)
 row_here (u ∷ ts) (r ∷ rs) (suc i) t l n h e = row_here ts rs i t l (omega arith) (omega arith) e
 
--- after the last position there is nothing to give
+-- after the last position there is nothing to give to a step
 pub row_after : (ts : List (Option (List ℕ))) (rs : List ℕ) (i : ℕ) (l : List ℕ) → length ts ≤ i → row_at ts rs i l ≡ 0
 row_after [] rs i l h = refl
 row_after (u ∷ ts) [] i l h = refl
 row_after (u ∷ ts) (r ∷ rs) zero l h = absurd (omega arith)
 row_after (u ∷ ts) (r ∷ rs) (suc i) l h = row_after ts rs i l (omega arith)
 
--- what is above 0
+-- a number above 0 is not 0
 above_zero : (m : ℕ) → 0 < m → not (m == 0) ≡ true
 above_zero m h = by_test (m == 0) refl
   where

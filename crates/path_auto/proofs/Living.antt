@@ -16,7 +16,7 @@ use Rattle.path_auto.proofs.FirstPositions.{same_label, or_left, or_right, or_pa
 use Rattle.path_auto.proofs.Entries.{single_is, union_parts, union_left, union_right, is_single, empty_leads}
 use Rattle.path_auto.proofs.Steps.{OnAny}
 
--- the labels of two lists
+-- the labels of two lists together are UTF-8, where those of each are
 texts_append : (x y : Labels) → AreTexts x → AreTexts y → AreTexts (x ++ y)
 texts_append [] y h k = k
 texts_append (l ∷ x) y h k = (h.0, texts_append x y h.1 k)
@@ -35,7 +35,7 @@ module _ (Texts : Type 0) where
   abbrev Somes : Paths → Type 0
   Somes m = (Texts → AreUtf8 m) → (w : How) → Tells (some m w) (DescribesAs m w)
 
-  -- whether a head does
+  -- whether a head describes any list is said rightly
   somes_by : (h : Head) (m : Paths) → (Texts → HeadUtf8 h) → (Texts → AreUtf8 m) → Somes m → Tells (some_by h (some m)) (DescribesBy h (DescribesAs m))
   somes_by (name l) m u v ih = ((λ t h. (l ∷ [], (u t, tt), refl)), (λ x h. refl))
   somes_by any m u v ih = ((λ t h. ([] ∷ [], (IsUtf8-nil, tt), ([], refl))), (λ x h. refl))
@@ -46,7 +46,7 @@ module _ (Texts : Type 0) where
       ((λ t h. let r = (ih v one_of).0 t h in (r.0, r.1, (r.0, [], append_nil r.0, r.2, (0, refl)))), (λ x h. (ih v one_of).1 h.0 h.3))
   somes_by opt m u v ih = ((λ t h. ([], tt, inl refl)), (λ x h. refl))
 
-  -- whether paths do
+  -- whether paths describe any list is said rightly
   somes : (m : Paths) → Somes m
   somes none u in_turn = ((λ t h. ([], tt, refl)), (λ x h. refl))
   somes none u one_of = ((λ t h. let f : false ≡ true = h in cc), (λ x h. absurd h))
@@ -71,14 +71,14 @@ module _ (Texts : Type 0) where
   abbrev pub Goes : Bool → Paths → Type 0
   Goes o k = Tells o (DescribesAs k in_turn)
 
-  -- so for each of some positions; their labels are UTF-8
+  -- of each position it is said rightly whether any list leads on, and its label is UTF-8 under the premise
   abbrev pub Lives : List Bool → List Position → Type 0
   Lives [] [] = Unit {0}
   Lives [] (s ∷ ss) = ⊥
   Lives (o ∷ os) [] = ⊥
   Lives (o ∷ os) (s ∷ ss) = Goes o s.rest × (Texts → TestUtf8 s.test) × Lives os ss
 
-  -- some positions after others
+  -- what is said rightly of some positions and of others is said rightly of both, one after the other
   lives_append : (r : List Bool) (s : List Position) (u : List Bool) (v : List Position) → Lives r s → Lives u v → Lives (r ++ u) (s ++ v)
   lives_append [] [] u v h k = k
   lives_append [] (a ∷ s) u v h k = absurd h
@@ -102,7 +102,7 @@ module _ (Texts : Type 0) where
   abbrev pub AllLive : Paths → Type 0
   AllLive m = (Texts → AreUtf8 m) → (w : How) (k : Paths) (o : Bool) → Goes o k → Lives (lives m w o) (listed m w k)
 
-  -- so under a head
+  -- the list of a table is right for the positions of a path, by its head
   pub live_by : (h : Head) (m : Paths) → (Texts → HeadUtf8 h) → (Texts → AreUtf8 m) → AllLive m → (k : Paths) (o : Bool) → Goes o k
       → Lives (lives_by h (lives m) o) (listed_by h m (listed m) k)
   live_by (name l) m u v ih k o g = (g, u, tt)
@@ -113,7 +113,7 @@ module _ (Texts : Type 0) where
   live_by plus m u v ih k o g = ih v one_of (path star m k) o (star_goes m k o g)
   live_by opt m u v ih k o g = ih v one_of k o g
 
-  -- so for all paths
+  -- the list of a table is right for the positions of all paths
   pub all_live : (m : Paths) → AllLive m
   all_live none u w k o g = tt
   all_live (path h m after) u in_turn k o g =
@@ -149,7 +149,7 @@ meet_parts n a b (i, h, k) = elim (union_parts (Is n) a b [] (i, k, h)) [ inl (j
 meet_left : (n a b : ℕ) → Meet n a → Meet n (bit_or a b)
 meet_left n a b (i, h, k) = let r = union_left (Is n) a b [] (i, k, h) in (r.0, r.2, r.1)
 
--- so with the other part
+-- a set that meets the second part of a union meets the union
 meet_right : (n a b : ℕ) → Meet n b → Meet n (bit_or a b)
 meet_right n a b (i, h, k) = let r = union_right (Is n) a b [] (i, k, h) in (r.0, r.2, r.1)
 

@@ -11,7 +11,7 @@ use Rattle.path_auto.specs.Sets.{From, Leads, end_of, first_set, listed_in, rows
 use Rattle.path_auto.proofs.Entries.{single_is, is_single, length_by, length_is}
 use Rattle.path_auto.proofs.Steps.{Means, head_means, Match, matches_by, matches, located, OnAny, on_from, from_on, step_leads}
 
--- the end
+-- from the end only the empty list leads to the end
 from_end : (s : List Position) (x : Labels) → From s (length s) x → x ≡ []
 from_end [] x h = h
 from_end (a ∷ s) x h = from_end s x h
@@ -28,7 +28,7 @@ from_nil [] (suc i) h = absurd h
 from_nil (a ∷ s) zero (c, y, e, p, f) = cc
 from_nil (a ∷ s) (suc i) h = ap suc (from_nil s i h)
 
--- there are as many positions as are counted
+-- a path's list of positions is as long as their count
 size_is : (p : Form) → length (listed_in p) ≡ end_of p
 size_is p = length_by p.head p.members (length_is p.members) none
 

@@ -43,19 +43,19 @@ Match T [] (s ∷ ss) = ⊥
 Match T (r ∷ rs) [] = ⊥
 Match T (r ∷ rs) (s ∷ ss) = Means T r s.rest × Match T rs ss
 
--- so for positions in two parts
+-- rows that match positions in two parts match all of them
 match_append : (T : Way) (r : List ℕ) (s : List Position) (u : List ℕ) (v : List Position) → Match T r s → Match T u v → Match T (r ++ u) (s ++ v)
 match_append T [] [] u v h k = k
 match_append T [] (a ∷ s) u v h k = absurd h
 match_append T (a ∷ r) [] u v h k = absurd h
 match_append T (a ∷ r) (c ∷ s) u v h k = (h.0, match_append T r s u v h.1 k)
 
--- so for the positions of paths
+-- the rows of paths match their positions: each leads where its position goes on
 abbrev pub Matches : Way → Paths → Type 0
--- so for the positions of paths
+-- the rows of paths match their positions: each leads where its position goes on
 Matches T m = (w : How) (k : Paths) (b n : ℕ) → Located T b (listed m w k) → Means T n k → Match T (rows m w b n) (listed m w k)
 
--- so for a path, by its head
+-- the rows of a path match its positions, by its head
 pub matches_by : (T : Way) (h : Head) (m : Paths) → Matches T m → (k : Paths) (b n : ℕ) → Located T b (listed_by h m (listed m) k) → Means T n k
     → Match T (rows_by h (rows m) (entry m) b n) (listed_by h m (listed m) k)
 matches_by T (name l) m ih k b n at mean = (mean, tt)
@@ -66,7 +66,7 @@ matches_by T star m ih k b n at mean = ih one_of (path star m k) b (bit_or n (en
 matches_by T plus m ih k b n at mean = ih one_of (path star m k) b (bit_or n (entry m one_of b n)) at (head_means T star m k b n at mean)
 matches_by T opt m ih k b n at mean = ih one_of k b n at mean
 
--- so for all paths
+-- the rows of all paths match their positions
 pub matches : (T : Way) (m : Paths) → Matches T m
 matches T none w k b n at mean = tt
 matches T (path h m after) in_turn k b n at mean =
@@ -97,14 +97,14 @@ located_from T b (a ∷ s) h = (
     one_more : (b i : ℕ) → (b + 1) + i ≡ b + suc i
     one_more b i = omega arith
 
--- so from the beginning
+-- the positions of a list are located in the list from 0 on
 pub located : (s : List Position) → Located (From s) 0 s
 located s = located_from (From s) 0 s (λ i x. ap (λ c. From s c x) (none_more i))
   where
     none_more : (i : ℕ) → 0 + i ≡ i
     none_more i = omega arith
 
--- a label of a set
+-- some position of the set takes the list of labels
 abbrev pub OnAny : ℕ → ℕ → List Position → Labels → Type 0
 OnAny n b [] x = ⊥
 OnAny n b (s ∷ ss) x = ((bit_at n b ≡ 1) × Takes s x) ⊎ OnAny n (b + 1) ss x
@@ -118,10 +118,10 @@ on_from n b (a ∷ s) zero l y h t = let e : b + 0 ≡ b = omega arith in inl (s
 -- a member of the set that leads on is one of them
 on_from n b (a ∷ s) (suc i) l y h t = let e : b + suc i ≡ (b + 1) + i = omega arith in inr (on_from n (b + 1) s i l y (subst (λ c. bit_at n c ≡ 1) e h) t)
 
--- one of them is a member of the set that leads on
+-- a list of labels that some position of a set takes leads on from a member of the set
 pub from_on : (n b : ℕ) (s : List Position) (x : Labels) → OnAny n b s x → (i : ℕ) × (bit_at n (b + i) ≡ 1) × From s i x
 from_on n b [] x h = absurd h
--- one of them is a member of the set that leads on
+-- a list of labels that some position of a set takes leads on from a member of the set
 from_on n b (a ∷ s) x (inl h) = let e : b ≡ b + 0 = omega arith in (0, subst (λ c. bit_at n c ≡ 1) e h.0, h.1)
 from_on n b (a ∷ s) x (inr h) =
     let r = from_on n (b + 1) s x h in

@@ -14,7 +14,7 @@ use Rattle.path_auto.specs.Sets.{entry_by, entry, rows_by, rows, tests_by, tests
 pub or_zero : (a : ℕ) → bit_or a 0 ≡ a
 or_zero a = same_from_bits (bit_or a 0) a (λ i. omega (arith, bit_at_or a 0 i, bit_at-zero i))
 
--- a union of three sets
+-- of a union of three sets it does not matter which two are joined first
 pub or_assoc : (a b c : ℕ) → bit_or (bit_or a b) c ≡ bit_or a (bit_or b c)
 or_assoc a b c = same_from_bits (bit_or (bit_or a b) c) (bit_or a (bit_or b c)) (λ i. omega (arith, bit_at_or (bit_or a b) c i, bit_at_or a b i, bit_at_or a (bit_or b c) i, bit_at_or b c i))
 
@@ -53,7 +53,7 @@ abbrev Tests : Paths → Type 0
 -- the tests of a path's positions are the tests of the path
 Tests m = (w : How) (k : Paths) → tests (listed m w k) ≡ tests_of m
 
--- so by its head
+-- the tests of a path's positions are the tests of the path, by its head
 pub tests_by_are : (h : Head) (m : Paths) → Tests m → (k : Paths) → tests (listed_by h m (listed m) k) ≡ tests_by h (tests_of m)
 tests_by_are (name l) m ih k = refl
 tests_by_are any m ih k = refl
@@ -67,7 +67,7 @@ tests_by_are opt m ih k = ih one_of k
 two : {A : Type 0} (a b c d : List A) → a ≡ c → b ≡ d → a ++ b ≡ c ++ d
 two a b c d e f = ap (λ r. r ++ b) e ∙ ap (λ r. c ++ r) f
 
--- so for all paths
+-- the tests of all paths' positions are the tests of the paths
 pub tests_are : (m : Paths) → Tests m
 tests_are none w k = refl
 tests_are (path h m after) in_turn k = tests_append (listed_by h m (listed m) (path seq after k)) (listed after in_turn k) ∙ two _ _ _ _ (tests_by_are h m (tests_are m) (path seq after k)) (tests_are after in_turn k)
@@ -87,6 +87,6 @@ set_more os i set given h g =
     ∙ ap (λ v. bit_or set (bit_or v (set_of (drop (i + 1) os) (i + 1)))) g
     ∙ ap (bit_or set) (sym (ap (λ us. set_of us i) (drop_at os i (get_or os i false) false h refl)))
 
--- after the last position there is nothing to gather
+-- after the last position the set that was gathered is whole
 pub set_end : (os : List Bool) (i set : ℕ) → length os ≤ i → bit_or set (set_of (drop i os) i) ≡ set
 set_end os i set h = ap (λ us. bit_or set (set_of us i)) (drop_all i os h) ∙ or_zero set

@@ -13,7 +13,7 @@ abbrev pub BindingsAreMatches : Type 0
 BindingsAreMatches =
     (m : Machine) (p : Form) → Follows m p → (f : Forest) (start : List ℕ) → AreMatches p f start (without_skips (visit_below m f start))
 
--- so along the automaton of each path, below each node of the source documents
+-- the bindings of the visit along each path's automaton, below each node of the source documents, are the path's matches
 abbrev pub VisitsAreMatches : Type 0
 VisitsAreMatches =
     (docs : Documents) (p : Form) (n : Node) → AreMatches p (tree [] (docs n.source) none) n.place (without_skips (visits docs p n))

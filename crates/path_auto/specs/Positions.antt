@@ -19,7 +19,7 @@ abbrev pub TestUtf8 : Option (List ℕ) → Type 0
 TestUtf8 None = Unit {0}
 TestUtf8 (Some l) = IsUtf8 l
 
--- a position
+-- the position with this test and these paths after it
 abbrev pub position : Option (List ℕ) → Paths → Position
 position t k = record { test = t; rest = k }
 
@@ -27,7 +27,7 @@ position t k = record { test = t; rest = k }
 abbrev pub Takes : Position → Labels → Type 0
 Takes s x = (c : List ℕ) × (y : Labels) × (c ∷ y ≡ x) × IsTrue (passes s.test c) × DescribesAs s.rest in_turn y
 
--- those that lead to the end from one of some positions
+-- the lists of labels that lead to the end from one of these positions
 abbrev pub Begins : List Position → Labels → Type 0
 Begins [] x = ⊥
 Begins (s ∷ ss) x = Takes s x ⊎ Begins ss x
@@ -59,7 +59,7 @@ starts_by star m s k = s one_of (path star m k)
 starts_by plus m s k = s one_of (path star m k)
 starts_by opt m s k = s one_of k
 
--- these positions, or none
+-- the given positions where a test holds, else none
 abbrev pub positions_if : Bool → List Position → List Position
 positions_if true ss = ss
 positions_if false ss = []
@@ -80,13 +80,13 @@ listed_by star m s k = s one_of (path star m k)
 listed_by plus m s k = s one_of (path star m k)
 listed_by opt m s k = s one_of k
 
--- all positions of paths
+-- all positions of paths in the order of their text
 abbrev pub listed : Paths → How → Paths → List Position
 listed none w k = []
 listed (path h m after) in_turn k = listed_by h m (listed m) (path seq after k) ++ listed after in_turn k
 listed (path h m after) one_of k = listed_by h m (listed m) k ++ listed after one_of k
 
--- the tests of positions
+-- the tests of these positions, in order
 abbrev pub tests : List Position → List (Option (List ℕ))
 tests [] = []
 tests (s ∷ ss) = s.test ∷ tests ss

@@ -48,7 +48,7 @@ From [] (suc i) x = ⊥
 From (s ∷ ss) zero x = Takes s x
 From (s ∷ ss) (suc i) x = From ss i x
 
--- those that lead to the end from a member of a set, by what leads there from each position
+-- the lists of labels that lead to the end from a member of a set, by what leads there from each position
 abbrev pub Leads : (ℕ → Labels → Type 0) → ℕ → Labels → Type 0
 Leads T n x = (i : ℕ) × (bit_at n i ≡ 1) × T i x
 
@@ -92,7 +92,7 @@ first_set p = entry_by p.head (entry p.members) 0 (2 ^ end_of p)
 abbrev pub listed_in : Form → List Position
 listed_in p = listed_by p.head p.members (listed p.members) none
 
--- for each of them, the set of those after it
+-- for each position of a path, the set of those after it
 abbrev pub rows_in : Form → List ℕ
 rows_in p = rows_by p.head (rows p.members) (entry p.members) 0 (2 ^ end_of p)
 
@@ -157,7 +157,7 @@ lives none w o = []
 lives (path h m after) in_turn o = lives_by h (lives m) (some after in_turn && o) ++ lives after in_turn o
 lives (path h m after) one_of o = lives_by h (lives m) o ++ lives after one_of o
 
--- the same of a path
+-- for each position of a path, whether any list leads from after it to the end
 abbrev pub lives_in : Form → List Bool
 lives_in p = lives_by p.head (lives p.members) true
 

@@ -7,7 +7,7 @@ pub fn bindings_are_matches()
     ensures { BindingsAreMatches }
 {}
 
-/// So are those of the visit along the automaton of each path, below any node of the source documents.
+/// The bindings of the visit along the automaton of each path, below any node of the source documents, are the path's matches.
 pub fn visits_are_matches()
     ensures { VisitsAreMatches }
 {}

@@ -95,7 +95,7 @@ fn some_path(path: &Path) -> bool
     }
 }
 
-// Whether a sequence does.
+// Whether a sequence describes any list at all.
 #[cycle(some)]
 fn some_turn(paths: &[Path]) -> bool
     ensures { result ≡ some (paths_of paths.now) in_turn }
@@ -106,7 +106,7 @@ fn some_turn(paths: &[Path]) -> bool
     }
 }
 
-// Whether a choice does.
+// Whether a choice describes any list at all.
 #[cycle(some)]
 fn some_one(paths: &[Path]) -> bool
     ensures { result ≡ some (paths_of paths.now) one_of }
@@ -144,7 +144,7 @@ pub fn push_after(
     }
 }
 
-// So for a sequence.
+// Puts the set of those after each position of a sequence after `table`.
 #[cycle(rows)]
 fn push_after_turn(
     paths: &[Path],
@@ -163,7 +163,7 @@ fn push_after_turn(
     push_after_turn(rest, after, next, table)
 }
 
-// So for a choice.
+// Puts the set of those after each position of a choice after `table`.
 #[cycle(rows)]
 fn push_after_one(
     paths: &[Path],
@@ -200,7 +200,7 @@ fn push_lives(path: &Path, more: bool, table: &mut Vec<bool>) -> Result<(), Allo
     }
 }
 
-// So for a sequence.
+// Puts whether some list leads to the end from after each position of a sequence after `table`.
 #[cycle(lives)]
 fn push_lives_turn(paths: &[Path], more: bool, table: &mut Vec<bool>) -> Result<(), AllocError>
     ensures { OnOk result (table.new.items ≡ table.old.items ++ lives (paths_of paths.now) in_turn more) }
@@ -213,7 +213,7 @@ fn push_lives_turn(paths: &[Path], more: bool, table: &mut Vec<bool>) -> Result<
     push_lives_turn(rest, more, table)
 }
 
-// So for a choice.
+// Puts whether some list leads to the end from after each position of a choice after `table`.
 #[cycle(lives)]
 fn push_lives_one(paths: &[Path], more: bool, table: &mut Vec<bool>) -> Result<(), AllocError>
     ensures { OnOk result (table.new.items ≡ table.old.items ++ lives (paths_of paths.now) one_of more) }
@@ -289,7 +289,7 @@ pub fn push_labels(
     }
 }
 
-// So for several paths.
+// Puts the label of each position of several paths after `table`.
 #[cycle(tests)]
 fn push_all_labels(
     alloc: Global,

@@ -29,7 +29,7 @@ impl Model for StateSet {
 }
 
 impl StateSet {
-    // The set of these bits.
+    // The set of states whose bits are those of the number.
     pub(crate) fn new(bits: u128) -> StateSet
         ensures { result ≡ bits }
     {
@@ -39,7 +39,7 @@ impl StateSet {
         }
     }
 
-    // Its bits.
+    // The bits of the set, as one number.
     pub(crate) fn bits(self) -> u128
         ensures { result ≡ self }
     {

@@ -40,12 +40,12 @@ pub record Part : Type 0 where
 abbrev pub wrapped : (form.Head → Bool) → Part → Spelled
 wrapped wraps m = cond (wraps m.head) (group m.spelled) m.spelled
 
--- more members after a dot each
+-- what has been spelled, with more members after it, each after a dot
 abbrev pub dots_from : Spelled → List Part → Spelled
 dots_from p [] = p
 dots_from p (m ∷ ms) = dots_from (dot p (wrapped wraps_in_seq m)) ms
 
--- more members after a bar each
+-- what has been spelled, with more members after it, each after a bar
 abbrev pub bars_from : Spelled → List Part → Spelled
 bars_from p [] = p
 bars_from p (m ∷ ms) = bars_from (bar p (wrapped wraps_in_alt m)) ms
@@ -84,7 +84,7 @@ parts_of (form.path head members after) = record { head = head; spelled = spelle
 abbrev pub spelled_as : form.Form → Spelled
 spelled_as f = spelled_by f.head (parts_of f.members)
 
--- its text
+-- a label's spelling in the canonical text has the label's canonical text
 label_text : (l : List ℕ) → text_of (label_spelled l) ≡ canon_label l
 label_text l = by_case (is_plain_name l)
   where
@@ -92,16 +92,16 @@ label_text l = by_case (is_plain_name l)
     by_case true = refl
     by_case false = let q = quoted_pieces l in sym q.2
 
--- a part's text
+-- a part as a member: its head and its text
 abbrev written : Part → Member
 written m = record { head = m.head; text = text_of m.spelled }
 
--- the texts of parts
+-- parts as members: their heads and texts
 abbrev all_written : List Part → List Member
 all_written [] = []
 all_written (m ∷ ms) = written m ∷ all_written ms
 
--- the text of a member
+-- a member's spelling has the member's canonical text
 wrapped_text : (wraps : form.Head → Bool) (m : Part) → text_of (wrapped wraps m) ≡ canon_member wraps (written m)
 wrapped_text wraps m = by_case (wraps m.head)
   where
@@ -142,7 +142,7 @@ by_text form.plus (form.path h m after) n = ap (λ r. r ++ 43 ∷ []) (wrapped_t
 by_text form.opt form.none n = absurd n
 by_text form.opt (form.path h m after) n = ap (λ r. r ++ 63 ∷ []) (wrapped_text wraps_in_mark (record { head = h; spelled = spelled_by h (parts_of m) }))
 
--- the texts of members
+-- the spellings of the paths of a list have their canonical texts
 parts_text : (m : form.Paths) → AreFormed m → all_written (parts_of m) ≡ members_of m
 parts_text form.none h = refl
 parts_text (form.path head m after) h =
@@ -195,7 +195,7 @@ abbrev forms_of : form.Paths → List form.Form
 forms_of form.none = []
 forms_of (form.path h m after) = record { head = h; members = m } ∷ forms_of after
 
--- they make up the list
+-- members under a head, taken one by one, make up the same members again
 paths_again : (ps : form.Paths) → form.paths_of (forms_of ps) ≡ ps
 paths_again form.none = refl
 paths_again (form.path h m after) = ap (form.path h m) (paths_again after)
@@ -241,7 +241,7 @@ record Dots (p : Spelled) (fs : List form.Form) : Type 0 where
   dots : (valued.read p).dots ≡ fs
   value : valued.value_of p ≡ form.joined form.seq fs
 
--- more members after a dot each
+-- members with a dot before each, after a sequence, make up the longer sequence
 dots_good : (ms : List Part) (fs gs : List form.Form) (p : Spelled) → AllGood ms fs → Dots p gs → Dots (dots_from p ms) (gs ++ fs)
 dots_good [] [] gs p a h = subst (Dots p) (sym (append_nil gs)) h
 dots_good [] (f ∷ fs) gs p a h = absurd a
@@ -267,7 +267,7 @@ record Bars (p : Spelled) (fs : List form.Form) : Type 0 where
   bars : (valued.read p).bars ≡ fs
   value : valued.value_of p ≡ form.joined form.alt fs
 
--- more members after a bar each
+-- members with a bar before each, after a choice, make up the longer choice
 bars_good : (ms : List Part) (fs gs : List form.Form) (p : Spelled) → AllGood ms fs → Bars p gs → Bars (bars_from p ms) (gs ++ fs)
 bars_good [] [] gs p a h = subst (Bars p) (sym (append_nil gs)) h
 bars_good [] (f ∷ fs) gs p a h = absurd a
@@ -291,7 +291,7 @@ bars_all m ms f fs a =
 abbrev SpellsForm : form.Head → form.Paths → Type 0
 SpellsForm h m = Good (record { head = h; spelled = spelled_by h (parts_of m) }) (record { head = h; members = m })
 
--- a member under a mark
+-- a member with a mark after it means the path under that mark
 mark_good : (h i : form.Head) (n after : form.Paths) (b : ℕ) (q : Spelled) → valued.mark_head b ≡ h → IsTrue (is_mark b) → Is q (kind_by i) → valued.value_of q ≡ record { head = i; members = n } → after ≡ form.none
     → (valued.value_of (marked (cond (wraps_in_mark i) (group q) q) b) ≡ record { head = h; members = form.path i n after }) × Is (marked (cond (wraps_in_mark i) (group q) q) b) a_repeat
 mark_good h i n after b q e k is value none = (
@@ -300,7 +300,7 @@ mark_good h i n after b q e k is value none = (
   (mark_part i q is, k),
 )
 
--- so with each head, where the members are good
+-- what the canonical text writes by each head means the path, where the members mean theirs
 good_form : (h : form.Head) (m : form.Paths) → HasMembers h m → AllGood (parts_of m) (forms_of m) → SpellsForm h m
 good_form (form.name l) m n a = let k = label_good l (is_plain_name l) refl in record { value = k.0 ∙ ap (λ x. record { head = form.name l; members = x }) (sym n); is = k.1 }
 good_form form.any m n a = record { value = ap (λ x. record { head = form.any; members = x }) (sym n); is = (refl, omega arith) }
@@ -321,12 +321,12 @@ good_form form.plus (form.path i k after) n a = let g = mark_good form.plus i k 
 good_form form.opt form.none n a = absurd n
 good_form form.opt (form.path i k after) n a = let g = mark_good form.opt i k after 63 (spelled_by i (parts_of k)) refl refl a.0.is a.0.value n in record { value = g.0; is = g.1 }
 
--- so with each path of a list
+-- what the canonical text writes for each path of a list means that path
 all_good : (ps : form.Paths) → AreFormed ps → AllGood (parts_of ps) (forms_of ps)
 all_good form.none h = tt
 all_good (form.path i m after) h = (good_form i m h.0 (all_good m h.1), all_good after h.2)
 
--- each kind is a path
+-- what is written of each head's kind is a path
 any_path : (h : form.Head) (p : Spelled) → Is p (kind_by h) → Is p a_path
 any_path (form.name l) p i = path_of_sequence p (sequence_of_repeat p (repeat_of_atom p i))
 any_path form.any p i = path_of_sequence p (sequence_of_repeat p (repeat_of_atom p i))

@@ -28,7 +28,7 @@ escaped_one u b l h next rest = by_cases (b == 34) (b == 92) (b == 10) (b == 9) 
     by_cases false false false true p q r s = two 116 (omega arith) (let k = number_is b 9 s in omega (arith, k))
     by_cases false false false false p q r s = subst IsUtf8 (append_assoc u (b ∷ []) (flat_map escaped l)) next
 
--- a label's escapes
+-- a UTF-8 text stays UTF-8 with the escapes of its last part
 escaped_all : (u l : List ℕ) → IsUtf8 (u ++ l) → IsUtf8 (u ++ flat_map escaped l)
 escaped_all u [] h = h
 escaped_all u (b ∷ l) h = escaped_one u b l h (escaped_all (u ++ b ∷ []) l (subst IsUtf8 (sym (append_assoc u (b ∷ []) l)) h)) (escaped_all [] l)
@@ -50,7 +50,7 @@ abbrev AllText : List Member → Type 0
 AllText [] = Unit {0}
 AllText (m ∷ ms) = IsUtf8 m.text × AllText ms
 
--- a member
+-- a member's canonical text is UTF-8, where its text is
 member_utf8 : (wraps : form.Head → Bool) (m : Member) → IsUtf8 m.text → IsUtf8 (canon_member wraps m)
 member_utf8 wraps m u = by_case (wraps m.head)
   where
@@ -58,7 +58,7 @@ member_utf8 wraps m u = by_case (wraps m.head)
     by_case true = around 40 41 m.text (omega arith) (omega arith) u
     by_case false = u
 
--- members after the first
+-- the members after the first, each with a separator, are UTF-8, where their texts are
 rest_utf8 : (wraps : form.Head → Bool) (b : ℕ) (ms : List Member) → b < 128 → AllText ms → IsUtf8 (canon_rest wraps b ms)
 rest_utf8 wraps b [] h u = IsUtf8-nil
 rest_utf8 wraps b (m ∷ ms) h u =
@@ -70,12 +70,12 @@ between_utf8 : (wraps : form.Head → Bool) (b : ℕ) (ms : List Member) → b <
 between_utf8 wraps b [] h u = IsUtf8-nil
 between_utf8 wraps b (m ∷ ms) h u = IsUtf8-append (canon_member wraps m) (canon_rest wraps b ms) (member_utf8 wraps m u.0) (rest_utf8 wraps b ms h u.1)
 
--- the member under a mark
+-- the member under a mark is UTF-8, where its text is
 only_utf8 : (ms : List Member) → AllText ms → IsUtf8 (canon_only ms)
 only_utf8 [] u = IsUtf8-nil
 only_utf8 (m ∷ ms) u = member_utf8 wraps_in_mark m u.0
 
--- the text by the head
+-- the canonical text by a head with a UTF-8 label is UTF-8, where the texts of the members are
 by_utf8 : (h : form.Head) (ms : List Member) → HeadUtf8 h → AllText ms → IsUtf8 (canon_by h ms)
 by_utf8 (form.name l) ms h u = label_canon l h
 by_utf8 form.any ms h u = one_utf8 95 (omega arith)
@@ -85,11 +85,11 @@ by_utf8 form.star ms h u = utf8_push (canon_only ms) 42 (omega arith) (only_utf8
 by_utf8 form.plus ms h u = utf8_push (canon_only ms) 43 (omega arith) (only_utf8 ms u)
 by_utf8 form.opt ms h u = utf8_push (canon_only ms) 63 (omega arith) (only_utf8 ms u)
 
--- the texts of members
+-- the canonical texts of paths with UTF-8 labels are UTF-8
 members_utf8 : (ps : form.Paths) → AreUtf8 ps → AllText (members_of ps)
 members_utf8 form.none h = tt
 members_utf8 (form.path head members after) h = (by_utf8 head (members_of members) h.0 (members_utf8 members h.1), members_utf8 after h.2)
 
--- the canonical text
+-- the canonical text of a path with UTF-8 labels is UTF-8
 pub canon_utf8 : (f : form.Form) → HeadUtf8 f.head → AreUtf8 f.members → IsUtf8 (canon f)
 canon_utf8 f h k = by_utf8 f.head (members_of f.members) h (members_utf8 f.members k)

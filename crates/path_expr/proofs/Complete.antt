@@ -23,11 +23,11 @@ atom_in (past_repeat p) = None
 abbrev pub ReadsAtom : Spelled → Type 0
 ReadsAtom c = (f : Frame) (o : List Frame) → (m : Mode) × (run (at f o start) (text_of c) ≡ Some (at f o m)) × (atom_in m ≡ Some c)
 
--- the same of a repeat
+-- from the start of a member a run over the repeat ends after it
 abbrev pub ReadsRepeat : Spelled → Type 0
 ReadsRepeat c = (f : Frame) (o : List Frame) → (m : Mode) × (run (at f o start) (text_of c) ≡ Some (at f o m)) × (repeat_in m ≡ Some c)
 
--- a frame
+-- a frame with this choice before the last bar and this sequence before the last dot
 abbrev pub in_sequence : Option Spelled → Option Spelled → Frame
 in_sequence b d = record { bars = b; dots = d }
 
@@ -40,7 +40,7 @@ ReadsSequence c = (b : Option Spelled) (o : List Frame) → (d : Option Spelled)
 abbrev pub ReadsPath : Spelled → Type 0
 ReadsPath c = (o : List Frame) → (g : Frame) × (m : Mode) × (p : Spelled) × (run (at empty o start) (text_of c) ≡ Some (at g o m)) × (repeat_in m ≡ Some p) × (path_in g p ≡ c)
 
--- what is read of a kind
+-- a run over what is written ends as its kind says
 abbrev pub Reads : Kind → Spelled → Type 0
 Reads a_path c = ReadsPath c
 Reads a_sequence c = ReadsSequence c
@@ -75,21 +75,21 @@ any_kind a_sequence c h = from_repeat c (from_atom c h)
 any_kind a_repeat c h = from_atom c h
 any_kind an_atom c h = h
 
--- names
+-- a name at hand goes on with bytes of a name
 name_goes_on : (l x : List ℕ) (f : Frame) (o : List Frame) → IsTrue (list_all is_name_byte x) → run (at f o (naming l)) x ≡ Some (at f o (naming (l ++ x)))
 name_goes_on l [] f o h = ap (λ r. Some (at f o (naming r))) (sym (append_nil l))
 name_goes_on l (b ∷ x) f o h =
     let parts = and_parts (is_name_byte b) (list_all is_name_byte x) h in
     rw parts.0 (name_goes_on (l ++ b ∷ []) x f o parts.1 ∙ ap (λ r. Some (at f o (naming r))) (append_assoc l (b ∷ []) x))
 
--- a name is read
+-- a name is read as an atom
 reads_word : (l : List ℕ) → IsName l → ReadsAtom (word l)
 reads_word [] h f o = absurd (omega arith)
 reads_word (b ∷ l) h f o =
     let parts = and_parts (is_name_byte b) (list_all is_name_byte l) h.0 in
     (naming (b ∷ l), rw parts.0 (name_goes_on (b ∷ []) l f o parts.1), refl)
 
--- quoted labels
+-- inside quotes a byte that stands for itself is read as a piece
 pub plain_step : (b : ℕ) (f : Frame) (o : List Frame) (ps : List Piece) → IsTrue (is_plain b) → step_in f o (quoting ps) b ≡ Some (at f o (quoting (ps ++ plain b ∷ [])))
 plain_step b f o ps h = by_cases (b == 34) (b == 92) _ _ _ h
   where
@@ -119,7 +119,7 @@ reads_quote : (ps : List Piece) → ArePieces ps → ReadsAtom (quote ps)
 reads_quote ps h f o =
     (past_atom (quote ps), run_then step (inside_quotes ps) (34 ∷ []) (at f o (quoting [])) (at f o (quoting ps)) (quote_goes_on [] ps f o h), refl)
 
--- after a member that may end
+-- a byte after a member that may end, no mark and none of a name, leads on from that member
 pub ends_by : (b : ℕ) (f : Frame) (o : List Frame) (m : Mode) (p : Spelled) → is_name_byte b ≡ false → is_mark b ≡ false → repeat_in m ≡ Some p → step_in f o m b ≡ after_repeat f o p b
 ends_by b f o start p n k e = none_some p e
 ends_by b f o (naming l) p n k e = rw (n, k) (ap (λ q. after_repeat f o q b) (some_is _ _ e))
@@ -143,7 +143,7 @@ reads_group p h f o =
 pub mark_not_name : (b : ℕ) → IsTrue (is_mark b) → is_name_byte b ≡ false
 mark_not_name b h = grind (arith, nat_tests)
 
--- a mark after an atom
+-- a mark after an atom leads to the atom with its mark
 mark_step : (f : Frame) (o : List Frame) (m : Mode) (p : Spelled) (b : ℕ) → atom_in m ≡ Some p → IsTrue (is_mark b) → step_in f o m b ≡ Some (at f o (past_repeat (marked p b)))
 mark_step f o start p b e h = none_some p e
 mark_step f o (naming l) p b e h = rw (mark_not_name b h, h) (ap (λ q. Some (at f o (past_repeat (marked q b)))) (some_is _ _ e))
@@ -158,7 +158,7 @@ reads_marked p b h k f o =
     let r = h f o in
     (past_repeat (marked p b), run_then step (text_of p) (b ∷ []) (at f o start) (at f o r.0) r.1 ∙ run_byte step b [] (at f o r.0) _ (mark_step f o r.0 p b r.2 k), refl)
 
--- a sequence is read
+-- a sequence is read, where its first members and its last one are
 reads_dot : (p q : Spelled) → ReadsSequence p → ReadsRepeat q → ReadsSequence (dot p q)
 reads_dot p q h k b o =
     let r = h b o in
@@ -173,7 +173,7 @@ reads_dot p q h k b o =
       refl,
     )
 
--- a choice is read
+-- a choice is read, where its choices and its last sequence are
 reads_bar : (p q : Spelled) → ReadsPath p → ReadsSequence q → ReadsPath (bar p q)
 reads_bar p q h k o =
     let r = h o in

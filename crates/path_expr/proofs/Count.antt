@@ -7,7 +7,7 @@ use Rattle.path_expr.specs.Form as form
 use Rattle.path_expr.specs.Values as valued
 use Rattle.path_expr.specs.Results.{Spells}
 
--- one path more
+-- paths with one more as the last have its positions more
 labels_push : (ps : List form.Form) (p : form.Form) → form.positions_of (form.paths_of (ps ++ p ∷ [])) ≡ form.positions_of (form.paths_of ps) + form.positions_in p
 labels_push [] p = omega arith
 labels_push (q ∷ ps) p = omega (arith, labels_push ps p)
@@ -29,7 +29,7 @@ word_labels : (b : Bool) (l : List ℕ) → form.positions_in (cond b (record { 
 word_labels true l = refl
 word_labels false l = refl
 
--- a mark is none
+-- a mark adds no position
 mark_labels : (m : ℕ) (p : form.Form) → form.positions_in (form.repeated (valued.mark_head m) p) ≡ form.positions_in p
 mark_labels m p = by_cases (m == 42) (m == 43)
   where
@@ -44,7 +44,7 @@ pub record Few (p : Spelled) : Type 0 where
   pub dots : form.positions_of (form.paths_of (valued.read p).dots) ≤ length (text_of p)
   pub bars : form.positions_of (form.paths_of (valued.read p).bars) ≤ length (text_of p)
 
--- so with what is neither a sequence nor a choice
+-- what is neither a sequence nor a choice has few positions, where its value has
 few_alone : (p : Spelled) (w : form.Form) → valued.read p ≡ valued.alone w → form.positions_in w ≤ length (text_of p) → Few p
 few_alone p w e h = record {
   value = omega (arith, h, ap (λ r. form.positions_in r.value) e);
@@ -52,11 +52,11 @@ few_alone p w e h = record {
   bars = omega (arith, h, ap (λ r. form.positions_of (form.paths_of r.bars)) e);
 }
 
--- so with an atom and its mark
+-- an atom with its mark has few positions, where the atom has
 marked_few : (p : Spelled) (m : ℕ) → form.positions_in (valued.value_of p) ≤ length (text_of p) → Few (marked p m)
 marked_few p m h = few_alone (marked p m) (form.repeated (valued.mark_head m) (valued.value_of p)) refl (omega (arith, h, mark_labels m (valued.value_of p), length-append (text_of p) (m ∷ [])))
 
--- so with a sequence
+-- a sequence has few positions, where its parts have
 dot_few : (p q : Spelled) → Few p → Few q → Few (dot p q)
 dot_few p q h k =
     let all = labels_push (valued.read p).dots (valued.value_of q) in
@@ -67,7 +67,7 @@ dot_few p q h k =
       bars = omega (arith, all, one, len, h.dots, k.value);
     }
 
--- so with a choice
+-- a choice has few positions, where its parts have
 bar_few : (p q : Spelled) → Few p → Few q → Few (bar p q)
 bar_few p q h k =
     let all = labels_push (valued.read p).bars (valued.value_of q) in
@@ -78,7 +78,7 @@ bar_few p q h k =
       bars = omega (arith, all, len, h.bars, k.value);
     }
 
--- so with all that is written
+-- all that is written has no more positions than bytes
 pub few : (p : Spelled) (k : Kind) → Is p k → Few p
 few (word l) k h = few_alone (word l) (valued.word_form l) refl (omega (arith, word_labels (bytes_eq l (95 ∷ [])) l, h.1))
 few (quote ps) k h = few_alone (quote ps) (valued.named (meaning ps)) refl (omega (arith, length-append (34 ∷ inside_quotes ps) (34 ∷ [])))

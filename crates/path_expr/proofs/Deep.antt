@@ -50,7 +50,7 @@ plain_step b n h = by_cases (b == 34) (b == 92) h
     by_cases false true h = cc
     by_cases false false h = refl
 
--- pieces open nothing
+-- the pieces of a quoted label open no parenthesis
 inside_deep : (ps : List Piece) (y : List ℕ) (i n : ℕ) → n ≤ 100 → ArePieces ps → scan_deep (inside_quotes ps ++ y) i (shape n Quoting) ≡ scan_deep y (i + length (inside_quotes ps)) (shape n Quoting)
 inside_deep [] y i n m h = let e : i ≡ i + 0 = omega arith in ap (λ k. scan_deep y k (shape n Quoting)) e
 inside_deep (plain b ∷ ps) y i n m h =
@@ -72,7 +72,7 @@ end_of (marked p m) = PastRepeat
 end_of (dot p q) = end_of q
 end_of (bar p q) = end_of q
 
--- a member may end there
+-- after what is written a member may end
 ends : (p : Spelled) → may_end (end_of p) ≡ true
 ends (word l) = refl
 ends (quote ps) = refl
@@ -99,7 +99,7 @@ dots n Escaping h = cc
 dots n PastAtom h = refl
 dots n PastRepeat h = refl
 
--- and after a bar
+-- the next member begins after a bar
 bars : (n : ℕ) (s : Stage) → may_end s ≡ true → shape_in n s 124 ≡ Some (shape n Start)
 bars n Start h = cc
 bars n Naming h = refl
@@ -122,7 +122,7 @@ abbrev Finds : Spelled → Type 0
 Finds p = (y : List ℕ) (i n : ℕ) → n ≤ 100
     → scan_deep (text_of p ++ y) i (shape n Start) ≡ first_of (deep_from n i p) (scan_deep y (i + length (text_of p)) (shape n (end_of p)))
 
--- in a name
+-- a scan of a name finds what the name says
 word_deep : (l : List ℕ) → Is (word l) an_atom → Finds (word l)
 word_deep [] h y i n m = absurd (omega (arith, h.1))
 word_deep (b ∷ l) h y i n m =
@@ -130,7 +130,7 @@ word_deep (b ∷ l) h y i n m =
     let e : i + 1 + length l ≡ i + length (b ∷ l) = omega arith in
     flat b (l ++ y) i n Start Naming m (rw parts.0 refl) ∙ name_deep l y (i + 1) n m parts.1 ∙ ap (λ k. scan_deep y k (shape n Naming)) e
 
--- in a quoted label
+-- a scan of a quoted label finds what the label says
 quote_deep : (ps : List Piece) → ArePieces ps → Finds (quote ps)
 quote_deep ps h y i n m =
     let x = inside_quotes ps in
@@ -138,7 +138,7 @@ quote_deep ps h y i n m =
     flat 34 ((x ++ 34 ∷ []) ++ y) i n Start Quoting m refl ∙ ap (λ r. scan_deep r (i + 1) (shape n Quoting)) (append_assoc x (34 ∷ []) y)
     ∙ inside_deep ps (34 ∷ y) (i + 1) n m h ∙ flat 34 y (i + 1 + length x) n Quoting PastAtom m refl ∙ ap (λ k. scan_deep y k (shape n PastAtom)) e
 
--- in parentheses
+-- a scan of a path in parentheses finds what that path says
 group_deep : (p : Spelled) → Finds p → Finds (group p)
 group_deep p h y i n m = by_case (nat_lt n 100) refl
   where
@@ -165,7 +165,7 @@ group_deep p h y i n m = by_case (nat_lt n 100) refl
         let many : nat_lt 100 (n + 1) ≡ true = grind (arith, nat_tests) in
         ap (λ c. first_of (cond c (Some i) None) (scan_deep ((x ++ 41 ∷ []) ++ y) (i + 1) (shape (n + 1) Start))) many
 
--- in an atom with its mark
+-- a scan of an atom with its mark finds what the atom says
 marked_deep : (p : Spelled) (m : ℕ) → Is p an_atom → IsTrue (is_mark m) → Finds p → Finds (marked p m)
 marked_deep p m a k h y i n few =
     let x = text_of p in
@@ -178,7 +178,7 @@ pub first_assoc : (a b c : Option ℕ) → first_of a (first_of b c) ≡ first_o
 first_assoc None b c = refl
 first_assoc (Some a) b c = refl
 
--- in two parts with a byte between them
+-- a scan of two parts with a dot or a bar between them finds what the parts say
 two_deep : (p q : Spelled) (b : ℕ) → ((n : ℕ) → shape_in n (end_of p) b ≡ Some (shape n Start)) → Finds p → Finds q → (y : List ℕ) (i n : ℕ) → n ≤ 100
     → scan_deep ((text_of p ++ b ∷ text_of q) ++ y) i (shape n Start)
     ≡ first_of (first_of (deep_from n i p) (deep_from n (i + length (text_of p) + 1) q)) (scan_deep y (i + length (text_of p ++ b ∷ text_of q)) (shape n (end_of q)))
@@ -191,7 +191,7 @@ two_deep p q b f h k y i n few =
     ∙ ap (λ j. first_of (deep_from n (i + length x + 1) q) (scan_deep y j (shape n (end_of q)))) e)
     ∙ first_assoc (deep_from n i p) (deep_from n (i + length x + 1) q) (scan_deep y (i + length (x ++ b ∷ z)) (shape n (end_of q)))
 
--- in all that is written
+-- a scan of all that is written finds what the written path says
 finds : (p : Spelled) (k : Kind) → Is p k → Finds p
 finds (word l) k h y i n m = word_deep l h y i n m
 finds (quote ps) k h y i n m = quote_deep ps h y i n m
@@ -209,7 +209,7 @@ finds (bar p q) a_repeat h y i n m = absurd h
 finds (bar p q) a_sequence h y i n m = absurd h
 finds (bar p q) a_path h y i n m = two_deep p q 124 (λ j. bars j (end_of p) (ends p)) (finds p a_path h.0) (finds q a_sequence h.1) y i n m
 
--- a place, else none
+-- the first of a place and none is that place
 pub first_none : (a : Option ℕ) → first_of a None ≡ a
 first_none None = refl
 first_none (Some a) = refl
@@ -226,7 +226,7 @@ deep_next x at s t deep within e =
     sym (first_assoc deep (deep_here t.depth at) (scan_deep (drop (at + 1) x) (at + 1) t))
     ∙ ap (first_of deep) (sym (ap (λ r. scan_deep r at s) (drop_more x at 0 within) ∙ ap (after_scan at (scan_deep (drop (at + 1) x) (at + 1))) e))
 
--- no place at all
+-- two places of which the first is none are none
 both_none : (a b : Option ℕ) → first_of a b ≡ None → (a ≡ None) × (b ≡ None)
 both_none None b e = (refl, e)
 both_none (Some a) b e = none_some a (sym e)

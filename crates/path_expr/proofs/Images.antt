@@ -22,7 +22,7 @@ use Rattle.path_expr.specs.declared.build.Builder.{Builder}
 use Rattle.path_expr.specs.declared.build.Spot.{Spot}
 use Rattle.path_expr.specs.declared.build.Spot.TheVariants.{Start, Naming, Quoting, Escaping, PastAtom, PastRepeat}
 
--- both choices, side by side
+-- two choices by one boolean have the same values where their sides have
 either : (b : Bool) (x y : Option State) (s t : Option building.State) → option_map building.values_of x ≡ s → option_map building.values_of y ≡ t → option_map building.values_of (cond b x y) ≡ cond b s t
 either true x y s t h k = h
 either false x y s t h k = k
@@ -73,7 +73,7 @@ value_in f p = path_value f.bars (seq_with f.dots p) ∙ ap (λ w. form.joined f
 bars_with : (f : Frame) (p : Spelled) → IsFrame f → Is p a_repeat → (valued.read (path_in f p)).bars ≡ building.bars_in f.bars ++ building.seq_in (building.level_of f) (valued.value_of p) ∷ []
 bars_with f p h k = path_bars f.bars (seq_with f.dots p) (seq_with_is f.dots p h.1 k) ∙ ap (λ w. building.bars_in f.bars ++ w ∷ []) (seq_value f.dots p)
 
--- one piece more
+-- pieces with one more mean what they meant and what that one means
 label-push : (ps : List Piece) (q : Piece) → meaning (ps ++ q ∷ []) ≡ meaning ps ++ meaning (q ∷ [])
 label-push [] q = refl
 label-push (plain b ∷ ps) q = ap (λ r. b ∷ r) (label-push ps q)
@@ -94,7 +94,7 @@ repeat_value f o p b h k =
 atom_value : (f : Frame) (o : List Frame) (p : Spelled) (b : ℕ) → IsFrame f → Is p an_atom → option_map building.values_of (after_atom f o p b) ≡ building.after_atom (building.level_of f) (building.levels_of o) (valued.value_of p) b
 atom_value f o p b h k = either (is_mark b) _ _ _ _ refl (repeat_value f o p b h (repeat_of_atom p k))
 
--- a step, with values
+-- after a step the machine with values has what the machine's state means
 pub step_value : (x : List ℕ) (f : Frame) (o : List Frame) (m : Mode) (b : ℕ) → Stands x f o m → option_map building.values_of (step_in f o m b) ≡ building.step_in (building.level_of f) (building.levels_of o) (building.mode_of m) b
 step_value x f o start b h = either (is_name_byte b) _ _ _ _ refl (either (b == 34) _ _ _ _ refl (either (b == 40) _ _ _ _ refl refl))
 step_value x f o (naming l) b h = either (is_name_byte b) _ _ _ _ refl (atom_value f o (word l) b h.here h.mode)
@@ -132,7 +132,7 @@ stood_at : (x : List ℕ) (o : Option State) (t : State) → Gives (StandsAt x) 
 stood_at x None t h e = none_some t e
 stood_at x (Some s) t h e = subst (StandsAt x) (some_is _ _ e) h
 
--- the same, of a run
+-- the state that a run over a text came to is well formed, and writes the text
 pub stood : (x : List ℕ) (t : State) → run first x ≡ Some t → StandsAt x t
 stood x t e = stood_at x (run first x) t (run_stands x [] first first_stands) e
 
@@ -142,7 +142,7 @@ build_more : (x : List ℕ) (i : ℕ) (s : building.State) → i < length x → 
 build_more x i s h e =
     scan_prefix step building.values_of building.step first x i s (λ t b r. step_value (take i x) t.here t.outer t.mode b (stood (take i x) t r)) h e
 
--- one more byte leads on
+-- a machine with values that makes one more step still stands where the machine stands
 pub build_next : (x : List ℕ) (i : ℕ) (s t : building.State) → i < length x → BuildsTo (take i x) s → building.step s (slice_index x i) ≡ Some t → BuildsTo (take (i + 1) x) t
 build_next x i s t h e n = build_more x i s h e ∙ n
 
@@ -195,16 +195,16 @@ mode_utf8 x y b f o (escaping ps) h u = tt
 mode_utf8 x y b f o (past_atom p) h u = tt
 mode_utf8 x y b f o (past_repeat p) h u = tt
 
--- the same, of a run
+-- a label that ends before a byte of a UTF-8 text is UTF-8, in the machine with values
 state_utf8 : (x y : List ℕ) (b : ℕ) (o : Option State) (s : building.State) → run first x ≡ o → option_map building.values_of o ≡ Some s → IsUtf8 (x ++ b ∷ y) → IsLabelUtf8 s.mode b
 state_utf8 x y b None s r e u = none_some s e
 state_utf8 x y b (Some t) s r e u = subst (λ q. IsLabelUtf8 q.mode b) (some_is _ _ e) (mode_utf8 x y b t.here t.outer t.mode (stood x t r) u)
 
--- a text around a byte
+-- a text is the part before a byte of it, the byte, and the part after it
 parts_of : (x : List ℕ) (i : ℕ) → i < length x → take i x ++ slice_index x i ∷ drop (i + 1) x ≡ x
 parts_of x i h = sym (append_assoc (take i x) (slice_index x i ∷ []) (drop (i + 1) x)) ∙ ap (λ r. r ++ drop (i + 1) x) (sym (take_more x i 0 h)) ∙ take-append-drop (i + 1) x
 
--- the same, of a spot
+-- a label of a spot that ends by this byte is UTF-8, where that of its mode is
 spot_utf8 : (s : Spot) (b : ℕ) → IsLabelUtf8 (mode_in s) b → AreUtf8 s b
 spot_utf8 Start b h = h
 spot_utf8 (Naming l) b h = h
@@ -213,7 +213,7 @@ spot_utf8 (Escaping l) b h = h
 spot_utf8 (PastAtom p) b h = h
 spot_utf8 (PastRepeat p) b h = h
 
--- the same, of a builder
+-- a label of a builder that ends by a byte of a UTF-8 text is UTF-8
 pub builder_utf8 : (x : List ℕ) (i : ℕ) (r : Builder) → i < length x → BuildsTo (take i x) (state_in r) → IsUtf8 x → AreUtf8 r.spot (slice_index x i)
 builder_utf8 x i r h e u =
     spot_utf8 r.spot (slice_index x i)
@@ -228,12 +228,12 @@ mode_utf8_now x f o (escaping ps) h = tt
 mode_utf8_now x f o (past_atom p) h = tt
 mode_utf8_now x f o (past_repeat p) h = tt
 
--- the same, of a run
+-- a label that ends with the text is UTF-8, in the machine with values
 state_utf8_now : (x : List ℕ) (o : Option State) (s : building.State) → run first x ≡ o → option_map building.values_of o ≡ Some s → IsLabelUtf8 s.mode 0
 state_utf8_now x None s r e = none_some s e
 state_utf8_now x (Some t) s r e = subst (λ q. IsLabelUtf8 q.mode 0) (some_is _ _ e) (mode_utf8_now x t.here t.outer t.mode (stood x t r))
 
--- the same, of a spot
+-- a label of a spot that ends with the text is UTF-8, where that of its mode is
 spot_utf8_now : (s : Spot) → IsLabelUtf8 (mode_in s) 0 → AreUtf8Now s
 spot_utf8_now Start h = h
 spot_utf8_now (Naming l) h = h
@@ -242,7 +242,7 @@ spot_utf8_now (Escaping l) h = h
 spot_utf8_now (PastAtom p) h = h
 spot_utf8_now (PastRepeat p) h = h
 
--- the same, of a builder
+-- a label of a builder that ends with the text is UTF-8
 pub builder_utf8_now : (x : List ℕ) (r : Builder) → BuildsTo x (state_in r) → AreUtf8Now r.spot
 builder_utf8_now x r e = spot_utf8_now r.spot (state_utf8_now x (run first x) (state_in r) refl e)
 

@@ -41,7 +41,7 @@ member_on f (g ∷ o) m p e =
 quoting_on : (f : Frame) (o : List Frame) (ps : List Piece) → GoesOn (at f o (quoting ps))
 quoting_on f o ps = byte_on 34 (at f o (quoting ps)) (at f o (past_atom (quote ps))) (omega arith) refl (member_on f o (past_atom (quote ps)) (quote ps) refl)
 
--- each state goes on
+-- from each state some bytes lead to a whole path
 pub mode_on : (f : Frame) (o : List Frame) (m : Mode) → GoesOn (at f o m)
 mode_on f o start = byte_on 97 (at f o start) (at f o (naming (97 ∷ []))) (omega arith) refl (member_on f o (naming (97 ∷ [])) (word (97 ∷ [])) refl)
 mode_on f o (naming l) = member_on f o (naming l) (word l) refl
@@ -61,6 +61,6 @@ run_prefix x s u e =
 pub stopped_writes : (x y : List ℕ) (p : Spelled) → run first x ≡ None → Writes (x ++ y) p → ⊥
 stopped_writes x y p e h = none_some p (sym (ap (option_and_then whole) (run_append step x y first ∙ ap (option_and_then (λ u. run u y)) e)) ∙ writes_read (x ++ y) p h)
 
--- and it is no prefix
+-- a text where a run has stopped is no prefix of a path's text
 pub stopped_prefix : (x : List ℕ) → run first x ≡ None → IsPrefix Spells x → ⊥
 stopped_prefix x e (y, v, u, (p, h, k)) = stopped_writes x y p e h

@@ -36,26 +36,26 @@ record Fits (wraps : form.Head → Bool) (n : ℕ) (f : form.Form) : Type 0 wher
   members : AreUtf8 f.members
   nests : inner wraps f ≤ n
 
--- so with each path of a list
+-- each path of a list fits where such heads stand in parentheses
 abbrev AllFit : (form.Head → Bool) → ℕ → List form.Form → Type 0
 AllFit wraps n [] = Unit {0}
 AllFit wraps n (f ∷ fs) = Fits wraps n f × AllFit wraps n fs
 
--- a higher bound
+-- a path that fits still does where the parentheses may go deeper
 deeper : (wraps : form.Head → Bool) (n m : ℕ) (f : form.Form) → n ≤ m → Fits wraps n f → Fits wraps m f
 deeper wraps n m f h k = record { formed = k.formed; head = k.head; members = k.members; nests = omega (arith, h, k.nests) }
 
--- a higher bound for all
+-- paths that fit still do where the parentheses may go deeper
 all_deeper : (wraps : form.Head → Bool) (n m : ℕ) (fs : List form.Form) → n ≤ m → AllFit wraps n fs → AllFit wraps m fs
 all_deeper wraps n m [] h k = tt
 all_deeper wraps n m (f ∷ fs) h k = (deeper wraps n m f h k.0, all_deeper wraps n m fs h k.1)
 
--- one path more
+-- paths that fit, with one more that does, all fit
 all_push : (wraps : form.Head → Bool) (n : ℕ) (fs : List form.Form) (f : form.Form) → AllFit wraps n fs → Fits wraps n f → AllFit wraps n (fs ++ f ∷ [])
 all_push wraps n [] f h k = (k, tt)
 all_push wraps n (g ∷ fs) f h k = (h.0, all_push wraps n fs f h.1 k)
 
--- fewer heads in parentheses
+-- a path that fits still fits where fewer heads stand in parentheses
 fewer : (wraps less : form.Head → Bool) (n : ℕ) (f : form.Form) → (IsTrue (less f.head) → IsTrue (wraps f.head)) → Fits wraps n f → Fits less n f
 fewer wraps less n f e h = record { formed = h.formed; head = h.head; members = h.members; nests = by_cases (wraps f.head) (less f.head) e h.nests }
   where
@@ -112,7 +112,7 @@ all_formed : (wraps : form.Head → Bool) (n : ℕ) (fs : List form.Form) → Al
 all_formed wraps n [] h = tt
 all_formed wraps n (f ∷ fs) h = (h.0.formed.0, h.0.formed.1, all_formed wraps n fs h.1)
 
--- their labels are UTF-8
+-- the labels of paths that fit are UTF-8
 all_utf8 : (wraps : form.Head → Bool) (n : ℕ) (fs : List form.Form) → AllFit wraps n fs → AreUtf8 (form.paths_of fs)
 all_utf8 wraps n [] h = tt
 all_utf8 wraps n (f ∷ fs) h = (h.0.head, h.0.members, all_utf8 wraps n fs h.1)
@@ -126,7 +126,7 @@ two_seq n f g fs h = record {
   nests = dots_nest (wrapped wraps_in_seq (part_of f)) (g ∷ fs) n h.0.nests h.1;
 }
 
--- a choice of two or more
+-- a choice of two members or more that fit fits alone
 two_alt : (n : ℕ) (f g : form.Form) (fs : List form.Form) → AllFit wraps_in_alt n (f ∷ g ∷ fs) → Fits never n (form.joined form.alt (f ∷ g ∷ fs))
 two_alt n f g fs h = record {
   formed = (tt, all_formed wraps_in_alt n (f ∷ g ∷ fs) h);
@@ -153,24 +153,24 @@ record SeqFits (p : Spelled) : Type 0 where
   some : 0 < length (valued.read p).dots
   value : Fits wraps_in_alt (nesting p) (valued.value_of p)
 
--- the same, for a choice
+-- what a written path means fits alone, and the members of its choice fit in a choice
 record PathFits (p : Spelled) : Type 0 where
   bars : AllFit wraps_in_alt (nesting p) (valued.read p).bars
   some : 0 < length (valued.read p).bars
   value : Fits never (nesting p) (valued.value_of p)
 
--- the same, for each kind
+-- what is written fits where its kind stands
 abbrev KindFits : Kind → Spelled → Type 0
 KindFits a_path p = PathFits p
 KindFits a_sequence p = SeqFits p
 KindFits a_repeat p = Fits wraps_in_seq (nesting p) (valued.value_of p)
 KindFits an_atom p = Fits wraps_in_mark (nesting p) (valued.value_of p)
 
--- an atom as a repeat
+-- an atom that fits under a mark fits in a sequence
 repeat_fits : (p : Spelled) → Fits wraps_in_mark (nesting p) (valued.value_of p) → Fits wraps_in_seq (nesting p) (valued.value_of p)
 repeat_fits p h = fewer wraps_in_mark wraps_in_seq (nesting p) (valued.value_of p) (seq_under_mark (valued.value_of p).head) h
 
--- a repeat as a sequence
+-- a repeat that fits in a sequence does so as a sequence of itself alone
 seq_of : (p : Spelled) → Is p a_repeat → Fits wraps_in_seq (nesting p) (valued.value_of p) → SeqFits p
 seq_of p i h =
     let one = sym (dots_of_repeat p i) in record {
@@ -179,7 +179,7 @@ seq_of p i h =
       value = fewer wraps_in_seq wraps_in_alt (nesting p) (valued.value_of p) (alt_under_seq (valued.value_of p).head) h;
     }
 
--- a sequence as a path
+-- a sequence that fits in a choice does so as a path
 path_of : (p : Spelled) → Is p a_sequence → SeqFits p → PathFits p
 path_of p i h =
     let one = sym (bars_of_sequence p i) in record {
@@ -195,14 +195,14 @@ from_repeat a_sequence p i n h = seq_of p i h
 from_repeat a_repeat p i n h = h
 from_repeat an_atom p i n h = absurd (n refl)
 
--- an atom as each kind
+-- an atom that fits under a mark fits as each kind
 from_atom : (k : Kind) (p : Spelled) → Is p an_atom → Fits wraps_in_mark (nesting p) (valued.value_of p) → KindFits k p
 from_atom a_path p i h = path_of p (sequence_of_repeat p (repeat_of_atom p i)) (seq_of p (repeat_of_atom p i) (repeat_fits p h))
 from_atom a_sequence p i h = seq_of p (repeat_of_atom p i) (repeat_fits p h)
 from_atom a_repeat p i h = repeat_fits p h
 from_atom an_atom p i h = h
 
--- a label
+-- a UTF-8 label fits under a mark
 named_fits : (l : List ℕ) → IsUtf8 l → Fits wraps_in_mark 0 (valued.named l)
 named_fits l u = record { formed = (refl, tt); head = u; members = tt; nests = by_case (is_plain_name l) _ }
   where
@@ -210,7 +210,7 @@ named_fits l u = record { formed = (refl, tt); head = u; members = tt; nests = b
     by_case true ps = omega arith
     by_case false ps = omega arith
 
--- a name or _
+-- a UTF-8 name, or _, fits under a mark
 word_fits : (l : List ℕ) → IsUtf8 l → Fits wraps_in_mark 0 (valued.word_form l)
 word_fits l u = by_case (bytes_eq l (95 ∷ []))
   where
@@ -218,13 +218,13 @@ word_fits l u = by_case (bytes_eq l (95 ∷ []))
     by_case true = record { formed = (refl, tt); head = tt; members = tt; nests = omega arith }
     by_case false = named_fits l u
 
--- a quoted label
+-- the label of a UTF-8 text between quotes fits under a mark
 quote_fits : (ps : List Piece) → ArePieces ps → IsUtf8 (34 ∷ inside_quotes ps ++ 34 ∷ []) → Fits wraps_in_mark 0 (valued.named (meaning ps))
 quote_fits ps h u =
     let after = utf8_split [] (inside_quotes ps ++ 34 ∷ []) 34 (omega arith) u in
     named_fits (meaning ps) (label_utf8 [] ps h (utf8_split (inside_quotes ps) [] 34 (omega arith) after.1).0)
 
--- an atom with its mark
+-- an atom with its mark fits in a sequence, where the atom fits under the mark
 marked_fits : (n m : ℕ) (f : form.Form) → Fits wraps_in_mark n f → Fits wraps_in_seq n (form.repeated (valued.mark_head m) f)
 marked_fits n m f h = by_cases (m == 42) (m == 43)
   where
@@ -242,7 +242,7 @@ longer : (fs : List form.Form) (f : form.Form) → 0 < length (fs ++ f ∷ [])
 longer [] f = omega arith
 longer (g ∷ fs) f = omega arith
 
--- a sequence
+-- a sequence fits, where its first members and its last one fit
 dot_fits : (p q : Spelled) → SeqFits p → Fits wraps_in_seq (nesting q) (valued.value_of q) → SeqFits (dot p q)
 dot_fits p q h k =
     let n = max (nesting p) (nesting q) in
@@ -252,7 +252,7 @@ dot_fits p q h k =
     let all = all_push wraps_in_seq n ds (valued.value_of q) (all_deeper wraps_in_seq (nesting p) n ds left h.dots) (deeper wraps_in_seq (nesting q) n (valued.value_of q) right k) in
     record { dots = all; some = longer ds (valued.value_of q); value = seq_fits n ds (valued.value_of q) h.some all }
 
--- a choice
+-- a choice fits, where its first choices and its last one fit
 bar_fits : (p q : Spelled) → PathFits p → Fits wraps_in_alt (nesting q) (valued.value_of q) → PathFits (bar p q)
 bar_fits p q h k =
     let n = max (nesting p) (nesting q) in
@@ -262,7 +262,7 @@ bar_fits p q h k =
     let all = all_push wraps_in_alt n bs (valued.value_of q) (all_deeper wraps_in_alt (nesting p) n bs left h.bars) (deeper wraps_in_alt (nesting q) n (valued.value_of q) right k) in
     record { bars = all; some = longer bs (valued.value_of q); value = alt_fits n bs (valued.value_of q) h.some all }
 
--- all that is written
+-- all that is written in UTF-8 fits where its kind stands
 fits : (p : Spelled) (k : Kind) → Is p k → IsUtf8 (text_of p) → KindFits k p
 fits (word l) k h u = from_atom k (word l) h (word_fits l u)
 fits (quote ps) k h u = from_atom k (quote ps) h (quote_fits ps h u)

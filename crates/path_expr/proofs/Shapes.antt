@@ -22,7 +22,7 @@ use Rattle.path_expr.specs.declared.scan.Scan.{Scan}
 use Rattle.path_expr.specs.declared.scan.Stage.{Stage}
 use Rattle.path_expr.specs.declared.scan.Stage.TheVariants.{Start, Naming, Quoting, Escaping, PastAtom, PastRepeat}
 
--- both choices, side by side
+-- two choices by one boolean are scanned alike where their sides are
 either : (b : Bool) (x y : Option State) (v w : Option Scan) → option_map shape_of x ≡ v → option_map shape_of y ≡ w → option_map shape_of (cond b x y) ≡ cond b v w
 either true x y v w h k = h
 either false x y v w h k = k
@@ -32,19 +32,19 @@ close_shape : (o : List Frame) (p : Spelled) → option_map shape_of (close o p)
 close_shape [] p = refl
 close_shape (f ∷ o) p = refl
 
--- one more open parenthesis
+-- a scan inside the successor of n parentheses is inside n + 1 of them
 one_more : (n : ℕ) → Some (shape (suc n) Start) ≡ Some (shape (n + 1) Start)
 one_more n = let e : suc n ≡ n + 1 = omega arith in ap (λ m. Some (shape m Start)) e
 
--- what it keeps after a byte that ends a member
+-- what a scan keeps after a byte that ends a member
 repeat_shape : (f : Frame) (o : List Frame) (p : Spelled) (b : ℕ) → option_map shape_of (after_repeat f o p b) ≡ shape_after (length o) b
 repeat_shape f o p b = either (b == 46) _ _ _ _ refl (either (b == 124) _ _ _ _ refl (either (b == 41) _ _ _ _ (close_shape o (path_in f p)) refl))
 
--- what it keeps after a byte that marks an atom or ends it
+-- what a scan keeps after a byte that marks an atom or ends it
 atom_shape : (f : Frame) (o : List Frame) (p : Spelled) (b : ℕ) → option_map shape_of (after_atom f o p b) ≡ shape_atom (length o) b
 atom_shape f o p b = either (is_mark b) _ _ _ _ refl (repeat_shape f o p b)
 
--- what it keeps after a step
+-- what a scan keeps after a step of the machine
 pub step_shape : (f : Frame) (o : List Frame) (m : Mode) (b : ℕ) → option_map shape_of (step_in f o m b) ≡ shape_in (length o) (stage_of m) b
 step_shape f o start b = either (is_name_byte b) _ _ _ _ refl (either (b == 34) _ _ _ _ refl (either (b == 40) _ _ _ _ (one_more (length o)) refl))
 step_shape f o (naming l) b = either (is_name_byte b) _ _ _ _ refl (atom_shape f o (word l) b)
@@ -61,11 +61,11 @@ ScansTo = LeadsTo step shape_of first
 alike : (s : State) (b : ℕ) → option_map shape_of (step s b) ≡ shape_step (shape_of s) b
 alike s b = step_shape s.here s.outer s.mode b
 
--- what it keeps after one more byte of a text
+-- what a scan keeps after one more byte of a text
 pub scan_more : (x : List ℕ) (i : ℕ) (s : Scan) → i < length x → ScansTo (take i x) s → option_map shape_of (run first (take (i + 1) x)) ≡ shape_step s (slice_index x i)
 scan_more x i s h e = scan_prefix_by step shape_of shape_step first x i s (λ t b r. alike t b) h e
 
--- a scan goes on
+-- a scan that goes on with the next byte of a text still stands where the machine does
 pub scan_next : (x : List ℕ) (i : ℕ) (s t : Scan) → i < length x → ScansTo (take i x) s → shape_step s (slice_index x i) ≡ Some t → ScansTo (take (i + 1) x) t
 scan_next x i s t h e n = scan_more x i s h e ∙ n
 
@@ -104,7 +104,7 @@ is_high b h = record {
   escape = grind (arith, nat_tests);
 }
 
--- it goes on only inside quotes
+-- a byte that is not ASCII leads a scan inside quotes or nowhere
 pub high_stage : (n b : ℕ) (p : Stage) → IsHigh b → Gives (λ t. t.stage ≡ Quoting) (shape_in n p b)
 high_stage n b Start h = rw (h.name, h.quote, h.group) tt
 high_stage n b Naming h = rw (h.name, h.mark, h.dot, h.bar, h.close) tt

@@ -11,7 +11,7 @@ use Rattle.mix_base.proofs.Lists.{append_nil}
 abbrev pub IsFrame : Frame → Type 0
 IsFrame f = IfSome f.bars (λ p. Is p a_path) × IfSome f.dots (λ p. Is p a_sequence)
 
--- so in each frame
+-- in each frame what stands before the last bar is a path, and before the last dot a sequence
 abbrev pub AreFrames : List Frame → Type 0
 AreFrames [] = Unit {0}
 AreFrames (f ∷ o) = IsFrame f × AreFrames o
@@ -55,7 +55,7 @@ pub record Stands (x : List ℕ) (f : Frame) (o : List Frame) (m : Mode) : Type 
   pub mode : IsMode m
   pub text : outer_text o ++ (frame_text f ++ mode_text m) ≡ x
 
--- the same, of a state
+-- the state is well formed, and writes the text: the same as `Stands` with the state's parts
 abbrev pub StandsAt : List ℕ → State → Type 0
 StandsAt x s = Stands x s.here s.outer s.mode
 
@@ -96,12 +96,12 @@ pub path_with_is : (d : Option Spelled) (p : Spelled) → IfSome d (λ q. Is q a
 path_with_is None p h k = path_of_sequence p k
 path_with_is (Some q) p h k = (h, k)
 
--- its text
+-- the text of a sequence with one member more is that before it, a dot and the member's
 seq_with_text : (d : Option Spelled) (p : Spelled) → text_of (seq_with d p) ≡ before d 46 ++ text_of p
 seq_with_text None p = refl
 seq_with_text (Some q) p = sym (append_assoc (text_of q) (46 ∷ []) (text_of p))
 
--- its text
+-- the text of a choice with one member more is that before it, a bar and the member's
 path_with_text : (d : Option Spelled) (p : Spelled) → text_of (path_with d p) ≡ before d 124 ++ text_of p
 path_with_text None p = refl
 path_with_text (Some q) p = sym (append_assoc (text_of q) (124 ∷ []) (text_of p))
@@ -110,7 +110,7 @@ path_with_text (Some q) p = sym (append_assoc (text_of q) (124 ∷ []) (text_of 
 pub path_in_is : (f : Frame) (p : Spelled) → IsFrame f → Is p a_repeat → Is (path_in f p) a_path
 path_in_is f p h k = path_with_is f.bars (seq_with f.dots p) h.0 (seq_with_is f.dots p h.1 k)
 
--- its text
+-- the text of the path at hand is that of its frame and of its last member
 pub path_in_text : (f : Frame) (p : Spelled) → text_of (path_in f p) ≡ frame_text f ++ text_of p
 path_in_text f p =
     path_with_text f.bars (seq_with f.dots p) ∙ ap (λ r. before f.bars 124 ++ r) (seq_with_text f.dots p)
@@ -136,7 +136,7 @@ more x f o m n b h k e = record {
     regrouped : (a c d : List ℕ) (y : ℕ) → a ++ (c ++ (d ++ y ∷ [])) ≡ (a ++ (c ++ d)) ++ y ∷ []
     regrouped a c d y = simp append_assoc
 
--- after an opening parenthesis
+-- the state after an opening parenthesis is well formed, and writes that parenthesis more
 opened : (x : List ℕ) (f : Frame) (o : List Frame) → Stands x f o start → Stands (x ++ 40 ∷ []) empty (f ∷ o) start
 opened x f o h = record {
   here = (tt, tt);
@@ -156,14 +156,14 @@ begin_stands x f o b h =
 pub plain_of : (b : ℕ) → (b == 34) ≡ false → (b == 92) ≡ false → is_plain b ≡ true
 plain_of b h k = rw (h, k) refl
 
--- after a byte inside quotes
+-- the state after a byte inside quotes is well formed, and writes that byte more
 quotes_stand : (x : List ℕ) (f : Frame) (o : List Frame) (ps : List Piece) (b : ℕ) → Stands x f o (quoting ps) → Gives (StandsAt (x ++ b ∷ [])) (in_quotes f o ps b)
 quotes_stand x f o ps b h =
     either _ (b == 34) _ _ (λ p. more x f o (quoting ps) (past_atom (quote ps)) b h h.mode (ap (λ c. 34 ∷ inside_quotes ps ++ c ∷ []) (number_is b 34 p)))
     (λ n. either _ (b == 92) _ _ (λ p. more x f o (quoting ps) (escaping ps) b h h.mode (ap (λ c. 34 ∷ inside_quotes ps ++ c ∷ []) (number_is b 92 p)))
     (λ k. more x f o (quoting ps) (quoting (ps ++ plain b ∷ [])) b h (list_all-push is_piece ps (plain b) h.mode (plain_of b n k)) (ap (λ r. 34 ∷ r) (inside-push ps (plain b)))))
 
--- after a byte that is escaped
+-- the state after a byte that is escaped is well formed, and writes that byte more
 escape_stands : (x : List ℕ) (f : Frame) (o : List Frame) (ps : List Piece) (b : ℕ) → Stands x f o (escaping ps) → Gives (StandsAt (x ++ b ∷ [])) (step_in f o (escaping ps) b)
 escape_stands x f o ps b h =
     either _ (is_escape b) _ _
@@ -171,14 +171,14 @@ escape_stands x f o ps b h =
     (ap (λ r. 34 ∷ r) (inside-push ps (escape b) ∙ sym (append_assoc (inside_quotes ps) (92 ∷ []) (b ∷ [])))))
     (λ n. tt)
 
--- after a member that may end there
+-- the text is that of well-formed frames and a member of the kind that may end here
 pub record Ended (x : List ℕ) (f : Frame) (o : List Frame) (k : Kind) (p : Spelled) : Type 0 where
   pub here : IsFrame f
   pub outer : AreFrames o
   pub is : Is p k
   pub text : outer_text o ++ (frame_text f ++ text_of p) ≡ x
 
--- after a dot
+-- the state after a dot is well formed, and writes the dot more
 dotted : (x : List ℕ) (f : Frame) (o : List Frame) (p : Spelled) → Ended x f o a_repeat p → Stands (x ++ 46 ∷ []) (record { bars = f.bars; dots = Some (seq_with f.dots p) }) o start
 dotted x f o p h = record {
   here = (h.here.0, seq_with_is f.dots p h.here.1 h.is);
@@ -193,7 +193,7 @@ dotted x f o p h = record {
     regrouped : (a b c d e : List ℕ) → a ++ ((b ++ ((c ++ d) ++ e)) ++ []) ≡ (a ++ ((b ++ c) ++ d)) ++ e
     regrouped a b c d e = ap (λ r. a ++ r) (append_nil _) ∙ simp append_assoc
 
--- after a bar
+-- the state after a bar is well formed, and writes the bar more
 barred : (x : List ℕ) (f : Frame) (o : List Frame) (p : Spelled) → Ended x f o a_repeat p → Stands (x ++ 124 ∷ []) (record { bars = Some (path_in f p); dots = None }) o start
 barred x f o p h = record {
   here = (path_in_is f p h.here h.is, tt);
@@ -208,7 +208,7 @@ barred x f o p h = record {
     regrouped : (a b d e : List ℕ) → a ++ ((((b ++ d) ++ e) ++ []) ++ []) ≡ (a ++ (b ++ d)) ++ e
     regrouped a b d e = ap (λ r. a ++ r) (append_nil _ ∙ append_nil _) ∙ sym (append_assoc a (b ++ d) e)
 
--- after a closing parenthesis
+-- the state after a closing parenthesis is well formed, and writes that parenthesis more
 closed : (x : List ℕ) (f : Frame) (o : List Frame) (p : Spelled) → Ended x f o a_repeat p → Gives (StandsAt (x ++ 41 ∷ [])) (close o (path_in f p))
 closed x f [] p h = tt
 closed x f (g ∷ o) p h = record {
@@ -224,14 +224,14 @@ closed x f (g ∷ o) p h = record {
     regrouped : (a b c d e : List ℕ) → a ++ (b ++ (c ++ (d ++ e))) ≡ ((a ++ (b ++ c)) ++ d) ++ e
     regrouped a b c d e = simp append_assoc
 
--- after a byte that ends a member
+-- the state after a byte that ends a member is well formed, and writes that byte more
 repeat_stands : (x : List ℕ) (f : Frame) (o : List Frame) (p : Spelled) (b : ℕ) → Ended x f o a_repeat p → Gives (StandsAt (x ++ b ∷ [])) (after_repeat f o p b)
 repeat_stands x f o p b h =
     either _ (b == 46) _ _ (λ e. let g : Frame = record { bars = f.bars; dots = Some (seq_with f.dots p) } in subst (λ c. Stands (x ++ c ∷ []) g o start) (number_is b 46 e) (dotted x f o p h))
     (λ n. either _ (b == 124) _ _ (λ e. let g : Frame = record { bars = Some (path_in f p); dots = None } in subst (λ c. Stands (x ++ c ∷ []) g o start) (number_is b 124 e) (barred x f o p h))
     (λ k. either _ (b == 41) _ _ (λ e. subst (λ c. Gives (StandsAt (x ++ c ∷ [])) (close o (path_in f p))) (number_is b 41 e) (closed x f o p h)) (λ l. tt)))
 
--- after a byte that marks an atom or ends it
+-- the state after a byte that marks an atom or ends it is well formed, and writes that byte more
 atom_stands : (x : List ℕ) (f : Frame) (o : List Frame) (p : Spelled) (b : ℕ) → Ended x f o an_atom p → Gives (StandsAt (x ++ b ∷ [])) (after_atom f o p b)
 atom_stands x f o p b h =
     either _ (is_mark b) _ _
@@ -262,13 +262,13 @@ step_stands x f o (escaping ps) b h = escape_stands x f o ps b h
 step_stands x f o (past_atom p) b h = atom_stands x f o p b (record { here = h.here; outer = h.outer; is = h.mode; text = h.text })
 step_stands x f o (past_repeat p) b h = repeat_stands x f o p b (record { here = h.here; outer = h.outer; is = h.mode; text = h.text })
 
--- over a whole text
+-- the state after a text is well formed, and writes that text, from its first byte and the rest
 after_step : (x y : List ℕ) (b : ℕ) (s : Option State) → Gives (StandsAt (x ++ b ∷ [])) s → ((t : State) → StandsAt (x ++ b ∷ []) t → Gives (StandsAt ((x ++ b ∷ []) ++ y)) (run t y))
     → Gives (StandsAt (x ++ b ∷ y)) (option_and_then (λ t. run t y) s)
 after_step x y b None h k = tt
 after_step x y b (Some t) h k = subst (λ z. Gives (StandsAt z) (run t y)) (append_assoc x (b ∷ []) y) (k t h)
 
--- a run writes its text
+-- the state after a run is well formed, and writes the run's text
 pub run_stands : (y x : List ℕ) (s : State) → StandsAt x s → Gives (StandsAt (x ++ y)) (run s y)
 run_stands [] x s h = subst (λ z. StandsAt z s) (sym (append_nil x)) h
 run_stands (b ∷ y) x s h = after_step x y b (step s b) (step_stands x s.here s.outer s.mode b h) (λ t k. run_stands y (x ++ b ∷ []) t k)

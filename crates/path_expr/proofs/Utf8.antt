@@ -13,7 +13,7 @@ use Rattle.mix_base.proofs.Utf8.{utf8_split, one_ascii}
 escape_ascii : (b : ℕ) → IsTrue (is_escape b) → b < 128
 escape_ascii b h = grind (arith, nat_tests)
 
--- what they mean is ASCII
+-- a byte below 128 after a backslash means one below 128
 escaped_ascii : (b : ℕ) → b < 128 → escaped_byte b < 128
 escaped_ascii b h = by_cases (b == 110) (b == 116)
   where

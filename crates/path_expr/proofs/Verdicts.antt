@@ -29,15 +29,15 @@ too_deep x at deep (p, h, d) e = (p, h, d ∙ e)
 nested : (x : List ℕ) (p q : Spelled) → Writes x p → Writes x q → deep_at q ≡ None → nesting p ≤ 100
 nested x p q h k e = let n = none_nests p 0 0 (omega arith) (ap deep_at (one_spelled x p q h k) ∙ e) in omega (arith, n)
 
--- a path of too many positions
+-- a text has too many positions where its path has more than 120 and no parenthesis is too deep
 pub too_many : (x : List ℕ) (v : Form) (n : ℕ) (deep : Option ℕ) → Spells x v → (q : Spelled) × Writes x q × (deep_at q ≡ deep) → deep ≡ None → n ≡ positions_in v → 120 < n → HasTooMany x n
 too_many x v n deep (p, h, e) (q, w, d) none k m = (p, h, nested x p q h w (d ∙ none), ap positions_in e ∙ sym k, m)
 
--- a path within the limits
+-- a text whose path has at most 120 label positions, and goes no deeper than 100, spells it within the limits
 pub within : (x : List ℕ) (v : Form) (deep : Option ℕ) → Spells x v → (q : Spelled) × Writes x q × (deep_at q ≡ deep) → deep ≡ None → positions_in v ≤ 120 → SpellsWithin x v
 within x v deep (p, h, e) (q, w, d) none m = record { spelled = p; writes = h; value = e; nesting = nested x p q h w (d ∙ none); positions = m }
 
--- it is spelled
+-- a path that is spelled within the limits is spelled
 within_spells : (x : List ℕ) (v : Form) → SpellsWithin x v → Spells x v
 within_spells x v h = (h.spelled, h.writes, h.value)
 

@@ -8,11 +8,11 @@ use Rattle.path_expr.specs.declared.build.Builder.{Builder}
 use Rattle.std.specs.declared.vec.Vec.{Vec}
 use Rattle.std.specs.declared.alloc.Global.{Global}
 
--- the members of a level
+-- a builder's level as a level of the machine with values
 abbrev pub level_in : Level → building.Level
 level_in l = building.level l.sequences.items l.members.items
 
--- the innermost first
+-- a builder's outer levels as those of the machine with values, the innermost first
 abbrev pub outer_in : Vec Level Global → List building.Level
 outer_in o = reverse (map level_in o.items)
 
@@ -25,7 +25,7 @@ mode_in (Escaping l) = building.escaping l.items
 mode_in (PastAtom p) = building.past_atom p
 mode_in (PastRepeat p) = building.past_repeat p
 
--- what a builder holds
+-- a builder as a state of the machine with values
 abbrev pub state_in : Builder → building.State
 state_in b = building.at (level_in b.here) (outer_in b.outer) (mode_in b.spot)
 

@@ -27,11 +27,11 @@ pub record State : Type 0 where
   pub outer : List Level
   pub mode : Mode
 
--- a state
+-- the state with these levels and this mode
 abbrev pub at : Level → List Level → Mode → State
 at f o m = record { here = f; outer = o; mode = m }
 
--- a level
+-- the level with these whole sequences and these members of the sequence at hand
 abbrev pub level : List Form → List Form → Level
 level a s = record { sequences = a; members = s }
 
@@ -79,7 +79,7 @@ step_in f o (escaping l) b = cond (is_escape b) (Some (at f o (quoting (l ++ esc
 step_in f o (past_atom p) b = after_atom f o p b
 step_in f o (past_repeat p) b = after_repeat f o p b
 
--- the same, of a state
+-- the state after one more byte, from a state
 abbrev pub step : State → ℕ → Option State
 step s b = step_in s.here s.outer s.mode b
 
@@ -112,11 +112,11 @@ abbrev pub bars_in : Option Spelled → List Form
 bars_in None = []
 bars_in (Some p) = (read p).bars
 
--- the values of a frame
+-- the values of a frame: those before the last bar, and those before the last dot
 abbrev pub level_of : machine.Frame → Level
 level_of f = level (bars_in f.bars) (dots_in f.dots)
 
--- the values of frames
+-- the values of each of these frames
 abbrev pub levels_of : List machine.Frame → List Level
 levels_of [] = []
 levels_of (f ∷ o) = level_of f ∷ levels_of o
@@ -130,6 +130,6 @@ mode_of (machine.escaping ps) = escaping (meaning ps)
 mode_of (machine.past_atom p) = past_atom (value_of p)
 mode_of (machine.past_repeat p) = past_repeat (value_of p)
 
--- the values of a state
+-- the values of a state of the machine
 abbrev pub values_of : machine.State → State
 values_of s = at (level_of s.here) (levels_of s.outer) (mode_of s.mode)

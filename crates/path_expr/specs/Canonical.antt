@@ -6,7 +6,7 @@ use Rattle.mix_tree.specs.Spelling.{quoted}
 use Rattle.mix_tree.specs.Names.{is_name_byte}
 use Rattle.path_expr.specs.Form.{Head, name, any, seq, alt, star, plus, opt, Paths, none, path, Form}
 
--- a name other than _
+-- whether a label is a name other than _
 abbrev pub is_plain_name : List ℕ → Bool
 is_plain_name [] = false
 is_plain_name (b ∷ l) = cond (bytes_eq (b ∷ l) (95 ∷ [])) false (list_all is_name_byte (b ∷ l))
@@ -30,7 +30,7 @@ wraps_in_seq star = false
 wraps_in_seq plus = false
 wraps_in_seq opt = false
 
--- which do in a choice: choices
+-- which members stand in parentheses in a choice: choices
 abbrev pub wraps_in_alt : Head → Bool
 wraps_in_alt (name l) = false
 wraps_in_alt any = false
@@ -40,7 +40,7 @@ wraps_in_alt star = false
 wraps_in_alt plus = false
 wraps_in_alt opt = false
 
--- which do under a mark: all but names and _
+-- which members stand in parentheses under a mark: all but names and _
 abbrev pub wraps_in_mark : Head → Bool
 wraps_in_mark (name l) = false
 wraps_in_mark any = false
@@ -55,7 +55,7 @@ abbrev pub parenthesized : Bool → List ℕ → List ℕ
 parenthesized false x = x
 parenthesized true x = 40 ∷ x ++ 41 ∷ []
 
--- a member among others
+-- the text of a member among others, in parentheses where its head stands in them
 abbrev pub canon_member : (Head → Bool) → Member → List ℕ
 canon_member wraps m = parenthesized (wraps m.head) m.text
 
@@ -84,7 +84,7 @@ canon_by star ms = canon_only ms ++ 42 ∷ []
 canon_by plus ms = canon_only ms ++ 43 ∷ []
 canon_by opt ms = canon_only ms ++ 63 ∷ []
 
--- paths as members
+-- the paths of a list as members, each with its canonical text
 abbrev pub members_of : Paths → List Member
 members_of none = []
 members_of (path head members after) = record { head = head; text = canon_by head (members_of members) } ∷ members_of after
@@ -110,7 +110,7 @@ HasMembers plus (path h m after) = after ≡ none
 HasMembers opt none = ⊥
 HasMembers opt (path h m after) = after ≡ none
 
--- so in each of these paths, and below them
+-- each of these paths has as many members as its head has, and so have all paths below
 abbrev pub AreFormed : Paths → Type 0
 AreFormed none = Unit {0}
 AreFormed (path head members after) = HasMembers head members × AreFormed members × AreFormed after

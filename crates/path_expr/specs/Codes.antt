@@ -55,7 +55,7 @@ paths_from [] = []
 paths_from (None ∷ codes) = none ∷ paths_from codes
 paths_from (Some head ∷ codes) = with_head head (paths_from codes)
 
--- the first of these lists
+-- the first of these lists of paths, or none
 abbrev pub first_paths : List Paths → Paths
 first_paths [] = none
 first_paths (p ∷ rest) = p

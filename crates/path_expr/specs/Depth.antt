@@ -29,6 +29,6 @@ deep_from n at (marked p m) = deep_from n at p
 deep_from n at (dot p q) = first_of (deep_from n at p) (deep_from n (at + length (text_of p) + 1) q)
 deep_from n at (bar p q) = first_of (deep_from n at p) (deep_from n (at + length (text_of p) + 1) q)
 
--- its place in a whole text
+-- the place in a whole path of the first parenthesis that is open inside 100 others
 abbrev pub deep_at : Spelled → Option ℕ
 deep_at p = deep_from 0 0 p

@@ -16,12 +16,12 @@ pub data Paths : Type 0 where
   none : Paths
   path : (head : Head) → (members : Paths) → (after : Paths) → Paths
 
--- a path
+-- a path: its head, and the members under it
 pub record Form : Type 0 where
   pub head : Head
   pub members : Paths
 
--- the paths of a list
+-- a list of paths as the members under a head
 abbrev pub paths_of : List Form → Paths
 paths_of [] = none
 paths_of (p ∷ ps) = path p.head p.members (paths_of ps)

@@ -19,7 +19,7 @@ pub data Kind : Type 0 where
   a_repeat : Kind
   an_atom : Kind
 
--- one of * + ?
+-- whether a byte is one of * + ?
 abbrev pub is_mark : ℕ → Bool
 is_mark b = b == 42 || b == 43 || b == 63
 

@@ -25,11 +25,11 @@ pub record State : Type 0 where
   pub outer : List Frame
   pub mode : Mode
 
--- a state
+-- the state with these frames and this mode
 abbrev pub at : Frame → List Frame → Mode → State
 at f o m = record { here = f; outer = o; mode = m }
 
--- nothing stands before
+-- the frame before whose path nothing stands
 abbrev pub empty : Frame
 empty = record { bars = None; dots = None }
 
@@ -83,7 +83,7 @@ step_in f o (escaping ps) b = cond (is_escape b) (Some (at f o (quoting (ps ++ e
 step_in f o (past_atom p) b = after_atom f o p b
 step_in f o (past_repeat p) b = after_repeat f o p b
 
--- the same, of a state
+-- the state after one more byte, from a state
 abbrev pub step : State → ℕ → Option State
 step s b = step_in s.here s.outer s.mode b
 

@@ -48,7 +48,7 @@ abbrev pub Answers : List ℕ → Result Form PathFault → Type 0
 Answers x (Ok v) = IsUtf8 x × SpellsWithin x v
 Answers x (Err e) = Refuses x e
 
--- memory ran out
+-- the fault is that memory ran out
 abbrev pub IsWantOfMemory : PathFault → Type 0
 IsWantOfMemory (NotUtf8 at) = ⊥
 IsWantOfMemory (Unexpected at) = ⊥

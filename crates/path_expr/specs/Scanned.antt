@@ -8,7 +8,7 @@ use Rattle.path_expr.specs.declared.scan.Stage.{Stage}
 use Rattle.path_expr.specs.declared.scan.Stage.TheVariants.{Start, Naming, Quoting, Escaping, PastAtom, PastRepeat}
 use Rattle.path_expr.specs.declared.scan.Scan.{Scan}
 
--- what a scan keeps
+-- the scan with this many open parentheses at this stage
 abbrev pub shape : ℕ → Stage → Scan
 shape n p = record { depth = n; stage = p }
 
@@ -25,20 +25,20 @@ stage_of (past_repeat p) = PastRepeat
 abbrev pub shape_of : State → Scan
 shape_of s = shape (length s.outer) (stage_of s.mode)
 
--- what it keeps after a closing parenthesis
+-- what a scan keeps after a closing parenthesis
 abbrev pub shape_close : ℕ → Option Scan
 shape_close zero = None
 shape_close (suc n) = Some (shape n PastAtom)
 
--- what it keeps after a byte that ends a member
+-- what a scan keeps after a byte that ends a member
 abbrev pub shape_after : ℕ → ℕ → Option Scan
 shape_after n b = cond (b == 46) (Some (shape n Start)) (cond (b == 124) (Some (shape n Start)) (cond (b == 41) (shape_close n) None))
 
--- what it keeps after a byte that marks an atom or ends it
+-- what a scan keeps after a byte that marks an atom or ends it
 abbrev pub shape_atom : ℕ → ℕ → Option Scan
 shape_atom n b = cond (is_mark b) (Some (shape n PastRepeat)) (shape_after n b)
 
--- what it keeps after one more byte
+-- what a scan keeps after one more byte
 abbrev pub shape_in : ℕ → Stage → ℕ → Option Scan
 shape_in n Start b =
     cond (is_name_byte b) (Some (shape n Naming)) (cond (b == 34) (Some (shape n Quoting)) (cond (b == 40) (Some (shape (n + 1) Start)) None))
@@ -48,11 +48,11 @@ shape_in n Escaping b = cond (is_escape b) (Some (shape n Quoting)) None
 shape_in n PastAtom b = shape_atom n b
 shape_in n PastRepeat b = shape_after n b
 
--- the same, of a scan
+-- what a scan keeps after one more byte
 abbrev pub shape_step : Scan → ℕ → Option Scan
 shape_step s b = shape_in s.depth s.stage b
 
--- a member may end there
+-- whether a member may end at the stage
 abbrev pub may_end : Stage → Bool
 may_end Start = false
 may_end Naming = true
@@ -61,6 +61,6 @@ may_end Escaping = false
 may_end PastAtom = true
 may_end PastRepeat = true
 
--- the scan may end here
+-- whether a path may end where the scan stands
 abbrev pub is_whole : Scan → Bool
 is_whole s = may_end s.stage && s.depth == 0

@@ -9,7 +9,7 @@ abbrev pub size_of : Paths → ℕ
 size_of none = 0
 size_of (path head members after) = 1 + size_of members + size_of after
 
--- a path and its members
+-- how many paths there are in a path, itself and its members included
 abbrev pub form_size : Form → ℕ
 form_size p = 1 + size_of p.members
 

@@ -5,11 +5,11 @@ use Rattle.mix_tree.specs.LabelGrammar.{meaning}
 use Rattle.path_expr.specs.Grammar.{Spelled, word, quote, group, marked, dot, bar}
 use Rattle.path_expr.specs.Form.{Head, name, any, seq, alt, star, plus, opt, none, Form, joined, repeated}
 
--- a label
+-- the path that is a label alone
 abbrev pub named : List ℕ → Form
 named l = record { head = name l; members = none }
 
--- a name, or _
+-- the path that a bare word means: any label where it is _, else the name
 abbrev pub word_form : List ℕ → Form
 word_form l = cond (bytes_eq l (95 ∷ [])) (record { head = any; members = none }) (named l)
 
@@ -35,7 +35,7 @@ as_seq vs = record { value = joined seq vs; dots = vs; bars = joined seq vs ∷ 
 abbrev pub as_alt : List Form → Read
 as_alt vs = record { value = joined alt vs; dots = joined alt vs ∷ []; bars = vs }
 
--- what is written, read
+-- what a written path means, with its members
 abbrev pub read : Spelled → Read
 read (word l) = alone (word_form l)
 read (quote ps) = alone (named (meaning ps))
@@ -44,6 +44,6 @@ read (marked p m) = alone (repeated (mark_head m) (read p).value)
 read (dot p q) = as_seq ((read p).dots ++ (read q).value ∷ [])
 read (bar p q) = as_alt ((read p).bars ++ (read q).value ∷ [])
 
--- the path that is written
+-- the path that a written path means
 abbrev pub value_of : Spelled → Form
 value_of p = (read p).value

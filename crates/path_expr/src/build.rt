@@ -21,7 +21,7 @@ pub struct Level {
 }
 
 impl Level {
-    /// No members yet.
+    /// A level with no members yet.
     pub fn new(alloc: Global) -> Level
         ensures { level_in result ≡ level [] [] }
     {
@@ -35,7 +35,7 @@ impl Level {
 /// What has been read of the member at hand.
 #[derive(Drop)]
 pub enum Spot {
-    /// Nothing.
+    /// Nothing: no byte of the member has come.
     Start,
     /// A name so far.
     Naming(Vec<u8>),
@@ -54,7 +54,7 @@ pub enum Spot {
 pub struct Builder {
     /// The members of the path inside the innermost open parenthesis.
     pub here: Level,
-    /// Those of the paths around it, the outermost first.
+    /// The members of the paths around the one at hand, the outermost first.
     pub outer: Vec<Level>,
     /// What has been read of the member at hand.
     pub spot: Spot,

@@ -4,7 +4,7 @@ ghost use Rattle.std.specs.Prelude.{◌≡◌, IfOk};
 use crate::path::{Node, Path};
 use std::alloc::{AllocError, Global};
 
-/// Another such path.
+/// A copy of a path.
 #[cycle(copy)]
 pub fn copy_path(alloc: Global, path: &Path) -> Result<Path, AllocError>
     ensures { IfOk result (λ copy. copy ≡ path.now) }
@@ -21,7 +21,7 @@ pub fn copy_path(alloc: Global, path: &Path) -> Result<Path, AllocError>
     Ok(Path::new(node))
 }
 
-// Another box of such a path.
+// A box with a copy of a path.
 #[cycle(copy)]
 fn copy_member(alloc: Global, member: &Path) -> Result<Box<Path>, AllocError>
     ensures { IfOk result (λ copy. copy.value ≡ member.now) }
@@ -29,7 +29,7 @@ fn copy_member(alloc: Global, member: &Path) -> Result<Box<Path>, AllocError>
     Ok(Box::new(alloc, copy_path(alloc, member)?)?)
 }
 
-// Other such paths.
+// Copies of paths.
 #[cycle(copy)]
 fn copy_members(alloc: Global, members: &[Path]) -> Result<Vec<Path>, AllocError>
     ensures { IfOk result (λ copies. copies.items ≡ members.now) }

@@ -124,7 +124,7 @@ fn push_members(
 pub fn write_path(alloc: Global, path: &Path) -> Result<Vec<u8>, AllocError>
     ensures canonical { IfOk result (λ text. text.items ≡ canon path.now) }
 
-    // It spells the path, where no sequence or choice of it has fewer than two members.
+    // The text spells the path, where no sequence or choice of it has fewer than two members.
     ensures spells { IsFormed path.now → IfOk result (λ text. Spells text.items path.now) }
 
     // A path that was read from some text is read from its canonical text again.

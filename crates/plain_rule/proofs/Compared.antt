@@ -10,7 +10,7 @@ compared_parts n (cond.FromSource s path v) xs h = (tt, h)
 compared_parts n (cond.FromVar start path v) xs h = (tt, h)
 compared_parts n (cond.Compare t) xs h = ((h.0, tt), h.1)
 
--- that of a condition among them
+-- where the comparisons of conditions are of variables below n, so is that of each condition
 pub compared_at : (n : ℕ) (conds : List Cond) (i : ℕ) (x : Cond) → i < length conds → x ≡ get_or conds i x → AreCompared n (comparisons conds) → AreCompared n (comparisons (x ∷ []))
 compared_at n [] i x l e h = absurd (omega (arith, l))
 compared_at n (y ∷ conds) zero x l e h = subst (λ (z : Cond). AreCompared n (comparisons (z ∷ []))) (sym e) (compared_parts n y conds h).0

@@ -7,11 +7,11 @@ use Rattle.path_expr.specs.Description.{Labels, How, in_turn, one_of, Then, Many
 use Rattle.plain_rule.specs.Found.{Tests}
 use Rattle.plain_rule.proofs.Splits.{split_nil, then_cases, then_later, many_cases, many_more}
 
--- it holds or it doesn't
+-- a statement is decided: it holds, or it does not
 abbrev pub Either : Type 0 → Type 0
 Either P = P ⊎ (P → ⊥)
 
--- one list after another
+-- whether a list is one of a kind and then one of another is decided, where each kind is
 then_decided : (P Q : Labels → Type 0) → ((y : Labels) → Either (P y)) → ((z : Labels) → Either (Q z)) → (x : Labels) → Either (Then P Q x)
 then_decided P Q p q [] =
     elim (p []) [
@@ -29,7 +29,7 @@ then_decided P Q p q (l ∷ x) = by (p []) (q (l ∷ x)) (then_decided (λ y. P 
     by (inl a) (inr m) (inr n) = inr (λ t. elim (then_cases P Q l x t) [ inl c ↦ m c.1 | inr c ↦ n c ])
     by (inr m) b (inr n) = inr (λ t. elim (then_cases P Q l x t) [ inl c ↦ m c.0 | inr c ↦ n c ])
 
--- both hold or they don't
+-- whether two statements both hold is decided, where each is
 both_decided : (P Q : Type 0) → Either P → Either Q → Either (P × Q)
 both_decided P Q (inl a) (inl b) = inl (a, b)
 both_decided P Q (inl a) (inr n) = inr (λ h. n h.1)
@@ -45,7 +45,7 @@ le_decided (suc m) (suc n) = elim (le_decided m n) [ inl h ↦ inl (omega arith)
 abbrev Short : (Labels → Type 0) → ℕ → Labels → Type 0
 Short P n z = (length z ≤ n) × Many P z
 
--- it is decided for shorter lists where it is for lists so long
+-- whether a list is short and any number of lists is decided, where it is for lists so long
 short_decided : (P : Labels → Type 0) (n : ℕ) → ((z : Labels) → length z ≤ n → Either (Many P z)) → (z : Labels) → Either (Short P n z)
 short_decided P n d z = elim (le_decided (length z) n) [
   | inl s ↦ elim (d z s) [ inl a ↦ inl (s, a) | inr m ↦ inr (λ a. m a.1) ]
@@ -99,7 +99,7 @@ head_decided plus M d x = then_decided (M one_of) (Many (M one_of)) (d one_of) (
 head_decided opt M d [] = inl (inl refl)
 head_decided opt M d (l ∷ x) = elim (d one_of (l ∷ x)) [ inl a ↦ inl (inr a) | inr n ↦ inr (λ h. elim h [ inl e ↦ cc | inr a ↦ n a ]) ]
 
--- what paths describe
+-- whether paths describe a list is decided
 paths_decided : (ps : Paths) (w : How) (x : Labels) → Either (DescribesAs ps w x)
 paths_decided none in_turn [] = inl refl
 paths_decided none in_turn (l ∷ x) = inr (λ e. cc)
@@ -112,12 +112,12 @@ paths_decided (path h m after) one_of x =
       | inr n ↦ elim (paths_decided after one_of x) [ inl b ↦ inl (inr b) | inr k ↦ inr (λ h. elim h [ inl a ↦ n a | inr b ↦ k b ]) ]
     ]
 
--- whether it holds
+-- whether a decided statement holds
 holds : {P : Type 0} → Either P → Bool
 holds (inl a) = true
 holds (inr n) = false
 
--- what it says
+-- a decided statement is found to hold exactly where it does
 holds_is : {P : Type 0} (d : Either P) → (holds d ≡ true) ↔ P
 unfolding holds
 holds_is (inl a) = ((λ h. a), (λ h. refl))
@@ -127,7 +127,7 @@ holds_is (inr n) = ((λ h. cc), (λ h. absurd (n h)))
 pub test_of : Form → Labels → Bool
 test_of p x = holds (head_decided p.head (DescribesAs p.members) (λ w z. paths_decided p.members w z) x)
 
--- that is what it says
+-- the test of a path holds exactly of what the path describes
 pub tests : (p : Form) → Tests p (test_of p)
 unfolding test_of
 tests p x = holds_is (head_decided p.head (DescribesAs p.members) (λ w z. paths_decided p.members w z) x)

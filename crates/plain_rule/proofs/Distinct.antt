@@ -4,7 +4,7 @@ use Rattle.mix_base.proofs.Lists.{append_nil}
 use Rattle.mix_base.proofs.Seen.{was_seen, distinct}
 use Rattle.plain_rule.proofs.Tupling.{drop_next, drop_past}
 
--- one member more is seen
+-- members seen and different ones yet to come are the same list before and after one more is seen
 pub distinct_next : {X : Type 0} (same : X → X → Bool) (xs : List X) (i : ℕ) (x : X) (seen more : List X) → i < length xs → x ≡ get_or xs i x → more ≡ seen ++ cond (was_seen same seen x) [] (x ∷ [])
     → more ++ distinct same more (drop (i + 1) xs) ≡ seen ++ distinct same seen (drop i xs)
 distinct_next {X} same xs i x seen more h e m =
@@ -17,6 +17,6 @@ distinct_next {X} same xs i x seen more h e m =
     by true n = ap (λ z. z ++ distinct same z rest) (n ∙ append_nil seen)
     by false n = ap (λ z. z ++ distinct same z rest) n ∙ append_assoc seen (x ∷ []) (distinct same (seen ++ x ∷ []) rest)
 
--- after the last member
+-- after the last member no different one is to come
 pub distinct_end : {X : Type 0} (same : X → X → Bool) (xs : List X) (i : ℕ) (seen : List X) → length xs ≤ i → seen ++ distinct same seen (drop i xs) ≡ seen
 distinct_end same xs i seen h = ap (λ z. seen ++ distinct same seen z) (drop_past xs i h) ∙ append_nil seen

@@ -21,7 +21,7 @@ among_one true x y (inl e) = (refl, e)
 among_one true x y (inr h) = absurd h
 among_one false x y h = absurd h
 
--- the one of a list of one
+-- the one member of a list that is taken by a test that holds is in the list
 one_among : (a : Bool) (x : List ℕ) → a ≡ true → Among x (cond a (x ∷ []) [])
 one_among true x h = inl refl
 one_among false x h = cc
@@ -52,7 +52,7 @@ module _ (test : Labels → Bool) where
   abbrev IsFound : Labels → List ℕ → ℕ → Forest → List ℕ → Type 0
   IsFound above p k f y = (i : ℕ) × (r : List ℕ) × (y ≡ p ++ (k + i) ∷ r) × Hits above f i r
 
-  -- each place is one
+  -- each place that is found lies below the place, and the test holds of the labels on the way
   found_is : (above : Labels) (p : List ℕ) (k : ℕ) (f : Forest) (y : List ℕ) → Among y (found_in test above p k f) → IsFound above p k f y
   found_is above p k none y h = absurd h
   found_is above p k (tree x kids later) y c =
@@ -84,7 +84,7 @@ module _ (test : Labels → Bool) where
       later_on : IsFound above p (k + 1) later y → IsFound above p k (tree x kids later) y
       later_on (i, r, e, t) = let n : (k + 1) + i ≡ k + suc i = omega arith in (suc i, r, e ∙ ap (λ a. p ++ a ∷ r) n, t)
 
-  -- the places ascend
+  -- the places that are found ascend
   ascends : (above : Labels) (p : List ℕ) (k : ℕ) (f : Forest) → Ascending PlaceBefore (found_in test above p k f)
   ascends above p k none = tt
   ascends above p k (tree x kids later) =
@@ -132,7 +132,7 @@ module _ (test : Labels → Bool) where
   hit_on_the_way above (tree x kids later) zero (j ∷ r) h =
       ap test (sym (append_assoc above (x ∷ []) (labels_down kids (j ∷ r)))) ∙ hit_on_the_way (above ++ x ∷ []) kids j r h
 
-  -- there is such a place
+  -- where a place is hit, there is a tree at that place
   there_is : (above : Labels) (f : Forest) (i : ℕ) (r : List ℕ) → Hits above f i r → is_some (first_label (trees_at (from i f) r)) ≡ true
   there_is above none i r h = absurd h
   there_is above (tree x kids later) (suc i) r h = there_is above later i r h
@@ -191,7 +191,7 @@ module _ (test : Labels → Bool) where
           described = (says (labels_down (first_kids (trees_at f start)) (i ∷ r))).0 (hit_on_the_way [] (first_kids (trees_at f start)) i r h);
         }
 
-    -- a match is found
+    -- each place whose labels below a start the path describes is found
     of_match : (f : Forest) (start y way : List ℕ) → 0 < length way → start ++ way ≡ y → has_place f y ≡ true → Describes p (labels_down (first_kids (trees_at f start)) way)
         → Among y (found_in test [] start 0 (first_kids (trees_at f start)))
     of_match f start y [] some e there d = absurd (omega arith)
@@ -226,7 +226,7 @@ pub tested : (p : Form) (test : Labels → Bool) → Tests p test → (x : Label
 tested p test says x true h = sym ((says x).1 (h.0 refl))
 tested p test says x false h = elim (test x) as (λ v. test x ≡ v → false ≡ v) [ true ↦ λ e. (let f : false ≡ true = h.1 ((says x).0 e) in f) | false ↦ λ e. refl ] refl
 
--- so what is found by any test is all that the path leads to
+-- what is found by each test of a path is all that the path leads to
 pub found_by_test : (p : Form) (f : Forest) (start : List ℕ) (kids : Forest) (xs : List (List ℕ)) → kids ≡ first_kids (trees_at f start)
     → ((test : Labels → Bool) → Tests p test → xs ≡ found_in test [] start 0 kids) → AreMatches p f start xs
 found_by_test p f start kids xs e h =

@@ -14,7 +14,7 @@ use Rattle.xmas_rule.specs.declared.template.Item.TheVariants as item
 use Rattle.plain_rule.proofs.Tupling.{drop_next, drop_past}
 use Rattle.mix_tree.proofs.Forests.{followed-none, followed_assoc}
 
--- one tree more
+-- the forest of trees with one more is their forest and then that tree
 pub pushed : (ts more : List LabelledTree) (t u : LabelledTree) → more ≡ ts ++ t ∷ [] → t ≡ u → forest_of more ≡ followed (forest_of ts) (tree u.label u.kids none)
 pushed ts more t u e f = ap forest_of (e ∙ ap (λ (z : LabelledTree). ts ++ z ∷ []) f) ∙ last ts
   where
@@ -28,7 +28,7 @@ pub joined_next : {X : Type 0} (f : X → Forest) (xs : List X) (i : ℕ) (x : X
 joined_next f xs i x some more h e m =
     ap (λ z. followed z (joined f (drop (i + 1) xs))) m ∙ followed_assoc some (f x) (joined f (drop (i + 1) xs)) ∙ ap (λ z. followed some (joined f z)) (sym (drop_next xs i x h e))
 
--- after the last member
+-- after the last member no trees are to be made
 pub joined_end : {X : Type 0} (f : X → Forest) (xs : List X) (i : ℕ) (some : Forest) → length xs ≤ i → followed some (joined f (drop i xs)) ≡ some
 joined_end f xs i some h = ap (λ z. followed some (joined f z)) (drop_past xs i h) ∙ followed-none some
 
@@ -53,7 +53,7 @@ instances_next docs force items i x bs some more h e m =
     ∙ ap (followed some) (sym (instances_before docs force x rest bs))
     ∙ ap (λ z. followed some (instances docs force (items_of z) bs)) (sym (drop_next items i x h e))
 
--- after the last item
+-- after the last item no instances are to be made
 pub instances_end : (docs : Documents) (force : List Key) (items : List Item) (i : ℕ) (bs : List Binding) (some : Forest) → length items ≤ i
     → followed some (instances docs force (items_of (drop i items)) bs) ≡ some
 instances_end docs force items i bs some h = ap (λ z. followed some (instances docs force (items_of z) bs)) (drop_past items i h) ∙ followed-none some

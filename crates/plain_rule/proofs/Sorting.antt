@@ -8,17 +8,17 @@ use Rattle.std.proofs.Math.Seq.{take-length}
 use Rattle.std.proofs.lemmas.List.{take_more}
 use Rattle.xmas_rule.specs.Sorted.{insert_by, sorted_by}
 
--- each of the first list is put into the second, the last first
+-- sorted members with each of a list put in, the last first
 abbrev pub put_all : {X : Type 0} → (X → X → Bool) → List X → List X → List X
 put_all less [] sorted = sorted
 put_all less (x ∷ xs) sorted = insert_by less x (put_all less xs sorted)
 
--- the last is put in first
+-- of a list put into sorted members, the last one is put in first
 pub put_all-last : {X : Type 0} (less : X → X → Bool) (xs : List X) (x : X) (sorted : List X) → put_all less (xs ++ x ∷ []) sorted ≡ put_all less xs (insert_by less x sorted)
 put_all-last less [] x sorted = refl
 put_all-last less (y ∷ xs) x sorted = ap (insert_by less y) (put_all-last less xs x sorted)
 
--- one more is put in
+-- with one member more put in, the rest is put into the list with that one
 pub put_next : {X : Type 0} (less : X → X → Bool) (xs : List X) (i : ℕ) (x : X) (some more : List X) → i < length xs → x ≡ get_or xs i x → more ≡ insert_by less x some
     → put_all less (take i xs) more ≡ put_all less (take (i + 1) xs) some
 put_next less xs i x some more h e m =
@@ -30,7 +30,7 @@ pub put_all-none : {X : Type 0} (less : X → X → Bool) (xs : List X) → put_
 put_all-none less [] = refl
 put_all-none less (x ∷ xs) = ap (insert_by less x) (put_all-none less xs)
 
--- so are all of them
+-- a list up to its end, put into none, is sorted
 pub put_whole : {X : Type 0} (less : X → X → Bool) (xs : List X) (n : ℕ) → n ≡ length xs → put_all less (take n xs) [] ≡ sorted_by less xs
 put_whole less xs n e = ap (λ k. put_all less (take k xs) []) e ∙ ap (λ z. put_all less z []) (take-length xs) ∙ put_all-none less xs
 

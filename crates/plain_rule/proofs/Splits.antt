@@ -74,7 +74,7 @@ many_begins P x n = (
   (λ t. many_more P x (t.0, t.1, t.2, t.3.1, t.4)),
 )
 
--- and so where it is at least one
+-- a list that is not empty is at least one list of the kind where it begins with one
 pub some_begins : (P : Labels → Type 0) (x : Labels) → (x ≡ [] → ⊥) → Then P (Many P) x ↔ Begins P x
 some_begins P x n = (
   (λ h. (many_begins P x n).0 (many_more P x h)),

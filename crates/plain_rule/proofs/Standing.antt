@@ -17,13 +17,13 @@ document_there (t ∷ docs) (suc s) h =
     let e : suc s + 1 - suc s ≡ s + 1 - s = omega arith in
     ap (λ n. forest_of (take n (drop s docs))) e ∙ document_there docs s (omega arith)
 
--- other sources have none
+-- a source without a tree has no document
 pub document_missing : (docs : List LabelledTree) (s : ℕ) → length docs ≤ s → documents_of docs s ≡ none
 document_missing [] s h = refl
 document_missing (t ∷ docs) zero h = absurd (omega arith)
 document_missing (t ∷ docs) (suc s) h = document_missing docs s (omega arith)
 
--- the next step of a place
+-- the steps of a place from an index on are the one there and those after it
 next_step : (place : List ℕ) (i : ℕ) → i < length place → drop i place ≡ get_or place i 0 ∷ drop (i + 1) place
 next_step place i h = rw (add-one, drop-cons place i 0) refl
 
@@ -49,7 +49,7 @@ below_first (tree l kids rest) label (i ∷ place) t e = ap (λ o. first_kids (t
     kids_in None = none
     kids_in (Some u) = u.kids
 
--- a step to a child
+-- a step to a child leads to what stands below that child
 pub step_there : (kids : List LabelledTree) (place : List ℕ) (i : ℕ) (t : LabelledTree) → i < length place → get_or place i 0 < length kids → t ≡ get_or kids (get_or place i 0) t
     → first_kids (trees_at (tree [] (forest_of kids) none) (drop i place)) ≡ first_kids (trees_at (tree [] t.kids none) (drop (i + 1) place))
 step_there kids place i t h k e =

@@ -27,7 +27,7 @@ use Rattle.plain_rule.proofs.Finding.{found_are_matches, one_match_list}
 pub drop_next : {X : Type 0} (xs : List X) (i : ℕ) (x : X) → i < length xs → x ≡ get_or xs i x → drop i xs ≡ x ∷ drop (i + 1) xs
 drop_next {X} xs i x h e = rw (add-one, drop-cons xs i x) (ap (λ (u : X). u ∷ drop (suc i) xs) (sym e))
 
--- after the last member there is none
+-- after the last member of a list there is none
 pub drop_past : {X : Type 0} (xs : List X) (i : ℕ) → length xs ≤ i → drop i xs ≡ []
 drop_past [] zero h = refl
 drop_past [] (suc i) h = refl
@@ -46,7 +46,7 @@ kept_next {X} p xs i x some more h e m =
     one true ys = refl
     one false ys = refl
 
--- one image more
+-- images made and those of the rest are the same list before and after one more is made
 pub map_next : {X Y : Type 0} (f : X → Y) (xs : List X) (i : ℕ) (x : X) (some more : List Y) → i < length xs → x ≡ get_or xs i x → more ≡ some ++ f x ∷ []
     → more ++ map f (drop (i + 1) xs) ≡ some ++ map f (drop i xs)
 map_next f xs i x some more h e m =
@@ -85,12 +85,12 @@ unfolding tuples
 tuples_append lists bs [] ys = refl
 tuples_append lists bs (c ∷ xs) ys = tuples_append lists (extend lists c bs) xs ys
 
--- tuples of one condition
+-- the tuples of one condition are those before it with each node that it allows
 pub tuples_one : (lists : MatchLists) (bs : List Binding) (c : Binder) → tuples lists bs (c ∷ []) ≡ extend lists c bs
 unfolding tuples
 tuples_one lists bs c = refl
 
--- tuples of none
+-- the tuples of no conditions are those before
 pub tuples_none : (lists : MatchLists) (bs : List Binding) → tuples lists bs [] ≡ bs
 unfolding tuples
 tuples_none lists bs = refl
@@ -113,11 +113,11 @@ reached_next lists vs us conds i x some more h e m u =
     ∙ ap (tuples lists some) (sym (reached-more vs x rest))
     ∙ ap (λ z. tuples lists some (reached vs (binders z))) (sym (drop_next conds i x h e))
 
--- after the last condition
+-- after the last condition nothing more is reached
 pub reached_end : (lists : MatchLists) (vs : List ℕ) (conds : List Cond) (i : ℕ) (some : List Binding) → length conds ≤ i → tuples lists some (reached vs (binders (drop i conds))) ≡ some
 reached_end lists vs conds i some h = ap (λ z. tuples lists some (reached vs (binders z))) (drop_past conds i h) ∙ tuples_none lists some
 
--- two lists of components
+-- the conditions of two lists of components are those of the first and those of the second
 flat_append : (xs ys : List (List Binder)) → flat (xs ++ ys) ≡ flat xs ++ flat ys
 flat_append [] ys = refl
 flat_append (comp ∷ xs) ys = ap (λ r. comp ++ r) (flat_append xs ys) ∙ sym (append_assoc comp (flat xs) (flat ys))
@@ -139,7 +139,7 @@ body_next lists x xs some more m =
     ∙ tuples_append lists some (flat (begun x (binders xs))) (flat (reaches (binders xs)))
     ∙ ap (tuples lists some) (sym (ap flat (reaches-begun x xs) ∙ flat_append (begun x (binders xs)) (reaches (binders xs))))
 
--- after the last condition of the body
+-- after the last condition of a body the tuples are all made
 pub body_end : (lists : MatchLists) (rest : List Cond) (some : List Binding) → length rest ≡ 0 → tuples lists some (flat (reaches (binders rest))) ≡ some
 body_end lists [] some e = tuples_none lists some
 body_end lists (x ∷ xs) some e = absurd (omega arith)
@@ -149,7 +149,7 @@ pub passing_one : (docs : Documents) (t : Test) (bs : List Binding) → passing 
 unfolding passing
 passing_one docs t bs = refl
 
--- without comparisons all pass
+-- without comparisons all bindings pass
 pub passing_none : (docs : Documents) (bs : List Binding) → passing docs [] bs ≡ bs
 unfolding passing
 passing_none docs bs = refl
@@ -166,7 +166,7 @@ passing_next docs conds i x some more h e m =
     by (cond.FromVar start path v) = refl
     by (cond.Compare t) = refl
 
--- after the last condition
+-- after the last condition no more bindings are to be tested
 pub passing_end : (docs : Documents) (conds : List Cond) (i : ℕ) (some : List Binding) → length conds ≤ i → passing docs (comparisons (drop i conds)) some ≡ some
 passing_end docs conds i some h = ap (λ z. passing docs (comparisons z) some) (drop_past conds i h) ∙ passing_none docs some
 
@@ -174,7 +174,7 @@ passing_end docs conds i some h = ap (λ z. passing docs (comparisons z) some) (
 lists_of : List LabelledTree → MatchLists
 lists_of trees path start = found_in (test_of path) [] start.place 0 (kids_at (documents_of trees) start)
 
--- they are the matches
+-- the lists that a search finds are the lists of the matches
 are_lists : (trees : List LabelledTree) → AreMatchLists (documents_of trees) (lists_of trees)
 unfolding lists_of
 are_lists trees path start = found_are_matches path (test_of path) (tests path) (tree [] (documents_of trees start.source) none) start.place

@@ -30,7 +30,7 @@ AreExtended docs bs conds longer = ForMatches docs (λ lists. longer ≡ tuples 
 abbrev pub from_document : Leads → ℕ → Binder
 from_document l source = from_source source l.path.now l.var
 
--- the same from another variable's node
+-- the condition that leads to a variable's nodes from another variable's node
 abbrev pub from_node : Leads → ℕ → Binder
 from_node l start = from_var start l.path.now l.var
 
@@ -42,7 +42,7 @@ at_places binding var source places = map (λ q. binding ++ (var, record { sourc
 abbrev pub at_matches : MatchLists → Leads → Node → Binding → List Binding
 at_matches lists l start binding = at_places binding l.var start.source (lists l.path.now start)
 
--- these places were added: those of trees and of all below them of which a test of the labels holds
+-- the places added are those of trees and of all below them whose labels pass a test
 abbrev pub AddsFound : (Labels → Bool) → Under → List LabelledTree → List (List ℕ) → List (List ℕ) → Type 0
 AddsFound test under trees old new = new ≡ old ++ found_in test under.labels.now under.place.now 0 (forest_of trees)
 
@@ -62,7 +62,7 @@ is_alike by a b = same (documents_of by.docs.now) by.keys.now a b
 abbrev pub is_seen : By → List Binding → Binding → Bool
 is_seen by seen b = list_any (λ s. is_alike by s b) seen
 
--- these trees were added
+-- the trees of the forest were added
 abbrev pub Adds : List LabelledTree → List LabelledTree → Forest → Type 0
 Adds old new f = forest_of new ≡ followed (forest_of old) f
 
@@ -70,6 +70,6 @@ Adds old new f = forest_of new ≡ followed (forest_of old) f
 abbrev pub instances_in : Scope → Items → List Binding → Forest
 instances_in scope items bindings = instances (documents_of scope.docs.now) scope.force.now items bindings
 
--- an element for each part
+-- an element over each part of the bindings, one after another
 abbrev pub elements : Scope → List ℕ → Items → List (List Binding) → Forest
 elements scope label items parts = joined (λ part. tree label (instances_in scope items part) none) parts

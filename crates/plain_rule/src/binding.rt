@@ -37,7 +37,7 @@ impl Binding {
     }
 }
 
-// Others of these variables and nodes.
+// A copy of variables and their nodes.
 fn copy_entries(alloc: Global, entries: &[(Var, Node)]) -> Result<Vec<(Var, Node)>, AllocError>
     ensures { IfOk result (λ copies. copies.items ≡ entries.now) }
 {
@@ -48,7 +48,7 @@ fn copy_entries(alloc: Global, entries: &[(Var, Node)]) -> Result<Vec<(Var, Node
     Ok(copies)
 }
 
-// Another such binding.
+// A copy of a binding.
 pub fn copy_binding(alloc: Global, binding: &Binding) -> Result<Binding, AllocError>
     ensures { IfOk result (λ copy. copy ≡ binding.now) }
 {
@@ -81,7 +81,7 @@ fn node_among(alloc: Global, entries: &[(Var, Node)], var: Var) -> Result<Node, 
     Ok(Node::document(alloc, 0))
 }
 
-// The node of a variable.
+// The node of a variable in a binding; a document node where it has none.
 pub fn node_in(alloc: Global, binding: &Binding, var: Var) -> Result<Node, AllocError>
     ensures { IfOk result (λ node. node ≡ node_of binding.now var) }
 {

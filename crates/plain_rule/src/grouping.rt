@@ -17,7 +17,7 @@ use mix_tree::{Key, Tree, Var, item_collects};
 use std::alloc::{AllocError, Global};
 use std::marker::Model;
 
-// Some of the bindings.
+// Some bindings of a list: a group, or all.
 #[derive(Drop)]
 pub struct Part {
     bindings: Vec<Binding>,
@@ -33,14 +33,14 @@ impl Model for Part {
 }
 
 impl Part {
-    // These bindings.
+    // The part of these bindings.
     fn new(bindings: Vec<Binding>) -> Part
         ensures { result ≡ bindings.items }
     {
         Part { bindings }
     }
 
-    // The bindings, in order.
+    // The bindings of the part, in order.
     pub fn bindings(&self) -> &[Binding]
         ensures { result.now ≡ self.now }
     {

@@ -29,7 +29,7 @@ pub fn labelled(alloc: Global, label: &Label, kids: Vec<Tree>) -> Result<Tree, A
     Ok(Tree::new(label.copy(alloc)?, kids))
 }
 
-/// Another such tree.
+/// A copy of a tree.
 #[cycle(copying)]
 pub fn copy_tree(alloc: Global, tree: &Tree) -> Result<Tree, AllocError>
     ensures { IfOk result (λ copy. copy ≡ tree.now) }
@@ -38,7 +38,7 @@ pub fn copy_tree(alloc: Global, tree: &Tree) -> Result<Tree, AllocError>
     labelled(alloc, tree.label(), kids)
 }
 
-/// Other such trees.
+/// Copies of trees.
 #[cycle(copying)]
 pub fn copy_trees(alloc: Global, trees: &[Tree]) -> Result<Vec<Tree>, AllocError>
     ensures { IfOk result (λ copies. copies.items ≡ trees.now) }
@@ -50,7 +50,7 @@ pub fn copy_trees(alloc: Global, trees: &[Tree]) -> Result<Vec<Tree>, AllocError
     Ok(copies)
 }
 
-// Adds a tree.
+// Adds a tree of a label and children.
 fn push_tree(made: &mut Vec<Tree>, label: Label, kids: Vec<Tree>) -> Result<(), AllocError>
     ensures { OnOk result (Adds made.old.items made.new.items (tree label (forest_of kids.items) none)) }
 {

@@ -33,7 +33,7 @@ fn with_label(alloc: Global, labels: &[Label], label: &Label) -> Result<Vec<Labe
     Ok(longer)
 }
 
-// The place of a child.
+// The place of a child of the node at a place.
 fn child(alloc: Global, place: &Place, at: usize) -> Result<Place, AllocError>
     ensures { IfOk result (λ below. below ≡ place.now ++ at ∷ []) }
 {

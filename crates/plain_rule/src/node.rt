@@ -43,14 +43,14 @@ impl Node {
         self.source
     }
 
-    /// Its place.
+    /// The node's place.
     pub fn place(&self) -> &Place
         ensures { result.now ≡ self.now.place }
     {
         &self.place
     }
 
-    /// Another such node.
+    /// A copy of the node.
     pub fn copy(&self, alloc: Global) -> Result<Node, AllocError>
         ensures { IfOk result (λ copy. copy ≡ self.now) }
     {
@@ -58,7 +58,7 @@ impl Node {
     }
 }
 
-// Another such place.
+// A copy of a place.
 pub fn copy_place(alloc: Global, place: &Place) -> Result<Place, AllocError>
     ensures { IfOk result (λ copy. copy ≡ place.now) }
 {

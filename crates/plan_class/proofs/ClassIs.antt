@@ -127,6 +127,6 @@ module _ (shapes : List SourceShape) (p : PlanValue) (valid : IsValid p) (typed 
         in
         ap class_by same ∙ ap (λ (w : Bool). cond w Unbrowsable (class_by (constant (shapes_of shapes) p.ops))) (sym h)
 
-  -- the class where one does
+  -- where some operator sorts, the plan's class is unbrowsable
   pub class_sorted : sorts_any p.ops ≡ true → Unbrowsable ≡ class_in (shapes_of shapes) p.ops
   class_sorted h = ap (λ (w : Bool). cond w Unbrowsable (class_by (constant (shapes_of shapes) p.ops))) (sym h)

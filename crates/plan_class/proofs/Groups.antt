@@ -10,17 +10,17 @@ use Rattle.browse_class.specs.Classes.{op_bound, op_sorts}
 use Rattle.browse_class.specs.Facts.{Facts}
 use Rattle.plan_class.specs.Known.{Known, grouped_known, over_known}
 
--- they sort nothing
+-- groupBys sort nothing, with keys or without
 pub groups_sort_nothing : (i out : ℕ) (keys : List Key) (piece : Piece) → op_sorts (over i (group_by keys piece out)) ≡ false
 groups_sort_nothing i out [] piece = refl
 groups_sort_nothing i out (k ∷ keys) piece = refl
 
--- they make no element
+-- groupBys make no element, with keys or without
 pub groups_bound_nothing : (i out : ℕ) (keys : List Key) (piece : Piece) (of : ℕ → Facts) → op_bound (over i (group_by keys piece out)) of ≡ Some 0
 groups_bound_nothing i out [] piece of = refl
 groups_bound_nothing i out (k ∷ keys) piece of = refl
 
--- those by keys, where there are keys
+-- what is known of a groupBy with keys is what is known of the groups by them
 pub groups_are : (known : List Known) (vars : List ℕ) (input : Known) (i out : ℕ) (keys : List Key) (piece : Piece) (len : ℕ) → (len == 0) ≡ false → length keys ≡ len
     → over_known known vars input (shape_of (over i (group_by keys piece out))) ≡ grouped_known keys vars out input
 groups_are known vars input i out [] piece len e l = absurd (let z : len ≡ 0 = sym l in let t : (len == 0) ≡ true = eq-eqb len 0 z in let f : true ≡ false = sym t ∙ e in cc)

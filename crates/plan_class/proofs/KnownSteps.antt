@@ -38,15 +38,15 @@ own_kind : (w : Bool) (k j : Kind) (base : Option Kind) → w ≡ true → cond 
 own_kind true k j base h e = cc
 own_kind false k j base h e = cc
 
--- a node is one tree
+-- a variable that is bound anew to a node has one tree for each value
 node_item : (w : Bool) (j : Kind) (base : Option Kind) (p : Profile) → w ≡ true → cond w (Some a_node) base ≡ Some j → one_item ≡ kind_profile (Some j) p
 node_item w j base p h e = subst (λ (i : Kind). one_item ≡ kind_profile (Some i) p) (own_kind w a_node j base h e) refl
 
--- so is an element
+-- a variable that is bound anew to an element has one tree for each value
 element_item : (w : Bool) (j : Kind) (base : Option Kind) (p : Profile) → w ≡ true → cond w (Some an_element) base ≡ Some j → one_item ≡ kind_profile (Some j) p
 element_item w j base p h e = subst (λ (i : Kind). one_item ≡ kind_profile (Some i) p) (own_kind w an_element j base h e) refl
 
--- a list has its own trees
+-- a variable that is bound anew to a list has the list's trees
 list_trees : (w : Bool) (j : Kind) (base : Option Kind) (p q : Profile) → w ≡ true → cond w (Some a_list) base ≡ Some j → p ≡ kind_profile (Some j) (cond w p q)
 list_trees true j base p q h e = subst (λ (i : Kind). p ≡ kind_profile (Some i) p) (own_kind true a_list j base h e) refl
 list_trees false j base p q h e = cc
@@ -59,7 +59,7 @@ no_node w k base other h e = other (own_kind w k a_node base h e)
 list_differs : a_list ≡ a_node → ⊥
 list_differs e = cc
 
--- what is made is no node
+-- what an operator makes of a binding, a list or an element, is no node
 made_differs : (made : Made) → made_kind made ≡ a_node → ⊥
 made_differs (a_list_of pieces) e = cc
 made_differs (an_element_of label list) e = cc
@@ -69,7 +69,7 @@ own_set : (w : Bool) (shape : SourceShape) (k : Sorts) (gs hs : List Layout) →
 own_set true shape k gs hs h s = s
 own_set false shape k gs hs h s = cc
 
--- there is no variable that is bound anew
+-- of an operator that binds no variable anew, anything holds where it would bind one
 never : {A : Type 0} → false ≡ true → A
 never e = cc
 
@@ -95,7 +95,7 @@ module _ (shapes : List SourceShape) (p : PlanValue) (valid : IsValid p) (typed 
   abbrev fs : ℕ → Facts
   fs = facts (shapes_of shapes) p.ops
 
-  -- they are among the plan's
+  -- the operators that are known are among the plan's
   within : n ≤ length p.ops
   within = omega (arith, b)
 
@@ -114,7 +114,7 @@ module _ (shapes : List SourceShape) (p : PlanValue) (valid : IsValid p) (typed 
   kept_same : (keys : List Key) (vars : List ℕ) (i : ℕ) → i < n → distinct_known keys vars (at i) ≡ distinct_profile keys vars (fs i)
   kept_same keys vars i s = distinct_same keys vars (at i) (fs i) (are.each i s).profile (are.each i s).keys (are.each i s).levels
 
-  -- after a stage
+  -- what is known after a stage agrees with its facts
   stage_agrees : (stage : Stage) (vars : List ℕ) (i : ℕ) → i < n → IsStageFit (kinds p.ops i) stage
       → AgreesWith shapes (stage_outs stage) (stage_kinds stage (kinds p.ops i)) (stage_facts stage (kinds p.ops i) vars (fs i)) (stage_known known stage vars (at i))
   stage_agrees (filters test) vars i s fit = record {
@@ -170,11 +170,11 @@ module _ (shapes : List SourceShape) (p : PlanValue) (valid : IsValid p) (typed 
     levels = levels_agree unbounded unbounded (same_levels unbounded) (λ j. unbounded) refl (λ j. refl);
   }
 
-  -- the profiles of pairs
+  -- the profile of pairs is known as the facts say
   pairs_same : (l r : ℕ) → l < n → r < n → beside (at l).profile (at r).profile ≡ beside_profile (fs l) (fs r)
   pairs_same l r s t = ap (λ (q : Profile). beside q (at r).profile) (are.each l s).profile ∙ ap (beside (fs l).profile) (are.each r t).profile
 
-  -- their levels
+  -- the levels of pairs are known as the facts say
   pairs_levels_are : (tests : List Test) (fr : Front) (l r : ℕ) → l < n → r < n → (j : ℕ)
       → level_in (with_first (tested tests (beside (at l).profile (at r).profile))
       (tested_levels tests (tested tests (beside (at l).profile (at r).profile)) (pair_levels (length fr.vars) fr.whole (at l).profile (at r).levels))) j
@@ -191,7 +191,7 @@ module _ (shapes : List SourceShape) (p : PlanValue) (valid : IsValid p) (typed 
       (ap passed (pairs_same l r s t))
       (λ j. ap (λ (q : Profile). own_level (passed q)) (pairs_same l r s t))
 
-  -- a shape
+  -- what is known of a shape agrees with its facts, where its inputs are among the known operators
   shape_agrees : (f : Shape) → AllByRecursion (λ i. i < n) (shape_inputs f) → IsShapeFit f (kinds p.ops)
       → AgreesWith shapes (shape_outs f) (shape_kinds f (kinds p.ops)) (shape_facts (shapes_of shapes) (kinds p.ops) (front p.ops) f fs) (shape_known shapes (front p.ops) known f)
   shape_agrees (one_source s out) small fit = record {

@@ -41,7 +41,7 @@ mapped_at f rest j [] = refl
 mapped_at f rest zero (p ∷ ps) = refl
 mapped_at f rest (suc j) (p ∷ ps) = mapped_at f rest j ps
 
--- those of another list, each changed, after those of which nothing is known
+-- changed levels after m of which nothing is known are from level m on the list's levels, changed
 mapped_after : (f : Profile → Profile) (rest : Profile) (m j : ℕ) (ps : List Profile)
     → slice_index_or (opens m ++ map f ps) j (f rest) ≡ cond (nat_le m j) (f (slice_index_or ps (j - m) rest)) unbounded
 mapped_after f rest zero j ps =
@@ -65,12 +65,12 @@ pub opens_more : (n : ℕ) → opens n ++ unbounded ∷ [] ≡ opens (n + 1)
 opens_more zero = refl
 opens_more (suc n) = (let e : suc (n + 1) ≡ suc n + 1 = omega arith in ap (λ (ps : List Profile). unbounded ∷ ps) (opens_more n) ∙ ap opens e)
 
--- the levels of visits
+-- the levels of visits as a list are those that the facts say
 pub visit_levels_are : (m : ℕ) (whole : Bool) (i p : Profile) (j : ℕ) → level_in (visit_levels m whole i p) j ≡ visits_level m whole (replaced i p) i p j
 visit_levels_are m true i p j = two_after m j (replaced i (once p)) (replaced i p)
 visit_levels_are m false i p j = refl
 
--- the levels of pairs
+-- the levels of pairs as a list are those that the facts say, where the right side's are
 pub pair_levels_are : (m : ℕ) (whole : Bool) (i : Profile) (l : Levels) (right : ℕ → Profile) → ((j : ℕ) → level_in l j ≡ right j) → (j : ℕ)
     → level_in (pair_levels m whole i l) j ≡ pairs_level m whole i right j
 pair_levels_are m true i l right h j =

@@ -156,7 +156,7 @@ module _ (shapes : List SourceShape) (p : PlanValue) (valid : IsValid p) (typed 
         let o = kept_at i v j s e in
         rw (o.2, o.6) ((are.each o.0 o.1).trees v j o.3 o.4)
 
-    -- so are those of pieces
+    -- the trees of pieces are known as the facts say
     pub pieces_are : (i : ℕ) (before : Profile) (pieces : List Piece) → i < n → AllByRecursion (IsPiece (kinds p.ops i)) pieces
         → pieces_known known before pieces ≡ pieces_from before (kinds p.ops i) (fs i).lists pieces
     pieces_are i before [] s h = refl

@@ -25,16 +25,16 @@ pub record AgreesWith (shapes : List Shape) (outs : List ℕ) (kinds : Kinds) (f
   pub keys : k.keys ≡ f.keys
   pub levels : (j : ℕ) → level_in k.levels j ≡ f.levels j
 
--- so of the operator of a number
+-- what the program knows of operator n agrees with its facts
 abbrev pub Agrees : List Shape → List Operator → ℕ → Known → Type 0
 Agrees shapes ops n k = AgreesWith shapes (outs_of (op_at ops n)) (kinds ops n) (facts (shapes_of shapes) ops n) k
 
--- so much is known of the first operators
+-- the program knows the first n operators of a plan, and what it knows of each agrees with its facts
 pub record AreKnown (shapes : List Shape) (ops : List Operator) (known : List Known) (n : ℕ) : Type 0 where
   pub count : length known ≡ n
   pub each : (i : ℕ) → i < n → Agrees shapes ops i (known_at known i)
 
--- as facts that have the lists of variables alone
+-- what the program knows, as facts that have the lists of variables alone
 abbrev pub lists_in : List Known → Facts
 lists_in known =
     record { profile = costless; layouts = no_facts.layouts; lists = λ v. (domain_of known v).trees; keys = []; levels = no_facts.levels }

@@ -35,23 +35,23 @@ pub record Known : Type 0 where
 abbrev pub node_domain : ℕ → Sorts → Domain
 node_domain source sorts = record { source = source; sorts = sorts; trees = one_item }
 
--- those with such trees that are no nodes
+-- the domain of a variable whose values are no nodes, with such trees
 abbrev pub value_domain : Profile → Domain
 value_domain trees = record { source = 0; sorts = no_sorts; trees = trees }
 
--- of an operator that binds no variable anew, with these levels after level 0
+-- what is known of an operator that binds no variable anew, with these levels after level 0
 abbrev pub known_with : Profile → List Key → Levels → Known
 known_with p keys levels = record { profile = p; out = None; domain = value_domain one_item; keys = keys; levels = with_first p levels }
 
--- the same of one that binds a variable anew
+-- what is known of an operator, with a variable that it binds anew, and its domain
 abbrev pub binding : ℕ → Domain → Known → Known
 binding out domain k = record { profile = k.profile; out = Some out; domain = domain; keys = k.keys; levels = k.levels }
 
--- nothing is known
+-- what is known of no operator: nothing
 abbrev pub no_known : Known
 no_known = record { profile = costless; out = None; domain = value_domain one_item; keys = []; levels = same_levels unbounded }
 
--- of the operator of a number
+-- what is known of the operator of a number
 abbrev pub known_at : List Known → ℕ → Known
 known_at known n = slice_index_or known n no_known
 
@@ -72,15 +72,15 @@ visit_in m labels shape start = record {
   found = node_domain start.source (sorts_found m labels shape start.sorts);
 }
 
--- the visit along a path
+-- the visit along a path below nodes of a domain
 abbrev pub visit_along : List SourceShape → Form → Domain → Visit
 visit_along shapes path start = visit_in (machine_of (table_of path)) (sample_labels (table_of path).labels) (shape_at shapes start.source) start
 
--- of the node of a source
+-- what is known of a source
 abbrev pub source_known : List SourceShape → ℕ → ℕ → Known
 source_known shapes s out = binding out (node_domain s (only (first_sort (shape_at shapes s)))) (known_with one_binding [] (same_levels unbounded))
 
--- of a visit below each binding of an input with a front of m variables
+-- what is known of visits below each binding of an input with a front of m variables
 abbrev pub visits_known : ℕ → Visit → ℕ → Bool → Known → Known
 visits_known out visit m whole input =
     binding out visit.found
@@ -91,21 +91,21 @@ abbrev pub tested_levels : List Test → Profile → Levels → Levels
 tested_levels [] p levels = levels
 tested_levels (t ∷ tests) p levels = same_levels (own_level p)
 
--- of pairs, of which the left side has a front of m variables
+-- what is known of a join, of which the left side has a front of m variables
 abbrev pub pairs_known : List Test → ℕ → Bool → Known → Known → Known
 pairs_known tests m whole left right =
     let p = tested tests (beside left.profile right.profile) in
     known_with p (left.keys ++ right.keys) (tested_levels tests p (pair_levels m whole left.profile right.levels))
 
--- after a comparison
+-- what is known after a comparison
 abbrev pub selected_known : Known → Known
 selected_known input = known_with (passed input.profile) input.keys (same_levels (own_level (passed input.profile)))
 
--- after an order
+-- what is known after an order
 abbrev pub ordered_known : Known → Known
 ordered_known input = known_with unbounded input.keys (same_levels unbounded)
 
--- with a variable more, whose values have such trees
+-- what is known with one variable more, whose values have such trees
 abbrev pub extended_known : ℕ → Profile → Known → Known
 extended_known out trees input = binding out (value_domain trees) (known_with input.profile input.keys input.levels)
 
@@ -127,7 +127,7 @@ grouped_known keys vars out input = binding out (value_domain (group_profile (ar
 abbrev pub group_known : ℕ → Known → Known
 group_known out input = binding out (value_domain input.profile) (known_with one_binding [] (same_levels unbounded))
 
--- the trees of a piece
+-- the profile of the trees of a piece
 abbrev pub piece_known : List Known → Piece → Profile
 piece_known known (label_piece v) = one_item
 piece_known known (text_piece label) = one_item
@@ -143,7 +143,7 @@ abbrev pub made_known : List Known → Made → Profile
 made_known known (a_list_of pieces) = pieces_known known costless pieces
 made_known known (an_element_of label list) = one_item
 
--- after a stage, over an input with a front of these variables
+-- what is known after a stage, over an input with a front of these variables
 abbrev pub stage_known : List Known → Stage → List ℕ → Known → Known
 stage_known known (filters test) vars input = selected_known input
 stage_known known (extends out made) vars input = extended_known out (made_known known made) input
@@ -152,11 +152,11 @@ stage_known known (first_by_keys keys (Some group)) vars input = grouped_known k
 stage_known known (one_group piece out) vars input = group_known out input
 stage_known known (in_order v desc) vars input = ordered_known input
 
--- no events
+-- what is known of an operator without events
 abbrev pub ended_known : Known
 ended_known = known_with costless [] (same_levels unbounded)
 
--- after a shape with one input, which has a front of these variables; of others, no events
+-- what is known after a shape with one input, which has a front of these variables; of any other shape, no events
 abbrev pub over_known : List Known → List ℕ → Known → Shape → Known
 over_known known vars input (one_source s out) = ended_known
 over_known known vars input (visits_below i start path out) = ended_known
@@ -164,7 +164,7 @@ over_known known vars input (pairs_up left right tests) = ended_known
 over_known known vars input (passes_on i stage) = stage_known known stage vars input
 over_known known vars input (no_events i made) = ended_known
 
--- of a shape
+-- what is known of a shape, from what is known of the operators before it
 abbrev pub shape_known : List SourceShape → (ℕ → Front) → List Known → Shape → Known
 shape_known shapes fronts known (one_source s out) = source_known shapes s out
 shape_known shapes fronts known (visits_below input start path out) =
@@ -174,7 +174,7 @@ shape_known shapes fronts known (pairs_up left right tests) =
 shape_known shapes fronts known (passes_on input stage) = stage_known known stage (fronts input).vars (known_at known input)
 shape_known shapes fronts known (no_events input made) = ended_known
 
--- of an operator
+-- what is known of an operator, from what is known of those before it
 abbrev pub op_known : List SourceShape → (ℕ → Front) → List Known → Operator → Known
 op_known shapes fronts known op = shape_known shapes fronts known (shape_of op)
 
@@ -186,6 +186,6 @@ IsShortShape (pairs_up left right tests) = Unit {0}
 IsShortShape (passes_on input stage) = Unit {0}
 IsShortShape (no_events input made) = Unit {0}
 
--- so is an operator's
+-- an operator's path, if it has one, is short enough for an automaton
 abbrev pub IsShort : Operator → Type 0
 IsShort op = IsShortShape (shape_of op)

@@ -8,11 +8,11 @@ pub record Levels : Type 0 where
   pub first : List Profile
   pub rest : Profile
 
--- the level of a number
+-- the level of a number in a list of levels
 abbrev pub level_in : Levels → ℕ → Profile
 level_in l j = slice_index_or l.first j l.rest
 
--- the same level whatever the number
+-- levels that are all one profile
 abbrev pub same_levels : Profile → Levels
 same_levels p = record { first = []; rest = p }
 
@@ -20,7 +20,7 @@ same_levels p = record { first = []; rest = p }
 abbrev pub with_first : Profile → Levels → Levels
 with_first p l = record { first = once p ∷ drop 1 l.first; rest = l.rest }
 
--- so many levels of which nothing is known
+-- a list of so many levels of which nothing is known
 abbrev pub opens : ℕ → List Profile
 opens zero = []
 opens (suc m) = unbounded ∷ opens m
@@ -29,12 +29,12 @@ opens (suc m) = unbounded ∷ opens m
 abbrev pub beside : Profile → Profile → Profile
 beside left right = replaced left (in_turn one_skip right)
 
--- of visits below bindings with a front of m variables
+-- the levels of visits below bindings with a front of m variables
 abbrev pub visit_levels : ℕ → Bool → Profile → Profile → Levels
 visit_levels m whole input visit =
     cond whole (record { first = opens m ++ replaced input (once visit) ∷ replaced input visit ∷ []; rest = unbounded }) (same_levels unbounded)
 
--- of pairs, of which the left side has a front of m variables
+-- the levels of pairs, of which the left side has a front of m variables
 abbrev pub pair_levels : ℕ → Bool → Profile → Levels → Levels
 pair_levels m whole left right =
     cond whole (record { first = opens m ++ map (beside left) right.first; rest = beside left right.rest }) (same_levels unbounded)

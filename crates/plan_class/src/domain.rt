@@ -14,7 +14,7 @@ pub struct Domain {
     pub trees: Profile,
 }
 
-/// One tree by itself.
+/// The profile of one tree by itself.
 pub fn one_item() -> Profile
     ensures { result ≡ one_item }
 {
@@ -30,7 +30,7 @@ pub fn one_item() -> Profile
 }
 
 impl Domain {
-    /// Nodes of a source.
+    /// The domain of nodes of a source.
     pub fn of_nodes(source: u32, sorts: Sorts) -> Domain
         ensures { result ≡ node_domain source sorts }
     {

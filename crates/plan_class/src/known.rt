@@ -33,7 +33,7 @@ impl Model for Known {
 }
 
 impl Known {
-    /// Nothing.
+    /// What is known of no operator: nothing.
     pub fn none(alloc: Global) -> Known
         ensures { result ≡ no_known }
     {
@@ -46,7 +46,7 @@ impl Known {
         }
     }
 
-    /// Of an operator that binds no variable anew, with these levels after level 0. `Err`: memory.
+    /// What is known of an operator that binds no variable anew, with these levels after level 0. `Err`: memory.
     pub fn new(
         alloc: Global,
         profile: Profile,
@@ -65,7 +65,7 @@ impl Known {
         })
     }
 
-    /// Of an operator without events. `Err`: memory.
+    /// What is known of an operator without events. `Err`: memory.
     pub fn ended(alloc: Global) -> Result<Known, AllocError>
         ensures { IfOk result (λ k. k ≡ ended_known) }
     {
@@ -73,7 +73,7 @@ impl Known {
         Known::new(alloc, Profile::costless(), Vec::new(alloc), &levels)
     }
 
-    /// The same of one that binds a variable anew.
+    /// What is known of an operator, with a variable that it binds anew, and its domain.
     pub fn binding(self, out: Var, domain: Domain) -> Known
         ensures { result ≡ binding out domain self }
     {

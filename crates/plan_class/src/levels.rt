@@ -30,7 +30,7 @@ impl Model for Levels {
 }
 
 impl Levels {
-    /// The same level whatever the number.
+    /// Levels that are all one profile.
     pub fn same(alloc: Global, level: Profile) -> Levels
         ensures { result ≡ same_levels level }
     {
@@ -40,7 +40,7 @@ impl Levels {
         }
     }
 
-    /// The level of a number.
+    /// The level of a number: one of the first, or the one that all others are.
     pub fn at(&self, number: usize) -> Profile
         ensures { result ≡ level_in self.now number }
     {
@@ -77,7 +77,7 @@ pub fn own_level(profile: Profile) -> Profile
     }
 }
 
-// So many levels of which nothing is known.
+// Makes so many levels of which nothing is known.
 fn opens(alloc: Global, count: usize) -> Result<Vec<Profile>, AllocError>
     ensures { IfOk result (λ levels. levels.items ≡ opens count) }
 {

@@ -21,7 +21,7 @@ use plan_core::Op;
 use plan_core::fronts::{Front, is_whole, vars_at};
 use std::alloc::{AllocError, Global};
 
-// Of the node of a source. `Err`: memory.
+// What is known of a source. `Err`: memory.
 fn source_known(alloc: Global, shapes: &[Shape], source: u32, out: Var) -> Result<Known, AllocError>
     ensures { IfOk result (λ k. k ≡ source_known shapes.now source out) }
 {
@@ -51,7 +51,7 @@ fn joined_keys(alloc: Global, keys: &[Key], more: &[Key]) -> Result<Vec<Key>, Al
     Ok(all)
 }
 
-// Of a visit below each binding of an input with such a front. `Err`: memory.
+// What is known of visits below each binding of an input with a front of this size. `Err`: memory.
 fn visits_known(
     alloc: Global,
     out: Var,
@@ -90,7 +90,7 @@ fn tested_levels(alloc: Global, tests: &[Test], profile: Profile, levels: Levels
     }
 }
 
-// Of pairs, of which the left side has such a front. `Err`: memory.
+// What is known of a join, of which the left side has a front of this size. `Err`: memory.
 fn pairs_known(
     alloc: Global,
     tests: &[Test],
@@ -108,7 +108,7 @@ fn pairs_known(
     Known::new(alloc, profile, keys, &levels)
 }
 
-// After an operator with one input, which has a front of these variables; of others, no events. `Err`: memory.
+// What is known after an operator with one input, which has a front of these variables; of any other, no events. `Err`: memory.
 fn over_known(
     alloc: Global,
     known: &[Known],

@@ -13,7 +13,7 @@ use mix_tree::{Key, Var, key_stands};
 use plan_core::{Piece, fronts};
 use std::alloc::{AllocError, Global};
 
-/// After a comparison. `Err`: memory.
+/// What is known after a comparison. `Err`: memory.
 pub fn selected_known(alloc: Global, input: &Known) -> Result<Known, AllocError>
     ensures { IfOk result (λ k. k ≡ selected_known input.now) }
 {
@@ -23,7 +23,7 @@ pub fn selected_known(alloc: Global, input: &Known) -> Result<Known, AllocError>
     Known::new(alloc, profile, keys, &levels)
 }
 
-/// After an order. `Err`: memory.
+/// What is known after an order. `Err`: memory.
 pub fn ordered_known(alloc: Global, input: &Known) -> Result<Known, AllocError>
     ensures { IfOk result (λ k. k ≡ ordered_known input.now) }
 {
@@ -32,7 +32,7 @@ pub fn ordered_known(alloc: Global, input: &Known) -> Result<Known, AllocError>
     Known::new(alloc, Profile::unbounded(), keys, &levels)
 }
 
-/// With a variable more, whose values have such trees. `Err`: memory.
+/// What is known with one variable more, whose values have such trees. `Err`: memory.
 pub fn extended_known(
     alloc: Global,
     out: Var,
@@ -134,7 +134,7 @@ pub fn group_known(alloc: Global, out: Var, input: &Known) -> Result<Known, Allo
     Ok(one.binding(out, Domain::of_values(input.profile)))
 }
 
-// The trees of a piece.
+// The profile of the trees of a piece.
 fn piece_profile(known: &[Known], piece: &Piece) -> Profile
     ensures { result ≡ piece_known known.now piece.now }
 {

@@ -21,7 +21,7 @@ pub struct Visit {
     pub found: Domain,
 }
 
-// By a path's automaton, in a source of this shape.
+// The visit by a path's automaton below nodes of a source of this shape.
 fn visit_in(automaton: &Auto, labels: &[Label], row: &Label, shape: &Shape, start: Domain) -> Visit
     requires { row.now ≡ row_label }
     ensures { result ≡ visit_in (machine_of automaton.now) labels.now shape.now start }
@@ -34,7 +34,7 @@ fn visit_in(automaton: &Auto, labels: &[Label], row: &Label, shape: &Shape, star
     }
 }
 
-// The shape of a source.
+// The shape of a source by its number; past the end nothing is known of it.
 fn shape_at<'a>(shapes: &'a [Shape], any: &'a Shape, source: u32) -> &'a Shape
     requires { any.now ≡ Any }
     ensures { result.now ≡ shape_at shapes.now source }
@@ -45,7 +45,7 @@ fn shape_at<'a>(shapes: &'a [Shape], any: &'a Shape, source: u32) -> &'a Shape
     }
 }
 
-// By a path's automaton, in one of these sources.
+// The visit by a path's automaton below nodes of one of some sources.
 fn visit_by(
     automaton: &Auto,
     labels: &[Label],

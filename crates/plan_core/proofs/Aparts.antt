@@ -38,24 +38,24 @@ module _ (docs : Documents) where
         | false ↦ λ g. refl
       ]) h
 
-  -- and after others
+  -- nodes that differ by keys differ by these keys after others
   differ_right : (keys more : List Key) (a b : ℕ → Node) → same_values (map (key_value docs a) more) (map (key_value docs b) more) ≡ false
       → same_values (map (key_value docs a) (keys ++ more)) (map (key_value docs b) (keys ++ more)) ≡ false
   differ_right [] more a b h = h
   differ_right (k ∷ keys) more a b h =
       false_and (same_value (key_value docs a k) (key_value docs b k)) (same_values (map (key_value docs a) (keys ++ more)) (map (key_value docs b) (keys ++ more))) (differ_right keys more a b h)
 
-  -- of bindings that agree with others
+  -- bindings whose keys have the values of others that differ, differ
   differ_same : (keys : List Key) (a b c d : TolledRow) → key_values docs keys a ≡ key_values docs keys c → key_values docs keys b ≡ key_values docs keys d → Differ docs keys c d → Differ docs keys a b
   differ_same keys a b c d e f h = ap (λ (x : List KeyValue). same_values x (key_values docs keys b)) e ∙ ap (same_values (key_values docs keys c)) f ∙ h
 
-  -- one list after another
+  -- events of which no two agree, before others that differ from them, are events of which no two agree
   apart_append : (keys : List Key) (xs ys : RowEvents) → AreApart docs keys xs → AreApart docs keys ys → EachBinding (λ a. EachBinding (Differ docs keys a) ys) xs → AreApart docs keys (xs ++ ys)
   apart_append keys [] ys h k d = k
   apart_append keys (skip ∷ xs) ys h k d = apart_append keys xs ys h k d
   apart_append keys (bind row ∷ xs) ys h k d = (binding_append (Differ docs keys row) xs ys h.0 d.0, apart_append keys xs ys h.1 k d.1)
 
-  -- by more keys
+  -- where no two bindings agree by some keys, no two agree by these after others
   apart_right : (keys more : List Key) (es : RowEvents) → AreApart docs more es → AreApart docs (keys ++ more) es
   apart_right keys more [] h = tt
   apart_right keys more (skip ∷ es) h = apart_right keys more es h
@@ -71,7 +71,7 @@ module _ (docs : Documents) where
     pair_differ row other a e d es h =
         binding_weaker (λ b. key_values docs keys b ≡ key_values docs keys other) (Differ docs (keys ++ more) a) (λ b g. differ_left keys more (row_node a) (row_node b) (differ_same keys a b row other e g d)) es h
 
-    -- and those after
+    -- what a binding gives differs from all that the bindings after it give, where these differ from it
     others_differ : (row a : TolledRow) → key_values docs keys a ≡ key_values docs keys row → (es : RowEvents) → EachBinding P es → EachBinding (Differ docs keys row) es → EachBinding (Differ docs (keys ++ more) a) (expand f es)
     others_differ row a e [] p d = tt
     others_differ row a e (skip ∷ es) p d = others_differ row a e es p d
@@ -86,7 +86,7 @@ module _ (docs : Documents) where
         apart_append (keys ++ more) (f row) (expand f es) (apart_right keys more (f row) (inner row p.0)) (apart_expand es p.1 d.1)
         (binding_weaker (λ a. key_values docs keys a ≡ key_values docs keys row) (λ a. EachBinding (Differ docs (keys ++ more) a) (expand f es)) (λ a e. others_differ row a e es p.1 d.0) (f row) (extends row p.0))
 
-  -- fewer bindings
+  -- where no two bindings agree, no two of those that pass a test agree
   pub apart_only : (keys : List Key) (test : TolledRow → Bool) (es : RowEvents) → AreApart docs keys es → AreApart docs keys (only test es)
   apart_only keys test [] h = tt
   apart_only keys test (skip ∷ es) h = apart_only keys test es h
@@ -95,7 +95,7 @@ module _ (docs : Documents) where
       let d = binding_only (Differ docs keys row) test es h.0 in
       elim (test row) as (λ w. AreApart docs keys (cond w (bind row) skip ∷ only test es)) [ true ↦ (d, r) | false ↦ r ]
 
-  -- bindings made anew
+  -- where no two bindings agree, no two that are made anew with the same keys agree
   pub apart_each_row : (keys : List Key) (P : TolledRow → Type 0) (f : TolledRow → TolledRow) → ((row : TolledRow) → P row → key_values docs keys (f row) ≡ key_values docs keys row)
       → (es : RowEvents) → EachBinding P es → AreApart docs keys es → AreApart docs keys (each_row f es)
   apart_each_row keys P f e [] p h = tt
@@ -113,7 +113,7 @@ module _ (docs : Documents) where
   before_itself (i ∷ p) (inl h) = omega (arith, h)
   before_itself (i ∷ p) (inr h) = before_itself p h.1
 
-  -- so are the bindings of such places
+  -- bindings of two places in order differ by the new variable
   node_differs : (out : ℕ) (start : Node) (row : TolledRow) (p q : List ℕ) → PlaceBefore p q → Differ docs (node_key out ∷ []) (with_node out start row p) (with_node out start row q)
   node_differs out start row p q h =
       let e : (out == out) ≡ true = grind (arith, nat_tests) in
@@ -130,14 +130,14 @@ module _ (docs : Documents) where
             | false ↦ λ e. refl
           ]) refl
 
-  -- and of all after a place
+  -- a binding of a place differs by the new variable from those of all places after it
   nodes_differ : (out : ℕ) (start : Node) (row : TolledRow) (p : List ℕ) (es : List (Event (List ℕ))) → AllByRecursion (PlaceBefore p) (without_skips es)
       → EachBinding (Differ docs (node_key out ∷ []) (with_node out start row p)) (nodes_found out start row es)
   nodes_differ out start row p [] h = tt
   nodes_differ out start row p (skip ∷ es) h = nodes_differ out start row p es h
   nodes_differ out start row p (bind q ∷ es) h = (node_differs out start row p q h.0, nodes_differ out start row p es h.1)
 
-  -- the nodes of a visit
+  -- no two bindings of the nodes of a visit agree by the new variable
   pub apart_nodes : (out : ℕ) (start : Node) (row : TolledRow) (es : List (Event (List ℕ))) → Ascending PlaceBefore (without_skips es) → AreApart docs (node_key out ∷ []) (nodes_found out start row es)
   apart_nodes out start row [] h = tt
   apart_nodes out start row (skip ∷ es) h = apart_nodes out start row es h
@@ -162,7 +162,7 @@ module _ (docs : Documents) where
         last true g = g
         last false g = refl
 
-    -- so are the bindings that are kept by keys
+    -- the bindings that are kept as first by keys are distinct: no two agree, and the keys of none were seen
     pub distinct_is : ((row : TolledRow) (rest : RowEvents) → key_values docs keys (make row rest) ≡ key_values docs keys row) → (seen : List (List KeyValue)) (es : RowEvents) → IsDistinct seen (distinct docs keys make seen es)
     distinct_is h seen [] = record { unseen = tt; apart = tt }
     distinct_is h seen (skip ∷ es) = (let r = distinct_is h seen es in record { unseen = r.unseen; apart = r.apart })

@@ -24,7 +24,7 @@ module _ (docs : Documents) where
   beside_apart keys (skip ∷ es) h = beside_apart keys es h
   beside_apart keys (bind row ∷ es) h = (stands_apart keys row es h.0, beside_apart keys es h.1)
 
-  -- by no keys all agree
+  -- by no keys all bindings agree, and thus stand side by side
   pub beside_none : (es : RowEvents) → AreBeside docs [] es
   beside_none [] = tt
   beside_none (skip ∷ es) = beside_none es
@@ -35,7 +35,7 @@ module _ (docs : Documents) where
       stands (skip ∷ es) = stands es
       stands (bind b ∷ es) = inl (refl, stands es)
 
-  -- fewer bindings
+  -- bindings that agree with one still come first when others become skips
   stands_only : (keys : List Key) (test : TolledRow → Bool) (row : TolledRow) (es : RowEvents) → StandsFirst docs keys row es → StandsFirst docs keys row (only test es)
   stands_only keys test row [] h = tt
   stands_only keys test row (skip ∷ es) h = stands_only keys test row es h
@@ -46,7 +46,7 @@ module _ (docs : Documents) where
       let d = binding_only (Differ docs keys row) test es h.1 in
       elim (test b) as (λ w. StandsFirst docs keys row (cond w (bind b) skip ∷ only test es)) [ true ↦ inr (h.0, d) | false ↦ stands_apart keys row (only test es) d ]
 
-  -- so after each
+  -- bindings that agree still stand side by side when others become skips
   pub beside_only : (keys : List Key) (test : TolledRow → Bool) (es : RowEvents) → AreBeside docs keys es → AreBeside docs keys (only test es)
   beside_only keys test [] h = tt
   beside_only keys test (skip ∷ es) h = beside_only keys test es h
@@ -57,7 +57,7 @@ module _ (docs : Documents) where
 
   -- what a relation of keys says, said of made bindings
   module _ (keys : List Key) (P : TolledRow → Type 0) (f : TolledRow → TolledRow) (same : (row : TolledRow) → P row → key_values docs keys (f row) ≡ key_values docs keys row) where
-    -- of two of them
+    -- two bindings made anew agree or differ by keys as the bindings did
     both_same : (a b : TolledRow) (x : Bool) → P a → P b → same_values (key_values docs keys a) (key_values docs keys b) ≡ x → same_values (key_values docs keys (f a)) (key_values docs keys (f b)) ≡ x
     both_same a b x p q h = ap (λ (z : List KeyValue). same_values z (key_values docs keys (f b))) (same a p) ∙ ap (same_values (key_values docs keys a)) (same b q) ∙ h
 
@@ -74,7 +74,7 @@ module _ (docs : Documents) where
     stands_each row p (bind b ∷ es) q (inl h) = inl (both_same row b true p q.0 h.0, stands_each row p es q.1 h.1)
     stands_each row p (bind b ∷ es) q (inr h) = inr (both_same row b false p q.0 h.0, others_differ row p es q.1 h.1)
 
-    -- so after each
+    -- bindings made anew with the same values of keys stand side by side where the bindings did
     pub beside_each_row : (es : RowEvents) → EachBinding P es → AreBeside docs keys es → AreBeside docs keys (each_row f es)
     beside_each_row [] q h = tt
     beside_each_row (skip ∷ es) q h = beside_each_row es q h
@@ -82,7 +82,7 @@ module _ (docs : Documents) where
 
   -- bindings kept by keys, made with the same values of other keys
   module _ (keys by : List Key) (make : TolledRow → RowEvents → TolledRow) (same : (row : TolledRow) (es : RowEvents) → key_values docs keys (make row es) ≡ key_values docs keys row) where
-    -- of two of them
+    -- two bindings made of bindings and the events after them agree or differ by keys as the bindings did
     made_same : (a b : TolledRow) (xs ys : RowEvents) (x : Bool) → same_values (key_values docs keys a) (key_values docs keys b) ≡ x → same_values (key_values docs keys (make a xs)) (key_values docs keys (make b ys)) ≡ x
     made_same a b xs ys x h = ap (λ (z : List KeyValue). same_values z (key_values docs keys (make b ys))) (same a xs) ∙ ap (same_values (key_values docs keys a)) (same b ys) ∙ h
 
@@ -114,7 +114,7 @@ module _ (docs : Documents) where
         elim (is_seen (key_values docs by b) seen)
         as (λ w. StandsFirst docs keys (make row xs) (cond w (skip ∷ distinct docs by make seen es) (bind (make b es) ∷ distinct docs by make (seen ++ key_values docs by b ∷ []) es))) [ true ↦ old | false ↦ inr (d, new) ]
 
-    -- so after each
+    -- first bindings by some keys still stand side by side by the other keys, where all bindings did
     pub beside_distinct : (seen : List (List KeyValue)) (es : RowEvents) → AreBeside docs keys es → AreBeside docs keys (distinct docs by make seen es)
     beside_distinct seen [] h = tt
     beside_distinct seen (skip ∷ es) h = beside_distinct seen es h
@@ -127,13 +127,13 @@ module _ (docs : Documents) where
           | false ↦ (s, new)
         ]
 
-  -- the same values agree
+  -- bindings whose keys have equal values agree
   agree_itself : (keys : List Key) (a b : TolledRow) → key_values docs keys a ≡ key_values docs keys b → Agree docs keys a b
   agree_itself keys a b e = ap (λ (z : List KeyValue). same_values z (key_values docs keys b)) e ∙ all_itself (key_values docs keys b)
 
   -- an expansion, by the keys of its rows
   module _ (keys : List Key) (P : TolledRow → Type 0) (f : TolledRow → RowEvents) (extends : (row : TolledRow) → P row → EachBinding (λ a. key_values docs keys a ≡ key_values docs keys row) (f row)) where
-    -- of what two bindings give
+    -- bindings that two others give agree or differ by keys as those two do
     pair_is : (row other a b : TolledRow) (x : Bool) → key_values docs keys a ≡ key_values docs keys row → key_values docs keys b ≡ key_values docs keys other → same_values (key_values docs keys row) (key_values docs keys other) ≡ x
         → same_values (key_values docs keys a) (key_values docs keys b) ≡ x
     pair_is row other a b x e g h = ap (λ (z : List KeyValue). same_values z (key_values docs keys b)) e ∙ ap (same_values (key_values docs keys row)) g ∙ h
@@ -174,7 +174,7 @@ module _ (docs : Documents) where
       beside_append row xs ys h.1 s k,
     )
 
-    -- so after each
+    -- bindings that an expansion gives stand side by side by keys where those that gave them did
     pub beside_expand : (es : RowEvents) → EachBinding P es → AreBeside docs keys es → AreBeside docs keys (expand f es)
     beside_expand [] p h = tt
     beside_expand (skip ∷ es) p h = beside_expand es p h
@@ -182,7 +182,7 @@ module _ (docs : Documents) where
 
 -- rows of which no two agree, each replaced by bindings that stand side by side by more keys
 module _ (docs : Documents) (keys more_keys : List Key) where
-  -- of two that agree by the first keys
+  -- two bindings that agree by the first keys agree or differ by all keys as they do by the further ones
   pair_more : (k : List KeyValue) (a b : TolledRow) → key_values docs keys a ≡ k → key_values docs keys b ≡ k
       → same_values (key_values docs (keys ++ more_keys) a) (key_values docs (keys ++ more_keys) b) ≡ same_values (key_values docs more_keys a) (key_values docs more_keys b)
   pair_more k a b e g =
@@ -225,13 +225,13 @@ module _ (docs : Documents) (keys more_keys : List Key) where
     near row (skip ∷ xs) ys h b d k = near row xs ys h b d k
     near row (bind a ∷ xs) ys h b d k = (stands_more (key_values docs keys row) a h.0 xs ys h.1 b.0 (d a h.0), near row xs ys h.1 b.1 d k)
 
-    -- so after each
+    -- bindings that an expansion gives stand side by side by keys and further ones, where no two that gave them agree
     pub beside_pairs : (es : RowEvents) → EachBinding P es → AreApart docs keys es → AreBeside docs (keys ++ more_keys) (expand f es)
     beside_pairs [] p d = tt
     beside_pairs (skip ∷ es) p d = beside_pairs es p d
     beside_pairs (bind row ∷ es) p d = near row (f row) (expand f es) (extends row p.0) (inner row p.0) (λ a e. far_differ row a e es p.1 d.0) (beside_pairs es p.1 d.1)
 
--- of a group whose members stand side by side: the events up to the first other binding have all its members
+-- the events up to the first binding of another group have all members of a group whose members stand side by side
 pub run_whole : (docs : Documents) (keys : List Key) (row : TolledRow) (es : RowEvents) → StandsFirst docs keys row es
     → without_skips (run_of (λ r. same_values (key_values docs keys row) (key_values docs keys r)) es) ≡ without_skips (only (λ r. same_values (key_values docs keys row) (key_values docs keys r)) es)
 run_whole docs keys row [] h = refl

@@ -14,27 +14,27 @@ abbrev pub IsOwn : Option Kind → (TolledRow → TolledValue) → TolledValue �
 IsOwn None whole own after = (more : TolledRow) → whole more ≡ after more
 IsOwn (Some k) whole own after = (more : TolledRow) → whole more ≡ own
 
--- so of a variable in a binding
+-- a binding has a value of a variable of its own exactly where the variable has a kind
 abbrev pub HasValue : Option Kind → TolledRow → ℕ → Type 0
 HasValue k row v = IsOwn k (λ more. tolled_value (row ++ more) v) (tolled_value row v) (λ more. tolled_value more v)
 
--- so of each variable
+-- a binding has values of its own of exactly the variables that have kinds
 abbrev pub IsBound : Kinds → TolledRow → Type 0
 IsBound kinds row = (v : ℕ) → HasValue (kinds v) row v
 
--- of a variable that is bound
+-- a variable that is bound keeps its value with other bindings after it
 pub value_own : (kinds : Kinds) (row : TolledRow) → IsBound kinds row → (v : ℕ) (k : Kind) → kinds v ≡ Some k → (more : TolledRow) → tolled_value (row ++ more) v ≡ tolled_value row v
 value_own kinds row b v k e more = (let h : HasValue (Some k) row v = subst (λ (j : Option Kind). HasValue j row v) e (b v) in h more)
 
--- and of one that is not
+-- a variable that is not bound has its value in what stands after the binding
 pub value_after : (kinds : Kinds) (row : TolledRow) → IsBound kinds row → (v : ℕ) → kinds v ≡ None → (more : TolledRow) → tolled_value (row ++ more) v ≡ tolled_value more v
 value_after kinds row b v e more = (let h : HasValue None row v = subst (λ (j : Option Kind). HasValue j row v) e (b v) in h more)
 
--- no variable at all
+-- a binding without variables has values of no variable
 pub bound_none : IsBound no_kinds []
 bound_none v = λ more. refl
 
--- one variable more
+-- a binding with one variable more has values of exactly the variables of the longer kinds
 pub bound_with : (kinds : Kinds) (out : ℕ) (k : Kind) (x : TolledValue) (row : TolledRow) → IsBound kinds row → IsBound (with_kind out k kinds) ((out, x) ∷ row)
 bound_with kinds out k x row b v =
     elim (out == v)
@@ -66,7 +66,7 @@ value_both a b v (Some j) k x y = λ more. ap (λ (z : TolledRow). tolled_value 
 value_both a b v None (Some k) x y = λ more. ap (λ (z : TolledRow). tolled_value z v) (append_assoc a b more) ∙ x (b ++ more) ∙ y more ∙ sym (x b)
 value_both a b v None None x y = λ more. ap (λ (z : TolledRow). tolled_value z v) (append_assoc a b more) ∙ x (b ++ more) ∙ y more
 
--- both sides of a pair
+-- a pair of bindings has values of exactly the variables of both
 pub bound_both : (left right : Kinds) (a b : TolledRow) → IsBound left a → IsBound right b → IsBound (λ v. either_kind (left v) (right v)) (a ++ b)
 bound_both left right a b x y v = value_both a b v (left v) (right v) (x v) (y v)
 
@@ -85,7 +85,7 @@ pub keys_with : (docs : Documents) (kinds : Kinds) (keys : List Key) (out : ℕ)
     → key_values docs keys ((out, x) ∷ row) ≡ key_values docs keys row
 keys_with docs kinds keys out x row n e = values_alike docs keys ((out, x) ∷ row) row (λ v t. (let d = fresh_differs kinds out v a_node e (n v t) in rw d refl))
 
--- they stay keys of nodes
+-- keys of nodes stay keys of nodes with a new variable more
 pub nodes_with : (kinds : Kinds) (keys : List Key) (out : ℕ) (k : Kind) → AreNodes keys kinds → kinds out ≡ None → AreNodes keys (with_kind out k kinds)
 nodes_with kinds keys out k n e v t = (let d = fresh_differs kinds out v a_node e (n v t) in rw d (n v t))
 
@@ -98,11 +98,11 @@ restrict_value (k ∷ keys) row v h =
       | false ↦ λ e t. restrict_value keys row v t
     ]) refl h
 
--- so the keys compare the same
+-- keys compare in the binding of their variables what they compare in the whole binding
 pub keys_restrict : (docs : Documents) (keys : List Key) (row : TolledRow) → key_values docs keys (tolled_restrict keys row) ≡ key_values docs keys row
 keys_restrict docs keys row = values_alike docs keys (tolled_restrict keys row) row (λ v t. restrict_value keys row v t)
 
--- they stay keys of nodes
+-- keys of nodes stay keys of nodes where their variables alone are kept
 pub nodes_kept : (kinds : Kinds) (keys : List Key) → AreNodes keys kinds → AreNodes keys (kept keys kinds)
 nodes_kept kinds keys n v t = rw t (n v t)
 
@@ -110,7 +110,7 @@ nodes_kept kinds keys n v t = rw t (n v t)
 pub keys_left : (docs : Documents) (kinds : Kinds) (keys : List Key) (a b : TolledRow) → AreNodes keys kinds → IsBound kinds a → key_values docs keys (a ++ b) ≡ key_values docs keys a
 keys_left docs kinds keys a b n h = values_alike docs keys (a ++ b) a (λ v t. value_own kinds a h v a_node (n v t) b)
 
--- and of the right side, where the left one binds none of their variables
+-- keys of variables that the left side does not bind compare in a pair what they compare in the right binding
 pub keys_right : (docs : Documents) (left right : Kinds) (keys : List Key) (a b : TolledRow) → AreNodes keys right → ((v : ℕ) (k : Kind) → right v ≡ Some k → left v ≡ None) → IsBound left a
     → key_values docs keys (a ++ b) ≡ key_values docs keys b
 keys_right docs left right keys a b n fresh h = values_alike docs keys (a ++ b) b (λ v t. value_after left a h v (fresh v a_node (n v t)) b)

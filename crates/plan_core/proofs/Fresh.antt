@@ -17,13 +17,13 @@ use Rattle.plan_core.specs.Valid.{Kind, a_node, a_list, Kinds, no_kinds, with_ki
 use Rattle.plan_core.proofs.Chained.{count-append}
 use Rattle.plan_core.proofs.Numbers.{by_number-is, op_kinds-reads}
 
--- numbers that stand once
+-- a number that is in a list is found there
 any_among : (v : ℕ) (vs : List ℕ) → Among v vs → list_any (λ w. w == v) vs ≡ true
 any_among v [] a = absurd a
 any_among v (w ∷ vs) (inl e) = (let t : (w == v) ≡ true = grind (arith, nat_tests, e) in rw t refl)
 any_among v (w ∷ vs) (inr a) = (let t = any_among v vs a in elim (w == v) as (λ x. (x || list_any (λ w. w == v) vs) ≡ true) [ true ↦ refl | false ↦ t ])
 
--- it stands in one part of them alone
+-- where no number stands twice in two lists together, none is in both
 pub distinct_apart : (xs ys : List ℕ) (v : ℕ) → AreDistinct (xs ++ ys) → Among v xs → Among v ys → ⊥
 distinct_apart [] ys v d a b = a
 distinct_apart (x ∷ xs) ys v d (inl e) b =
@@ -144,12 +144,12 @@ module _ (p : PlanValue) (valid : IsValid p) (typed : IsTyped p.ops) where
   abbrev ops : List Operator
   ops = p.ops
 
-  -- so many readers up
+  -- operator n reads operator m through d readers, one above another
   abbrev pub Up : ℕ → ℕ → ℕ → Type 0
   Up m zero n = m ≡ n
   Up m (suc d) n = (q : ℕ) × (q < length ops) × Among m (inputs_of (op_at ops q)) × Up q d n
 
-  -- one reader further up
+  -- an operator that reads one which reads m through d readers reads m through one more
   pub up_more : (m d i n : ℕ) → Up m d i → Among i (inputs_of (op_at ops n)) → n < length ops → Up m (suc d) n
   up_more m zero i n u a b = (n, b, subst (λ (z : ℕ). Among z (inputs_of (op_at ops n))) (sym u) a, refl)
   up_more m (suc d) i n u a b = (u.0, u.1, u.2, up_more u.0 d i n u.3 a b)
@@ -170,7 +170,7 @@ module _ (p : PlanValue) (valid : IsValid p) (typed : IsTyped p.ops) where
       let c : suc i < length ops = omega (arith, s, b) in
       let e : count_by (λ m. m == i) (flat_map inputs_of ops) ≡ 1 = valid.used_once i c in omega (arith, e)
 
-  -- two ways up are one
+  -- of two operators that read one operator through readers, one reads the other so, or they are one
   pub one_way : (m d e a b : ℕ) → Up m d a → Up m e b → ((k : ℕ) × Up a k b) ⊎ ((k : ℕ) × Up b k a)
   one_way m zero e a b u w = inl (e, subst (λ (z : ℕ). Up z e b) u w)
   one_way m (suc d) zero a b u w = inr (suc d, subst (λ (z : ℕ). Up z (suc d) a) w u)

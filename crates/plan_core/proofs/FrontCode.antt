@@ -34,7 +34,7 @@ covers_nodes keys (v ∷ vs) = rw (node_stands keys v, covers_nodes keys vs) ref
 pub shared_more : (keys : List Key) (v : ℕ) (vs : List ℕ) → list_any (key_eq (node_key v)) keys ≡ true → shared keys (v ∷ vs) ≡ v ∷ shared keys vs
 shared_more keys v vs h = rw h refl
 
--- or none from there on
+-- where a variable's node is no key, the first variables that are shared end before it
 pub shared_end : (keys : List Key) (v : ℕ) (vs : List ℕ) → list_any (key_eq (node_key v)) keys ≡ false → shared keys (v ∷ vs) ≡ []
 shared_end keys v vs h = rw h refl
 
@@ -47,7 +47,7 @@ fronts_below ops fronts k l h =
       | inr b ↦ get_or_past fronts n (no_front true) (omega (arith, l, b)) ∙ sym (below_op-past op_front (no_front true) ops k n b)
     ])
 
--- so the front of the next operator is made of them
+-- the front computed from those of the operators before is the front of the next operator
 pub front_next : (ops : List Operator) (fronts : List Front) (k : ℕ) (op : Operator) → op_at ops k ≡ op → length fronts ≡ k → ((n : ℕ) → n < k → front_at fronts n ≡ front ops n)
     → op_front op (front_at fronts) ≡ front ops k
 unfolding front
@@ -58,7 +58,7 @@ pub record AreBelow (ops : List Operator) (fronts : List Front) (k : ℕ) : Type
   pub count : length fronts ≡ k
   pub each : (n : ℕ) → n < k → front_at fronts n ≡ front ops n
 
--- with that of the next
+-- the fronts of the first k operators, with the computed front of the next, are those of the first k + 1
 pub fronts_more : (ops : List Operator) (fronts : List Front) (k : ℕ) (op : Operator) (f : Front) → op_at ops k ≡ op → length fronts ≡ k
     → ((n : ℕ) → n < k → front_at fronts n ≡ front ops n) → f ≡ op_front op (front_at fronts) → AreBelow ops (fronts ++ f ∷ []) (k + 1)
 fronts_more ops fronts k op f e l h is = record {
@@ -79,11 +79,11 @@ front_found ops fronts h n = elim (cases_lt n (length ops)) [
   | inr b ↦ (let c = h.count in get_or_past fronts n (no_front true) (omega (arith, c, b)) ∙ sym (front-of ops n (source 0 0) (get_or_past ops n (source 0 0) b) tt))
 ]
 
--- so whether groups stop
+-- whether groups end at the first other key is told by the computed fronts as by the plan
 pub stops_found : (ops : List Operator) (fronts : List Front) → AreFronts ops fronts → (n : ℕ) (keys : List Key) → are_contiguous keys (front_at fronts n).vars ≡ stops_over ops n keys
 stops_found ops fronts h n keys = ap (λ (f : Front). are_contiguous keys f.vars) (front_found ops fronts h n)
 
--- and whether no two bindings agree
+-- whether no two bindings agree by keys is told by the computed fronts as by the plan
 pub apart_found : (ops : List Operator) (fronts : List Front) → AreFronts ops fronts → (n : ℕ) (keys : List Key)
     → ((front_at fronts n).whole && covers keys (node_keys (front_at fronts n).vars)) ≡ apart_over ops n keys
 apart_found ops fronts h n keys = ap (λ (f : Front). f.whole && covers keys (node_keys f.vars)) (front_found ops fronts h n)

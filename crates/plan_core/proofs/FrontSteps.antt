@@ -34,7 +34,7 @@ pub record AreFronted (docs : Documents) (kinds : Kinds) (f : Front) (es : RowEv
   pub nodes : AreNodes (node_keys f.vars) kinds
   pub front : HaveFront docs f es
 
--- of no variables it is known at once
+-- events have a front of no variables where, if it is whole, no two of them agree by no keys
 none_front : (docs : Documents) (whole : Bool) (es : RowEvents) → (whole ≡ true → AreApart docs [] es) → HaveFront docs (no_front whole) es
 none_front docs whole es h = record { beside = beside; whole = h }
   where
@@ -44,12 +44,12 @@ none_front docs whole es h = record { beside = beside; whole = h }
 
 -- KEYS OF FRONTS
 
--- of two lists of variables
+-- the node keys of two lists of variables are those of the first and then those of the second
 node_keys-append : (vs ws : List ℕ) → node_keys (vs ++ ws) ≡ node_keys vs ++ node_keys ws
 node_keys-append [] ws = refl
 node_keys-append (v ∷ vs) ws = ap (λ (z : List Key). node_key v ∷ z) (node_keys-append vs ws)
 
--- of both the variables are nodes
+-- keys of nodes and more keys of nodes are together keys of nodes
 nodes_append : (keys more : List Key) (kinds : Kinds) → AreNodes keys kinds → AreNodes more kinds → AreNodes (keys ++ more) kinds
 nodes_append keys more kinds h k v t =
     (elim (has_var keys v) as (λ w. has_var keys v ≡ w → (w || has_var more v) ≡ true → kinds v ≡ Some a_node) [
@@ -57,7 +57,7 @@ nodes_append keys more kinds h k v t =
       | false ↦ λ e g. k v g
     ]) refl (sym (list_any-append (λ k. key_var k == v) keys more) ∙ t)
 
--- of the first ones they are
+-- the first node keys of a list are of nodes where all are
 nodes_take : (vs : List ℕ) (j : ℕ) (kinds : Kinds) → AreNodes (node_keys vs) kinds → AreNodes (node_keys (take j vs)) kinds
 nodes_take vs zero kinds h v t = cc
 nodes_take [] (suc j) kinds h v t = cc
@@ -70,7 +70,7 @@ nodes_take (u ∷ vs) (suc j) kinds h v t =
     later : (x : ℕ) → has_var (node_keys vs) x ≡ true → has_var (node_keys (u ∷ vs)) x ≡ true
     later x y = elim (u == x) as (λ w. (w || has_var (node_keys vs) x) ≡ true) [ true ↦ refl | false ↦ y ]
 
--- a key has its variable
+-- a variable whose node is a key is a variable of the keys
 eq_var : (u : ℕ) (keys : List Key) → list_any (key_eq (node_key u)) keys ≡ true → has_var keys u ≡ true
 eq_var u [] h = cc
 eq_var u (node_key v ∷ keys) h =
@@ -102,7 +102,7 @@ shared_has keys (u ∷ vars) (suc j) v h =
 
 -- SOURCES AND VISITS
 
--- a source
+-- a source's events have its front
 pub source_fronted : (docs : Documents) (s out : ℕ) → AreFronted docs (with_kind out a_node no_kinds) (no_front true) (bind ((out, of_source (document_node s)) ∷ []) ∷ [])
 source_fronted docs s out = record {
   bound = (bound_with no_kinds out a_node (of_source (document_node s)) [] bound_none, tt);
@@ -121,20 +121,20 @@ module _ (docs : Documents) (kinds : Kinds) (f : Front) (es : RowEvents) (known 
         binding_nodes (λ a. key_values docs keys a ≡ key_values docs keys row) out (row_node row start) row
         (λ place. keys_with docs kinds keys out (of_source (record { source = (row_node row start).source; place = place })) row n fresh) (visits docs path (row_node row start))
 
-    -- by the front and the new variable no two agree
+    -- where the input's front is whole, no two bindings of a visit agree by it and the new variable
     visit_apart : f.whole ≡ true → AreApart docs (node_keys (f.vars ++ out ∷ [])) found
     visit_apart e =
         subst (λ (ks : List Key). AreApart docs ks found) (sym (node_keys-append f.vars (out ∷ [])))
         (apart_expand docs (node_keys f.vars) (node_key out ∷ []) (IsBound kinds) (descendants docs start path out) (λ row b. visit_same (node_keys f.vars) known.nodes row)
         (λ row b. apart_nodes docs out (row_node row start) row (visits docs path (row_node row start)) (visits_are_matches docs path (row_node row start)).ascending) es known.bound (known.front.whole e))
 
-    -- by the first of the front they stand side by side
+    -- by the first variables of the input's front the bindings of a visit stand side by side
     visit_beside : (j : ℕ) → j ≤ length f.vars → AreBeside docs (node_keys (take j f.vars)) found
     visit_beside j h =
         beside_expand docs (node_keys (take j f.vars)) (IsBound kinds) (descendants docs start path out) (λ row b. visit_same (node_keys (take j f.vars)) (nodes_take f.vars j kinds known.nodes) row) es
         known.bound (known.front.beside j h)
 
-    -- so by the first of the longer front
+    -- by the first variables of the input's whole front and the new variable the bindings of a visit stand side by side
     longer_beside : f.whole ≡ true → (j : ℕ) → j ≤ length (f.vars ++ out ∷ []) → AreBeside docs (node_keys (take j (f.vars ++ out ∷ []))) found
     longer_beside e j h =
         elim (cases_lt j (suc (length f.vars))) [
@@ -156,7 +156,7 @@ module _ (docs : Documents) (kinds : Kinds) (f : Front) (es : RowEvents) (known 
     own_node : AreNodes (node_key out ∷ []) (with_kind out a_node kinds)
     own_node v t = elim (out == v) as (λ w. (w || false) ≡ true → cond w (Some a_node) (kinds v) ≡ Some a_node) [ true ↦ λ g. refl | false ↦ λ g. cc ] t
 
-    -- a getDescendants
+    -- a getDescendants' events have its front where its input's have theirs
     pub visits_fronted : AreFronted docs (with_kind out a_node kinds) (record { vars = f.vars ++ cond f.whole (out ∷ []) []; whole = f.whole }) found
     visits_fronted =
         (elim f.whole as (λ w. f.whole ≡ w → AreFronted docs (with_kind out a_node kinds) (record { vars = f.vars ++ cond w (out ∷ []) []; whole = w }) found) [
@@ -182,7 +182,7 @@ module _ (docs : Documents) (kinds : Kinds) (f : Front) (es : RowEvents) (known 
 
   -- STAGES
 
-  -- a comparison
+  -- a comparison's events have the front of its input
   pub filtered_fronted : (test : TolledRow → Bool) → AreFronted docs kinds f (only test es)
   filtered_fronted test = record {
     bound = binding_only (IsBound kinds) test es known.bound;
@@ -193,7 +193,7 @@ module _ (docs : Documents) (kinds : Kinds) (f : Front) (es : RowEvents) (known 
     };
   }
 
-  -- one variable more
+  -- events with one variable more have the front of the input
   pub extended_fronted : (out : ℕ) (made : Made) → kinds out ≡ None → AreFronted docs (with_kind out (made_kind made) kinds) f (each_row (extended docs out made) es)
   extended_fronted out made fresh = record {
     bound =
@@ -210,7 +210,7 @@ module _ (docs : Documents) (kinds : Kinds) (f : Front) (es : RowEvents) (known 
     };
   }
 
-  -- one group of all
+  -- the one group of all bindings has the front of one binding
   pub grouped_fronted : (piece : Piece) (out : ℕ) → AreFronted docs (with_kind out a_list no_kinds) (no_front true) (bind (whole_row docs piece out es) ∷ [])
   grouped_fronted piece out = record {
     bound = (bound_with no_kinds out a_list _ [] bound_none, tt);
@@ -218,7 +218,7 @@ module _ (docs : Documents) (kinds : Kinds) (f : Front) (es : RowEvents) (known 
     front = none_front docs true (bind (whole_row docs piece out es) ∷ []) (λ e. (tt, tt));
   }
 
-  -- an order
+  -- an order's events have the front without variables
   pub ordered_fronted : (v : ℕ) (desc : Bool) → AreFronted docs kinds (no_front false) (skips es ++ map bind (sorted_rows docs v desc es))
   ordered_fronted v desc = record {
     bound = binding_sorted (IsBound kinds) _ es known.bound;
@@ -238,12 +238,12 @@ module _ (docs : Documents) (kinds : Kinds) (f : Front) (es : RowEvents) (known 
     kept_value stops None fresh row rest v t = restrict_value keys row v t
     kept_value stops (Some group) fresh row rest v t = (let d = fresh_differs kinds group.1 v a_node fresh (nodes v t) in rw d (restrict_value keys row v t))
 
-    -- its own variables
+    -- the first binding by keys, with its group's list if it has one, has values of exactly its own variables
     kept_bound : (stops : Bool) (group : Option (Piece × ℕ)) (row : TolledRow) (rest : RowEvents) → IsBound (stage_kinds (first_by_keys keys group) kinds) (kept_row docs keys stops group row rest)
     kept_bound stops None row rest = bound_restrict kinds keys row nodes
     kept_bound stops (Some group) row rest = bound_with (kept keys kinds) group.1 a_list _ (tolled_restrict keys row) (bound_restrict kinds keys row nodes)
 
-    -- all of them
+    -- a variable of the front that keys share is among as many of its first ones as there are
     all_shared : (v : ℕ) → has_var (node_keys (shared keys f.vars)) v ≡ true → has_var (node_keys (take (length (shared keys f.vars)) (shared keys f.vars))) v ≡ true
     all_shared v t = subst (λ (vs : List ℕ). has_var (node_keys vs) v ≡ true) (sym (take_length (shared keys f.vars))) t
 
@@ -280,7 +280,7 @@ module _ (docs : Documents) (kinds : Kinds) (f : Front) (es : RowEvents) (known 
 
 -- PAIRS
 
--- comparisons above an expansion
+-- a test of two lists of events, one after the other, tests each of them
 only-append : (test : TolledRow → Bool) (xs ys : RowEvents) → only test (xs ++ ys) ≡ only test xs ++ only test ys
 only-append test [] ys = refl
 only-append test (skip ∷ xs) ys = ap (λ (z : RowEvents). skip ∷ z) (only-append test xs ys)
@@ -318,7 +318,7 @@ module _ (docs : Documents) (kl kr : Kinds) (f g : Front) (ls rs : RowEvents) (l
   left_same keys n row b =
       binding_each_row (λ r. Unit {0}) (λ a. key_values docs keys a ≡ key_values docs keys row) (λ r. row ++ r) (λ r u. keys_left docs kl keys row r n b) rs any_right
 
-  -- both sides' variables
+  -- pairs have values of exactly the variables of both sides
   paired_bound : EachBinding (IsBound both_kinds) paired
   paired_bound =
       binding_expand (IsBound kl) (IsBound both_kinds) beside
@@ -328,17 +328,17 @@ module _ (docs : Documents) (kl kr : Kinds) (f g : Front) (ls rs : RowEvents) (l
   left_nodes : (keys : List Key) → AreNodes keys kl → AreNodes keys both_kinds
   left_nodes keys n v t = ap (λ (k : Option Kind). either_kind k (kr v)) (n v t)
 
-  -- so are those of the right side
+  -- keys of the right side are of nodes of the pairs
   right_nodes : (keys : List Key) → AreNodes keys kr → AreNodes keys both_kinds
   right_nodes keys n v t = ap (λ (k : Option Kind). either_kind k (kr v)) (fresh v a_node (n v t)) ∙ n v t
 
-  -- by the first of the left front
+  -- by the first variables of the left front pairs stand side by side
   left_beside : (j : ℕ) → j ≤ length f.vars → AreBeside docs (node_keys (take j f.vars)) paired
   left_beside j h =
       beside_expand docs (node_keys (take j f.vars)) (IsBound kl) beside (λ row b. left_same (node_keys (take j f.vars)) (nodes_take f.vars j kl left.nodes) row b) ls left.bound
       (left.front.beside j h)
 
-  -- by all of it and the first of the right one
+  -- by all variables of the whole left front and the first of the right one pairs stand side by side
   both_beside : f.whole ≡ true → (k : ℕ) → k ≤ length g.vars → AreBeside docs (node_keys (f.vars ++ take k g.vars)) paired
   both_beside e k h =
       let more : List Key = node_keys (take k g.vars) in
@@ -348,7 +348,7 @@ module _ (docs : Documents) (kl kr : Kinds) (f g : Front) (ls rs : RowEvents) (l
       beside_each_row docs more (λ r. Unit {0}) (λ r. row ++ r) (λ r u. keys_right docs kl kr more row r (nodes_take g.vars k kr right.nodes) fresh b) rs any_right (right.front.beside k h))
       ls left.bound (left.front.whole e))
 
-  -- by all of both no two agree
+  -- where both fronts are whole, no two pairs agree by all variables of both
   both_apart : f.whole ≡ true → g.whole ≡ true → AreApart docs (node_keys (f.vars ++ g.vars)) paired
   both_apart e d =
       subst (λ (ks : List Key). AreApart docs ks paired) (sym (node_keys-append f.vars g.vars))
@@ -357,7 +357,7 @@ module _ (docs : Documents) (kl kr : Kinds) (f g : Front) (ls rs : RowEvents) (l
       apart_each_row docs (node_keys g.vars) (λ r. Unit {0}) (λ r. row ++ r) (λ r u. keys_right docs kl kr (node_keys g.vars) row r right.nodes fresh b) rs any_right (right.front.whole d))
       ls left.bound (left.front.whole e))
 
-  -- by the first of both
+  -- by the first variables of the whole left front and the right one pairs stand side by side
   longer_beside_both : f.whole ≡ true → (j : ℕ) → j ≤ length (f.vars ++ g.vars) → AreBeside docs (node_keys (take j (f.vars ++ g.vars))) paired
   longer_beside_both e j h =
       elim (cases_lt j (length f.vars)) [
@@ -373,7 +373,7 @@ module _ (docs : Documents) (kl kr : Kinds) (f g : Front) (ls rs : RowEvents) (l
             subst (λ (vs : List ℕ). AreBeside docs (node_keys vs) paired) (sym q) (both_beside e k l))
       ]
 
-  -- all pairs
+  -- all pairs have the front of a join, before its comparisons
   paired_fronted : AreFronted docs both_kinds (record { vars = f.vars ++ cond f.whole g.vars []; whole = f.whole && g.whole }) paired
   paired_fronted =
       (elim f.whole as (λ w. f.whole ≡ w → AreFronted docs both_kinds (record { vars = f.vars ++ cond w g.vars []; whole = w && g.whole }) paired) [
@@ -390,7 +390,7 @@ module _ (docs : Documents) (kl kr : Kinds) (f g : Front) (ls rs : RowEvents) (l
             (record { bound = paired_bound; nodes = left_nodes (node_keys f.vars) left.nodes; front = record { beside = left_beside; whole = λ t. cc } })
       ]) refl
 
-  -- a join
+  -- a join's events have its front where those of both sides have theirs
   pub pairs_fronted : (tests : List Test) → AreFronted docs both_kinds (record { vars = f.vars ++ cond f.whole g.vars []; whole = f.whole && g.whole }) (expand (pairs docs tests rs) ls)
   pairs_fronted tests =
       subst (AreFronted docs both_kinds (record { vars = f.vars ++ cond f.whole g.vars []; whole = f.whole && g.whole })) (sym (expand-only (passes_all docs tests) beside ls))

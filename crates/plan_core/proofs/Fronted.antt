@@ -33,7 +33,7 @@ fit_nodes keys None kinds h = h
 fit_nodes keys (Some g) kinds h = h.0
 
 module _ (p : PlanValue) (valid : IsValid p) (docs : Documents) where
-  -- each operator is typed
+  -- each operator of the valid plan has smaller inputs, and is fit
   typed : IsTyped p.ops
   typed = valid_is_typed p valid
 
@@ -96,14 +96,14 @@ module _ (p : PlanValue) (valid : IsValid p) (docs : Documents) where
 
 -- keys by which the same bindings agree
 module _ (docs : Documents) (keys others : List Key) (same : (a b : TolledRow) → same_values (key_values docs keys a) (key_values docs keys b) ≡ same_values (key_values docs others a) (key_values docs others b)) where
-  -- after a binding
+  -- where bindings that agree with one by the keys come first after it, so do those that agree by the others
   stands_alike : (row : TolledRow) (es : RowEvents) → StandsFirst docs keys row es → StandsFirst docs others row es
   stands_alike row [] h = tt
   stands_alike row (skip ∷ es) h = stands_alike row es h
   stands_alike row (bind b ∷ es) (inl h) = inl (sym (same row b) ∙ h.0, stands_alike row es h.1)
   stands_alike row (bind b ∷ es) (inr h) = inr (sym (same row b) ∙ h.0, binding_weaker (Differ docs keys row) (Differ docs others row) (λ c d. sym (same row c) ∙ d) es h.1)
 
-  -- after each
+  -- where bindings that agree by the keys stand side by side, so do those that agree by the others
   pub beside_alike : (es : RowEvents) → AreBeside docs keys es → AreBeside docs others es
   beside_alike [] h = tt
   beside_alike (skip ∷ es) h = beside_alike es h
@@ -129,7 +129,7 @@ front_contiguous docs f es h keys c =
     (covered_same docs (node_keys vs) keys (row_node a) (row_node b) c) (covered_same docs keys (node_keys vs) (row_node a) (row_node b) own)) es
     (subst (λ (z : List ℕ). AreBeside docs (node_keys z) es) e (h.beside (length vs) l))
 
--- so over each operator of a valid plan; past the last one there is one binding
+-- over each operator of a valid plan, bindings that agree by contiguous keys stand side by side; past the last one there is one binding
 pub events_contiguous : (p : PlanValue) → IsValid p → (docs : Documents) (i : ℕ) → AreContiguous docs (front p.ops i).vars (events docs p.ops i)
 events_contiguous p valid docs i = elim (cases_lt i (length p.ops)) [
   | inl b ↦ front_contiguous docs (front p.ops i) (events docs p.ops i) (events_front p valid docs i b)
@@ -144,11 +144,11 @@ fronts_are_of_events p valid docs n h = events_front p valid docs n h
 
 module _ (p : PlanValue) (valid : IsValid p) (docs : Documents) (n i : ℕ) (keys : List Key) (b : n < length p.ops) (is : shape_at p.ops n ≡ passes_on i (first_by_keys keys None))
     (apart : apart_over p.ops i keys ≡ true) where
-  -- the operator is typed
+  -- the inputs of the project's shape stand before it
   own : AllByRecursion (λ j. j < n) (shape_inputs (shape_at p.ops n))
   own = (valid_is_typed p valid).inputs n b
 
-  -- its input stands before it
+  -- the input stands before its operator
   before : i < n
   before = (subst (λ (f : Shape). AllByRecursion (λ j. j < n) (shape_inputs f)) is own).0
 
@@ -158,7 +158,7 @@ module _ (p : PlanValue) (valid : IsValid p) (docs : Documents) (n i : ℕ) (key
       let e = and_parts (front p.ops i).whole (covers keys (node_keys (front p.ops i).vars)) apart in
       covered_apart docs keys (node_keys (front p.ops i).vars) e.1 (events docs p.ops i) ((events_front p valid docs i (omega (arith, before, b))).whole e.0)
 
-  -- so none is dropped
+  -- the project passes on each binding of its input
   pub are_passed : ArePassed docs p.ops n i keys
   are_passed = record {
     apart = input_apart;
@@ -167,6 +167,6 @@ module _ (p : PlanValue) (valid : IsValid p) (docs : Documents) (n i : ℕ) (key
         ∙ distinct_apart docs keys (tolled_restrict keys) [] (events docs p.ops i) (each_binding (λ c. false ≡ false) (λ c. refl) (events docs p.ops i)) input_apart;
   }
 
--- so it is of each valid plan
+-- each project of a valid plan over bindings of which no two agree by its keys passes on each of them
 pub apart_are_passed : ApartArePassed
 apart_are_passed p valid docs n i keys b is apart = are_passed p valid docs n i keys b is apart

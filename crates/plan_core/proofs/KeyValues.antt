@@ -19,17 +19,17 @@ same_itself : (x : KeyValue) → same_value x x ≡ true
 same_itself (by_node n) = same_node-refl n
 same_itself (by_label l) = bytes_eq-refl l
 
--- so are values
+-- values that keys compare are the same as themselves
 pub all_itself : (k : List KeyValue) → same_values k k ≡ true
 all_itself [] = refl
 all_itself (v ∷ k) = ap (λ (b : Bool). b && same_values k k) (same_itself v) ∙ all_itself k
 
--- after the same values
+-- whether values are the same is not changed by the same values before both
 pub same_after : (k s x : List KeyValue) → same_values (k ++ s) (k ++ x) ≡ same_values s x
 same_after [] s x = refl
 same_after (v ∷ k) s x = ap (λ (b : Bool). b && same_values (k ++ s) (k ++ x)) (same_itself v) ∙ same_after k s x
 
--- of two lists of keys
+-- the images of two lists of keys are those of the first and then those of the second
 pub map_more : (f : Key → KeyValue) (d e : List Key) → map f (d ++ e) ≡ map f d ++ map f e
 map_more f [] e = refl
 map_more f (k ∷ d) e = ap (λ (z : List KeyValue). f k ∷ z) (map_more f d e)
@@ -67,7 +67,7 @@ one_given docs (node_key w) (label_key v) a b g s =
 one_given docs (label_key w) (node_key v) a b g s = cc
 one_given docs (label_key w) (label_key v) a b g s = subst (λ (z : ℕ). bytes_eq (label_at docs (a z)) (label_at docs (b z)) ≡ true) (eqb-true w v g) s
 
--- so does one that is given by one of those that agree
+-- where nodes agree by keys, they agree by each key that one of them gives
 some_given : (docs : Documents) (keys : List Key) (k : Key) (a b : ℕ → Node) → stands keys k ≡ true → same_values (map (key_value docs a) keys) (map (key_value docs b) keys) ≡ true
     → same_value (key_value docs a k) (key_value docs b k) ≡ true
 some_given docs [] k a b g s = cc
@@ -97,7 +97,7 @@ covered_differ docs keys others c a b d =
 
 -- THE FRONT THAT KEYS SHARE
 
--- it is a front
+-- the first variables that keys share with a front are a prefix of it
 pub shared_front : (keys : List Key) (vars : List ℕ) → (more : List ℕ) × (shared keys vars ++ more ≡ vars)
 shared_front keys [] = ([], refl)
 shared_front keys (v ∷ vs) =
@@ -118,7 +118,7 @@ pub length_front : (xs more : List ℕ) → length xs ≤ length (xs ++ more)
 length_front [] more = omega arith
 length_front (x ∷ xs) more = (let h = length_front xs more in omega (arith, h))
 
--- the same key gives it
+-- a key gives the key that is equal to it
 eq_gives : (k f : Key) → key_eq k f ≡ true → gives f k ≡ true
 eq_gives (node_key v) (node_key w) h = grind (arith, nat_tests, h)
 eq_gives (node_key v) (label_key w) h = cc
@@ -145,7 +145,7 @@ covers_shared keys (v ∷ vs) (suc j) =
       | false ↦ λ e. refl
     ]) refl
 
--- all of a list
+-- taking as many members of a list as it has gives the list
 pub take_length : (xs : List ℕ) → take (length xs) xs ≡ xs
 take_length [] = refl
 take_length (x ∷ xs) = ap (λ (z : List ℕ). x ∷ z) (take_length xs)

@@ -24,26 +24,26 @@ Agree docs keys a b = same_values (key_values docs keys a) (key_values docs keys
 abbrev pub Differ : Documents → List Key → TolledRow → TolledRow → Type 0
 Differ docs keys a b = same_values (key_values docs keys a) (key_values docs keys b) ≡ false
 
--- no two bindings agree
+-- no two bindings of events agree by the keys
 abbrev pub AreApart : Documents → List Key → RowEvents → Type 0
 AreApart docs keys [] = Unit {0}
 AreApart docs keys (skip ∷ es) = AreApart docs keys es
 AreApart docs keys (bind row ∷ es) = EachBinding (Differ docs keys row) es × AreApart docs keys es
 
--- after a binding, those that agree with it come before all that differ
+-- among the events after a binding, those that agree with it by the keys come before all that differ
 abbrev pub StandsFirst : Documents → List Key → TolledRow → RowEvents → Type 0
 StandsFirst docs keys row [] = Unit {0}
 StandsFirst docs keys row (skip ∷ es) = StandsFirst docs keys row es
 StandsFirst docs keys row (bind b ∷ es) =
     (Agree docs keys row b × StandsFirst docs keys row es) ⊎ (Differ docs keys row b × EachBinding (Differ docs keys row) es)
 
--- so after each: bindings that agree stand side by side
+-- bindings of events that agree by the keys stand side by side
 abbrev pub AreBeside : Documents → List Key → RowEvents → Type 0
 AreBeside docs keys [] = Unit {0}
 AreBeside docs keys (skip ∷ es) = AreBeside docs keys es
 AreBeside docs keys (bind row ∷ es) = StandsFirst docs keys row es × AreBeside docs keys es
 
--- by keys that are contiguous over a front bindings that agree stand side by side
+-- by each list of keys that is contiguous over a front, bindings of events that agree stand side by side
 abbrev pub AreContiguous : Documents → List ℕ → RowEvents → Type 0
 AreContiguous docs vars es = (keys : List Key) → are_contiguous keys vars ≡ true → AreBeside docs keys es
 
@@ -61,7 +61,7 @@ pub record ArePassed (docs : Documents) (ops : List Operator) (n i : ℕ) (keys 
   pub apart : AreApart docs keys (events docs ops i)
   pub events_are : events docs ops n ≡ each_row (tolled_restrict keys) (events docs ops i)
 
--- so it is where a project of a valid plan stands over bindings of which no two agree by its keys
+-- where a project of a valid plan stands over bindings of which no two agree by its keys, it passes on each of them
 abbrev pub ApartArePassed : Type 0
 ApartArePassed = (p : PlanValue) → IsValid p → (docs : Documents) (n i : ℕ) (keys : List Key) → n < length p.ops → shape_at p.ops n ≡ passes_on i (first_by_keys keys None)
     → apart_over p.ops i keys ≡ true → ArePassed docs p.ops n i keys

@@ -14,11 +14,11 @@ pub record Front : Type 0 where
   pub vars : List ℕ
   pub whole : Bool
 
--- no variables
+-- a front without variables
 abbrev pub no_front : Bool → Front
 no_front whole = record { vars = []; whole = whole }
 
--- variables as keys
+-- the keys that are the nodes of variables
 abbrev pub node_keys : List ℕ → List Key
 node_keys vs = map (λ v. node_key v) vs
 
@@ -31,11 +31,11 @@ shared keys (v ∷ vs) = cond (list_any (key_eq (node_key v)) keys) (v ∷ share
 abbrev pub covers : List Key → List Key → Bool
 covers keys others = list_all (stands keys) others
 
--- by these keys the bindings that agree stand side by side: the first variables of the front that are node keys cover them all
+-- bindings that agree by these keys stand side by side: the first variables of the front that are node keys cover them all
 abbrev pub are_contiguous : List Key → List ℕ → Bool
 are_contiguous keys vars = covers (node_keys (shared keys vars)) keys
 
--- the front after a stage
+-- the front of a stage, from that of its input
 abbrev pub stage_front : Stage → Front → Front
 stage_front (filters test) f = f
 stage_front (extends out made) f = f
@@ -52,11 +52,11 @@ shape_front (pairs_up left right tests) of =
 shape_front (passes_on input stage) of = stage_front stage (of input)
 shape_front (no_events input made) of = no_front true
 
--- so of an operator
+-- the front of an operator, from those of its inputs
 abbrev pub op_front : Operator → (ℕ → Front) → Front
 op_front op of = shape_front (shape_of op) of
 
--- the front of operator n
+-- the front of operator n of a plan
 unfoldable pub front : List Operator → ℕ → Front
 front ops n = by_number op_front (no_front true) ops n
 
@@ -86,7 +86,7 @@ abbrev pub shape_apart : List Operator → Shape → Bool
 shape_apart ops (passes_on input (first_by_keys keys None)) = apart_over ops input keys
 shape_apart ops f = false
 
--- so does an operator
+-- an operator is a project that passes on each binding of its input, since no two of them agree by its keys
 abbrev pub op_apart : List Operator → Operator → Bool
 op_apart ops op = shape_apart ops (shape_of op)
 

@@ -49,6 +49,6 @@ shape_of (join left right tests) = pairs_up left right tests
 shape_of (over input op) = passes_on input (stage_of op)
 shape_of (tuple_destroy input made) = no_events input made
 
--- the shape of operator n
+-- the shape of operator n of a plan
 abbrev pub shape_at : List Operator → ℕ → Shape
 shape_at ops n = shape_of (op_at ops n)

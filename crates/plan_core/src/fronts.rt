@@ -28,7 +28,7 @@ impl Model for Front {
     ghost view = { λ f. record { vars = f.vars.items; whole = f.whole } };
 }
 
-// No variables.
+// Makes a front without variables.
 fn no_front(alloc: Global, whole: bool) -> Front
     ensures { result ≡ no_front whole }
 {

@@ -14,7 +14,7 @@ abbrev pub with_prefix : List ℕ → List (List ℕ) → List (List ℕ)
 with_prefix x [] = x ∷ []
 with_prefix x (piece ∷ pieces) = (x ++ piece) ∷ pieces
 
--- nothing before
+-- an empty prefix leaves pieces with a first byte as they are
 prefix_nothing : (b : ℕ) (pieces : List (List ℕ)) → with_prefix [] (with_first b pieces) ≡ with_first b pieces
 prefix_nothing b [] = refl
 prefix_nothing b (piece ∷ pieces) = refl
@@ -43,7 +43,7 @@ grown xs from to h k =
     ap (λ m. take m (drop from xs)) n ∙ take_more (drop from xs) (to - from) 0 inside
     ∙ ap (λ b. take (to - from) (drop from xs) ++ b ∷ []) (get_or-drop from xs (to - from) 0 ∙ ap (λ m. get_or xs m 0) i)
 
--- an empty part
+-- the part of a list from a place to the same place is empty
 empty : (xs : List ℕ) (i : ℕ) → slice_range xs i i ≡ []
 empty xs i = let e : i - i ≡ 0 = omega arith in ap (λ n. take n (drop i xs)) e
 
@@ -51,7 +51,7 @@ empty xs i = let e : i - i ≡ 0 = omega arith in ap (λ n. take n (drop i xs)) 
 abbrev pub all_pieces : ℕ → List (List ℕ) → List ℕ → ℕ → Mode → ℕ → List (List ℕ)
 all_pieces separator pieces text from m at = pieces ++ with_prefix (slice_range text from at) (cut separator m (drop at text))
 
--- a separator was met
+-- a separator that stands outside ends the open piece, and all pieces together stay the same
 pub cut_here : (separator : ℕ) (pieces more : List (List ℕ)) (text : List ℕ) (from at : ℕ) (m : Mode) → at < length text → is_outside m ≡ true → (slice_index text at == separator) ≡ true
     → more ≡ pieces ++ slice_range text from at ∷ [] → all_pieces separator more text (at + 1) m (at + 1) ≡ all_pieces separator pieces text from m at
 cut_here separator pieces more text from at m h o s e =
@@ -76,7 +76,7 @@ cut_here separator pieces more text from at m h o s e =
     both {a = false} p q = p
     both {a = true} {b = false} p q = q
 
--- another byte was met
+-- a byte that is no separator outside joins the open piece, and all pieces together stay the same
 pub goes_on : (separator : ℕ) (pieces : List (List ℕ)) (text : List ℕ) (from at : ℕ) (m : Mode) → from ≤ at → at < length text → (is_outside m && slice_index text at == separator) ≡ false
     → all_pieces separator pieces text from (mode_after m (slice_index text at)) (at + 1) ≡ all_pieces separator pieces text from m at
 goes_on separator pieces text from at m k h s =
@@ -94,11 +94,11 @@ stays_by_byte m b separator h = let e : (b == separator) ≡ false = grind (arit
     by_mode true c e = e
     by_mode false c e = refl
 
--- the byte stands inside
+-- where the mode is not outside, no byte counts as a separator
 pub stays_by_mode : (m : Mode) (c : Bool) → is_outside m ≡ false → (is_outside m && c) ≡ false
 stays_by_mode m c h = ap (λ o. o && c) h
 
--- the last piece
+-- at the end of a text, the pieces with the open one as their last are those that the text is cut into
 pub last_piece : (separator : ℕ) (pieces more : List (List ℕ)) (text : List ℕ) (from at : ℕ) (m : Mode) → length text ≤ at → at ≤ length text
     → more ≡ pieces ++ drop from text ∷ [] → all_pieces separator pieces text from m at ≡ cut separator Plain text → more ≡ cut separator Plain text
 last_piece separator pieces more text from at m h k e whole =

@@ -36,7 +36,7 @@ found_any p xs = by_case (nat_lt (position_or_len p xs) (length xs)) ∙ below_a
     by_case true = refl
     by_case false = refl
 
--- names after names
+-- names with what is new in two lists are those with what is new in the first, then in the second
 with_new_append : (names xs ys : List (List ℕ)) → with_new names (xs ++ ys) ≡ with_new (with_new names xs) ys
 with_new_append names [] ys = refl
 with_new_append names (x ∷ xs) ys = with_new_append (cond (list_any (bytes_eq x) names) names (names ++ x ∷ [])) xs ys

@@ -8,7 +8,7 @@ use Rattle.plan_core.specs.declared.plan.Piece.TheVariants.{Var as var_piece, La
 use Rattle.plan_read.specs.Variables.{var_read, all_read}
 use Rattle.plan_read.specs.Reading.{Pieces, with_piece, piece_read, next_piece, pieces_read, with_test, test_read, next_test, more_tests, tests_read}
 
--- pieces before others
+-- pieces with these before them
 abbrev pub after_pieces : List Piece → Pieces → Pieces
 after_pieces prefix r = record { pieces = prefix ++ r.pieces; out = r.out }
 
@@ -164,7 +164,7 @@ pieces_at names ws at d p n h e =
     ∙ ap (λ (b : Bor (List ℕ)). next_piece names (get_or ws at d).now b.now) (get_or-drop at ws 1 d) ∙ e)
     ∙ ap (λ r. with_piece (Some p) (pieces_read names (map (λ w. w.now) r))) (drop_after n at ws)
 
--- no piece there
+-- where no piece is read before the last two words, no pieces are read from there
 pub no_pieces_at : (names : List (List ℕ)) (ws : List (Bor (List ℕ))) (at : ℕ) (d : Bor (List ℕ)) → at + 2 < length ws → next_piece names (get_or ws at d).now (get_or ws (at + 1) d).now ≡ None
     → pieces_read names (map (λ w. w.now) (drop at ws)) ≡ None
 no_pieces_at names ws at d h e =

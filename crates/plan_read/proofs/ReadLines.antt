@@ -29,7 +29,7 @@ use Rattle.plan_read.proofs.WordReads.{path_reads}
 var_first : (names : List (List ℕ)) (v : ℕ) (word : List ℕ) → SpellsVar names v word → begins 36 word ≡ true
 var_first names v word (x, e, t) = ap (begins 36) e
 
--- a quoted label doesn't
+-- a quoted label doesn't begin with a dollar sign
 quoted_first : (word l : List ℕ) → SpellsQuoted word l → begins 36 word ≡ false
 quoted_first word l (ps, are, e, m) = ap (begins 36) e
 
@@ -47,14 +47,14 @@ operand_reads names sources (var_operand v) word h =
 operand_reads names sources (text_operand l) word h =
     ap (λ b. cond b (option_map var_operand (var_read names word)) (option_map text_operand (quoted_read word))) (quoted_first word l h.1) ∙ ap (option_map text_operand) (quoted_reads word l h.0 h.1)
 
--- a comparison
+-- the words of a comparison are read as that comparison
 test_reads : (names : List (List ℕ)) (sources : List SourceSpec) (t : Test) (l s r : List ℕ) → SpellsVar names t.left l → s ≡ op_sign t.op → SpellsPart names sources (operand_part t.right) r → test_read names l s r ≡ Some t
 test_reads names sources t l s r a b d =
     ap (option_and_then (λ v. option_and_then (λ op. option_map (test_of v op) (operand_read names r)) (sign_read s))) (var_reads names t.left l a)
     ∙ ap (option_and_then (λ op. option_map (test_of t.left op) (operand_read names r))) (ap sign_read b ∙ sign_reads t.op)
     ∙ ap (option_map (test_of t.left t.op)) (operand_reads names sources t.right r d)
 
--- comparisons, each after AND
+-- the parts of comparisons, each after AND
 abbrev more_parts : List Test → List Part
 more_parts tests = flat_map (λ t. keyword (codes "AND") ∷ test_parts t) tests
 
@@ -70,7 +70,7 @@ more_reads names sources (t ∷ ts) (a ∷ l ∷ s ∷ r ∷ ws) h =
     ∙ ap (λ o. with_test o (more_tests names ws)) (test_reads names sources t l s r h.1.0 h.1.1.0 h.1.1.1.0)
     ∙ ap (with_test (Some t)) (more_reads names sources ts ws h.1.1.1.1)
 
--- comparisons
+-- the words of comparisons are read as those comparisons
 tests_reads : (names : List (List ℕ)) (sources : List SourceSpec) (ts : List Test) (ws : List (List ℕ)) → SpellParts names sources (tests_parts ts) ws → tests_read names ws ≡ Some ts
 tests_reads names sources [] [] h = refl
 tests_reads names sources [] (w ∷ ws) h = absurd h
@@ -92,7 +92,7 @@ pieces_with ps out = flat_map piece_parts ps ++ out_parts out
 abbrev made : List Piece → ℕ → Pieces
 made ps out = record { pieces = ps; out = out }
 
--- two words at least
+-- there are two words at least
 record HasTwo (ws : List (List ℕ)) : Type 0 where
   pub first : List ℕ
   pub second : List ℕ
@@ -148,7 +148,7 @@ pieces_reads names sources (label_piece v ∷ ps) out (w ∷ x ∷ ws) h =
 group_parts : (p : Piece) (out : ℕ) → piece_parts p ++ out_parts out ≡ pieces_with (p ∷ []) out
 group_parts p out = ap (λ ps. ps ++ out_parts out) (sym (append_nil (piece_parts p)))
 
--- a direction
+-- the text of a direction is read as that direction
 direction_reads : (desc : Bool) → direction_read (direction_text desc) ≡ Some desc
 direction_reads true = refl
 direction_reads false = refl
@@ -215,7 +215,7 @@ op_reads names sources (tuple_destroy i element) kw (input ∷ var ∷ []) h =
     ∙ ap (option_and_then (λ i. option_map (tuple_destroy i) (var_read names var))) (number_reads input i h.1.0.0 h.1.0.1) ∙ ap (option_map (tuple_destroy i)) (var_reads names element var h.1.1.0)
 op_reads names sources op kw ws h = absurd (omega (arith, same_length names sources (op_parts op) (kw ∷ ws) h))
 
--- a line
+-- a line that spells a numbered operator is read as that one
 pub spelled_reads : SpelledLinesAreRead
 spelled_reads names sources line n h = by_words (words line) h
   where

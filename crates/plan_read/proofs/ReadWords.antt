@@ -66,15 +66,15 @@ text_reads names v x (inr (d, e, l)) =
     ap (λ b. cond b (position (bytes_eq x) names) (var_number x)) (no_name x d)
     ∙ ap (λ b. cond b (Some (digits_value 10 x)) None) (and_both (is_decimal x) (nat_lt (digits_value 10 x) 4294967296) d less) ∙ ap Some e
 
--- a variable
+-- a word that spells a variable is read as that variable
 pub var_reads : (names : List (List ℕ)) (v : ℕ) (word : List ℕ) → SpellsVar names v word → var_read names word ≡ Some v
 var_reads names v word (x, e, t) = ap (var_read names) e ∙ text_reads names v x t
 
--- a name
+-- a word that is a name is taken for a source's name
 pub name_reads : (word : List ℕ) → IsName word → is_source_name word ≡ true
 name_reads word h = let some : nat_le 1 (length word) ≡ true = grind (arith, nat_tests, h.1) in and_both (nat_le 1 (length word)) (list_all is_name_byte word) some h.0
 
--- a sign
+-- the sign of a comparison's operator is read as that operator
 pub sign_reads : (op : TestOp) → sign_read (op_sign op) ≡ Some op
 sign_reads Eq = refl
 sign_reads Ne = refl
@@ -95,7 +95,7 @@ seen_whole (b ∷ x) s t i l r e =
 quote_first : (word l : List ℕ) → SpellsQuoted word l → begins 34 word ≡ true
 quote_first word l (ps, are, e, m) = ap (begins 34) e
 
--- a quoted label
+-- a UTF-8 word that spells a quoted label is read as that label
 pub quoted_reads : (word l : List ℕ) → IsUtf8 word → SpellsQuoted word l → quoted_read word ≡ Some l
 quoted_reads word l u h =
     let r = spelled_reads word l (inr h) in
@@ -131,16 +131,16 @@ quiet_text names v (b ∷ x) (inl (n, h)) =
     and_both (quiet b) (list_all quiet x) (quiet_by is_letter refl refl refl b parts.0) (all_weaker is_script_byte quiet (quiet_by is_script_byte refl refl refl) x parts.1)
 quiet_text names v (b ∷ x) (inr (d, e, l)) = all_weaker is_digit quiet (quiet_by is_digit refl refl refl) (b ∷ x) (all_digits (b ∷ x) d)
 
--- a variable parts nothing
+-- the bytes of a variable part nothing and open nothing
 quiet_var : (names : List (List ℕ)) (v : ℕ) (word : List ℕ) → SpellsVar names v word → IsTrue (list_all quiet word)
 quiet_var names v word (x, e, t) = subst (λ w. IsTrue (list_all quiet w)) (sym e) (quiet_text names v x t)
 
--- a key parts nothing
+-- the bytes of a key part nothing and open nothing
 quiet_key : (names : List (List ℕ)) (k : Key) (x : List ℕ) → SpellsKey names k x → IsTrue (list_all quiet x)
 quiet_key names (node_key v) x h = quiet_var names v x h
 quiet_key names (label_key v) x (y, e, h) = subst (λ w. IsTrue (list_all quiet w)) (sym e) (quiet_var names v y h)
 
--- a key isn't empty
+-- a text isn't empty
 abbrev IsSome : List ℕ → Type 0
 IsSome [] = ⊥
 IsSome (b ∷ x) = Unit {0}
@@ -149,7 +149,7 @@ some_key : (names : List (List ℕ)) (k : Key) (x : List ℕ) → SpellsKey name
 some_key names (node_key v) x (y, e, t) = subst IsSome (sym e) tt
 some_key names (label_key v) x (y, e, h) = subst IsSome (sym e) tt
 
--- a key
+-- a text that spells a key is read as that key
 key_reads : (names : List (List ℕ)) (k : Key) (x : List ℕ) → SpellsKey names k x → key_read names x ≡ Some k
 key_reads names (node_key v) x (y, e, t) = ap (key_read names) e ∙ by_first y ∙ ap (option_map node_key) (ap (var_read names) (sym e) ∙ var_reads names v x (y, e, t))
   where
@@ -157,7 +157,7 @@ key_reads names (node_key v) x (y, e, t) = ap (key_read names) e ∙ by_first y 
     by_first z = refl
 key_reads names (label_key v) x (y, e, h) = ap (key_read names) e ∙ ap (option_map label_key) (var_reads names v y h)
 
--- keys one by one
+-- texts that spell keys one by one are read as those keys
 each_reads : (names : List (List ℕ)) (ks : List Key) (xs : List (List ℕ)) → SpellEach names ks xs → all_read (key_read names) xs ≡ Some ks
 each_reads names [] [] h = refl
 each_reads names [] (x ∷ xs) h = absurd h
@@ -202,7 +202,7 @@ texts_cut names [] (t ∷ ts) h = absurd h
 texts_cut names (k ∷ ks) ([] ∷ ts) h = absurd (some_key names k [] h.0)
 texts_cut names (k ∷ ks) ((b ∷ t) ∷ ts) h = cut_between names k ks (b ∷ t) ts h
 
--- what stands between braces
+-- a text between braces is what is read between them
 braced_reads : (x : List ℕ) → braced (123 ∷ x ++ 125 ∷ []) ≡ Some x
 braced_reads x =
     let w : List ℕ = 123 ∷ (x ++ 125 ∷ []) in
@@ -216,7 +216,7 @@ braced_reads x =
     ap (λ b. cond (b && slice_index w 0 == 123 && slice_index w (length w - 1) == 125) (Some (slice_range w 1 (length w - 1))) None) long
     ∙ ap (λ b. cond b (Some (slice_range w 1 (length w - 1))) None) same ∙ ap Some inner
 
--- keys between braces
+-- a word that spells keys between braces is read as those keys
 pub keys_reads : (names : List (List ℕ)) (ks : List Key) (word : List ℕ) → SpellsKeys names ks word → keys_read names word ≡ Some ks
 keys_reads names ks word (ts, each, e) =
     ap (keys_read names) e ∙ ap (option_and_then (λ body. all_read (key_read names) (key_texts body))) (braced_reads (between 44 ts))

@@ -65,7 +65,7 @@ none_before : (vs : List ℕ) → AllByRecursion (λ v. list_any (λ w. w == v) 
 none_before [] = tt
 none_before (v ∷ vs) = (refl, none_before vs)
 
--- variables that weren't bound before, and aren't this one, weren't bound where it is bound too
+-- variables that are not this one, and were not bound before, are not bound once this one is bound too
 one_before : (x : ℕ) (xs vs : List ℕ) → list_any (λ w. w == x) vs ≡ false → AllByRecursion (λ v. list_any (λ w. w == v) xs ≡ false) vs
     → AllByRecursion (λ v. list_any (λ w. w == v) (x ∷ xs) ≡ false) vs
 one_before x xs [] h a = tt

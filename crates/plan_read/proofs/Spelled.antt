@@ -34,7 +34,7 @@ pub cond_some : {A : Type 0} (b : Bool) (x : Option A) (y : A) → cond b x None
 cond_some true x y e = (refl, e)
 cond_some false x y e = none_some y e
 
--- what follows from something
+-- where a step on an optional value gives something, there is a value, and the step gives it from that
 pub then_some : {A B : Type 0} (f : A → Option B) (o : Option A) (y : B) → option_and_then f o ≡ Some y → (x : A) × (o ≡ Some x) × (f x ≡ Some y)
 then_some f None y e = none_some y e
 then_some f (Some x) y e = (x, refl, e)
@@ -68,20 +68,20 @@ dollar_spelled (b ∷ y) x e =
     let h = cond_some (b == 36) (Some y) x e in
     ap (λ c. c ∷ y) (sym (number_is b 36 h.0)) ∙ ap (λ r. 36 ∷ r) (some_is y x h.1)
 
--- a variable
+-- a word that is read as a variable spells that variable
 pub var_spelled : (names : List (List ℕ)) (v : ℕ) (word : List ℕ) → var_read names word ≡ Some v → SpellsVar names v word
 var_spelled names v word e =
     let h = then_some (var_named names) (dollared word) v e in
     (h.0, dollar_spelled word h.0 h.1, text_spelled names v h.0 h.2)
 
--- a name
+-- a word that is taken for a source's name is a name
 pub name_spelled : (word : List ℕ) → is_source_name word ≡ true → IsName word
 name_spelled word h =
     let parts = and_parts (nat_le 1 (length word)) (list_all is_name_byte word) h in
     let some : 0 < length word = grind (arith, nat_tests, parts.0) in
     (parts.1, some)
 
--- a path
+-- a word that is read as a path is UTF-8 and spells that path
 pub path_spelled : (word : List ℕ) (p : Form) → path_read word ≡ Some p → IsUtf8 word × SpellsPath word p
 path_spelled word p e =
     let h = cond_some (is_utf8 word) (option_and_then path_form (read_of word)) p e in
@@ -122,7 +122,7 @@ quoted_one (c ∷ x) l b (inl h) = absurd (no_bare c (number_is c 34 b) (and_par
         false_true h = cc
 quoted_one word l b (inr h) = h
 
--- a quoted label
+-- a word that is read as a quoted label is UTF-8 and spells that label
 pub quoted_spelled : (word l : List ℕ) → quoted_read word ≡ Some l → IsUtf8 word × SpellsQuoted word l
 quoted_spelled word l e =
     let h = cond_some (is_utf8 word && begins 34 word) (whole_label (seen_from start 0 word)) l e in

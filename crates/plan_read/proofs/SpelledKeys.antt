@@ -40,7 +40,7 @@ sign_spelled word op e = first Eq _ e (λ e. first Ne _ e (λ e. first Lt _ e (�
         by_test true h k = word_is word (op_sign sign) h ∙ ap op_sign (some_is sign op k)
         by_test false h k = more k
 
--- a key
+-- a text that is read as a key spells that key
 key_spelled : (names : List (List ℕ)) (k : Key) (x : List ℕ) → key_read names x ≡ Some k → SpellsKey names k x
 key_spelled names k x e = by_label (has_label x) refl e
   where
@@ -53,7 +53,7 @@ key_spelled names k x e = by_label (has_label x) refl e
         let m = map_some node_key (var_read names x) k f in
         subst (λ q. SpellsKey names q x) m.2 (var_spelled names m.0 x m.1)
 
--- keys one by one
+-- texts that are read as keys spell those keys one by one
 each_spelled : (names : List (List ℕ)) (xs : List (List ℕ)) (ks : List Key) → all_read (key_read names) xs ≡ Some ks → SpellEach names ks xs
 each_spelled names [] ks e = subst (λ qs. SpellEach names qs []) (some_is [] ks e) tt
 each_spelled names (x ∷ xs) ks e =
@@ -79,11 +79,11 @@ first_piece separator m (b ∷ bs) = by_case (is_outside m && b == separator)
     by_case true = record { first = []; rest = cut separator Plain bs; parts = refl }
     by_case false = with_byte (cut separator (mode_after m b) bs)
 
--- a separator before pieces
+-- pieces each after a separator are a separator and the pieces with separators between them
 after_separator : (separator : ℕ) (ps : List (List ℕ)) → HasFirst ps → flat_map (λ y. separator ∷ y) ps ≡ separator ∷ between separator ps
 after_separator separator ps h = ap (flat_map (λ y. separator ∷ y)) h.parts ∙ ap (λ qs. separator ∷ between separator qs) (sym h.parts)
 
--- a byte before pieces
+-- a byte before the first of pieces stands before the text of the pieces with separators between them
 byte_before : (separator b : ℕ) (ps : List (List ℕ)) → between separator (with_first b ps) ≡ b ∷ between separator ps
 byte_before separator b [] = refl
 byte_before separator b (p ∷ ps) = refl
@@ -112,7 +112,7 @@ last_byte x h =
     let whole : length x - 1 + 1 ≡ length x = omega arith in
     sym (take_all (length x - 1 + 1) x (omega arith)) ∙ take_more x (length x - 1) 0 inside
 
--- what stands between braces
+-- a word in which a text is read between braces is that text between braces
 braced_spelled : (word body : List ℕ) → braced word ≡ Some body → word ≡ 123 ∷ body ++ 125 ∷ []
 braced_spelled word body e =
     let h = cond_some (nat_le 2 (length word) && slice_index word 0 == 123 && slice_index word (length word - 1) == 125) (Some (slice_range word 1 (length word - 1))) body e in
@@ -131,7 +131,7 @@ braced_spelled word body e =
         ap (λ c. c ∷ x) (sym f)
         ∙ ap (λ r. 123 ∷ r) (last_byte x (omega arith) ∙ ap (λ r. r ++ get_or x (length x - 1) 0 ∷ []) inner ∙ ap (λ c. body ++ c ∷ []) last)
 
--- keys between braces
+-- a word that is read as keys spells those keys between braces
 pub keys_spelled : (names : List (List ℕ)) (word : List ℕ) (ks : List Key) → keys_read names word ≡ Some ks → SpellsKeys names ks word
 keys_spelled names word ks e =
     let h = then_some (λ body. all_read (key_read names) (key_texts body)) (braced word) ks e in

@@ -42,7 +42,7 @@ operand_spelled names sources word o e = by_first (begins 36 word) e
         let m = map_some text_operand (quoted_read word) o f in
         subst (λ q. SpellsPart names sources (operand_part q) word) m.2 (quoted_spelled word m.0 m.1)
 
--- a comparison
+-- words that are read as a comparison spell that comparison
 test_spelled : (names : List (List ℕ)) (sources : List SourceSpec) (l s r : List ℕ) (t : Test) → test_read names l s r ≡ Some t → SpellParts names sources (test_parts t) (l ∷ s ∷ r ∷ [])
 test_spelled names sources l s r t e =
     let left = then_some (λ v. option_and_then (λ op. option_map (test_of v op) (operand_read names r)) (sign_read s)) (var_read names l) t e in
@@ -58,7 +58,7 @@ with_test_some t rest ts e =
     let m = map_some (λ more. h.0 ∷ more) rest ts h.2 in
     (h.0, m.0, h.1, m.1, m.2)
 
--- comparisons, each after AND
+-- the parts of comparisons, each after AND
 abbrev more_parts : List Test → List Part
 more_parts tests = flat_map (λ t. keyword (codes "AND") ∷ test_parts t) tests
 
@@ -77,7 +77,7 @@ more_spelled names sources (a ∷ l ∷ s ∷ r ∷ ws) ts e = by_and (bytes_eq 
         subst (λ q. SpellParts names sources (more_parts q) (a ∷ l ∷ s ∷ r ∷ ws)) w.4
         (word_is a (codes "AND") h, spell-append names sources (test_parts w.0) (more_parts w.1) (l ∷ s ∷ r ∷ []) ws (test_spelled names sources l s r w.0 w.2) (more w.1 w.3))
 
--- comparisons
+-- words that are read as comparisons spell those comparisons
 tests_spelled : (names : List (List ℕ)) (sources : List SourceSpec) (ws : List (List ℕ)) (ts : List Test) → tests_read names ws ≡ Some ts → SpellParts names sources (tests_parts ts) ws
 tests_spelled names sources [] ts e = subst (λ q. SpellParts names sources (tests_parts q) []) (some_is [] ts e) tt
 tests_spelled names sources (l ∷ []) ts e = none_some ts e
@@ -234,7 +234,7 @@ destroy_spelled names sources (input ∷ element ∷ []) op e =
     subst (Spelt names sources (codes "tupleDestroy") (input ∷ element ∷ [])) m.2 (refl, (number_spelled input h.0 h.1, (var_spelled names m.0 element m.1, tt)))
 destroy_spelled names sources ws op e = none_some op e
 
--- the only piece
+-- a list that has an only piece is that piece alone
 one_is : (ps : List Piece) (p : Piece) → one_piece ps ≡ Some p → ps ≡ p ∷ []
 one_is [] p e = none_some p e
 one_is (q ∷ []) p e = ap (λ r. r ∷ []) (some_is q p e)
@@ -277,7 +277,7 @@ keyword_spelled names sources kw ws op e =
         by_test true h k = subst (λ w. Spelt names sources w ws op) (sym (word_is kw fixed h)) (here k)
         by_test false h k = more k
 
--- a line
+-- a line that is read as a numbered operator spells that one
 pub line_spelled : (names : List (List ℕ)) (sources : List SourceSpec) (line : List ℕ) (n : Numbered) → line_read names sources line ≡ Some n → SpellsLine names sources line n
 line_spelled names sources line n e = by_words (words line) e
   where

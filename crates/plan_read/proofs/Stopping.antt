@@ -45,7 +45,7 @@ draft_number (e ∷ ds) (suc k) d n h = draft_number ds k d n (omega arith)
 pub draft_here : (ds : List Draft) (k : ℕ) (d : Draft) (op : Operator) → k < length ds → d ≡ get_or ds k d → get_or (ops_of (all_numbered ds)) k op ≡ op_of d.op
 draft_here ds k d op h e = draft_op ds k d op h ∙ ap (λ (x : Draft). op_of x.op) (sym e)
 
--- the next number
+-- the successor of a number is that number and one
 pub next : (k : ℕ) → suc k ≡ k + 1
 next k = omega arith
 

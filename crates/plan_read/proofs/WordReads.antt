@@ -64,7 +64,7 @@ many_cut v n e h = let f : nat_le (positions_in v) 120 ≡ false = grind (arith,
 pub some_path : (x : List ℕ) (v : Form) → IsUtf8 x → SpellsWithin x v → path_read x ≡ Some v
 some_path x v u h = path_written x u h.spelled h.writes h.nesting ∙ ap Some (ap within_positions h.value ∙ few_stay v h.positions)
 
--- a path of too many label positions is read as the one of 121
+-- a path of too many label positions is read as the path of 121 that stands for it
 pub many_path : (x : List ℕ) (n : ℕ) → IsUtf8 x → HasTooMany x n → path_read x ≡ Some long_path
 many_path x n u (p, w, d, e, m) = path_written x u p w d ∙ ap Some (many_cut (value_of p) n e m)
 

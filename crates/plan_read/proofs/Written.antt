@@ -14,7 +14,7 @@ use Rattle.plan_core.specs.Unary.{Unary, select, order_by, project, group_by, co
 use Rattle.plan_core.specs.Plans.{Operator, source, get_descendants, join, over, tuple_destroy}
 use Rattle.plan_read.specs.Grammar.{Part, keyword, number, variable, of_source, of_element, path, text, keys, operand_part, test_parts, tests_parts, piece_parts, out_parts, unary_parts, op_parts, part_text, parts_text, WrittenByParts}
 
--- parts after others
+-- the text of two lists of parts is that of the first, and then that of the second
 text-append : (names sources : List (List ℕ)) (ps qs : List Part) → parts_text names sources (ps ++ qs) ≡ parts_text names sources ps ++ parts_text names sources qs
 text-append names sources [] qs = refl
 text-append names sources (p ∷ ps) qs = ap (λ r. 32 ∷ part_text names sources p ++ r) (text-append names sources ps qs) ∙ sym (append_assoc (32 ∷ part_text names sources p) (parts_text names sources ps) (parts_text names sources qs))
@@ -30,7 +30,7 @@ test_written names sources t =
     ap (λ x. 32 ∷ x) (append_assoc (var_text names t.left) (32 ∷ op_sign t.op) (32 ∷ operand_text names t.right))
     ∙ ap (λ x. (32 ∷ var_text names t.left) ++ ((32 ∷ op_sign t.op) ++ 32 ∷ x)) (operand_written names sources t.right ∙ sym (append_nil (part_text names sources (operand_part t.right))))
 
--- comparisons, each after AND
+-- the text of comparisons, each after AND, is that of their parts
 more_written : (names sources : List (List ℕ)) (tests : List Test) → flat_map (λ t. codes " AND " ++ test_text names t) tests ≡ parts_text names sources (flat_map (λ t. keyword (codes "AND") ∷ test_parts t) tests)
 more_written names sources [] = refl
 more_written names sources (t ∷ tests) =
@@ -38,7 +38,7 @@ more_written names sources (t ∷ tests) =
     ∙ ap (λ x. (codes " AND" ++ parts_text names sources (test_parts t)) ++ x) (more_written names sources tests)
     ∙ sym (text-append names sources (keyword (codes "AND") ∷ test_parts t) (flat_map (λ t. keyword (codes "AND") ∷ test_parts t) tests))
 
--- comparisons
+-- the text of comparisons is that of their parts
 tests_written : (names sources : List (List ℕ)) (tests : List Test) → tests_text names tests ≡ parts_text names sources (tests_parts tests)
 tests_written names sources [] = refl
 tests_written names sources (t ∷ tests) =
@@ -52,7 +52,7 @@ piece_written names sources (var_piece v) = sym (append_nil (32 ∷ var_text nam
 piece_written names sources (label_piece v) = sym (ap (λ x. codes " label " ++ x) (append_nil (var_text names v)))
 piece_written names sources (text_piece label) = sym (append_nil _)
 
--- pieces
+-- the text of pieces is that of their parts
 pieces_written : (names sources : List (List ℕ)) (pieces : List Piece) → pieces_text names pieces ≡ parts_text names sources (flat_map piece_parts pieces)
 pieces_written names sources [] = refl
 pieces_written names sources (p ∷ ps) =
@@ -80,7 +80,7 @@ unary_written names sources i (concatenate pieces out) =
     gathered names sources (codes " concatenate " ++ decimal i) (flat_map piece_parts pieces) (pieces_text names pieces) out (pieces_written names sources pieces) ∙ simp append_assoc
 unary_written names sources i (create_element label list out) = simp (append_assoc, append_nil)
 
--- each operator
+-- the text of each operator is that of its parts
 pub written_by_parts : WrittenByParts
 written_by_parts names sources (source s out) = simp (append_assoc, append_nil)
 written_by_parts names sources (get_descendants i start p out) = simp (append_assoc, append_nil)

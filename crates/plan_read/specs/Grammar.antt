@@ -113,7 +113,7 @@ SpellsKeys names ks word = (texts : List (List ℕ)) × SpellEach names ks texts
 abbrev pub SpellsPath : List ℕ → Form → Type 0
 SpellsPath word p = SpellsWithin word p ⊎ ((n : ℕ) × HasTooMany word n × (p ≡ long_path))
 
--- the word is the part's. A number of an operator that is too long stands as the greatest of 32 bits, and a source that there is not as how many
+-- a word spells a part; too long a number stands as the greatest of 32 bits, an unknown source as how many
 -- there are
 abbrev pub SpellsPart : List (List ℕ) → List SourceSpec → Part → List ℕ → Type 0
 SpellsPart names sources (keyword w) word = word ≡ w

@@ -95,7 +95,7 @@ next_test names (a ∷ l ∷ []) = None
 next_test names (a ∷ l ∷ s ∷ []) = None
 next_test names (a ∷ l ∷ s ∷ r ∷ ws) = cond (bytes_eq a (codes "AND")) (test_read names l s r) None
 
--- comparisons, each after AND
+-- the comparisons that words spell, each after AND
 abbrev pub more_tests : List (List ℕ) → List (List ℕ) → Option (List Test)
 more_tests names [] = Some []
 more_tests names (a ∷ []) = None
@@ -128,7 +128,7 @@ pub record Pieces : Type 0 where
   pub pieces : List Piece
   pub out : ℕ
 
--- no pieces
+-- no pieces, and the variable that stands after them
 abbrev pub no_pieces : ℕ → Pieces
 no_pieces out = record { pieces = []; out = out }
 
@@ -180,7 +180,7 @@ abbrev pub project_form : List (List ℕ) → List (List ℕ) → Option Operato
 project_form names (input ∷ keys ∷ []) = option_and_then (λ i. option_map (λ ks. over i (project ks)) (keys_read names keys)) (op_number input)
 project_form names ws = None
 
--- the only piece
+-- the only piece of a list, where it has just one
 abbrev pub one_piece : List Piece → Option Piece
 one_piece [] = None
 one_piece (p ∷ []) = Some p

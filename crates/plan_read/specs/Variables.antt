@@ -31,7 +31,7 @@ has_label word = bytes_eq (take 6 word) (codes "label ")
 abbrev pub key_read : List (List ℕ) → List ℕ → Option Key
 key_read names word = cond (has_label word) (option_map label_key (var_read names (drop 6 word))) (option_map node_key (var_read names word))
 
--- what stands between braces
+-- what stands between the braces that a word begins and ends with
 abbrev pub braced : List ℕ → Option (List ℕ)
 braced word = cond (nat_le 2 (length word) && slice_index word 0 == 123 && slice_index word (length word - 1) == 125) (Some (slice_range word 1 (length word - 1))) None
 

@@ -19,11 +19,11 @@ use Rattle.plan_rewrite.proofs.Raised.{numbered-raised}
 pub block_beside : (all : List (List Operator)) (n j : ℕ) → (j ≡ n → ⊥) → block_at (without (n ∷ []) all) j ≡ block_at all j
 block_beside all n j h = get_or-set_other all n j [] [] h
 
--- a block is not empty
+-- the block of a tree's operators is not empty
 pub block_some : (x : Tree) (xs : List Operator) → xs ≡ numbered 0 x → 0 < length xs
 block_some x xs e = (let l = numbered-length x 0 in let k = ap length e in omega (arith, l, k))
 
--- an operator over a block
+-- an operator over the last one of a tree's block, put after it, comes after the tree's numbered operators
 over_last : (x : Tree) (xs : List Operator) → xs ≡ numbered 0 x → (f : ℕ → Operator) (k : ℕ) → k ≡ under x → xs ++ f (length xs - 1) ∷ [] ≡ numbered 0 x ++ f k ∷ []
 over_last x xs e f k h =
     let l = numbered-length x 0 in
@@ -31,11 +31,11 @@ over_last x xs e f k h =
     let n : length xs - 1 ≡ k = omega (arith, l, c, h) in
     ap (λ (z : List Operator). z ++ f (length xs - 1) ∷ []) e ∙ ap (λ (m : ℕ). numbered 0 x ++ f m ∷ []) n
 
--- the same, its number counted from 0
+-- an operator over the last one of a tree's block, numbered from 0, comes after the tree's numbered operators
 over_one : (x : Tree) (xs : List Operator) → xs ≡ numbered 0 x → (f : ℕ → Operator) → xs ++ f (length xs - 1) ∷ [] ≡ numbered 0 x ++ f (0 + under x) ∷ []
 over_one x xs e f = over_last x xs e f (0 + under x) (omega arith)
 
--- two blocks below a join
+-- the blocks of two trees below a join are the numbered operators of the tree of the join
 pub join_last : (l r : Tree) (tests : List Test) (xs ys : List Operator) → xs ≡ numbered 0 l → ys ≡ numbered 0 r → (a b : ℕ) → a ≡ length xs → b ≡ length ys → joined_ops a xs b ys tests ≡ numbered 0 (both l r tests)
 join_last l r tests xs ys e f a b g h =
     let m : ℕ = 0 + suc (under l) in
@@ -63,7 +63,7 @@ IsPlain (over input (concatenate pieces out)) = Unit {0}
 IsPlain (over input (create_element label list out)) = Unit {0}
 IsPlain (tuple_destroy input element) = Unit {0}
 
--- so is one of the code that is neither
+-- an operator of the code that is neither a selection nor a join is plain
 pub is_plain : (o : Op) → ((input : ℕ) (test : Test) → o ≡ op.Select input test → ⊥) → ((left right : ℕ) (tests : Vec Test Global) → o ≡ op.Join left right tests → ⊥) → IsPlain (op_of o)
 is_plain (op.Source s out) f g = tt
 is_plain (op.GetDescendants input start path out) f g = tt
@@ -76,7 +76,7 @@ is_plain (op.Concatenate input pieces out) f g = tt
 is_plain (op.CreateElement input label list out) f g = tt
 is_plain (op.TupleDestroy input element) f g = tt
 
--- it is put on the block of its input
+-- the block of an operator that is neither a selection nor a join is itself put on the block of its input
 pub plain_block : (op : Operator) → IsPlain op → (of : ℕ → Tree) (blocks : List (List Operator)) → AreBelow op of blocks → put_on (one_input op) blocks op ≡ block_over op of
 plain_block (source s out) t of blocks h = refl
 plain_block (get_descendants input start path out) t of blocks h = over_one (of input) (block_at blocks input) h.0.1 (λ i. get_descendants i start path out)
@@ -89,7 +89,7 @@ plain_block (over input (concatenate pieces out)) t of blocks h = over_one (of i
 plain_block (over input (create_element label list out)) t of blocks h = over_one (of input) (block_at blocks input) h.0.1 (λ i. over i (create_element label list out))
 plain_block (tuple_destroy input element) t of blocks h = over_last (of input) (block_at blocks input) h.0.1 (λ i. tuple_destroy i element) (under (of input)) refl
 
--- which its input has
+-- where the inputs of an operator that is no selection and no join have their blocks, its one input has a block
 pub plain_below : (op : Operator) → IsPlain op → (of : ℕ → Tree) (blocks : List (List Operator)) → AreBelow op of blocks → HasBlock (one_input op) blocks
 plain_below (source s out) t of blocks h = tt
 plain_below (get_descendants input start path out) t of blocks h = (h.0.0, block_some (of input) (block_at blocks input) h.0.1)

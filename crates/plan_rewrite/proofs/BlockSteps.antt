@@ -26,7 +26,7 @@ IsUnread ops i k = (m : ℕ) → m < k → Among i (inputs_of (op_at ops m)) →
 abbrev pub plan_block : List Operator → ℕ → List Operator
 plan_block ops n = block_over (op_at ops n) (λ i. rewritten (tree_at ops i))
 
--- so many operators have their blocks, but for those that were taken
+-- the first k operators have their blocks, but for those that were taken
 pub record AreBlocks (ops : List Operator) (blocks : List (List Operator)) (k : ℕ) : Type 0 where
   pub count : length blocks ≡ k
   pub each : (i : ℕ) → i < k → IsUnread ops i k → block_at blocks i ≡ plan_block ops i
@@ -37,12 +37,12 @@ op_here xs ops n o same l e =
     let m = length-map xs op_of in
     subst (λ (z : List Op). (op_of o ≡ op_at (map op_of z) n) × (n < length (map op_of z))) same (ap op_of e ∙ sym (get_or-map op_of xs n o (source 0 0) l), omega (arith, m, l))
 
--- as many, where some were taken
+-- taking blocks leaves as many blocks, the taken ones empty
 without-length : (ns : List ℕ) (blocks : List (List Operator)) → length (without ns blocks) ≡ length blocks
 without-length [] blocks = refl
 without-length (n ∷ ns) blocks = without-length ns (set blocks n []) ∙ length-set blocks n []
 
--- the others stay
+-- taking blocks leaves each block that was not taken as it was
 without-other : (ns : List ℕ) (blocks : List (List Operator)) (j : ℕ) → (Among j ns → ⊥) → block_at (without ns blocks) j ≡ block_at blocks j
 without-other [] blocks j h = refl
 without-other (n ∷ ns) blocks j h = without-other ns (set blocks n []) j (λ a. h (inr a)) ∙ get_or-set_other blocks n j [] [] (λ e. h (inl e))
@@ -84,7 +84,7 @@ module _ (p : PlanValue) (valid : IsValid p) (typed : IsTyped p.ops) where
           let c : m < length p.ops = omega (arith, l, b) in
           let same : m ≡ k = reader_once p.ops i (once p valid typed i k b a) m k c b r a in omega (arith, same, l)
 
-  -- it does not read one twice
+  -- the two sides of a join in a valid plan are different operators
   pub sides_differ : (k : ℕ) → k < length p.ops → SidesDiffer (op_at p.ops k)
   sides_differ k b = sides_of (op_at p.ops k) (λ left right e. inputs_differ p valid typed k left right b e)
 

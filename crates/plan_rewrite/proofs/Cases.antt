@@ -55,7 +55,7 @@ pushed-kinds t (both l r tests) =
     (λ e. ap {B = Kinds} (λ (k : Kinds). λ v. either_kind (tree_kinds l v) (k v)) (pushed-kinds t r))
     refl
 
--- so does an operator over a tree
+-- a tree with an operator put over it binds what the operator binds above the tree
 pub put-kinds : (op : Unary) (x : Tree) → tree_kinds (put_over op x) ≡ unary_kinds op (tree_kinds x)
 unfolding tree_kinds
 put-kinds op x = put_cases (λ y. tree_kinds y ≡ unary_kinds op (tree_kinds x)) op x (λ t e. pushed-kinds t x ∙ ap (λ (o : Unary). unary_kinds o (tree_kinds x)) (sym e)) refl
@@ -72,7 +72,7 @@ rewritten-kinds (above x op) = put-kinds op (rewritten x) ∙ ap (unary_kinds op
 
 -- NEW VARIABLES
 
--- and it binds anew what it bound anew
+-- a tree with a selection pushed into it binds anew what it bound anew
 pub pushed-outs : (t : Test) (x : Tree) → tree_outs (pushed t x) ≡ tree_outs x
 unfolding tree_outs
 pushed-outs t (begin s out) = refl
@@ -84,7 +84,7 @@ pushed-outs t (both l r tests) =
     (λ e. ap (λ (z : List ℕ). tree_outs l ++ z) (pushed-outs t r))
     refl
 
--- so does a rewritten tree
+-- a rewritten tree binds anew what the tree binds anew
 pub rewritten-outs : (x : Tree) → tree_outs (rewritten x) ≡ tree_outs x
 unfolding tree_outs
 rewritten-outs (begin s out) = refl
@@ -209,7 +209,7 @@ node_left : (a b : Option Kind) → is_bound a ≡ true → either_kind a b ≡ 
 node_left None b h e = cc
 node_left (Some j) b h e = e
 
--- and where the left one does not
+-- a node that a join binds, and that the left side does not bind, is a node of the right side
 node_right : (a b : Option Kind) → is_bound a ≡ false → either_kind a b ≡ Some a_node → b ≡ Some a_node
 node_right None b h e = e
 node_right (Some j) b h e = cc
@@ -223,7 +223,7 @@ test_left a b t h e =
     operand (var_operand v) h e = node_left (a v) (b v) h e
     operand (text_operand label) h e = e
 
--- so of the right side, where the sides bind nothing both
+-- a test of a join whose variables the right side binds is a test of that side, where the sides bind nothing both
 test_right : (a b : Kinds) (t : Test) → ((v : ℕ) → is_bound (b v) ≡ true → is_bound (a v) ≡ false) → binds_test b t ≡ true → IsTest (λ v. either_kind (a v) (b v)) t → IsTest b t
 test_right a b t apart h e =
     (node_right (a t.left) (b t.left) (apart t.left (first_true (is_bound (b t.left)) (binds_operand b t.right) h)) e.0, operand t.right (second_true (is_bound (b t.left)) (binds_operand b t.right) h) e.1)

@@ -12,7 +12,7 @@ use Rattle.plan_rewrite.specs.Rewritten.{binds_test, pushed}
 use Rattle.plan_rewrite.specs.Edits.{bumped, bumped_op, landed, edited, landing}
 use Rattle.plan_make.proofs.Numbering.{numbered-length}
 
--- an operator is a join
+-- whether an operator is a join
 unfoldable pub is_join : Operator → Bool
 is_join (source s out) = false
 is_join (get_descendants input start path out) = false
@@ -33,7 +33,7 @@ joins-prefix k [] ys h = absurd (omega (arith, h))
 joins-prefix zero (op ∷ xs) ys h = refl
 joins-prefix (suc k) (op ∷ xs) ys h = joins-prefix k xs ys (omega (arith, h))
 
--- and one among the others
+-- whether an operator of the second of two lists is a join is told by that list alone
 joins-after : (n k : ℕ) (xs ys : List Operator) → n ≡ length xs + k → joins n (xs ++ ys) ≡ joins k ys
 unfolding joins
 joins-after n k [] ys h = (let e : n ≡ k = omega (arith, h) in ap (λ (m : ℕ). joins m ys) e)
@@ -56,7 +56,7 @@ edited-prefix t n k [] ys h = absurd (omega (arith, h))
 edited-prefix t n zero (op ∷ xs) ys h = landed-append t n op xs ys
 edited-prefix t n (suc k) (op ∷ xs) ys h = ap (λ (z : List Operator). op ∷ z) (edited-prefix t n k xs ys (omega (arith, h)))
 
--- and one among the others
+-- a selection put in among the second of two lists changes that one alone
 edited-after : (t : Test) (n a k : ℕ) (xs ys : List Operator) → a ≡ length xs + k → edited t n a (xs ++ ys) ≡ xs ++ edited t n k ys
 edited-after t n a k [] ys h = (let e : a ≡ k = omega (arith, h) in ap (λ (m : ℕ). edited t n m ys) e)
 edited-after t n zero k (op ∷ xs) ys h = absurd (omega (arith, h))
@@ -66,7 +66,7 @@ edited-after t n (suc a) k (op ∷ xs) ys h = ap (λ (z : List Operator). op ∷
 bumped-high : (n i : ℕ) → n ≤ i → bumped n i ≡ suc i
 bumped-high n i h = (let e : nat_lt i n ≡ false = grind (arith, nat_tests, h) in rw e refl)
 
--- a number before it
+-- a number before that of an insertion stays
 bumped-low : (n i : ℕ) → i < n → bumped n i ≡ i
 bumped-low n i h = (let e : nat_lt i n ≡ true = grind (arith, nat_tests, h) in rw e refl)
 
@@ -165,7 +165,7 @@ edit_left t i l r y tests k h =
     sizes true e = (let f : under y ≡ under l = e in omega (arith, f))
     sizes false e = (let f : under y ≡ suc (under l) = e in omega (arith, f))
 
--- in the right side
+-- an edit in the right side of a join is an edit of the join
 edit_right : (t : Test) (i : ℕ) (l r y : Tree) (tests : List Test) (k : ℕ) → IsEdit t (i + suc (under l)) r y k → IsEdit t i (both l r tests) (both l y tests) (suc (under l) + k)
 edit_right t i l r y tests k h =
     let m : ℕ = i + suc (under l) in
@@ -201,7 +201,7 @@ edit_right t i l r y tests k h =
     sizes true e = (let f : under y ≡ under r = e in omega (arith, f))
     sizes false e = (let f : under y ≡ suc (under r) = e in omega (arith, f))
 
--- in the join itself
+-- adding a selection to the join itself is an edit of the join
 edit_here : (t : Test) (i : ℕ) (l r : Tree) (tests : List Test) → IsEdit t i (both l r tests) (both l r (tests ++ t ∷ [])) (suc (under l) + suc (under r))
 unfolding joins is_join
 edit_here t i l r tests =
@@ -241,6 +241,6 @@ edits t (both l r tests) i =
       ]
     ]
 
--- of a tree whose operators are numbered from 0
+-- pushing a selection into a tree whose operators are numbered from 0 is the edit at its landing
 pub edited-pushed : (t : Test) (x : Tree) → edited t (landing t x) (landing t x) (numbered 0 x) ≡ numbered 0 (pushed t x)
 edited-pushed t x = (let e : 0 + landing t x ≡ landing t x = omega arith in ap (λ (n : ℕ). edited t n (landing t x) (numbered 0 x)) (sym e) ∙ (edits t x 0).same)

@@ -21,11 +21,11 @@ pub record Ended (single : ℕ → Bool) (ops : List Operator) : Type 0 where
   pub below : AllByRecursion IsBelow prefix
   pub is_single : single input ≡ true
 
--- one more before them
+-- an operator that is no tupleDestroy, before operators that end with one, leaves them ending so
 ended_more : (single : ℕ → Bool) (op : Operator) (ops : List Operator) → IsBelow op → Ended single ops → Ended single (op ∷ ops)
 ended_more single op ops b e = record { prefix = op ∷ e.prefix; input = e.input; element = e.element; is = ap (λ (z : List Operator). op ∷ z) e.is; below = (b, e.below); is_single = e.is_single }
 
--- so those of a valid plan do
+-- the operators of a valid plan end with a tupleDestroy
 pub ended_of : (single : ℕ → Bool) (ops : List Operator) → EndsSingle single ops → Ended single ops
 ended_of single [] h = absurd h
 ended_of single (tuple_destroy input element ∷ []) h = record { prefix = []; input = input; element = element; is = refl; below = tt; is_single = h }

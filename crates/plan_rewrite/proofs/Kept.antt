@@ -17,7 +17,7 @@ use Rattle.plan_rewrite.proofs.Pushing.{rewritten-rows}
 use Rattle.plan_rewrite.proofs.Endings.{Ended}
 use Rattle.plan_rewrite.proofs.PlanTree.{ending, plan_whole, plan_means}
 
--- the document of a tree
+-- the document of a tree's operators below a tupleDestroy is the element in the tree's first binding
 pub ended-document : (world : World) (t : Tree) (v : ℕ) → document world (ended t v) ≡ element_of v (tree_rows world t)
 ended-document world t v =
     let prefix : List Operator = numbered 0 t in

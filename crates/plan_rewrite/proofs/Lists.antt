@@ -1,16 +1,16 @@
--- Laws of lists.
+-- Laws of lists: members of lists of lists, and filters.
 use Rattle.std.proofs.Common.{◌≡◌, Bool, true, false, cond, List, [], ◌∷◌, ◌++◌, refl, ◌∙◌, ap}
 use Rattle.std.specs.Prelude.{◌&&◌}
 use Rattle.std.specs.List.{filter, flat_map, list_all, AllByRecursion}
 use Rattle.std.proofs.lemmas.List.Elements.{filter-append}
 use Rattle.xmas_rule.proofs.Members.{each_append}
 
--- members of lists
+-- what holds of each member of each list holds of each member of all the lists, one after another
 pub each_flat : {X Y : Type 0} (P : Y → Type 0) (f : X → List Y) (xs : List X) → AllByRecursion (λ x. AllByRecursion P (f x)) xs → AllByRecursion P (flat_map f xs)
 each_flat P f [] h = tt
 each_flat P f (x ∷ xs) h = each_append P (f x) (flat_map f xs) h.0 (each_flat P f xs h.1)
 
--- a filter of lists
+-- filtering lists, one after another, is filtering each of them
 pub filter-flat_map : {X Y : Type 0} (p : Y → Bool) (f : X → List Y) (xs : List X) → filter p (flat_map f xs) ≡ flat_map (λ x. filter p (f x)) xs
 filter-flat_map p f [] = refl
 filter-flat_map {X} {Y} p f (x ∷ xs) = filter-append p (f x) (flat_map f xs) ∙ ap (λ (zs : List Y). filter p (f x) ++ zs) (filter-flat_map p f xs)
@@ -29,7 +29,7 @@ filter_const p false [] h = refl
 filter_const {X} p true (x ∷ xs) h = rw h.0 (ap (λ (zs : List X). x ∷ zs) (filter_const p true xs h.1))
 filter_const p false (x ∷ xs) h = rw h.0 (filter_const p false xs h.1)
 
--- one test after another
+-- one filter after another is the filter of both tests
 pub filter_both : {X : Type 0} (p q r : X → Bool) → ((x : X) → r x ≡ (p x && q x)) → (xs : List X) → filter q (filter p xs) ≡ filter r xs
 filter_both p q r h [] = refl
 filter_both {X} p q r h (x ∷ xs) =

@@ -54,7 +54,7 @@ marks_more v all ops i op l e =
     ap (marks v all) (drop-map op_of i ops ∙ ap (map op_of) (drop_more ops i op l ∙ ap (λ (o : Op). o ∷ drop (i + 1) ops) (sym e)))
     ∙ ap (marks v (all ++ op_binds v (op_of op) (λ j. get_or all j false) ∷ [])) (sym (drop-map op_of (i + 1) ops))
 
--- the marks of two lists
+-- the marks of operators and others are those of the others after those of the first
 marks-append : (v : ℕ) (a b : List Operator) (before : List Bool) → marks v before (a ++ b) ≡ marks v (marks v before a) b
 marks-append v [] b before = refl
 marks-append v (op ∷ a) b before = marks-append v a b (before ++ op_binds v op (λ i. get_or before i false) ∷ [])
@@ -74,7 +74,7 @@ marks-prefix v (op ∷ a) before j h =
     let k = length-append before more in
     marks-prefix v a (before ++ more) j (omega (arith, k, h)) ∙ get_or_append_left before more false j h
 
--- the mark of an operator
+-- the mark of operator n: whether it binds a variable
 abbrev pub mark : ℕ → List Operator → ℕ → Bool
 mark v ops n = get_or (marks v [] ops) n false
 
@@ -89,16 +89,16 @@ mark-last v ops op n h =
     ap (λ (z : List Bool). get_or z n false) (marks-append v ops (op ∷ []) [])
     ∙ get_or_at (marks v [] ops) (op_binds v op (mark v ops)) [] false n (let k = marks-length v ops [] in omega (arith, k, h))
 
--- a variable more
+-- with one variable more, a variable is bound where it is this one or was bound
 with_bound : (out v : ℕ) (k : Kind) (o : Option Kind) → is_bound (cond (out == v) (Some k) o) ≡ ((out == v) || is_bound o)
 with_bound out v k o = elim (out == v) as (λ w. is_bound (cond w (Some k) o) ≡ (w || is_bound o)) [ true ↦ refl | false ↦ refl ]
 
--- variables that are kept
+-- a variable is bound after others are dropped where it is kept and was bound
 kept_bound : (b : Bool) (o : Option Kind) → is_bound (cond b o None) ≡ (b && is_bound o)
 kept_bound true o = refl
 kept_bound false o = refl
 
--- they bind what they bind by their kinds
+-- an operator with one input binds a variable, by the mark below it, where its kinds say so
 unary-bound : (v : ℕ) (op : Unary) (ks : Kinds) → unary_binds v op (is_bound (ks v)) ≡ is_bound (unary_kinds op ks v)
 unary-bound v (select test) ks = refl
 unary-bound v (order_by w desc) ks = refl
@@ -113,12 +113,12 @@ both-bound : (a b : Option Kind) → (is_bound a || is_bound b) ≡ is_bound (ei
 both-bound None b = refl
 both-bound (Some k) b = refl
 
--- nothing more
+-- a truth value or false is the truth value
 or_false : (b : Bool) → (b || false) ≡ b
 or_false true = refl
 or_false false = refl
 
--- after others, the last operator of a tree is marked where the tree binds the variable
+-- the last of a tree's operators, put after others, is marked where the tree binds the variable
 pub mark-tree : (v : ℕ) (x : Tree) (ops : List Operator) (i : ℕ) → i ≡ length ops → mark v (ops ++ numbered i x) (i + under x) ≡ is_bound (tree_kinds x v)
 unfolding tree_kinds
 mark-tree v (begin s out) ops i h =

@@ -84,7 +84,7 @@ op_agrees n (over input op) b of ks bs h f s = record {
 }
 op_agrees n (tuple_destroy input element) b of ks bs h f s = absurd b
 
--- and means what the operator means
+-- the tree of an operator has the operator's bindings where those of its inputs have
 op_means : (world : World) (op : Operator) → IsBelow op → (of : ℕ → Tree) (rows : ℕ → List Row) → AllByRecursion (λ i. tree_rows world (of i) ≡ rows i) (inputs_of op) → tree_rows world (op_tree op of) ≡ op_rows world op rows
 op_means world (source s out) b of rows h = refl
 op_means world (get_descendants input start path out) b of rows h = ap (descended world start path out) h.0
@@ -129,7 +129,7 @@ unary_distinct (group_by (k ∷ keys) piece out) = (refl, tt)
 unary_distinct (concatenate pieces out) = (refl, tt)
 unary_distinct (create_element label list out) = (refl, tt)
 
--- nor does its tree, where the inputs and the operator bind nothing both
+-- the tree of an operator binds no variable anew twice, where its inputs' trees don't and share none with it or each other
 op_distinct : (op : Operator) → IsBelow op → (of : ℕ → Tree) → AllByRecursion (λ i. AreDistinct (tree_outs (of i))) (inputs_of op)
     → ((i v : ℕ) → Among i (inputs_of op) → Among v (outs_of op) → Among v (tree_outs (of i)) → ⊥)
     → ((left right v : ℕ) → inputs_of op ≡ left ∷ right ∷ [] → Among v (tree_outs (of left)) → Among v (tree_outs (of right)) → ⊥)
@@ -145,7 +145,7 @@ module _ (p : PlanValue) (valid : IsValid p) (typed : IsTyped p.ops) where
   abbrev pub ops : List Operator
   ops = p.ops
 
-  -- where the operators end
+  -- the operators of the valid plan end with a tupleDestroy
   abbrev pub ending : Ended (is_single_at ops) ops
   ending = ended_of (is_single_at ops) ops valid.ends
 
@@ -171,7 +171,7 @@ module _ (p : PlanValue) (valid : IsValid p) (typed : IsTyped p.ops) where
   unfolding tree_at
   tree_at-is n b = by_number-is op_tree (begin 0 0) ops n op_tree-reads (typed.inputs n b)
 
-  -- whether it is single
+  -- whether an operator has a single binding is told by whether its inputs have
   single-is : (n : ℕ) → n < length ops → is_single_at ops n ≡ is_single (op_at ops n) (is_single_at ops)
   unfolding is_single_at
   single-is n b = by_number-is is_single false ops n is_single-reads (typed.inputs n b)
@@ -182,7 +182,7 @@ module _ (p : PlanValue) (valid : IsValid p) (typed : IsTyped p.ops) where
   split (op ∷ all) zero l = ([], all, refl, refl)
   split (op ∷ all) (suc n) l = (let r = split all n (omega (arith, l)) in (op ∷ r.0, r.1, ap (λ (z : List Operator). op ∷ z) r.2, ap suc r.3))
 
-  -- its bindings
+  -- the bindings of an operator are made of the bindings of its inputs
   rows-is : (world : World) (n : ℕ) → n < length ops → rows_of world ops n ≡ op_rows world (op_at ops n) (rows_of world ops)
   rows-is world n b =
       let s = split ops n b in
@@ -215,7 +215,7 @@ module _ (p : PlanValue) (valid : IsValid p) (typed : IsTyped p.ops) where
       (subst (λ (ks : Kinds). Agrees (length p.sources) (op_tree (op_at ops n) (tree_at ops)) ks (is_single_at ops n)) (sym (kinds-is p valid typed n l))
       (subst (λ (x : Bool). Agrees (length p.sources) (op_tree (op_at ops n) (tree_at ops)) (op_kinds (op_at ops n) (kinds ops)) x) (sym (single-is n l)) r))
 
-  -- and has its bindings
+  -- the tree of each operator but the last has the operator's bindings
   means : (world : World) (k n : ℕ) → n < k → suc n < length ops → tree_rows world (tree_at ops n) ≡ rows_of world ops n
   means world zero n h b = absurd (omega (arith, h))
   means world (suc k) n h b =
@@ -312,6 +312,6 @@ module _ (p : PlanValue) (valid : IsValid p) (typed : IsTyped p.ops) where
         element = ap (λ (k : Kinds). k ending.element) a.kinds_are ∙ subst (λ (o : Operator). IsFit o (kinds ops)) last_at (typed.fit (length ending.prefix) b);
       }
 
-  -- and means what the plan means
+  -- the tree below the plan's tupleDestroy has the bindings of the operator below it
   pub plan_means : (world : World) → tree_rows world (tree_at ops ending.input) ≡ rows_of world ops ending.input
   plan_means world = means world (suc ending.input) ending.input (omega arith) input_at

@@ -32,7 +32,7 @@ use Rattle.plan_make.proofs.TreeParts.{tree_outs, TreeFits}
 
 -- WHAT A ROW HAS
 
--- the row has the variable
+-- whether a row has a variable
 abbrev pub has : Row → ℕ → Bool
 has row v = list_any (λ p. p.0 == v) row
 
@@ -40,32 +40,32 @@ has row v = list_any (λ p. p.0 == v) row
 abbrev pub IsRowOf : Kinds → Row → Type 0
 IsRowOf kinds row = (v : ℕ) → has row v ≡ is_bound (kinds v)
 
--- one variable more
+-- a row with one variable more has exactly the variables of the longer kinds
 has_with : (out : ℕ) (k : Kind) (x : Value) (kinds : Kinds) (row : Row) → IsRowOf kinds row → IsRowOf (with_kind out k kinds) ((out, x) ∷ row)
 has_with out k x kinds row h v = elim (out == v) as (λ w. (w || has row v) ≡ is_bound (cond w (Some k) (kinds v))) [ true ↦ refl | false ↦ h v ]
 
--- which variables a restricted binding has
+-- a binding restricted to keys has exactly the variables of the keys
 has-restrict : (keys : List Key) (row : Row) (v : ℕ) → has (restrict keys row) v ≡ has_var keys v
 has-restrict [] row v = refl
 has-restrict (k ∷ keys) row v = ap (λ (x : Bool). (key_var k == v) || x) (has-restrict keys row v)
 
--- so has a binding of keys
+-- a row of the keys' variables has exactly the variables that are kept
 has_restrict : (keys : List Key) (kinds : Kinds) → AreNodes keys kinds → (row : Row) → IsRowOf (kept keys kinds) (restrict keys row)
 has_restrict keys kinds nodes row v =
     has-restrict keys row v
     ∙ (elim (has_var keys v) as (λ w. has_var keys v ≡ w → w ≡ is_bound (cond w (kinds v) None)) [ true ↦ λ e. sym (ap is_bound (nodes v e)) | false ↦ λ e. refl ]) refl
 
--- a pair of bindings
+-- a pair of rows has exactly the variables of both sides
 has_both : (a b : Kinds) (x y : Row) → IsRowOf a x → IsRowOf b y → IsRowOf (λ v. either_kind (a v) (b v)) (x ++ y)
 has_both a b x y h g v =
     list_any-append (λ p. p.0 == v) x y ∙ rw (h v, g v) (elim (a v) as (λ w. (is_bound w || is_bound (b v)) ≡ is_bound (either_kind w (b v))) [ None ↦ refl | Some j ↦ refl ])
 
--- one more in order
+-- what holds of a member and of each in a list holds of each once it is put in by order
 each_insert : {X : Type 0} (P : X → Type 0) (less : X → X → Bool) (x : X) (xs : List X) → P x → AllByRecursion P xs → AllByRecursion P (insert_by less x xs)
 each_insert P less x [] p h = (p, tt)
 each_insert {X} P less x (y ∷ xs) p h = elim (less y x) as (λ w. AllByRecursion P (cond w (y ∷ insert_by less x xs) (x ∷ y ∷ xs))) [ true ↦ (h.0, each_insert P less x xs p h.1) | false ↦ (p, h) ]
 
--- all in order
+-- what holds of each in a list holds of each in the sorted list
 each_sorted : {X : Type 0} (P : X → Type 0) (less : X → X → Bool) (xs : List X) → AllByRecursion P xs → AllByRecursion P (sorted_by less xs)
 each_sorted P less [] h = tt
 each_sorted P less (x ∷ xs) h = each_insert P less x (sorted_by less xs) h.0 (each_sorted P less xs h.1)
@@ -111,11 +111,11 @@ value-both : (a b : Row) (v : ℕ) → value (a ++ b) v ≡ cond (has a v) (valu
 value-both [] b v = refl
 value-both (p ∷ a) b v = elim (p.0 == v) as (λ w. cond w p.1 (value (a ++ b) v) ≡ cond (w || has a v) (cond w p.1 (value a v)) (value b v)) [ true ↦ refl | false ↦ value-both a b v ]
 
--- a node of the left one
+-- a variable of the left row has in the pair the node of the left row
 node-left : (a b : Row) (v : ℕ) → has a v ≡ true → nodes_in (a ++ b) v ≡ nodes_in a v
 node-left a b v h = ap node_in (value-both a b v ∙ ap (λ (x : Bool). cond x (value a v) (value b v)) h)
 
--- and of the right one
+-- a variable that the left row has not has in the pair the node of the right row
 node-right : (a b : Row) (v : ℕ) → has a v ≡ false → nodes_in (a ++ b) v ≡ nodes_in b v
 node-right a b v h = ap node_in (value-both a b v ∙ ap (λ (x : Bool). cond x (value a v) (value b v)) h)
 
@@ -129,7 +129,7 @@ same_label : (docs : Documents) (o : Operand) (m n : ℕ → Node) → SameOpera
 same_label docs (var_operand v) m n h = ap (label_at docs) h
 same_label docs (text_operand label) m n h = refl
 
--- so does whether nodes are the same
+-- whether an operand is the same node depends on the node of its variable alone
 same_same : (op : TestOp) (k : Node) (o : Operand) (m n : ℕ → Node) → SameOperand o m n → is_same op k o m ≡ is_same op k o n
 same_same Eq k o m n h = refl
 same_same Ne k o m n h = refl
@@ -157,7 +157,7 @@ holds_left docs t ks a b h e =
     operand (var_operand v) g = node-left a b v (h v ∙ g)
     operand (text_operand label) g = tt
 
--- and one of the right side
+-- a comparison whose variables the right side binds holds of a pair where it holds of the right row
 holds_right : (docs : Documents) (t : Test) (ks js : Kinds) → ((v : ℕ) → is_bound (js v) ≡ true → is_bound (ks v) ≡ false) → (a b : Row) → IsRowOf ks a → binds_test js t ≡ true → holds docs t (a ++ b) ≡ holds docs t b
 holds_right docs t ks js apart a b h e =
     same_passes docs t (nodes_in (a ++ b)) (nodes_in b) (node-right a b t.left (h t.left ∙ apart t.left (first_true (is_bound (js t.left)) (binds_operand js t.right) e)))
@@ -181,7 +181,7 @@ module _ (docs : Documents) (tests : List Test) (t : Test) where
   abbrev beside : List Row → Row → List Row
   beside rights a = filter p (map (λ b. a ++ b) rights)
 
-  -- of the left's variables
+  -- where the left side binds a selection's variables, selecting left rows before a join is selecting after it
   pub join_left : (ks : Kinds) (lefts rights : List Row) → AllByRecursion (IsRowOf ks) lefts → binds_test ks t ≡ true → joined_rows docs tests (filter q lefts) rights ≡ filter q (joined_rows docs tests lefts rights)
   join_left ks lefts rights h e =
       flat_map-filter q (beside rights) lefts
@@ -192,7 +192,7 @@ module _ (docs : Documents) (tests : List Test) (t : Test) where
       lefts h)
       ∙ sym (filter-flat_map q (beside rights) lefts)
 
-  -- of the right's
+  -- where the right side binds a selection's variables, selecting right rows before a join is selecting after it
   pub join_right : (ks js : Kinds) (lefts rights : List Row) → ((v : ℕ) → is_bound (js v) ≡ true → is_bound (ks v) ≡ false) → AllByRecursion (IsRowOf ks) lefts → binds_test js t ≡ true →
       joined_rows docs tests lefts (filter q rights) ≡ filter q (joined_rows docs tests lefts rights)
   join_right ks js lefts rights apart h e =
@@ -204,7 +204,7 @@ module _ (docs : Documents) (tests : List Test) (t : Test) where
       lefts h)
       ∙ sym (filter-flat_map q (beside rights) lefts)
 
-  -- of both
+  -- a join with the selection's comparison added is the selection after the join
   pub join_more : (lefts rights : List Row) → joined_rows docs (tests ++ t ∷ []) lefts rights ≡ filter q (joined_rows docs tests lefts rights)
   join_more lefts rights =
       flat_map_same (λ a. filter (λ row. list_all (λ s. holds docs s row) (tests ++ t ∷ [])) (map (λ b. a ++ b) rights)) (λ a. filter q (beside rights a)) lefts

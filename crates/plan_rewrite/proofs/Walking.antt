@@ -50,14 +50,14 @@ covers-inside t z a b =
     operand (var_operand v) = mark-inside v z a b
     operand (text_operand label) = refl
 
--- the last operator
+-- the operator after two lists of operators has their lengths together as its number
 pub op-last : (a prefix b : List Operator) (op : Operator) (n : ℕ) → n ≡ length a + length prefix → op_at (a ++ ((prefix ++ op ∷ []) ++ b)) n ≡ op
 op-last a prefix b op n h =
     let k = length-append a prefix in
     ap (λ (z : List Operator). op_at z n) (ap (λ (z : List Operator). a ++ z) (snoc prefix op b) ∙ sym (append_assoc a prefix (op ∷ b)))
     ∙ get_or_at (a ++ prefix) op b (source 0 0) n (omega (arith, k, h))
 
--- no join: the way ends
+-- where the operator is no join that a selection goes into, the selection's way ends there
 ends_here : (t : Test) (all : List Operator) (goal at : ℕ) (op : Operator) → op_at all at ≡ op → next_in (covers t all) op ≡ None → at ≡ goal → Steps t all goal at (next_in (covers t all) (op_at all at))
 ends_here t all goal at op e n h = subst (λ (o : Option ℕ). Steps t all goal at o) (sym (ap (next_in (covers t all)) e ∙ n)) h
 
@@ -113,7 +113,7 @@ step_in t all goal at a b (both l r tests) is at_is lands =
     go_on i m n e f false true g x y z = y (g ∙ omega (arith, e, f))
     go_on i m n e f false false g x y z = z ∙ sym g
 
--- a step of the way
+-- each step of a selection's way ends where the selection lands, or goes on at a smaller operator
 pub way_step : (t : Test) (all : List Operator) (goal at : ℕ) → StandsAt t all goal at → Steps t all goal at (next_in (covers t all) (op_at all at))
 way_step t all goal at s = step_in t all goal at s.prefix s.after s.tree s.is s.at_is s.lands
 

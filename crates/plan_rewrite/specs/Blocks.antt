@@ -11,11 +11,11 @@ use Rattle.plan_make.proofs.TreeParts.{ended}
 use Rattle.plan_rewrite.specs.Edits.{on_input}
 use Rattle.plan_rewrite.specs.Rewritten.{put_over}
 
--- the operators of blocks
+-- the operators of the code's blocks, in their plain form
 abbrev pub blocks_of : List (Vec Op Global) → List (List Operator)
 blocks_of blocks = map (λ (b : Vec Op Global). map op_of b.items) blocks
 
--- the block of an operator
+-- the block of an operator's number; empty where it has none
 abbrev pub block_at : List (List Operator) → ℕ → List Operator
 block_at blocks n = slice_index_or blocks n []
 
@@ -32,7 +32,7 @@ block_over (join left right tests) of = numbered 0 (both (of left) (of right) te
 block_over (over input op) of = numbered 0 (put_over op (of input))
 block_over (tuple_destroy input element) of = ended (of input) element
 
--- there is a block of operator n, and it is that tree
+-- operator n has a block, which is the numbered operators of a tree
 abbrev pub IsBlock : List (List Operator) → ℕ → Tree → Type 0
 IsBlock blocks n x = (n < length blocks) × (block_at blocks n ≡ numbered 0 x)
 

@@ -27,7 +27,7 @@ landed t n (join left right tests) ops = join left right (tests ++ t ∷ []) ∷
 landed t n (over input op) ops = over input op ∷ over n (select t) ∷ map (bumped_op n) ops
 landed t n (tuple_destroy input element) ops = tuple_destroy input element ∷ over n (select t) ∷ map (bumped_op n) ops
 
--- the same where k others stand before it
+-- operators with a selection put over the one after k others, or added to it where it is a join
 abbrev pub edited : Test → ℕ → ℕ → List Operator → List Operator
 edited t n k [] = []
 edited t n zero (op ∷ ops) = landed t n op ops
@@ -61,7 +61,7 @@ raised_op i (join left right tests) = join (i + left) (i + right) tests
 raised_op i (over input op) = over (i + input) op
 raised_op i (tuple_destroy input element) = tuple_destroy (i + input) element
 
--- so many operators of a left side, so many of a right one raised after them, and their join
+-- the operators of a left side, those of a right side raised after them, and the join of both
 abbrev pub joined_ops : ℕ → List Operator → ℕ → List Operator → List Test → List Operator
 joined_ops a left b right tests = (left ++ map (raised_op a) right) ++ join (a - 1) ((a + b) - 1) tests ∷ []
 

@@ -13,7 +13,7 @@ use Rattle.plan_make.specs.Trees.{Tree, begin, descend, both, above}
 use Rattle.plan_make.proofs.TreeParts.{tree_kinds, ended}
 use Rattle.xmas_rule.specs.Rules.{RuleValue}
 
--- there is a kind
+-- whether a variable has a kind, so is bound
 abbrev pub is_bound : Option Kind → Bool
 is_bound None = false
 is_bound (Some k) = true
@@ -34,7 +34,7 @@ pushed t (descend x start path out) = above (descend x start path out) (select t
 pushed t (both l r tests) = cond (binds_test (tree_kinds l) t) (both (pushed t l) r tests) (cond (binds_test (tree_kinds r) t) (both l (pushed t r) tests) (both l r (tests ++ t ∷ [])))
 pushed t (above x op) = above (above x op) (select t)
 
--- an operator over a tree
+-- a tree with an operator over it; a selection is pushed into the tree
 abbrev pub put_over : Unary → Tree → Tree
 put_over (select t) x = pushed t x
 put_over (order_by v desc) x = above x (order_by v desc)
@@ -75,7 +75,7 @@ ended_by of (Some (tuple_destroy input element)) = ended (rewritten (of input)) 
 abbrev pub rewritten_ops : List Operator → List Operator
 rewritten_ops ops = ended_by (tree_at ops) (last_or None ops)
 
--- a plan, rewritten
+-- a plan, its selections pushed down
 abbrev pub rewritten_plan : PlanValue → PlanValue
 rewritten_plan p = record { ops = rewritten_ops p.ops; names = p.names; sources = p.sources }
 

@@ -30,12 +30,12 @@ abbrev pub AreMarks : ℕ → List Operator → Option (Vec Bool Global) → Typ
 AreMarks v ops None = ⊥
 AreMarks v ops (Some m) = m.items ≡ marks v [] ops
 
--- those of what is compared with
+-- the code's marks of an operand are those of its variable; a text has none
 abbrev pub AreRights : Operand → List Operator → Option (Vec Bool Global) → Type 0
 AreRights (var_operand v) ops m = AreMarks v ops m
 AreRights (text_operand label) ops m = m ≡ None
 
--- those of both sides of a comparison
+-- the code's marks are those of both sides of a comparison
 pub record AreCovered (t : Test) (ops : List Operator) (c : Covered) : Type 0 where
   pub lefts : c.lefts.items ≡ marks t.left [] ops
   pub rights : AreRights t.right ops c.rights

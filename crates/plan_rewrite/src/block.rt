@@ -17,7 +17,7 @@ fn last_of(block: &Vec<Op>) -> Result<u32, AllocError>
     u32::try_from(block.len() - 1).map_err(|_| AllocError)
 }
 
-// The join of two blocks.
+// Joins two blocks: the left one's operators, the right one's raised after them, and the join.
 pub fn join_blocks(left: Vec<Op>, right: Vec<Op>, tests: Vec<Test>) -> Result<Vec<Op>, AllocError>
     requires has_left { 0 < vec_len left }
     requires has_right { 0 < vec_len right }

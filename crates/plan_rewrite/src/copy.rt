@@ -9,7 +9,7 @@ use path_expr::{Path, copy_path};
 use plan_core::{Op, Piece};
 use std::alloc::{AllocError, Global};
 
-// Another such operand.
+// Copies an operand.
 fn copy_operand(alloc: Global, operand: &Operand) -> Result<Operand, AllocError>
     ensures { IfOk result (λ copy. copy ≡ operand.now) }
 {
@@ -19,7 +19,7 @@ fn copy_operand(alloc: Global, operand: &Operand) -> Result<Operand, AllocError>
     }
 }
 
-// Another such comparison.
+// Copies a comparison.
 pub fn copy_test(alloc: Global, test: &Test) -> Result<Test, AllocError>
     ensures { IfOk result (λ copy. copy ≡ test.now) }
 {
@@ -30,7 +30,7 @@ pub fn copy_test(alloc: Global, test: &Test) -> Result<Test, AllocError>
     })
 }
 
-// Other such comparisons.
+// Copies comparisons.
 pub fn copy_tests(alloc: Global, tests: &[Test]) -> Result<Vec<Test>, AllocError>
     ensures { IfOk result (λ copies. copies.items ≡ tests.now) }
 {
@@ -41,7 +41,7 @@ pub fn copy_tests(alloc: Global, tests: &[Test]) -> Result<Vec<Test>, AllocError
     Ok(copies)
 }
 
-// Another such piece.
+// Copies a piece.
 fn copy_piece(alloc: Global, piece: &Piece) -> Result<Piece, AllocError>
     ensures { IfOk result (λ copy. copy ≡ piece.now) }
 {
@@ -52,7 +52,7 @@ fn copy_piece(alloc: Global, piece: &Piece) -> Result<Piece, AllocError>
     }
 }
 
-// Other such pieces.
+// Copies pieces.
 fn copy_pieces(alloc: Global, pieces: &[Piece]) -> Result<Vec<Piece>, AllocError>
     ensures { IfOk result (λ copies. copies.items ≡ pieces.now) }
 {
@@ -63,7 +63,7 @@ fn copy_pieces(alloc: Global, pieces: &[Piece]) -> Result<Vec<Piece>, AllocError
     Ok(copies)
 }
 
-// Other such labels.
+// Copies labels.
 pub fn copy_labels(alloc: Global, labels: &[Label]) -> Result<Vec<Label>, AllocError>
     ensures { IfOk result (λ copies. copies.items ≡ labels.now) }
 {
@@ -74,7 +74,7 @@ pub fn copy_labels(alloc: Global, labels: &[Label]) -> Result<Vec<Label>, AllocE
     Ok(copies)
 }
 
-// Another such getDescendants.
+// Copies a getDescendants.
 fn copy_visit(
     alloc: Global,
     input: u32,
@@ -92,7 +92,7 @@ fn copy_visit(
     })
 }
 
-// Another such join.
+// Copies a join.
 fn copy_join(alloc: Global, left: u32, right: u32, tests: &[Test]) -> Result<Op, AllocError>
     ensures { IfOk result (λ copy. op_of copy ≡ join left right tests.now) }
 {
@@ -103,7 +103,7 @@ fn copy_join(alloc: Global, left: u32, right: u32, tests: &[Test]) -> Result<Op,
     })
 }
 
-// Another such groupBy.
+// Copies a groupBy.
 fn copy_group(
     alloc: Global,
     input: u32,
@@ -121,7 +121,7 @@ fn copy_group(
     })
 }
 
-// Another such concatenate.
+// Copies a concatenate.
 fn copy_lists(alloc: Global, input: u32, pieces: &[Piece], out: Var) -> Result<Op, AllocError>
     ensures { IfOk result (λ copy. op_of copy ≡ over input (concatenate pieces.now out)) }
 {
@@ -132,7 +132,7 @@ fn copy_lists(alloc: Global, input: u32, pieces: &[Piece], out: Var) -> Result<O
     })
 }
 
-// Another such createElement.
+// Copies a createElement.
 fn copy_element(
     alloc: Global,
     input: u32,
@@ -150,7 +150,7 @@ fn copy_element(
     })
 }
 
-// Another such operator.
+// Copies an operator.
 pub fn copy_op(alloc: Global, op: &Op) -> Result<Op, AllocError>
     ensures { IfOk result (λ copy. op_of copy ≡ op_of op.now) }
 {

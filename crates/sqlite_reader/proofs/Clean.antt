@@ -7,7 +7,7 @@ use Rattle.sqlite_trees.specs.View.{doubt}
 pub not_clean : {A : Type 0} → IsTrue false → A
 not_clean h = cc
 
--- nor is a store over it
+-- a store whose disk would have to be clean here is not, so whatever is asked of it then stands
 pub never_clean : {A : Type 0} → doubt false ≡ 0 → A
 unfolding doubt
 never_clean h = absurd (omega arith)

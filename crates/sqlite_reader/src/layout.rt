@@ -68,7 +68,7 @@ fn is_own_table(alloc: Global, rows: &[Row], row: &Row) -> Result<bool, AllocErr
     }
     let table = load::read_table(alloc, row)?;
     let is_read = table.is_some();
-    // It is given to `drop`, so that how its parts are dropped is proved once.
+    // The table is given to `drop`, so that how its parts are dropped is proved once.
     drop(table);
     Ok(is_read)
 }

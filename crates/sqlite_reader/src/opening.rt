@@ -47,7 +47,7 @@ fn opened(fresh: Unopened<PageDisk>) -> Result<FileStore<PageDisk>, ReadFault> {
     match fresh.open_trusted() {
         Ok(store) => Ok(store),
         Err((error, files)) => {
-            // It is given to `drop`, so that how its parts are dropped is proved once.
+            // The files are given to `drop`, so that how their parts are dropped is proved once.
             drop(files);
             Err(error.into())
         }

@@ -10,7 +10,7 @@ pub struct Query<'a> {
     pub columns: &'a [&'a [u8]],
     /// Without a number the first rows of all.
     pub after: Option<i64>,
-    /// How many rows at most.
+    /// How many rows are asked at most.
     pub limit: u32,
 }
 
@@ -27,7 +27,7 @@ fn push_quoted(text: &mut Vec<u8>, name: &[u8]) -> Result<(), AllocError> {
     Ok(())
 }
 
-// With the table's name before it a column that there isn't is an error, and no string.
+// Writes a column with its table's name before it, so that a column that there isn't is an error, and no string.
 fn push_column(text: &mut Vec<u8>, table: &[u8], name: &[u8]) -> Result<(), AllocError> {
     push_quoted(text, table)?;
     text.push(b'.')?;

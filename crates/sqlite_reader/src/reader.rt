@@ -46,7 +46,7 @@ pub struct Reader {
     stamp: Stamp,
 }
 
-// It is written out, so that a crate above does not prove again how each part is dropped.
+// Dropping is written out, so that a crate above does not prove again how each part is dropped.
 impl Drop for Reader {
     fn drop(self) {
         let Reader {
@@ -224,7 +224,7 @@ impl Reader {
         let params = params_of(alloc, query)?;
         let compiled = compile(alloc, &self.schema, text.as_slice())?;
         let rows = answer(alloc, &mut self.engine, &self.schema, &compiled, &params);
-        // It is given to `drop`, so that how its parts are dropped is proved once.
+        // The statement is given to `drop`, so that how its parts are dropped is proved once.
         drop(compiled);
         rows
     }

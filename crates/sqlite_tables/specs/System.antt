@@ -3,6 +3,6 @@ use Rattle.std.specs.Prelude.{None}
 use Rattle.sqlite_tables.specs.declared.tables.SqliteTables.{SqliteTables}
 use Rattle.table_keep.specs.Views.{TablesView}
 
--- they tell no rows, and count the faults of all declared tables together
+-- the view of SQLite tables, which tell no rows and count the faults of all declared tables together
 abbrev pub sqlite_view : SqliteTables → TablesView
 sqlite_view t = record { told = λ _. None; pages = t.pages; faults = λ _. t.faults }

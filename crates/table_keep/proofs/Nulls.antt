@@ -28,7 +28,7 @@ cells_by_null (c ∷ cs) (bytes t ∷ vs) e h =
     let parts = and_parts (is_short (bytes t)) (list_all is_short vs) h in
     ap (λ b. b && cells_fit cs vs) parts.0 ∙ cells_by_null cs vs (omega arith) parts.1
 
--- so it is with each of many rows
+-- rows of short values, one for each column, fit where none has NULL in a column that never is
 fit_by_null : (columns : List Column) (rows : List Row) → list_all (is_row (length columns)) rows ≡ true → all_fit columns rows ≡ list_all (λ r. keeps_null columns r.values) rows
 fit_by_null columns [] h = refl
 fit_by_null columns (r ∷ rows) h =
@@ -44,7 +44,7 @@ all_filter p q (x ∷ xs) h =
     elim (q x) as (λ b. list_all p (cond b (x ∷ filter q xs) (filter q xs)) ≡ true)
     [ true ↦ and_both (p x) (list_all p (filter q xs)) parts.0 (all_filter p q xs parts.1) | false ↦ all_filter p q xs parts.1 ]
 
--- and so do the first
+-- what all pass, the first of them pass
 all_take : {X : Type 0} (p : X → Bool) (n : ℕ) (xs : List X) → list_all p xs ≡ true → list_all p (take n xs) ≡ true
 all_take p zero xs h = refl
 all_take p (suc n) [] h = refl
@@ -99,7 +99,7 @@ given_first ask false (Some all) rows e = by_test (list_all (λ r. keeps_null as
     by_test false h = absurd (cc h)
 
 module _ (tables : List MemTable) (sound : list_all is_sound tables ≡ true) (ask : PageAsk) (rows : List Row) where
-  -- a page is given
+  -- a call that isn't to fail gives the first rows above a key, where they are a page
   pub call_gives : Some rows ≡ first_of ask (rows_told tables (declared_by ask)) → IsPage ask rows → gives_of ask false (rows_told tables (declared_by ask)) ≡ Some rows
   call_gives e is = of_told (rows_told tables (declared_by ask)) refl e
     where
@@ -109,7 +109,7 @@ module _ (tables : List MemTable) (sound : list_all is_sound tables ≡ true) (a
           let same = some_is rows (first_above ask.after ask.limit all) h in
           page_given ask all (subst Rises f (first_rise tables (declared_by ask) sound)) (told_rows tables (declared_by ask) all sound f) (subst (IsPage ask) same is) ∙ sym h
 
-  -- what is no page isn't
+  -- a call gives nothing where the first rows above a key are no page
   pub call_refuses : (fails : Bool) → Some rows ≡ first_of ask (rows_told tables (declared_by ask)) → ¬ IsPage ask rows → gives_of ask fails (rows_told tables (declared_by ask)) ≡ None
   call_refuses true e not_page = refl
   call_refuses false e not_page = of_told (rows_told tables (declared_by ask)) refl e

@@ -44,7 +44,7 @@ short_at [] h p = refl
 short_at (v ∷ values) h zero = (and_parts (is_short v) (list_all is_short values) h).0
 short_at (v ∷ values) h (suc p) = short_at values (and_parts (is_short v) (list_all is_short values) h).1 p
 
--- so are those at some places
+-- the values at some places are short where all are
 short_at_all : (values : List Value) → list_all is_short values ≡ true → (places : List ℕ) → list_all is_short (map (λ p. get_or values p null) places) ≡ true
 short_at_all values h [] = refl
 short_at_all values h (p ∷ places) = and_both (is_short (get_or values p null)) _ (short_at values h p) (short_at_all values h places)
@@ -90,7 +90,7 @@ found_sound p (u ∷ tables) t h e =
     one true sound later k = subst (λ s. is_sound s ≡ true) (some_is u t k) sound
     one false sound later k = later k
 
--- so are the told rows of sound tables
+-- the rows that sound tables tell are rows of the declared columns
 pub told_rows : (tables : List MemTable) (d : Declared) (rows : List Row) → list_all is_sound tables ≡ true → rows_told tables d ≡ Some rows → list_all (is_row (length d.columns)) rows ≡ true
 told_rows tables d rows sound e = of_first (find (is_at d.file d.table) tables) refl e
   where

@@ -43,7 +43,7 @@ rise_filter p after (r ∷ rows) h =
       | false ↦ rise_lower after r.key (filter p rows) parts.0 later
     ]
 
--- so do the first of them
+-- where the keys of rows rise, those of the first rows do too
 pub rise_take : (n : ℕ) (after : Option ℤ) (rows : List Row) → keys_rise after rows ≡ true → keys_rise after (take n rows) ≡ true
 rise_take zero after rows h = refl
 rise_take (suc n) after [] h = refl

@@ -15,7 +15,7 @@ pub record Declared : Type 0 where
 abbrev pub declared_by : PageAsk → Declared
 declared_by ask = record { file = ask.file.now; table = ask.table.now; key = ask.key.now; columns = ask.columns.now }
 
--- what tables mean
+-- what tables mean: their rows, how many pages were asked, and how often a page has failed
 pub record TablesView : Type 0 where
   -- the rows of a declared table by rising key, where they are told
   pub told : Declared → Option (List Row)

@@ -106,12 +106,12 @@ impl Tables for MemTables {
         ensures page { IfOk result (λ rows. IsPage ask.now (rows_of rows.items)) }
         ensures first { IfOk result (λ rows. IfSome ((mem_tables_view self.old).told (declared_by ask.now))
             (λ told. rows_of rows.items ≡ first_above ask.now.after ask.now.limit told)) }
-        // The counts.
+        // How a call changes the counts.
         ensures at_most_one { (mem_tables_view self.new).pages ≤ (mem_tables_view self.old).pages + 1 }
         ensures counted { OnOk result (HasRisen (mem_tables_view self.old).pages (mem_tables_view self.new).pages) }
         ensures counted_failed { IsErrOf result PageFault.Failed
             → HasRisen (mem_tables_view self.old).pages (mem_tables_view self.new).pages }
-        // The cause.
+        // For which cause a call fails.
         ensures failed { IsErrOf result PageFault.Failed → HasRisen ((mem_tables_view self.old).faults (declared_by ask.now))
             ((mem_tables_view self.new).faults (declared_by ask.now)) }
         // Which calls fail, and that no others count as faults.

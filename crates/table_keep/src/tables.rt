@@ -21,11 +21,11 @@ pub trait Tables {
         ensures page { IfOk result (λ rows. IsPage ask.now (rows_of rows.items)) }
         ensures first { IfOk result (λ rows. IfSome ((view self.old).told (declared_by ask.now))
             (λ told. rows_of rows.items ≡ first_above ask.now.after ask.now.limit told)) }
-        // The counts.
+        // How a call changes the counts.
         ensures at_most_one { (view self.new).pages ≤ (view self.old).pages + 1 }
         ensures counted { OnOk result (HasRisen (view self.old).pages (view self.new).pages) }
         ensures counted_failed { IsErrOf result PageFault.Failed → HasRisen (view self.old).pages (view self.new).pages }
-        // The cause.
+        // For which cause a call fails.
         ensures failed { IsErrOf result PageFault.Failed
             → HasRisen ((view self.old).faults (declared_by ask.now)) ((view self.new).faults (declared_by ask.now)) };
 

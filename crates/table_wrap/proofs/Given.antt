@@ -29,7 +29,7 @@ use Rattle.table_wrap.specs.Document.{AreFirst, IsAnswer, chunk_of, columns_of, 
 abbrev pub KeysFit : List Row → Type 0
 KeysFit rows = AllByRecursion (λ r. SFits w64 r.key) rows
 
--- a choice by a test
+-- what holds of both sides of a choice by a test holds of the choice
 by_test : (P : Open → Type 0) (b : Bool) (x y : Open) → (b ≡ true → P x) → (b ≡ false → P y) → P (cond b x y)
 by_test P true x y h k = h refl
 by_test P false x y h k = k refl
@@ -117,7 +117,7 @@ room_less (Some (pos m)) (negsuc n) h fits = absurd (cc h)
 room_less (Some (negsuc m)) (pos n) h fits = let small : n < 2 ^ 63 = fits.sfits in omega arith
 room_less (Some (negsuc m)) (negsuc n) h fits = let less : n < m = grind (arith, nat_tests) in omega arith
 
--- so rows that rise, and what may stand after them, have room
+-- rows that rise, and what may stand after them, have room above the key before them
 rows_room : (after : Option ℤ) (rows : List Row) → keys_rise after rows ≡ true → KeysFit rows → length rows + room (last_key after rows) ≤ room after
 rows_room after [] h fits = omega arith
 rows_room after (r ∷ rows) h fits =
@@ -152,7 +152,7 @@ module _ (d : TableDoc) (after : Option ℤ) (rows : List Row) where
       let last = last_fits after rows some fits in
       subst (λ (l : Option ℤ). part_of (hole_of (Rows l)) ≡ Some (Rows l)) (sym last.1) (part_back last.0 last.2)
 
-  -- the list keeps progress
+  -- the list of a page keeps progress
   pub progress-rows : IsProgress (rows_given d after rows)
   progress-rows = record {
     top = (top_of (columns_of d) rows (rest_given d after rows) none_left).0;
@@ -160,11 +160,11 @@ module _ (d : TableDoc) (after : Option ℤ) (rows : List Row) where
         (by_test IsApart (length rows == d.chunk) (hole (hole_of (Rows (last_key after rows))) nil) nil (λ k. (refl, tt)) (λ k. tt));
   }
 
-  -- it begins with no hole
+  -- the list of a page begins with no hole
   pub forward-rows : begins_with_hole (rows_given d after rows) ≡ false
   forward-rows = (top_of (columns_of d) rows (rest_given d after rows) none_left).1
 
-  -- all its holes are known
+  -- all holes of the list of a page are known
   pub known-rows : AllHoles (knows d) (rows_given d after rows)
   known-rows =
       AllHoles-open_followed (knows d) (without_holes (row_forest (columns_of d) rows)) (rest_given d after rows)
@@ -175,7 +175,7 @@ module _ (d : TableDoc) (after : Option ℤ) (rows : List Row) where
       known None = refl
       known (Some key) = refl
 
-  -- it weighs no more than the part
+  -- the list of a page weighs no more than the part of the rows above the key
   pub lighter-rows : keys_rise after rows ≡ true → KeysFit rows → weight_of (weight d) (rows_given d after rows) ≤ room after * row_weight d
   lighter-rows rise fits =
       let columns = columns_of d in

@@ -16,7 +16,7 @@ pub rows_more : (columns : List Column) (rows : List Row) (r : Row) (rest : Open
 rows_more columns [] r rest = refl
 rows_more columns (s ∷ rows) r rest = ap (node (114 ∷ 111 ∷ 119 ∷ []) (without_holes (forest_of (cells columns s.values)))) (rows_more columns rows r rest)
 
--- its key is the last
+-- the last key of rows with one row more is that row's key
 pub last_more : (after : Option ℤ) (rows : List Row) (r : Row) → last_key after (rows ++ r ∷ []) ≡ Some r.key
 last_more after [] r = refl
 last_more after (s ∷ rows) r = last_more (Some s.key) rows r

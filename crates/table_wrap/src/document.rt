@@ -179,7 +179,7 @@ impl TableDoc {
         ensures at_most_one { (T.view t.new).pages ≤ (T.view t.old).pages + 1 }
         ensures counted { asks (part_of hole) ≡ true → OnOk result (HasRisen (T.view t.old).pages (T.view t.new).pages) }
         ensures counted_failed { IsErrOf result SourceFault.Failed → HasRisen (T.view t.old).pages (T.view t.new).pages }
-        // The causes.
+        // For which causes a fill fails.
         ensures failed { IsErrOf result SourceFault.Failed
             → HasRisen ((T.view t.old).faults (declared_of self.now)) ((T.view t.new).faults (declared_of self.now)) }
         ensures unknown { IsErrOf result SourceFault.UnknownHole → knows self.now hole ≡ false }

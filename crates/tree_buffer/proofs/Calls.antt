@@ -15,7 +15,7 @@ use Rattle.tree_buffer.proofs.Refine.{moved_again, sourced_again, same_document,
 use Rattle.tree_buffer.proofs.Held.{held-from}
 use Rattle.tree_buffer.proofs.Spots.{after_moved, below_top, child_at, child_lighter}
 
--- one part after another
+-- two parts of a call one after another are one part
 pub advances_twice : {a b c : View} {x y z : Buffer} → Advances a x b y → Advances b y c z → Advances a x c z
 advances_twice {a} {b} {c} {x} {y} {z} first second = record {
   number = second.number ∙ first.number;
@@ -41,11 +41,11 @@ module _ (v : View) (b : Buffer) (s : Sourced v (number_of b) (nodes_of b)) wher
         held-from (weigh v b) (place_of b p) k (places (nodes_of b).links) (nodes_of b).rests,
       )
 
-  -- it means the buffer's sources
+  -- a view that means the sources of a buffer's nodes means the buffer's sources
   pub sources_from : IsSourcesOf v b
   sources_from = record { sourced = s; count = s.number; label = λ told x spot. s.stands told x.number spot; light = below_root; lighter = child_weight }
 
--- a buffer that goes on
+-- of a buffer that goes on over a part of a call
 module _ {v v' : View} {b b' : Buffer} (s : IsSourcesOf v b) (keeps : Keeps v v') (goes : Advances v b v' b') where
   -- a source that tells its document still does
   pub still_told : v'.told (number_of b') ≡ v.told (number_of b)
@@ -68,7 +68,7 @@ module _ {v v' : View} {b b' : Buffer} (s : IsSourcesOf v b) (keeps : Keeps v v'
       sym (goes.moved.places x.number spot) ∙ child.place ∙ ap (λ p. p ++ k ∷ []) (goes.moved.places u.number inside) in
       goes.moved.whole u.number inside (all u k inside (record { spot = spot; place = at }))
 
-  -- it goes on for its callers
+  -- a buffer that goes on over a part of a call goes on for its callers
   pub goes_from : Goes v b v' b'
   goes_from = record {
     number = goes.number;

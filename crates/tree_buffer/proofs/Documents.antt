@@ -6,7 +6,7 @@ use Rattle.mix_tree.specs.Place.{trees_at, has_place, next_place}
 use Rattle.mix_tree.proofs.Places.{trees_at-append}
 use Rattle.tree_buffer.specs.Document.{has_given, has_next}
 
--- one tree further
+-- the trees from one index further on are those after the first from the index on
 from-suc : (k : ℕ) (f : Forest) → from (suc k) f ≡ after_first (from k f)
 from-suc zero f = refl
 from-suc (suc k) f = from-suc k (after_first f)

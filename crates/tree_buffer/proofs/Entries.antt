@@ -27,7 +27,7 @@ pub rest-set : (es : List Entry) (q : ℕ) (f : Entry) → q < length es → get
 rest-set es q f within =
     ap (λ os. get_or os q nil) (map-set list_of es q f) ∙ get_or-set_same (map list_of es) q (list_of f) nil (omega (arith, length-map es list_of))
 
--- there is a node for each entry
+-- there is a link of a node for each entry
 pub length-links : (es : List Entry) → length (nodes es).links ≡ length es
 length-links es = length-map es link_of
 
@@ -42,7 +42,7 @@ module _ (es : List Entry) (q : ℕ) (e f child : Entry) (b : ℕ) (last next : 
   longer : b < length (set es q f ++ child ∷ [])
   longer = omega (arith, b_within, length_push (set es q f) child, length-set es q f)
 
-  -- one link more
+  -- the links are those of before and the new node's
   new_links : map link_of (set (set es q f ++ child ∷ []) b next) ≡ map link_of es ++ (q, get_or (map (λ (e : Entry). e.count) es) q 0) ∷ []
   new_links =
       map-set_same link_of (set es q f ++ child ∷ []) b next last b_read (rw (n_parent, n_index) refl) longer
@@ -69,7 +69,7 @@ module _ (es : List Entry) (q : ℕ) (e f child : Entry) (b : ℕ) (last next : 
       map-set (λ (e : Entry). e.next) (set es q f ++ child ∷ []) b next
       ∙ rw (map_push (λ (e : Entry). e.next) (set es q f) child, map-set_same (λ (e : Entry). e.next) es q f e read f_next within, c_next, n_next, length-map es link_of) refl
 
-  -- one label more
+  -- the labels are those of before and the new node's
   new_labels : map entry_label (set (set es q f ++ child ∷ []) b next) ≡ map entry_label es ++ child.label ∷ []
   new_labels =
       map-set_same entry_label (set es q f ++ child ∷ []) b next last b_read (ap (λ l. l) n_label) longer
@@ -83,6 +83,6 @@ module _ (es : List Entry) (q : ℕ) (e f child : Entry) (b : ℕ) (last next : 
       ∙ map_push list_of (set es q f) child
       ∙ rw (map-set list_of es q f) refl
 
-  -- all of it
+  -- the entries with one child of q more are the nodes with that node handed out
   pub nodes-handed : nodes (set (set es q f ++ child ∷ []) b next) ≡ handed (nodes es) q f.first b child.label (list_of child) (list_of f)
   nodes-handed = rw (new_links, new_counts, new_firsts, new_nexts, new_labels, new_rests) refl

@@ -17,7 +17,7 @@ use Rattle.tree_buffer.proofs.Calls.{still_told, still_node}
 use Rattle.tree_buffer.proofs.Documents.{trees_at-next, next_place-push, no_next, no_tree}
 use Rattle.tree_buffer.proofs.Spots.{child_lighter, child_told, none_told}
 
--- the answers of a call
+-- of what a call answers about children that were handed out
 module _ {v v' : View} {b b' : Buffer} (keeps : Keeps v v') (s : IsSourcesOf v b) (s' : IsSourcesOf v' b') (goes : Advances v b v' b') (q k : ℕ) (within : q < length (nodes_of b).links) where
   -- where a child was handed out, the document had one
   pub exact_child : (c : ℕ) → IsChild (nodes_of b').links q k c → v.told b.number ≡ true → has_place (document_node v b.number) (place (nodes_of b).links q ++ k ∷ []) ≡ true

@@ -17,7 +17,7 @@ stays old new n o keeps known apart = record {
   whole = λ e. e;
 }
 
--- one step after the other
+-- a list that is refined and refined again is refined from the first to the last
 pub refined_again : (a b c : View) (n : ℕ) (o p q : Open) → Keeps a b → IsRefined a b n o p → IsRefined b c n p q → IsRefined a c n o q
 refined_again a b c n o p q keeps first second = record {
   known = second.known;
@@ -51,7 +51,7 @@ holes_weight-lt w nil e = cc
 holes_weight-lt w (node l ks rest) e = omega (arith, holes_weight-le w ks, holes_weight-le w rest)
 holes_weight-lt w (hole h rest) e = omega (arith, holes_weight-lt w rest e)
 
--- at most one hole stands at the beginning
+-- at most one hole stands at the beginning of a list
 pub hole_first-le : (o : Open) → hole_first o ≤ 1
 hole_first-le nil = omega arith
 hole_first-le (node l ks rest) = omega arith
@@ -82,7 +82,7 @@ module _ (old new : View) (n : ℕ) (h : HoleId) (tail list : Open) (keeps : Kee
     whole = λ e. cc;
   }
 
-  -- it leaves fewer fills
+  -- a list in which a fill has put its answer needs fewer fills
   pub falls : fills_left (new.weight n) (open_followed list tail) < fills_left (old.weight n) (hole h tail)
   falls = fewer list refl progress lighter
     where

@@ -30,7 +30,7 @@ module _ (m : Nodes) (linked : IsLinked m.links m.counts m.firsts m.nexts) (q fi
   pub links_old : (i : ℕ) → i < length m.links → get_or (m.links ++ (q, get_or m.counts q 0) ∷ []) i (0, 0) ≡ get_or m.links i (0, 0)
   links_old i h = get_or_append_left m.links ((q, get_or m.counts q 0) ∷ []) (0, 0) i h
 
-  -- the link of the new node
+  -- the link of the new node is to q, at the index of its next child
   links_new : get_or (m.links ++ (q, get_or m.counts q 0) ∷ []) (length m.links) (0, 0) ≡ (q, get_or m.counts q 0)
   links_new = get_or_push m.links (q, get_or m.counts q 0) (0, 0) (length m.links) refl
 
@@ -42,11 +42,11 @@ module _ (m : Nodes) (linked : IsLinked m.links m.counts m.firsts m.nexts) (q fi
   index_old : (i : ℕ) → i < length m.links → index (handed m q first before l ks o).links i ≡ index m.links i
   index_old i h = ap (λ x. x.1) (links_old i h)
 
-  -- the new node's parent
+  -- the new node's parent is q
   parent_new : parent (handed m q first before l ks o).links (length m.links) ≡ q
   parent_new = ap (λ x. x.0) links_new
 
-  -- the new node's index
+  -- the new node's index is that of q's next child
   index_new : index (handed m q first before l ks o).links (length m.links) ≡ get_or m.counts q 0
   index_new = ap (λ x. x.1) links_new
 
@@ -56,17 +56,17 @@ module _ (m : Nodes) (linked : IsLinked m.links m.counts m.firsts m.nexts) (q fi
       get_or_append_left (set m.counts q (get_or m.counts q 0 + 1)) (0 ∷ []) 0 q (omega (arith, length-set m.counts q (get_or m.counts q 0 + 1), linked.counts))
       ∙ get_or-set_same m.counts q (get_or m.counts q 0 + 1) 0 (omega (arith, linked.counts))
 
-  -- and none of other nodes
+  -- no child of another node than q was handed out
   pub counts_old : (i : ℕ) → (i ≡ q → ⊥) → i < length m.links → get_or (handed m q first before l ks o).counts i 0 ≡ get_or m.counts i 0
   counts_old i ne h =
       get_or_append_left (set m.counts q (get_or m.counts q 0 + 1)) (0 ∷ []) 0 i (omega (arith, length-set m.counts q (get_or m.counts q 0 + 1), linked.counts))
       ∙ get_or-set_other m.counts q i (get_or m.counts q 0 + 1) 0 ne
 
-  -- none of the new node
+  -- no child of the new node was handed out
   pub counts_new : get_or (handed m q first before l ks o).counts (length m.links) 0 ≡ 0
   counts_new = get_or_push (set m.counts q (get_or m.counts q 0 + 1)) 0 0 (length m.links) (omega (arith, length-set m.counts q (get_or m.counts q 0 + 1), linked.counts))
 
-  -- q's first child
+  -- the first child of q is the one that is given
   firsts_own : get_or (handed m q first before l ks o).firsts q 0 ≡ first
   firsts_own =
       get_or_append_left (set m.firsts q first) (0 ∷ []) 0 q (omega (arith, length-set m.firsts q first, linked.firsts))
@@ -87,11 +87,11 @@ module _ (m : Nodes) (linked : IsLinked m.links m.counts m.firsts m.nexts) (q fi
   nexts_old i ne h =
       get_or-set_other (m.nexts ++ 0 ∷ []) before i (length m.links) 0 ne ∙ get_or_append_left m.nexts (0 ∷ []) 0 i (omega (arith, linked.nexts))
 
-  -- there is one node more
+  -- after a node is handed out there is one node more
   pub longer : length (handed m q first before l ks o).links ≡ length m.links + 1
   longer = length_push m.links (q, get_or m.counts q 0)
 
-  -- earlier children stay
+  -- a child that was handed out before is a child still
   child_old : (p k c : ℕ) → IsChild m.links p k c → IsChild (handed m q first before l ks o).links p k c
   child_old p k c h = record {
     known = omega (arith, h.known, longer);
@@ -113,7 +113,7 @@ module _ (m : Nodes) (linked : IsLinked m.links m.counts m.firsts m.nexts) (q fi
   pub old_place : (i : ℕ) → i < length m.links → place (handed m q first before l ks o).links i ≡ place m.links i
   old_place i h = place-old m.links (q, get_or m.counts q 0) i h
 
-  -- the new node's place
+  -- the new node's place is below q's, at the index of its next child
   pub new_place : place (handed m q first before l ks o).links (length m.links) ≡ place m.links q ++ get_or m.counts q 0 ∷ []
   new_place = place-new m.links (q, get_or m.counts q 0) linked.some
 
@@ -136,12 +136,12 @@ module _ (m : Nodes) (linked : IsLinked m.links m.counts m.firsts m.nexts) (q fi
   module _ (no_first : get_or m.counts q 0 ≡ 0 → first ≡ length m.links) (a_first : 0 < get_or m.counts q 0 → first ≡ get_or m.firsts q 0)
       (no_before : get_or m.counts q 0 ≡ 0 → before ≡ length m.links)
       (a_before : 0 < get_or m.counts q 0 → IsChild m.links q (index m.links before) before × (index m.links before + 1 ≡ get_or m.counts q 0)) where
-    -- parents come first
+    -- with a node handed out, parents come before their children
     new_back : (i : ℕ) → 0 < i → (i < length m.links) ⊎ (i ≡ length m.links) → parent (handed m q first before l ks o).links i < i
     new_back i pos (inl h) = omega (arith, parent_old i h, linked.back i pos h)
     new_back i pos (inr e) = omega (arith, ap (parent (handed m q first before l ks o).links) e, parent_new, within)
 
-    -- no count falls
+    -- with a node handed out, no count of children falls
     count_of_old : (j : ℕ) → j < length m.links → get_or m.counts j 0 ≤ get_or (handed m q first before l ks o).counts j 0
     count_of_old j h = cases (cases_eq j q)
       where
@@ -217,7 +217,7 @@ module _ (m : Nodes) (linked : IsLinked m.links m.counts m.firsts m.nexts) (q fi
             let b = a_before (omega arith) in
             (ap (parent m.links) e ∙ b.0.parent, ap (λ k. index m.links k + 1) e ∙ b.1)
 
-    -- siblings are named rightly
+    -- after a node is handed out, each next sibling that was handed out is the one noted
     new_right : (i : ℕ) → 0 < i → (i < length m.links) ⊎ (i ≡ length m.links)
         → index (handed m q first before l ks o).links i + 1 < get_or (handed m q first before l ks o).counts (parent (handed m q first before l ks o).links i) 0
         → IsChild (handed m q first before l ks o).links (parent (handed m q first before l ks o).links i) (index (handed m q first before l ks o).links i + 1) (get_or (handed m q first before l ks o).nexts i 0)
@@ -255,7 +255,7 @@ module _ (m : Nodes) (linked : IsLinked m.links m.counts m.firsts m.nexts) (q fi
             kept (λ e. np (not_before i pos h e).0)
             (omega (arith, more', counts_old (parent m.links i) np (omega (arith, linked.back i pos h))))
 
-    -- places go by links
+    -- with a node handed out, the place of each node is below its parent's
     new_stands : (i : ℕ) → 0 < i → (i < length m.links) ⊎ (i ≡ length m.links)
         → place (handed m q first before l ks o).links i ≡ place (handed m q first before l ks o).links (parent (handed m q first before l ks o).links i) ++ index (handed m q first before l ks o).links i ∷ []
     new_stands i pos (inl h) =

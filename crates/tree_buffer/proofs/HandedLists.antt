@@ -28,7 +28,7 @@ module _ (m : Nodes) (linked : IsLinked m.links m.counts m.firsts m.nexts) (q fi
   rests_old e i ne h =
       get_or_append_left (set m.rests q o) (ks ∷ []) nil i (omega (arith, length-set m.rests q o, e)) ∙ get_or-set_other m.rests q i o nil ne
 
-  -- the new node's list
+  -- the new node's list is the one that is given
   rests_new : length m.rests ≡ length m.links → get_or (handed m q first before l ks o).rests (length m.links) nil ≡ ks
   rests_new e = get_or_push (set m.rests q o) ks nil (length m.links) (omega (arith, length-set m.rests q o, e))
 
@@ -36,7 +36,7 @@ module _ (m : Nodes) (linked : IsLinked m.links m.counts m.firsts m.nexts) (q fi
   labels_old : length m.labels ≡ length m.links → (i : ℕ) → i < length m.links → get_or (handed m q first before l ks o).labels i [] ≡ get_or m.labels i []
   labels_old e i h = get_or_append_left m.labels (l ∷ []) [] i (omega (arith, e))
 
-  -- the new node's label
+  -- the new node's label is the one that is given
   labels_new : length m.labels ≡ length m.links → get_or (handed m q first before l ks o).labels (length m.links) [] ≡ l
   labels_new e = get_or_push m.labels l [] (length m.links) e
 
@@ -68,7 +68,7 @@ module _ (m : Nodes) (linked : IsLinked m.links m.counts m.firsts m.nexts) (q fi
     cond-le true x = omega arith
     cond-le false x = omega arith
 
-    -- no children weigh more
+    -- with a node handed out, no node's children weigh more
     new_lighter : (i k : ℕ) → i < length m.links → weight_from (weight_of w) (handed m q first before l ks o) i k ≤ weight_from (weight_of w) m i k
     new_lighter i k h = cases (cases_eq i q)
       where
@@ -106,7 +106,7 @@ module _ (m : Nodes) (linked : IsLinked m.links m.counts m.firsts m.nexts) (q fi
         not_empty : node l ks o ≡ nil → ⊥
         not_empty e = cc
 
-    -- the nodes go on
+    -- with a node handed out, the nodes go on
     pub moved_handed : Moved (weight_of w) m (weight_of w) (handed m q first before l ks o)
     moved_handed = record {
       more = omega (arith, (longer m linked q first before l ks o within));
@@ -160,6 +160,6 @@ module _ (m : Nodes) (linked : IsLinked m.links m.counts m.firsts m.nexts) (q fi
           stands = λ told i h. new_labels told i (split i (length m.links) (omega (arith, (longer m linked q first before l ks o within))));
         }
 
--- the first label stays
+-- with one more label the first label is as it was
 pub labels_prefix : (m : Nodes) (l : List ℕ) → 0 < length m.labels → get_or m.labels 0 [] ≡ [] → get_or (m.labels ++ l ∷ []) 0 [] ≡ []
 labels_prefix m l some e = get_or_append_left m.labels (l ∷ []) [] 0 some ∙ e

@@ -22,14 +22,14 @@ held-le w w' p k (r ∷ rs) (o ∷ os) (o' ∷ os') e le =
     cases true x y h = omega arith
     cases false x y h = omega arith
 
--- one node more
+-- with one node more, what is held below a place is what was held, and the new one's weight where it is below
 pub held-push : (w : Open → ℕ) (p : List ℕ) (k : ℕ) (rs : List (List ℕ)) (os : List Open) (r : List ℕ) (o : Open) → length os ≡ length rs → held w p k (rs ++ r ∷ []) (os ++ o ∷ []) ≡ held w p k rs os + cond (in_from p k r) (1 + w o) 0
 held-push w p k [] [] r o e = omega arith
 held-push w p k [] (x ∷ os) r o e = absurd (omega arith)
 held-push w p k (q ∷ rs) [] r o e = absurd (omega arith)
 held-push w p k (q ∷ rs) (x ∷ os) r o e = omega (arith, held-push w p k rs os r o (omega arith))
 
--- one list weighs d less
+-- where one list weighs d less, what is held below a place weighs d less where that one is below
 pub held-set : (w : Open → ℕ) (p : List ℕ) (k : ℕ) (rs : List (List ℕ)) (os : List Open) (i : ℕ) (o : Open) (d : ℕ) → length os ≡ length rs → i < length os → w o + d ≤ w (get_or os i nil)
     → held w p k rs (set os i o) + cond (in_from p k (get_or rs i [])) d 0 ≤ held w p k rs os
 held-set w p k [] os i o d e within le = absurd (omega arith)
@@ -116,7 +116,7 @@ in_from-nil : (p : List ℕ) (k : ℕ) → in_from p k [] ≡ false
 in_from-nil [] k = refl
 in_from-nil (x ∷ p) k = refl
 
--- with what is false nothing is true
+-- false together with any truth value is false
 and_false : (b : Bool) → (b && false) ≡ false
 and_false true = refl
 and_false false = refl
@@ -162,7 +162,7 @@ held-below w p [] os = omega arith
 held-below w p (r ∷ rs) [] = omega arith
 held-below w p (r ∷ rs) (o ∷ os) = omega (arith, held-below w p rs os, in_from-top p r (1 + w o))
 
--- and so is the place itself
+-- what is at and below a place weighs at most what lies below the document node
 pub held-top : (w : Open → ℕ) (k : ℕ) (p : List ℕ) (rs : List (List ℕ)) (os : List Open) (c : ℕ) → length os ≡ length rs → c < length rs → get_or rs c [] ≡ k ∷ p
     → 1 + w (get_or os c nil) + held w (k ∷ p) 0 rs os ≤ held w [] 0 rs os
 held-top w k p [] os c e within is = absurd (omega arith)

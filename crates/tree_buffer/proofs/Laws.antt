@@ -23,7 +23,7 @@ goes_same v b = record {
   siblings = λ x spot all. all;
 }
 
--- a buffer goes on, and on
+-- a buffer that goes on and goes on again goes on from the first to the last
 goes_twice : {a b c : View} {x y z : Buffer} → Goes a x b y → Goes b y c z → Goes a x c z
 goes_twice first second = record {
   number = second.number ∙ first.number;
@@ -41,7 +41,7 @@ goes_twice first second = record {
 }
 
 module _ {S : Type 0} {view : S → View} {came_from : S → S → Type 0} where
-  -- what no call leaves
+  -- where no call was made, what calls leave is left
   pub ran_same : ((a : S) → came_from a a) → (s : S) (b : Buffer) → IsSourcesOf (view s) b → Ran view came_from s b s b
   ran_same same s b sources = record {
     came = same s;
@@ -50,7 +50,7 @@ module _ {S : Type 0} {view : S → View} {came_from : S → S → Type 0} where
     others = λ c of. record { sources = of; goes = goes_same (view s) c };
   }
 
-  -- what two calls leave
+  -- what two calls leave one after another is what calls leave
   pub ran_twice : ((a b c : S) → came_from a b → came_from b c → came_from a c) → {s t u : S} {a b c : Buffer}
       → Ran view came_from s a t b → Ran view came_from t b u c → Ran view came_from s a u c
   ran_twice after {s} {t} {u} first second = record {

@@ -3,7 +3,7 @@ use Rattle.std.proofs.Common.{◌≡◌, ℕ, ◌+◌, ◌<◌, List, [], ◌∷
 use Rattle.std.proofs.lemmas.List.{get_or_append_left, get_or_push}
 use Rattle.tree_buffer.specs.Nodes.{place_after, grown, places, place}
 
--- links one after another
+-- the places of links in two parts are grown by one part after the other
 grown-append : (ps : List (List ℕ)) (a b : List (ℕ × ℕ)) → grown ps (a ++ b) ≡ grown (grown ps a) b
 grown-append ps [] b = refl
 grown-append ps (l ∷ a) b = grown-append (ps ++ place_after ps l ∷ []) a b
@@ -13,7 +13,7 @@ length-grown : (ps : List (List ℕ)) (ls : List (ℕ × ℕ)) → length (grown
 length-grown ps [] = omega arith
 length-grown ps (l ∷ ls) = omega (arith, length-grown (ps ++ place_after ps l ∷ []) ls, length-append ps (place_after ps l ∷ []))
 
--- there is a place for each node
+-- there is a place for each link
 pub length-places : (ls : List (ℕ × ℕ)) → length (places ls) ≡ length ls
 length-places ls = omega (arith, length-grown [] ls)
 
@@ -22,7 +22,7 @@ after_some : (ps : List (List ℕ)) (l : ℕ × ℕ) → 0 < length ps → place
 after_some [] l some = absurd (omega arith)
 after_some (p ∷ ps) l some = refl
 
--- one node more
+-- the places with one node more are those before and the new node's below its parent's
 pub places-push : (ls : List (ℕ × ℕ)) (l : ℕ × ℕ) → 0 < length ls → places (ls ++ l ∷ []) ≡ places ls ++ (place ls l.0 ++ l.1 ∷ []) ∷ []
 places-push ls l some = grown-append [] ls (l ∷ []) ∙ ap (λ p. places ls ++ p ∷ []) (after_some (places ls) l (omega (arith, length-places ls)))
 

@@ -20,7 +20,7 @@ set_relates R (x ∷ os) (suc q) o at all (suc i) = set_relates R os q o at (λ 
 
 module _ (v v' : View) (n : ℕ) (m : Nodes) (os : List Open) (s : Sourced v n m) (keeps : Keeps v v')
     (e : length os ≡ length m.rests) (refined : (i : ℕ) → IsRefined v v' n (get_or m.rests i nil) (get_or os i nil)) where
-  -- the nodes go on
+  -- where the lists are refined, the nodes go on
   pub moved_again : Moved (weight_of (v.weight n)) m (weight_of (v'.weight n)) (record m { rests = os })
   moved_again = record {
     more = omega arith;
@@ -40,7 +40,7 @@ module _ (v v' : View) (n : ℕ) (m : Nodes) (os : List Open) (s : Sourced v n m
   pub same_document : document v' n ≡ document v n
   same_document = ap (v'.forest n) (keeps.root n) ∙ keeps.forest n (v.root n) s.root
 
-  -- and so does its document node
+  -- the document node of a source is the same after a call
   same_node : document_node v' n ≡ document_node v n
   same_node = ap (λ f. tree [] f none) same_document
 
@@ -67,11 +67,11 @@ module _ (v v' : View) (n : ℕ) (m : Nodes) (os : List Open) (s : Sourced v n m
 pub all_stay : (v v' : View) (n : ℕ) (m : Nodes) → Sourced v n m → Keeps v v' → (i : ℕ) → IsRefined v v' n (get_or m.rests i nil) (get_or m.rests i nil)
 all_stay v v' n m s keeps i = stays v v' n (get_or m.rests i nil) keeps (s.known i) (s.apart i)
 
--- one list after fills
+-- where one list is refined by fills, each list is refined to what is there after them
 pub one_refined : (v v' : View) (n : ℕ) (m : Nodes) (q : ℕ) (o : Open) → Sourced v n m → Keeps v v' → IsRefined v v' n (get_or m.rests q nil) o → (i : ℕ) → IsRefined v v' n (get_or m.rests i nil) (get_or (set m.rests q o) i nil)
 one_refined v v' n m q o s keeps at = set_relates (IsRefined v v' n) m.rests q o at (all_stay v v' n m s keeps)
 
--- nodes that nothing touched
+-- nodes that nothing touched have moved to themselves
 pub moved_same : (w : Open → ℕ) (m : Nodes) → Moved w m w m
 moved_same w m = record {
   more = omega arith;
@@ -82,7 +82,7 @@ moved_same w m = record {
   whole = λ i within e. e;
 }
 
--- one step after the other
+-- nodes that go on and go on again go on from the first to the last
 pub moved_twice : (w x y : Open → ℕ) (m n o : Nodes) → Moved w m x n → Moved x n y o → Moved w m y o
 moved_twice w x y m n o a b = record {
   more = omega (arith, a.more, b.more);

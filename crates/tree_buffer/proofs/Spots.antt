@@ -19,12 +19,12 @@ use Rattle.tree_buffer.proofs.Entries.{length-links}
 use Rattle.tree_buffer.proofs.Held.{held-child, held-top}
 use Rattle.tree_buffer.proofs.Places.{length-places}
 
--- from what an answer is, whether it is one
+-- whether an option is some is told by what it has to be in either case
 pub is_some_from : {X : Type 0} (r : Option X) (P : Type 0) (Q : X → Type 0) (b : Bool) → MatchOption r P Q → (P → b ≡ false) → ((x : X) → Q x → b ≡ true) → is_some r ≡ b
 is_some_from None P Q b h f g = sym (f h)
 is_some_from (Some x) P Q b h f g = sym (g x h)
 
--- from what an answer is, what holds of it where it is one
+-- what follows from what an option's value has to be holds of the value
 pub if_some_from : {X : Type 0} (r : Option X) (P : Type 0) (Q R : X → Type 0) → MatchOption r P Q → ((x : X) → Q x → R x) → IfSome r R
 if_some_from None P Q R h f = tt
 if_some_from (Some x) P Q R h f = f x h
@@ -38,7 +38,7 @@ pub after_some : (w : Open → ℕ) (m : Nodes) (c : ℕ) → 0 < c → after_no
 after_some w m c h = ap (λ b. if b then 0 else weight_from w m (parent m.links c) (index m.links c + 1)) (not_first c h)
 
 module _ (m : Nodes) (linked : IsLinked m.links m.counts m.firsts m.nexts) where
-  -- the place of a child
+  -- the place of a child is below its parent's, at its index
   pub child_place : (q k c : ℕ) → IsChild m.links q k c → place m.links c ≡ place m.links q ++ k ∷ []
   child_place q k c h =
       linked.stands c h.after h.known ∙ ap (λ i. place m.links i ++ index m.links c ∷ []) h.parent ∙ ap (λ i. place m.links q ++ i ∷ []) h.index
@@ -88,7 +88,7 @@ first_child es p e linked within read some =
     subst (IsChild (nodes es).links p 0) (column (λ (e : Entry). e.first) es p e 0 inside read)
     (linked.down p within (omega (arith, some, column (λ (e : Entry). e.count) es p e 0 inside read)))
 
--- an entry's link
+-- the parent and the index in the link of a node are those of its entry
 pub link_read : (es : List Entry) (p : ℕ) (e : Entry) → p < length (nodes es).links → e ≡ get_or es p e → (parent (nodes es).links p ≡ e.parent) × (index (nodes es).links p ≡ e.index)
 link_read es p e within read =
     let inside : p < length es = omega (arith, within, length-links es) in
@@ -128,7 +128,7 @@ module _ (es : List Entry) (p : ℕ) (e : Entry) (linked : AreLinked es) (some :
       let l = link_read es p e within read in
       linked.stands p some within ∙ ap (λ q. place (nodes es).links q ++ index (nodes es).links p ∷ []) l.0 ∙ ap (λ k. place (nodes es).links e.parent ++ k ∷ []) l.1
 
-  -- the next sibling's place is below its parent's too
+  -- the place of the node's next sibling is its parent's place and then the node's index and one
   pub next_is : next_place (place (nodes es).links p) ≡ Some (place (nodes es).links e.parent ++ (e.index + 1) ∷ [])
   next_is = ap next_place own_place ∙ next_place-push (place (nodes es).links e.parent) e.index
 

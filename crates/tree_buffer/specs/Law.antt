@@ -5,11 +5,11 @@ use Rattle.tree_buffer.specs.declared.buffer.Buffer.{Buffer}
 use Rattle.tree_buffer.specs.declared.spot.Spot.{Spot}
 use Rattle.tree_buffer.specs.Buffer.{IsSpot, place_of, IsSourcesOf, IsKept, Ran}
 
--- what a call leaves of sources and a buffer holds too where there is no call
+-- sources and a buffer that stay as they are count as left by a call
 abbrev pub RanSame : {S : Type 0} → (S → View) → (S → S → Type 0) → Type 0
 RanSame {S} view came_from = (s : S) (b : Buffer) → IsSourcesOf (view s) b → Ran view came_from s b s b
 
--- what a call leaves of sources and a buffer is left by two calls, one after the other, too
+-- sources and a buffer that two calls leave, one after the other, count as left by one call
 abbrev pub RanTwice : {S : Type 0} → (S → View) → (S → S → Type 0) → Type 0
 RanTwice {S} view came_from = (s t u : S) (a b c : Buffer) → Ran view came_from s a t b → Ran view came_from t b u c → Ran view came_from s a u c
 

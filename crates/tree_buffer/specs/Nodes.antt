@@ -10,7 +10,7 @@ pub record Nodes : Type 0 where
   -- how many of its children were handed out, and the first of them
   pub counts : List ℕ
   pub firsts : List ℕ
-  -- its next sibling, where it was handed out
+  -- each node's next sibling, where it was handed out
   pub nexts : List ℕ
   pub labels : List (List ℕ)
   -- the list of its other children

@@ -16,11 +16,11 @@ pub record AreShapesTo (sources : List SourceSpec) (n : ℕ) (shapes : List Shap
   pub count : length shapes ≡ n
   pub each : (s : ℕ) → s < n → shapes_of shapes s ≡ layout_in sources s
 
--- there are none yet
+-- the empty list holds the shapes of the first 0 sources
 pub no_shapes : (sources : List SourceSpec) → AreShapesTo sources 0 []
 no_shapes sources = record { count = refl; each = λ s h. absurd (omega (arith, h)) }
 
--- one more
+-- the shapes of the first sources, with that of the next source, are those of one source more
 pub one_shape_more : (sources : List SourceSpec) (n : ℕ) (shapes : List Shape) (spec : SourceSpec) (shape : Shape) → AreShapesTo sources n shapes → slice_get sources n ≡ Some spec
     → shape_layout shape ≡ spec_layout spec → AreShapesTo sources (n + 1) (shapes ++ shape ∷ [])
 one_shape_more sources n shapes spec shape h there new = record {
@@ -52,7 +52,7 @@ none_past sources s h =
       | inr past ↦ past.1
     ]
 
--- all of them
+-- the shapes of all sources tell the layout of each source
 pub all_shapes : (sources : List SourceSpec) (n : ℕ) (shapes : List Shape) → n ≡ length sources → AreShapesTo sources n shapes → shapes_of shapes ≡ layout_in sources
 all_shapes sources n shapes e h = fun_ext at
   where

@@ -100,7 +100,7 @@ numbered_reads s (both l r tests) i =
     ∙ ap (λ b. b || tree_reads s r) (numbered_reads s l i)
 numbered_reads s (above t op) i = last_reads s (numbered i t) (over (i + under t) op) refl ∙ numbered_reads s t i
 
--- so do the operators of a plan that ends with a tree's last one
+-- the operators of a plan that ends with a tree's last one read what the tree reads
 ended_reads : (s : ℕ) (t : Tree) (v : ℕ) → reads_source (ended t v) s ≡ tree_reads s t
 ended_reads s t v = last_reads s (numbered 0 t) (tuple_destroy (under t) v) refl ∙ numbered_reads s t 0
 

@@ -16,7 +16,7 @@ AreValues [] values = Unit {0}
 AreValues (c ∷ cs) [] = ⊥
 AreValues (c ∷ cs) (v ∷ vs) = (c.never_null ≡ true → IsSome (label_of v)) × AreValues cs vs
 
--- so it is in each of these rows
+-- each of these rows has a value for each column, and none is NULL where the column is never NULL
 abbrev pub AreRows : List Column → List Row → Type 0
 AreRows columns rows = All (λ (r : Row). AreValues columns r.values) rows
 
@@ -25,7 +25,7 @@ abbrev pub FilesAreLaid : Type 0
 FilesAreLaid = (name : List ℕ) (columns : List (List ℕ)) (rows : List (List (List ℕ))) → All (IsRow (length columns)) rows
     → IsLaid (rows_layout name (map field_column columns)) (alone (file_tree name columns rows))
 
--- so is that of a table
+-- the document of a table is laid out as its columns say
 abbrev pub TablesAreLaid : Type 0
 TablesAreLaid = (name : List ℕ) (columns : List Column) (rows : List Row) → AreRows columns rows
     → IsLaid (rows_layout name (map declared_column columns)) (alone (table_tree name columns rows))

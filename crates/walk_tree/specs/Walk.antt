@@ -30,6 +30,6 @@ labels_at v b p = first_labels (trees_at (document_node v (number_of b)) (place_
 abbrev pub AsksTwo : View → Buffer → View → List (List ℕ) → List (List ℕ) → Type 0
 AsksTwo v b v' before after = v.forward (number_of b) ≡ true → v'.fills + 2 * length before ≤ v.fills + 2 * length after
 
--- and one less in all
+-- a forward source was asked at most two fills for each label that was put after those before, and one less in all
 abbrev pub AsksOneLess : View → Buffer → View → List (List ℕ) → List (List ℕ) → Type 0
 AsksOneLess v b v' before after = v.forward (number_of b) ≡ true → v'.fills + 2 * length before + 1 ≤ v.fills + 2 * length after

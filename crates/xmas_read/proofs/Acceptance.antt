@@ -21,12 +21,12 @@ use Rattle.xmas_read.proofs.Bodies.{conds_bound, all_bound, conds_compared, orde
 use Rattle.xmas_read.proofs.Limits.{conds_sourced, conds_few}
 use Rattle.xmas_read.proofs.NamePlaces.{among_themselves}
 
--- there is no place
+-- where no refusal comes of some places and others, there are no such places, and none of the others
 pub no_place : (f : ℕ → XmasFault) (places : List ℕ) (os : List (Option XmasFault)) → first_of (first_place f places ∷ os) ≡ None → (places ≡ []) × (first_of os ≡ None)
 no_place f [] os h = (refl, h)
 no_place f (at ∷ places) os h = cc
 
--- there is no first refusal among two lists
+-- where two lists together have no first refusal, neither of them has one
 pub both_pass : (xs ys : List (Option XmasFault)) → first_of (xs ++ ys) ≡ None → (first_of xs ≡ None) × (first_of ys ≡ None)
 both_pass [] ys h = (refl, h)
 both_pass (None ∷ xs) ys h = both_pass xs ys h
@@ -49,7 +49,7 @@ no_keys names (Some g) h = by g.keys (unless_none (nat_lt (length g.keys) 1) g.a
     by [] e = refl
     by (k ∷ ks) e = absurd (grind (arith, nat_tests))
 
--- more than some is some
+-- a list that has members has some with others after them
 grows : {X : Type 0} (xs ys : List X) → 0 < length xs → 0 < length (xs ++ ys)
 grows xs ys h = omega (arith, h, length-append xs ys)
 
@@ -58,7 +58,7 @@ conds_some : (at : ℕ) (cs : Conds) → 0 < length (conds_at at cs)
 conds_some at (one g c) = omega arith
 conds_some at (also cs g h c) = grows (conds_at at cs) (cond_at (at + length (conds_text cs) + length g + 3 + length h) c ∷ []) (conds_some at cs)
 
--- so has the tree of a text
+-- the tree of a text has a condition
 pub tree_conds : (x : List ℕ) (t : Tree) → SpellsWithin x (form_of_tree t) → 0 < length t.conds
 tree_conds x t w = subst (λ (f : RuleForm). 0 < length f.conds) w.tree (conds_some (conds_place w.written) w.written.conds)
 

@@ -21,7 +21,7 @@ use Rattle.xmas_read.proofs.Naming.{bytes_sym}
 use Rattle.xmas_read.proofs.NamePlaces.{neither, place_small, has_place_of, name_more, among_themselves, AreDifferent, all_places, places_small}
 use Rattle.xmas_read.proofs.Templates.{both_none, unless_none}
 
--- a truth turned round
+-- a boolean whose negation is true is false
 not_true : (b : Bool) → not b ≡ true → b ≡ false
 not_true true h = cc
 not_true false h = refl
@@ -92,7 +92,7 @@ bound_apart earlier (condition.FromSource at source path var ∷ conds) a = one_
 bound_apart earlier (condition.FromVar start path var ∷ conds) a = one_apart earlier var conds a (bound_apart (earlier ++ var.name ∷ []) conds (both_none (unless (not (has_name earlier var.name)) var.at) (bound_again (earlier ++ var.name ∷ []) conds) a).1)
 bound_apart earlier (condition.Compare left op right ∷ conds) a = bound_apart earlier conds a
 
--- a variable that is bound
+-- a variable that is bound is one of the rule's, and those after it are bound
 var_below : (names : List (List ℕ)) (v : VarText) (vs : List VarText) → unbound_vars names (v ∷ vs) ≡ [] → (place_in names v.name < length names) × (unbound_vars names vs ≡ [])
 var_below names v vs h =
     let p = both_none (unless (has_name names v.name) v.at) (unbound_vars names vs) h in (place_small names v.name (unless_none (has_name names v.name) v.at p.0), p.1)

@@ -31,7 +31,7 @@ use Rattle.xmas_read.proofs.CleanUtf8.{rule_utf8}
 use Rattle.xmas_read.proofs.Unrefused.{Unrefused, any_none, unrefused, none_refused}
 use Rattle.xmas_read.proofs.CleanTree.{Parts, template_of, clean_parts, inside_at, group_place, element_at, tree_at, Known, names_known, value_same, clean_unrefused}
 
--- a written rule of parts
+-- the written rule of parts, with blanks at its ends and before WHERE
 abbrev rule_in : List ℕ → Parts → List ℕ → List ℕ → Rule
 rule_in lead p gap tail = record { lead = lead; template = template_of p; gap = gap; conds = p.conds; order = p.order; tail = tail }
 
@@ -39,7 +39,7 @@ rule_in lead p gap tail = record { lead = lead; template = template_of p; gap = 
 abbrev clean_in : Parts → Rule
 clean_in p = rule_in [] (clean_parts p) (32 ∷ []) []
 
--- its text is the canonical text of the value
+-- the text of the canonical form of parts is the canonical text of the value of their tree
 rule_written :
     (sources : List (List ℕ)) (n m k : ℕ) (p : Parts) → AreItems p.inside → IsGroup p.group → KeptConds p.conds → Known sources m k p
     → rule_text (clean_in p) ≡ canonical sources (rule_value sources (tree_at n m k p))
@@ -97,7 +97,7 @@ again_of sources lead gap tail p n m k w u l h =
       ),
     )
 
--- a tree of its parts
+-- the tree with this template, these conditions and this order
 abbrev pub tree_by : ElementForm → List CondText → Option OrderText → Tree
 tree_by e cs o = record { template = e; conds = cs; order = o }
 
@@ -114,7 +114,7 @@ tree_is n m k p t f h a b c =
     ap (λ (e : ElementForm). tree_by e (conds_at m p.conds) (order_at k p.order)) e ∙ ap (λ (cs : List CondText). tree_by t.template cs (order_at k p.order)) cs
     ∙ ap (λ (o : Option OrderText). tree_by t.template t.conds o) o
 
--- by the template
+-- a rule that comes of a text comes of its canonical text, by the template of the written rule
 by_template :
     (sources : List (List ℕ)) (t : Tree) (v : RuleValue) (lead : List ℕ) (xs : Items) (gap : List ℕ) (cs : Conds) (o : Order) (tail : List ℕ)
     → IsRule (record { lead = lead; template = xs; gap = gap; conds = cs; order = o; tail = tail })

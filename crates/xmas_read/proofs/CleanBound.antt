@@ -25,7 +25,7 @@ use Rattle.xmas_read.proofs.CleanNames.{bound_one}
 use Rattle.xmas_read.proofs.NamePlaces.{AreDifferent, among_more, among_themselves}
 use Rattle.xmas_read.proofs.Templates.{both_none, unless_none}
 
--- those of a list that pass are no more than the list has
+-- the members of a list that pass a test are no more than the list has
 filter_few : {X : Type 0} (p : X → Bool) (xs : List X) → length (filter p xs) ≤ length xs
 filter_few p [] = omega arith
 filter_few {X} p (x ∷ xs) =
@@ -77,12 +77,12 @@ no_more (x ∷ xs) ys d h =
     let s = others_fewer x ys h.0 in
     omega (arith, r, s)
 
--- what a negation says
+-- a boolean whose negation is true is false
 not_so : (b : Bool) → not b ≡ true → b ≡ false
 not_so true h = cc
 not_so false h = refl
 
--- those of different names that pass are different
+-- the names that pass a test are different, where all names are
 different_filter : (p : List ℕ → Bool) (xs : List (List ℕ)) → AreDifferent xs → AreDifferent (filter p xs)
 different_filter p [] h = tt
 different_filter p (x ∷ xs) h =
@@ -91,7 +91,7 @@ different_filter p (x ∷ xs) h =
       | false ↦ different_filter p xs h.1
     ]
 
--- first names are different
+-- the first occurrences of names in a list are different names
 pub firsts_different : (xs : List (List ℕ)) → AreDifferent (firsts bytes_eq xs)
 firsts_different [] = tt
 firsts_different (x ∷ xs) = (
@@ -113,7 +113,7 @@ pub has_left : (xs ys : List (List ℕ)) (n : List ℕ) → has_name xs n ≡ tr
 has_left [] ys n h = cc
 has_left (x ∷ xs) ys n h = elim (bytes_eq x n) as (λ w. (w || has_name xs n) ≡ true → (w || has_name (xs ++ ys) n) ≡ true) [ true ↦ λ k. refl | false ↦ λ k. has_left xs ys n k ] h
 
--- and with others before them
+-- a name is among names with others before them
 pub has_right : (xs ys : List (List ℕ)) (n : List ℕ) → has_name ys n ≡ true → has_name (xs ++ ys) n ≡ true
 has_right [] ys n h = h
 has_right (x ∷ xs) ys n h = among_more (xs ++ ys) x n (has_right xs ys n h)
@@ -122,7 +122,7 @@ has_right (x ∷ xs) ys n h = among_more (xs ++ ys) x n (has_right xs ys n h)
 abbrev pub var_names : List VarText → List (List ℕ)
 var_names vs = map (λ v. v.name) vs
 
--- the names of two lists
+-- the names of the variables of two lists are those of the first and those of the second
 pub names_both : (vs ws : List VarText) → var_names (vs ++ ws) ≡ var_names vs ++ var_names ws
 names_both [] ws = refl
 names_both (v ∷ vs) ws = ap (λ (r : List (List ℕ)). v.name ∷ r) (names_both vs ws)
@@ -159,7 +159,7 @@ pub bound_are_known : (names : List (List ℕ)) (vs : List VarText) → unbound_
 bound_are_known names [] h = tt
 bound_are_known names (v ∷ vs) h = let p = bound_one names v vs h in (p.0, bound_are_known names vs p.1)
 
--- all of two lists
+-- what holds of all members of two lists holds of all members of both together
 pub all_both : {X : Type 0} (P : X → Type 0) (xs ys : List X) → AllByRecursion P xs → AllByRecursion P ys → AllByRecursion P (xs ++ ys)
 all_both P [] ys h k = k
 all_both P (x ∷ xs) ys h k = (h.0, all_both P xs ys h.1 k)
@@ -207,7 +207,7 @@ order_same names n m unordered = refl
 order_same names n m (ordered g h i v) = refl
 order_same names n m (descending g h i v j) = refl
 
--- so are the names of its variables
+-- the names of an order's variables are the same in the canonical form
 pub order_names : (n m : ℕ) (o : Order) → var_names (order_vars (order_at n (clean_order o))) ≡ var_names (order_vars (order_at m o))
 order_names n m unordered = refl
 order_names n m (ordered g h i v) = refl
@@ -218,7 +218,7 @@ pub same_names_bound : (names : List (List ℕ)) (vs : List VarText) → AllByRe
 same_names_bound names [] h = refl
 same_names_bound names (v ∷ vs) h = ap (λ b. unless b v.at ++ unbound_vars names vs) h.0 ∙ same_names_bound names vs h.1
 
--- the text of an order
+-- the canonical form of an order is written as the canonical text of its value
 pub order_written : (names : List (List ℕ)) (n : ℕ) (o : Order) → unbound_vars names (order_vars (order_at n o)) ≡ [] → written.order_text (clean_order o) ≡ order_text names (order_value names (order_at n o))
 order_written names n unordered h = refl
 order_written names n (ordered g b i v) h =

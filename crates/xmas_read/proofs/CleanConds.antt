@@ -55,7 +55,7 @@ cond_same n m (walk start g p h v) k = ap (λ f. condition.FromVar (record { at 
 cond_same n m (compare v g o h (a_variable w)) k = refl
 cond_same n m (compare v g o h (a_text ps)) k = ap (λ l. condition.Compare (record { at = 0; name = v }) o (operand.Text l)) (quoted_pieces (meaning ps)).3
 
--- so are conditions
+-- conditions of the canonical form are the same but for places
 pub conds_same : (n m : ℕ) (cs : Conds) → KeptConds cs → map unplaced (conds_at n (clean_conds cs)) ≡ map unplaced (conds_at m cs)
 conds_same n m (one g c) k = ap (λ (r : CondText). r ∷ []) (cond_same (n + 1) (m + length g) c k)
 conds_same n m (also cs g h c) k =
@@ -66,13 +66,13 @@ conds_same n m (also cs g h c) k =
     ∙ ap (λ (r : CondText). map unplaced (conds_at m cs) ++ r ∷ []) (cond_same at from c k.1)
     ∙ sym (map_push unplaced (conds_at m cs) (cond_at from c))
 
--- conditions remain conditions
+-- a condition of the grammar remains one with single blanks
 cond_is : (c : Cond) → IsCond c → KeptCond c → IsCond (clean_cond c)
 cond_is (source name g p h v) w k = (w.0, refl, k.is, refl, w.4)
 cond_is (walk start g p h v) w k = (w.0, refl, k.is, refl, w.4)
 cond_is (compare v g o h a) w k = (w.0, refl, refl, clean_is_operand a w.3)
 
--- all of them
+-- conditions of the grammar remain such in their canonical form
 pub conds_are : (cs : Conds) → AreConds cs → KeptConds cs → AreConds (clean_conds cs)
 conds_are (one g c) w k = (refl, cond_is c w.1 k)
 conds_are (also cs g h c) w k = (conds_are cs w.0 k.0, refl, refl, cond_is c w.3 k.1)
@@ -91,21 +91,21 @@ value_unplaced sources names (condition.FromVar start path var) = refl
 value_unplaced sources names (condition.Compare left op (operand.Var v)) = refl
 value_unplaced sources names (condition.Compare left op (operand.Text l)) = refl
 
--- the values are
+-- the values of conditions are the same without places
 pub values_unplaced : (sources names : List (List ℕ)) (cs : List CondText) → map (cond_value sources names) (map unplaced cs) ≡ map (cond_value sources names) cs
 values_unplaced sources names [] = refl
 values_unplaced sources names (c ∷ cs) =
     ap (λ (r : List ValueCond). cond_value sources names (unplaced c) ∷ r) (values_unplaced sources names cs)
     ∙ ap (λ (v : ValueCond). v ∷ map (cond_value sources names) cs) (value_unplaced sources names c)
 
--- the paths are
+-- whether the path of a condition passes a test is the same without places
 pub paths_unplaced : (test : Result Form PathLimit → Bool) (cs : List CondText) → list_any (has_path test) (map unplaced cs) ≡ list_any (has_path test) cs
 paths_unplaced test [] = refl
 paths_unplaced test (condition.FromSource at from path var ∷ cs) = ap (λ b. test path || b) (paths_unplaced test cs)
 paths_unplaced test (condition.FromVar start path var ∷ cs) = ap (λ b. test path || b) (paths_unplaced test cs)
 paths_unplaced test (condition.Compare left op right ∷ cs) = ap (λ b. false || b) (paths_unplaced test cs)
 
--- as many as there are
+-- conditions without places are as many as with them
 pub length_unplaced : (cs : List CondText) → length (map unplaced cs) ≡ length cs
 length_unplaced [] = refl
 length_unplaced (c ∷ cs) = ap (λ n. suc n) (length_unplaced cs)
@@ -115,26 +115,26 @@ test_before : (b : Bool) (n : ℕ) (xs ys : List ℕ) → counted xs ≡ ys → 
 test_before true n xs ys h = h
 test_before false n xs ys h = ap (λ (r : List ℕ). 0 ∷ r) h
 
--- as many sources that there are not
+-- the sources that there are not are as many without places
 pub unknown_unplaced : (sources : List (List ℕ)) (cs : List CondText) → counted (unknown_sources sources cs) ≡ unknown_sources sources (map unplaced cs)
 unknown_unplaced sources [] = refl
 unknown_unplaced sources (condition.FromSource at from path var ∷ cs) = test_before (has_name sources from) at _ _ (unknown_unplaced sources cs)
 unknown_unplaced sources (condition.FromVar start path var ∷ cs) = unknown_unplaced sources cs
 unknown_unplaced sources (condition.Compare left op right ∷ cs) = unknown_unplaced sources cs
 
--- as many variables that are bound again
+-- the variables that are bound again are as many without places
 pub again_unplaced : (earlier : List (List ℕ)) (cs : List CondText) → counted (bound_again earlier cs) ≡ bound_again earlier (map unplaced cs)
 again_unplaced earlier [] = refl
 again_unplaced earlier (condition.FromSource at from path var ∷ cs) = test_before (not (has_name earlier var.name)) var.at _ _ (again_unplaced (earlier ++ var.name ∷ []) cs)
 again_unplaced earlier (condition.FromVar start path var ∷ cs) = test_before (not (has_name earlier var.name)) var.at _ _ (again_unplaced (earlier ++ var.name ∷ []) cs)
 again_unplaced earlier (condition.Compare left op right ∷ cs) = again_unplaced earlier cs
 
--- as many of a comparison that aren't bound
+-- the unbound variables of a comparison are as many without places
 compared_unplaced : (names : List (List ℕ)) (left : VarText) (right : OperandText) → counted (unbound_vars names (left ∷ operand_vars right)) ≡ unbound_vars names (unplaced_var left ∷ operand_vars (unplaced_operand right))
 compared_unplaced names left (operand.Var v) = test_before (has_name names left.name) left.at _ _ (test_before (has_name names v.name) v.at [] [] refl)
 compared_unplaced names left (operand.Text l) = test_before (has_name names left.name) left.at [] [] refl
 
--- as many variables that aren't bound
+-- the unbound variables of conditions are as many without places
 pub unbound_unplaced : (names earlier : List (List ℕ)) (cs : List CondText) → counted (unbound_in names earlier cs) ≡ unbound_in names earlier (map unplaced cs)
 unbound_unplaced names earlier [] = refl
 unbound_unplaced names earlier (condition.FromSource at from path var ∷ cs) = unbound_unplaced names (earlier ++ var.name ∷ []) cs
@@ -155,7 +155,7 @@ KnownCond sources names (condition.FromSource at from path var) = (has_name sour
 KnownCond sources names (condition.FromVar start path var) = (has_name names start.name ≡ true) × (has_name names var.name ≡ true)
 KnownCond sources names (condition.Compare left op right) = (has_name names left.name ≡ true) × KnownOperand names right
 
--- a comparison's sign
+-- the text of a comparison's sign is that of what the comparison asks
 op_written : (o : Comparison) → op_text o ≡ op_sign (op_value o)
 op_written comparison.Eq = refl
 op_written comparison.Ne = refl
@@ -164,7 +164,7 @@ op_written comparison.Le = refl
 op_written comparison.Gt = refl
 op_written comparison.Ge = refl
 
--- the text of a condition
+-- the canonical form of a condition is written as the canonical text of its value
 cond_written :
     (sources names : List (List ℕ)) (n : ℕ) (c : Cond) → KeptCond c → KnownCond sources names (cond_at n c)
     → written.cond_text (clean_cond c) ≡ cond_text sources names (cond_value sources names (cond_at n c))
@@ -205,7 +205,7 @@ conds_push sources names (d ∷ cs) c h =
     ap (λ r. cond_text sources names d ++ r) (more_push sources names cs c)
     ∙ sym (append_assoc (cond_text sources names d) (more_conds sources names cs) (codes " AND " ++ cond_text sources names c))
 
--- there are some conditions
+-- written conditions have some values
 some_conds : (sources names : List (List ℕ)) (n : ℕ) (cs : Conds) → 0 < length (map (cond_value sources names) (conds_at n cs))
 some_conds sources names n (one g c) = omega arith
 some_conds sources names n (also cs g h c) =

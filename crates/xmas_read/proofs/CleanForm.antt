@@ -67,18 +67,18 @@ clean_order (descending g h i v j) = descending (32 ∷ []) (32 ∷ []) (32 ∷ 
 abbrev pub clean_rule : Rule → Rule
 clean_rule r = record { lead = []; template = clean_items r.template; gap = 32 ∷ []; conds = clean_conds r.conds; order = clean_order r.order; tail = [] }
 
--- a key remains one
+-- a key of the grammar remains one in its canonical form
 pub clean_is_key : (k : Key) → IsKey k → IsKey (clean_key k)
 clean_is_key (node v) h = h
 clean_is_key (label g v) h = (refl, h.1)
 
--- some keys remain some
+-- keys of which there are some are some in their canonical form
 clean_has : (ks : Keys) → HasKeys ks → HasKeys (clean_keys ks)
 clean_has none h = h
 clean_has (first g k) h = tt
 clean_has (more ks g h k) e = tt
 
--- keys remain keys
+-- keys of the grammar remain such in their canonical form
 clean_are_keys : (ks : Keys) → AreKeys ks → AreKeys (clean_keys ks)
 clean_are_keys none h = tt
 clean_are_keys (first g k) h = (refl, clean_is_key k h.1)
@@ -96,7 +96,7 @@ blank_gap (variable before g k e) = refl
 blank_gap (literal before g ps) = refl
 blank_gap (element before g name inside h close e) = refl
 
--- items remain items
+-- items of the grammar remain such in their canonical form
 pub clean_are_items : (xs : Items) → AreItems xs → AreItems (clean_items xs)
 clean_are_items nothing h = tt
 clean_are_items (variable before g k e) h =
@@ -105,7 +105,7 @@ clean_are_items (literal before g ps) h = (clean_are_items before h.0, blank_gap
 clean_are_items (element before g name inside b close e) h =
     (clean_are_items before h.0, blank_gap (clean_items before), h.2, clean_are_items inside h.3, refl, h.2, clean_is_group none e tt h.6)
 
--- as many levels
+-- items have as many levels in their canonical form
 pub clean_levels : (xs : Items) → levels (clean_items xs) ≡ levels xs
 clean_levels nothing = refl
 clean_levels (variable before g k e) = clean_levels before
@@ -113,12 +113,12 @@ clean_levels (literal before g ps) = clean_levels before
 clean_levels (element before g name inside h close e) =
     ap (λ n. max n (1 + levels (clean_items inside))) (clean_levels before) ∙ ap (λ n. max (levels before) (1 + n)) (clean_levels inside)
 
--- an operand remains one
+-- an operand of the grammar remains one in its canonical form
 pub clean_is_operand : (a : Operand) → IsOperand a → IsOperand (clean_operand a)
 clean_is_operand (a_variable v) h = h
 clean_is_operand (a_text ps) h = (quoted_pieces (meaning ps)).1
 
--- an order remains one
+-- an order of the grammar remains one in its canonical form
 pub clean_is_order : (o : Order) → IsOrder o → IsOrder (clean_order o)
 clean_is_order unordered h = tt
 clean_is_order (ordered g h i v) w = (refl, refl, refl, w.3)

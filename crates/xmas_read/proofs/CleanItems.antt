@@ -100,7 +100,7 @@ turned before text item rest h k =
     regroup : (a b : List ℕ) → (a ++ (32 ∷ b)) ++ 32 ∷ [] ≡ (a ++ 32 ∷ []) ++ (b ++ 32 ∷ [])
     regroup a b = simp append_assoc
 
--- the text of a literal
+-- a literal in its canonical form is written as the canonical text of its label
 literal_written : (ps : List Piece) → quoted_text (pieces_of (meaning ps)) ≡ quoted (meaning ps)
 literal_written ps = sym (quoted_pieces (meaning ps)).2
 
@@ -174,7 +174,7 @@ items_written names n (element before g name inside b close e) a h =
     (items_written names (here + 1 + length name + 1) inside a.3 h.1) (group_written names end none [] e refl a.6 h.2)))
     ∙ ap (λ r. 32 ∷ r) (sym (text_push names value (items.element name kids own items.done)) ∙ ap (items_text names) (sym (value_push names (items_at n before) one)))
 
--- none and none are none
+-- two empty lists together are empty
 pub none_both : {X : Type 0} (xs ys : List X) → xs ≡ [] → ys ≡ [] → xs ++ ys ≡ []
 none_both [] ys h k = k
 none_both (x ∷ xs) ys h k = cc

@@ -12,12 +12,12 @@ use Rattle.xmas_read.specs.Refusals.{unless, leaf_keys, loose_leaf, loose_items}
 abbrev pub counted : List ℕ → List ℕ
 counted places = map (λ (n : ℕ). 0) places
 
--- places of two lists
+-- the count of the places of two lists is that of the first and that of the second
 pub counted_both : (xs ys : List ℕ) → counted (xs ++ ys) ≡ counted xs ++ counted ys
 counted_both [] ys = refl
 counted_both (x ∷ xs) ys = ap (λ (r : List ℕ). 0 ∷ r) (counted_both xs ys)
 
--- no places
+-- where the count of places is of none, there are none
 pub none_counted : (xs : List ℕ) → counted xs ≡ [] → xs ≡ []
 none_counted [] h = refl
 none_counted (x ∷ xs) h = cc
@@ -27,7 +27,7 @@ pub unless_counted : (b : Bool) (n : ℕ) → counted (unless b n) ≡ unless b 
 unless_counted true n = refl
 unless_counted false n = refl
 
--- there are none of one tree, so of another one with as many
+-- where two lists have as many places and the first has none, the second has none
 pub none_of_both : (xs ys : List ℕ) → counted xs ≡ counted ys → xs ≡ [] → ys ≡ []
 none_of_both xs ys e h = none_counted ys (sym e ∙ ap counted h)
 
@@ -38,7 +38,7 @@ all_items (items.literal l rest) = 1 + all_items rest
 all_items (items.variable s v own rest) = 1 + all_items rest
 all_items (items.element l inside own rest) = 1 + all_items inside + all_items rest
 
--- as many as their value has
+-- a template has as many items as its value has
 pub items_counted : (names : List (List ℕ)) (c : Contents) → items_in c ≡ all_items (items_value names c)
 items_counted names nothing = refl
 items_counted names (leaf (node s) after) = ap (λ n. 1 + n) (items_counted names after)
@@ -54,12 +54,12 @@ loose_in force (items.literal l rest) = loose_in force rest
 loose_in force (items.variable s v own rest) = unless (stands (in_force force own) (items.shown_key s v)) 0 ++ loose_in force rest
 loose_in force (items.element l inside own rest) = loose_in (in_force force own) inside ++ loose_in force rest
 
--- one item before others
+-- the place that an item gives, where a test fails, before those of others counts as one more
 leaf_counted : (b : Bool) (n : ℕ) (xs ys : List ℕ) → counted xs ≡ ys → counted (unless b n ++ xs) ≡ unless b 0 ++ ys
 leaf_counted true n xs ys h = h
 leaf_counted false n xs ys h = ap (λ (r : List ℕ). 0 ∷ r) h
 
--- as many of a tree
+-- a tree has as many loose items as its value has
 pub loose_counted : (names : List (List ℕ)) (force : List Key) (c : Contents) → counted (loose_items names force c) ≡ loose_in force (items_value names c)
 loose_counted names force nothing = refl
 loose_counted names force (leaf (node s) after) = leaf_counted _ s.at _ _ (loose_counted names force after)

@@ -30,7 +30,7 @@ bound_more names v vs h k = none_both (unless (has_name names v.name) v.at) (unb
 pub bound_one : (names : List (List ℕ)) (v : VarText) (vs : List VarText) → unbound_vars names (v ∷ vs) ≡ [] → (has_name names v.name ≡ true) × (unbound_vars names vs ≡ [])
 bound_one names v vs h = let p = both_none (unless (has_name names v.name) v.at) (unbound_vars names vs) h in (unless_none (has_name names v.name) v.at p.0, p.1)
 
--- a known key
+-- a key whose variable is bound is known
 key_known : (names : List (List ℕ)) (n : ℕ) (k : Key) → has_name names (key_var_text (key_at n k)).name ≡ true → KnownKey names k
 key_known names n (node v) h = h
 key_known names n (label g v) h = h
@@ -45,7 +45,7 @@ keys_vars_push : (ks : List KeyText) (k : KeyText) → keys_vars (ks ++ k ∷ []
 keys_vars_push [] k = refl
 keys_vars_push (j ∷ ks) k = ap (λ (r : List VarText). key_var_text j ∷ r) (keys_vars_push ks k)
 
--- known keys
+-- keys whose variables are bound are known
 keys_known : (names : List (List ℕ)) (n : ℕ) (ks : Keys) → unbound_vars names (keys_vars (keys_at n ks)) ≡ [] → KnownKeys names ks
 keys_known names n none h = tt
 keys_known names n (first g k) h = key_known names (n + length g) k (bound_one names _ [] h).0
@@ -63,7 +63,7 @@ keys_bound names n (more ks g b k) h =
     ap (unbound_vars names) (keys_vars_push (keys_at n ks) (key_at at k))
     ∙ bound_both names (keys_vars (keys_at n ks)) (key_var_text (key_at at k) ∷ []) (keys_bound names n ks h.0) (bound_more names _ [] (key_bound names at k h.1) refl)
 
--- a known group label
+-- a group label whose variables are bound is known
 pub group_known : (names : List (List ℕ)) (n : ℕ) (e : Group) → unbound_vars names (group_vars (group_at n e)) ≡ [] → KnownGroup names e
 group_known names n absent h = tt
 group_known names n (braced g ks b) h = keys_known names (n + length g + 1) ks h
@@ -90,12 +90,12 @@ parts_bound : (names : List (List ℕ)) (is : List ItemText) (i : ItemText) → 
     → (unbound_vars names (contents_vars (contents_of is)) ≡ []) × (unbound_vars names (contents_vars (contents_of (i ∷ []))) ≡ [])
 parts_bound names is i h = unbound_append names (contents_vars (contents_of is)) (contents_vars (contents_of (i ∷ []))) (sym (ap (unbound_vars names) (vars_push is i)) ∙ h)
 
--- and together
+-- where the variables of items and of one more are bound, those of all of them are
 push_bound : (names : List (List ℕ)) (is : List ItemText) (i : ItemText) → unbound_vars names (contents_vars (contents_of is)) ≡ [] → unbound_vars names (contents_vars (contents_of (i ∷ []))) ≡ []
     → unbound_vars names (contents_vars (contents_of (is ++ i ∷ []))) ≡ []
 push_bound names is i h k = ap (unbound_vars names) (vars_push is i) ∙ bound_both names (contents_vars (contents_of is)) (contents_vars (contents_of (i ∷ []))) h k
 
--- a known item
+-- the key and the group label of an item whose variables are bound are known
 shown_known : (names : List (List ℕ)) (n m : ℕ) (k : Key) (e : Group) → unbound_vars names (contents_vars (contents_of (shown_at n k (group_at m e) ∷ []))) ≡ [] → KnownKey names k × KnownGroup names e
 shown_known names n m (node v) e h =
     let p = unbound_append names (record { at = n; name = v } ∷ group_vars (group_at m e)) [] h in
@@ -113,7 +113,7 @@ shown_bound names n m (label g v) e h w =
     let at = n + 5 + length g in
     bound_both names (record { at = at; name = v } ∷ group_vars (group_at m e)) [] (bound_more names (record { at = at; name = v }) (group_vars (group_at m e)) h (group_bound names m e w)) refl
 
--- known items
+-- items whose variables are bound are known
 pub items_known : (names : List (List ℕ)) (n : ℕ) (xs : Items) → unbound_vars names (contents_vars (contents_of (items_at n xs))) ≡ [] → KnownItems names xs
 items_known names n nothing h = tt
 items_known names n (variable before g k e) h =
@@ -140,23 +140,23 @@ items_bound names n (element before g name inside b close e) h =
     (bound_both names (contents_vars (contents_of (items_at at inside)) ++ group_vars (group_at end e)) []
     (bound_both names (contents_vars (contents_of (items_at at inside))) (group_vars (group_at end e)) (items_bound names at inside h.1) (group_bound names end e h.2)) refl)
 
--- a key remains known
+-- a known key remains known in its canonical form
 clean_key_known : (names : List (List ℕ)) (k : Key) → KnownKey names k → KnownKey names (clean_key k)
 clean_key_known names (node v) h = h
 clean_key_known names (label g v) h = h
 
--- keys remain known
+-- known keys remain known in their canonical form
 clean_keys_known : (names : List (List ℕ)) (ks : Keys) → KnownKeys names ks → KnownKeys names (clean_keys ks)
 clean_keys_known names none h = tt
 clean_keys_known names (first g k) h = clean_key_known names k h
 clean_keys_known names (more ks g b k) h = (clean_keys_known names ks h.0, clean_key_known names k h.1)
 
--- so do those of a group label
+-- a known group label remains known in its canonical form, where the keys without one are known
 pub clean_group_known : (names : List (List ℕ)) (w : Keys) (e : Group) → KnownKeys names w → KnownGroup names e → KnownGroup names (clean_group w e)
 clean_group_known names w absent k h = k
 clean_group_known names w (braced g ks b) k h = clean_keys_known names ks h
 
--- items remain known
+-- known items remain known in their canonical form
 pub clean_known : (names : List (List ℕ)) (xs : Items) → KnownItems names xs → KnownItems names (clean_items xs)
 clean_known names nothing h = tt
 clean_known names (variable before g k e) h =

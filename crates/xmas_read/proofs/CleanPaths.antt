@@ -73,7 +73,7 @@ limits p h k = by (nat_lt 100 (nesting p)) (nat_lt 120 (positions_in (value_of p
 pub blank_low : (b : ℕ) → is_blank b ≡ true → b < 128
 blank_low b h = grind (arith, nat_tests)
 
--- what stands after blanks
+-- what stands after blanks in a UTF-8 text is UTF-8
 pub after_blanks : (g y : List ℕ) → IsBlanks g → IsUtf8 (g ++ y) → IsUtf8 y
 after_blanks [] y h u = u
 after_blanks (b ∷ g) y h u = let p = and_parts (is_blank b) (list_all is_blank g) h in after_blanks g y p.1 (utf8_split [] (g ++ y) b (blank_low b p.0) u).1
@@ -90,7 +90,7 @@ around_gap x (b ∷ g) y h u =
     let p = and_parts (is_blank b) (list_all is_blank g) h in
     let q = utf8_split x (g ++ y) b (blank_low b p.0) u in (q.0, after_blanks g y p.1 q.1)
 
--- what stands before blanks
+-- what stands before blanks in a UTF-8 text is UTF-8
 before_blanks : (x g : List ℕ) → IsBlanks g → IsUtf8 (x ++ g) → IsUtf8 x
 before_blanks x [] h u = subst IsUtf8 (append_nil x) u
 before_blanks x (b ∷ g) h u = let p = and_parts (is_blank b) (list_all is_blank g) h in (utf8_split x g b (blank_low b p.0) u).0
@@ -133,7 +133,7 @@ pub all_parts : {X : Type 0} (P : X → Type 0) (xs : List X) (x : X) → AllByR
 all_parts P [] x h = (tt, h.0)
 all_parts P (y ∷ xs) x h = let p = all_parts P xs x h.1 in ((h.0, p.0), p.1)
 
--- a condition's path
+-- the path of a condition of a UTF-8 text that isn't refused is kept
 cond_kept : (n : ℕ) (c : Cond) → IsCond c → IsUtf8 (cond_text c) → IsShort (cond_at n c) → KeptCond c
 cond_kept n (source name g p h v) w u s =
     let a = around_gap name g _ w.1 u in
@@ -145,7 +145,7 @@ cond_kept n (walk start g p h v) w u s =
     let l = limits p s.0 s.1 in path_kept p w.2 b.0 l.0 l.1
 cond_kept n (compare v g o h a) w u s = tt
 
--- the paths of conditions
+-- the paths of conditions of a UTF-8 text that aren't refused are kept
 pub conds_kept : (n : ℕ) (cs : Conds) → AreConds cs → IsUtf8 (conds_text cs) → AllByRecursion IsShort (conds_at n cs) → KeptConds cs
 conds_kept n (one g c) w u s = cond_kept _ c w.1 (after_blanks g (cond_text c) (gap_blanks g w.0) u) s.0
 conds_kept n (also cs g h c) w u s =

@@ -42,7 +42,7 @@ KnownKeys names none = Unit {0}
 KnownKeys names (first g k) = KnownKey names k
 KnownKeys names (more ks g h k) = KnownKeys names ks × KnownKey names k
 
--- those of a group label are
+-- the variables in a group label are among names
 abbrev pub KnownGroup : List (List ℕ) → Group → Type 0
 KnownGroup names absent = Unit {0}
 KnownGroup names (braced g ks h) = KnownKeys names ks
@@ -59,7 +59,7 @@ pub map_push : {X Y : Type 0} (f : X → Y) (xs : List X) (x : X) → map f (xs 
 map_push f [] x = refl
 map_push f (y ∷ xs) x = ap (λ r. f y ∷ r) (map_push f xs x)
 
--- a key's text
+-- a key's value has the text of the key's canonical form
 pub key_written : (names : List (List ℕ)) (n : ℕ) (k : Key) → KnownKey names k → key_text names (key_value names (key_at n k)) ≡ written.key_text (clean_key k)
 key_written names n (node v) h = ap (λ r. 36 ∷ r) (name_back names v h)
 key_written names n (label g v) h = ap (λ r. codes "label " ++ (36 ∷ r)) (name_back names v h)
@@ -73,7 +73,7 @@ more_push names [] k = ap (λ r. 44 ∷ r) (nil_after (key_text names k))
     nil_after (b ∷ x) = ap (λ r. b ∷ r) (nil_after x)
 more_push names (j ∷ ks) k = ap (λ r. 44 ∷ (key_text names j ++ r)) (more_push names ks k) ∙ ap (λ r. 44 ∷ r) (sym (append_assoc (key_text names j) (more_keys names ks) (44 ∷ key_text names k)))
 
--- some keys and one more
+-- the text of keys of which there are some, with one more, is theirs and that one's after a comma
 keys_push : (names : List (List ℕ)) (ks : List ValueKey) (k : ValueKey) → 0 < length ks → keys_text names (ks ++ k ∷ []) ≡ keys_text names ks ++ (44 ∷ key_text names k)
 keys_push names [] k h = absurd (omega arith)
 keys_push names (j ∷ ks) k h = ap (λ r. key_text names j ++ r) (more_push names ks k) ∙ sym (append_assoc (key_text names j) (more_keys names ks) (44 ∷ key_text names k))
@@ -87,7 +87,7 @@ some_keys names n (more ks g b k) h =
     subst (λ (r : List ValueKey). 0 < length r) (sym (map_push (key_value names) (keys_at n ks) (key_at at k)))
     (omega (arith, length-append (map (key_value names) (keys_at n ks)) (key_value names (key_at at k) ∷ [])))
 
--- the text of keys
+-- the values of keys have the text of the keys' canonical form
 keys_written : (names : List (List ℕ)) (n : ℕ) (ks : Keys) → AreKeys ks → KnownKeys names ks → keys_text names (map (key_value names) (keys_at n ks)) ≡ written.keys_text (clean_keys ks)
 keys_written names n none a h = refl
 keys_written names n (first g k) a h = nil_after (key_text names (key_value names (key_at (n + length g) k))) ∙ key_written names (n + length g) k h
@@ -125,7 +125,7 @@ value_push names (item.Node s ∷ is) i = ap (λ r. items.variable items.whole (
 value_push names (item.LabelOf s ∷ is) i = ap (λ r. items.variable items.label_alone (place_in names s.var.name) (own_keys names (label_key (place_in names s.var.name) ∷ []) s.group) r) (value_push names is i)
 value_push names (item.Text l ∷ is) i = ap (λ r. items.literal l r) (value_push names is i)
 
--- their text
+-- the text of items with others after them is theirs and the others'
 pub text_push : (names : List (List ℕ)) (a b : items.Items) → items_text names (then_items a b) ≡ items_text names a ++ items_text names b
 text_push names items.done b = refl
 text_push names (items.literal l rest) b =

@@ -47,7 +47,7 @@ pub record Parts : Type 0 where
   pub conds : Conds
   pub order : Order
 
--- the template of parts
+-- the items of a written template that has these parts
 abbrev pub template_of : Parts → Items
 template_of p = element nothing p.gap p.name p.inside p.blanks p.close p.group
 
@@ -85,12 +85,12 @@ outer_none n m (braced g (more ks f d k) b) h =
     let l = length-append before (last ∷ []) in
     absurd (grind (arith, nat_tests))
 
--- a value by names
+-- the value of a tree by the names of sources and of variables
 abbrev value_by : List (List ℕ) → List (List ℕ) → Tree → RuleValue
 value_by sources names t =
     record { label = t.template.name; items = items_value names t.template.contents; keys = own_keys names [] t.template.group; conds = map (cond_value sources names) t.conds; order = order_value names t.order; names = names }
 
--- a value of parts
+-- the value of a rule with these parts
 abbrev value_of : List ℕ → items.Items → List ValueKey → List ValueCond → Option OrderBy → List (List ℕ) → RuleValue
 value_of l is ks cs o names = record { label = l; items = is; keys = ks; conds = cs; order = o; names = names }
 
@@ -98,7 +98,7 @@ value_of l is ks cs o names = record { label = l; items = is; keys = ks; conds =
 pub names_same : (m k : ℕ) (cs : Conds) → KeptConds cs → bound_names (conds_at m (clean_conds cs)) ≡ bound_names (conds_at k cs)
 names_same m k cs h = sym (names_unplaced (conds_at m (clean_conds cs))) ∙ ap bound_names (conds_same m k cs h) ∙ names_unplaced (conds_at k cs)
 
--- the value is the same
+-- the value of a rule's tree is the same in the canonical form
 pub value_same : (sources : List (List ℕ)) (n m k n' m' k' : ℕ) (p : Parts) → KeptConds p.conds → rule_value sources (tree_at n' m' k' (clean_parts p)) ≡ rule_value sources (tree_at n m k p)
 value_same sources n m k n' m' k' p h =
     let q = clean_parts p in
@@ -121,7 +121,7 @@ pub record Known (sources : List (List ℕ)) (m k : ℕ) (p : Parts) : Type 0 wh
   pub conds : AllByRecursion (KnownCond sources (bound_names (conds_at m p.conds))) (conds_at m p.conds)
   pub order : unbound_vars (bound_names (conds_at m p.conds)) (order_vars (order_at k p.order)) ≡ []
 
--- names are known
+-- the variables and sources of a tree without a refusal are known
 pub names_known : (sources : List (List ℕ)) (n m k : ℕ) (p : Parts) → Unrefused sources (tree_at n m k p) → Known sources m k p
 names_known sources n m k p u =
     let names = bound_names (conds_at m p.conds) in

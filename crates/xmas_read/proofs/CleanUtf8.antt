@@ -24,7 +24,7 @@ use Rattle.xmas_read.proofs.CleanPaths.{PathKept, KeptCond, KeptConds, blank_low
 before : (b : ℕ) (x : List ℕ) → b < 128 → IsUtf8 x → IsUtf8 (b ∷ x)
 before b x h u = IsUtf8-append (b ∷ []) x (one_utf8 b h) u
 
--- two texts
+-- two UTF-8 texts together are UTF-8
 both : (x y : List ℕ) → IsUtf8 x → IsUtf8 y → IsUtf8 (x ++ y)
 both x y u v = IsUtf8-append x y u v
 
@@ -45,12 +45,12 @@ escaped_one u b l h next rest = by_cases (b == 34) (b == 92) (b == 10) (b == 9) 
     by_cases false false false true p q r s = two 116 (omega arith) (let k = number_is b 9 s in omega (arith, k))
     by_cases false false false false p q r s = subst IsUtf8 (append_assoc u (b ∷ []) (flat_map escaped l)) next
 
--- a label's escapes
+-- a UTF-8 text stays UTF-8 with the escapes of its last part
 escaped_all : (u l : List ℕ) → IsUtf8 (u ++ l) → IsUtf8 (u ++ flat_map escaped l)
 escaped_all u [] h = h
 escaped_all u (b ∷ l) h = escaped_one u b l h (escaped_all (u ++ b ∷ []) l (subst IsUtf8 (sym (append_assoc u (b ∷ []) l)) h)) (escaped_all [] l)
 
--- a label between quotes
+-- the canonical text between quotes of a UTF-8 label is UTF-8
 quoted_again : (l : List ℕ) → IsUtf8 l → IsUtf8 (quoted_text (pieces_of l))
 quoted_again l u = subst IsUtf8 (quoted_pieces l).2 (before 34 (flat_map escaped l ++ 34 ∷ []) (omega arith) (utf8_push (flat_map escaped l) 34 (omega arith) (escaped_all [] l u)))
 
@@ -71,17 +71,17 @@ word_utf8 : (x : List ℕ) → IsTrue (list_all is_word_byte x) → IsUtf8 x
 word_utf8 [] h = IsUtf8-nil
 word_utf8 (b ∷ x) h = let p = and_parts (is_word_byte b) (list_all is_word_byte x) h in before b x (word_low b p.0) (word_utf8 x p.1)
 
--- what stands after a word
+-- what stands after a word in a UTF-8 text is UTF-8
 after_word : (x y : List ℕ) → IsTrue (list_all is_word_byte x) → IsUtf8 (x ++ y) → IsUtf8 y
 after_word [] y h u = u
 after_word (b ∷ x) y h u = let p = and_parts (is_word_byte b) (list_all is_word_byte x) h in after_word x y p.1 (utf8_split [] (x ++ y) b (word_low b p.0) u).1
 
--- a variable's name
+-- the name of a variable is UTF-8
 var_utf8 : (v : List ℕ) → IsVar v → IsUtf8 v
 var_utf8 [] h = absurd h
 var_utf8 (b ∷ x) h = before b x (letter_low b h.0) (word_utf8 x h.1)
 
--- what stands after it
+-- what stands after a variable's name in a UTF-8 text is UTF-8
 after_var : (v y : List ℕ) → IsVar v → IsUtf8 (v ++ y) → IsUtf8 y
 after_var [] y h u = absurd h
 after_var (b ∷ x) y h u = after_word x y h.1 (utf8_split [] (x ++ y) b (letter_low b h.0) u).1
@@ -100,19 +100,19 @@ item_blanks (variable w f k e) g h = gap_blanks g h
 item_blanks (literal w f ps) g h = gap_blanks g h
 item_blanks (element w f name inside b close e) g h = gap_blanks g h
 
--- a key
+-- the canonical form of a key is UTF-8
 key_utf8 : (k : Key) → IsKey k → IsUtf8 (key_text (clean_key k))
 key_utf8 (node v) h = before 36 v (omega arith) (var_utf8 v h)
 key_utf8 (label g v) h =
     before 108 _ (omega arith) (before 97 _ (omega arith) (before 98 _ (omega arith) (before 101 _ (omega arith) (before 108 _ (omega arith) (before 32 _ (omega arith) (before 36 v (omega arith) (var_utf8 v h.1)))))))
 
--- keys
+-- the canonical form of keys is UTF-8
 keys_utf8 : (ks : Keys) → AreKeys ks → IsUtf8 (keys_text (clean_keys ks))
 keys_utf8 none h = IsUtf8-nil
 keys_utf8 (first g k) h = key_utf8 k h.1
 keys_utf8 (more ks g b k) h = both (keys_text (clean_keys ks)) (44 ∷ key_text (clean_key k)) (keys_utf8 ks h.1) (before 44 _ (omega arith) (key_utf8 k h.4))
 
--- a group label
+-- the canonical form of a group label is UTF-8, where the keys without one are
 group_utf8 : (w : Keys) (e : Group) → IsUtf8 (keys_text w) → IsGroup e → IsUtf8 (group_text (clean_group w e))
 group_utf8 w absent u h = before 32 _ (omega arith) (before 123 _ (omega arith) (utf8_push (keys_text w) 125 (omega arith) u))
 group_utf8 w (braced g ks b) u h = before 32 _ (omega arith) (before 123 _ (omega arith) (utf8_push (keys_text (clean_keys ks)) 125 (omega arith) (keys_utf8 ks h.1)))
@@ -122,7 +122,7 @@ shown_prefix : (xs : Items) (g y : List ℕ) (k : Key) → IsItemGap xs g → Is
 shown_prefix xs g y (node v) h u = (around_blanks (items_text xs) g (v ++ y) 36 (item_blanks xs g h) (omega arith) u).0
 shown_prefix xs g y (label f v) h u = (around_blanks (items_text xs) g _ 108 (item_blanks xs g h) (omega arith) u).0
 
--- items
+-- the canonical form of UTF-8 items is UTF-8
 items_utf8 : (xs : Items) → AreItems xs → IsUtf8 (items_text xs) → IsUtf8 (items_text (clean_items xs))
 items_utf8 nothing h u = IsUtf8-nil
 items_utf8 (variable w g k e) h u =
@@ -170,7 +170,7 @@ op_before op.Le y u = before 60 _ (omega arith) (before 61 y (omega arith) u)
 op_before op.Gt y u = before 62 y (omega arith) u
 op_before op.Ge y u = before 62 _ (omega arith) (before 61 y (omega arith) u)
 
--- an operand
+-- the canonical form of a UTF-8 operand is UTF-8
 operand_utf8 : (a : Operand) → IsOperand a → IsUtf8 (operand_text a) → IsUtf8 (operand_text (clean_operand a))
 operand_utf8 (a_variable v) h u = u
 operand_utf8 (a_text ps) h u = quoted_again (meaning ps) (label_in ps h u)
@@ -180,7 +180,7 @@ path_utf8 : (p : Spelled) (v : List ℕ) → PathKept p → IsVar v → IsUtf8 (
 path_utf8 p v k h =
     before 32 _ (omega arith) (both (text_of (clean_path p)) (32 ∷ 36 ∷ v) (subst IsUtf8 (sym k.text) k.utf8) (before 32 _ (omega arith) (before 36 v (omega arith) (var_utf8 v h))))
 
--- a condition
+-- the canonical form of a UTF-8 condition is UTF-8
 cond_utf8 : (c : Cond) → IsCond c → KeptCond c → IsUtf8 (cond_text c) → IsUtf8 (cond_text (clean_cond c))
 cond_utf8 (source name g p b v) h k u = both name _ (name_utf8 name h.0.0) (path_utf8 p v k h.4)
 cond_utf8 (walk start g p b v) h k u = before 36 _ (omega arith) (both start _ (var_utf8 start h.0) (path_utf8 p v k h.4))
@@ -190,7 +190,7 @@ cond_utf8 (compare v g o b a) h k u =
     let z = operand_utf8 a h.3 (after_blanks b _ h.2 y) in
     before 36 _ (omega arith) (both v _ (var_utf8 v h.0) (before 32 _ (omega arith) (op_before o _ (before 32 _ (omega arith) z))))
 
--- conditions
+-- the canonical form of UTF-8 conditions is UTF-8
 conds_utf8 : (cs : Conds) → AreConds cs → KeptConds cs → IsUtf8 (conds_text cs) → IsUtf8 (conds_text (clean_conds cs))
 conds_utf8 (one g c) h k u = before 32 _ (omega arith) (cond_utf8 c h.1 k (after_blanks g (cond_text c) (gap_blanks g h.0) u))
 conds_utf8 (also cs g b c) h k u =
@@ -199,13 +199,13 @@ conds_utf8 (also cs g b c) h k u =
     both (conds_text (clean_conds cs)) _ (conds_utf8 cs h.0 k.0 x.0)
     (before 32 _ (omega arith) (before 65 _ (omega arith) (before 78 _ (omega arith) (before 68 _ (omega arith) (before 32 _ (omega arith) (cond_utf8 c h.3 k.1 y))))))
 
--- ORDER BY and a variable
+-- a UTF-8 text with ORDER BY and a $ before it is UTF-8
 by_utf8 : (y : List ℕ) → IsUtf8 y → IsUtf8 (32 ∷ 79 ∷ 82 ∷ 68 ∷ 69 ∷ 82 ∷ 32 ∷ 66 ∷ 89 ∷ 32 ∷ 36 ∷ y)
 by_utf8 y u =
     before 32 _ (omega arith) (before 79 _ (omega arith) (before 82 _ (omega arith) (before 68 _ (omega arith) (before 69 _ (omega arith) (before 82 _ (omega arith)
     (before 32 _ (omega arith) (before 66 _ (omega arith) (before 89 _ (omega arith) (before 32 _ (omega arith) (before 36 y (omega arith) u))))))))))
 
--- an order
+-- the canonical form of an order is UTF-8
 order_utf8 : (o : Order) → IsOrder o → IsUtf8 (order_text (clean_order o))
 order_utf8 unordered h = IsUtf8-nil
 order_utf8 (ordered g b i v) h = by_utf8 v (var_utf8 v h.3)
@@ -224,7 +224,7 @@ construct_utf8 y u =
     before 67 _ (omega arith) (before 79 _ (omega arith) (before 78 _ (omega arith) (before 83 _ (omega arith) (before 84 _ (omega arith) (before 82 _ (omega arith)
     (before 85 _ (omega arith) (before 67 _ (omega arith) (before 84 y (omega arith) u))))))))
 
--- a rule
+-- the canonical form of a UTF-8 rule is UTF-8
 pub rule_utf8 : (r : Rule) → IsRule r → KeptConds r.conds → IsUtf8 (rule_text r) → IsUtf8 (rule_text (clean_rule r))
 rule_utf8 r h k u =
     let p = rule_parts r h u in

@@ -36,7 +36,7 @@ IsShort (condition.FromSource at from path var) = positions_in (path_value path)
 IsShort (condition.FromVar start path var) = positions_in (path_value path) ≤ 120
 IsShort (condition.Compare left op right) = Unit {0}
 
--- so it is for a written path
+-- the value of a written path has at most 120 label positions
 path_short : (p : Spelled) → positions_in (path_value (path_form p)) ≤ 120
 path_short p = by (nat_lt 100 (nesting p)) (nat_lt 120 (positions_in (value_of p))) refl
   where
@@ -45,21 +45,21 @@ path_short p = by (nat_lt 100 (nesting p)) (nat_lt 120 (positions_in (value_of p
     by false true e = omega arith
     by false false e = grind (arith, nat_tests)
 
--- and for a written condition
+-- the path of a written condition has at most 120 label positions
 cond_short : (at : ℕ) (c : Cond) → IsShort (cond_at at c)
 unfolding IsShort
 cond_short at (source name g p h v) = path_short p
 cond_short at (walk start g p h v) = path_short p
 cond_short at (compare v g o h a) = tt
 
--- and for written conditions
+-- the paths of written conditions have at most 120 label positions
 conds_short : (at : ℕ) (cs : Conds) → AllByRecursion IsShort (conds_at at cs)
 conds_short at (one g c) = (cond_short (at + length g) c, tt)
 conds_short at (also cs g h c) =
     let here = at + length (conds_text cs) + length g + 3 + length h in
     all_both IsShort (conds_at at cs) (cond_at here c ∷ []) (conds_short at cs) (cond_short here c, tt)
 
--- conditions of short paths
+-- the binders of conditions with short paths have few label positions
 binders_short : (sources names : List (List ℕ)) (conds : List CondText) → AllByRecursion IsShort conds → AllByRecursion HasFewPositions (binders (map (cond_value sources names) conds))
 unfolding IsShort
 binders_short sources names [] h = tt

@@ -10,17 +10,17 @@ use Rattle.xmas_rule.specs.declared.template.Item.{Item}
 use Rattle.xmas_read.specs.Value.{items_value}
 use Rattle.xmas_read.specs.ItemValue.{value_before}
 
--- items before others
+-- made items, each put before the rest
 abbrev pub all_before : List Item → Items → Items
 all_before [] rest = rest
 all_before (i ∷ is) rest = made_before i (all_before is rest)
 
--- items before nothing
+-- made items put before nothing are the items of their list
 pub all_alone : (is : List Item) → all_before is done ≡ items_of is
 all_alone [] = refl
 all_alone (i ∷ is) = ap (made_before i) (all_alone is)
 
--- an item after others
+-- made items with one more, put before the rest, are those put before that one and the rest
 pub all_more : (is : List Item) (i : Item) (rest : Items) → all_before (is ++ i ∷ []) rest ≡ all_before is (made_before i rest)
 all_more [] i rest = refl
 all_more (j ∷ is) i rest = ap (made_before j) (all_more is i rest)
@@ -36,7 +36,7 @@ value_first names (item.Text l) is = refl
 shape : {X : Type 0} (xs : List X) (i : ℕ) (x : X) → i < length xs → x ≡ get_or xs i x → drop i xs ≡ x ∷ drop (i + 1) xs
 shape {X} xs i x l e = drop_more xs i x l ∙ ap (λ (y : X). y ∷ drop (i + 1) xs) (sym e)
 
--- one item more is made
+-- with one item more made, the made items and the value of the rest are still the value of all
 pub made_more :
     (names : List (List ℕ)) (texts : List ItemText) (i : ℕ) (t : ItemText) (is : List Item) (made : Item) → i < length texts → t ≡ get_or texts i t
     → ((rest : Items) → made_before made rest ≡ value_before names t rest)
@@ -48,7 +48,7 @@ made_more names texts i t is made l e m h =
     ∙ ap (λ ts. all_before is (items_value names (contents_of ts))) (sym (shape texts i t l e))
     ∙ h
 
--- all items are made
+-- where all items are made, the made items are the value of all
 pub made_all :
     (names : List (List ℕ)) (texts : List ItemText) (i : ℕ) (is : List Item) → length texts ≤ i
     → all_before is (items_value names (contents_of (drop i texts))) ≡ items_value names (contents_of texts) → items_of is ≡ items_value names (contents_of texts)

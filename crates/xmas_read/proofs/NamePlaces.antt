@@ -30,11 +30,11 @@ suc_same a b = grind (arith, nat_tests)
 zero_apart : (a : ℕ) → (0 == suc a) ≡ false
 zero_apart a = grind (arith, nat_tests)
 
--- nor the other way round
+-- one more than a number is not 0
 suc_apart : (a : ℕ) → (suc a == 0) ≡ false
 suc_apart a = grind (arith, nat_tests)
 
--- a number is itself
+-- a number is the same as itself
 number_itself : (a : ℕ) → (a == a) ≡ true
 number_itself a = grind (arith, nat_tests)
 
@@ -73,12 +73,12 @@ name_more (k ∷ names) m n = ap (λ b. bytes_eq k n || b) (name_more names m n)
 pub among_more : (names : List (List ℕ)) (m n : List ℕ) → has_name names n ≡ true → has_name (m ∷ names) n ≡ true
 among_more names m n h = elim (bytes_eq m n) as (λ w. (w || has_name names n) ≡ true) [ true ↦ refl | false ↦ h ]
 
--- so are all of some
+-- names that are all among others are so with one more before these
 all_more_names : (names : List (List ℕ)) (m : List ℕ) (some : List (List ℕ)) → AllByRecursion (λ n. has_name names n ≡ true) some → AllByRecursion (λ n. has_name (m ∷ names) n ≡ true) some
 all_more_names names m [] h = tt
 all_more_names names m (n ∷ some) h = (among_more names m n h.0, all_more_names names m some h.1)
 
--- names are among themselves
+-- each name of a list is among the names of that list
 pub among_themselves : (names : List (List ℕ)) → AllByRecursion (λ n. has_name names n ≡ true) names
 among_themselves [] = tt
 among_themselves (m ∷ names) =

@@ -12,7 +12,7 @@ use Rattle.mix_catalog.specs.declared.source.SourceSpec.{SourceSpec}
 use Rattle.xmas_read.specs.Value.{place_in}
 use Rattle.xmas_read.specs.Refusals.{has_name}
 
--- a text is itself
+-- a text is the same as itself
 bytes_itself : (x : List ℕ) → bytes_eq x x ≡ true
 bytes_itself x = (bytes_eq-Decides x x).1 refl
 
@@ -43,7 +43,7 @@ bytes_sym x y =
           [ true ↦ λ d. (let q : bytes_eq x y ≡ true = (bytes_eq-Decides x y).1 (sym ((bytes_eq-Decides y x).0 d)) in let c : true ≡ false = sym q ∙ e in cc) | false ↦ λ d. refl ] refl
     ] refl
 
--- one more on both sides
+-- a number is below another one exactly where it is with one added to each
 lt_suc : (a b : ℕ) → nat_lt (suc a) (suc b) ≡ nat_lt a b
 lt_suc a b = grind (arith, nat_tests)
 
@@ -67,7 +67,7 @@ place_any p (x ∷ xs) =
     ∙ elim (p x) as (λ w. nat_lt (cond (not w) (suc (position_or_len p xs)) 0) (suc (length xs)) ≡ (w || list_any p xs))
     [ true ↦ first_small (length xs) | false ↦ lt_suc (position_or_len p xs) (length xs) ∙ place_any p xs ]
 
--- what is there or not
+-- a number that is there under a condition is there exactly where the condition holds
 some_where : (b : Bool) (n : ℕ) → is_some (cond b (Some n) None) ≡ b
 some_where true n = refl
 some_where false n = refl
@@ -88,7 +88,7 @@ found_named sources name =
 pub names_of : (vars : List (Bor VarText)) → map (λ v. v.now.name) vars ≡ map (λ (v : VarText). v.name) (map (λ v. v.now) vars)
 names_of vars = sym (map-map (λ (v : VarText). v.name) (λ v. v.now) vars)
 
--- one more name is noted
+-- with one more name noted, the names seen and those yet to come are as many as before
 pub note_step :
     (vars : List (Bor VarText)) (i : ℕ) (v : Bor VarText) (seen more : List (List ℕ)) (n : ℕ) → i < length vars → v ≡ get_or vars i v → more ≡ noted seen v.now.name
     → length seen + length (distinct bytes_eq seen (map (λ v. v.now.name) (drop i vars))) ≡ n
@@ -100,11 +100,11 @@ note_step vars i v seen more n l e m h =
     ∙ ap (λ (ws : List (Bor VarText)). length seen + length (distinct bytes_eq seen (map (λ v. v.now.name) ws))) (sym shape)
     ∙ h
 
--- more than 60 and some more are more than 60
+-- where more than 60 names are noted, there are more than 60, however many come
 pub many_noted : (k r n : ℕ) → 60 < k → k + r ≡ n → true ≡ nat_lt 60 n
 many_noted k r n h e = grind (arith, nat_tests)
 
--- at most 60 and none more are no more than 60
+-- where at most 60 names are noted and none is to come, there are no more than 60
 few_noted : (k n : ℕ) → k ≤ 60 → k + 0 ≡ n → false ≡ nat_lt 60 n
 few_noted k n h e = grind (arith, nat_tests)
 
@@ -134,7 +134,7 @@ some_is : (b : Bool) (k n : ℕ) → cond b (Some k) None ≡ Some n → n ≡ k
 some_is true k n h = cc
 some_is false k n h = cc
 
--- no place among none
+-- where a number is not there under a condition, the condition doesn't hold
 none_is : (b : Bool) (k : ℕ) → cond b (Some k) None ≡ None → b ≡ false
 none_is true k h = cc
 none_is false k h = refl

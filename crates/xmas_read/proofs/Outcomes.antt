@@ -17,7 +17,7 @@ use Rattle.xmas_read.specs.Value.{rule_value}
 use Rattle.xmas_read.specs.Refusals.{too_large, first_in, first_place, first_of, size_refusals, scope_refusals, template_refusals, refusals, or_rule, checked}
 use Rattle.xmas_read.specs.Results.{IsOutcome, ComesOf, Answers}
 
--- what isn't some is none
+-- an option that is no value is none
 pub none_of : {o : Option XmasFault} → ((e : XmasFault) → o ≡ Some e → ⊥) → o ≡ None
 none_of {o = None} h = refl
 none_of {o = Some e} h = absurd (h e refl)
@@ -52,7 +52,7 @@ outcome_is o fault.OutOfMemory h = tt
 refused : (sources : List (List ℕ)) (t : Tree) (e : XmasFault) → first_of (refusals sources t) ≡ Some e → IsOutcome (checked sources t) (Err e)
 refused sources t e h = outcome_is (checked sources t) e (ap (λ o. or_rule o (rule_value sources t)) h)
 
--- a refusal for size
+-- the first refusal for size comes of the tree
 pub size_refused : (sources : List (List ℕ)) (t : Tree) (e : XmasFault) → first_of (size_refusals t) ≡ Some e → IsOutcome (checked sources t) (Err e)
 size_refused sources t e h = refused sources t e (first_more (size_refusals t) (scope_refusals sources t ++ template_refusals t) e h)
 
@@ -121,12 +121,12 @@ IsOfTree (fault.OuterGroup at) = Unit {0}
 IsOfTree (fault.Loose at) = Unit {0}
 IsOfTree fault.OutOfMemory = ⊥
 
--- such a refusal, or none
+-- the refusal, where there is one, is one that a tree can have
 abbrev OfTree : Option XmasFault → Type 0
 OfTree None = Unit {0}
 OfTree (Some e) = IsOfTree e
 
--- too much of something that a tree can have too much of
+-- a refusal for too much of something that a tree can have too much of is one that a tree can have
 large_of_tree : (is : Bool) (what : Large) → IsOfTree (fault.TooLarge what) → OfTree (too_large is what)
 large_of_tree true what h = h
 large_of_tree false what h = tt
@@ -136,12 +136,12 @@ place_of_tree : (f : ℕ → XmasFault) → ((at : ℕ) → IsOfTree (f at)) →
 place_of_tree f h [] = tt
 place_of_tree f h (at ∷ places) = h at
 
--- all of these
+-- each of these refusals is one that a tree can have
 abbrev AllOfTree : List (Option XmasFault) → Type 0
 AllOfTree [] = Unit {0}
 AllOfTree (o ∷ os) = OfTree o × AllOfTree os
 
--- so is the first of them
+-- the first of refusals that a tree can have is one that a tree can have
 first_of_tree : (os : List (Option XmasFault)) → AllOfTree os → OfTree (first_of os)
 first_of_tree [] h = tt
 first_of_tree (None ∷ os) h = first_of_tree os h.1

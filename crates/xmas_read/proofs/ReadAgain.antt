@@ -38,7 +38,7 @@ one_outcome : (x : List ℕ) (sources : List (List ℕ)) (t w : Tree) → Spells
 one_outcome x sources t w h k =
     ap (checked sources) (one_of_form t w (one_tree x (form_of_tree t) (form_of_tree w) (h.written, h.writes, h.tree) (k.written, k.writes, k.tree)))
 
--- a refusal isn't a rule
+-- a text of which a rule comes has no refusal
 no_fault : (x : List ℕ) (sources : List (List ℕ)) (t : Tree) (v : RuleValue) (e : XmasFault) → SpellsWithin x (form_of_tree t) → checked sources t ≡ Ok v
     → ((w : Tree) × SpellsWithin x (form_of_tree w) × (checked sources w ≡ Err e)) → ⊥
 no_fault x sources t v e h c (w, k, d) = let same = one_outcome x sources t w h k in cc
@@ -85,7 +85,7 @@ wants_memory x sources e only v (u, (t, h, c)) = still_memory e (only (form_of_t
 pub answers_again : (x : List ℕ) (sources : List (List ℕ)) (r : Rule) → Answers x sources (Ok r) → Answers (canonical sources (rule_of r)) sources (Ok r)
 answers_again x sources r (u, (t, w, h)) = comes_again x sources t (rule_of r) u w h
 
--- and nothing else is
+-- nothing is read from a rule's canonical text but that rule, unless memory ran out
 pub only_again : (x : List ℕ) (sources : List (List ℕ)) (r : Rule) → Answers x sources (Ok r) → (answer : Result Rule XmasFault) → Answers (canonical sources (rule_of r)) sources answer → IsReadAs (rule_of r) answer
 only_again x sources r (u, (t, w, h)) answer a =
     let k = comes_again x sources t (rule_of r) u w h in reads_rule (canonical sources (rule_of r)) sources k.1.0 (rule_of r) k.0 k.1.1 k.1.2 answer a

@@ -20,7 +20,7 @@ pub both_none : {X : Type 0} (xs ys : List X) → xs ++ ys ≡ [] → (xs ≡ []
 both_none [] ys h = (refl, h)
 both_none (x ∷ xs) ys h = cc
 
--- a place that isn't there
+-- where a test gives no place, it holds
 pub unless_none : (b : Bool) (at : ℕ) → unless b at ≡ [] → b ≡ true
 unless_none true at h = refl
 unless_none false at h = cc
@@ -33,12 +33,12 @@ unbound_append names (v ∷ vs) ws h =
     let q = unbound_append names vs ws p.1 in
     (rw p.0 q.0, q.1)
 
--- a variable that is bound
+-- where a variable and others are bound, its name is among the names, and the others are bound
 bound_first : (names : List (List ℕ)) (v : VarText) (vs : List VarText) → unbound_vars names (v ∷ vs) ≡ [] → (has_name names v.name ≡ true) × (unbound_vars names vs ≡ [])
 bound_first names v vs h =
     let p = both_none (unless (has_name names v.name) v.at) (unbound_vars names vs) h in (unless_none (has_name names v.name) v.at p.0, p.1)
 
--- a key's variable
+-- the variable of a key's value is the place of its name
 key_place : (names : List (List ℕ)) (k : KeyText) → key_var (key_value names k) ≡ place_in names (key_var_text k).name
 key_place names (keyed.Node v) = refl
 key_place names (keyed.LabelOf v) = refl
@@ -54,17 +54,17 @@ keys_below names (key ∷ keys) h v k =
       | false ↦ λ e q. keys_below names keys p.1 v q
     ] refl k
 
--- so are those of a group label, or what stands for it
+-- the keys of a group label whose variables are bound, or of what stands for it, are of the rule's variables
 own_below : (names : List (List ℕ)) (without : List Key) (g : Option GroupForm) → items.AreBelow (length names) without → unbound_vars names (group_vars g) ≡ [] → items.AreBelow (length names) (own_keys names without g)
 own_below names without None w h = w
 own_below names without (Some g) w h = keys_below names g.keys h
 
--- one key
+-- one key whose variable is one of the rule's has no other variable
 one_below : (n : ℕ) (k : Key) → key_var k < n → items.AreBelow n (k ∷ [])
 one_below n k h v e =
     elim (key_var k == v) as (λ w. (key_var k == v) ≡ w → (w || false) ≡ true → v < n) [ true ↦ λ d q. grind (arith, nat_tests) | false ↦ λ d q. cc ] refl e
 
--- no keys
+-- of no keys all are of the rule's variables
 none_below : (n : ℕ) → items.AreBelow n []
 none_below n v h = cc
 

@@ -38,12 +38,12 @@ pass_size : (b : Bool) (what : Large) (os : List (Option XmasFault)) → b ≡ f
 pass_size true what os e h = cc
 pass_size false what os e h = h
 
--- no places before others
+-- where there are no places for a refusal and there are no other refusals, there is none
 pass_place : (f : ℕ → XmasFault) (places : List ℕ) (os : List (Option XmasFault)) → places ≡ [] → first_of os ≡ None → first_of (first_place f places ∷ os) ≡ None
 pass_place f [] os e h = h
 pass_place f (at ∷ places) os e h = cc
 
--- none of two lists
+-- where there are no refusals in either of two lists, there is none in both together
 pass_both : (xs ys : List (Option XmasFault)) → first_of xs ≡ None → first_of ys ≡ None → first_of (xs ++ ys) ≡ None
 pass_both [] ys h k = k
 pass_both (None ∷ xs) ys h k = pass_both xs ys h k
@@ -54,7 +54,7 @@ pub any_none : (p : CondText → Bool) (cs : List CondText) → list_any p cs �
 any_none p [] h = tt
 any_none p (c ∷ cs) h = let q = neither (p c) (list_any p cs) h in (q.0, any_none p cs q.1)
 
--- without a refusal
+-- a tree that has no refusal holds all facts that one without a refusal does
 pub unrefused : (sources : List (List ℕ)) (t : Tree) → first_of (refusals sources t) ≡ None → Unrefused sources t
 unrefused sources t h =
     let names = bound_names t.conds in

@@ -32,7 +32,7 @@ abbrev pub keys_text : List (List ℕ) → List Key → List ℕ
 keys_text names [] = []
 keys_text names (k ∷ keys) = key_text names k ++ more_keys names keys
 
--- a group label
+-- the canonical text of a group label
 abbrev pub group_text : List (List ℕ) → List Key → List ℕ
 group_text names keys = 123 ∷ (keys_text names keys ++ 125 ∷ [])
 
@@ -52,7 +52,7 @@ abbrev pub operand_text : List (List ℕ) → Operand → List ℕ
 operand_text names (var_operand v) = var_text names v
 operand_text names (text_operand label) = quoted label
 
--- a condition
+-- the canonical text of a condition
 abbrev pub cond_text : List (List ℕ) → List (List ℕ) → Cond → List ℕ
 cond_text sources names (FromSource source path v) = get_or sources source [] ++ (32 ∷ (canon path ++ (32 ∷ var_text names v)))
 cond_text sources names (FromVar start path v) = var_text names start ++ (32 ∷ (canon path ++ (32 ∷ var_text names v)))
@@ -68,7 +68,7 @@ abbrev pub conds_text : List (List ℕ) → List (List ℕ) → List Cond → Li
 conds_text sources names [] = []
 conds_text sources names (c ∷ conds) = cond_text sources names c ++ more_conds sources names conds
 
--- an order
+-- the canonical text of an order, with a blank before it
 abbrev pub order_text : List (List ℕ) → Option OrderBy → List ℕ
 order_text names None = []
 order_text names (Some o) = codes " ORDER BY " ++ (var_text names o.var ++ cond o.desc (codes " DESC") [])

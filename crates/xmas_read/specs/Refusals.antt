@@ -24,7 +24,7 @@ use Rattle.xmas_read.specs.declared.fault.XmasFault.TheVariants.{TooLarge, TagDi
 use Rattle.xmas_read.specs.Tree.{Tree, vars_of, template_vars, operand_vars, order_vars, items_in, bound_var, bound_names}
 use Rattle.xmas_read.specs.Value.{place_in, own_keys, items_value, rule_value}
 
--- a name is one of these
+-- whether a name is one of these
 abbrev pub has_name : List (List ℕ) → List ℕ → Bool
 has_name names n = list_any (λ m. bytes_eq m n) names
 
@@ -60,7 +60,7 @@ differing_tags nothing = []
 differing_tags (element tags inside after) = differing_tags inside ++ unless (bytes_eq tags.name tags.close_name) tags.close_at ++ differing_tags after
 differing_tags (leaf i after) = differing_tags after
 
--- those of an element, its own included
+-- the closing tags of an element, its own included, that have another name than their opening tags
 abbrev pub differing_in : ElementForm → List ℕ
 differing_in e = differing_tags e.contents ++ unless (bytes_eq e.name e.close_name) e.close_at
 
@@ -97,7 +97,7 @@ unbound_at names earlier (condition.FromSource at source path var) = []
 unbound_at names earlier (condition.FromVar start path var) = unless (has_name earlier start.name) start.at
 unbound_at names earlier (condition.Compare left op right) = unbound_vars names (left ∷ operand_vars right)
 
--- those of conditions, where some variables are bound already
+-- the variables that conditions use and that aren't bound in time, where some are bound already
 abbrev pub unbound_in : List (List ℕ) → List (List ℕ) → List CondText → List ℕ
 unbound_in names earlier [] = []
 unbound_in names earlier (c ∷ conds) = unbound_at names earlier c ++ unbound_in names (with_bound earlier (bound_var c)) conds
@@ -141,7 +141,7 @@ first_in (at ∷ places) = Some at
 abbrev pub first_place : (ℕ → XmasFault) → List ℕ → Option XmasFault
 first_place fault places = option_map fault (first_in places)
 
--- too much of something
+-- the refusal for too much of something, where there is too much
 abbrev pub too_large : Bool → Large → Option XmasFault
 too_large is what = cond is (Some (TooLarge what)) None
 
@@ -151,7 +151,7 @@ first_of [] = None
 first_of (None ∷ faults) = first_of faults
 first_of (Some e ∷ faults) = Some e
 
--- what a tree has too much of
+-- the refusals of a tree for what it has too much of
 abbrev pub size_refusals : Tree → List (Option XmasFault)
 size_refusals t =
     too_large (nat_lt 1000 (items_in t.template.contents)) Items

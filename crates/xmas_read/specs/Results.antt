@@ -18,7 +18,7 @@ use Rattle.xmas_read.specs.Refusals.{checked}
 abbrev pub names_of_sources : List SourceSpec → List (List ℕ)
 names_of_sources sources = map (λ (s : SourceSpec). s.name) sources
 
--- this is what comes of a tree, unless memory ran out
+-- the result is what comes of a tree, unless memory ran out
 abbrev pub IsOutcome : Result RuleValue XmasFault → Result Rule XmasFault → Type 0
 IsOutcome outcome (Ok r) = outcome ≡ Ok (rule_of r)
 IsOutcome outcome (Err (fault.NotUtf8 at)) = outcome ≡ Err (fault.NotUtf8 at)
@@ -37,7 +37,7 @@ IsOutcome outcome (Err fault.OutOfMemory) = Unit {0}
 abbrev pub ComesOf : List ℕ → List (List ℕ) → Result Rule XmasFault → Type 0
 ComesOf x sources result = (t : Tree) × texts.SpellsWithin x (form_of_tree t) × IsOutcome (checked sources t) result
 
--- too much of something, in a rule's text
+-- a rule's text has too much of something
 abbrev pub IsTooLarge : List ℕ → List (List ℕ) → Large → Type 0
 IsTooLarge x sources large.Depth = texts.IsTooDeep x
 IsTooLarge x sources large.Items = ComesOf x sources (Err (fault.TooLarge large.Items))
@@ -64,7 +64,7 @@ Refuses x sources fault.OutOfMemory = Unit {0}
 abbrev pub Spells : List ℕ → List (List ℕ) → RuleValue → Type 0
 Spells x sources v = IsUtf8 x × ((t : Tree) × texts.SpellsWithin x (form_of_tree t) × (checked sources t ≡ Ok v))
 
--- memory ran out
+-- the fault is that memory ran out
 abbrev pub IsWantOfMemory : XmasFault → Type 0
 IsWantOfMemory (fault.NotUtf8 at) = ⊥
 IsWantOfMemory (fault.Unexpected at) = ⊥

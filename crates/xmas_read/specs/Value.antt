@@ -67,7 +67,7 @@ abbrev pub operand_value : List (List ℕ) → OperandText → Operand
 operand_value names (operand.Var v) = var_operand (place_in names v.name)
 operand_value names (operand.Text l) = text_operand l
 
--- what a comparison asks
+-- the test operator that a comparison stands for
 abbrev pub op_value : Comparison → TestOp
 op_value comparison.Eq = test.Eq
 op_value comparison.Ne = test.Ne

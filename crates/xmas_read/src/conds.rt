@@ -49,7 +49,7 @@ fn op_of(comparison: Comparison) -> TestOp
     }
 }
 
-// A comparison.
+// The value of a comparison.
 fn test_of(
     alloc: Global,
     names: &[Label],

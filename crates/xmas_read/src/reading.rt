@@ -41,7 +41,7 @@ fn make_rule(
     } = tree;
     let order = order_of(&names, &ordering);
     let made = template_value(alloc, &names, &element);
-    // As in `check_tree`.
+    // The element and the ordering are given to `drop`, so that how their parts are dropped is proved once.
     drop(element);
     drop(ordering);
     let template = made?;
@@ -82,7 +82,7 @@ fn check_tree(alloc: Global, catalog: &Catalog, tree: RuleText) -> Result<Rule, 
     match checked_names(alloc, catalog, &tree) {
         Ok(names) => Ok(make_rule(alloc, catalog, names, tree)?),
         Err(fault) => {
-            // It is given to `drop`, so that how its parts are dropped is proved once.
+            // The tree is given to `drop`, so that how its parts are dropped is proved once.
             drop(tree);
             Err(fault)
         }

@@ -125,7 +125,7 @@ pub fn template_value(
     Ok(Template { label, items, keys })
 }
 
-/// The order of a rule.
+/// The value of a rule's order.
 pub fn order_of(names: &[Label], order: &Option<OrderText>) -> Option<OrderBy>
     requires { length names.now < 2 ^ 32 }
     ensures { result ≡ order_value names.now order.now }
@@ -139,7 +139,7 @@ pub fn order_of(names: &[Label], order: &Option<OrderText>) -> Option<OrderBy>
     }
 }
 
-/// An operand.
+/// The value of an operand.
 pub fn operand_of(alloc: Global, names: &[Label], text: &OperandText) -> Result<Operand, AllocError>
     requires { length names.now < 2 ^ 32 }
     ensures { IfOk result (λ operand. operand ≡ operand_value names.now text.now) }

@@ -36,7 +36,7 @@ bindings_ok docs lists sources r d a apart =
       );
     }
 
--- so are those of the components that a walk after each source condition finds
+-- the tuples of the components that a walk after each source condition finds, filtered and sorted, are the body's bindings
 pub tuples_bind : TuplesAreBindings
 tuples_bind docs lists sources r are a =
     let apart : AreApart (components r.conds) = components-apart (binders r.conds) [] [] no_vars a.bound nothing_apart in

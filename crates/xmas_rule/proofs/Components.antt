@@ -104,11 +104,11 @@ source_of-snoc : (b : Binder) (a : List Binder) (c : Binder) → source_of ((b �
 source_of-snoc (from_source s path var) a c = refl
 source_of-snoc (from_var x path var) a c = refl
 
--- neither is true
+-- where a disjunction is false, both of its parts are
 pub or_left : (a b : Bool) → (a || b) ≡ false → (a ≡ false) × (b ≡ false)
 or_left a b h = elim a as (λ w. (w || b) ≡ false → (w ≡ false) × (b ≡ false)) [ true ↦ λ e. (let c : true ≡ false = e in cc) | false ↦ λ e. (refl, e) ] h
 
--- none is true
+-- where two booleans are false, their disjunction is
 or_none : (a b : Bool) → a ≡ false → b ≡ false → (a || b) ≡ false
 or_none a b h k = rw h k
 
@@ -177,7 +177,7 @@ unfolding Same Follows
 bound-follows vs comps (from_source s path var) cs m a = (m var ∙ a.0, a.1)
 bound-follows vs comps (from_var x path var) cs m a = ((m x ∙ a.0, m var ∙ a.1), a.2)
 
--- their variables, with one condition more
+-- with one condition more, the variables so far are still those of the components
 pub same_next : (vs : List ℕ) (comps : List (List Binder)) (c : Binder) → Same vs comps → Follows (binder_vars (flat comps)) c → Same (vs ++ binder_var c ∷ []) (with_binder c comps)
 unfolding Same
 same_next vs comps c m f = λ v. new_vars c comps f v ∙ ap (λ (z : Bool). z || (binder_var c == v)) (m v) ∙ ap (λ (z : Bool). has vs v || z) (sym (or_false (binder_var c == v))) ∙ sym (has-append vs (binder_var c ∷ []) v)
@@ -224,7 +224,7 @@ more_scoped us vs (c ∷ cs) h f = (
     more_follows us vs (from_source s path var) h f = has-append vs us var ∙ or_none (has vs var) (has us var) f h
     more_follows us vs (from_var x path var) h f = (has-append vs us x ∙ or_true (has vs x) (has us x) h.0, has-append vs us var ∙ or_none (has vs var) (has us var) f h.1)
 
--- conditions after others
+-- scoped conditions with others that are scoped after them are scoped
 scoped_append : (vs : List ℕ) (a b : List Binder) → AreScoped vs a → AreScoped (vs ++ binder_vars a) b → AreScoped vs (a ++ b)
 unfolding AreScoped
 scoped_append vs [] b h k = subst (λ (z : List ℕ). AreScoped z b) (append_nil vs) k
@@ -250,7 +250,7 @@ pub no_vars : Same [] []
 unfolding Same
 no_vars = λ v. refl
 
--- no components stand apart
+-- where there are no components, they stand apart
 pub nothing_apart : AreApart []
 unfolding AreApart
 nothing_apart = tt

@@ -11,12 +11,12 @@ or_turned false true false = refl
 or_turned false false true = refl
 or_turned false false false = refl
 
--- three truths
+-- of three disjoined booleans it does not matter which two are joined first
 or_three : (a b c : Bool) → (a || (b || c)) ≡ ((a || b) || c)
 or_three true b c = refl
 or_three false b c = refl
 
--- nothing beside a truth
+-- a boolean or false is that boolean
 or_nothing : (a : Bool) → (a || false) ≡ a
 or_nothing true = refl
 or_nothing false = refl
@@ -35,7 +35,7 @@ vars_append (c ∷ xs) ys = ap (λ r. binder_var c ∷ r) (vars_append xs ys)
 has_both : (xs ys : List Binder) (v : ℕ) → has (binder_vars (xs ++ ys)) v ≡ (has (binder_vars xs) v || has (binder_vars ys) v)
 has_both xs ys v = ap (λ vs. has vs v) (vars_append xs ys) ∙ has_append (binder_vars xs) (binder_vars ys) v
 
--- two lists of components
+-- the conditions of two lists of components are those of the first and those of the second
 flat_append : (xs ys : List (List Binder)) → flat (xs ++ ys) ≡ flat xs ++ flat ys
 flat_append [] ys = refl
 flat_append (comp ∷ xs) ys = ap (λ r. comp ++ r) (flat_append xs ys) ∙ sym (append_three comp (flat xs) (flat ys))

@@ -12,23 +12,23 @@ use Rattle.mix_tree.specs.declared.var.Key.TheVariants.{Node as node_key, LabelO
 use Rattle.xmas_rule.specs.Bindings.{node_of}
 use Rattle.xmas_rule.specs.Meaning.{same}
 
--- a conjunction of three
+-- of three conjoined booleans it does not matter which two are joined first
 pub and_assoc : (a b c : Bool) → ((a && b) && c) ≡ (a && (b && c))
 and_assoc a b c = elim a as (λ a. ((a && b) && c) ≡ (a && (b && c))) [ true ↦ refl | false ↦ refl ]
 
--- a disjunction of three
+-- of three disjoined booleans it does not matter which two are joined first
 pub or_assoc : (a b c : Bool) → ((a || b) || c) ≡ (a || (b || c))
 or_assoc a b c = elim a as (λ a. ((a || b) || c) ≡ (a || (b || c))) [ true ↦ refl | false ↦ refl ]
 
--- a disjunction turned round
+-- a disjunction stays the same when it is turned round
 pub or_comm : (a b : Bool) → (a || b) ≡ (b || a)
 or_comm a b = elim a as (λ a. (a || b) ≡ (b || a)) [ true ↦ elim b as (λ b. (true || b) ≡ (b || true)) [ true ↦ refl | false ↦ refl ] | false ↦ elim b as (λ b. (false || b) ≡ (b || false)) [ true ↦ refl | false ↦ refl ] ]
 
--- truth beside a truth
+-- a boolean and true is that boolean
 pub and_true : (a : Bool) → (a && true) ≡ a
 and_true a = elim a as (λ a. (a && true) ≡ a) [ true ↦ refl | false ↦ refl ]
 
--- false beside a truth
+-- a boolean or false is that boolean
 pub or_false : (a : Bool) → (a || false) ≡ a
 or_false a = elim a as (λ a. (a || false) ≡ a) [ true ↦ refl | false ↦ refl ]
 
@@ -60,7 +60,7 @@ same_by-vars docs (k ∷ ks) a b c d e f =
     let there : (v : ℕ) → has_var ks v ≡ true → has_var (k ∷ ks) v ≡ true = λ v h. rw h (elim (key_var k == v) as (λ w. (w || true) ≡ true) [ true ↦ refl | false ↦ refl ]) in
     rw (same_key-vars docs k a b c d (e (key_var k) here) (f (key_var k) here), same_by-vars docs ks a b c d (λ v h. e v (there v h)) (λ v h. f v (there v h))) refl
 
--- the same key is one key
+-- two keys that are found equal are the same
 key_eq-true : (k l : Key) → key_eq k l ≡ true → k ≡ l
 key_eq-true (node_key v) (node_key w) h = ap node_key (eqb-true v w h)
 key_eq-true (node_key v) (label_key w) h = cc
@@ -112,7 +112,7 @@ same_by-stands docs (f ∷ ks) k a b h e =
     let p = and_parts (same_key docs f a b) (same_by docs ks a b) e in
     elim (or_cases (gives f k) (stands ks k) h) [ inl q ↦ same_key-gives docs f k a b q p.0 | inr q ↦ same_by-stands docs ks k a b q p.1 ]
 
--- nor do keys that all stand
+-- tuples that agree by the keys in force agree by keys that all stand
 same_by-all_stand : (docs : Documents) (ks own : List Key) (a b : ℕ → Node) → list_all (stands ks) own ≡ true → same_by docs ks a b ≡ true → same_by docs own a b ≡ true
 same_by-all_stand docs ks [] a b h e = refl
 same_by-all_stand docs ks (k ∷ own) a b h e =
@@ -174,7 +174,7 @@ has_var-stands (f ∷ ks) k h =
       | inr q ↦ rw (has_var-stands ks k q) (elim (key_var f == key_var k) as (λ w. (w || true) ≡ true) [ true ↦ refl | false ↦ refl ])
     ]
 
--- so are keys that all stand
+-- the variables of keys that all stand are in force
 has_var-all_stand : (ks own : List Key) (v : ℕ) → list_all (stands ks) own ≡ true → has_var own v ≡ true → has_var ks v ≡ true
 has_var-all_stand ks [] v h e = cc
 has_var-all_stand ks (k ∷ own) v h e =
@@ -186,7 +186,7 @@ has_var-all_stand ks (k ∷ own) v h e =
 pub has_var-collects_not : (ks own : List Key) (v : ℕ) → collects ks own ≡ false → has_var (in_force ks own) v ≡ has_var ks v
 has_var-collects_not ks own v h = has_var-in_force ks own v ∙ or_given (has_var ks v) (has_var own v) (has_var-all_stand ks own v (all_stand ks own h))
 
--- what collects has a key
+-- there is a key
 abbrev pub HasKey : List Key → Type 0
 HasKey [] = ⊥
 HasKey (k ∷ ks) = Unit {0}

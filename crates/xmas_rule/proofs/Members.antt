@@ -5,30 +5,30 @@ use Rattle.mix_base.proofs.Ascents.{each_among}
 use Rattle.mix_base.proofs.Firsts.{each_filter, each_weaker, each_map}
 use Rattle.mix_base.specs.Ascents.{Among, Ascending}
 
--- a member of two lists
+-- a member of two lists together is one of the first or of the second
 pub among-append : {X : Type 0} (x : X) (xs ys : List X) → Among x (xs ++ ys) → Among x xs ⊎ Among x ys
 among-append x [] ys h = inr h
 among-append x (y ∷ xs) ys (inl e) = inl (inl e)
 among-append x (y ∷ xs) ys (inr e) = elim (among-append x xs ys e) [ inl a ↦ inl (inr a) | inr a ↦ inr a ]
 
--- a member of the first
+-- a member of the first of two lists is one of both together
 pub among_left : {X : Type 0} (x : X) (xs ys : List X) → Among x xs → Among x (xs ++ ys)
 among_left x [] ys h = absurd h
 among_left x (y ∷ xs) ys (inl e) = inl e
 among_left x (y ∷ xs) ys (inr e) = inr (among_left x xs ys e)
 
--- a member of the second
+-- a member of the second of two lists is one of both together
 pub among_right : {X : Type 0} (x : X) (xs ys : List X) → Among x ys → Among x (xs ++ ys)
 among_right x [] ys h = h
 among_right x (y ∷ xs) ys h = inr (among_right x xs ys h)
 
--- a member of images
+-- a member of the images of a list is the image of a member
 pub among-map : {X Y : Type 0} (f : X → Y) (y : Y) (xs : List X) → Among y (map f xs) → (x : X) × Among x xs × (y ≡ f x)
 among-map f y [] h = absurd h
 among-map f y (x ∷ xs) (inl e) = (x, inl refl, e)
 among-map f y (x ∷ xs) (inr e) = let r = among-map f y xs e in (r.0, inr r.1, r.2)
 
--- an image of a member
+-- the image of a member is one of the images
 pub among_map : {X Y : Type 0} (f : X → Y) (x : X) (xs : List X) → Among x xs → Among (f x) (map f xs)
 among_map f x [] h = absurd h
 among_map f x (y ∷ xs) (inl e) = inl (ap f e)
@@ -86,12 +86,12 @@ pub snoc-append : {X : Type 0} (xs : List X) (x : X) (ys : List X) → (xs ++ x 
 snoc-append [] x ys = refl
 snoc-append {X} (z ∷ xs) x ys = ap (λ (zs : List X). z ∷ zs) (snoc-append xs x ys)
 
--- the lists of images
+-- the joined lists of images are those of the members, with one function after the other
 pub flat_map-map : {X Y Z : Type 0} (f : Y → List Z) (g : X → Y) (xs : List X) → flat_map f (map g xs) ≡ flat_map (λ x. f (g x)) xs
 flat_map-map f g [] = refl
 flat_map-map {X} {Y} {Z} f g (x ∷ xs) = ap (λ (zs : List Z). f (g x) ++ zs) (flat_map-map f g xs)
 
--- the images of two lists
+-- the images of two lists together are those of the first and those of the second
 pub map-append : {X Y : Type 0} (g : X → Y) (xs ys : List X) → map g (xs ++ ys) ≡ map g xs ++ map g ys
 map-append g [] ys = refl
 map-append {X} {Y} g (x ∷ xs) ys = ap (λ (zs : List Y). g x ∷ zs) (map-append g xs ys)
@@ -101,7 +101,7 @@ pub map-flat_map : {X Y Z : Type 0} (g : Y → Z) (f : X → List Y) (xs : List 
 map-flat_map g f [] = refl
 map-flat_map {X} {Y} {Z} g f (x ∷ xs) = map-append g (f x) (flat_map f xs) ∙ ap (λ (zs : List Z). map g (f x) ++ zs) (map-flat_map g f xs)
 
--- the lists of two lists
+-- the joined lists of two lists' members are those of the first and those of the second
 flat_map-append : {X Y : Type 0} (f : X → List Y) (xs ys : List X) → flat_map f (xs ++ ys) ≡ flat_map f xs ++ flat_map f ys
 flat_map-append f [] ys = refl
 flat_map-append {X} {Y} f (x ∷ xs) ys = ap (λ (zs : List Y). f x ++ zs) (flat_map-append f xs ys) ∙ sym (append_assoc (f x) (flat_map f xs) (flat_map f ys))
@@ -116,7 +116,7 @@ pub flat_map_same : {X Y : Type 0} (f g : X → List Y) (xs : List X) → AllByR
 flat_map_same f g [] h = refl
 flat_map_same {X} {Y} f g (x ∷ xs) h = rw h.0 (ap (λ (zs : List Y). g x ++ zs) (flat_map_same f g xs h.1))
 
--- a test that all pass
+-- a filter whose test all pass changes nothing
 pub filter-true : {X : Type 0} (xs : List X) → filter (λ _. true) xs ≡ xs
 filter-true [] = refl
 filter-true {X} (x ∷ xs) = ap (λ (zs : List X). x ∷ zs) (filter-true xs)

@@ -30,7 +30,7 @@ unfolding passing
 among_passing docs [] b bs h k = h
 among_passing docs (t ∷ ts) b bs h k = among_passing docs ts b (filter (λ b. passes docs t (node_of b)) bs) (among_filter (λ b. passes docs t (node_of b)) b bs h k.0) k.1
 
--- those that pass ascend
+-- tuples of an ascending list that pass ascend
 pub passing-ascends : (docs : Documents) (ts : List Test) (bs : List Binding) → Ascending TupleBefore bs → Ascending TupleBefore (passing docs ts bs)
 unfolding passing
 passing-ascends docs [] bs h = h
@@ -42,7 +42,7 @@ among-insert less z x [] h = h
 among-insert less z x (y ∷ xs) h = elim (less y x) as (λ w. Among z (cond w (y ∷ insert_by less x xs) (x ∷ y ∷ xs)) → ((z ≡ x) ⊎ ((z ≡ y) ⊎ Among z xs)))
     [ true ↦ λ m. elim m [ inl e ↦ inr (inl e) | inr e ↦ elim (among-insert less z x xs e) [ inl q ↦ inl q | inr q ↦ inr (inr q) ] ] | false ↦ λ m. m ] h
 
--- the members stay
+-- what was put into a list, and each of the list's members, is a member of the list with it
 among_insert : {X : Type 0} (less : X → X → Bool) (z x : X) (xs : List X) → (z ≡ x) ⊎ Among z xs → Among z (insert_by less x xs)
 among_insert less z x [] h = h
 among_insert less z x (y ∷ xs) h = elim (less y x) as (λ w. Among z (cond w (y ∷ insert_by less x xs) (x ∷ y ∷ xs)))
@@ -53,13 +53,13 @@ pub among-sorted : {X : Type 0} (less : X → X → Bool) (z : X) (xs : List X) 
 among-sorted less z [] h = h
 among-sorted less z (x ∷ xs) h = elim (among-insert less z x (sorted_by less xs) h) [ inl e ↦ inl e | inr e ↦ inr (among-sorted less z xs e) ]
 
--- and each of the list is one of the sorted list
+-- a member of the list is one of the sorted list
 pub among_sorted : {X : Type 0} (less : X → X → Bool) (z : X) (xs : List X) → Among z xs → Among z (sorted_by less xs)
 among_sorted less z [] h = h
 among_sorted less z (x ∷ xs) (inl e) = among_insert less z x (sorted_by less xs) (inl e)
 among_sorted less z (x ∷ xs) (inr e) = among_insert less z x (sorted_by less xs) (inr (among_sorted less z xs e))
 
--- by the key, ties by what stands before
+-- one stands before another by their keys, or, where the keys are equal, by the order before
 unfoldable pub ByKey : {X K : Type 0} → (K → K → Bool) → (X → K) → (X → X → Type 0) → X → X → Type 0
 ByKey before key R a b = (before (key a) (key b) ≡ true) ⊎ ((key a ≡ key b) × R a b)
 
@@ -99,7 +99,7 @@ sorted-ascends before key R on all (x ∷ xs) h =
     (among_each (R x) (sorted_by (λ a b. before (key a) (key b)) xs) (λ z m. each_among (R x) xs h.0 z (among-sorted (λ a b. before (key a) (key b)) z xs m)))
     (sorted-ascends before key R on all xs h.1)
 
--- they are the same bindings
+-- the bindings in the order of a rule are the same bindings
 pub among-order : (docs : Documents) (o : Option OrderBy) (b : Binding) (bs : List Binding) → Among b (in_order_of docs o bs) ↔ Among b bs
 unfolding in_order_of
 among-order docs None b bs = ((λ h. h), (λ h. h))
@@ -112,7 +112,7 @@ less_of Less h = refl
 less_of Equal h = cc
 less_of Greater h = cc
 
--- the label order goes on
+-- where one label stands before another and that before a third, the first stands before the third
 label-on : (a b c : List ℕ) → label_before a b ≡ true → label_before b c ≡ true → label_before a c ≡ true
 label-on a b c h k = ap is_lt (label_order_ok.total.trans a b c (less_of (label_order a b) h) (less_of (label_order b c) k))
 
@@ -135,7 +135,7 @@ sorts-all : (o : OrderBy) (a b : List ℕ) → sorts_before o a b ≡ false → 
 sorts-all o a b = elim o.desc as (λ w. cond w (label_before b a) (label_before a b) ≡ false → cond w (label_before a b) (label_before b a) ≡ false → a ≡ b)
     [ true ↦ λ h k. label-all a b k h | false ↦ λ h k. label-all a b h k ]
 
--- and they ascend
+-- bindings that ascend by their tuples ascend in the order of a rule
 pub order-ascends : (docs : Documents) (o : Option OrderBy) (bs : List Binding) → Ascending TupleBefore bs → Ascending (StandsBefore docs o) (in_order_of docs o bs)
 unfolding in_order_of ByKey
 order-ascends docs None bs h = h

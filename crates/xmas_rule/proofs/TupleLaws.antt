@@ -33,7 +33,7 @@ before-last : (b : Binding) (v : ℕ) (m n : Node) → PlaceBefore m.place n.pla
 before-last [] v m n h = inl h
 before-last (x ∷ b) v m n h = inr (refl, before-last b v m n h)
 
--- longer tuples ascend
+-- ascending tuples with each node that a condition allows beside them ascend
 pub extend-ascends : (docs : Documents) (lists : MatchLists) (c : Binder) (bs : List Binding) → AreMatchLists docs lists → Ascending TupleBefore bs → Ascending TupleBefore (extend lists c bs)
 unfolding extend longer
 extend-ascends docs lists c bs h k =
@@ -45,7 +45,7 @@ extend-ascends docs lists c bs h k =
     rw (p.2, q.2) (before-append a b ((binder_var c, p.0) ∷ []) ((binder_var c, q.0) ∷ []) r))
     bs k
 
--- so do the tuples of conditions
+-- the tuples of conditions ascend, where those before them do
 pub tuples-ascend : (docs : Documents) (lists : MatchLists) (cs : List Binder) (bs : List Binding) → AreMatchLists docs lists → Ascending TupleBefore bs → Ascending TupleBefore (tuples lists bs cs)
 unfolding tuples
 tuples-ascend docs lists [] bs h k = k
@@ -55,7 +55,7 @@ tuples-ascend docs lists (c ∷ cs) bs h k = tuples-ascend docs lists cs (extend
 unfoldable pub vars_of : Binding → List ℕ
 vars_of b = map (λ p. p.0) b
 
--- a variable of two lists
+-- a variable is one of two lists' together where it is one of either's
 pub has-append : (us vs : List ℕ) (v : ℕ) → has (us ++ vs) v ≡ (has us v || has vs v)
 has-append [] vs v = refl
 has-append (u ∷ us) vs v = rw (has-append us vs v) (sym (or_assoc (u == v) (has us v) (has vs v)))
@@ -132,7 +132,7 @@ among-nodes s [] m h = absurd h
 among-nodes s (q ∷ qs) m (inl e) = (ap (λ (n : Node). n.source) e, inl (ap (λ (n : Node). n.place) e))
 among-nodes s (q ∷ qs) m (inr e) = let r = among-nodes s qs m e in (r.0, inr r.1)
 
--- and each place is one of its nodes
+-- a node of the source at one of these places is made of the source and that place
 among_nodes : (s : ℕ) (qs : List (List ℕ)) (m : Node) → m.source ≡ s → Among m.place qs → Among m (map (λ q. record { source = s; place = q }) qs)
 among_nodes s qs m e h =
     let r : Among (record { source = s; place = m.place }) (map (λ q. record { source = s; place = q }) qs) = among_map (λ q. record { source = s; place = q }) m.place qs h in

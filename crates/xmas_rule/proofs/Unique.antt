@@ -44,7 +44,7 @@ turned Greater p e h k = cc
 label_both : (a b : List ℕ) → label_before a b ≡ true → label_before b a ≡ true → ⊥
 label_both a b h k = turned (label_order a b) (label_order b a) (label_order_ok.total.antisymm a b) h k
 
--- so it is for the order turned round
+-- no label comes first before itself by the order of a rule
 sorts_itself : (o : OrderBy) (a : List ℕ) → sorts_before o a a ≡ true → ⊥
 sorts_itself o a h = by o.desc h
   where

@@ -34,7 +34,7 @@ binders (FromSource source path var ∷ conds) = from_source source path var ∷
 binders (FromVar start path var ∷ conds) = from_var start path var ∷ binders conds
 binders (Compare t ∷ conds) = binders conds
 
--- the comparisons, as written
+-- the comparisons of conditions, as written
 abbrev pub comparisons : List Cond → List Test
 comparisons [] = []
 comparisons (FromSource source path var ∷ conds) = comparisons conds
@@ -60,7 +60,7 @@ components_from comps (c ∷ cs) = components_from (with_binder c comps) cs
 abbrev pub components : List Cond → List (List Binder)
 components conds = components_from [] (binders conds)
 
--- one component after another
+-- the binders of components, one component after another
 abbrev pub flat : List (List Binder) → List Binder
 flat [] = []
 flat (comp ∷ comps) = comp ++ flat comps
@@ -84,7 +84,7 @@ OperandBelow n (text_operand label) = Unit {0}
 abbrev pub IsCompared : ℕ → Test → Type 0
 IsCompared n t = (t.left < n) × OperandBelow n t.right × (compares_nodes t.op ≡ false)
 
--- so is each of these
+-- all comparisons are of variables below n, and of labels
 abbrev pub AreCompared : ℕ → List Test → Type 0
 AreCompared n tests = AllByRecursion (IsCompared n) tests
 

@@ -4,7 +4,7 @@ use Rattle.xmas_rule.specs.Items.{Items, done, literal, variable, element, whole
 use Rattle.xmas_rule.specs.declared.template.Item.{Item}
 use Rattle.xmas_rule.specs.declared.template.Item.TheVariants as item
 
--- an item before others
+-- items with one before them, as values
 abbrev pub item_before : Item → Items → Items
 item_before (item.Element t) rest = element t.label t.items t.keys rest
 item_before (item.Node v keys) rest = variable whole v keys.items rest

@@ -12,7 +12,7 @@ use Rattle.xmas_rule.specs.Conditions.{Binder, from_source, from_var, binder_var
 use Rattle.xmas_rule.specs.declared.condition.OrderBy.{OrderBy}
 use Rattle.xmas_rule.specs.Sorted.{sorted_by}
 
--- for each path and node a list of places below the node
+-- lists of places: for each path and each node a list of places below the node
 abbrev pub MatchLists : Type 0
 MatchLists = Form → Node → List (List ℕ)
 
@@ -30,7 +30,7 @@ unfoldable pub longer : MatchLists → Binder → Binding → List Binding
 unfolding next_nodes
 longer lists c b = map (λ m. b ++ (binder_var c, m) ∷ []) (next_nodes lists c b)
 
--- all tuples, each so
+-- each of these tuples with each node that a condition allows beside it
 unfoldable pub extend : MatchLists → Binder → List Binding → List Binding
 extend lists c bs = flat_map (longer lists c) bs
 

@@ -9,7 +9,7 @@ pub enum Cond {
     FromSource { source: u32, path: Path, var: Var },
     /// A variable is bound to the descendants of another variable's node that the path leads to.
     FromVar { start: Var, path: Path, var: Var },
-    /// A comparison holds.
+    /// A comparison of a variable with an operand holds.
     Compare(Test),
 }
 

@@ -52,11 +52,11 @@ pub record Standing (text : List ℕ) (n : ℕ) (b : BuildForm) : Type 0 where
   pub depth : b.scan.depth ≤ n
   pub part : part_depth b.scan.part ≤ n
 
--- the state is well formed
+-- the state that stands at a place of a text is well formed, and writes the text up to there
 stands_of : (text : List ℕ) (n : ℕ) (b : BuildForm) (h : Standing text n b) → Stands (take n text) h.state
 stands_of text n b h = stood_at (take n text) (run start (take n text)) h.state (run_stands (take n text) [] start start_stands) h.runs
 
--- and the scan stands there
+-- the scan that is kept at a place is where a scan of the text up to there comes to
 scans_of : (text : List ℕ) (n : ℕ) (b : BuildForm) → Standing text n b → ScansTo (take n text) b.scan
 scans_of text n b h = ap (option_map scan_of) h.runs ∙ ap Some h.scan
 
@@ -97,7 +97,7 @@ ended_here text n b l h =
     subst (λ k. IsEndedBy k (lex_text t.lex)) (kind_part t.lex stands.lex) (ended_by (take n text) t.spot t.gap t.lex (token_in t.lex) stands refl) in
     subst (λ x. IsEnded b.scan.part x) (sym (token_is text n b l h)) (subst (λ s. IsEnded s.part (lex_text t.lex)) h.scan by_token)
 
--- it is UTF-8 where the text is cut there
+-- the text of the token at hand is UTF-8 where the text up to its end is
 pub token_utf8 : (text : List ℕ) (n : ℕ) (b : BuildForm) → IsUtf8 text → n ≤ length text → Standing text n b → IsUtf8 (take n text) → IsUtf8 (slice_range text b.from n)
 token_utf8 text n b u l h k =
     let order : b.from ≤ n = omega (arith, from_order text n b l h) in
@@ -117,7 +117,7 @@ next_scanned text n b l h = scan_more text n b.scan l (scans_of text n b h)
 cut_here : (text : List ℕ) (n : ℕ) (b : BuildForm) → IsUtf8 text → n < length text → Standing text n b → part_step b.scan.part (slice_index text n) ≡ None → IsUtf8 (take n text)
 cut_here text n b u l h e = prefix_utf8 text n b.scan u (omega arith) (scans_of text n b h) (λ q. quotes_go_on b.scan.part (slice_index text n) q e)
 
--- a byte can be added
+-- the next byte of a rule's text can be added to what is built
 pub can_build : (text : List ℕ) (n : ℕ) (b : BuildForm) → IsUtf8 text → (r : Rule) × Writes text r → n < length text → length text < 2 ^ 64 → Standing text n b → CanBuild text n b
 can_build text n b u (r, w) l m h =
     let short : n ≤ length text = omega arith in record {
@@ -131,7 +131,7 @@ can_build text n b u (r, w) l m h =
       ended = λ e. ended_here text n b short h;
     }
 
--- before a text
+-- what is kept before a text is that of the machine's first state
 pub standing_start : (text : List ℕ) (b : BuildForm) → b.scan ≡ scan_of start → b.from ≡ 0 → b.draft ≡ draft_of start.spot → Standing text 0 b
 standing_start text b s f d = record {
   state = start;
@@ -180,7 +180,7 @@ rest_draft_by x s g l (Some t) u from d e h r f (w, i, k) =
     let place : from ≡ spot_end s + length g = f ∙ ap (λ m. m + length g) (spot_length s h.spot) in
     k ∙ ap (λ y. shifted (draft_of s) from y) says ∙ ap (λ m. shifted (draft_of s) m (lexeme_of t)) place ∙ sym (drafts s g t h.spot ended.taken) ∙ ap (λ v. draft_of v.spot) (some_is _ _ r)
 
--- the same, where a token may end
+-- the draft that a token's end gives is that of the spot after the token, where a token may end
 rest_draft_in : (x : List ℕ) (s : Spot) (g : List ℕ) (l : Lex) (u : State) (from : ℕ) (d : DraftForm) → Stands x (at s g l) → rest_by s g (token_in l) ≡ Some u
     → from ≡ length (spot_text s) + length g → EndsToken (part_of l) (lex_text l) from (draft_of s) d → d ≡ draft_of u.spot
 rest_draft_in x s g l u from d h r f w = rest_draft_by x s g l (token_in l) u from d refl h r f (subst (λ k. EndsTokenBy k (lex_text l) from (draft_of s) d) (sym (kind_part l h.lex)) w)
@@ -223,13 +223,13 @@ record Leads (s : Spot) (g : List ℕ) (t : State) : Type 0 where
   spot : t.spot ≡ s
   place : length (spot_text t.spot) + length t.gap ≡ place_after (length (spot_text s) + length g) (part_of t.lex)
 
--- a token that begins
+-- a byte that begins a token keeps the spot and the place
 leads_token : (s : Spot) (g : List ℕ) (b : ℕ) (o : Option Lex) (t : State) → Gives (Goes (takes s g) (b ∷ [])) o → with_lex s g o ≡ Some t → Leads s g t
 leads_token s g b None t h e = none_some t e
 leads_token s g b (Some l) t h e =
     subst (Leads s g) (some_is _ _ e) (record { spot = refl; place = sym (begun_place (length (spot_text s) + length g) l b h.text) })
 
--- a byte between tokens
+-- a byte between tokens, a blank or a token's first one, keeps the spot and leads to the next token's place
 leads : (s : Spot) (g : List ℕ) (b : ℕ) (t : State) → next s g b ≡ Some t → Leads s g t
 leads s g b t e = by_case (is_blank b) e
   where
@@ -318,7 +318,7 @@ standing_at text n b next' u l h None e i w = none_some next'.scan i
 standing_at text n b next' u l h (Some t) e i w =
     standing_by text n b next' u l h (lex_step h.state.lex (slice_index text n)) t refl e (sym (stepped text n b l h) ∙ e) (some_is _ _ i) w
 
--- one more byte
+-- what is kept after one more byte of a text is that of the machine's state
 pub standing_next : (text : List ℕ) (n : ℕ) (b next' : BuildForm) → IsUtf8 text → n < length text → Standing text n b → Builds text n b next' → Standing text (n + 1) next'
 standing_next text n b next' u l h w = standing_at text n b next' u l h (run start (take (n + 1) text)) refl (next_scanned text n b l h ∙ w.scan) w
 

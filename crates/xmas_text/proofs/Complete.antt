@@ -38,7 +38,7 @@ then s s' s'' x y h k t a =
 pub token : (s : Spot) (h : List ℕ) (t : Token) → IsBlanks h → IsToken t → IsTrue (takes s h (kind_of t)) → Reads s (h ++ token_text t) (shift s h t)
 token s h t b i k st a = reading s st h t a b (taken_reading s h t i k)
 
--- the same, of an equal text
+-- a text leads from one spot to another one, where an equal text does
 as_text : (s s' : Spot) (x y : List ℕ) → x ≡ y → Reads s x s' → Reads s y s'
 as_text s s' x y e h = subst (λ z. Reads s z s') e h
 
@@ -66,7 +66,7 @@ item_gaps (variable b f k e) g h = has_gap g h
 item_gaps (literal b f ps) g h = has_gap g h
 item_gaps (element b f n i j c e) g h = has_gap g h
 
--- keys
+-- the text of a first key leads to the spot after it
 key_reads : (lead : List ℕ) (o : List Frame) (xs : Items) (e : List ℕ) (g : List ℕ) (k : Key) → IsBlanks g → IsKey k → Reads (keys lead o xs e none) (g ++ key_text k) (keys lead o xs e (first g k))
 key_reads lead o xs e g (node v) b i = token (keys lead o xs e none) g (var v) b i refl
 key_reads lead o xs e g (label f v) b i =
@@ -74,7 +74,7 @@ key_reads lead o xs e g (label f v) b i =
     (then (keys lead o xs e none) (key_label lead o xs e none at_first g) (keys lead o xs e (first g (label f v))) (g ++ label_text) (f ++ 36 ∷ v)
     (token (keys lead o xs e none) g (fixed mark.LabelWord) b tt refl) (token (key_label lead o xs e none at_first g) f (var v) (blanks_of f i.0) i.1 (has_gap f i.0)))
 
--- a key after a comma
+-- the text of a key after a comma leads to the spot after it
 more_reads : (lead : List ℕ) (o : List Frame) (xs : Items) (e : List ℕ) (ks : Keys) (h g : List ℕ) (k : Key) → IsBlanks g → IsKey k → Reads (key_comma lead o xs e ks h) (g ++ key_text k) (keys lead o xs e (more ks h g k))
 more_reads lead o xs e ks h g (node v) b i = token (key_comma lead o xs e ks h) g (var v) b i refl
 more_reads lead o xs e ks h g (label f v) b i =
@@ -82,13 +82,13 @@ more_reads lead o xs e ks h g (label f v) b i =
     (then (key_comma lead o xs e ks h) (key_label lead o xs e ks (at_more h) g) (keys lead o xs e (more ks h g (label f v))) (g ++ label_text) (f ++ 36 ∷ v)
     (token (key_comma lead o xs e ks h) g (fixed mark.LabelWord) b tt refl) (token (key_label lead o xs e ks (at_more h) g) f (var v) (blanks_of f i.0) i.1 (has_gap f i.0)))
 
--- some keys are not none
+-- keys of which there are some are not none
 not_none : (ks : Keys) → HasKeys ks → IsTrue (not (is_none ks))
 not_none none h = absurd h
 not_none (first g k) h = refl
 not_none (more ks g h' k) h = refl
 
--- all keys
+-- the text of the keys of a group label leads to the spot after them
 keys_reads : (ks : Keys) (lead : List ℕ) (o : List Frame) (xs : Items) (e : List ℕ) → AreKeys ks → Reads (keys lead o xs e none) (keys_text ks) (keys lead o xs e ks)
 keys_reads none lead o xs e i = stays (keys lead o xs e none)
 keys_reads (first g k) lead o xs e i = key_reads lead o xs e g k i.0 i.1
@@ -98,7 +98,7 @@ keys_reads (more ks h g k) lead o xs e i =
     (then (keys lead o xs e ks) (key_comma lead o xs e ks h) (keys lead o xs e (more ks h g k)) (h ++ 44 ∷ []) (g ++ key_text k)
     (token (keys lead o xs e ks) h (fixed mark.Comma) i.2 tt (not_none ks i.0)) (more_reads lead o xs e ks h g k i.3 i.4)))
 
--- a group label
+-- items keep as they are where their last one gets no group label
 absent_again : (xs : Items) → IsTrue (may_group xs) → with_group xs absent ≡ xs
 absent_again nothing h = refl
 absent_again (variable b g k absent) h = refl
@@ -112,7 +112,7 @@ may_left : (lead : List ℕ) (o : List Frame) (xs : Items) (g : List ℕ) → Is
 may_left lead [] xs g h = h
 may_left lead (f ∷ o) xs g h = h
 
--- a group label, or none
+-- the text of a group label, or of none, leads to the spot after it
 group_reads : (lead : List ℕ) (o : List Frame) (xs : Items) (e : Group) → IsTrue (may_group xs) → IsGroup e → Reads (items lead o xs) (group_text e) (items lead o (with_group xs e))
 group_reads lead o xs absent m i = subst (λ y. Reads (items lead o xs) [] (items lead o y)) (sym (absent_again xs m)) (stays (items lead o xs))
 group_reads lead o xs (braced g ks h) m i =
@@ -122,7 +122,7 @@ group_reads lead o xs (braced g ks h) m i =
     (then (keys lead o xs g none) (keys lead o xs g ks) (items lead o (with_group xs (braced g ks h))) (keys_text ks) (h ++ 125 ∷ []) (keys_reads ks lead o xs g i.1)
     (token (keys lead o xs g ks) h (fixed mark.CloseBrace) i.2 tt refl)))
 
--- an item's variable
+-- the text of an item that is a variable leads to the spot after it
 variable_reads : (lead : List ℕ) (f : Frame) (o : List Frame) (xs : Items) (g : List ℕ) (k : Key) → IsItemGap xs g → IsKey k → Reads (items lead (f ∷ o) xs) (g ++ key_text k) (items lead (f ∷ o) (variable xs g k absent))
 variable_reads lead f o xs g (node v) b i = token (items lead (f ∷ o) xs) g (var v) (item_blanks xs g b) i (item_gaps xs g b)
 variable_reads lead f o xs g (label h v) b i =
@@ -130,7 +130,7 @@ variable_reads lead f o xs g (label h v) b i =
     (then (items lead (f ∷ o) xs) (labelled lead (f ∷ o) xs g) (items lead (f ∷ o) (variable xs g (label h v) absent)) (g ++ label_text) (h ++ 36 ∷ v)
     (token (items lead (f ∷ o) xs) g (fixed mark.LabelWord) (item_blanks xs g b) tt (item_gaps xs g b)) (token (labelled lead (f ∷ o) xs g) h (var v) (blanks_of h i.0) i.1 (has_gap h i.0)))
 
--- an opening tag
+-- the text of an opening tag leads to the spot inside it
 token_open : (lead : List ℕ) (o : List Frame) (xs : Items) (g n : List ℕ) → IsBlanks g → IsTrue (takes (items lead o xs) g kind.OpenTag) → IsName n → Reads (items lead o xs) (g ++ 60 ∷ (n ++ 62 ∷ [])) (items lead (record { before = xs; gap = g; name = n } ∷ o) nothing)
 token_open lead [] xs g n b t i = token (items lead [] xs) g (open_tag n) b i t
 token_open lead (f ∷ o) xs g n b t i = token (items lead (f ∷ o) xs) g (open_tag n) b i t
@@ -170,7 +170,7 @@ items_reads (element before g n inside h c e) lead f o i =
     then (items lead (f ∷ o) nothing) (items lead (f ∷ o) before) (items lead (f ∷ o) (element before g n inside h c e)) (items_text before) _ (items_reads before lead f o i.0)
     (element_reads lead (f ∷ o) before g n inside h c e (item_blanks before g i.1) (item_gaps before g i.1) i.2 (λ k. items_reads inside lead k (f ∷ o) i.3) i.4 i.5 i.6)
 
--- conditions
+-- a path and the variable that it binds lead to the spot after the condition
 path_part : (r : Head) (b : Before) (g : List ℕ) (s : Start) (e : List ℕ) (p : paths.Spelled) (h v : List ℕ) → IsGap e → paths.Is p paths.a_path → IsGap h → IsVar v
     → Reads (cond_from r b g s) ((e ++ paths.text_of p) ++ (h ++ 36 ∷ v)) (cond_done r (push_cond b g (cond_of s e p h v)))
 path_part r b g s e p h v ie ip ih iv =
@@ -181,12 +181,12 @@ path_part r b g s e p h v ie ip ih iv =
 cond_text_parts : (g n e p t : List ℕ) → (g ++ n) ++ ((e ++ p) ++ t) ≡ g ++ (n ++ (e ++ (p ++ t)))
 cond_text_parts g n e p t = simp append_assoc
 
--- an operand
+-- the text of an operand leads to the spot after the condition
 operand_reads : (r : Head) (b : Before) (g v e : List ℕ) (o : Comparison) (h : List ℕ) (a : Operand) → IsBlanks h → IsOperand a → Reads (compared r b g v e o) (h ++ operand_text a) (cond_done r (push_cond b g (compare v e o h a)))
 operand_reads r b g v e o h (a_variable u) ih i = token (compared r b g v e o) h (var u) ih i refl
 operand_reads r b g v e o h (a_text ps) ih i = token (compared r b g v e o) h (quoted ps) ih i refl
 
--- a condition
+-- the text of a condition leads to the spot after it
 cond_reads : (r : Head) (b : Before) (g : List ℕ) (c : Cond) → IsGap g → IsCond c → Reads (cond_start r b) (g ++ cond_text c) (cond_done r (push_cond b g c))
 cond_reads r b g (source n e p h v) ig i =
     as_text _ _ _ _ (cond_text_parts g n e (paths.text_of p) (h ++ 36 ∷ v))
@@ -203,7 +203,7 @@ cond_reads r b g (compare v e o h a) ig i =
     (then (cond_from r b g (by_var v)) (compared r b g v e o) (cond_done r (push_cond b g (compare v e o h a))) (e ++ op_text o) (h ++ operand_text a)
     (token (cond_from r b g (by_var v)) e (comparison o) i.1 tt refl) (operand_reads r b g v e o h a i.2 i.3)))
 
--- all conditions
+-- the text of all conditions leads to the spot after them
 conds_reads : (cs : Conds) (r : Head) → AreConds cs → Reads (cond_start r first_cond) (conds_text cs) (cond_done r cs)
 conds_reads (one g c) r i = cond_reads r first_cond g c i.0 i.1
 conds_reads (also cs g h c) r i =
@@ -212,12 +212,12 @@ conds_reads (also cs g h c) r i =
     (then (cond_done r cs) (cond_start r (also_cond cs g)) (cond_done r (also cs g h c)) (g ++ codes "AND") (h ++ cond_text c)
     (token (cond_done r cs) g (fixed mark.And) (blanks_of g i.1) tt (has_gap g i.1)) (cond_reads r (also_cond cs g) h c i.2 i.3)))
 
--- the template
+-- two booleans that are true are true together
 both : (a b : Bool) → IsTrue a → IsTrue b → IsTrue (a && b)
 both true b h k = k
 both false b h k = cc
 
--- the template is read
+-- the text of the template leads to the spot after it
 template_reads : (xs : Items) (lead : List ℕ) → IsTemplate xs → Reads (items lead [] nothing) (items_text xs) (items lead [] xs)
 template_reads nothing lead i = absurd i
 template_reads (variable b g k e) lead i = absurd i
@@ -228,7 +228,7 @@ template_reads (element (variable b f k j) g n inside h c e) lead i = absurd i.0
 template_reads (element (literal b f ps) g n inside h c e) lead i = absurd i.0
 template_reads (element (element b f m j l d a) g n inside h c e) lead i = absurd i.0
 
--- WHERE may come after it
+-- WHERE may come after the template and a gap
 where_takes : (xs : Items) (lead g : List ℕ) → IsTemplate xs → IsGap g → IsTrue (takes (items lead [] xs) g (kind.Fixed mark.Where))
 where_takes nothing lead g i k = absurd i
 where_takes (variable b f j e) lead g i k = absurd i
@@ -239,17 +239,17 @@ where_takes (element b f n inside h c e) lead g i k = has_gap g k
 abbrev rule_head : Rule → Head
 rule_head r = record { lead = r.lead; template = r.template; gap = r.gap }
 
--- where a rule ends
+-- the spot where a rule with this head, these conditions and this order may end
 abbrev pub end_spot : Head → Conds → Order → Spot
 end_spot r cs unordered = cond_done r cs
 end_spot r cs (ordered g h i v) = sorted r cs (ordered g h i v)
 end_spot r cs (descending g h i v j) = sorted r cs (descending g h i v j)
 
--- ORDER
+-- the bytes of ORDER
 abbrev order_bytes : List ℕ
 order_bytes = codes "ORDER"
 
--- BY
+-- the bytes of BY
 abbrev by_bytes : List ℕ
 by_bytes = codes "BY"
 
@@ -257,7 +257,7 @@ by_bytes = codes "BY"
 ordered_parts : (g o h b i v : List ℕ) → (g ++ o) ++ ((h ++ b) ++ (i ++ v)) ≡ g ++ (o ++ (h ++ (b ++ (i ++ v))))
 ordered_parts g o h b i v = simp append_assoc
 
--- an order without DESC
+-- the text of an order without DESC leads to the spot after it
 ordered_reads : (r : Head) (cs : Conds) (g h i v : List ℕ) → IsOrder (ordered g h i v) → Reads (cond_done r cs) (ordered_text g h i v) (sorted r cs (ordered g h i v))
 ordered_reads r cs g h i v is =
     as_text _ _ _ _ (ordered_parts g order_bytes h by_bytes i (36 ∷ v))
@@ -265,7 +265,7 @@ ordered_reads r cs g h i v is =
     (then (ordering r cs g) (ordering_by r cs g h) (sorted r cs (ordered g h i v)) (h ++ by_bytes) (i ++ 36 ∷ v) (token (ordering r cs g) h (fixed mark.By) (blanks_of h is.1) tt (has_gap h is.1))
     (token (ordering_by r cs g h) i (var v) (blanks_of i is.2) is.3 (has_gap i is.2))))
 
--- an order, or none
+-- the text of an order, or of none, leads to the spot where a rule may end
 order_reads : (r : Head) (cs : Conds) (o : Order) → IsOrder o → Reads (cond_done r cs) (order_text o) (end_spot r cs o)
 order_reads r cs unordered is = stays (cond_done r cs)
 order_reads r cs (ordered g h i v) is = ordered_reads r cs g h i v is
@@ -273,7 +273,7 @@ order_reads r cs (descending g h i v j) is =
     then (cond_done r cs) (sorted r cs (ordered g h i v)) (sorted r cs (descending g h i v j)) (ordered_text g h i v) (j ++ codes "DESC") (ordered_reads r cs g h i v (is.0, is.1, is.2, is.3))
     (token (sorted r cs (ordered g h i v)) j (fixed mark.Desc) (blanks_of j is.4) tt (has_gap j is.4))
 
--- the rule that ends there
+-- the rule that ends at the last spot has the parts that were read
 end_rule : (r : Head) (cs : Conds) (o : Order) (g : List ℕ) → rule_at (end_spot r cs o) g ≡ Some (record { lead = r.lead; template = r.template; gap = r.gap; conds = cs; order = o; tail = g })
 end_rule r cs unordered g = refl
 end_rule r cs (ordered e h i v) g = refl

@@ -30,15 +30,15 @@ alike x t b h = step_scan x t.spot t.gap t.lex b h
 stood : (x : List ℕ) (t : State) → run start x ≡ Some t → Stands x t
 stood x t r = subst (Gives (Stands x)) r (run_stands x [] start start_stands)
 
--- what it keeps after one more byte of a text
+-- what a scan keeps after one more byte of a text is what its step makes of that byte
 pub scan_more : (x : List ℕ) (i : ℕ) (s : Scan) → i < length x → ScansTo (take i x) s → option_map scan_of (run start (take (i + 1) x)) ≡ scan_step s (slice_index x i)
 scan_more x i s h e = scan_prefix_by step scan_of scan_step start x i s (λ t b r. alike (take i x) t b (stood (take i x) t r)) h e
 
--- a scan goes on
+-- a scan that goes on with the next byte of a text still stands where the machine does
 pub scan_next : (x : List ℕ) (i : ℕ) (s t : Scan) → i < length x → ScansTo (take i x) s → scan_step s (slice_index x i) ≡ Some t → ScansTo (take (i + 1) x) t
 scan_next x i s t h e n = scan_more x i s h e ∙ n
 
--- a byte between tokens
+-- between tokens no scan goes on with a byte that is not ASCII
 high_between : (o : Option Scan) (b : ℕ) → 128 ≤ b → IsHigh b → IsHigher b → Gives (λ t. InQuotes t.part) (begun o b)
 high_between None b l h k = tt
 high_between (Some s) b l h k = rw k.blank (none_of (first_part (may_now s) b) (no_token (may_now s) b l h k))
@@ -47,7 +47,7 @@ high_between (Some s) b l h k = rw k.blank (none_of (first_part (may_now s) b) (
     none_of None e = tt
     none_of (Some p) e = none_some p (sym e)
 
--- by what the token at hand does
+-- a byte that is not ASCII leads a scan inside quotes or nowhere, by what the token at hand does
 high_by : (s : Scan) (b : ℕ) (o : Option Part) → 128 ≤ b → IsHigh b → IsHigher b → Gives InQuotes o → Gives (λ t. InQuotes t.part) (or_begun s b o)
 high_by s b None l h k e = high_between (settled s) b l h k
 high_by s b (Some p) l h k e = e

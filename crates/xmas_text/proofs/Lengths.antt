@@ -17,7 +17,7 @@ abbrev pub start_end : ℕ → Start → ℕ
 start_end at (by_name n) = at + length n
 start_end at (by_var v) = at + 1 + length v
 
--- the end of a spot's text
+-- where the text of a spot ends
 abbrev pub spot_end : Spot → ℕ
 spot_end beginning = 0
 spot_end (items lead o xs) = level_place lead o + length (items_text xs)
@@ -57,7 +57,7 @@ start_length : (n : ℕ) (s : Start) → n + length (start_text s) ≡ start_end
 start_length n (by_name l) = refl
 start_length n (by_var v) = omega arith
 
--- after `label` inside a group label
+-- the text up to `label` as a key is as long as the places say
 key_label_length : (lead : List ℕ) (o : List Frame) (xs : Items) (g : List ℕ) (ks : Keys) (p : Place) (f : List ℕ) → IsPlace ks p
     → length (spot_text (key_label lead o xs g ks p f)) ≡ key_label_end (brace_place lead o xs g + 1) ks p f
 key_label_length lead o xs g none at_first f h = let here = outer_length lead o in simp length-append (omega (arith, here))
@@ -65,7 +65,7 @@ key_label_length lead o xs g (first e k) at_first f h = absurd h
 key_label_length lead o xs g (more ks e i k) at_first f h = absurd h
 key_label_length lead o xs g ks (at_more i) f h = let here = outer_length lead o in simp length-append (omega (arith, here))
 
--- each spot's text
+-- the text of each spot ends where the spot's place says
 pub spot_length : (s : Spot) → IsSpot s → length (spot_text s) ≡ spot_end s
 spot_length beginning h = refl
 spot_length (items lead o xs) h = base_length lead o xs

@@ -48,11 +48,11 @@ opening_grows l b h = rw h refl
 closing_grows : (l : List ℕ) (b : ℕ) → IsTrue (is_name_byte b) → lex_step (closing l) b ≡ Some (closing (l ++ b ∷ []))
 closing_grows l b h = rw h refl
 
--- a name goes on
+-- a name that is being read goes on with a byte of a name
 naming_grows : (l : List ℕ) (b : ℕ) → IsTrue (is_name_byte b) → lex_step (naming l) b ≡ Some (naming (l ++ b ∷ []))
 naming_grows l b h = rw h refl
 
--- a variable goes on
+-- a variable that is being read goes on with a byte of a word
 varying_grows : (l : List ℕ) (b : ℕ) → IsTrue (is_word_byte b) → lex_step (varying l) b ≡ Some (varying (l ++ b ∷ []))
 varying_grows l b h = rw h refl
 
@@ -97,7 +97,7 @@ name_read s g b l h = grows naming is_name_byte naming_grows s g (b ∷ []) l h
 letter_step : (b : ℕ) → IsTrue (is_letter b) → lex_step dollar b ≡ Some (varying (b ∷ []))
 letter_step b h = rw h refl
 
--- a variable after its $
+-- after its $, the machine reads a variable whole
 pub var_read : (s : Spot) (g v : List ℕ) → IsVar v → run (at s g dollar) v ≡ Some (at s g (varying v))
 var_read s g [] h = absurd h
 var_read s g (b ∷ v) h =
@@ -112,7 +112,7 @@ plain_step b ps h = by_cases (b == 34) (b == 92) _ _ _ h
     by_cases false true x y z h = cc
     by_cases false false x y z h = refl
 
--- a byte after a backslash
+-- inside quotes the machine reads a byte after a backslash as a piece
 escape_step : (b : ℕ) (ps : List Piece) → IsTrue (is_escape b) → lex_step (escaping ps) b ≡ Some (quoting (ps ++ escape b ∷ []))
 escape_step b ps h = rw h refl
 
@@ -136,20 +136,20 @@ quote_read s g ps h = run_then step (inside_quotes ps) (34 ∷ []) (at s g (quot
 mark_step : (m : Mark) (done : List ℕ) (c : ℕ) (rest : List ℕ) → lex_step (marking m done (c ∷ rest)) c ≡ Some (marking m (done ++ c ∷ []) rest)
 mark_step m done c rest = let same : (c == c) ≡ true = grind (arith, nat_tests) in rw same refl
 
--- such a token after its first byte
+-- after its first byte, the machine reads the rest of a token that is always the same
 pub mark_read : (s : Spot) (g : List ℕ) (m : Mark) (done rest : List ℕ) → run (at s g (marking m done rest)) rest ≡ Some (at s g (marking m (done ++ rest) []))
 mark_read s g m done [] = ap (λ r. Some (at s g (marking m r []))) (sym (append_nil done))
 mark_read s g m done (c ∷ rest) =
     run_byte step c rest (at s g (marking m done (c ∷ rest))) (at s g (marking m (done ++ c ∷ []) rest)) (lexes s g (marking m done (c ∷ rest)) (marking m (done ++ c ∷ []) rest) c (mark_step m done c rest))
     ∙ mark_read s g m (done ++ c ∷ []) rest ∙ ap (λ r. Some (at s g (marking m r []))) (append_assoc done (c ∷ []) rest)
 
--- a path by its first byte
+-- the machine reads a path as the path's own machine does, by the first byte
 path_run_at : (s : Spot) (g : List ℕ) (b : ℕ) (x : List ℕ) (o : Option pathing_.State) (p t : pathing_.State) → pathing_.step p b ≡ o → option_and_then (λ u. pathing_.run u x) o ≡ Some t
     → ((u : pathing_.State) → pathing_.run u x ≡ Some t → run (at s g (pathing u)) x ≡ Some (at s g (pathing t))) → run (at s g (pathing p)) (b ∷ x) ≡ Some (at s g (pathing t))
 path_run_at s g b x None p t e h k = none_some t h
 path_run_at s g b x (Some u) p t e h k = run_byte step b x (at s g (pathing p)) (at s g (pathing u)) (lexes s g (pathing p) (pathing u) b (ap map_path e)) ∙ k u h
 
--- a path
+-- the machine reads a path as the path's own machine does
 pub path_run : (s : Spot) (g : List ℕ) (x : List ℕ) (p t : pathing_.State) → pathing_.run p x ≡ Some t → run (at s g (pathing p)) x ≡ Some (at s g (pathing t))
 path_run s g [] p t h = ap (λ u. Some (at s g (pathing u))) (some_is _ _ h)
 path_run s g (b ∷ x) p t h = path_run_at s g b x (pathing_.step p b) p t refl h (λ u k. path_run s g x u t k)

@@ -20,11 +20,11 @@ pub record Moves (s : Spot) (g : List ℕ) (t : Token) : Type 0 where
   pub depth : length (frames_of (shift s g t)) ≡ depth_after (length (frames_of s)) (kind_of t)
   pub deep : nat_lt 20 (levels_at (shift s g t)) ≡ deep_after (nat_lt 20 (levels_at s)) (length (frames_of s)) (kind_of t)
 
--- one more
+-- the number after another one is one more
 one_more : (n : ℕ) → suc n ≡ n + 1
 one_more n = omega arith
 
--- one less
+-- a number is one less than the number after it
 one_less : (n : ℕ) → n ≡ suc n - 1
 one_less n = omega arith
 
@@ -39,7 +39,7 @@ with_group_last (variable b f k e) g ks h m = refl
 with_group_last (literal b f ps) g ks h m = cc
 with_group_last (element b f n i j c e) g ks h m = refl
 
--- there is a key after one more
+-- keys to which one is added are not none
 push_some : (ks : Keys) (p : Place) (g : List ℕ) (k : Key) → is_none (push_key ks p g k) ≡ false
 push_some ks at_first g k = refl
 push_some ks (at_more h) g k = refl
@@ -51,7 +51,7 @@ outer_moves lead xs g (fixed mark.OpenBrace) h = record { stage = refl; depth = 
 outer_moves lead xs g (fixed mark.Where) h = record { stage = refl; depth = refl; deep = refl }
 outer_moves lead xs g t h = cc
 
--- inside an element
+-- inside an element, a scan goes with a token as the spot does
 inner_moves : (lead : List ℕ) (f : Frame) (o : List Frame) (xs : Items) (g : List ℕ) (t : Token) → IsTrue (takes (items lead (f ∷ o) xs) g (kind_of t)) → Moves (items lead (f ∷ o) xs) g t
 inner_moves lead f o xs g (open_tag l) h = record { stage = refl; depth = one_more (length (f ∷ o)); deep = opened (f ∷ o) (levels xs) }
 inner_moves lead f o xs g (close_tag l) h = record { stage = refl; depth = one_less (length o); deep = refl }
@@ -61,17 +61,17 @@ inner_moves lead f o xs g (fixed mark.LabelWord) h = record { stage = refl; dept
 inner_moves lead f o xs g (fixed mark.OpenBrace) h = record { stage = refl; depth = refl; deep = refl }
 inner_moves lead f o xs g t h = cc
 
--- before CONSTRUCT
+-- before CONSTRUCT, a scan goes with a token as the spot does
 beginning_moves : (g : List ℕ) (t : Token) → IsTrue (takes beginning g (kind_of t)) → Moves beginning g t
 beginning_moves g (fixed mark.Construct) h = record { stage = refl; depth = refl; deep = refl }
 beginning_moves g t h = cc
 
--- after `label` as an item
+-- after `label` as an item, a scan goes with a token as the spot does
 labelled_moves : (lead : List ℕ) (o : List Frame) (xs : Items) (e g : List ℕ) (t : Token) → IsTrue (takes (labelled lead o xs e) g (kind_of t)) → Moves (labelled lead o xs e) g t
 labelled_moves lead o xs e g (var v) h = record { stage = refl; depth = refl; deep = refl }
 labelled_moves lead o xs e g t h = cc
 
--- inside a group label
+-- inside a group label, a scan goes with a token as the spot does
 keys_moves : (lead : List ℕ) (o : List Frame) (xs : Items) (e : List ℕ) (ks : Keys) (g : List ℕ) (t : Token) → IsTrue (may_group xs) → IsTrue (takes (keys lead o xs e ks) g (kind_of t)) → Moves (keys lead o xs e ks) g t
 keys_moves lead o xs e ks g (var v) m h = record { stage = refl; depth = refl; deep = refl }
 keys_moves lead o xs e ks g (fixed mark.LabelWord) m h = record { stage = refl; depth = refl; deep = refl }
@@ -83,57 +83,57 @@ keys_moves lead o xs e ks g (fixed mark.CloseBrace) m h = record {
 }
 keys_moves lead o xs e ks g t m h = cc
 
--- after a comma
+-- after a comma, a scan goes with a token as the spot does
 comma_moves : (lead : List ℕ) (o : List Frame) (xs : Items) (e : List ℕ) (ks : Keys) (f g : List ℕ) (t : Token) → IsTrue (takes (key_comma lead o xs e ks f) g (kind_of t)) → Moves (key_comma lead o xs e ks f) g t
 comma_moves lead o xs e ks f g (var v) h = record { stage = refl; depth = refl; deep = refl }
 comma_moves lead o xs e ks f g (fixed mark.LabelWord) h = record { stage = refl; depth = refl; deep = refl }
 comma_moves lead o xs e ks f g t h = cc
 
--- after `label` as a key
+-- after `label` as a key, a scan goes with a token as the spot does
 key_label_moves : (lead : List ℕ) (o : List Frame) (xs : Items) (e : List ℕ) (ks : Keys) (p : Place) (f g : List ℕ) (t : Token) → IsTrue (takes (key_label lead o xs e ks p f) g (kind_of t)) → Moves (key_label lead o xs e ks p f) g t
 key_label_moves lead o xs e ks p f g (var v) h = record { stage = ap stage.Keys (push_some ks p f _); depth = refl; deep = refl }
 key_label_moves lead o xs e ks p f g t h = cc
 
--- where a condition begins
+-- where a condition begins, a scan goes with a token as the spot does
 start_moves : (r : Head) (b : Before) (g : List ℕ) (t : Token) → IsTrue (takes (cond_start r b) g (kind_of t)) → Moves (cond_start r b) g t
 start_moves r b g (word n) h = record { stage = refl; depth = refl; deep = refl }
 start_moves r b g (var v) h = record { stage = refl; depth = refl; deep = refl }
 start_moves r b g t h = cc
 
--- after its first word
+-- after the first word of a condition, a scan goes with a token as the spot does
 from_moves : (r : Head) (b : Before) (e : List ℕ) (s : Start) (g : List ℕ) (t : Token) → IsTrue (takes (cond_from r b e s) g (kind_of t)) → Moves (cond_from r b e s) g t
 from_moves r b e s g (path p) h = record { stage = refl; depth = refl; deep = refl }
 from_moves r b e s g (comparison o) h = record { stage = refl; depth = refl; deep = refl }
 from_moves r b e s g t h = cc
 
--- after a path
+-- after a path, a scan goes with a token as the spot does
 path_moves : (r : Head) (b : Before) (e : List ℕ) (s : Start) (f : List ℕ) (p : Spelled) (g : List ℕ) (t : Token) → IsTrue (takes (cond_path r b e s f p) g (kind_of t)) → Moves (cond_path r b e s f p) g t
 path_moves r b e s f p g (var v) h = record { stage = refl; depth = refl; deep = refl }
 path_moves r b e s f p g t h = cc
 
--- after an operator
+-- after an operator, a scan goes with a token as the spot does
 compared_moves : (r : Head) (b : Before) (e v f : List ℕ) (o : Comparison) (g : List ℕ) (t : Token) → IsTrue (takes (compared r b e v f o) g (kind_of t)) → Moves (compared r b e v f o) g t
 compared_moves r b e v f o g (var u) h = record { stage = refl; depth = refl; deep = refl }
 compared_moves r b e v f o g (quoted ps) h = record { stage = refl; depth = refl; deep = refl }
 compared_moves r b e v f o g t h = cc
 
--- after a condition
+-- after a condition, a scan goes with a token as the spot does
 done_moves : (r : Head) (cs : Conds) (g : List ℕ) (t : Token) → IsTrue (takes (cond_done r cs) g (kind_of t)) → Moves (cond_done r cs) g t
 done_moves r cs g (fixed mark.And) h = record { stage = refl; depth = refl; deep = refl }
 done_moves r cs g (fixed mark.Order) h = record { stage = refl; depth = refl; deep = refl }
 done_moves r cs g t h = cc
 
--- after ORDER
+-- after ORDER, a scan goes with a token as the spot does
 ordering_moves : (r : Head) (cs : Conds) (e g : List ℕ) (t : Token) → IsTrue (takes (ordering r cs e) g (kind_of t)) → Moves (ordering r cs e) g t
 ordering_moves r cs e g (fixed mark.By) h = record { stage = refl; depth = refl; deep = refl }
 ordering_moves r cs e g t h = cc
 
--- after BY
+-- after BY, a scan goes with a token as the spot does
 by_moves : (r : Head) (cs : Conds) (e f g : List ℕ) (t : Token) → IsTrue (takes (ordering_by r cs e f) g (kind_of t)) → Moves (ordering_by r cs e f) g t
 by_moves r cs e f g (var v) h = record { stage = refl; depth = refl; deep = refl }
 by_moves r cs e f g t h = cc
 
--- after the variable that orders
+-- after the variable that orders, a scan goes with a token as the spot does
 sorted_moves : (r : Head) (cs : Conds) (o : Order) (g : List ℕ) (t : Token) → IsTrue (takes (sorted r cs o) g (kind_of t)) → Moves (sorted r cs o) g t
 sorted_moves r cs (ordered e f j v) g (fixed mark.Desc) h = record { stage = refl; depth = refl; deep = refl }
 sorted_moves r cs o g t h = cc
@@ -143,7 +143,7 @@ abbrev pub MayGroup : Spot → Type 0
 MayGroup (keys lead o xs g ks) = IsTrue (may_group xs)
 MayGroup s = Unit {0}
 
--- each token that may come
+-- at each spot, a scan goes with a token that may come as the spot does
 pub moves : (s : Spot) (g : List ℕ) (t : Token) → MayGroup s → IsTrue (takes s g (kind_of t)) → Moves s g t
 moves beginning g t m h = beginning_moves g t h
 moves (items lead [] xs) g t m h = outer_moves lead xs g t h

@@ -42,13 +42,13 @@ pub record On (s : Spot) : Type 0 where
   pub utf8 : IsUtf8 text
   pub reads : Reads s text goal
 
--- ASCII bytes alone
+-- a list of bytes below 128 is ASCII
 low_ascii : (x : List ℕ) → IsTrue (list_all is_low x) → IsAscii x
 low_ascii [] h i = omega arith
 low_ascii (b ∷ x) h zero = low_byte b (and_parts (is_low b) (list_all is_low x) h).0
 low_ascii (b ∷ x) h (suc i) = low_ascii x (and_parts (is_low b) (list_all is_low x) h).1 i
 
--- ASCII bytes are UTF-8
+-- a list of bytes below 128 is UTF-8
 low_utf8 : (x : List ℕ) → IsTrue (list_all is_low x) → IsUtf8 x
 low_utf8 x h = IsUtf8-from_ascii x (low_ascii x h)
 
@@ -56,7 +56,7 @@ low_utf8 x h = IsUtf8-from_ascii x (low_ascii x h)
 on_done : (r : Head) (cs : Conds) → On (cond_done r cs)
 on_done r cs = record { text = []; goal = cond_done r cs; rule = _; whole = refl; utf8 = IsUtf8-nil; reads = stays (cond_done r cs) }
 
--- and after an order
+-- a rule may end after an order
 on_sorted : (r : Head) (cs : Conds) (o : Order) → On (sorted r cs o)
 on_sorted r cs o = record { text = []; goal = sorted r cs o; rule = _; whole = refl; utf8 = IsUtf8-nil; reads = stays (sorted r cs o) }
 
@@ -79,23 +79,23 @@ one_name = 97 ∷ []
 abbrev gap : List ℕ
 gap = 32 ∷ []
 
--- that name is one
+-- the name a is one of the grammar
 name_is : IsName one_name
 name_is = (refl, omega arith)
 
--- after a path
+-- some text leads from a spot after a path to a rule's end
 path_on : (r : Head) (b : Before) (g : List ℕ) (s : Start) (h : List ℕ) (p : paths.Spelled) → On (cond_path r b g s h p)
 path_on r b g s h p = on_token (cond_path r b g s h p) gap (var one_name) refl (refl, refl) refl refl (on_done r _)
 
--- after the first word of a condition
+-- some text leads from a spot after the first word of a condition to a rule's end
 from_on : (r : Head) (b : Before) (g : List ℕ) (s : Start) → On (cond_from r b g s)
 from_on r b g s = on_token (cond_from r b g s) gap (path (paths.word one_name)) refl name_is refl refl (path_on r b g s gap (paths.word one_name))
 
--- where a condition begins
+-- some text leads from where a condition begins to a rule's end
 start_on : (r : Head) (b : Before) → On (cond_start r b)
 start_on r b = on_token (cond_start r b) gap (word one_name) refl name_is refl refl (from_on r b gap _)
 
--- after the template
+-- some text leads from after the template to a rule's end
 element_on : (lead : List ℕ) (b : Items) (f n : List ℕ) (i : Items) (h c : List ℕ) (e : Group) → On (items lead [] (element b f n i h c e))
 element_on lead b f n i h c e = on_token (items lead [] (element b f n i h c e)) gap (fixed mark.Where) refl tt refl refl (start_on _ _)
 
@@ -108,20 +108,20 @@ top_on lead (variable b g k e) = on_token (items lead [] (variable b g k e)) gap
 top_on lead (literal b g ps) = on_token (items lead [] (literal b g ps)) gap (fixed mark.Where) refl tt refl refl (start_on _ _)
 top_on lead (element b f n i h c e) = element_on lead b f n i h c e
 
--- inside elements
+-- some text leads from inside elements to a rule's end
 items_on : (o : List Frame) (lead : List ℕ) (xs : Items) → On (items lead o xs)
 items_on [] lead xs = top_on lead xs
 items_on (f ∷ o) lead xs = on_token (items lead (f ∷ o) xs) [] (close_tag one_name) refl name_is refl refl (items_on o lead (element f.before f.gap f.name xs [] one_name absent))
 
--- inside a group label
+-- some text leads from inside a group label to a rule's end
 keys_on : (lead : List ℕ) (o : List Frame) (xs : Items) (g : List ℕ) (ks : Keys) → On (keys lead o xs g ks)
 keys_on lead o xs g ks = on_token (keys lead o xs g ks) [] (fixed mark.CloseBrace) refl tt refl refl (items_on o lead _)
 
--- after BY
+-- some text leads from after BY to a rule's end
 by_on : (r : Head) (cs : Conds) (g h : List ℕ) → On (ordering_by r cs g h)
 by_on r cs g h = on_token (ordering_by r cs g h) gap (var one_name) refl (refl, refl) refl refl (on_sorted r cs _)
 
--- each spot goes on
+-- from each spot some text leads to a rule's end
 pub spot_on : (s : Spot) → On s
 spot_on beginning = on_token beginning [] (fixed mark.Construct) refl tt refl refl (items_on [] [] nothing)
 spot_on (items lead o xs) = items_on o lead xs
@@ -165,7 +165,7 @@ at_on s t h =
     let b = n.reads t h in
     record { bytes = n.text; utf8 = n.utf8; rule = n.rule; read = ap (option_and_then whole) b.runs ∙ b.is.ends ∙ n.whole }
 
--- a token that has ended
+-- a state whose token ends before each byte that may follow goes on
 last_on : (s : Spot) (g : List ℕ) (l : Lex) (t : Token) → token_in l ≡ Some t → ((b : ℕ) → IsTrue (follows (shift s g t) b) → lex_step l b ≡ None) → GoesOn (at s g l)
 last_on s g l t e q = at_on (shift s g t) (at s g l) (record { steps = λ b f. last_step s g l t b e (q b f); ends = last_whole s g l t e })
 
@@ -193,7 +193,7 @@ var_unfixed (sorted r cs unordered) g v h = cc
 var_unfixed (sorted r cs (ordered e f i j)) g v h = cc
 var_unfixed (sorted r cs (descending e f i j k)) g v h = cc
 
--- nor does a name
+-- no name leads to a fixed spot
 word_unfixed : (s : Spot) (g l : List ℕ) → IsTrue (takes s g kind.Name) → is_fixed (shift s g (word l)) ≡ false
 word_unfixed beginning g l h = cc
 word_unfixed (items lead [] xs) g l h = cc
@@ -213,15 +213,15 @@ word_unfixed (sorted r cs unordered) g l h = cc
 word_unfixed (sorted r cs (ordered e f i j)) g l h = cc
 word_unfixed (sorted r cs (descending e f i j k)) g l h = cc
 
--- a variable goes on
+-- a variable that is being read where one may come goes on to a whole rule
 var_on : (s : Spot) (g v : List ℕ) → IsTrue (takes s g kind.Var) → GoesOn (at s g (varying v))
 var_on s g v h = last_on s g (varying v) (var v) refl (λ b f. varying_quiet v b (unfixed (is_fixed (shift s g (var v))) (is_apart b) (no_equal (shift s g (var v)) b) (var_unfixed s g v h) f))
 
--- a name goes on
+-- a name that is being read where one may come goes on to a whole rule
 word_on : (s : Spot) (g l : List ℕ) → IsTrue (takes s g kind.Name) → GoesOn (at s g (naming l))
 word_on s g l h = last_on s g (naming l) (word l) refl (λ b f. naming_quiet l b (unfixed (is_fixed (shift s g (word l))) (is_apart b) (no_equal (shift s g (word l)) b) (word_unfixed s g l h) f))
 
--- nor does a path
+-- no path leads to a fixed spot
 path_unfixed : (s : Spot) (g : List ℕ) (p : paths.Spelled) → IsTrue (takes s g kind.Path) → is_fixed (shift s g (path p)) ≡ false
 path_unfixed beginning g p h = cc
 path_unfixed (items lead [] xs) g p h = cc
@@ -252,7 +252,7 @@ path_end : (s : Spot) (g y : List ℕ) (p : pathing_.State) (o : Option pathing_
 path_end s g y p None q l h r w = none_some q w
 path_end s g y p (Some t) q l h r w = text_on y (at s g (pathing p)) (at s g (pathing t)) l (path_run s g y p t r) (path_last s g t q h w)
 
--- each path goes on
+-- a path that is being read where one may come goes on to a whole rule
 path_goes : (s : Spot) (g : List ℕ) (p : pathing_.State) → IsTrue (takes s g kind.Path) → GoesOn (at s g (pathing p))
 path_goes s g p h = let on = path_prefixes.mode_on p.here p.outer p.mode in path_end s g on.bytes p (pathing_.run p on.bytes) on.spelled on.utf8 h refl on.read
 
@@ -274,11 +274,11 @@ opening_on s g l = byte_on 62 (at s g (opening l)) (at s g (ready (open_tag l)))
 closing_on : (s : Spot) (g l : List ℕ) → GoesOn (at s g (closing l))
 closing_on s g l = byte_on 62 (at s g (closing l)) (at s g (ready (close_tag l))) refl refl (ready_on s g (close_tag l))
 
--- and so it does without a name
+-- a closing tag without a name so far goes on
 slash_on : (s : Spot) (g : List ℕ) → GoesOn (at s g slash)
 slash_on s g = byte_on 97 (at s g slash) (at s g (closing one_name)) refl refl (closing_on s g one_name)
 
--- a bracket goes on
+-- an opened bracket after which a name or a slash may come goes on to a whole rule
 angle_on : (s : Spot) (g : List ℕ) (p q : Bool) → IsTrue (p || q) → GoesOn (at s g (angle p q))
 angle_on s g true true h = byte_on 47 (at s g (angle true true)) (at s g slash) refl refl (slash_on s g)
 angle_on s g true false h = byte_on 97 (at s g (angle true false)) (at s g (opening one_name)) refl refl (opening_on s g one_name)
@@ -297,12 +297,12 @@ gap_on s g t b c i k l =
     (sym (run_then step g (gap ++ token_text t) (at s [] between) (at s g between) (gap_run s [] g b)) ∙ ap (run (at s [] between)) (sym (append_assoc g gap (token_text t))) ∙ n.runs)
     (at_on (shift s (g ++ gap) t) n.state n.is)
 
--- there is a blank after one more
+-- a gap to which a blank is added has a blank
 has_gap : (g : List ℕ) → IsTrue (has_blank (g ++ gap))
 has_gap [] = refl
 has_gap (b ∷ g) = refl
 
--- blanks go on
+-- between tokens the state goes on
 between_on : (s : Spot) (g : List ℕ) → IsBlanks g → IsBlanks (g ++ gap) → GoesOn (at s g between)
 between_on beginning g b c = gap_on beginning g (fixed mark.Construct) b c tt refl refl
 between_on (items lead [] nothing) g b c = gap_on (items lead [] nothing) g (open_tag one_name) b c name_is (has_gap g) refl
@@ -357,6 +357,6 @@ run_prefix x t u e =
 pub stopped_writes : (x y : List ℕ) (r : Rule) → run start x ≡ None → Writes (x ++ y) r → ⊥
 stopped_writes x y r e h = none_some r (sym (ap (option_and_then whole) (run_append step x y start ∙ ap (option_and_then (λ u. run u y)) e)) ∙ complete.writes_read (x ++ y) r h)
 
--- and it is no prefix
+-- a text where a run has stopped is no prefix of a rule's text
 pub stopped_prefix : (x : List ℕ) → run start x ≡ None → IsPrefix Spells x → ⊥
 stopped_prefix x e (y, v, u, (r, h, k)) = stopped_writes x y r e h

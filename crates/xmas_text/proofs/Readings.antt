@@ -16,7 +16,7 @@ use Rattle.xmas_text.proofs.Lexes.{open_read, close_read, name_read, var_read, q
 use Rattle.xmas_text.proofs.Tokens.{is_fixed, no_equal, follows, Reading}
 use Rattle.xmas_tokens.proofs.Apart.{is_apart, mark_solid, apart_not_name, varying_quiet, naming_quiet, name_solid, apart_marks, repeat_quiet, path_solid}
 
--- a blank is no empty gap
+-- a gap that has a blank is not empty
 pub no_gap : (h : List ℕ) (c : Bool) → IsTrue (has_blank h) → h ≡ [] → IsTrue c
 no_gap [] c k e = cc
 no_gap (b ∷ h) c k e = cc
@@ -37,7 +37,7 @@ mark_reading s h m b f = record {
   quiet = λ c g. refl;
 }
 
--- an opening tag
+-- an opening tag is read, where its bracket may begin one
 pub open_reading : (s : Spot) (h l : List ℕ) (q : Bool) → IsName l → begin (takes s h) 60 ≡ Some (angle true q) → (h ≡ [] → IsTrue (follows s 60)) → Reading s h (open_tag l)
 open_reading s h l q n b f = record {
   first = 60;
@@ -53,7 +53,7 @@ open_reading s h l q n b f = record {
   quiet = λ c g. refl;
 }
 
--- a closing tag
+-- a closing tag is read, where its bracket may begin one
 pub close_reading : (s : Spot) (h l : List ℕ) (p : Bool) → IsName l → begin (takes s h) 60 ≡ Some (angle p true) → (h ≡ [] → IsTrue (follows s 60)) → Reading s h (close_tag l)
 close_reading s h l p n b f = record {
   first = 60;
@@ -69,7 +69,7 @@ close_reading s h l p n b f = record {
   quiet = λ c g. refl;
 }
 
--- a quoted label
+-- a quoted label is read, where its quote may begin one
 pub quoted_reading : (s : Spot) (h : List ℕ) (ps : List Piece) → ArePieces ps → begin (takes s h) 34 ≡ Some (quoting []) → (h ≡ [] → IsTrue (follows s 34)) → Reading s h (quoted ps)
 quoted_reading s h ps q b f = record {
   first = 34;
@@ -91,7 +91,7 @@ unfixed true c e n h = cc
 unfixed false true e n h = refl
 unfixed false false e n h = cc
 
--- a variable
+-- a variable is read, where $ may begin one
 pub var_reading : (s : Spot) (h v : List ℕ) → IsVar v → is_fixed (shift s h (var v)) ≡ false → begin (takes s h) 36 ≡ Some dollar → (h ≡ [] → IsTrue (follows s 36)) → Reading s h (var v)
 var_reading s h v i n b f = record {
   first = 36;
@@ -107,7 +107,7 @@ var_reading s h v i n b f = record {
   quiet = λ c g. varying_quiet v c (unfixed (is_fixed (shift s h (var v))) (is_apart c) (no_equal (shift s h (var v)) c) n g);
 }
 
--- a name
+-- a name is read, where its first byte may begin one and a blank stands before it
 pub word_reading : (s : Spot) (h l : List ℕ) → IsName l → is_fixed (shift s h (word l)) ≡ false → ((b : ℕ) → IsTrue (is_name_byte b) → begin (takes s h) b ≡ Some (naming (b ∷ []))) → IsTrue (has_blank h) → Reading s h (word l)
 word_reading s h [] i n b f = absurd (omega arith)
 word_reading s h (c ∷ l) i n b f =
@@ -146,13 +146,13 @@ path_reading_at s h p b y (Some u) g m q o t r i j n k f = record {
       ap map_path (path_complete.ends_by c g [] m q (apart_not_name c a) (apart_marks c a) i ∙ repeat_quiet g q c a);
 }
 
--- a path, by its text
+-- a path is read, by its text
 path_reading_of : (s : Spot) (h : List ℕ) (p : paths.Spelled) (x : List ℕ) (g : pathing_.Frame) (m : pathing_.Mode) (q : paths.Spelled) → paths.text_of p ≡ x → pathing_.run pathing_.first x ≡ Some (pathing_.at g [] m)
     → pathing_.repeat_in m ≡ Some q → pathing_.path_in g q ≡ p → is_fixed (shift s h (path p)) ≡ false → ((b : ℕ) (u : pathing_.State) → pathing_.step pathing_.first b ≡ Some u → begin (takes s h) b ≡ Some (pathing u)) → IsTrue (has_blank h) → Reading s h (path p)
 path_reading_of s h p [] g m q t r i j n k f = none_some q (ap (λ z. pathing_.repeat_in z.mode) (some_is _ _ r) ∙ i)
 path_reading_of s h p (b ∷ y) g m q t r i j n k f = path_reading_at s h p b y (pathing_.step pathing_.first b) g m q refl t r i j n (k b) f
 
--- a path
+-- a path is read, where its first byte may begin one and a blank stands before it
 pub path_reading : (s : Spot) (h : List ℕ) (p : paths.Spelled) → paths.Is p paths.a_path → is_fixed (shift s h (path p)) ≡ false → ((b : ℕ) (u : pathing_.State) → pathing_.step pathing_.first b ≡ Some u → begin (takes s h) b ≡ Some (pathing u)) → IsTrue (has_blank h) → Reading s h (path p)
 path_reading s h p is n k f =
     let r = path_complete.reads p paths.a_path is [] in

@@ -46,7 +46,7 @@ comma_label base h p k e m g t = simp append_assoc
 pub place_after : (base h p k e m l g t : List ℕ) → base ++ (h ++ (p ++ (k ++ (e ++ (m ++ (l ++ (g ++ t))))))) ≡ (base ++ (h ++ (p ++ (k ++ (e ++ (m ++ l)))))) ++ (g ++ t)
 place_after base h p k e m l g t = simp append_assoc
 
--- two parts before a token
+-- a text of two parts with a gap and a token after it, part by part
 pub two_after : (a b g t : List ℕ) → a ++ (b ++ (g ++ t)) ≡ (a ++ b) ++ (g ++ t)
 two_after a b g t = simp append_assoc
 
@@ -54,7 +54,7 @@ two_after a b g t = simp append_assoc
 pub four_after : (a b h s g t : List ℕ) → a ++ (b ++ (h ++ (s ++ (g ++ t)))) ≡ (a ++ (b ++ (h ++ s))) ++ (g ++ t)
 four_after a b h s g t = simp append_assoc
 
--- six parts before a token
+-- a text of six parts with a gap and a token after it, part by part
 pub six_after : (a b h s e p g t : List ℕ) → a ++ (b ++ (h ++ (s ++ (e ++ (p ++ (g ++ t)))))) ≡ (a ++ (b ++ (h ++ (s ++ (e ++ p))))) ++ (g ++ t)
 six_after a b h s e p g t = simp append_assoc
 

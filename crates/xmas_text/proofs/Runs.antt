@@ -22,7 +22,7 @@ pub record Stands (x : List ℕ) (s : State) : Type 0 where
   pub offered : Offered (takes s.spot s.gap) s.lex
   pub text : spot_text s.spot ++ (s.gap ++ lex_text s.lex) ≡ x
 
--- a token has begun
+-- a state in which a token has begun is well formed, and writes the text with its first byte
 with_lex_stands : (x : List ℕ) (s : Spot) (g : List ℕ) (b : ℕ) (o : Option Lex) → IsSpot s → IsBlanks g → spot_text s ++ g ≡ x → Gives (Goes (takes s g) (b ∷ [])) o → Gives (Stands (x ++ b ∷ [])) (with_lex s g o)
 with_lex_stands x s g b None h k e i = tt
 with_lex_stands x s g b (Some l) h k e i = record {
@@ -33,7 +33,7 @@ with_lex_stands x s g b (Some l) h k e i = record {
   text = ap (λ r. spot_text s ++ (g ++ r)) i.text ∙ sym (append_assoc (spot_text s) g (b ∷ [])) ∙ ap (λ r. r ++ b ∷ []) e;
 }
 
--- a byte between tokens
+-- the state after a byte between tokens is well formed, and writes the text with that byte
 pub next_stands : (x : List ℕ) (s : Spot) (g : List ℕ) (b : ℕ) → IsSpot s → IsBlanks g → spot_text s ++ g ≡ x → Gives (Stands (x ++ b ∷ [])) (next s g b)
 next_stands x s g b h k e =
     either _ (is_blank b) _ _
@@ -46,7 +46,7 @@ next_stands x s g b h k e =
     })
     (λ n. with_lex_stands x s g b (begin (takes s g) b) h k e (begin_goes (takes s g) b))
 
--- a byte after a token
+-- the state after a byte that follows a token is well formed, and writes the text with that byte
 after_stands : (x : List ℕ) (s : Spot) (g : List ℕ) (l : Lex) (o : Option Token) (b : ℕ) → token_in l ≡ o → Stands x (at s g l) → Gives (Stands (x ++ b ∷ [])) (after s g o b)
 after_stands x s g l None b e h = tt
 after_stands x s g l (Some t) b e h =
@@ -68,11 +68,11 @@ lex_stands x s g l b (Some m) h k = record {
     regrouped : (a c d e : List ℕ) → a ++ (c ++ (d ++ e)) ≡ (a ++ (c ++ d)) ++ e
     regrouped a c d e = simp append_assoc
 
--- the same, by what the token at hand does
+-- the state after a byte is well formed, and writes the text with it, by what the token at hand does
 lexed : (x : List ℕ) (s : Spot) (g : List ℕ) (l : Lex) (b : ℕ) → Stands x (at s g l) → Gives (Stands (x ++ b ∷ [])) (or_after s g l b (lex_step l b))
 lexed x s g l b h = lex_stands x s g l b (lex_step l b) h (lex_goes (takes s g) l b h.lex h.offered)
 
--- one more byte
+-- the state after one more byte is well formed, and writes the text with that byte
 pub step_stands : (x : List ℕ) (s : Spot) (g : List ℕ) (l : Lex) (b : ℕ) → Stands x (at s g l) → Gives (Stands (x ++ b ∷ [])) (step_in s g l b)
 step_stands x s g between b h = next_stands x s g b h.spot h.gap (ap (λ r. spot_text s ++ r) (sym (append_nil g)) ∙ h.text)
 step_stands x s g (marking m done rest) b h = lexed x s g (marking m done rest) b h
@@ -89,18 +89,18 @@ step_stands x s g (pathing p) b h = lexed x s g (pathing p) b h
 step_stands x s g (comparing k) b h = lexed x s g (comparing k) b h
 step_stands x s g (ready t) b h = lexed x s g (ready t) b h
 
--- a text by its first byte
+-- the state after a text is well formed, where that after its first byte is
 after_step : (x y : List ℕ) (b : ℕ) (s : Option State) → Gives (Stands (x ++ b ∷ [])) s → ((t : State) → Stands (x ++ b ∷ []) t → Gives (Stands ((x ++ b ∷ []) ++ y)) (run t y))
     → Gives (Stands (x ++ b ∷ y)) (option_and_then (λ t. run t y) s)
 after_step x y b None h k = tt
 after_step x y b (Some t) h k = subst (λ z. Gives (Stands z) (run t y)) (append_assoc x (b ∷ []) y) (k t h)
 
--- a text
+-- the state after a text is well formed, and writes that text
 pub run_stands : (y x : List ℕ) (s : State) → Stands x s → Gives (Stands (x ++ y)) (run s y)
 run_stands [] x s h = subst (λ z. Stands z s) (sym (append_nil x)) h
 run_stands (b ∷ y) x s h = after_step x y b (step s b) (step_stands x s.spot s.gap s.lex b h) (λ t k. run_stands y (x ++ b ∷ []) t k)
 
--- before a text
+-- the state before a text is well formed, and writes nothing
 pub start_stands : Stands [] start
 start_stands = record { spot = tt; gap = refl; lex = tt; offered = tt; text = refl }
 
@@ -126,7 +126,7 @@ at_writes x (sorted h cs o) g r i b t e =
     )
 at_writes x s g r i b t e = none_some r e
 
--- so is the rule that may end after a token
+-- the rule that may end after a token is written as the text that was read
 after_writes : (x : List ℕ) (s : Spot) (g : List ℕ) (l : Lex) (o : Option Token) (r : Rule) → token_in l ≡ o → Stands x (at s g l) → rule_after s g o ≡ Some r → Writes x r
 after_writes x s g l None r e h w = none_some r w
 after_writes x s g l (Some t) r e h w =
@@ -134,7 +134,7 @@ after_writes x s g l (Some t) r e h w =
     let n = shifts s g t h.spot h.gap k.is k.taken in
     at_writes x (shift s g t) [] r n.is refl (append_nil _ ∙ n.text ∙ ap (λ r. spot_text s ++ (g ++ r)) k.text ∙ h.text) w
 
--- so is the rule that has been read
+-- the rule that has been read whole is written as the text that was read
 pub whole_writes : (x : List ℕ) (s : Spot) (g : List ℕ) (l : Lex) (r : Rule) → Stands x (at s g l) → whole_in s g l ≡ Some r → Writes x r
 whole_writes x s g between r h e = at_writes x s g r h.spot h.gap (ap (λ r. spot_text s ++ r) (sym (append_nil g)) ∙ h.text) e
 whole_writes x s g (marking m done rest) r h e = after_writes x s g (marking m done rest) _ r refl h e
@@ -151,7 +151,7 @@ whole_writes x s g (pathing p) r h e = after_writes x s g (pathing p) _ r refl h
 whole_writes x s g (comparing k) r h e = after_writes x s g (comparing k) _ r refl h e
 whole_writes x s g (ready t) r h e = after_writes x s g (ready t) _ r refl h e
 
--- the same, from an option
+-- the rule that is read in a state that stands is written as the text, from an option
 read_from : (x : List ℕ) (s : Option State) (r : Rule) → Gives (Stands x) s → option_and_then whole s ≡ Some r → Writes x r
 read_from x None r h e = none_some r e
 read_from x (Some s) r h e = whole_writes x s.spot s.gap s.lex r h e

@@ -31,7 +31,7 @@ item_gap_of (variable before f e i) g h k = gap_of g h k
 item_gap_of (literal before f ps) g h k = gap_of g h k
 item_gap_of (element before f n i e c j) g h k = gap_of g h k
 
--- no items are nothing
+-- items that are none are nothing
 nothing_of : (xs : Items) → IsTrue (is_nothing xs) → IsNothing xs
 nothing_of nothing h = tt
 nothing_of (variable before f e i) h = cc
@@ -61,7 +61,7 @@ with_group_text (element before f n i j c absent) e h =
     regrouped a b c d e f g h i j k = simp append_assoc
 with_group_text (element before f n i j c (braced k ks l)) e h = cc
 
--- such items are well formed
+-- items whose last one gets a group label stay well formed
 with_group_items : (xs : Items) (e : Group) → IsTrue (may_group xs) → IsGroup e → AreItems xs → AreItems (with_group xs e)
 with_group_items nothing e h k is = is
 with_group_items (variable before f j absent) e h k is = (is.0, is.1, is.2, k)
@@ -70,7 +70,7 @@ with_group_items (literal before f ps) e h k is = is
 with_group_items (element before f n i j c absent) e h k is = (is.0, is.1, is.2, is.3, is.4, is.5, k)
 with_group_items (element before f n i j c (braced l ks m)) e h k is = cc
 
--- so is such a template
+-- the template stays one element where it gets a group label
 with_group_top : (xs : Items) (e : Group) → IsTrue (may_group xs) → IsGroup e → IsTop xs → IsTop (with_group xs e)
 with_group_top nothing e h k is = is
 with_group_top (variable before f j i) e h k is = absurd is
@@ -78,12 +78,12 @@ with_group_top (literal before f ps) e h k is = absurd is
 with_group_top (element before f n i j c absent) e h k is = (is.0, is.1, is.2, is.3, is.4, is.5, k)
 with_group_top (element before f n i j c (braced l ks m)) e h k is = cc
 
--- and such a level
+-- items and the open elements around them stay well formed where the last item gets a group label
 with_group_level : (o : List Frame) (xs : Items) (e : Group) → IsTrue (may_group xs) → IsGroup e → Level o xs → Level o (with_group xs e)
 with_group_level [] xs e h k is = with_group_top xs e h k is
 with_group_level (f ∷ o) xs e h k is = (with_group_items xs e h k is.0, is.1, is.2, is.3)
 
--- some keys are keys
+-- keys that are not none have a key
 has_keys_of : (ks : Keys) → IsTrue (not (is_none ks)) → HasKeys ks
 has_keys_of none h = cc
 has_keys_of (first g k) h = tt
@@ -95,7 +95,7 @@ place_first none h = tt
 place_first (first g k) h = cc
 place_first (more ks g e k) h = cc
 
--- and after a comma where there is one
+-- a key may come after a comma where there is a key
 place_more : (ks : Keys) (h : List ℕ) → HasKeys ks → IsBlanks h → IsPlace ks (at_more h)
 place_more none h k b = absurd k
 place_more (first g j) h k b = b
@@ -116,7 +116,7 @@ push_text none (at_more i) g k h = absurd h
 push_text (first e j) (at_more i) g k h = ap (λ r. keys_text (first e j) ++ r) (sym (append_assoc i (44 ∷ []) (g ++ key_text k)))
 push_text (more ks f e j) (at_more i) g k h = ap (λ r. keys_text (more ks f e j) ++ r) (sym (append_assoc i (44 ∷ []) (g ++ key_text k)))
 
--- such keys are well formed
+-- keys stay well formed with one more
 push_is : (ks : Keys) (p : Place) (g : List ℕ) (k : Key) → AreKeys ks → IsPlace ks p → IsBlanks g → IsKey k → AreKeys (push_key ks p g k)
 push_is none at_first g k a h b i = (b, i)
 push_is (first e j) at_first g k a h b i = absurd h
@@ -133,7 +133,7 @@ conds_push (also_cond cs h) g c = regrouped (conds_text cs) h (codes "AND") (g +
     regrouped : (a b c d : List ℕ) → a ++ (b ++ (c ++ d)) ≡ (a ++ (b ++ c)) ++ d
     regrouped a b c d = simp append_assoc
 
--- such conditions are well formed
+-- conditions stay well formed with one more
 conds_are : (b : Before) (g : List ℕ) (c : Cond) → IsBefore b → IsGap g → IsCond c → AreConds (push_cond b g c)
 conds_are first_cond g c h k i = (k, i)
 conds_are (also_cond cs h') g c h k i = (h.0, h.1, k, i)
@@ -143,16 +143,16 @@ cond_of_text : (s : Start) (g : List ℕ) (p : paths.Spelled) (h v : List ℕ) �
 cond_of_text (by_name n) g p h v = refl
 cond_of_text (by_var u) g p h v = refl
 
--- such a condition is well formed
+-- a condition with a path is well formed where its parts are
 cond_of_is : (s : Start) (g : List ℕ) (p : paths.Spelled) (h v : List ℕ) → IsStart s → IsGap g → paths.Is p paths.a_path → IsGap h → IsVar v → IsCond (cond_of s g p h v)
 cond_of_is (by_name n) g p h v a b c d e = (a, b, c, d, e)
 cond_of_is (by_var u) g p h v a b c d e = (a, b, c, d, e)
 
--- the token may come
+-- the token may come at the spot after the gap
 abbrev Taken : Spot → List ℕ → Token → Type 0
 Taken s g t = IsTrue (takes s g (kind_of t))
 
--- before CONSTRUCT
+-- before CONSTRUCT, a token that may come is written after its spot
 beginning_shifts : (g : List ℕ) (t : Token) → IsBlanks g → IsToken t → Taken beginning g t → Shifts beginning g t
 beginning_shifts g (fixed mark.Construct) b i h = record { is = (b, tt); text = refl }
 beginning_shifts g t b i h = cc
@@ -177,7 +177,7 @@ closed_is : (lead : List ℕ) (f : Frame) (o : List Frame) (xs : Items) (g l : L
 closed_is lead f [] xs g l a s b i = (a, (s.2.0, s.2.1, s.1, s.0, b, i, tt))
 closed_is lead f (e ∷ o) xs g l a s b i = (a, ((s.3.0, s.2, s.1, s.0, b, i, tt), s.3.1, s.3.2, s.3.3))
 
--- inside an element
+-- inside an element, a token that may come is written after its spot
 inner_shifts : (lead : List ℕ) (f : Frame) (o : List Frame) (xs : Items) (g : List ℕ) (t : Token) → IsSpot (items lead (f ∷ o) xs) → IsBlanks g → IsToken t → Taken (items lead (f ∷ o) xs) g t
     → Shifts (items lead (f ∷ o) xs) g t
 inner_shifts lead f o xs g (open_tag l) s b i h = record {
@@ -206,7 +206,7 @@ labelled_is : (lead : List ℕ) (o : List Frame) (xs : Items) (e g v : List ℕ)
 labelled_is lead [] xs e g v s b i = absurd s.2
 labelled_is lead (f ∷ o) xs e g v s b i = (s.0, ((s.1.0, s.3, (b, i), tt), s.1.1, s.1.2, s.1.3))
 
--- after `label` as an item
+-- after `label` as an item, a token that may come is written after its spot
 labelled_shifts : (lead : List ℕ) (o : List Frame) (xs : Items) (e g : List ℕ) (t : Token) → IsSpot (labelled lead o xs e) → IsBlanks g → IsToken t → Taken (labelled lead o xs e) g t
     → Shifts (labelled lead o xs e) g t
 labelled_shifts lead o xs e g (var v) s b i h = record {
@@ -215,7 +215,7 @@ labelled_shifts lead o xs e g (var v) s b i h = record {
 }
 labelled_shifts lead o xs e g t s b i h = cc
 
--- inside a group label
+-- inside a group label, a token that may come is written after its spot
 keys_shifts : (lead : List ℕ) (o : List Frame) (xs : Items) (e : List ℕ) (ks : Keys) (g : List ℕ) (t : Token) → IsSpot (keys lead o xs e ks) → IsBlanks g → IsToken t → Taken (keys lead o xs e ks) g t
     → Shifts (keys lead o xs e ks) g t
 keys_shifts lead o xs e ks g (var v) s b i h = record {
@@ -240,7 +240,7 @@ keys_shifts lead o xs e ks g (fixed mark.CloseBrace) s b i h = record {
 }
 keys_shifts lead o xs e ks g t s b i h = cc
 
--- after a comma
+-- after a comma, a token that may come is written after its spot
 comma_shifts : (lead : List ℕ) (o : List Frame) (xs : Items) (e : List ℕ) (ks : Keys) (f g : List ℕ) (t : Token) → IsSpot (key_comma lead o xs e ks f) → IsBlanks g → IsToken t
     → Taken (key_comma lead o xs e ks f) g t → Shifts (key_comma lead o xs e ks f) g t
 comma_shifts lead o xs e ks f g (var v) s b i h = record {
@@ -253,7 +253,7 @@ comma_shifts lead o xs e ks f g (fixed mark.LabelWord) s b i h = record {
 }
 comma_shifts lead o xs e ks f g t s b i h = cc
 
--- after `label` as a key
+-- after `label` as a key, a token that may come is written after its spot
 key_label_shifts : (lead : List ℕ) (o : List Frame) (xs : Items) (e : List ℕ) (ks : Keys) (p : Place) (f g : List ℕ) (t : Token) → IsSpot (key_label lead o xs e ks p f) → IsBlanks g → IsToken t
     → Taken (key_label lead o xs e ks p f) g t → Shifts (key_label lead o xs e ks p f) g t
 key_label_shifts lead o xs e ks p f g (var v) s b i h = record {
@@ -264,13 +264,13 @@ key_label_shifts lead o xs e ks p f g (var v) s b i h = record {
 }
 key_label_shifts lead o xs e ks p f g t s b i h = cc
 
--- where a condition begins
+-- where a condition begins, a token that may come is written after its spot
 start_shifts : (r : Head) (c : Before) (g : List ℕ) (t : Token) → IsSpot (cond_start r c) → IsBlanks g → IsToken t → Taken (cond_start r c) g t → Shifts (cond_start r c) g t
 start_shifts r c g (word n) s b i h = record { is = (s.0, s.1, gap_of g b h, i); text = two_after (head_text r) (before_text c) g n }
 start_shifts r c g (var v) s b i h = record { is = (s.0, s.1, gap_of g b h, i); text = two_after (head_text r) (before_text c) g (token_text (var v)) }
 start_shifts r c g t s b i h = cc
 
--- after its first word
+-- after the first word of a condition, a token that may come is written after its spot
 from_shifts : (r : Head) (c : Before) (e : List ℕ) (a : Start) (g : List ℕ) (t : Token) → IsSpot (cond_from r c e a) → IsBlanks g → IsToken t → Taken (cond_from r c e a) g t → Shifts (cond_from r c e a) g t
 from_shifts r c e a g (path p) s b i h = record {
   is = (s.0, s.1, s.2, s.3, gap_of g b h, i);
@@ -279,7 +279,7 @@ from_shifts r c e a g (path p) s b i h = record {
 from_shifts r c e (by_var v) g (comparison o) s b i h = record { is = (s.0, s.1, s.2, s.3, b); text = four_after (head_text r) (before_text c) e (36 ∷ v) g (op_text o) }
 from_shifts r c e a g t s b i h = cc
 
--- an operand
+-- the spot after an operand is well formed, and its text is that before it, the gap and the operand
 operand_shifts : (r : Head) (c : Before) (e v f : List ℕ) (o : Comparison) (g : List ℕ) (a : Operand) → IsSpot (compared r c e v f o) → IsBlanks g → IsOperand a
     → IsSpot (cond_done r (push_cond c e (compare v f o g a))) × (spot_text (cond_done r (push_cond c e (compare v f o g a))) ≡ spot_text (compared r c e v f o) ++ (g ++ operand_text a))
 operand_shifts r c e v f o g a s b i = (
@@ -287,13 +287,13 @@ operand_shifts r c e v f o g a s b i = (
   ap (λ x. head_text r ++ x) (conds_push c e (compare v f o g a)) ∙ six_after (head_text r) (before_text c) e (36 ∷ v) f (op_text o) g (operand_text a),
 )
 
--- after an operator
+-- after an operator, a token that may come is written after its spot
 compared_shifts : (r : Head) (c : Before) (e v f : List ℕ) (o : Comparison) (g : List ℕ) (t : Token) → IsSpot (compared r c e v f o) → IsBlanks g → IsToken t → Taken (compared r c e v f o) g t → Shifts (compared r c e v f o) g t
 compared_shifts r c e v f o g (var u) s b i h = let k = operand_shifts r c e v f o g (a_variable u) s b i in record { is = k.0; text = k.1 }
 compared_shifts r c e v f o g (quoted ps) s b i h = let k = operand_shifts r c e v f o g (a_text ps) s b i in record { is = k.0; text = k.1 }
 compared_shifts r c e v f o g t s b i h = cc
 
--- after a path
+-- after a path, a token that may come is written after its spot
 path_shifts : (r : Head) (c : Before) (e : List ℕ) (a : Start) (f : List ℕ) (p : paths.Spelled) (g : List ℕ) (t : Token) → IsSpot (cond_path r c e a f p) → IsBlanks g → IsToken t
     → Taken (cond_path r c e a f p) g t → Shifts (cond_path r c e a f p) g t
 path_shifts r c e a f p g (var v) s b i h = record {
@@ -304,28 +304,28 @@ path_shifts r c e a f p g (var v) s b i h = record {
 }
 path_shifts r c e a f p g t s b i h = cc
 
--- after a condition
+-- after a condition, a token that may come is written after its spot
 done_shifts : (r : Head) (cs : Conds) (g : List ℕ) (t : Token) → IsSpot (cond_done r cs) → IsBlanks g → IsToken t → Taken (cond_done r cs) g t → Shifts (cond_done r cs) g t
 done_shifts r cs g (fixed mark.And) s b i h = record { is = (s.0, (s.1, gap_of g b h)); text = two_after (head_text r) (conds_text cs) g (codes "AND") }
 done_shifts r cs g (fixed mark.Order) s b i h = record { is = (s.0, s.1, gap_of g b h); text = two_after (head_text r) (conds_text cs) g (codes "ORDER") }
 done_shifts r cs g t s b i h = cc
 
--- after ORDER
+-- after ORDER, a token that may come is written after its spot
 ordering_shifts : (r : Head) (cs : Conds) (e g : List ℕ) (t : Token) → IsSpot (ordering r cs e) → IsBlanks g → IsToken t → Taken (ordering r cs e) g t → Shifts (ordering r cs e) g t
 ordering_shifts r cs e g (fixed mark.By) s b i h = record { is = (s.0, s.1, s.2, gap_of g b h); text = order_after (head_text r) (conds_text cs) e (codes "ORDER") g (codes "BY") }
 ordering_shifts r cs e g t s b i h = cc
 
--- after BY
+-- after BY, a token that may come is written after its spot
 by_shifts : (r : Head) (cs : Conds) (e f g : List ℕ) (t : Token) → IsSpot (ordering_by r cs e f) → IsBlanks g → IsToken t → Taken (ordering_by r cs e f) g t → Shifts (ordering_by r cs e f) g t
 by_shifts r cs e f g (var v) s b i h = record { is = (s.0, s.1, (s.2, s.3, gap_of g b h, i)); text = by_after (head_text r) (conds_text cs) e (codes "ORDER") f (codes "BY") g (token_text (var v)) }
 by_shifts r cs e f g t s b i h = cc
 
--- after the variable that orders
+-- after the variable that orders, a token that may come is written after its spot
 sorted_shifts : (r : Head) (cs : Conds) (o : Order) (g : List ℕ) (t : Token) → IsSpot (sorted r cs o) → IsBlanks g → IsToken t → Taken (sorted r cs o) g t → Shifts (sorted r cs o) g t
 sorted_shifts r cs (ordered e f j v) g (fixed mark.Desc) s b i h = record { is = (s.0, s.1, (s.2.0, s.2.1, s.2.2, s.2.3, gap_of g b h)); text = sorted_after (head_text r) (conds_text cs) (ordered_text e f j v) g (codes "DESC") }
 sorted_shifts r cs o g t s b i h = cc
 
--- each token that may come
+-- at each spot, a token that may come is written after it
 pub shifts : (s : Spot) (g : List ℕ) (t : Token) → IsSpot s → IsBlanks g → IsToken t → IsTrue (takes s g (kind_of t)) → Shifts s g t
 shifts beginning g t s b i h = beginning_shifts g t b i h
 shifts (items lead [] xs) g t s b i h = outer_shifts lead xs g t s b i h

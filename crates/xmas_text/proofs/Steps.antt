@@ -25,17 +25,17 @@ inside_count (f ∷ o) = positive (length o)
     positive : (n : ℕ) → true ≡ nat_lt 0 (suc n)
     positive n = grind (arith, nat_tests)
 
--- there is a blank after one more
+-- a gap with one more byte has a blank
 blank_more : (g : List ℕ) (b : ℕ) → has_blank (g ++ b ∷ []) ≡ true
 blank_more [] b = refl
 blank_more (c ∷ g) b = refl
 
--- both choices, side by side
+-- two choices by one boolean are scanned alike where their sides are
 either : (b : Bool) (x y : Option State) (v w : Option Scan) → option_map scan_of x ≡ v → option_map scan_of y ≡ w → option_map scan_of (cond b x y) ≡ cond b v w
 either true x y v w h k = h
 either false x y v w h k = k
 
--- a token has begun
+-- a state in which a token has begun is scanned as the scan with the token's part
 with_lex_scan : (s : Spot) (g : List ℕ) (o : Option Lex) → option_map scan_of (with_lex s g o) ≡ option_map (with_part (scan_of (at s g between))) (option_map part_of o)
 with_lex_scan s g None = refl
 with_lex_scan s g (Some l) = refl
@@ -44,7 +44,7 @@ with_lex_scan s g (Some l) = refl
 blank_scan : (s : Spot) (g : List ℕ) (b : ℕ) → Some (scan_of (at s (g ++ b ∷ []) between)) ≡ Some (record { stage = stage_of s; depth = length (frames_of s); deep = nat_lt 20 (levels_at s); gap = true; part = part_of between })
 blank_scan s g b = ap (λ q. Some (record { stage = stage_of s; depth = length (frames_of s); deep = nat_lt 20 (levels_at s); gap = q; part = part_of between })) (blank_more g b)
 
--- a byte between tokens
+-- a byte between tokens leads the scan as it leads the state
 pub next_scan : (s : Spot) (g : List ℕ) (b : ℕ) → option_map scan_of (next s g b) ≡ between_step (scan_of (at s g between)) b
 next_scan s g b =
     either (is_blank b) _ _ _ _ (blank_scan s g b)
@@ -57,7 +57,7 @@ abbrev pub rest_by : Spot → List ℕ → Option Token → Option State
 rest_by s g None = None
 rest_by s g (Some t) = Some (at (shift s g t) [] between)
 
--- the same, of what has been read of a token
+-- the state between tokens in which the token at hand ends, where one may end
 abbrev pub rest_in : Spot → List ℕ → Lex → Option State
 rest_in s g between = Some (at s g between)
 rest_in s g (marking m done rest) = rest_by s g (token_in (marking m done rest))
@@ -74,7 +74,7 @@ rest_in s g (pathing p) = rest_by s g (token_in (pathing p))
 rest_in s g (ready t) = rest_by s g (token_in (ready t))
 rest_in s g (comparing k) = rest_by s g (token_in (comparing k))
 
--- the same, of a state
+-- the state between tokens in which a state's token ends, where one may end
 abbrev pub rest : State → Option State
 rest t = rest_in t.spot t.gap t.lex
 
@@ -82,7 +82,7 @@ rest t = rest_in t.spot t.gap t.lex
 abbrev fresh : Stage → ℕ → Bool → Scan
 fresh s n deep = record { stage = s; depth = n; deep = deep; gap = false; part = part_of between }
 
--- such scans are the same where their parts are
+-- two scans between tokens are the same where their stages, depths and levels are
 fresh_same : (p q : Stage) (m n : ℕ) (c d : Bool) → p ≡ q → m ≡ n → c ≡ d → fresh p m c ≡ fresh q n d
 fresh_same p q m n c d h k l = ap (λ u. fresh u m c) h ∙ ap (λ u. fresh q u c) k ∙ ap (λ u. fresh q n u) l
 
@@ -116,7 +116,7 @@ rest_scan x s g (pathing p) h = rest_token x s g (pathing p) h
 rest_scan x s g (ready t) h = rest_token x s g (ready t) h
 rest_scan x s g (comparing k) h = rest_token x s g (comparing k) h
 
--- a byte after a token
+-- a byte after a token leads on from the state in which the token ends
 after_rest : (s : Spot) (g : List ℕ) (o : Option Token) (b : ℕ) → after s g o b ≡ option_and_then (λ u. next u.spot u.gap b) (rest_by s g o)
 after_rest s g None b = refl
 after_rest s g (Some t) b = refl
@@ -138,7 +138,7 @@ step_rest s g (pathing p) b e = ap (or_after s g (pathing p) b) e ∙ after_rest
 step_rest s g (ready t) b e = ap (or_after s g (ready t) b) e ∙ after_rest s g (token_in (ready t)) b
 step_rest s g (comparing k) b e = ap (or_after s g (comparing k) b) e ∙ after_rest s g (token_in (comparing k)) b
 
--- a byte that goes on
+-- a byte that goes on with the token at hand leads to the state with the longer token
 pub step_on : (s : Spot) (g : List ℕ) (l k : Lex) (b : ℕ) → lex_step l b ≡ Some k → step_in s g l b ≡ Some (at s g k)
 step_on s g between k b e = none_some k e
 step_on s g (marking m done r) k b e = ap (or_after s g (marking m done r) b) e
@@ -165,7 +165,7 @@ rest_by_between : (s : Spot) (g : List ℕ) (o : Option Token) (t : State) → r
 rest_by_between s g None t e = none_some t e
 rest_by_between s g (Some u) t e = ap (λ v. v.lex) (sym (some_is _ _ e))
 
--- the same
+-- where the token at hand has ended, no token is at hand
 pub rest_between : (s : Spot) (g : List ℕ) (l : Lex) (t : State) → rest_in s g l ≡ Some t → t.lex ≡ between
 rest_between s g between t e = ap (λ v. v.lex) (sym (some_is _ _ e))
 rest_between s g (marking m done r) t e = rest_by_between s g (token_in (marking m done r)) t e
@@ -188,6 +188,6 @@ step_scan_by x s g l b None e h =
     ap (option_map scan_of) (step_rest s g l b e) ∙ next_begun (rest_in s g l) b (rest_between s g l) ∙ ap (λ q. begun q b) (rest_scan x s g l h)
 step_scan_by x s g l b (Some k) e h = ap (option_map scan_of) (step_on s g l k b e)
 
--- one more byte
+-- one more byte leads the scan as it leads the state
 pub step_scan : (x : List ℕ) (s : Spot) (g : List ℕ) (l : Lex) (b : ℕ) → Stands x (at s g l) → option_map scan_of (step_in s g l b) ≡ scan_step (scan_of (at s g l)) b
 step_scan x s g l b h = step_scan_by x s g l b (lex_step l b) refl h ∙ ap (or_begun (scan_of (at s g l)) b) (step_part l b h.lex)

@@ -18,7 +18,7 @@ use Rattle.xmas_text.proofs.Tokens.{Reading}
 use Rattle.xmas_tokens.proofs.Apart.{is_apart}
 use Rattle.xmas_text.proofs.Readings.{no_gap, mark_reading, open_reading, close_reading, quoted_reading, var_reading, word_reading, path_reading}
 
--- the token may come
+-- the token may come at the spot after the gap
 abbrev Taken : Spot → List ℕ → Token → Type 0
 Taken s g t = IsTrue (takes s g (kind_of t))
 
@@ -27,7 +27,7 @@ or_true : (q : Bool) → (q || true) ≡ true
 or_true true = refl
 or_true false = refl
 
--- so does the other
+-- a disjunction whose first part is true is true
 or_left : (q c : Bool) → IsTrue q → IsTrue (q || c)
 or_left true c h = refl
 or_left false c h = cc
@@ -77,7 +77,7 @@ no_equal_quiet k b h = by_cases (b == 61) _ (and_parts (is_apart b) (not (b == 6
     by_cases true x h = cc
     by_cases false x h = refl
 
--- an operator
+-- an operator is read after a variable that begins a condition
 comparison_reading : (r : Head) (c : Before) (e v h : List ℕ) (o : Comparison) → Reading (cond_from r c e (by_var v)) h (comparison o)
 comparison_reading r c e v h op.Eq = record { first = 61; rest = []; text = refl; solid = refl; may = λ n. refl; lex = ready (comparison op.Eq); begins = refl; last = ready (comparison op.Eq); reads = refl; ends = refl; quiet = λ b f. refl }
 comparison_reading r c e v h op.Ne = record { first = 33; rest = 61 ∷ []; text = refl; solid = refl; may = λ n. refl; lex = comparing sign.Bang; begins = refl; last = ready (comparison op.Ne); reads = refl; ends = refl; quiet = λ b f. refl }
@@ -86,12 +86,12 @@ comparison_reading r c e v h op.Le = record { first = 60; rest = 61 ∷ []; text
 comparison_reading r c e v h op.Gt = record { first = 62; rest = []; text = refl; solid = refl; may = λ n. refl; lex = comparing sign.Greater; begins = refl; last = comparing sign.Greater; reads = refl; ends = refl; quiet = λ b f. no_equal_quiet sign.Greater b f }
 comparison_reading r c e v h op.Ge = record { first = 62; rest = 61 ∷ []; text = refl; solid = refl; may = λ n. refl; lex = comparing sign.Greater; begins = refl; last = ready (comparison op.Ge); reads = refl; ends = refl; quiet = λ b f. refl }
 
--- there is a key after one more
+-- keys to which one is added are not none
 pub push_unfixed : (ks : Keys) (p : Place) (g : List ℕ) (k : Key) → is_none (push_key ks p g k) ≡ false
 push_unfixed ks at_first g k = refl
 push_unfixed ks (at_more h) g k = refl
 
--- before CONSTRUCT
+-- before CONSTRUCT, each token that may come is read
 beginning_reading : (h : List ℕ) (t : Token) → IsToken t → Taken beginning h t → Reading beginning h t
 beginning_reading h (fixed mark.Construct) i k = mark_reading beginning h mark.Construct refl (λ e. refl)
 beginning_reading h t i k = cc
@@ -103,7 +103,7 @@ outer_reading lead xs h (fixed mark.OpenBrace) i k = mark_reading (items lead []
 outer_reading lead xs h (fixed mark.Where) i k = mark_reading (items lead [] xs) h mark.Where (rw k refl) (no_gap h _ (and_parts (not (is_nothing xs)) (has_blank h) k).1)
 outer_reading lead xs h t i k = cc
 
--- inside an element
+-- inside an element, each token that may come is read
 inner_reading : (lead : List ℕ) (f : Frame) (o : List Frame) (xs : Items) (h : List ℕ) (t : Token) → IsToken t → Taken (items lead (f ∷ o) xs) h t → Reading (items lead (f ∷ o) xs) h t
 inner_reading lead f o xs h (open_tag l) i k = open_reading (items lead (f ∷ o) xs) h l true i (rw k refl) (λ e. or_true (is_nothing xs))
 inner_reading lead f o xs h (close_tag l) i k = close_reading (items lead (f ∷ o) xs) h l (item_gap xs h) i (rw (or_true (item_gap xs h)) refl) (λ e. or_true (is_nothing xs))
@@ -113,12 +113,12 @@ inner_reading lead f o xs h (fixed mark.LabelWord) i k = mark_reading (items lea
 inner_reading lead f o xs h (fixed mark.OpenBrace) i k = mark_reading (items lead (f ∷ o) xs) h mark.OpenBrace (rw k refl) (λ e. or_true (is_nothing xs))
 inner_reading lead f o xs h t i k = cc
 
--- after `label` as an item
+-- after `label` as an item, each token that may come is read
 labelled_reading : (lead : List ℕ) (o : List Frame) (xs : Items) (e h : List ℕ) (t : Token) → IsToken t → Taken (labelled lead o xs e) h t → Reading (labelled lead o xs e) h t
 labelled_reading lead o xs e h (var v) i k = var_reading (labelled lead o xs e) h v i refl (rw k refl) (no_gap h _ k)
 labelled_reading lead o xs e h t i k = cc
 
--- inside a group label
+-- inside a group label, each token that may come is read
 keys_reading : (lead : List ℕ) (o : List Frame) (xs : Items) (e : List ℕ) (ks : Keys) (h : List ℕ) (t : Token) → IsToken t → Taken (keys lead o xs e ks) h t → Reading (keys lead o xs e ks) h t
 keys_reading lead o xs e ks h (var v) i k = var_reading (keys lead o xs e ks) h v i refl (rw k refl) (λ n. or_left (is_none ks) _ k)
 keys_reading lead o xs e ks h (fixed mark.LabelWord) i k = mark_reading (keys lead o xs e ks) h mark.LabelWord (rw k refl) (λ n. or_left (is_none ks) _ k)
@@ -126,57 +126,57 @@ keys_reading lead o xs e ks h (fixed mark.Comma) i k = mark_reading (keys lead o
 keys_reading lead o xs e ks h (fixed mark.CloseBrace) i k = mark_reading (keys lead o xs e ks) h mark.CloseBrace refl (λ n. or_true (is_none ks))
 keys_reading lead o xs e ks h t i k = cc
 
--- after a comma
+-- after a comma, each token that may come is read
 comma_reading : (lead : List ℕ) (o : List Frame) (xs : Items) (e : List ℕ) (ks : Keys) (f h : List ℕ) (t : Token) → IsToken t → Taken (key_comma lead o xs e ks f) h t → Reading (key_comma lead o xs e ks f) h t
 comma_reading lead o xs e ks f h (var v) i k = var_reading (key_comma lead o xs e ks f) h v i refl refl (λ n. refl)
 comma_reading lead o xs e ks f h (fixed mark.LabelWord) i k = mark_reading (key_comma lead o xs e ks f) h mark.LabelWord refl (λ n. refl)
 comma_reading lead o xs e ks f h t i k = cc
 
--- after `label` as a key
+-- after `label` as a key, each token that may come is read
 key_label_reading : (lead : List ℕ) (o : List Frame) (xs : Items) (e : List ℕ) (ks : Keys) (p : Place) (f h : List ℕ) (t : Token) → IsToken t → Taken (key_label lead o xs e ks p f) h t → Reading (key_label lead o xs e ks p f) h t
 key_label_reading lead o xs e ks p f h (var v) i k = var_reading (key_label lead o xs e ks p f) h v i (push_unfixed ks p f _) (rw k refl) (no_gap h _ k)
 key_label_reading lead o xs e ks p f h t i k = cc
 
--- where a condition begins
+-- where a condition begins, each token that may come is read
 start_reading : (r : Head) (c : Before) (h : List ℕ) (t : Token) → IsToken t → Taken (cond_start r c) h t → Reading (cond_start r c) h t
 start_reading r c h (word n) i k = word_reading (cond_start r c) h n i refl (λ b m. start_word r c h b k m) k
 start_reading r c h (var v) i k = var_reading (cond_start r c) h v i refl (rw k refl) (no_gap h _ k)
 start_reading r c h t i k = cc
 
--- after its first word
+-- after the first word of a condition, each token that may come is read
 from_reading : (r : Head) (c : Before) (e : List ℕ) (a : Start) (h : List ℕ) (t : Token) → IsToken t → Taken (cond_from r c e a) h t → Reading (cond_from r c e a) h t
 from_reading r c e a h (path p) i k = path_reading (cond_from r c e a) h p i refl (λ b u m. from_path r c e a h b u k m) k
 from_reading r c e (by_var v) h (comparison o) i k = comparison_reading r c e v h o
 from_reading r c e a h t i k = cc
 
--- after an operator
+-- after an operator, each token that may come is read
 compared_reading : (r : Head) (c : Before) (e v f : List ℕ) (o : Comparison) (h : List ℕ) (t : Token) → IsToken t → Taken (compared r c e v f o) h t → Reading (compared r c e v f o) h t
 compared_reading r c e v f o h (var u) i k = var_reading (compared r c e v f o) h u i refl refl (λ n. refl)
 compared_reading r c e v f o h (quoted ps) i k = quoted_reading (compared r c e v f o) h ps i refl (λ n. refl)
 compared_reading r c e v f o h t i k = cc
 
--- after a path
+-- after a path, each token that may come is read
 cond_path_reading : (r : Head) (c : Before) (e : List ℕ) (a : Start) (f : List ℕ) (p : paths.Spelled) (h : List ℕ) (t : Token) → IsToken t → Taken (cond_path r c e a f p) h t → Reading (cond_path r c e a f p) h t
 cond_path_reading r c e a f p h (var v) i k = var_reading (cond_path r c e a f p) h v i refl (rw k refl) (no_gap h _ k)
 cond_path_reading r c e a f p h t i k = cc
 
--- after a condition
+-- after a condition, each token that may come is read
 done_reading : (r : Head) (cs : Conds) (h : List ℕ) (t : Token) → IsToken t → Taken (cond_done r cs) h t → Reading (cond_done r cs) h t
 done_reading r cs h (fixed mark.And) i k = mark_reading (cond_done r cs) h mark.And (rw k refl) (no_gap h _ k)
 done_reading r cs h (fixed mark.Order) i k = mark_reading (cond_done r cs) h mark.Order (rw k refl) (no_gap h _ k)
 done_reading r cs h t i k = cc
 
--- after ORDER
+-- after ORDER, each token that may come is read
 ordering_reading : (r : Head) (cs : Conds) (e h : List ℕ) (t : Token) → IsToken t → Taken (ordering r cs e) h t → Reading (ordering r cs e) h t
 ordering_reading r cs e h (fixed mark.By) i k = mark_reading (ordering r cs e) h mark.By (rw k refl) (no_gap h _ k)
 ordering_reading r cs e h t i k = cc
 
--- after BY
+-- after BY, each token that may come is read
 by_reading : (r : Head) (cs : Conds) (e f h : List ℕ) (t : Token) → IsToken t → Taken (ordering_by r cs e f) h t → Reading (ordering_by r cs e f) h t
 by_reading r cs e f h (var v) i k = var_reading (ordering_by r cs e f) h v i refl (rw k refl) (no_gap h _ k)
 by_reading r cs e f h t i k = cc
 
--- after the variable that orders
+-- after the variable that orders, each token that may come is read
 sorted_reading : (r : Head) (cs : Conds) (o : Order) (h : List ℕ) (t : Token) → IsToken t → Taken (sorted r cs o) h t → Reading (sorted r cs o) h t
 sorted_reading r cs (ordered e f j v) h (fixed mark.Desc) i k = mark_reading (sorted r cs (ordered e f j v)) h mark.Desc (rw k refl) (no_gap h _ k)
 sorted_reading r cs o h t i k = cc

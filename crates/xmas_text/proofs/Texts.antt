@@ -1,4 +1,4 @@
--- What a spot writes.
+-- What a spot writes, and when what stands before it is as the grammar has it.
 use Rattle.std.specs.Prelude.{codes}
 use Rattle.std.proofs.Common.{ℕ, IsTrue, List, [], ◌∷◌, ◌++◌}
 use Rattle.mix_tree.specs.Names.{IsName}
@@ -25,11 +25,11 @@ base lead o xs = lead ++ (construct_text ++ (outer_text o ++ items_text xs))
 abbrev pub head_text : Head → List ℕ
 head_text r = r.lead ++ (construct_text ++ (items_text r.template ++ (r.gap ++ where_text)))
 
--- `label`
+-- the text of the word `label`
 abbrev pub label_text : List ℕ
 label_text = codes "label"
 
--- what stands before a key
+-- the text before a key: nothing, or blanks and a comma
 abbrev pub place_text : Place → List ℕ
 place_text at_first = []
 place_text (at_more h) = h ++ 44 ∷ []
@@ -87,7 +87,7 @@ Inside (f ∷ o) = Unit {0}
 abbrev pub IsHead : Head → Type 0
 IsHead r = IsBlanks r.lead × IsTemplate r.template × IsGap r.gap
 
--- a key may stand there
+-- a key may stand at this place of the keys
 abbrev pub IsPlace : Keys → Place → Type 0
 IsPlace none at_first = Unit {0}
 IsPlace (first g k) at_first = ⊥
@@ -101,7 +101,7 @@ abbrev pub IsBefore : Before → Type 0
 IsBefore first_cond = Unit {0}
 IsBefore (also_cond cs g) = AreConds cs × IsGap g
 
--- a condition may begin so
+-- what a condition begins with is a name or a variable of the grammar
 abbrev pub IsStart : Start → Type 0
 IsStart (by_name n) = IsName n
 IsStart (by_var v) = IsVar v

@@ -29,7 +29,7 @@ is_fixed (ordering r cs g) = false
 is_fixed (ordering_by r cs g h) = false
 is_fixed (sorted r cs o) = false
 
--- after < and > a = would go on
+-- the byte does not go on with an operator: after < and > it is no =
 abbrev pub no_equal : Spot → ℕ → Bool
 no_equal (compared r e g v h o) b = not (b == 61)
 no_equal s b = true
@@ -47,7 +47,7 @@ pub record IsAt (s : Spot) (t : State) : Type 0 where
 pub at_start : (s : Spot) → IsAt s (at s [] between)
 at_start s = record { steps = λ b h. refl; ends = refl }
 
--- how a token is read
+-- how a token after a gap at a spot is read, from its first byte to its last
 pub record Reading (s : Spot) (h : List ℕ) (t : Token) : Type 0 where
   pub first : ℕ
   pub rest : List ℕ
@@ -61,7 +61,7 @@ pub record Reading (s : Spot) (h : List ℕ) (t : Token) : Type 0 where
   pub ends : token_in last ≡ Some t
   pub quiet : (b : ℕ) → IsTrue (follows (shift s h t) b) → lex_step last b ≡ None
 
--- a byte after a token
+-- a byte that ends a token leads on from the spot after that token
 pub last_step : (s : Spot) (h : List ℕ) (l : Lex) (t : Token) (b : ℕ) → token_in l ≡ Some t → lex_step l b ≡ None → step_in s h l b ≡ next (shift s h t) [] b
 last_step s h between t b e n = none_some t e
 last_step s h (marking m done rest) t b e n = ap (or_after s h (marking m done rest) b) n ∙ ap (λ o. after s h o b) e
@@ -95,7 +95,7 @@ last_whole s h (pathing p) t e = ap (rule_after s h) e
 last_whole s h (comparing k) t e = ap (rule_after s h) e
 last_whole s h (ready u) t e = ap (rule_after s h) e
 
--- blanks between tokens
+-- between tokens a blank is added to the gap
 pub gap_step : (s : Spot) (g : List ℕ) (b : ℕ) → IsTrue (is_blank b) → next s g b ≡ Some (at s (g ++ b ∷ []) between)
 gap_step s g b h = rw h refl
 
@@ -135,7 +135,7 @@ first_read s st (c ∷ h) b y l a g f n e =
     ∙ run_then step h (b ∷ y) (at s (c ∷ []) between) (at s (c ∷ h) between) (gap_run s (c ∷ []) h parts.1)
     ∙ run_byte step b y (at s (c ∷ h) between) (at s (c ∷ h) l) (token_step s (c ∷ h) b l n e)
 
--- the state after a token
+-- the text leads from the state to one that stands at the spot
 pub record After (s : Spot) (x : List ℕ) (t : State) : Type 0 where
   pub state : State
   pub runs : run t x ≡ Some state

@@ -40,7 +40,7 @@ scan_unexpected x i s u h e n = record {
       stopped_prefix (take (i + 1) x) (kept_none scan_of (run start (take (i + 1) x)) (scan_more x i s h e ∙ n));
 }
 
--- the rule after a token
+-- the rule that ends after a token is the one at the state in which the token ends
 rule_rest : (s : Spot) (g : List ℕ) (o : Option Token) → rule_after s g o ≡ option_and_then (λ u. rule_at u.spot u.gap) (rest_by s g o)
 rule_rest s g None = refl
 rule_rest s g (Some t) = refl
@@ -62,17 +62,17 @@ whole_rest s g (pathing p) = rule_rest s g (token_in (pathing p))
 whole_rest s g (ready t) = rule_rest s g (token_in (ready t))
 whole_rest s g (comparing k) = rule_rest s g (token_in (comparing k))
 
--- a rule of so many levels
+-- the rule has as many levels as have been read at the spot
 abbrev RuleOf : Spot → Rule → Type 0
 RuleOf s r = levels r.template ≡ levels_at s
 
--- where a rule may end
+-- at a stage where a rule may end, the spot has a rule of its levels
 pub may_end_rule : (s : Spot) (g : List ℕ) → may_end_at (stage_of s) ≡ true → (r : Rule) × (rule_at s g ≡ Some r) × RuleOf s r
 may_end_rule (cond_done h cs) g e = (_, refl, refl)
 may_end_rule (sorted h cs o) g e = (_, refl, refl)
 may_end_rule s g e = cc
 
--- where none may end
+-- at a stage where no rule may end, the spot has no rule
 no_end_rule : (s : Spot) (g : List ℕ) → may_end_at (stage_of s) ≡ false → rule_at s g ≡ None
 no_end_rule (cond_done h cs) g e = cc
 no_end_rule (sorted h cs o) g e = cc
@@ -128,7 +128,7 @@ within_scan x b (r, w, e) d =
     let n : nat_lt 20 (levels r.template) ≡ false = e ∙ d in
     (r, w, grind (arith, nat_tests))
 
--- a rule that it finds too deep
+-- a text of a rule that the scan finds too deep is too deep
 pub deep_scan : (x : List ℕ) (b : Scan) → Ends x b → b.deep ≡ true → IsTooDeep x
 deep_scan x b (r, w, e) d =
     let n : nat_lt 20 (levels r.template) ≡ true = e ∙ d in
@@ -141,7 +141,7 @@ ends_by x s b true true r u e h m k w = subst (Scans x) (sym w) (u, deep_scan x 
 ends_by x s b true false (Ok v) u e h m k w = within_scan x b (scan_ends x s b e h m) k
 ends_by x s b true false (Err f) u e h m k w = absurd w
 
--- the same, by where the token at hand ends
+-- what is said of a text that a scan has passed is right, by where the token at hand ends
 ends_where : {X : Type 0} (x : List ℕ) (s : Scan) (o : Option Scan) (r : Result X TextFault) → IsUtf8 x → ScansTo x s → settled s ≡ o → EndsSo o r → Scans x r
 ends_where x s None r u e h w = subst (Scans x) (sym w) (u, scan_cut x s u e (subst NoEnd (sym h) tt))
 ends_where x s (Some b) r u e h w = ends_by x s b (may_end_at b.stage) b.deep r u e h refl refl w

@@ -23,7 +23,7 @@ pub record BuildForm : Type 0 where
   pub from : ℕ
   pub draft : DraftForm
 
--- what the code keeps
+-- what the code keeps of a text that is being built, as a value
 abbrev pub build_in : Build → BuildForm
 build_in b = record { scan = b.scan; from = b.from; draft = draft_in b.draft }
 
@@ -50,7 +50,7 @@ abbrev pub place_after : ℕ → Part → ℕ
 place_after at part.Between = at + 1
 place_after at p = at
 
--- a byte can be added
+-- what has to hold of the text and of what is kept, that the byte at a place can be added
 pub record CanBuild (text : List ℕ) (at : ℕ) (b : BuildForm) : Type 0 where
   pub inside : at < length text
   pub order : b.from ≤ at
@@ -77,6 +77,6 @@ pub record Builds (text : List ℕ) (at : ℕ) (b next : BuildForm) : Type 0 whe
 abbrev pub IsOneElement : List ItemText → Type 0
 IsOneElement is = (e : ElementForm) × (is ≡ item.Element e ∷ [])
 
--- the tree of a draft
+-- the tree of the rule that a draft has built
 abbrev pub tree_of : DraftForm → RuleForm
 tree_of d = record { template = d.built.items; conds = d.built.conds; order = d.built.order }

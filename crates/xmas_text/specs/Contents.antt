@@ -32,6 +32,6 @@ pub record ElementForm : Type 0 where
   pub close_name : List ℕ
   pub group : Option GroupForm
 
--- its tags
+-- the two tags of an element and its group label
 abbrev pub tags_of : ElementForm → Tags
 tags_of e = record { at = e.at; name = e.name; close_at = e.close_at; close_name = e.close_name; group = e.group }

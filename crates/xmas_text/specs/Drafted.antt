@@ -22,7 +22,7 @@ abbrev pub level_place : List ℕ → List Frame → ℕ
 level_place lead [] = length lead + length construct_text
 level_place lead (f ∷ o) = level_place lead o + length (items_text f.before) + length f.gap + 1 + length f.name + 1
 
--- the open elements
+-- the open elements of a spot as the draft keeps them, the innermost first
 abbrev pub opens_at : List ℕ → List Frame → List OpenForm
 opens_at lead [] = []
 opens_at lead (f ∷ o) =
@@ -52,7 +52,7 @@ brace_place lead o xs g = level_place lead o + length (items_text xs) + length g
 abbrev pub group_so_far : List ℕ → List Frame → Items → List ℕ → Keys → GroupForm
 group_so_far lead o xs g ks = record { at = brace_place lead o xs g; keys = keys_at (brace_place lead o xs g + 1) ks }
 
--- where the conditions begin
+-- where the conditions begin after what stands before them
 abbrev pub head_place : Head → ℕ
 head_place r = length r.lead + length construct_text + length (items_text r.template) + length r.gap + length where_text
 
@@ -61,7 +61,7 @@ abbrev pub before_place : ℕ → Before → ℕ
 before_place at first_cond = at
 before_place at (also_cond cs g) = at + length (conds_text cs) + length g + 3
 
--- the conditions before it
+-- the conditions that stand before the one at hand
 abbrev pub conds_before : ℕ → Before → List CondText
 conds_before at first_cond = []
 conds_before at (also_cond cs g) = conds_at at cs

@@ -22,7 +22,7 @@ pub record BuiltForm : Type 0 where
   pub conds : List CondText
   pub order : Option OrderText
 
--- a draft
+-- a rule that is being built: what has been read whole, and the part at hand
 pub record DraftForm : Type 0 where
   pub built : BuiltForm
   pub pending : Pending
@@ -35,7 +35,7 @@ open_in e = record { at = e.at; name = e.name; before = e.before.items }
 abbrev pub built_in : Built → BuiltForm
 built_in b = record { open_elements = reverse (map open_in b.open.items); items = b.items.items; conds = b.conds.items; order = b.order }
 
--- a draft of the code
+-- a draft of the code, as a value
 abbrev pub draft_in : Draft → DraftForm
 draft_in d = record { built = built_in d.built; pending = d.pending }
 

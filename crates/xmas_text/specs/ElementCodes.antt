@@ -98,7 +98,7 @@ contents_from (None ∷ codes) = nothing ∷ contents_from codes
 contents_from (Some (inl tags) ∷ codes) = with_tags tags (contents_from codes)
 contents_from (Some (inr item) ∷ codes) = with_leaf item (contents_from codes)
 
--- the first of these
+-- the first contents of a list, or nothing
 abbrev pub first_contents : List Contents → Contents
 first_contents [] = nothing
 first_contents (c ∷ rest) = c

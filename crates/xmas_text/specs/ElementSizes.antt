@@ -8,6 +8,6 @@ contents_size nothing = 0
 contents_size (element tags inside after) = 1 + contents_size inside + contents_size after
 contents_size (leaf item after) = 1 + contents_size after
 
--- an element and its items
+-- how many items an element has, those inside included, and the element itself
 abbrev pub element_size : ElementForm → ℕ
 element_size e = 1 + contents_size e.contents

@@ -60,7 +60,7 @@ abbrev pub IsKey : Key → Type 0
 IsKey (node v) = IsVar v
 IsKey (label g v) = IsGap g × IsVar v
 
--- there is a key
+-- the keys are not none
 abbrev pub HasKeys : Keys → Type 0
 HasKeys none = ⊥
 HasKeys (first g k) = Unit {0}
@@ -141,7 +141,7 @@ abbrev pub AreConds : Conds → Type 0
 AreConds (one g c) = IsGap g × IsCond c
 AreConds (also cs g h c) = AreConds cs × IsGap g × IsGap h × IsCond c
 
--- there is no item
+-- there are no items
 abbrev pub IsNothing : Items → Type 0
 IsNothing nothing = Unit {0}
 IsNothing (variable before g k group) = ⊥
@@ -186,11 +186,11 @@ pub record Rule : Type 0 where
   pub order : Order
   pub tail : List ℕ
 
--- CONSTRUCT
+-- the bytes of CONSTRUCT
 abbrev pub construct_text : List ℕ
 construct_text = codes "CONSTRUCT"
 
--- WHERE
+-- the bytes of WHERE
 abbrev pub where_text : List ℕ
 where_text = codes "WHERE"
 
@@ -207,6 +207,6 @@ pub record IsRule (r : Rule) : Type 0 where
   pub order : IsOrder r.order
   pub tail : IsBlanks r.tail
 
--- the text is written so
+-- the text is that of the rule, which is as the grammar has it
 abbrev pub Writes : List ℕ → Rule → Type 0
 Writes x r = IsRule r × (rule_text r ≡ x)

@@ -13,20 +13,20 @@ pub record State : Type 0 where
   pub gap : List ℕ
   pub lex : Lex
 
--- a state
+-- the state at a spot after a gap, with a token at hand
 abbrev pub at : Spot → List ℕ → Lex → State
 at s g l = record { spot = s; gap = g; lex = l }
 
--- a token has begun
+-- the state in which a token has begun, where one has
 abbrev pub with_lex : Spot → List ℕ → Option Lex → Option State
 with_lex s g None = None
 with_lex s g (Some l) = Some (at s g l)
 
--- a byte between tokens
+-- the state after a byte between tokens, where the machine goes on
 abbrev pub next : Spot → List ℕ → ℕ → Option State
 next s g b = cond (is_blank b) (Some (at s (g ++ b ∷ []) between)) (with_lex s g (begin (takes s g) b))
 
--- a byte after a token
+-- the state after a byte that follows a token, where one ends
 abbrev pub after : Spot → List ℕ → Option Token → ℕ → Option State
 after s g None b = None
 after s g (Some t) b = next (shift s g t) [] b
@@ -53,11 +53,11 @@ step_in s g (pathing p) b = or_after s g (pathing p) b (lex_step (pathing p) b)
 step_in s g (ready t) b = or_after s g (ready t) b (lex_step (ready t) b)
 step_in s g (comparing k) b = or_after s g (comparing k) b (lex_step (comparing k) b)
 
--- the same, of a state
+-- the state after one more byte
 abbrev pub step : State → ℕ → Option State
 step s b = step_in s.spot s.gap s.lex b
 
--- the state after a text
+-- the state after a text, where the machine goes on so far
 abbrev pub run : State → List ℕ → Option State
 run = run_by step
 
@@ -67,7 +67,7 @@ rule_at (cond_done r cs) g = Some (record { lead = r.lead; template = r.template
 rule_at (sorted r cs o) g = Some (record { lead = r.lead; template = r.template; gap = r.gap; conds = cs; order = o; tail = g })
 rule_at s g = None
 
--- the rule after a token
+-- the rule that ends after a token, where one ends
 abbrev pub rule_after : Spot → List ℕ → Option Token → Option Rule
 rule_after s g None = None
 rule_after s g (Some t) = rule_at (shift s g t) []
@@ -89,7 +89,7 @@ whole_in s g (pathing p) = rule_after s g (token_in (pathing p))
 whole_in s g (ready t) = rule_after s g (token_in (ready t))
 whole_in s g (comparing k) = rule_after s g (token_in (comparing k))
 
--- the same, of a state
+-- the rule that a state has read whole, where one may end
 abbrev pub whole : State → Option Rule
 whole s = whole_in s.spot s.gap s.lex
 

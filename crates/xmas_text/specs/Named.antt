@@ -17,17 +17,17 @@ use Rattle.xmas_text.specs.Elements.{contents_of}
 use Rattle.xmas_tokens.specs.Lexical.{IsVar}
 use Rattle.xmas_text.specs.Parsed.{RuleForm}
 
--- a key's variable is one
+-- the name of a key's variable is one of the grammar
 abbrev pub IsNamedKey : KeyText → Type 0
 IsNamedKey (keyed.Node v) = IsVar v.name
 IsNamedKey (keyed.LabelOf v) = IsVar v.name
 
--- so in each key
+-- the names of all keys' variables are of the grammar
 abbrev pub AreNamedKeys : List KeyText → Type 0
 AreNamedKeys [] = Unit {0}
 AreNamedKeys (k ∷ ks) = IsNamedKey k × AreNamedKeys ks
 
--- so in a group label
+-- the names of the variables in a group label are of the grammar
 abbrev pub IsNamedGroup : Option GroupForm → Type 0
 IsNamedGroup None = Unit {0}
 IsNamedGroup (Some g) = AreNamedKeys g.keys
@@ -60,7 +60,7 @@ IsNamedCond (condition.FromSource at name p v) = IsName name × IsReadPath p × 
 IsNamedCond (condition.FromVar start p v) = IsVar start.name × IsReadPath p × IsVar v.name
 IsNamedCond (condition.Compare left op right) = IsVar left.name × IsNamedOperand right
 
--- so in each condition
+-- the names, variables and paths of all conditions are as the grammar has them
 abbrev pub AreNamedConds : List CondText → Type 0
 AreNamedConds [] = Unit {0}
 AreNamedConds (c ∷ cs) = IsNamedCond c × AreNamedConds cs

@@ -90,11 +90,11 @@ pub record RuleForm : Type 0 where
   pub conds : List CondText
   pub order : Option OrderText
 
--- where the template begins
+-- where the template of a rule begins
 abbrev pub template_place : Rule → ℕ
 template_place r = length r.lead + length construct_text
 
--- where the conditions begin
+-- where the conditions of a rule begin
 abbrev pub conds_place : Rule → ℕ
 conds_place r = template_place r + length (items_text r.template) + length r.gap + length where_text
 

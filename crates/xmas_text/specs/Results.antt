@@ -47,7 +47,7 @@ abbrev pub Answers : List ℕ → Result RuleText TextFault → Type 0
 Answers x (Ok t) = IsUtf8 x × SpellsWithin x (form_of t)
 Answers x (Err e) = Refuses x e
 
--- memory ran out
+-- the fault is that memory ran out
 abbrev pub IsWantOfMemory : TextFault → Type 0
 IsWantOfMemory (NotUtf8 at) = ⊥
 IsWantOfMemory (Unexpected at) = ⊥

@@ -44,7 +44,7 @@ scan_of s = record { stage = stage_of s.spot; depth = length (frames_of s.spot);
 abbrev pub may_now : Scan → Kind → Bool
 may_now s k = may_come s.stage (nat_lt 0 s.depth) s.gap k
 
--- more than 20 levels have been read, after a token
+-- whether more than 20 levels have been read after a token, from whether they were before it and how many are open
 abbrev pub deep_after : Bool → ℕ → Kind → Bool
 deep_after deep n kind.OpenTag = deep || nat_lt 20 (n + 1)
 deep_after deep n k = deep
@@ -76,7 +76,7 @@ abbrev pub settled_by : Scan → Part → Option Scan
 settled_by s part.Between = Some s
 settled_by s p = option_map (scan_after s) (kind_in p)
 
--- the same
+-- the scan after the token that ends here, where one may; between tokens the scan itself
 abbrev pub settled : Scan → Option Scan
 settled s = settled_by s s.part
 

@@ -24,19 +24,19 @@ use Rattle.xmas_text.specs.Elements.{contents_of}
 use Rattle.xmas_text.specs.Parsed.{var_at}
 use Rattle.xmas_text.specs.Drafts.{OpenForm, BuiltForm, DraftForm}
 
--- a draft
+-- the draft with these parts that were read whole and this part at hand
 abbrev pub draft : BuiltForm → Pending → DraftForm
 draft b p = record { built = b; pending = p }
 
--- other items
+-- what was read whole, with other open elements and items
 abbrev pub with_items : BuiltForm → List OpenForm → List ItemText → BuiltForm
 with_items b o is = record { open_elements = o; items = is; conds = b.conds; order = b.order }
 
--- one more item
+-- the draft with one more item
 abbrev pub with_item : BuiltForm → ItemText → DraftForm
 with_item b i = draft (with_items b b.open_elements (b.items ++ i ∷ [])) pending.Items
 
--- an opening tag
+-- the draft after an opening tag
 abbrev pub opened : BuiltForm → ℕ → List ℕ → DraftForm
 opened b at name = draft (with_items b (record { at = at; name = name; before = b.items } ∷ b.open_elements) []) pending.Items
 
@@ -48,7 +48,7 @@ closed_in b (e ∷ o) close_at close_name =
     (with_items b o (e.before ++ item.Element (record { at = e.at; name = e.name; contents = contents_of b.items; close_at = close_at; close_name = close_name; group = None }) ∷ []))
     pending.Items
 
--- a closing tag
+-- the draft after a closing tag
 abbrev pub closed : BuiltForm → ℕ → List ℕ → DraftForm
 closed b close_at close_name = closed_in b b.open_elements close_at close_name
 
@@ -61,7 +61,7 @@ grouped_in b (i ∷ is) at = draft (with_items b b.open_elements (reverse is)) (
 abbrev pub grouped : BuiltForm → ℕ → DraftForm
 grouped b at = grouped_in b (reverse b.items) at
 
--- a token between items
+-- the draft after a token between items
 abbrev pub item_shifted : BuiltForm → ℕ → Lexeme → DraftForm
 item_shifted b at (lexeme.OpenTag name) = opened b at name
 item_shifted b at (lexeme.CloseTag name) = closed b at name
@@ -85,7 +85,7 @@ item_with (item.Node s) g = item.Node (record { at = s.at; var = s.var; group = 
 item_with (item.LabelOf s) g = item.LabelOf (record { at = s.at; var = s.var; group = Some g })
 item_with (item.Text l) g = item.Text l
 
--- one more key
+-- the draft with one more key in the group label at hand
 abbrev pub with_key : BuiltForm → ItemText → GroupForm → KeyText → DraftForm
 with_key b i g k = draft b (pending.Keys i (record { at = g.at; keys = g.keys ++ k ∷ [] }))
 
@@ -118,16 +118,16 @@ from_shifted b s (lexeme.Path p) = draft b (pending.CondPath s p)
 from_shifted b s (lexeme.Operator o) = draft b (operator_after s o)
 from_shifted b s w = draft b (pending.CondFrom s)
 
--- one more condition
+-- the draft with one more condition
 abbrev pub with_cond : BuiltForm → CondText → DraftForm
 with_cond b c = draft (record { open_elements = b.open_elements; items = b.items; conds = b.conds ++ c ∷ []; order = b.order }) pending.Done
 
--- a condition with a path
+-- the condition with a path that begins with this word
 abbrev pub cond_by : StartText → Result Form PathLimit → VarText → CondText
 cond_by (begins.Source at name) p v = condition.FromSource at name p v
 cond_by (begins.Var u) p v = condition.FromVar u p v
 
--- a token after a path
+-- the draft after a token that follows a path
 abbrev pub path_shifted : BuiltForm → StartText → Result Form PathLimit → ℕ → Lexeme → DraftForm
 path_shifted b s p at (lexeme.Var name) = with_cond b (cond_by s p (var_at at name))
 path_shifted b s p at w = draft b (pending.CondPath s p)
@@ -143,7 +143,7 @@ abbrev pub descended : Option OrderText → Option OrderText
 descended None = None
 descended (Some o) = Some (record { var = o.var; desc = true })
 
--- another order
+-- the draft with another order
 abbrev pub with_order : BuiltForm → Option OrderText → DraftForm
 with_order b o = draft (record { open_elements = b.open_elements; items = b.items; conds = b.conds; order = o }) pending.Done
 

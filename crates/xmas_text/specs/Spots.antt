@@ -56,12 +56,12 @@ pub data Spot : Type 0 where
   ordering_by : Head → Conds → List ℕ → List ℕ → Spot
   sorted : Head → Conds → Order → Spot
 
--- there is a blank
+-- whether there is a blank
 abbrev pub has_blank : List ℕ → Bool
 has_blank [] = false
 has_blank (b ∷ x) = true
 
--- there is no group label
+-- whether there is no group label
 abbrev pub is_absent : Group → Bool
 is_absent absent = true
 is_absent (braced g ks h) = false
@@ -81,11 +81,11 @@ item_gap xs g = may_stand (last_of xs) (has_blank g)
 abbrev pub may_group : Items → Bool
 may_group xs = may_group_after (last_of xs)
 
--- there are no items
+-- whether there are no items
 abbrev pub is_nothing : Items → Bool
 is_nothing xs = is_first (last_of xs)
 
--- there are no keys
+-- whether there are no keys
 abbrev pub is_none : Keys → Bool
 is_none none = true
 is_none (first g k) = false
@@ -96,7 +96,7 @@ abbrev pub may_compare : Start → Bool
 may_compare (by_name n) = false
 may_compare (by_var v) = true
 
--- DESC may come
+-- whether DESC may come after the order
 abbrev pub may_descend : Order → Bool
 may_descend unordered = false
 may_descend (ordered g h i v) = true
@@ -107,7 +107,7 @@ abbrev pub start_name : Start → List ℕ
 start_name (by_name n) = n
 start_name (by_var v) = v
 
--- there is an open element
+-- whether an element is open
 abbrev pub is_inside : List Frame → Bool
 is_inside [] = false
 is_inside (f ∷ o) = true
@@ -146,7 +146,7 @@ frames_of (ordering r cs g) = []
 frames_of (ordering_by r cs g h) = []
 frames_of (sorted r cs o) = []
 
--- which tokens may come, after a gap
+-- a token of this kind may come at the spot, after this gap
 abbrev pub takes : Spot → List ℕ → Kind → Bool
 takes s g k = may_come (stage_of s) (is_inside (frames_of s)) (has_blank g) k
 
@@ -157,17 +157,17 @@ with_group (variable before h k group) e = variable before h k e
 with_group (literal before h ps) e = literal before h ps
 with_group (element before h name inside i close group) e = element before h name inside i close e
 
--- one key more
+-- keys with one more, which comes first or after a comma
 abbrev pub push_key : Keys → Place → List ℕ → Key → Keys
 push_key ks at_first g k = first g k
 push_key ks (at_more h) g k = more ks h g k
 
--- one condition more
+-- the conditions so far with one more, after its gap
 abbrev pub push_cond : Before → List ℕ → Cond → Conds
 push_cond first_cond g c = one g c
 push_cond (also_cond cs h) g c = also cs h g c
 
--- a condition with a path
+-- the condition with a path that begins with this word
 abbrev pub cond_of : Start → List ℕ → Spelled → List ℕ → List ℕ → Cond
 cond_of (by_name n) g p h v = source n g p h v
 cond_of (by_var u) g p h v = walk u g p h v

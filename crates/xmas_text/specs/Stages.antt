@@ -8,7 +8,7 @@ use Rattle.xmas_text.specs.declared.stage.Last.TheVariants as last
 use Rattle.xmas_text.specs.declared.stage.Stage.{Stage}
 use Rattle.xmas_text.specs.declared.stage.Stage.TheVariants as stage
 
--- no item stands before
+-- whether no item stands before
 abbrev pub is_first : Last → Bool
 is_first last.Nothing = true
 is_first (last.Item m) = false
@@ -18,7 +18,7 @@ abbrev pub may_stand : Last → Bool → Bool
 may_stand last.Nothing gap = true
 may_stand (last.Item m) gap = gap
 
--- a group label may come
+-- whether a group label may come after this item
 abbrev pub may_group_after : Last → Bool
 may_group_after last.Nothing = false
 may_group_after (last.Item m) = m

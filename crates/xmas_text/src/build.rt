@@ -16,7 +16,7 @@ use xmas_tokens::{Part, ended_kind, next_part, read_lexeme};
 /// What is kept of the text after a place.
 #[derive(Drop)]
 pub struct Build {
-    /// The scan.
+    /// The scan of the text up to the place.
     pub scan: Scan,
     /// Where the token at hand begins; between tokens the place itself.
     pub from: usize,
@@ -42,7 +42,7 @@ fn end_token(
     match read_lexeme(alloc, kind, text) {
         Ok(token) => shift(alloc, draft, from, token),
         Err(error) => {
-            // It is given to `drop`, so that how its parts are dropped is proved once.
+            // The draft is given to `drop`, so that how its parts are dropped is proved once.
             drop(draft);
             Err(error)
         }
@@ -60,7 +60,7 @@ fn begins_at(at: usize, part: Part) -> usize
     }
 }
 
-// One more byte.
+// What is kept of the text after one more byte.
 fn build_byte(alloc: Global, build: Build, text: &[u8], at: usize) -> Result<Build, AllocError>
     requires { CanBuild text.now at (build_in build) }
     ensures { IfOk result (λ b. Builds text.now at (build_in build) (build_in b)) }
@@ -114,7 +114,7 @@ fn finish(draft: Draft) -> RuleText
     ensures { form_of result ≡ tree_of (draft_in draft) }
 {
     let Draft { built, pending } = draft;
-    // As in `end_token`.
+    // What is pending is given to `drop`, so that how its parts are dropped is proved once.
     drop(pending);
     let Built {
         open,

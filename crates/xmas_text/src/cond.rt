@@ -1,4 +1,4 @@
-// Conditions.
+// The conditions of a rule as they are written.
 use crate::var::VarText;
 use mix_tree::Label;
 use xmas_tokens::{Comparison, PathText};
@@ -12,7 +12,7 @@ pub enum OperandText {
     Text(Label),
 }
 
-/// A condition.
+/// A condition of a rule's body.
 #[derive(Drop)]
 pub enum CondText {
     /// A path leads from the root of a source's document to the variable.
@@ -21,7 +21,7 @@ pub enum CondText {
         at: usize,
         /// The source's name.
         source: Label,
-        /// The path.
+        /// The path from the root of the source's document.
         path: PathText,
         /// The variable that it binds.
         var: VarText,
@@ -30,18 +30,18 @@ pub enum CondText {
     FromVar {
         /// The variable that it leads from.
         start: VarText,
-        /// The path.
+        /// The path from one variable to the other.
         path: PathText,
         /// The variable that it binds.
         var: VarText,
     },
     /// A variable is compared with an operand.
     Compare {
-        /// The variable.
+        /// The variable on the left.
         left: VarText,
         /// The operator.
         op: Comparison,
-        /// The operand.
+        /// The operand on the right.
         right: OperandText,
     },
 }

@@ -22,11 +22,11 @@ pub enum StartText {
 /// An element whose closing tag has not come.
 #[derive(Drop)]
 pub struct OpenElement {
-    /// The place of its `<`.
+    /// The place of the element's `<`.
     pub at: usize,
-    /// Its name.
+    /// The element's name.
     pub name: Label,
-    /// The items before it.
+    /// The items before the element.
     pub before: Vec<ItemText>,
 }
 
@@ -39,13 +39,13 @@ pub enum Pending {
     Labelled(usize),
     /// An item with its group label so far.
     Keys(ItemText, GroupText),
-    /// The same, with `label` for a key.
+    /// An item with its group label so far, of which the last word is `label`.
     KeyLabel(ItemText, GroupText),
     /// Nothing, where a condition begins.
     Cond,
     /// The first word of a condition.
     CondFrom(StartText),
-    /// The same, and a path.
+    /// The first word of a condition, and a path.
     CondPath(StartText, PathText),
     /// A variable and an operator.
     Compared(VarText, Comparison),
@@ -60,9 +60,9 @@ pub struct Built {
     pub open: Vec<OpenElement>,
     /// The items inside the innermost of them.
     pub items: Vec<ItemText>,
-    /// The conditions.
+    /// The conditions that were read whole.
     pub conds: Vec<CondText>,
-    /// The order.
+    /// The order, where one was read.
     pub order: Option<OrderText>,
 }
 

@@ -6,7 +6,7 @@ use crate::var::VarText;
 /// What a rule's answers are ordered by.
 #[derive(Drop)]
 pub struct OrderText {
-    /// The variable.
+    /// The variable that orders the answers.
     pub var: VarText,
     /// Whether `DESC` stands after it.
     pub desc: bool,

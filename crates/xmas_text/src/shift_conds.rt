@@ -44,7 +44,7 @@ pub fn shift_from(built: Built, start: StartText, token: Lexeme) -> Draft
     Draft { built, pending }
 }
 
-// One more condition.
+// The draft with one more condition.
 fn push_cond(built: Built, cond: CondText) -> Result<Draft, AllocError>
     ensures { IfOk result (λ d. drafts.draft_in d ≡ shifted.with_cond (drafts.built_in built) cond) }
 {
@@ -67,7 +67,7 @@ fn push_cond(built: Built, cond: CondText) -> Result<Draft, AllocError>
     })
 }
 
-/// A token after a path.
+/// The draft after a token that follows a path.
 pub fn shift_path(
     built: Built,
     start: StartText,

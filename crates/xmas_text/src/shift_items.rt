@@ -10,7 +10,7 @@ use mix_tree::Label;
 use std::alloc::{AllocError, Global};
 use xmas_tokens::{Lexeme, Mark};
 
-// One more item.
+// The draft with one more item.
 fn push_item(built: Built, item: ItemText) -> Result<Draft, AllocError>
     ensures { IfOk result (λ d. drafts.draft_in d ≡ shifted.with_item (drafts.built_in built) item) }
 {
@@ -33,7 +33,7 @@ fn push_item(built: Built, item: ItemText) -> Result<Draft, AllocError>
     })
 }
 
-// An opening tag.
+// The draft after an opening tag.
 fn open_element(alloc: Global, built: Built, at: usize, name: Label) -> Result<Draft, AllocError>
     ensures { IfOk result (λ d. drafts.draft_in d ≡ shifted.opened (drafts.built_in built) at name) }
 {
@@ -60,7 +60,7 @@ fn open_element(alloc: Global, built: Built, at: usize, name: Label) -> Result<D
     })
 }
 
-// A closing tag.
+// The draft after a closing tag.
 fn close_element(built: Built, close_at: usize, close_name: Label) -> Result<Draft, AllocError>
     ensures { IfOk result (λ d. drafts.draft_in d ≡ shifted.closed (drafts.built_in built) close_at close_name) }
 {
@@ -128,7 +128,7 @@ fn begin_group(alloc: Global, built: Built, at: usize) -> Draft
     Draft { built, pending }
 }
 
-/// A token between items.
+/// The draft after a token between items.
 pub fn shift_item(
     alloc: Global,
     built: Built,
@@ -224,7 +224,7 @@ fn with_group(item: ItemText, group: GroupText) -> ItemText
     }
 }
 
-// One more key.
+// The draft with one more key in the group label at hand.
 fn push_key(
     built: Built,
     item: ItemText,

@@ -42,7 +42,7 @@ impl Model for GroupText {
 pub struct ShownText {
     /// The place of the item: of the `$`, or of the `l` of `label`.
     pub at: usize,
-    /// The variable.
+    /// The variable that is shown.
     pub var: VarText,
     /// The item's group label, where it has one.
     pub group: Option<GroupText>,

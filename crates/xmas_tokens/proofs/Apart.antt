@@ -20,15 +20,15 @@ is_apart b = is_blank b || b == 123 || b == 125 || b == 36 || b == 34 || b == 44
 apart_not_word : (b : ℕ) → IsTrue (is_apart b) → is_word_byte b ≡ false
 apart_not_word b h = grind (arith, nat_tests)
 
--- nor with a name
+-- an apart byte goes on with no name
 pub apart_not_name : (b : ℕ) → IsTrue (is_apart b) → is_name_byte b ≡ false
 apart_not_name b h = grind (arith, nat_tests)
 
--- so it ends a variable
+-- an apart byte ends a variable
 pub varying_quiet : (v : List ℕ) (b : ℕ) → IsTrue (is_apart b) → lex_step (varying v) b ≡ None
 varying_quiet v b h = rw (apart_not_word b h) refl
 
--- and a name
+-- an apart byte ends a name
 pub naming_quiet : (l : List ℕ) (b : ℕ) → IsTrue (is_apart b) → lex_step (naming l) b ≡ None
 naming_quiet l b h = rw (apart_not_name b h) refl
 
@@ -36,23 +36,23 @@ naming_quiet l b h = rw (apart_not_name b h) refl
 pub apart_marks : (b : ℕ) → IsTrue (is_apart b) → paths.is_mark b ≡ false
 apart_marks b h = grind (arith, nat_tests)
 
--- nor a dot
+-- an apart byte is no dot
 apart_dot : (b : ℕ) → IsTrue (is_apart b) → (b == 46) ≡ false
 apart_dot b h = grind (arith, nat_tests)
 
--- nor a bar
+-- an apart byte is no bar
 apart_bar : (b : ℕ) → IsTrue (is_apart b) → (b == 124) ≡ false
 apart_bar b h = grind (arith, nat_tests)
 
--- nor a parenthesis
+-- an apart byte is no closing parenthesis
 apart_close : (b : ℕ) → IsTrue (is_apart b) → (b == 41) ≡ false
 apart_close b h = grind (arith, nat_tests)
 
--- so it ends a path
+-- an apart byte ends a path after its last member
 pub repeat_quiet : (g : pathing_.Frame) (q : paths.Spelled) (b : ℕ) → IsTrue (is_apart b) → pathing_.after_repeat g [] q b ≡ None
 repeat_quiet g q b h = rw (apart_dot b h, apart_bar b h, apart_close b h) refl
 
--- after a whole path no apart byte goes on
+-- after a path that has been read whole, no apart byte goes on
 pub whole_quiet : (f : pathing_.Frame) (o : List pathing_.Frame) (m : pathing_.Mode) (r : Option paths.Spelled) (q : paths.Spelled) (b : ℕ) → pathing_.repeat_in m ≡ r → pathing_.whole_in f o r ≡ Some q → IsTrue (is_apart b)
     → pathing_.step_in f o m b ≡ None
 whole_quiet f [] m None q b e w h = none_some q w

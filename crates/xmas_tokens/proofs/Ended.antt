@@ -29,7 +29,7 @@ mark_ended may m done (c ∷ rest) t h o e = none_some t e
 path_writes : (x : List ℕ) (s : pathing_.State) (p : paths.Spelled) → path_sound.StandsAt x s → pathing_.whole s ≡ Some p → paths.Writes x p
 path_writes x s p h e = path_sound.whole_writes x s p h e
 
--- a path has ended
+-- a path that has been read whole is a token that may come
 path_ended : (may : Kind → Bool) (x : List ℕ) (s : pathing_.State) (r : Option paths.Spelled) (t : Token) → path_sound.StandsAt x s → IsTrue (may kind.Path) → pathing_.whole s ≡ r → as_path r ≡ Some t → Ended may x t
 path_ended may x s None t h o w e = none_some t e
 path_ended may x s (Some p) t h o w e = let k = path_writes x s p h w in subst (Ended may x) (some_is _ _ e) (record { is = k.0; taken = o; text = k.1 })

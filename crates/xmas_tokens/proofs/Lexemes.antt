@@ -40,11 +40,11 @@ between_is (b ∷ a) l z from to e f =
 var_ascii : (b : ℕ) → IsTrue (is_word_byte b) → b < 128
 var_ascii b h = grind (arith, nat_tests)
 
--- and so is its first
+-- the first byte of a variable's name is ASCII
 letter_ascii : (b : ℕ) → IsTrue (is_letter b) → b < 128
 letter_ascii b h = grind (arith, nat_tests)
 
--- such bytes alone
+-- a list of bytes that a variable's name may have is ASCII
 words_ascii : (x : List ℕ) → IsTrue (list_all is_word_byte x) → IsAscii x
 words_ascii [] h i = omega arith
 words_ascii (b ∷ x) h zero = var_ascii b (and_parts (is_word_byte b) (list_all is_word_byte x) h).0
@@ -87,7 +87,7 @@ close_utf8 k x (quoted ps, i, e, t) f = cc
 close_utf8 k x (path p, i, e, t) f = cc
 close_utf8 k x (comparison o, i, e, t) f = cc
 
--- a variable's name
+-- the name in the text of a variable is UTF-8
 pub name_of_var_utf8 : (k : Kind) (x : List ℕ) → IsWritten k x → k ≡ kind.Var → IsUtf8 (slice_range x 1 (length x))
 name_of_var_utf8 k x (fixed m, i, e, t) f = cc
 name_of_var_utf8 k x (open_tag l, i, e, t) f = cc
@@ -102,7 +102,7 @@ name_of_var_utf8 k x (quoted ps, i, e, t) f = cc
 name_of_var_utf8 k x (path p, i, e, t) f = cc
 name_of_var_utf8 k x (comparison o, i, e, t) f = cc
 
--- a quoted label
+-- a text that is written as a quoted label is the text of one
 pub quoted_written : (k : Kind) (x : List ℕ) → IsWritten k x → k ≡ kind.Quoted → IsQuotedText x
 quoted_written k x (fixed m, i, e, t) f = cc
 quoted_written k x (open_tag l, i, e, t) f = cc
@@ -113,7 +113,7 @@ quoted_written k x (quoted ps, i, e, t) f = (ps, i, t)
 quoted_written k x (path p, i, e, t) f = cc
 quoted_written k x (comparison o, i, e, t) f = cc
 
--- a path
+-- a text that is written as a path is the text of one
 pub path_written : (k : Kind) (x : List ℕ) → IsWritten k x → k ≡ kind.Path → IsPathText x
 path_written k x (fixed m, i, e, t) f = cc
 path_written k x (open_tag l, i, e, t) f = cc
@@ -124,11 +124,11 @@ path_written k x (quoted ps, i, e, t) f = cc
 path_written k x (path p, i, e, t) f = (p, (i, t))
 path_written k x (comparison o, i, e, t) f = cc
 
--- what a quoted label says
+-- a quoted label's token says the label that is meant
 pub quoted_lexeme : (k : Kind) (x l : List ℕ) → k ≡ kind.Quoted → Quotes x l → IsLexeme k x (lexeme.Quoted l)
 quoted_lexeme k x l f (ps, i, t, m) = (quoted ps, i, sym f, t, ap lexeme.Quoted m)
 
--- what a path says
+-- a path's token says the path, or the limit that it passes
 pub path_lexeme : (k : Kind) (x : List ℕ) (r : Result Form PathLimit) → k ≡ kind.Path → SpellsPath x r → IsLexeme k x (lexeme.Path r)
 path_lexeme k x r f (p, w, e) = (path p, w.0, sym f, w.1, ap lexeme.Path e)
 
@@ -157,7 +157,7 @@ quoted_somewhere x u (ps, i, t) h =
     let whole : take (length x) x ≡ x = search (rules, take_all) in
     h (length x) (meaning ps) (subst IsUtf8 (sym whole) u) (subst (λ y. SpellsLabel y (meaning ps)) (sym whole) (inr (ps, i, sym t, refl)))
 
--- a path within its limits
+-- a text that spells a path within the limits is that of this path
 pub path_within : (x : List ℕ) (v : Form) → SpellsWithin x v → SpellsPath x (Ok v)
 path_within x v h =
     let n : nat_lt 100 (nesting h.spelled) ≡ false = few (nesting h.spelled) 100 h.nesting in
@@ -167,7 +167,7 @@ path_within x v h =
     few : (n m : ℕ) → n ≤ m → nat_lt m n ≡ false
     few n m h = grind (arith, nat_tests)
 
--- a path that is nested too deep
+-- a path that is nested too deep is spelled as one of too much nesting
 pub path_nested : (x : List ℕ) (at : ℕ) → IsTooDeep x at → SpellsPath x (Err Nesting)
 path_nested x at (p, w, d) = by_case (nat_lt 100 (nesting p)) refl
   where
@@ -178,7 +178,7 @@ path_nested x at (p, w, d) = by_case (nat_lt 100 (nesting p)) refl
         let m : 0 + nesting p ≤ 100 = omega (arith, n) in
         none_some at (sym (nests_none p 0 0 m) ∙ d)
 
--- a path of too many positions
+-- a path of too many label positions is spelled as one of too many
 pub path_long : (x : List ℕ) (n : ℕ) → HasTooMany x n → SpellsPath x (Err Positions)
 path_long x n (p, w, d, e, m) =
     let k : nat_lt 100 (nesting p) ≡ false = grind (arith, nat_tests) in
@@ -192,6 +192,6 @@ path_somewhere x at (p, w) u h =
     let parts = take-append-drop (at + 1) x in
     h.wrong (drop (at + 1) x, value_of p, subst IsUtf8 (sym parts) u, subst (λ y. paths_.Spells y (value_of p)) (sym parts) (p, w, refl))
 
--- so it is not cut
+-- a path's text is not cut
 pub path_not_cut : (x : List ℕ) → IsPathText x → IsCut paths_.Spells x → ⊥
 path_not_cut x (p, w) h = h.none (value_of p) (p, w, refl)

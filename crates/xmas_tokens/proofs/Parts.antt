@@ -23,7 +23,7 @@ use Rattle.xmas_tokens.specs.Lexer.{Lex, between, marking, angle, opening, slash
 use Rattle.xmas_tokens.specs.Parts.{part_of, mark_step, part_step, kind_by_sign, kind_in, or_else, first_mark, first_item, first_path, first_word, first_part}
 use Rattle.xmas_tokens.proofs.Texts.{IsLex}
 
--- both choices, side by side
+-- two choices by one boolean are kept alike where their sides are
 either : (b : Bool) (x y : Option Lex) (v w : Option Part) → option_map part_of x ≡ v → option_map part_of y ≡ w → option_map part_of (cond b x y) ≡ cond b v w
 either true x y v w h k = h
 either false x y v w h k = k
@@ -34,11 +34,11 @@ marking_inside m done c rest h =
     let e : length done < length (mark_text m) = omega (arith, length-append done (c ∷ rest), ap length h) in
     grind (arith, nat_tests)
 
--- and the byte that comes next
+-- the byte that comes next of a token that is always the same is the first of those to come
 marking_next : (m : Mark) (done : List ℕ) (c : ℕ) (rest : List ℕ) → done ++ c ∷ rest ≡ mark_text m → slice_index (mark_text m) (length done) ≡ c
 marking_next m done c rest h = ap (λ x. slice_index x (length done)) (sym h) ∙ get_or-append_seam done c rest 0
 
--- one byte more of it
+-- a byte of a token that is always the same leads what is kept of it as it leads the token
 mark_part : (m : Mark) (done rest : List ℕ) (b : ℕ) → done ++ rest ≡ mark_text m → option_map part_of (on_mark m done rest b) ≡ mark_step m (length done) b
 mark_part m done [] b h =
     let e : length done ≡ length (mark_text m) = ap length (sym (append_nil done) ∙ h) in
@@ -51,12 +51,12 @@ mark_part m done (c ∷ rest) b h =
     ∙ ap (λ d. cond (b == d) (Some (part.Marking m (length done + 1))) None) (sym (marking_next m done c rest h))
     ∙ ap (λ i. cond (i && b == slice_index (mark_text m) (length done)) (Some (part.Marking m (length done + 1))) None) (sym (marking_inside m done c rest h))
 
--- a path
+-- what is kept of a path that is being read is the scan of the path
 path_part : (o : Option pathing_.State) → option_map part_of (map_path o) ≡ option_map part.Pathing (option_map scanned.shape_of o)
 path_part None = refl
 path_part (Some s) = refl
 
--- one byte more of a token
+-- one byte more leads what is kept of a token as it leads the token
 pub step_part : (l : Lex) (b : ℕ) → IsLex l → option_map part_of (lex_step l b) ≡ part_step (part_of l) b
 step_part between b h = refl
 step_part (marking m done rest) b h = mark_part m done rest b h
@@ -84,12 +84,12 @@ mark_kind m done (c ∷ rest) h =
     let n : (length done == length (mark_text m)) ≡ false = grind (arith, nat_tests) in
     rw n refl
 
--- the kind of a path
+-- the kind of a path that has been read is that of paths
 path_kind : (o : Option paths.Spelled) → option_map kind_of (as_path o) ≡ cond (is_some o) (Some kind.Path) None
 path_kind None = refl
 path_kind (Some p) = refl
 
--- the kind of a sign
+-- the kind of an operator of one sign is told by the sign
 sign_kind : (k : Sign) → option_map kind_of (by_sign k) ≡ kind_by_sign k
 sign_kind sign.Bang = refl
 sign_kind sign.Less = refl
@@ -112,7 +112,7 @@ kind_part (pathing s) h = path_kind (pathing_.whole s) ∙ ap (λ w. cond w (Som
 kind_part (ready t) h = refl
 kind_part (comparing k) h = sign_kind k
 
--- one choice before others
+-- a choice before others is kept as the first of what is kept of either
 before_others : (b : Bool) (l : Lex) (p : Part) (other : Option Lex) (x y : Option Part) → part_of l ≡ p → option_map part_of other ≡ or_else x y → option_map part_of (cond b (Some l) other) ≡ or_else (cond b (Some p) x) y
 before_others true l p other x y h k = ap Some h
 before_others false l p other x y h k = k
@@ -121,7 +121,7 @@ before_others false l p other x y h k = k
 mark_before : (m : Mark) (may : Kind → Bool) (b : ℕ) (other : Option Lex) (x y : Option Part) → option_map part_of other ≡ or_else x y → option_map part_of (begin_mark m may b other) ≡ or_else (first_mark m may b x) y
 mark_before m may b other x y k = before_others (b == mark_first m && may (kind.Fixed m)) _ _ other x y refl k
 
--- the first byte of a path
+-- what is kept after the first byte of a path is the scan after that byte
 path_begun : (q : Bool) (b : ℕ) → option_map part_of (cond q (map_path (pathing_.step pathing_.first b)) None) ≡ first_path q b
 path_begun q b = either q _ _ _ _ (path_part (pathing_.step pathing_.first b) ∙ ap (option_map part.Pathing) (path_shapes.step_shape pathing_.empty [] pathing_.start b)) refl
 

@@ -18,7 +18,7 @@ use Rattle.xmas_tokens.specs.declared.lexer.Part.{Part}
 use Rattle.xmas_tokens.specs.declared.lexer.Part.TheVariants as part
 use Rattle.xmas_tokens.specs.Parts.{part_step, or_else, first_mark, first_item, first_word, first_part}
 
--- the byte is ASCII
+-- whether the byte is ASCII
 abbrev pub is_low : ℕ → Bool
 is_low b = nat_lt b 128
 
@@ -26,7 +26,7 @@ is_low b = nat_lt b 128
 pub low_byte : (b : ℕ) → IsTrue (is_low b) → b < 128
 low_byte b h = grind (arith, nat_tests)
 
--- each such token is ASCII
+-- each token that is always the same is ASCII
 pub mark_low : (m : Mark) → IsTrue (list_all is_low (mark_text m))
 mark_low mark.Construct = refl
 mark_low mark.Where = refl
@@ -39,7 +39,7 @@ mark_low mark.Order = refl
 mark_low mark.By = refl
 mark_low mark.Desc = refl
 
--- inside a quoted label
+-- the token at hand is a quoted label, or a path that stands inside a quoted label
 abbrev pub InQuotes : Part → Type 0
 InQuotes part.Quoting = Unit {0}
 InQuotes (part.Pathing s) = s.stage ≡ path_stage.Quoting
@@ -82,7 +82,7 @@ not_and : (p q : Bool) → q ≡ false → (p && q) ≡ false
 not_and true q h = h
 not_and false q h = refl
 
--- it goes on only inside quotes
+-- a byte that is not ASCII goes on with a token only inside quotes
 pub high_part : (p : Part) (b : ℕ) → 128 ≤ b → IsHigh b → IsHigher b → Gives InQuotes (part_step p b)
 high_part part.Between b l h k = tt
 high_part (part.Marking m i) b l h k = rw (not_and (nat_lt i (length (mark_text m))) (b == slice_index (mark_text m) i) (low_index (mark_text m) i b l (mark_low m))) tt
@@ -114,7 +114,7 @@ none_both : (q : Bool) → cond {A = Option Part} q None None ≡ None
 none_both true = refl
 none_both false = refl
 
--- no token begins so
+-- no token begins with a byte that is not ASCII
 pub no_token : (may : Kind → Bool) (b : ℕ) → 128 ≤ b → IsHigh b → IsHigher b → first_part may b ≡ None
 no_token may b l h k =
     ap (λ x. or_else x (or_else (first_item may b) (first_word may b)))

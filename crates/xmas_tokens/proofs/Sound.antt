@@ -23,7 +23,7 @@ pub record Goes (may : Kind → Bool) (x : List ℕ) (k : Lex) : Type 0 where
   pub offered : Offered may k
   pub text : lex_text k ≡ x
 
--- a token that goes on so
+-- a token at hand that is well formed and may come goes on with its text
 goes : (may : Kind → Bool) (x : List ℕ) (k : Lex) → IsLex k → Offered may k → lex_text k ≡ x → Goes may x k
 goes may x k h o e = record { is = h; offered = o; text = e }
 
@@ -38,15 +38,15 @@ var_push : (l : List ℕ) (b : ℕ) → IsVar l → IsTrue (is_word_byte b) → 
 var_push [] b h k = absurd h
 var_push (c ∷ l) b h k = (h.0, list_all-push is_word_byte l b h.1 k)
 
--- one byte more of a name
+-- a name with one byte more is a name
 name_push : (l : List ℕ) (b : ℕ) → IsName l → IsTrue (is_name_byte b) → IsName (l ++ b ∷ [])
 name_push l b h k = (list_all-push is_name_byte l b h.0 k, path_sound.longer l b)
 
--- a name of one byte
+-- a name of one byte is a name
 name_one : (b : ℕ) → IsTrue (is_name_byte b) → IsName (b ∷ [])
 name_one b h = (and_both (is_name_byte b) true h refl, omega arith)
 
--- one byte more of a path
+-- a byte more of a path leaves it well formed, with that byte in its text
 path_goes_at : (may : Kind → Bool) (x : List ℕ) (o : Option pathing_.State) → Gives (path_sound.StandsAt x) o → IsTrue (may kind.Path) → Gives (Goes may x) (map_path o)
 path_goes_at may x None h k = tt
 path_goes_at may x (Some t) h k = record { is = subst (λ y. path_sound.StandsAt y t) (sym h.text) h; offered = k; text = h.text }

@@ -25,7 +25,7 @@ op_again op.Ge = refl
 same_op : (o p : Comparison) → op_text o ≡ op_text p → o ≡ p
 same_op o p h = sym (op_again o) ∙ ap (λ x. op_by (slice_index x 0) (nat_lt 1 (length x))) h ∙ op_again p
 
--- two marks of one kind
+-- two tokens that are always the same, of one kind, are the same
 same_mark : (m n : Mark) → kind_of (fixed m) ≡ kind_of (fixed n) → m ≡ n
 same_mark m n h = cc
 
@@ -37,7 +37,7 @@ same_quoted ps qs a b h = let same : paths.quote ps ≡ paths.quote qs = one_spe
 same_tag : (l k : List ℕ) → l ++ 62 ∷ [] ≡ k ++ 62 ∷ [] → l ≡ k
 same_tag l k h = append_cancel_right l k (62 ∷ []) h
 
--- the rest of a list
+-- two lists that are the same have the same members after the first
 rest_same : (a b : ℕ) (x y : List ℕ) → a ∷ x ≡ b ∷ y → x ≡ y
 rest_same a b x y h = cc
 
@@ -53,6 +53,6 @@ same_lexeme (path p) (path q) i j k h = ap (λ r. lexeme.Path (path_form r)) (on
 same_lexeme (comparison o) (comparison p) i j k h = ap lexeme.Operator (same_op o p h)
 same_lexeme t u i j k h = cc
 
--- what a token's text says
+-- a lexeme of a token's kind and text is what the token says
 pub lexeme_is : (t : Token) (w : Lexeme) → IsToken t → IsLexeme (kind_of t) (token_text t) w → w ≡ lexeme_of t
 lexeme_is t w i (u, j, k, h, e) = sym e ∙ same_lexeme u t j i k h

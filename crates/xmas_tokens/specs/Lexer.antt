@@ -41,7 +41,7 @@ abbrev pub map_path : Option paths.State → Option Lex
 map_path None = None
 map_path (Some s) = Some (pathing s)
 
--- one byte more of a token
+-- the token at hand with one byte more, where it goes on with that
 abbrev pub lex_step : Lex → ℕ → Option Lex
 lex_step between b = None
 lex_step (marking m done rest) b = on_mark m done rest b
@@ -58,7 +58,7 @@ lex_step (pathing s) b = map_path (paths.step s b)
 lex_step (ready t) b = None
 lex_step (comparing k) b = cond (b == 61) (Some (ready (comparison (with_equal k)))) None
 
--- a path as a token
+-- a path that has been read, as a token
 abbrev pub as_path : Option Spelled → Option Token
 as_path None = None
 as_path (Some p) = Some (path p)

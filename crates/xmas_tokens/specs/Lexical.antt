@@ -3,11 +3,11 @@ use Rattle.std.specs.Prelude.{ℕ, Bool, ◌||◌, ◌==◌, IsTrue, List, [], �
 use Rattle.std.specs.List.{list_all}
 use Rattle.mix_tree.specs.Spelling.{is_between}
 
--- a space, a tab, LF or CR
+-- whether a byte is a blank: a space, a tab, LF or CR
 abbrev pub is_blank : ℕ → Bool
 is_blank b = b == 32 || b == 9 || b == 10 || b == 13
 
--- an ASCII letter
+-- whether a byte is an ASCII letter
 abbrev pub is_letter : ℕ → Bool
 is_letter b = is_between 97 122 b || is_between 65 90 b
 
@@ -15,11 +15,11 @@ is_letter b = is_between 97 122 b || is_between 65 90 b
 abbrev pub is_word_byte : ℕ → Bool
 is_word_byte b = is_between 97 122 b || is_between 65 90 b || is_between 48 57 b || b == 95
 
--- blanks alone, or nothing
+-- the text is of blanks alone, or empty
 abbrev pub IsBlanks : List ℕ → Type 0
 IsBlanks x = IsTrue (list_all is_blank x)
 
--- one blank or more
+-- the text is one blank or more
 abbrev pub IsGap : List ℕ → Type 0
 IsGap [] = ⊥
 IsGap (b ∷ x) = IsBlanks (b ∷ x)

@@ -16,7 +16,7 @@ use Rattle.xmas_tokens.specs.Lexical.{is_letter, is_word_byte}
 use Rattle.xmas_tokens.specs.Tokens.{kind_of, mark_first, mark_text}
 use Rattle.xmas_tokens.specs.Lexer.{Lex, between, marking, angle, opening, slash, closing, naming, dollar, varying, quoting, escaping, pathing, ready, comparing}
 
--- what is kept
+-- what a scan keeps of a token that is being read
 abbrev pub part_of : Lex → Part
 part_of between = part.Between
 part_of (marking m done rest) = part.Marking m (length done)
@@ -37,7 +37,7 @@ part_of (comparing k) = part.Comparing k
 abbrev pub mark_step : Mark → ℕ → ℕ → Option Part
 mark_step m i b = cond (nat_lt i (length (mark_text m)) && b == slice_index (mark_text m) i) (Some (part.Marking m (i + 1))) None
 
--- one byte more of a token
+-- what is kept of a token after one byte more, where it goes on with that
 abbrev pub part_step : Part → ℕ → Option Part
 part_step part.Between b = None
 part_step (part.Marking m i) b = mark_step m i b

@@ -13,7 +13,7 @@ use Rattle.xmas_tokens.specs.declared.token.Sign.TheVariants as sign
 use Rattle.xmas_tokens.specs.declared.token.Kind.{Kind}
 use Rattle.xmas_tokens.specs.declared.token.Kind.TheVariants as kind
 
--- a token
+-- a token of a rule's text
 pub data Token : Type 0 where
   fixed : Mark → Token
   open_tag : List ℕ → Token
@@ -24,7 +24,7 @@ pub data Token : Type 0 where
   path : Spelled → Token
   comparison : Comparison → Token
 
--- its kind
+-- the kind of a token
 abbrev pub kind_of : Token → Kind
 kind_of (fixed m) = kind.Fixed m
 kind_of (open_tag l) = kind.OpenTag
@@ -48,7 +48,7 @@ mark_first mark.Order = 79
 mark_first mark.By = 66
 mark_first mark.Desc = 68
 
--- the bytes after it
+-- the bytes of a token that is always the same, after its first
 abbrev pub mark_rest : Mark → List ℕ
 mark_rest mark.Construct = codes "ONSTRUCT"
 mark_rest mark.Where = codes "HERE"
@@ -61,7 +61,7 @@ mark_rest mark.Order = codes "RDER"
 mark_rest mark.By = 89 ∷ []
 mark_rest mark.Desc = codes "ESC"
 
--- the whole of it
+-- the text of a token that is always the same
 abbrev pub mark_text : Mark → List ℕ
 mark_text m = mark_first m ∷ mark_rest m
 
@@ -83,7 +83,7 @@ by_sign sign.Bang = None
 by_sign sign.Less = Some (comparison op.Lt)
 by_sign sign.Greater = Some (comparison op.Gt)
 
--- a quoted label
+-- the text of a quoted label
 abbrev pub quoted_text : List Piece → List ℕ
 quoted_text ps = 34 ∷ inside_quotes ps ++ 34 ∷ []
 

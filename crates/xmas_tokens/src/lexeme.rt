@@ -12,7 +12,7 @@ use std::alloc::{AllocError, Global};
 pub enum PathLimit {
     /// A parenthesis is open inside 100 others.
     Nesting,
-    /// It has more than 120 label positions.
+    /// The path has more than 120 label positions.
     Positions,
 }
 

@@ -10,9 +10,9 @@ use path_expr::{Scan as PathScan, is_escaped, is_name, may_end_scan, scan_byte a
 /// What has been read of a token.
 #[derive(Clone, Copy)]
 pub enum Part {
-    /// Nothing.
+    /// Nothing: no token is at hand.
     Between,
-    /// So many bytes of one that is always the same.
+    /// So many bytes of a token that is always the same.
     Marking(Mark, usize),
     /// A `<`; whether an opening tag may stand there, and whether a closing one.
     Angle(bool, bool),
@@ -90,7 +90,7 @@ fn next_of_mark(mark: Mark, read: usize, byte: u8) -> Option<Part>
     None
 }
 
-// One more byte of a path.
+// A path after one more byte, where it goes on with that.
 fn next_of_path(scan: PathScan, byte: u8) -> Option<Part>
     requires { scan.depth + 1 < 2 ^ 64 }
     ensures step { result ≡ part_step (Part.Pathing scan) byte }

@@ -52,7 +52,7 @@ invariant-join_steps::Join::next_new-members g l = record {
   can : CanStep (g.S.Sources.view l.s) l.growing l.self.walk.fixed.now l.self.left l.l.value;
 }
 
--- how many more may come
+-- how many more members may come, as a number that falls
 abbrev pub decreases-join_steps::Join::next_new-members : goal.decreases-join_steps::Join::next_new-members
 decreases-join_steps::Join::next_new-members g l =
     size (world_of (g.S.Sources.view l.s) l.growing) (operators l.self.walk.fixed.now) l.self.right - length (memo_at (world_of (g.S.Sources.view l.s) l.growing) l.self.walk.op).pairs

@@ -3,7 +3,7 @@ use Rattle.mix_catalog.specs.Tables.{columns_after}
 use Rattle.mix_catalog.proofs.Tables.{next_piece, gives_none}
 use Rattle.mix_catalog.proofs.table.read_columns.Goals as goal
 
--- the pieces of slices
+-- the pieces of a text, of a list of slices
 abbrev pieces_in : List (Bor (List ℕ)) → List (List ℕ)
 pieces_in items = map (λ (piece : Bor (List ℕ)). piece.now) items
 

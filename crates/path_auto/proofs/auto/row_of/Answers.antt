@@ -5,7 +5,7 @@ use Rattle.path_auto.proofs.Least.{row_here, row_after}
 use Rattle.path_auto.proofs.auto.row_of.Goals as goal
 use Rattle.path_auto.proofs.auto.row_of.Goals.{In-Some}
 
--- what the position gives
+-- what a position gives to a step is its row, where the label may stand there
 row : (c : In-Some) → row_at c.args.labels.now c.args.after.now c.args.at c.args.label.now ≡ cond (passes c.in-Some.test.now c.args.label.now) (get_or c.args.after.now c.args.at 0) 0
 row c =
     row_here c.args.labels.now c.args.after.now c.args.at c.in-Some.test.now c.args.label.now c.requires c.in-Some.ensures.lookup.3.0 c.in-Some.ensures.lookup.1

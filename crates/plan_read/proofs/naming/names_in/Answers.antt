@@ -7,7 +7,7 @@ use Rattle.plan_read.specs.declared.lines.PlanLine.{PlanLine}
 use Rattle.plan_read.proofs.NameSteps.{line_step}
 use Rattle.plan_read.proofs.naming.names_in.Goals as goal
 
--- a line of nothing
+-- an empty line of number 0
 abbrev none : PlanLine
 none = record { number = 0; text = record { ref_ptr = (0, 0); now = [] } }
 

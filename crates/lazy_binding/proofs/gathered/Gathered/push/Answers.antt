@@ -10,7 +10,7 @@ use Rattle.lazy_binding.specs.Keys.{same_parts, was_seen}
 use Rattle.lazy_binding.proofs.gathered.Gathered.push.Goals as goal
 
 module _ (old view now : Gathered) (is : view ≡ old) (seen : List (List KeyPart)) (key : List KeyPart) (r : Rc Position Global) (last : now.last ≡ r.value) (ended : now.ended ≡ view.ended) where
-  -- the key has a number
+  -- where the key has a number, the binding joins the group of that number
   joined : (k : ℕ) → k < length seen → length old.groups ≡ length seen → ((few : ℕ) → nat_lt k few ≡ was_seen key (take few seen))
       → ((j : ℕ) → j < length seen → same_parts (slice_index_or seen j []) key ≡ true → was_seen key (take j seen) ≡ false) → IsJoined view.groups now.groups k r → GoesTo old now seen seen key r
   joined k within count known alone one_more = record {

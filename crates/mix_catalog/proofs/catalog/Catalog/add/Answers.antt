@@ -11,7 +11,7 @@ use Rattle.mix_catalog.proofs.catalog.Catalog.add.Goals.{in-Ok-insert, in-Err}
 named : (c : goal.Joined-insert) → c.in-Ok.name.items ≡ c.args.spec.name
 named c = c.in-Ok.ensures.items ∙ c.bytes.ensures.bytes
 
--- no source has it yet
+-- no source has the name of the new one yet
 new : (c : goal.Joined-insert) → source_named (map (λ (e : Vec ℕ Global × SourceSpec). e.1) c.self.inside.sources.entries) c.args.spec.name ≡ None
 new c = ap (λ sources. source_named sources c.args.spec.name) c.self.view_is ∙ c.requires.new
 
