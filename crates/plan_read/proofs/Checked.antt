@@ -1,8 +1,8 @@
 -- The checks of operators together.
-use Rattle.std.proofs.Common.{◌≡◌, ◌∙◌, ℕ, true, false, Bool, List, [], ◌∷◌, Option, Some, None, IfNone, refl, sym, ap, subst, length, take}
+use Rattle.std.proofs.Common.{◌≡◌, ◌∙◌, ℕ, false, List, sym, subst, length, take}
 use Rattle.std.specs.List.{AllByRecursion}
 use Rattle.mix_catalog.specs.declared.source.SourceSpec.{SourceSpec}
-use Rattle.plan_read.specs.Checks.{ops_of, AreFew, AreNumbered, AreKnown, AreShort, AreRanged}
+use Rattle.plan_read.specs.Checks.{AreKnown, AreShort, AreRanged}
 use Rattle.plan_read.specs.Drafts.{all_numbered, lines_of, AreDrafts}
 use Rattle.plan_read.specs.Lines.{Line}
 use Rattle.plan_read.specs.Results.{numbers_of}

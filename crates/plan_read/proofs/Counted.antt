@@ -1,5 +1,5 @@
 -- Operators that are numbered by their places, one after another.
-use Rattle.std.proofs.Common.{◌≡◌, ◌<◌, ◌≤◌, ◌+◌, ◌∙◌, ℕ, zero, suc, List, [], ◌∷◌, refl, sym, ap, subst, arith, length, take, get_or}
+use Rattle.std.proofs.Common.{◌≡◌, ◌<◌, ◌≤◌, ◌+◌, ◌∙◌, ℕ, zero, suc, List, [], ◌∷◌, sym, ap, subst, arith, length, take, get_or}
 use Rattle.std.specs.List.{AllByRecursion}
 use Rattle.plan_core.specs.PlanMade.{op_of}
 use Rattle.plan_core.specs.Plans.{Operator}

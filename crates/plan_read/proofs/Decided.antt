@@ -1,8 +1,8 @@
 -- The tests of operators decide what a valid plan needs of them.
-use Rattle.std.proofs.Common.{◌≡◌, ◌≤◌, ◌∙◌, ◌==◌, ◌&&◌, ◌||◌, not, ℕ, Bool, true, false, cond, IsTrue, List, [], ◌∷◌, Option, Some, None, refl, sym, ap, subst, arith}
+use Rattle.std.proofs.Common.{◌≡◌, ◌∙◌, ◌==◌, ◌||◌, not, ℕ, Bool, true, false, List, [], ◌∷◌, Option, Some, None, refl, sym, ap, arith}
 use Rattle.std.proofs.lemmas.Bool.{eq-eqb}
-use Rattle.std.specs.List.{AllByRecursion, list_all, list_any}
-use Rattle.mix_base.proofs.Choices.{some_is, none_some, and_parts, and_both, number_is}
+use Rattle.std.specs.List.{AllByRecursion, list_all}
+use Rattle.mix_base.proofs.Choices.{and_parts, and_both, number_is}
 use Rattle.mix_tree.specs.Comparisons.{compares_nodes}
 use Rattle.mix_tree.specs.Keys.{key_var, has_var}
 use Rattle.mix_tree.specs.declared.var.Key.{Key}
@@ -12,11 +12,10 @@ use Rattle.mix_tree.specs.declared.comparing.Test.{Test}
 use Rattle.mix_tree.specs.declared.comparing.TestOp.{TestOp}
 use Rattle.plan_core.specs.declared.plan.Piece.{Piece}
 use Rattle.plan_core.specs.declared.plan.Piece.TheVariants.{Var as var_piece, LabelOf as label_piece, Text as text_piece}
-use Rattle.plan_core.specs.Plans.{Operator}
-use Rattle.plan_core.specs.Shapes.{Made, a_list_of, an_element_of, Stage, filters, extends, first_by_keys, one_group, in_order, Shape, one_source, visits_below, pairs_up, passes_on, no_events, shape_of}
-use Rattle.plan_core.specs.Valid.{Kind, a_node, an_element, a_list, Kinds, either_kind, AreNodes, IsPiece, IsSinglePiece, IsOperand, IsTest, IsMadeFit, IsStageFit, IsShapeFit, IsFit, shape_inputs}
+use Rattle.plan_core.specs.Shapes.{a_list_of, an_element_of, Stage, filters, extends, first_by_keys, one_group, in_order, Shape, one_source, visits_below, pairs_up, passes_on, no_events, shape_of}
+use Rattle.plan_core.specs.Valid.{Kind, a_node, an_element, a_list, Kinds, either_kind, AreNodes, IsPiece, IsSinglePiece, IsOperand, IsTest, IsStageFit, IsShapeFit, shape_inputs}
 use Rattle.plan_read.specs.Checks.{IsShort}
-use Rattle.plan_read.specs.Scopes.{is_a_node, is_a_kind, is_no_list, is_a_made, is_a_list, keys_fit, operand_fits, test_fits, piece_fits, single_fits, made_fits, stage_fits, shape_fits, kinds_below, FitIsDecided}
+use Rattle.plan_read.specs.Scopes.{is_a_node, is_a_kind, is_no_list, is_a_made, is_a_list, keys_fit, operand_fits, test_fits, piece_fits, single_fits, stage_fits, shape_fits, kinds_below, FitIsDecided}
 
 node_is : (o : Option Kind) → is_a_node o ≡ true → o ≡ Some a_node
 node_is None h = cc

@@ -1,5 +1,5 @@
 -- Drafts and the lines that they are of.
-use Rattle.std.proofs.Common.{◌≡◌, ◌<◌, ◌≤◌, ◌+◌, ◌∙◌, ◌||◌, ◌++◌, ℕ, zero, suc, Bool, true, false, List, [], ◌∷◌, Some, None, refl, sym, ap, subst, arith, length, take, get_or, map, nat_lt}
+use Rattle.std.proofs.Common.{◌≡◌, ◌<◌, ◌≤◌, ◌+◌, ◌∙◌, ◌||◌, ◌++◌, ℕ, zero, suc, Bool, true, false, List, [], ◌∷◌, None, refl, sym, ap, subst, arith, length, take, get_or, nat_lt}
 use Rattle.std.specs.List.{AllByRecursion, list_any}
 use Rattle.std.proofs.lemmas.Bool.Decides.{nat_tests}
 use Rattle.std.proofs.lemmas.List.{take_more, length-map, get_or-map}
@@ -7,7 +7,7 @@ use Rattle.mix_base.proofs.Choices.{none_some}
 use Rattle.mix_catalog.specs.declared.source.SourceSpec.{SourceSpec}
 use Rattle.plan_core.specs.PlanMade.{op_of}
 use Rattle.plan_core.specs.Shapes.{shape_of}
-use Rattle.plan_read.specs.Checks.{ops_of, AreSpelled, positions, IsShort, AreShort, IsRanged, AreRanged}
+use Rattle.plan_read.specs.Checks.{AreSpelled, positions, IsShort, AreShort, AreRanged}
 use Rattle.plan_read.specs.Drafts.{numbered_of, all_numbered, lines_of, IsDraft, AreDrafts}
 use Rattle.plan_read.specs.Grammar.{SpellsLine, SpellLines}
 use Rattle.plan_read.specs.Lines.{Line}

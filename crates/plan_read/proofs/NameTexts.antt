@@ -37,7 +37,7 @@ script_byte : (b : ℕ) → is_script_byte b ≡ true → is_name_byte b ≡ tru
 script_byte b h = four_of_five (nat_le 97 b && nat_le b 122) (nat_le 65 b && nat_le b 90) (nat_le 48 b && nat_le b 57) (b == 95) (b == 45) h
 
 -- a script name is UTF-8
-name_text : (x : List ℕ) → is_name x ≡ true → IsUtf8 x
+pub name_text : (x : List ℕ) → is_name x ≡ true → IsUtf8 x
 name_text [] h = absurd (false_true h)
 name_text (b ∷ x) h =
     let parts = and_parts (is_letter b) (list_all is_script_byte x) h in

@@ -4,7 +4,7 @@ use Rattle.std.specs.Str.{bytes_eq}
 use Rattle.mix_base.proofs.Choices.{some_is, none_some}
 use Rattle.mix_tree.specs.declared.comparing.Test.{Test}
 use Rattle.plan_core.specs.declared.plan.Piece.{Piece}
-use Rattle.plan_core.specs.declared.plan.Piece.TheVariants.{Var as var_piece, LabelOf as label_piece, Text as text_piece}
+use Rattle.plan_core.specs.declared.plan.Piece.TheVariants.{LabelOf as label_piece}
 use Rattle.plan_read.specs.Variables.{var_read, all_read}
 use Rattle.plan_read.specs.Reading.{Pieces, with_piece, piece_read, next_piece, pieces_read, with_test, test_read, next_test, more_tests, tests_read}
 

@@ -1,19 +1,17 @@
 -- Going on by one operator.
-use Rattle.std.proofs.Common.{◌≡◌, ◌⊎◌, inl, inr, ◌<◌, ◌≤◌, ◌+◌, ◌∙◌, ◌==◌, ◌||◌, ◌++◌, ℕ, zero, suc, Bool, true, false, List, [], ◌∷◌, Option, Some, None, refl, sym, ap, subst, arith, length, slice_get, option_to_list}
+use Rattle.std.proofs.Common.{◌≡◌, inl, inr, ◌<◌, ◌≤◌, ◌+◌, ◌∙◌, ◌==◌, ◌++◌, ℕ, suc, Bool, true, false, List, [], ◌∷◌, Option, Some, None, refl, sym, ap, subst, arith, length, slice_get, option_to_list}
 use mathlib.Core.Path.{fun_ext}
 use Rattle.std.specs.List.{AllByRecursion, count_by, flat_map, list_any}
 use Rattle.std.proofs.lemmas.Bool.{cases_lt, cases_eq}
 use Rattle.std.proofs.lemmas.List.{length_push, flat_map_more}
-use Rattle.std.specs.Ordering.{nat_cmp}
-use Rattle.std.specs.BTreeSet.{BTreeSet, contains}
 use Rattle.plan_core.specs.Plans.{Operator}
 use Rattle.plan_core.specs.Shapes.{Shape, one_source, visits_below, pairs_up, passes_on, no_events, shape_of}
 use Rattle.plan_core.specs.Valid.{Kinds, op_kinds, shape_kinds, shape_inputs, HaveSmallerInputs, inputs_of, outs_of, uses_of}
 use Rattle.plan_core.proofs.Chained.{count-append}
-use Rattle.plan_read.specs.Scopes.{kinds_in, shape_fits, kinds_below, kinds_above, IsSlot, AreSlots, AreOuts, AreScopes, used_more, AreOnce, IsBelow, IsSoundAfter}
+use Rattle.plan_read.specs.Scopes.{kinds_in, shape_fits, kinds_below, kinds_above, IsSlot, AreSlots, AreOuts, AreScopes, used_more, IsBelow, IsSoundAfter}
 use Rattle.plan_read.specs.declared.scope.Scope.{Scope}
 use Rattle.plan_read.specs.declared.scopes.Scopes.{Scopes}
-use Rattle.plan_read.proofs.Slotted.{Slots, added_before, added_here, added_after, slot_there}
+use Rattle.plan_read.proofs.Slotted.{Slots, added_before, added_here, added_after}
 use Rattle.plan_read.proofs.Whole.{none_used}
 
 -- the inputs of one operator more are used once more

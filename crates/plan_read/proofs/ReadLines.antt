@@ -1,25 +1,22 @@
 -- What a line spells is what it is read as.
-use Rattle.std.proofs.Common.{◌≡◌, ◌∙◌, ℕ, Bool, true, false, cond, IsTrue, List, [], ◌∷◌, ◌++◌, Option, Some, None, refl, sym, ap, subst, option_and_then, option_map, append_assoc, codes, length, arith}
+use Rattle.std.proofs.Common.{◌≡◌, ◌∙◌, ℕ, Bool, true, false, cond, List, [], ◌∷◌, ◌++◌, Some, None, refl, sym, ap, subst, option_and_then, option_map, codes, length, arith}
 use Rattle.std.specs.List.{flat_map}
 use Rattle.std.specs.Str.{bytes_eq}
 use Rattle.mix_base.proofs.Lists.{append_nil}
 use Rattle.mix_tree.specs.LabelGrammar.{SpellsQuoted}
 use Rattle.mix_tree.specs.Signs.{op_sign}
-use Rattle.mix_tree.specs.declared.var.Key.{Key}
 use Rattle.mix_tree.specs.declared.comparing.Operand.{Operand}
 use Rattle.mix_tree.specs.declared.comparing.Operand.TheVariants.{Var as var_operand, Text as text_operand}
 use Rattle.mix_tree.specs.declared.comparing.Test.{Test}
-use Rattle.mix_catalog.specs.Forms.{is_source_name}
 use Rattle.mix_catalog.specs.declared.source.SourceSpec.{SourceSpec}
-use Rattle.path_expr.specs.Form.{Form}
 use Rattle.plan_core.specs.declared.plan.Piece.{Piece}
 use Rattle.plan_core.specs.declared.plan.Piece.TheVariants.{Var as var_piece, LabelOf as label_piece, Text as text_piece}
 use Rattle.plan_core.specs.PlanText.{direction_text}
-use Rattle.plan_core.specs.Unary.{Unary, select, order_by, project, group_by, concatenate, create_element}
+use Rattle.plan_core.specs.Unary.{select, order_by, project, group_by, concatenate, create_element}
 use Rattle.plan_core.specs.Plans.{Operator, source, get_descendants, join, over, tuple_destroy}
-use Rattle.plan_read.specs.Grammar.{Part, keyword, number, variable, of_source, of_element, path, text, keys, operand_part, test_parts, tests_parts, piece_parts, out_parts, op_parts, line_parts, SpellsVar, SpellsPart, SpellParts, SpellsLine, SpelledLinesAreRead}
+use Rattle.plan_read.specs.Grammar.{Part, keyword, operand_part, test_parts, tests_parts, piece_parts, out_parts, op_parts, line_parts, SpellsVar, SpellsPart, SpellParts, SpelledLinesAreRead}
 use Rattle.plan_read.specs.Numbers.{op_number}
-use Rattle.plan_read.specs.Reading.{begins, source_number, quoted_read, path_read, sign_read, operand_read, test_of, test_read, with_test, more_tests, tests_read, out_read, piece_read, Pieces, no_pieces, with_piece, pieces_read, direction_read, ends_read, source_form, descent_form, select_form, join_form, project_form, one_piece, group_of, group_form, order_form, concat_form, element_form, destroy_form, keyword_read, Numbered, numbered, words_read, line_read}
+use Rattle.plan_read.specs.Reading.{begins, source_number, quoted_read, path_read, sign_read, operand_read, test_of, test_read, with_test, more_tests, tests_read, out_read, piece_read, Pieces, no_pieces, with_piece, pieces_read, direction_read, ends_read, group_of, keyword_read, numbered, words_read}
 use Rattle.plan_read.specs.Variables.{var_read, keys_read}
 use Rattle.plan_read.specs.Words.{words}
 use Rattle.plan_read.proofs.ReadWords.{number_reads, var_reads, name_reads, sign_reads, quoted_reads, keys_reads}

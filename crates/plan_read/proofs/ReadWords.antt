@@ -1,16 +1,14 @@
 -- What words spell is what they are read as.
-use Rattle.std.proofs.Common.{◌≡◌, ◌<◌, ◌≤◌, ◌+◌, ◌-◌, ◌∙◌, ◌==◌, ◌&&◌, ◌||◌, ℕ, zero, suc, Bool, true, false, cond, not, IsTrue, List, [], ◌∷◌, ◌++◌, Option, Some, None, inl, inr, refl, sym, ap, subst, arith, length, take, drop, get_or, slice_index, slice_range, nat_le, nat_lt, min, position, option_and_then, option_map, codes, add-one, length-append}
+use Rattle.std.proofs.Common.{◌≡◌, ◌+◌, ◌-◌, ◌∙◌, ◌==◌, ◌&&◌, ◌||◌, ℕ, suc, Bool, true, false, cond, not, IsTrue, List, [], ◌∷◌, ◌++◌, Some, None, inl, inr, refl, sym, ap, subst, arith, length, take, slice_index, slice_range, nat_le, nat_lt, min, position, option_and_then, option_map, length-append}
 use Rattle.std.proofs.lemmas.Bool.Decides.{nat_tests}
 use Rattle.std.proofs.lemmas.List.{get_or_at}
-use Rattle.std.proofs.lemmas.Str.{is_utf8-from_IsUtf8}
-use Rattle.std.specs.List.{flat_map, list_all}
-use Rattle.std.specs.Str.{IsUtf8, is_utf8, bytes_eq}
+use Rattle.std.specs.List.{list_all}
+use Rattle.std.specs.Str.{IsUtf8, bytes_eq}
 use Rattle.std.specs.Str.Parse.{digits_value}
-use Rattle.mix_base.specs.Runs.{run_by}
-use Rattle.mix_base.proofs.Choices.{some_is, none_some, and_parts, and_both, number_is}
+use Rattle.mix_base.proofs.Choices.{some_is, and_parts, and_both, number_is}
 use Rattle.mix_base.proofs.Lists.{append_nil, take_whole}
 use Rattle.mix_tree.specs.LabelGrammar.{SpellsQuoted}
-use Rattle.mix_tree.specs.LabelMachine.{Spot, Seen, got, unexpected, ends, start, step, run, label_in, seen_from, seen_at_end}
+use Rattle.mix_tree.specs.LabelMachine.{Spot, start, step, run, label_in, seen_from, seen_at_end}
 use Rattle.mix_tree.specs.LabelOrder.{is_digit}
 use Rattle.mix_tree.specs.Names.{IsName, is_name_byte}
 use Rattle.mix_tree.specs.Signs.{op_sign}
@@ -25,9 +23,8 @@ use Rattle.mix_catalog.specs.Forms.{is_source_name}
 use Rattle.plan_read.specs.Grammar.{IsVarText, SpellsVar, SpellsKey, SpellEach, SpellsKeys}
 use Rattle.plan_read.specs.Numbers.{is_decimal, op_number, var_number}
 use Rattle.plan_read.specs.Reading.{begins, whole_label, quoted_read, sign_read}
-use Rattle.plan_read.specs.Variables.{dollared, var_named, var_read, has_label, key_read, braced, key_texts, all_read, keys_read}
-use Rattle.plan_read.specs.Words.{mode_after, is_outside, cut, between}
-use Rattle.plan_read.specs.declared.words.Mode.{Mode}
+use Rattle.plan_read.specs.Variables.{var_named, var_read, key_read, braced, key_texts, all_read, keys_read}
+use Rattle.plan_read.specs.Words.{cut, between}
 use Rattle.plan_read.specs.declared.words.Mode.TheVariants.{Plain, Quoted, Braced}
 use Rattle.plan_read.proofs.Digits.{digit_bounds}
 use Rattle.plan_read.proofs.Spelled.{then_some}
@@ -46,13 +43,13 @@ digit_no_letter b h =
     ap (λ c. (c && nat_le b 122) || (nat_le 65 b && nat_le b 90)) low ∙ ap (λ c. c && nat_le b 90) high
 
 -- the digits of a number
-all_digits : (x : List ℕ) → IsTrue (is_decimal x) → IsTrue (list_all is_digit x)
+pub all_digits : (x : List ℕ) → IsTrue (is_decimal x) → IsTrue (list_all is_digit x)
 all_digits [] h = refl
 all_digits (b ∷ []) h = and_both (is_digit b) true h refl
 all_digits (b ∷ c ∷ bs) h = (and_parts (not (b == 48)) (list_all is_digit (b ∷ c ∷ bs)) h).1
 
 -- a number is no name
-no_name : (x : List ℕ) → IsTrue (is_decimal x) → is_name x ≡ false
+pub no_name : (x : List ℕ) → IsTrue (is_decimal x) → is_name x ≡ false
 no_name [] h = refl
 no_name (b ∷ x) h =
     let digit = (and_parts (is_digit b) (list_all is_digit x) (all_digits (b ∷ x) h)).0 in
@@ -111,7 +108,7 @@ all_weaker p q f [] h = refl
 all_weaker p q f (b ∷ x) h = let parts = and_parts (p b) (list_all p x) h in and_both (q b) (list_all q x) (f b parts.0) (all_weaker p q f x parts.1)
 
 -- a byte for which a test holds that doesn't hold for another one
-other_byte : (p : ℕ → Bool) (b c : ℕ) → p c ≡ false → p b ≡ true → (b == c) ≡ false
+pub other_byte : (p : ℕ → Bool) (b c : ℕ) → p c ≡ false → p b ≡ true → (b == c) ≡ false
 other_byte p b c f h = by_test (b == c) refl
   where
     by_test : (e : Bool) → (b == c) ≡ e → e ≡ false
@@ -196,14 +193,14 @@ cut_between names k [] t (u ∷ us) h = absurd h.1
 cut_between names k (j ∷ ks) t (u ∷ us) h =
     cut_quiet t (between 44 (u ∷ us)) (quiet_key names k t h.0) ∙ ap (λ r. t ∷ r) (cut_between names j ks u us h.1)
 
-texts_cut : (names : List (List ℕ)) (ks : List Key) (ts : List (List ℕ)) → SpellEach names ks ts → key_texts (between 44 ts) ≡ ts
+pub texts_cut : (names : List (List ℕ)) (ks : List Key) (ts : List (List ℕ)) → SpellEach names ks ts → key_texts (between 44 ts) ≡ ts
 texts_cut names ks [] h = refl
 texts_cut names [] (t ∷ ts) h = absurd h
 texts_cut names (k ∷ ks) ([] ∷ ts) h = absurd (some_key names k [] h.0)
 texts_cut names (k ∷ ks) ((b ∷ t) ∷ ts) h = cut_between names k ks (b ∷ t) ts h
 
 -- a text between braces is what is read between them
-braced_reads : (x : List ℕ) → braced (123 ∷ x ++ 125 ∷ []) ≡ Some x
+pub braced_reads : (x : List ℕ) → braced (123 ∷ x ++ 125 ∷ []) ≡ Some x
 braced_reads x =
     let w : List ℕ = 123 ∷ (x ++ 125 ∷ []) in
     let len : length w ≡ length x + 2 = omega (arith, length-append x (125 ∷ [])) in

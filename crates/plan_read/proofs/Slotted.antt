@@ -1,11 +1,11 @@
 -- What is kept of operators, as the scopes of inputs are taken.
-use Rattle.std.proofs.Common.{◌≡◌, ◌⊎◌, inl, inr, ◌<◌, ◌≤◌, ◌+◌, ◌∙◌, ◌==◌, ◌++◌, ℕ, zero, suc, Bool, true, false, cond, List, [], ◌∷◌, Option, Some, None, refl, sym, ap, subst, arith, length, slice_get, slice_set}
-use Rattle.std.specs.List.{AllByRecursion, count_by}
+use Rattle.std.proofs.Common.{◌≡◌, inl, inr, ◌<◌, ◌≤◌, ◌∙◌, ◌==◌, ◌++◌, ℕ, zero, suc, Bool, true, false, List, [], ◌∷◌, Option, Some, None, refl, sym, ap, subst, arith, length, slice_get, slice_set}
+use Rattle.std.specs.List.{count_by}
 use Rattle.std.proofs.lemmas.Bool.{eq-eqb, ne_eqb, cases_eq}
-use Rattle.std.proofs.lemmas.List.{length-set, length_push}
+use Rattle.std.proofs.lemmas.List.{length-set}
 use Rattle.plan_core.specs.Valid.{Kinds, either_kind}
 use Rattle.plan_core.proofs.Chained.{count-append}
-use Rattle.plan_read.specs.Scopes.{kinds_in, kinds_below, scope_in, is_open, IsSlot, AreSlots, used_more, AreOnce, IsBelow}
+use Rattle.plan_read.specs.Scopes.{kinds_in, scope_in, is_open, IsSlot, AreSlots, used_more, AreOnce, IsBelow}
 use Rattle.plan_read.specs.declared.scope.Scope.{Scope}
 
 -- slots, each with a scope or without one

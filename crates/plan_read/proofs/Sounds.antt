@@ -1,7 +1,7 @@
 -- Operators that are sound, one after another.
-use Rattle.std.proofs.Common.{◌≡◌, ◌⊎◌, inl, inr, ◌<◌, ◌≤◌, ◌+◌, ◌∙◌, ◌==◌, ◌||◌, ◌++◌, ℕ, zero, suc, Bool, true, false, List, [], ◌∷◌, Option, Some, None, refl, sym, ap, subst, arith, length, take, get_or}
+use Rattle.std.proofs.Common.{◌≡◌, ◌⊎◌, inl, inr, ◌<◌, ◌≤◌, ◌∙◌, ◌==◌, ◌||◌, ◌++◌, ℕ, suc, Bool, true, false, List, [], ◌∷◌, Some, None, refl, sym, ap, subst, arith, length, take, get_or}
 use Rattle.std.specs.List.{AllByRecursion, count_by, flat_map, list_any}
-use Rattle.std.proofs.lemmas.Bool.{eq-eqb, ne_eqb, eqb-false}
+use Rattle.std.proofs.lemmas.Bool.{ne_eqb, eqb-false}
 use Rattle.std.proofs.lemmas.List.{flat_map_more, take_more, length-take-le}
 use Rattle.std.proofs.lemmas.Bool.Decides.{nat_tests}
 use Rattle.std.proofs.lemmas.List.Folds.{list_any-append}
@@ -11,14 +11,14 @@ use Rattle.mix_base.proofs.Firsts.{each_weaker}
 use Rattle.plan_core.specs.PlanMade.{op_of}
 use Rattle.plan_core.specs.Plans.{Operator, source}
 use Rattle.plan_core.specs.Shapes.{Stage, filters, extends, first_by_keys, one_group, in_order, Shape, one_source, visits_below, pairs_up, passes_on, no_events, shape_of}
-use Rattle.plan_core.specs.Valid.{Kinds, kinds, op_kinds, IsFit, HaveSmallerInputs, inputs_of, outs_of, stage_outs, shape_outs, AreDistinct, uses_of}
+use Rattle.plan_core.specs.Valid.{kinds, op_kinds, IsFit, HaveSmallerInputs, inputs_of, outs_of, stage_outs, shape_outs, AreDistinct, uses_of}
 use Rattle.plan_core.proofs.Chained.{count-append}
 use Rattle.plan_core.proofs.Numbers.{kinds-of}
 use Rattle.plan_read.specs.Checks.{ops_of, AreNumbered, AreShort, AreSound, IsShort}
 use Rattle.plan_read.specs.Drafts.{all_numbered}
 use Rattle.plan_read.specs.declared.draft.Draft.{Draft}
 use Rattle.plan_read.specs.Reading.{Numbered}
-use Rattle.plan_read.specs.Scopes.{shape_fits, kinds_below, used_more, AreOnce, IsSoundAfter}
+use Rattle.plan_read.specs.Scopes.{used_more, AreOnce, IsSoundAfter}
 use Rattle.plan_read.proofs.Decided.{fit_is_decided}
 use Rattle.plan_read.proofs.Pushed.{uses_more}
 use Rattle.plan_read.proofs.Counted.{smaller_fewer, smaller_at}

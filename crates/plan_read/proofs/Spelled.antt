@@ -1,16 +1,14 @@
 -- What single words are read as is what they spell.
-use Rattle.std.proofs.Common.{◌≡◌, ◌<◌, ◌≤◌, ◌+◌, ◌-◌, ◌∙◌, ◌==◌, ◌&&◌, ◌||◌, ℕ, zero, suc, Bool, true, false, cond, IsTrue, List, [], ◌∷◌, ◌++◌, Option, Some, None, inl, inr, refl, sym, ap, subst, arith, length, take, drop, get_or, slice_index, slice_range, nat_le, nat_lt, min, position, option_and_then, option_map, codes, add-one}
+use Rattle.std.proofs.Common.{◌≡◌, ◌<◌, ◌≤◌, ◌∙◌, ◌==◌, ◌&&◌, ℕ, Bool, true, false, cond, IsTrue, List, [], ◌∷◌, Option, Some, None, inl, inr, refl, sym, ap, subst, arith, length, nat_le, nat_lt, min, position, option_and_then}
 use Rattle.std.proofs.lemmas.Bool.Decides.{nat_tests}
-use Rattle.std.proofs.lemmas.List.{take_more, take_all}
-use Rattle.std.proofs.lemmas.Slice.Eq.{bytes_eq-Decides}
 use Rattle.std.proofs.lemmas.Str.{IsUtf8-from_is_utf8}
-use Rattle.std.specs.List.{flat_map, list_all}
+use Rattle.std.specs.List.{list_all}
 use Rattle.std.specs.Str.{IsUtf8, is_utf8, bytes_eq}
 use Rattle.std.specs.Str.Parse.{digits_value}
 use Rattle.mix_base.proofs.Choices.{some_is, none_some, and_parts, number_is}
 use Rattle.mix_base.proofs.Lists.{append_nil}
 use Rattle.mix_tree.specs.LabelGrammar.{SpellsQuoted, SpellsLabel}
-use Rattle.mix_tree.specs.LabelMachine.{Seen, got, unexpected, ends, start, run, seen_from}
+use Rattle.mix_tree.specs.LabelMachine.{Seen, got, unexpected, ends, start, seen_from}
 use Rattle.mix_tree.specs.Names.{IsName, is_name_byte}
 use Rattle.mix_tree.specs.Spelling.{is_bare, is_bare_label}
 use Rattle.mix_tree.proofs.LabelAnswers.{run_writes_some}

@@ -1,5 +1,5 @@
 -- What the words of keys, signs, comparisons and pieces are read as is what they spell.
-use Rattle.std.proofs.Common.{◌≡◌, ◌<◌, ◌≤◌, ◌+◌, ◌-◌, ◌∙◌, ◌==◌, ◌&&◌, ℕ, zero, suc, Bool, true, false, cond, IsTrue, List, [], ◌∷◌, ◌++◌, Option, Some, None, refl, sym, ap, subst, arith, length, take, drop, get_or, slice_index, slice_range, nat_le, option_and_then, option_map, codes, add-one}
+use Rattle.std.proofs.Common.{◌≡◌, ◌<◌, ◌≤◌, ◌+◌, ◌-◌, ◌∙◌, ◌==◌, ◌&&◌, ℕ, suc, Bool, true, false, cond, List, [], ◌∷◌, ◌++◌, Option, Some, None, refl, sym, ap, subst, arith, length, take, drop, get_or, slice_index, slice_range, nat_le, option_map, codes}
 use Rattle.std.proofs.lemmas.Bool.Decides.{nat_tests}
 use Rattle.std.proofs.lemmas.List.{take_more, take_all, take-append-drop}
 use Rattle.std.proofs.lemmas.Slice.Eq.{bytes_eq-Decides}
@@ -12,7 +12,7 @@ use Rattle.mix_tree.specs.declared.var.Key.TheVariants.{Node as node_key, LabelO
 use Rattle.mix_tree.specs.declared.comparing.TestOp.{TestOp}
 use Rattle.mix_tree.specs.declared.comparing.TestOp.TheVariants.{Eq, Ne, Lt, Le, Gt, Ge, Same}
 use Rattle.mix_words.specs.Words.{with_first}
-use Rattle.plan_read.specs.Grammar.{SpellsVar, SpellsKey, SpellEach, SpellsKeys}
+use Rattle.plan_read.specs.Grammar.{SpellsKey, SpellEach, SpellsKeys}
 use Rattle.plan_read.specs.Reading.{sign_read}
 use Rattle.plan_read.specs.Variables.{var_read, has_label, key_read, braced, key_texts, all_read, keys_read}
 use Rattle.plan_read.specs.Words.{mode_after, is_outside, cut, between}

@@ -1,5 +1,5 @@
 -- What a line is read as is what it spells.
-use Rattle.std.proofs.Common.{◌≡◌, ◌∙◌, ℕ, Bool, true, false, cond, IsTrue, List, [], ◌∷◌, ◌++◌, Option, Some, None, refl, sym, ap, subst, option_and_then, option_map, append_assoc, codes}
+use Rattle.std.proofs.Common.{◌≡◌, ◌∙◌, ℕ, Bool, true, false, cond, List, [], ◌∷◌, ◌++◌, Option, Some, None, refl, sym, ap, subst, option_and_then, option_map, append_assoc, codes}
 use Rattle.std.specs.List.{flat_map}
 use Rattle.std.specs.Str.{bytes_eq}
 use Rattle.mix_base.proofs.Choices.{some_is, none_some}
@@ -13,9 +13,9 @@ use Rattle.mix_catalog.specs.declared.source.SourceSpec.{SourceSpec}
 use Rattle.plan_core.specs.declared.plan.Piece.{Piece}
 use Rattle.plan_core.specs.declared.plan.Piece.TheVariants.{Var as var_piece, LabelOf as label_piece, Text as text_piece}
 use Rattle.plan_core.specs.PlanText.{direction_text}
-use Rattle.plan_core.specs.Unary.{Unary, select, order_by, project, group_by, concatenate, create_element}
+use Rattle.plan_core.specs.Unary.{select, order_by, project, group_by, concatenate, create_element}
 use Rattle.plan_core.specs.Plans.{Operator, source, get_descendants, join, over, tuple_destroy}
-use Rattle.plan_read.specs.Grammar.{Part, keyword, number, variable, of_source, of_element, path, text, keys, operand_part, test_parts, tests_parts, piece_parts, out_parts, op_parts, line_parts, SpellsPart, SpellParts, SpellsLine}
+use Rattle.plan_read.specs.Grammar.{Part, keyword, number, keys, operand_part, test_parts, tests_parts, piece_parts, out_parts, op_parts, line_parts, SpellsPart, SpellParts, SpellsLine}
 use Rattle.plan_read.specs.Numbers.{op_number}
 use Rattle.plan_read.specs.Reading.{begins, source_number, quoted_read, path_read, sign_read, operand_read, test_of, test_read, with_test, more_tests, tests_read, out_read, piece_read, Pieces, no_pieces, with_piece, pieces_read, direction_read, ends_read, source_form, descent_form, select_form, join_form, project_form, one_piece, group_of, group_form, order_form, concat_form, element_form, destroy_form, keyword_read, Numbered, numbered, words_read, line_read}
 use Rattle.plan_read.specs.Variables.{var_read, keys_read}

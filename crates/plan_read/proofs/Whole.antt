@@ -1,7 +1,6 @@
 -- Operators are whole where their plan is valid.
-use Rattle.std.proofs.Common.{◌≡◌, ◌<◌, ◌≤◌, ◌+◌, ◌∙◌, ◌==◌, ℕ, zero, suc, Bool, true, false, List, [], ◌∷◌, ◌++◌, refl, sym, ap, subst, arith, length, take, map, nat_lt}
+use Rattle.std.proofs.Common.{◌≡◌, ◌<◌, ◌≤◌, ◌+◌, ◌∙◌, ◌==◌, ℕ, suc, Bool, true, false, List, [], ◌∷◌, refl, sym, ap, subst, arith, length, take, nat_lt}
 use Rattle.std.specs.List.{AllByRecursion, flat_map, count_by}
-use Rattle.std.proofs.lemmas.List.{length-map, take_all}
 use Rattle.std.proofs.lemmas.Bool.Decides.{nat_tests}
 use Rattle.plan_core.proofs.Chained.{count-append}
 use Rattle.mix_catalog.specs.declared.source.SourceSpec.{SourceSpec}
@@ -9,7 +8,7 @@ use Rattle.plan_core.specs.Plans.{Operator, source, get_descendants, join, over,
 use Rattle.plan_core.specs.Valid.{kinds, IsFit, HaveSmallerInputs, inputs_of, outs_of, AreDistinct, HasSource, uses_of, EndsSingle, is_single_at, IsValid}
 use Rattle.plan_read.specs.Reading.{Numbered}
 use Rattle.plan_read.specs.Lines.{Line}
-use Rattle.plan_read.specs.Checks.{ops_of, AreSound, AreUsed, Ends, IsSingle, ArePlain, AreWhole, WholeIsValid}
+use Rattle.plan_read.specs.Checks.{ops_of, ArePlain, AreWhole, WholeIsValid}
 use Rattle.plan_read.proofs.Stopping.{many_of}
 
 -- the first operators, as many as there are, are all

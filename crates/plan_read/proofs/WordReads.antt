@@ -1,9 +1,9 @@
 -- What single words read as.
-use Rattle.std.proofs.Common.{◌≡◌, ◌<◌, ◌≤◌, ◌∙◌, ◌&&◌, ℕ, zero, suc, Bool, true, false, cond, List, [], ◌∷◌, Option, Some, None, inl, inr, ◌+◌, refl, sym, ap, subst, arith, length, take, drop, replicate, option_and_then, nat_le}
+use Rattle.std.proofs.Common.{◌≡◌, ◌<◌, ◌≤◌, ◌∙◌, ◌&&◌, ℕ, zero, suc, Bool, true, false, cond, List, [], ◌∷◌, Option, Some, None, inl, inr, ◌+◌, refl, sym, ap, subst, arith, length, drop, replicate, option_and_then, nat_le}
 use Rattle.std.proofs.lemmas.Bool.Decides.{nat_tests}
 use Rattle.std.proofs.lemmas.Str.{is_utf8-from_IsUtf8, IsUtf8-from_is_utf8}
 use Rattle.std.specs.Str.{IsUtf8, is_utf8}
-use Rattle.mix_tree.specs.LabelMachine.{Seen, got, unexpected, ends, start, seen_from}
+use Rattle.mix_tree.specs.LabelMachine.{got, start, seen_from}
 use Rattle.path_expr.specs.Form.{Form, any, seq, none, paths_of, positions_in}
 use Rattle.path_expr.specs.Grammar.{Spelled, Writes}
 use Rattle.path_expr.specs.Depth.{nesting}

@@ -1,5 +1,5 @@
 -- The canonical text of an operator by its parts.
-use Rattle.std.proofs.Common.{◌≡◌, ◌∙◌, ℕ, Bool, true, false, List, [], ◌∷◌, ◌++◌, refl, sym, ap, append_assoc, codes}
+use Rattle.std.proofs.Common.{◌≡◌, ◌∙◌, ℕ, true, false, List, [], ◌∷◌, ◌++◌, refl, sym, ap, append_assoc, codes}
 use Rattle.std.specs.List.{flat_map}
 use Rattle.std.specs.Fmt.{decimal}
 use Rattle.mix_base.proofs.Lists.{append_nil}
@@ -9,10 +9,10 @@ use Rattle.mix_tree.specs.declared.comparing.Test.{Test}
 use Rattle.mix_tree.specs.Signs.{op_sign}
 use Rattle.plan_core.specs.declared.plan.Piece.{Piece}
 use Rattle.plan_core.specs.declared.plan.Piece.TheVariants.{Var as var_piece, LabelOf as label_piece, Text as text_piece}
-use Rattle.plan_core.specs.PlanText.{var_text, keys_text, operand_text, test_text, tests_text, piece_text, pieces_text, out_text, direction_text, unary_text, operator_text}
+use Rattle.plan_core.specs.PlanText.{var_text, keys_text, operand_text, test_text, tests_text, piece_text, pieces_text, out_text, unary_text}
 use Rattle.plan_core.specs.Unary.{Unary, select, order_by, project, group_by, concatenate, create_element}
-use Rattle.plan_core.specs.Plans.{Operator, source, get_descendants, join, over, tuple_destroy}
-use Rattle.plan_read.specs.Grammar.{Part, keyword, number, variable, of_source, of_element, path, text, keys, operand_part, test_parts, tests_parts, piece_parts, out_parts, unary_parts, op_parts, part_text, parts_text, WrittenByParts}
+use Rattle.plan_core.specs.Plans.{source, get_descendants, join, over, tuple_destroy}
+use Rattle.plan_read.specs.Grammar.{Part, keyword, operand_part, test_parts, tests_parts, piece_parts, out_parts, unary_parts, part_text, parts_text, WrittenByParts}
 
 -- the text of two lists of parts is that of the first, and then that of the second
 text-append : (names sources : List (List ℕ)) (ps qs : List Part) → parts_text names sources (ps ++ qs) ≡ parts_text names sources ps ++ parts_text names sources qs

@@ -1,8 +1,9 @@
 -- What the operators of lines stand for as they are read.
-use Rattle.std.specs.Prelude.{◌≡◌, ◌<◌, ℕ, nat_lt, List, [], ◌∷◌, length, map, Option, Some}
+use Rattle.std.specs.Prelude.{◌≡◌, ◌<◌, ℕ, nat_lt, List, [], ◌∷◌, length, map, Some}
 use Rattle.std.specs.List.{AllByRecursion, list_any}
 use Rattle.mix_catalog.specs.declared.source.SourceSpec.{SourceSpec}
 use Rattle.plan_core.specs.PlanMade.{op_of}
+use Rattle.plan_core.specs.declared.plan.Op.{Op}
 use Rattle.plan_core.specs.Shapes.{shape_of}
 use Rattle.plan_core.specs.Valid.{inputs_of}
 use Rattle.plan_read.specs.Checks.{positions}
@@ -14,6 +15,10 @@ use Rattle.plan_read.specs.declared.draft.Draft.{Draft}
 -- the operator of a draft, with its number
 abbrev pub numbered_of : Draft → Numbered
 numbered_of d = numbered d.number (op_of d.op)
+
+-- an operator that was read, with the number read before it
+abbrev pub numbered_pair : ℕ × Op → Numbered
+numbered_pair f = numbered f.0 (op_of f.1)
 
 -- the operators of drafts, with their numbers
 abbrev pub all_numbered : List Draft → List Numbered

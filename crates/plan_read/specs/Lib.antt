@@ -11,3 +11,4 @@ pub mod Scopes
 pub mod Stops
 pub mod Variables
 pub mod Words
+pub mod Writable

@@ -1,6 +1,5 @@
 -- What the words of a line read as.
-use Rattle.std.specs.Prelude.{ℕ, Bool, true, false, cond, ◌&&◌, ◌==◌, nat_le, List, [], ◌∷◌, length, replicate, Option, Some, None, option_map, option_and_then, unwrap_or, codes}
-use Rattle.std.specs.List.{list_all}
+use Rattle.std.specs.Prelude.{ℕ, Bool, true, false, cond, ◌&&◌, ◌==◌, nat_le, List, [], ◌∷◌, ◌++◌, length, replicate, Option, Some, None, option_map, option_and_then, unwrap_or, codes}
 use Rattle.std.specs.Str.{bytes_eq, is_utf8}
 use Rattle.mix_tree.specs.LabelMachine.{Seen, got, unexpected, ends, start, seen_from}
 use Rattle.mix_tree.specs.Signs.{op_sign}
@@ -20,7 +19,7 @@ use Rattle.mix_catalog.specs.Sources.{source_named}
 use Rattle.mix_catalog.specs.declared.source.SourceSpec.{SourceSpec}
 use Rattle.plan_core.specs.declared.plan.Piece.{Piece}
 use Rattle.plan_core.specs.declared.plan.Piece.TheVariants.{Var as var_piece, LabelOf as label_piece, Text as text_piece}
-use Rattle.plan_core.specs.Unary.{Unary, select, order_by, project, group_by, concatenate, create_element}
+use Rattle.plan_core.specs.Unary.{select, order_by, project, group_by, concatenate, create_element}
 use Rattle.plan_core.specs.Plans.{Operator, source, get_descendants, join, over, tuple_destroy}
 use Rattle.plan_read.specs.Numbers.{op_number}
 use Rattle.plan_read.specs.Variables.{var_read, keys_read}
@@ -75,10 +74,11 @@ sign_read word =
 abbrev pub operand_read : List (List ℕ) → List ℕ → Option Operand
 operand_read names word = cond (begins 36 word) (option_map var_operand (var_read names word)) (option_map text_operand (quoted_read word))
 
--- a comparison of three words
+-- a comparison of its parts
 abbrev pub test_of : ℕ → TestOp → Operand → Test
 test_of left op right = record { left = left; op = op; right = right }
 
+-- a comparison of three words
 abbrev pub test_read : List (List ℕ) → List ℕ → List ℕ → List ℕ → Option Test
 test_read names left sign right =
     option_and_then (λ l. option_and_then (λ s. option_map (test_of l s) (operand_read names right)) (sign_read sign)) (var_read names left)
@@ -102,6 +102,10 @@ more_tests names (a ∷ []) = None
 more_tests names (a ∷ l ∷ []) = None
 more_tests names (a ∷ l ∷ s ∷ []) = None
 more_tests names (a ∷ l ∷ s ∷ r ∷ ws) = cond (bytes_eq a (codes "AND")) (with_test (test_read names l s r) (more_tests names ws)) None
+
+-- comparisons with more behind them, where there are more
+abbrev pub with_more : List Test → Option (List Test) → Option (List Test)
+with_more tests more = option_map (λ ts. tests ++ ts) more
 
 -- comparisons with AND between them, or none
 abbrev pub tests_read : List (List ℕ) → List (List ℕ) → Option (List Test)
@@ -234,10 +238,11 @@ pub record Numbered : Type 0 where
   pub number : ℕ
   pub op : Operator
 
--- the operator that the words of a line read as, with its number
+-- an operator and its number
 abbrev pub numbered : ℕ → Operator → Numbered
 numbered n op = record { number = n; op = op }
 
+-- the operator that the words of a line read as, with its number
 abbrev pub words_read : List (List ℕ) → List SourceSpec → List (List ℕ) → Option Numbered
 words_read names sources (number ∷ keyword ∷ ws) = option_and_then (λ n. option_map (numbered n) (keyword_read names sources keyword ws)) (op_number number)
 words_read names sources ws = None

@@ -1,6 +1,6 @@
 // Comparisons as a plan's text has them.
-ghost use Rattle.std.specs.Prelude.{◌≡◌, ◌<◌, ◌≤◌, ◌^◌, ◌++◌, cond, Some, None, IfOk, IfSome, length, map, option_map};
-ghost use Rattle.plan_read.specs.Reading.{operand_read, test_read, next_test, more_tests, tests_read};
+ghost use Rattle.std.specs.Prelude.{◌≡◌, ◌<◌, ◌≤◌, ◌^◌, cond, Some, None, IfOk, IfSome, length, map, option_map};
+ghost use Rattle.plan_read.specs.Reading.{operand_read, test_read, next_test, more_tests, with_more, tests_read};
 
 use crate::names::Names;
 use crate::parts::{begins_var, read_quoted, read_sign};
@@ -70,7 +70,7 @@ fn push_more(
     words: &[&[u8]],
 ) -> Result<bool, AllocError>
     requires { length names.now < 2 ^ 32 }
-    ensures { IfOk result (λ are. option_map (λ more. tests.old.items ++ more) (more_tests names.now (map (λ w. w.now) words.now)) ≡ cond are (Some tests.new.items) None) }
+    ensures { IfOk result (λ are. with_more tests.old.items (more_tests names.now (map (λ w. w.now) words.now)) ≡ cond are (Some tests.new.items) None) }
 {
     let mut at = 0;
     while at < words.len() {

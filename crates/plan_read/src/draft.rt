@@ -4,9 +4,9 @@ ghost use Rattle.std.specs.List.{list_any};
 ghost use Rattle.plan_core.specs.PlanMade.{op_of};
 ghost use Rattle.plan_core.specs.Shapes.{shape_of};
 ghost use Rattle.plan_read.specs.Checks.{positions};
-ghost use Rattle.plan_read.specs.Drafts.{numbered_of, AreDrafts};
+ghost use Rattle.plan_read.specs.Drafts.{numbered_of, numbered_pair, AreDrafts};
 ghost use Rattle.plan_read.specs.Lines.{line_of};
-ghost use Rattle.plan_read.specs.Reading.{numbered, words_read, line_read};
+ghost use Rattle.plan_read.specs.Reading.{words_read, line_read};
 ghost use Rattle.plan_read.specs.Results.{RefusesLine};
 ghost use Rattle.plan_read.specs.Variables.{line_vars, is_below};
 
@@ -72,7 +72,7 @@ fn read_words(
     words: &[&[u8]],
 ) -> Result<Option<(u32, Op)>, AllocError>
     requires { length names.now < 2 ^ 32 }
-    ensures reads { IfOk result (λ found. option_map (λ f. numbered f.0 (op_of f.1)) found ≡ words_read names.now catalog.now (map (λ w. w.now) words.now)) }
+    ensures reads { IfOk result (λ found. option_map numbered_pair found ≡ words_read names.now catalog.now (map (λ w. w.now) words.now)) }
     ensures short { IfOk result (λ found. IfSome found (λ f. positions (shape_of (op_of f.1)) ≤ 121)) }
 {
     let [number, keyword, rest @ ..] = words else {

@@ -1,6 +1,7 @@
 // What holds of the grammar itself.
 ghost use Rattle.plan_read.specs.Checks.{WholeIsValid};
 ghost use Rattle.plan_read.specs.Scopes.{FitIsDecided};
+ghost use Rattle.plan_read.specs.Writable.{WrittenPlansAreRead};
 ghost use Rattle.plan_read.specs.Grammar.{WrittenByParts, WordsAreSpelled, LinesAreSpelled, SpelledLinesAreRead};
 
 /// The canonical text of an operator is that of the parts by which its line is read.
@@ -31,4 +32,10 @@ pub fn fit_is_decided()
 /// Operators that pass the checks of their lines pass those of all lines together exactly where their plan is valid.
 pub fn whole_is_valid()
     ensures { WholeIsValid }
+{}
+
+/// The text of a valid plan of at most 10,000 operators that can be written is read as that plan, its named variables numbered in the order in which
+/// the text first has them.
+pub fn written_plans_are_read()
+    ensures { WrittenPlansAreRead }
 {}

@@ -17,14 +17,12 @@ mod pieces;
 mod reading;
 mod scope;
 mod scopes;
-#[cfg(test)]
-mod tests;
 mod variables;
 mod words;
 
 pub use fault::PlanFault;
 pub use law::{
     fit_is_decided, lines_are_spelled, operators_are_written_by_parts, spelled_lines_are_read,
-    whole_is_valid, words_are_spelled,
+    whole_is_valid, words_are_spelled, written_plans_are_read,
 };
 pub use reading::read_plan;

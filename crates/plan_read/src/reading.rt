@@ -41,15 +41,9 @@ fn source_names(alloc: Global, catalog: &Catalog) -> Result<Vec<Label>, AllocErr
     Ok(names)
 }
 
-/// The plan that a text spells over the sources of a catalog (docs/FORMATS.md, "Plans").
-///
-/// # Errors
-///
-/// Of the causes that a text has, the first of these is answered, each with the first line that has it: `NotUtf8`, `Line`, `TooMany`, `Number`,
-/// `UnknownSource`, `Positions`, `Variable`, `Invalid`, `End`, `Unused`, `NotSingle`. `OutOfMemory` can come with any text.
-pub fn read_plan(alloc: Global, text: &[u8], catalog: &Catalog) -> Result<Plan, PlanFault>
-    // The answer is that of the text: its plan, which is valid, or why it is no plan's.
-    ensures answers { Answers text.now catalog.now (answer_of result) }
+// The plan that a text spells, or the first cause why it spells none.
+fn plan_of(alloc: Global, text: &[u8], catalog: &Catalog) -> Result<Plan, PlanFault>
+    ensures { Answers text.now catalog.now (answer_of result) }
 {
     if let Err(error) = str::from_utf8(text) {
         return Err(PlanFault::NotUtf8(error.valid_up_to()));
@@ -63,4 +57,19 @@ pub fn read_plan(alloc: Global, text: &[u8], catalog: &Catalog) -> Result<Plan, 
         names: names.labels(alloc)?,
         sources: source_names(alloc, catalog)?,
     })
+}
+
+/// The plan that a text spells over the sources of a catalog (docs/FORMATS.md, "Plans").
+///
+/// # Errors
+///
+/// Of the causes that a text has, the first of these is answered, each with the first line that has it: `NotUtf8`, `Line`, `TooMany`, `Number`,
+/// `UnknownSource`, `Positions`, `Variable`, `Invalid`, `End`, `Unused`, `NotSingle`. `OutOfMemory` can come with any text.
+pub fn read_plan(alloc: Global, text: &[u8], catalog: &Catalog) -> Result<Plan, PlanFault>
+    // The answer is that of the text: its plan, which is valid, or why it is no plan's.
+    ensures answers { Answers text.now catalog.now (answer_of result) }
+    // It is the only one.
+    ensures only { (other : Result PlanValue PlanFault) → Answers text.now catalog.now other → SameAnswer (answer_of result) other }
+{
+    plan_of(alloc, text, catalog)
 }

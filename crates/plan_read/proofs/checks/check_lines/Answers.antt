@@ -1,4 +1,3 @@
-use Rattle.std.proofs.Common.{length}
 use Rattle.plan_read.specs.Checks.{AreFew, AreNumbered}
 use Rattle.plan_read.specs.Drafts.{all_numbered}
 use Rattle.plan_read.proofs.Checked.{of_all, stops_line, stops_known, stops_long, stops_low, all_known, all_short, all_ranged}

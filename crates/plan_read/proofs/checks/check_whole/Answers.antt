@@ -1,4 +1,4 @@
-use Rattle.std.proofs.Common.{◌≡◌, ◌∙◌, ℕ, true, false, Bool, [], Some, None, IfNone, sym, subst, length}
+use Rattle.std.proofs.Common.{◌≡◌, ◌∙◌, true, false, Bool, IfNone, sym, subst}
 use Rattle.plan_core.specs.Valid.{kinds, is_single_at}
 use Rattle.plan_read.specs.Checks.{ops_of, AreNumbered, AreShort, AreSound, AreUsed}
 use Rattle.plan_read.specs.Drafts.{all_numbered, lines_of}

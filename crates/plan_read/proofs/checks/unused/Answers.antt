@@ -1,8 +1,8 @@
-use Rattle.std.proofs.Common.{◌≡◌, ◌<◌, ◌∙◌, inl, inr, ℕ, suc, true, false, sym, ap, subst, arith, length, slice_get}
+use Rattle.std.proofs.Common.{◌≡◌, ◌<◌, ◌∙◌, inl, inr, ℕ, suc, sym, subst, arith, length, slice_get}
 use Rattle.std.proofs.lemmas.Bool.{cases_lt}
 use Rattle.plan_core.specs.Valid.{uses_of}
 use Rattle.plan_read.specs.Checks.{ops_of, AreUsed}
-use Rattle.plan_read.specs.Drafts.{all_numbered, lines_of}
+use Rattle.plan_read.specs.Drafts.{all_numbered}
 use Rattle.plan_read.proofs.Slotted.{open_unused, closed_used, slot_there}
 use Rattle.plan_read.proofs.Stopping.{many_lines, many_ops, stops_at}
 use Rattle.plan_read.proofs.checks.unused.Goals as goal

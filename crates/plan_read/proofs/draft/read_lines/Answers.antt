@@ -1,4 +1,4 @@
-use Rattle.std.proofs.Common.{◌≡◌, ◌<◌, ◌+◌, ◌∙◌, [], ℕ, List, sym, ap, subst, arith, length, map, take, get_or, option_map}
+use Rattle.std.proofs.Common.{◌<◌, ◌+◌, ◌∙◌, [], List, sym, ap, subst, arith, length, map, take, get_or, option_map}
 use Rattle.std.proofs.lemmas.List.{length-map, get_or-map}
 use Rattle.plan_read.specs.Drafts.{numbered_of, IsDraft, AreDrafts}
 use Rattle.plan_read.specs.Lines.{Line, line_of}

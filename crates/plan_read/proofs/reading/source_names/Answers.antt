@@ -1,4 +1,4 @@
-use Rattle.std.proofs.Common.{◌≡◌, ◌∙◌, ◌++◌, ◌∷◌, [], ℕ, zero, suc, List, Some, refl, sym, ap, arith, map, take, slice_get}
+use Rattle.std.proofs.Common.{◌≡◌, ◌∙◌, ◌++◌, ◌∷◌, [], ℕ, zero, suc, List, Some, sym, ap, map, take, slice_get}
 use Rattle.std.proofs.lemmas.List.{map-append}
 use Rattle.mix_base.proofs.Choices.{none_some, some_is}
 use Rattle.mix_catalog.specs.declared.source.SourceSpec.{SourceSpec}
