@@ -1,0 +1,13 @@
+mod Bodies
+mod Catalogs
+mod Counts
+mod Names
+mod Outs
+mod Paths
+mod Pigeonhole
+mod Plans
+mod ReadAgain
+mod Templates
+mod Trees
+mod Used
+mod Views
