@@ -1,4 +1,5 @@
 pub mod Agreeing
+pub mod Chains
 pub mod FirstPositions
 pub mod FirstSteps
 pub mod GatherSteps

@@ -1,5 +1,5 @@
 -- Members of a join's right side that are known: those that no comparison lets through are passed.
-use Rattle.std.proofs.Common.{◌≡◌, ◌<◌, ◌≤◌, ◌+◌, ◌-◌, ℕ, zero, suc, Bool, true, false, List, [], ◌∷◌, ◌++◌, Option, None, Some, length, get_or, refl, ◌∙◌, sym, ap, subst, arith, length-append}
+use Rattle.std.proofs.Common.{◌≡◌, ◌<◌, ◌≤◌, ◌+◌, ◌-◌, ℕ, zero, suc, Bool, true, false, List, [], ◌∷◌, ◌++◌, Option, Some, length, get_or, refl, ◌∙◌, sym, ap, subst, arith, length-append}
 use Rattle.std.specs.Hash as fed
 use Rattle.std.specs.List.{AllByRecursion}
 use Rattle.std.specs.Prelude.{IsTrue, Result, IfOk, is_some}
@@ -27,7 +27,7 @@ use Rattle.lazy_binding.specs.declared.parts.Growing.{Growing}
 use Rattle.lazy_binding.specs.declared.parts.Fixed.{Fixed}
 use Rattle.lazy_binding.specs.declared.position.Position.{Position, Start, Pair'}
 use Rattle.lazy_binding.specs.Bench.{IsBench}
-use Rattle.lazy_binding.specs.World.{World, docs_of, is_told, spot_node, Member, memo_at, passed, last_of}
+use Rattle.lazy_binding.specs.World.{World, docs_of, is_told, Member, memo_at, passed, last_of}
 use Rattle.lazy_binding.specs.Cursors.{binding, ahead, size, stands, weighs, IsIn, IsOf, has_row}
 use Rattle.plan_forms.specs.declared.link.Side.TheVariants.{Left as on_left, Right as on_right}
 use Rattle.plan_forms.specs.Links.{shape_links, all_links, links_at, if_label}

@@ -1,4 +1,5 @@
 pub mod Beside
+pub mod Chains
 pub mod Gathers
 pub mod Orders
 pub mod Steps

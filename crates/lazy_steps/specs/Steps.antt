@@ -1,5 +1,5 @@
 -- What calls over the events of an operator come to.
-use Rattle.std.specs.Prelude.{◌≡◌, ◌+◌, ◌*◌, suc, ◌⊎◌, ◌++◌, ◌∷◌, [], ℕ, Bool, true, false, IsTrue, List, Result, IfOk, Option, None, option_map, ◌<◌, length, take, slice_index_or}
+use Rattle.std.specs.Prelude.{◌≡◌, ◌+◌, ◌*◌, suc, ◌⊎◌, ◌++◌, ◌∷◌, [], ℕ, Bool, true, false, IsTrue, List, Result, IfOk, Option, None, Some, option_map, ◌<◌, length, take, slice_index_or}
 use Rattle.mix_base.specs.Events.{Event, cost}
 use Rattle.lazy_descend.specs.Searches as Searches
 use Rattle.lazy_descend.specs.Searches.{Telling, Cursors, AsksAtMost, Outcome, over, at_row, at_event, GivesFirst}
@@ -118,6 +118,11 @@ pub record Asked {S : Type 0} (view : S → View) (came_from : S → S → Type 
 abbrev pub GivesMatch : World → World → List Operator → Machine → ℕ → List (Event (List ℕ)) → ℕ → Option DescCursor → Type 0
 GivesMatch old new ops m s es top r = GivesFirst (telling old ops) (matches new m s) es top r
 
+-- the position from which a walk goes on: the event to which it came, or, before any, that from which it began
+abbrev pub at_of : Option Position → Position → Position
+at_of None c = c
+at_of (Some d) c = d
+
 -- operator n of a plan can step from position c
 pub record CanStep (v : View) (g : Growing) (p : Fixed) (n : ℕ) (c : Position) : Type 0 where
   pub fixed : IsFixed p
@@ -155,9 +160,13 @@ PassesEach ops i (extends out made) = Unit {0}
 PassesEach ops i (first_by_keys keys None) = apart_over ops i keys ≡ true
 PassesEach ops i stage = ⊥
 
+-- operator n passes on each binding of its input i
+abbrev pub PassesAt : List Operator → ℕ → ℕ → Type 0
+PassesAt ops n i = (stage : Stage) × (shape_at ops n ≡ passes_on i stage) × PassesEach ops i stage
+
 -- the operator that is walked passes on each binding of its input i
 abbrev pub PassesOn : Walk → ℕ → Type 0
-PassesOn k i = (stage : Stage) × (shape_walked k ≡ passes_on i stage) × PassesEach (operators k.fixed.now) i stage
+PassesOn k i = PassesAt (operators k.fixed.now) k.op i
 
 -- the operator that is walked keeps the first bindings of its input i by these keys, may have to drop some, and its groups, where it makes some, do not end with its input
 abbrev pub KeepsFirsts : Walk → ℕ → List Key → Type 0

@@ -65,6 +65,7 @@ impl<'a> Gather<'a> {
 
     /// The next group: one whose first member was found already, or the first to which the walk of the input comes.
     #[cycle(walk)]
+    #[inline(never)]
     pub(crate) fn step<S: Sources>(
         &self,
         alloc: Global,

@@ -38,6 +38,7 @@ impl<'a> Join<'a> {
 
     /// The next member of the right side beside the binding of the left, or the next binding of the left.
     #[cycle(walk)]
+    #[inline(never)]
     pub(crate) fn step<S: Sources>(
         &self,
         alloc: Global,

@@ -1,6 +1,7 @@
 //! Steps over the events of a plan's operators: from a position of an operator to its next binding, or to a later event.
 #![tactic(auto)]
 
+mod chain;
 mod firsts;
 mod gather_steps;
 mod join_steps;

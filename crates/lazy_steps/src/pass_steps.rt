@@ -2,7 +2,7 @@
 ghost use Rattle.std.specs.Prelude.{◌≡◌};
 ghost use Rattle.plan_core.specs.Shapes.{filters, passes_on};
 ghost use Rattle.lazy_binding.specs.Parts.{shape_walked};
-ghost use Rattle.lazy_steps.specs.Steps.{CanWalk, StepsOn, PassesOn, KeepsFirsts};
+ghost use Rattle.lazy_steps.specs.Steps.{CanWalk, StepsOn, KeepsFirsts};
 
 use crate::firsts::{KeyEvent, first_of_key};
 use crate::step::Step;
@@ -36,6 +36,7 @@ impl<'a> Filter<'a> {
 
     /// The input's next binding, where the comparison holds of it.
     #[cycle(walk)]
+    #[inline(never)]
     pub(crate) fn step<S: Sources>(
         &self,
         alloc: Global,
@@ -67,49 +68,6 @@ impl<'a> Filter<'a> {
     }
 }
 
-/// A concatenate, a createElement, or a project over bindings of which no two agree by its keys: its input.
-#[derive(Clone, Copy)]
-pub(crate) struct Project<'a> {
-    pub(crate) walk: Walk<'a>,
-    pub(crate) input: usize,
-}
-
-impl<'a> Project<'a> {
-    /// An operator that passes on each binding of this input.
-    pub(crate) fn new(walk: Walk<'a>, input: u32) -> Project<'a>
-        ensures { result ≡ record { walk = walk.entry; input = input } }
-    {
-        Project {
-            walk,
-            input: input as usize,
-        }
-    }
-
-    /// The input's next binding, passed on.
-    #[cycle(walk)]
-    pub(crate) fn step<S: Sources>(
-        &self,
-        alloc: Global,
-        growing: &mut Growing,
-        s: &mut S,
-        at: &Position,
-    ) -> Result<Step, WalkFault>
-        requires can { CanWalk (S.view s.old) growing.old self.now.walk at.now }
-        requires is { PassesOn self.now.walk self.now.input }
-        ensures { StepsOn S.view S.came_from self.now.walk at.now s.old growing.old s.new growing.new result }
-    {
-        let input = Walk {
-            fixed: self.walk.fixed,
-            op: self.input,
-        };
-        let before = inside(alloc, at)?;
-        match advance(alloc, input, growing, s, &before)? {
-            None => Ok(Step::Done),
-            Some(below) => Ok(Step::At(Position::Pass(below))),
-        }
-    }
-}
-
 /// A project, or a groupBy with keys: its input, and the keys by which it drops bindings that are the same.
 #[derive(Clone, Copy)]
 pub(crate) struct Distinct<'a> {
@@ -132,6 +90,7 @@ impl<'a> Distinct<'a> {
 
     /// The input's next binding, a binding where its keys were not seen up to here. The members of a group that was walked aren't gone through again.
     #[cycle(walk)]
+    #[inline(never)]
     pub(crate) fn step<S: Sources>(
         &self,
         alloc: Global,

@@ -65,6 +65,7 @@ impl<'a> PathScan<'a> {
 
     /// The next match of the visit at hand, or the next binding of the input.
     #[cycle(walk)]
+    #[inline(never)]
     pub(crate) fn step<S: Sources>(
         &self,
         alloc: Global,

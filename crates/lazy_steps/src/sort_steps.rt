@@ -40,6 +40,7 @@ impl<'a> Sort<'a> {
 
     /// The first of the sorted bindings of the input, or the next one, which asks nothing.
     #[cycle(walk)]
+    #[inline(never)]
     pub(crate) fn step<S: Sources>(
         &self,
         alloc: Global,

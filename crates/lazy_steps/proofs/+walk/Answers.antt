@@ -4,9 +4,9 @@ use Rattle.std.specs.declared.alloc.Global.{Global}
 use Rattle.std.specs.declared.rc.Rc.{Rc}
 use Rattle.std.specs.declared.vec.Vec.{Vec}
 use Rattle.std.specs.Prelude.{not, true}
-use Rattle.plan_core.specs.Fronts.{shape_apart, op_stops}
+use Rattle.plan_core.specs.Fronts.{op_stops}
 use Rattle.lazy_steps.specs.Gathers.{GathersGroups}
-use Rattle.plan_core.specs.PlanMade.{op_of, plan_value}
+use Rattle.plan_core.specs.PlanMade.{op_of}
 use Rattle.plan_core.specs.Shapes.{visits_below, shape_at, shape_of, filters, first_by_keys, pairs_up, passes_on}
 use Rattle.lazy_binding.specs.declared.position.Position.{Position, Start, Found'}
 use Rattle.lazy_binding.specs.Cursors.{ahead, gathers_by, IsRead}
@@ -16,14 +16,14 @@ use Rattle.lazy_binding.proofs.Keep.{keeps_same}
 use Rattle.lazy_binding.proofs.Stay.{cursors_kept}
 use Rattle.lazy_binding.proofs.KeyParts.{keys_fit}
 use Rattle.lazy_descend.proofs.Searches.{comes_none, comes_at}
-use Rattle.lazy_steps.proofs.Goes.{goes_same, goes_on, goes_then, goes_result, goes_given, ran_then, ran_over, ran_nothing, shaped, in_shape, placed, in_place}
+use Rattle.lazy_steps.proofs.Goes.{goes_same, goes_on, goes_then, goes_result, ran_then, ran_over, ran_nothing, shaped, in_shape, placed, in_place}
 use Rattle.lazy_steps.proofs.Singles.{end_over}
 use Rattle.std.proofs.Common.{length}
 use Rattle.join_memo.specs.Kept.{Kept}
 use Rattle.lazy_binding.specs.World.{last_of, bound_of}
 use Rattle.lazy_binding.proofs.Bound.{inputs_at}
-use Rattle.lazy_steps.specs.Steps.{CanStep, PassesOn, KeepsFirsts}
-use Rattle.std.proofs.Common.{option_map, Some, None}
+use Rattle.lazy_steps.specs.Steps.{CanStep, KeepsFirsts}
+use Rattle.std.proofs.Common.{Some, None}
 use Rattle.lazy_steps.proofs.Growing.{memo_read}
 use Rattle.lazy_steps.proofs.Grown.{last_can, grow_ran, refused_ran, ended_ran, ended_grown, pushed_ran, pushed_grown}
 use Rattle.lazy_steps.proofs.PairSteps.{sides, pairs_begin, pair_or_start, left_ran, left_done, left_on, left_can, can_then, beside_ran, none_grown}
@@ -35,7 +35,8 @@ use Rattle.lazy_steps.proofs.GroupWalks.{further_falls}
 use Rattle.lazy_steps.proofs.GroupCalls.{group_shape, read_last, groups_can, input_less, none_unwalked, as_many, grow_ended, grow_refused, grow_more, step_begins, step_found, step_asks, step_none, step_goes_on}
 use Rattle.lazy_steps.proofs.Inputs.{over_can}
 use Rattle.lazy_steps.proofs.Resuming.{firsts_resume}
-use Rattle.lazy_steps.proofs.PassSteps.{filter_over, filter_at, filter_on, each_over, each_at}
+use Rattle.lazy_steps.proofs.PassSteps.{filter_over, filter_at, filter_on}
+use Rattle.lazy_steps.proofs.Chains.{none_apart, under_ran, descends_under}
 use Rattle.mix_tree.specs.Nodes.{Node}
 use Rattle.lazy_binding.proofs.Bound.{fit_at}
 use Rattle.path_auto.specs.Automaton.{machine_of, table_of}
@@ -50,75 +51,90 @@ use Rattle.lazy_binding.proofs.SortedRows.{list_count}
 use Rattle.lazy_steps.specs.declared.pass_steps.Distinct.{Distinct}
 use Rattle.lazy_steps.proofs.+walk.Goals as goal
 
-pub steps::advance-returns-in_err-next_event : goal.steps::advance-returns-in_err-next_event
-steps::advance-returns-in_err-next_event g t c = let step = rw c.deref.ensures at c.next_event.ensures in record { ran = step.ran; cause = search rules; answer = search rules }
-
-pub steps::advance-returns-in-Done : goal.steps::advance-returns-in-Done
-steps::advance-returns-in-Done g t c = let step = rw c.deref.ensures at c.next_event.ensures in record { ran = step.ran; cause = tt; answer = rw (c.in-Done.is, c.deref.ensures) at c.in_ok-next_event.ensures.answer }
-
-pub steps::advance-returns-in_err-put-in-At : goal.steps::advance-returns-in_err-put-in-At
-steps::advance-returns-in_err-put-in-At g t c = let step = rw c.deref.ensures at c.next_event.ensures in record { ran = step.ran; cause = search rules; answer = search rules }
-
-pub steps::advance-returns-in_ok-put-in-At : goal.steps::advance-returns-in_ok-put-in-At
-steps::advance-returns-in_ok-put-in-At g t c =
-    let step = rw c.deref.ensures at c.next_event.ensures in
-    record { ran = step.ran; cause = tt; answer = rw c.in_ok-put-in-At.ensures.ok (rw (c.in-At.is, c.deref.ensures) at c.in_ok-next_event.ensures.answer) }
-
-pub steps::advance-advance_after-requires : goal.steps::advance-advance_after-requires
-steps::advance-advance_after-requires g t c κs within =
-    let can : CanStep (g.S.Sources.view c.next_event.new.s) c.next_event.new.growing c.args.walk.fixed.now c.args.walk.op c.in-On.later =
-    (let step = rw c.deref.ensures at c.next_event.ensures in
-    record { fixed = c.requires.fixed; op = c.requires.op; bench = step.ran.bench; cursor = (rw (c.in-On.is, c.deref.ensures) at c.in_ok-next_event.ensures.answer).cursor }) in
+pub steps::advance-advance_below-requires : goal.steps::advance-advance_below-requires
+steps::advance-advance_below-requires g t c κs within =
+    let under = descends_under c.descend-foot.result.levels c.args.walk.op c.descend-foot.result.op c.args.from.now.value c.descend-foot.result.at.now.value c.requires c.descend-foot.ensures.way in
+    let can = under.can in
+    let small = under.less in
     search rules
 
-pub steps::advance-returns-in-On : goal.steps::advance-returns-in-On
-steps::advance-returns-in-On g t c =
-    let step = rw c.deref.ensures at c.next_event.ensures in
-    let move = rw (c.in-On.is, c.deref.ensures) at c.in_ok-next_event.ensures.answer in
-    let begins = goes_same (keeps_same (world_of (g.S.Sources.view c.args.s.now) c.args.growing.now) (operators c.args.walk.fixed.now) c.requires.bench) refl refl in
-    let goes = goes_on begins (shape_at (operators c.args.walk.fixed.now) c.args.walk.op) c.in-On.later step.ran.asks move in
+pub steps::advance-returns-in_err-advance_below : goal.steps::advance-returns-in_err-advance_below
+steps::advance-returns-in_err-advance_below g t c =
+    let under = descends_under c.descend-foot.result.levels c.args.walk.op c.descend-foot.result.op c.args.from.now.value c.descend-foot.result.at.now.value c.requires c.descend-foot.ensures.way in
+    record { ran = under_ran under c.advance_below.ensures.ran; cause = search rules; answer = search rules }
+
+pub steps::advance-returns-in-None : goal.steps::advance-returns-in-None
+steps::advance-returns-in-None g t c =
+    let under = descends_under c.descend-foot.result.levels c.args.walk.op c.descend-foot.result.op c.args.from.now.value c.descend-foot.result.at.now.value c.requires c.descend-foot.ensures.way in
+    record { ran = under_ran under c.advance_below.ensures.ran; cause = tt; answer = under.over (rw c.in-None.is at c.in_ok-advance_below.ensures.answer) }
+
+pub steps::advance-returns-in_err-lift-in-Some : goal.steps::advance-returns-in_err-lift-in-Some
+steps::advance-returns-in_err-lift-in-Some g t c =
+    let under = descends_under c.descend-foot.result.levels c.args.walk.op c.descend-foot.result.op c.args.from.now.value c.descend-foot.result.at.now.value c.requires c.descend-foot.ensures.way in
+    record { ran = under_ran under c.advance_below.ensures.ran; cause = search rules; answer = search rules }
+
+pub steps::advance-returns-in_ok-lift-in-Some : goal.steps::advance-returns-in_ok-lift-in-Some
+steps::advance-returns-in_ok-lift-in-Some g t c =
+    let under = descends_under c.descend-foot.result.levels c.args.walk.op c.descend-foot.result.op c.args.from.now.value c.descend-foot.result.at.now.value c.requires c.descend-foot.ensures.way in
     record {
-      ran = ran_then g.met.S.Sources.after step.ran.came goes c.advance_after.ensures.ran;
-      cause = search rules;
-      answer = IfOk-weaker c.advance_after.result _ _ (λ r h. goes_given _ goes (shape_at (operators c.args.walk.fixed.now) c.args.walk.op) (option_map (λ (d : Rc Position Global). d.value) r) h) c.advance_after.ensures.answer;
+      ran = under_ran under c.advance_below.ensures.ran;
+      cause = tt;
+      answer = under.at _ _ _ c.advance_below.ensures.ran.asks (rw c.in-Some.is at c.in_ok-advance_below.ensures.answer) c.in_ok-lift-in-Some.ensures.ok;
     }
 
-pub steps::advance_after-events-init : goal.steps::advance_after-events-init
-steps::advance_after-events-init g t c = record { came = g.met.S.Sources.same c.args.s.now; goes = goes_same (keeps_same (world_of (g.S.Sources.view c.args.s.now) c.args.growing.now) (operators c.args.walk.fixed.now) c.requires.bench) refl refl; can = c.requires }
+pub steps::advance_below-events-init : goal.steps::advance_below-events-init
+steps::advance_below-events-init g t c = record { came = g.met.S.Sources.same c.args.s.now; goes = goes_same (keeps_same (world_of (g.S.Sources.view c.args.s.now) c.args.growing.now) (operators c.args.walk.fixed.now) c.requires.can.bench) refl refl; can = c.requires.can }
 
-pub steps::advance_after-events-preserved : goal.steps::advance_after-events-preserved
-steps::advance_after-events-preserved g t c =
-    let move = rw c.in-On.is at c.in_ok-event_after.ensures.answer in
+pub steps::advance_below-next_event-requires : goal.steps::advance_below-next_event-requires
+steps::advance_below-next_event-requires g t c κs within =
+    let can : CanStep (g.S.Sources.view c.events.s) c.events.growing c.args.walk.fixed.now c.args.walk.op c.here.result.now = rw c.here.ensures c.events.invariant.can in
+    search rules
+
+pub steps::advance_below-events-preserved : goal.steps::advance_below-events-preserved
+steps::advance_below-events-preserved g t c =
+    let step = rw c.here.ensures at c.next_event.ensures in
+    let move = rw (c.in-On.is, c.here.ensures) at c.in_ok-next_event.ensures.answer in
     let can = c.events.invariant.can in
     record {
-      came = g.met.S.Sources.after _ _ _ c.events.invariant.came c.event_after.ensures.ran.came;
-      goes = goes_on c.events.invariant.goes (shape_at (operators c.args.walk.fixed.now) c.args.walk.op) c.in-On.later c.event_after.ensures.ran.asks move;
-      can = record { fixed = can.fixed; op = can.op; bench = c.event_after.ensures.ran.bench; cursor = move.cursor };
+      came = g.met.S.Sources.after _ _ _ c.events.invariant.came step.ran.came;
+      goes = goes_on c.events.invariant.goes (shape_at (operators c.args.walk.fixed.now) c.args.walk.op) c.in-On.event step.ran.asks move;
+      can = record { fixed = can.fixed; op = can.op; bench = step.ran.bench; cursor = move.cursor };
     }
 
-pub steps::advance_after-returns-in-At : goal.steps::advance_after-returns-in-At
-steps::advance_after-returns-in-At g t c = record {
-  ran = ran_then g.met.S.Sources.after c.events.invariant.came c.events.invariant.goes c.event_after.ensures.ran;
-  cause = tt;
-  answer = rw c.in_ok-put-in-At.ensures.ok (comes_at c.events.invariant.goes.comes (rw c.in-At.is at c.in_ok-event_after.ensures.answer));
-}
+pub steps::advance_below-events-smaller : goal.steps::advance_below-events-smaller
+steps::advance_below-events-smaller g t c = (rw (c.in-On.is, c.here.ensures) at c.in_ok-next_event.ensures.answer).falls
 
-pub steps::advance_after-returns-in_err-put-in-At : goal.steps::advance_after-returns-in_err-put-in-At
-steps::advance_after-returns-in_err-put-in-At g t c = record { ran = ran_then g.met.S.Sources.after c.events.invariant.came c.events.invariant.goes c.event_after.ensures.ran; cause = search rules; answer = search rules }
+pub steps::advance_below-returns-in-At : goal.steps::advance_below-returns-in-At
+steps::advance_below-returns-in-At g t c =
+    let step = rw c.here.ensures at c.next_event.ensures in
+    record {
+      ran = ran_then g.met.S.Sources.after c.events.invariant.came c.events.invariant.goes step.ran;
+      cause = tt;
+      answer = rw c.in_ok-put-in-At.ensures.ok (comes_at c.events.invariant.goes.comes (rw (c.in-At.is, c.here.ensures) at c.in_ok-next_event.ensures.answer));
+    }
 
-pub steps::advance_after-returns-in-Done : goal.steps::advance_after-returns-in-Done
-steps::advance_after-returns-in-Done g t c = record { ran = ran_then g.met.S.Sources.after c.events.invariant.came c.events.invariant.goes c.event_after.ensures.ran; cause = tt; answer = comes_none c.events.invariant.goes.comes (rw c.in-Done.is at c.in_ok-event_after.ensures.answer) }
+pub steps::advance_below-returns-in_err-put-in-At : goal.steps::advance_below-returns-in_err-put-in-At
+steps::advance_below-returns-in_err-put-in-At g t c =
+    let step = rw c.here.ensures at c.next_event.ensures in
+    record { ran = ran_then g.met.S.Sources.after c.events.invariant.came c.events.invariant.goes step.ran; cause = search rules; answer = search rules }
 
-pub steps::advance_after-returns-in_err-event_after : goal.steps::advance_after-returns-in_err-event_after
-steps::advance_after-returns-in_err-event_after g t c = record { ran = ran_then g.met.S.Sources.after c.events.invariant.came c.events.invariant.goes c.event_after.ensures.ran; cause = search rules; answer = search rules }
+pub steps::advance_below-returns-in-Done : goal.steps::advance_below-returns-in-Done
+steps::advance_below-returns-in-Done g t c =
+    let step = rw c.here.ensures at c.next_event.ensures in
+    record { ran = ran_then g.met.S.Sources.after c.events.invariant.came c.events.invariant.goes step.ran; cause = tt; answer = comes_none c.events.invariant.goes.comes (rw (c.in-Done.is, c.here.ensures) at c.in_ok-next_event.ensures.answer) }
+
+pub steps::advance_below-returns-in_err-next_event : goal.steps::advance_below-returns-in_err-next_event
+steps::advance_below-returns-in_err-next_event g t c =
+    let step = rw c.here.ensures at c.next_event.ensures in
+    record { ran = ran_then g.met.S.Sources.after c.events.invariant.came c.events.invariant.goes step.ran; cause = search rules; answer = search rules }
 
 pub steps::next_event-returns-in-TupleDestroy : goal.steps::next_event-returns-in-TupleDestroy
 steps::next_event-returns-in-TupleDestroy g t c =
     let is = ap shape_of (sym c.operator.ensures ∙ ap op_of c.in-TupleDestroy.is) in
     shaped c.args.at.now _ is (record {
-      ran = ran_nothing g.met.S.Sources.same c.args.walk.op _ c.args.s.now c.args.growing.now c.requires.bench;
+      ran = ran_nothing g.met.S.Sources.same c.args.walk.op _ c.args.s.now c.args.growing.now c.requires.can.bench;
       cause = tt;
-      answer = λ u. end_over (operators c.args.walk.fixed.now) c.requires.fixed.typed c.args.walk.op c.requires.op _ _ is (world_of (g.S.Sources.view c.args.s.now) c.args.growing.now) c.args.at.now (in_shape c.requires _ is);
+      answer = λ u. end_over (operators c.args.walk.fixed.now) c.requires.can.fixed.typed c.args.walk.op c.requires.can.op _ _ is (world_of (g.S.Sources.view c.args.s.now) c.args.growing.now) c.args.at.now (in_shape c.requires.can _ is);
     })
 
 pub pass_steps::Filter::step-returns-in_err-before : goal.pass_steps::Filter::step-returns-in_err-before
@@ -167,40 +183,6 @@ pass_steps::Filter::step-returns g t c =
       cause = tt;
       answer = (filter_on (operators c.args.self.now.walk.fixed.now) c.requires.can.fixed.typed c.args.self.now.walk.op c.requires.can.op c.args.self.now.input c.args.self.now.test.now c.requires.is (world_of (g.S.Sources.view c.args.s.now) c.args.growing.now) _ c.args.at.now
           (in_shape c.requires.can (passes_on c.args.self.now.input (filters c.args.self.now.test.now)) c.requires.is) c.requires.can.bench adv.ran.asks _ f _ (λ u. sym (holds u) ∙ c.if-holds.false));
-    })
-
-pub pass_steps::Project::step-returns-in_err-before : goal.pass_steps::Project::step-returns-in_err-before
-pass_steps::Project::step-returns-in_err-before g t c = record { ran = ran_nothing g.met.S.Sources.same c.args.self.now.walk.op (ahead (world_of (g.S.Sources.view c.args.s.now) c.args.growing.now) (operators c.args.self.now.walk.fixed.now) c.args.self.now.walk.op c.args.at.now) c.args.s.now c.args.growing.now c.requires.can.bench; cause = search rules; answer = search rules }
-
-pub pass_steps::Project::step-advance-requires : goal.pass_steps::Project::step-advance-requires
-pass_steps::Project::step-advance-requires g t c κs within =
-    let over = each_over c.requires.can c.args.self.now.input c.requires.is.0 c.requires.is.1 c.requires.is.2 in
-    let can = over_can c.requires.can over c.in_ok-before.before.value c.in_ok-before.ensures.ok in
-    let small = over.less in
-    search rules
-
-pub pass_steps::Project::step-returns-in_err-advance : goal.pass_steps::Project::step-returns-in_err-advance
-pass_steps::Project::step-returns-in_err-advance g t c =
-    let over = each_over c.requires.can c.args.self.now.input c.requires.is.0 c.requires.is.1 c.requires.is.2 in
-    let adv = rw c.in_ok-before.ensures.ok at c.advance.ensures in
-    shaped c.args.at.now (passes_on c.args.self.now.input c.requires.is.0) c.requires.is.1 (record { ran = ran_over adv.ran over.costs over.less over.alone; cause = search rules; answer = search rules })
-
-pub pass_steps::Project::step-returns-in-None : goal.pass_steps::Project::step-returns-in-None
-pass_steps::Project::step-returns-in-None g t c =
-    let over = each_over c.requires.can c.args.self.now.input c.requires.is.0 c.requires.is.1 c.requires.is.2 in
-    let adv = rw c.in_ok-before.ensures.ok at c.advance.ensures in
-    shaped c.args.at.now (passes_on c.args.self.now.input c.requires.is.0) c.requires.is.1 (record { ran = ran_over adv.ran over.costs over.less over.alone; cause = tt; answer = over.over (rw (c.in-None.is, c.in_ok-before.ensures.ok) at c.in_ok-advance.ensures.answer) })
-
-pub pass_steps::Project::step-returns : goal.pass_steps::Project::step-returns
-pass_steps::Project::step-returns g t c =
-    let over = each_over c.requires.can c.args.self.now.input c.requires.is.0 c.requires.is.1 c.requires.is.2 in
-    let adv = rw c.in_ok-before.ensures.ok at c.advance.ensures in
-    let f = rw (c.in-Some.is, c.in_ok-before.ensures.ok) at c.in_ok-advance.ensures.answer in
-    shaped c.args.at.now (passes_on c.args.self.now.input c.requires.is.0) c.requires.is.1 (record {
-      ran = ran_over adv.ran over.costs over.less over.alone;
-      cause = tt;
-      answer = each_at (plan_value c.args.self.now.walk.fixed.now.plan) c.requires.can.fixed.valid c.args.self.now.walk.op c.requires.can.op c.args.self.now.input (world_of (g.S.Sources.view c.args.s.now) c.args.growing.now) _ c.requires.can.bench c.args.at.now adv.ran.asks _ f
-          c.requires.is.0 c.requires.is.1 c.requires.is.2 (in_shape c.requires.can (passes_on c.args.self.now.input c.requires.is.0) c.requires.is.1) _;
     })
 
 pub pass_steps::Distinct::step-returns-in_err-later : goal.pass_steps::Distinct::step-returns-in_err-later
@@ -567,33 +549,19 @@ sort_steps::Sort::step-returns-in_default g t c =
       answer = λ u. order_over (operators c.args.self.now.walk.fixed.now) c.requires.can.fixed.typed c.args.self.now.walk.op c.requires.can.op c.args.self.now.input c.args.self.now.var c.args.self.now.desc c.requires.is (world_of (g.S.Sources.view c.args.s.now) c.args.growing.now) c.args.at.now (in_shape c.requires.can (sorts c.args.self.now.input c.args.self.now.var c.args.self.now.desc) c.requires.is) (λ e. c.in_default.not-Start e) (λ list k e. c.in_default.not-Sorted list k e);
     })
 
-pub steps::next_event-step-requires-in-Concatenate : goal.steps::next_event-step-requires-in-Concatenate
-steps::next_event-step-requires-in-Concatenate g t c κs within =
-    let one = c.new-in-Concatenate.result in
-    let is : PassesOn one.walk one.input = rw c.new-in-Concatenate.ensures (_, ap shape_of (sym c.operator.ensures ∙ ap op_of c.in-Concatenate.is), tt) in
-    search rules
+pub steps::next_event-unreachable-requires : goal.steps::next_event-unreachable-requires
+steps::next_event-unreachable-requires g t c = c.requires.more _ (_, ap shape_of (sym c.operator.ensures ∙ ap op_of c.in-Concatenate.is), tt)
 
-pub steps::next_event-step-requires-in-CreateElement : goal.steps::next_event-step-requires-in-CreateElement
-steps::next_event-step-requires-in-CreateElement g t c κs within =
-    let one = c.new-in-CreateElement.result in
-    let is : PassesOn one.walk one.input = rw c.new-in-CreateElement.ensures (_, ap shape_of (sym c.operator.ensures ∙ ap op_of c.in-CreateElement.is), tt) in
-    search rules
+pub steps::next_event-unreachable-requires-in-CreateElement : goal.steps::next_event-unreachable-requires-in-CreateElement
+steps::next_event-unreachable-requires-in-CreateElement g t c = c.requires.more _ (_, ap shape_of (sym c.operator.ensures ∙ ap op_of c.in-CreateElement.is), tt)
 
 pub steps::next_event-step-requires-in-Project : goal.steps::next_event-step-requires-in-Project
 steps::next_event-step-requires-in-Project g t c κs within =
     let one = c.new-in-Project.result in
     let shape = ap shape_of (sym c.operator.ensures ∙ ap op_of c.in-Project.is) in
-    let is : PassesOn one.walk one.input =
-    rw c.new-in-Project.ensures (first_by_keys c.in-Project.keys.items None, shape, ap (shape_apart (operators c.args.walk.fixed.now)) (sym shape) ∙ sym c.is_apart.ensures ∙ c.if-is_apart.true) in
-    search rules
-
-pub steps::next_event-step-requires-in-Project-2 : goal.steps::next_event-step-requires-in-Project-2
-steps::next_event-step-requires-in-Project-2 g t c κs within =
-    let one = c.new-in-Project-2.result in
-    let shape = ap shape_of (sym c.operator.ensures ∙ ap op_of c.in-Project-2.is) in
-    let given : KeepsFirsts c.args.walk c.in-Project-2.input c.in-Project-2.keys.items = (None, shape, ap (shape_apart (operators c.args.walk.fixed.now)) (sym shape) ∙ sym c.is_apart.ensures ∙ c.if-is_apart.false, refl) in
+    let given : KeepsFirsts c.args.walk c.in-Project.input c.in-Project.keys.items = (None, shape, none_apart (operators c.args.walk.fixed.now) c.args.walk.op c.in-Project.input c.in-Project.keys.items shape c.requires.more, refl) in
     let is : KeepsFirsts one.walk one.input one.keys.now =
-    subst (λ (z : Distinct). KeepsFirsts z.walk z.input z.keys.now) (sym c.new-in-Project-2.ensures) (subst (KeepsFirsts c.args.walk c.in-Project-2.input) (sym c.deref-in-Project-2.ensures.value) given) in
+    subst (λ (z : Distinct). KeepsFirsts z.walk z.input z.keys.now) (sym c.new-in-Project.ensures) (subst (KeepsFirsts c.args.walk c.in-Project.input) (sym c.deref-in-Project.ensures.value) given) in
     search rules
 
 pub steps::next_event-step-requires-in-GroupBy-2 : goal.steps::next_event-step-requires-in-GroupBy-2

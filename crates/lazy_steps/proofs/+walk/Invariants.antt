@@ -5,40 +5,34 @@ use Rattle.lazy_binding.specs.Cursors.{ahead, number, size}
 use Rattle.lazy_binding.specs.Parts.{operators, world_of}
 use Rattle.lazy_binding.specs.World.{memo_at, gathered_at}
 use Rattle.lazy_steps.specs.Beside.{beside_events, beside_number, last_at}
-use Rattle.lazy_steps.specs.Steps.{CanStep, visit_events, visit_number}
+use Rattle.lazy_steps.specs.Steps.{at_of, CanStep, visit_events, visit_number}
 use Rattle.lazy_steps.proofs.Goes.{Goes}
 use Rattle.lazy_steps.proofs.OrderSteps.{Gathered}
 use Rattle.lazy_steps.proofs.+walk.Given as goal
 
 abbrev pub decreases-steps::advance : goal.decreases-steps::advance
-decreases-steps::advance g l = 7 * l.walk.op + 5
+decreases-steps::advance g l = 8 * l.walk.op + 6
 
-abbrev pub decreases-steps::advance_after : goal.decreases-steps::advance_after
-decreases-steps::advance_after g l = 7 * l.walk.op + 4
-
-abbrev pub decreases-steps::event_after : goal.decreases-steps::event_after
-decreases-steps::event_after g l = 7 * l.walk.op + 3
+abbrev pub decreases-steps::advance_below : goal.decreases-steps::advance_below
+decreases-steps::advance_below g l = 8 * l.walk.op + 5
 
 abbrev pub decreases-steps::next_event : goal.decreases-steps::next_event
-decreases-steps::next_event g l = 7 * l.walk.op + 2
+decreases-steps::next_event g l = 8 * l.walk.op + 2
 
 abbrev pub decreases-pass_steps::Filter::step : goal.decreases-pass_steps::Filter::step
-decreases-pass_steps::Filter::step g l = 7 * l.self.now.walk.op
-
-abbrev pub decreases-pass_steps::Project::step : goal.decreases-pass_steps::Project::step
-decreases-pass_steps::Project::step g l = 7 * l.self.now.walk.op
+decreases-pass_steps::Filter::step g l = 8 * l.self.now.walk.op
 
 abbrev pub decreases-pass_steps::Distinct::step : goal.decreases-pass_steps::Distinct::step
-decreases-pass_steps::Distinct::step g l = 7 * l.self.now.walk.op + 1
+decreases-pass_steps::Distinct::step g l = 8 * l.self.now.walk.op + 1
 
 abbrev pub decreases-pass_steps::Distinct::next_key : goal.decreases-pass_steps::Distinct::next_key
-decreases-pass_steps::Distinct::next_key g l = 7 * l.self.now.walk.op
+decreases-pass_steps::Distinct::next_key g l = 8 * l.self.now.walk.op
 
 abbrev pub decreases-join_steps::Join::step : goal.decreases-join_steps::Join::step
-decreases-join_steps::Join::step g l = 7 * l.self.now.walk.op + 1
+decreases-join_steps::Join::step g l = 8 * l.self.now.walk.op + 1
 
 abbrev pub decreases-join_steps::Join::next_new : goal.decreases-join_steps::Join::next_new
-decreases-join_steps::Join::next_new g l = 7 * l.self.now.walk.op
+decreases-join_steps::Join::next_new g l = 8 * l.self.now.walk.op
 
 -- the members so far were passed: what is still ahead, and what it has cost
 abbrev pub invariant-join_steps::Join::next_new-members : goal.invariant-join_steps::Join::next_new-members
@@ -58,16 +52,16 @@ decreases-join_steps::Join::next_new-members g l =
     size (world_of (g.S.Sources.view l.s) l.growing) (operators l.self.walk.fixed.now) l.self.right - length (memo_at (world_of (g.S.Sources.view l.s) l.growing) l.self.walk.op).pairs
 
 abbrev pub decreases-join_steps::Join::grow : goal.decreases-join_steps::Join::grow
-decreases-join_steps::Join::grow g l = 7 * l.self.now.right + 6
+decreases-join_steps::Join::grow g l = 8 * l.self.now.right + 7
 
 abbrev pub decreases-join_steps::Join::next_left : goal.decreases-join_steps::Join::next_left
-decreases-join_steps::Join::next_left g l = 7 * l.self.now.left + 6
+decreases-join_steps::Join::next_left g l = 8 * l.self.now.left + 7
 
 abbrev pub decreases-path_scan::PathScan::step : goal.decreases-path_scan::PathScan::step
-decreases-path_scan::PathScan::step g l = 7 * l.self.now.walk.op
+decreases-path_scan::PathScan::step g l = 8 * l.self.now.walk.op
 
 abbrev pub decreases-path_scan::PathScan::next_start : goal.decreases-path_scan::PathScan::next_start
-decreases-path_scan::PathScan::next_start g l = 7 * l.self.now.input + 6
+decreases-path_scan::PathScan::next_start g l = 8 * l.self.now.input + 7
 
 -- the visits so far had no match: what is still ahead, and what it has cost
 abbrev pub invariant-path_scan::PathScan::next_start-starts : goal.invariant-path_scan::PathScan::next_start-starts
@@ -83,26 +77,26 @@ abbrev pub decreases-path_scan::PathScan::next_start-starts : goal.decreases-pat
 decreases-path_scan::PathScan::next_start-starts g l = number (world_of (g.S.Sources.view l.s) l.growing) (operators l.self.walk.fixed.now) l.self.input l.at.value
 
 -- what is still ahead, and what it has cost
-abbrev pub invariant-steps::advance_after-events : goal.invariant-steps::advance_after-events
-invariant-steps::advance_after-events g l = record {
+abbrev pub invariant-steps::advance_below-events : goal.invariant-steps::advance_below-events
+invariant-steps::advance_below-events g l = record {
   came : g.S.Sources.came_from l.initial.s l.s;
   goes : Goes (world_of (g.S.Sources.view l.initial.s) l.initial.growing) (world_of (g.S.Sources.view l.s) l.growing) (operators l.walk.fixed.now) l.walk.op
-      (ahead (world_of (g.S.Sources.view l.initial.s) l.initial.growing) (operators l.walk.fixed.now) l.walk.op l.fn.from) (ahead (world_of (g.S.Sources.view l.s) l.growing) (operators l.walk.fixed.now) l.walk.op l.at)
-      (number (world_of (g.S.Sources.view l.initial.s) l.initial.growing) (operators l.walk.fixed.now) l.walk.op l.fn.from) (number (world_of (g.S.Sources.view l.s) l.growing) (operators l.walk.fixed.now) l.walk.op l.at);
-  can : CanStep (g.S.Sources.view l.s) l.growing l.walk.fixed.now l.walk.op l.at;
+      (ahead (world_of (g.S.Sources.view l.initial.s) l.initial.growing) (operators l.walk.fixed.now) l.walk.op l.fn.from.value) (ahead (world_of (g.S.Sources.view l.s) l.growing) (operators l.walk.fixed.now) l.walk.op (at_of l.later l.fn.from.value))
+      (number (world_of (g.S.Sources.view l.initial.s) l.initial.growing) (operators l.walk.fixed.now) l.walk.op l.fn.from.value) (number (world_of (g.S.Sources.view l.s) l.growing) (operators l.walk.fixed.now) l.walk.op (at_of l.later l.fn.from.value));
+  can : CanStep (g.S.Sources.view l.s) l.growing l.walk.fixed.now l.walk.op (at_of l.later l.fn.from.value);
 }
 
-abbrev pub decreases-steps::advance_after-events : goal.decreases-steps::advance_after-events
-decreases-steps::advance_after-events g l = number (world_of (g.S.Sources.view l.s) l.growing) (operators l.walk.fixed.now) l.walk.op l.at
+abbrev pub decreases-steps::advance_below-events : goal.decreases-steps::advance_below-events
+decreases-steps::advance_below-events g l = number (world_of (g.S.Sources.view l.s) l.growing) (operators l.walk.fixed.now) l.walk.op (at_of l.later l.fn.from.value)
 
 abbrev pub decreases-sort_steps::Sort::step : goal.decreases-sort_steps::Sort::step
-decreases-sort_steps::Sort::step g l = 7 * l.self.now.walk.op + 1
+decreases-sort_steps::Sort::step g l = 8 * l.self.now.walk.op + 1
 
 abbrev pub decreases-sort_steps::Sort::first : goal.decreases-sort_steps::Sort::first
-decreases-sort_steps::Sort::first g l = 7 * l.self.now.walk.op
+decreases-sort_steps::Sort::first g l = 8 * l.self.now.walk.op
 
 abbrev pub decreases-sort_steps::labelled : goal.decreases-sort_steps::labelled
-decreases-sort_steps::labelled g l = 7 * l.walk.op + 6
+decreases-sort_steps::labelled g l = 8 * l.walk.op + 7
 
 -- the bindings so far, and what they have cost
 abbrev pub invariant-sort_steps::labelled-events : goal.invariant-sort_steps::labelled-events
@@ -116,10 +110,10 @@ abbrev pub decreases-sort_steps::labelled-events : goal.decreases-sort_steps::la
 decreases-sort_steps::labelled-events g l = number (world_of (g.S.Sources.view l.s) l.growing) (operators l.walk.fixed.now) l.walk.op l.at.value
 
 abbrev pub decreases-gather_steps::Gather::step : goal.decreases-gather_steps::Gather::step
-decreases-gather_steps::Gather::step g l = 7 * l.self.now.walk.op + 1
+decreases-gather_steps::Gather::step g l = 8 * l.self.now.walk.op + 1
 
 abbrev pub decreases-gather_steps::Gather::grow : goal.decreases-gather_steps::Gather::grow
-decreases-gather_steps::Gather::grow g l = 7 * l.self.now.input + 6
+decreases-gather_steps::Gather::grow g l = 8 * l.self.now.input + 7
 
 -- how far the walk has come
 abbrev pub invariant-gather_steps::Gather::step-bindings : goal.invariant-gather_steps::Gather::step-bindings
