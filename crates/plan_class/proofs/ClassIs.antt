@@ -1,17 +1,17 @@
 -- The constant by what the program knows of operators is the constant.
-use Rattle.std.proofs.Common.{◌≡◌, inl, inr, ℕ, suc, ◌<◌, ◌+◌, false, true, cond, List, [], ◌∷◌, ◌++◌, refl, sym, ap, subst, ◌∙◌, arith, length, length-append, drop, map, get_or}
+use Rattle.std.proofs.Common.{◌≡◌, inl, inr, ℕ, zero, suc, ◌<◌, ◌≤◌, false, true, cond, List, [], ◌∷◌, ◌++◌, refl, sym, ap, subst, ◌∙◌, arith, length, length-append, drop, map, get_or}
 use Rattle.std.specs.Prelude.{Bool, Option}
 use Rattle.std.specs.List.{AllByRecursion}
 use Rattle.std.proofs.lemmas.Bool.{cases_lt}
 use Rattle.std.proofs.Math.Seq.{drop-cons}
 use Rattle.std.proofs.lemmas.List.{get_or_append_left, get_or_at, length-map}
-use Rattle.mix_base.proofs.Firsts.{each_weaker}
+use Rattle.mix_tree.specs.declared.comparing.Test.{Test}
 use Rattle.path_expr.specs.Form.{Form}
 use Rattle.plan_core.specs.declared.plan.Op.{Op}
 use Rattle.plan_core.specs.PlanMade.{op_of}
 use Rattle.plan_core.specs.ByNumber.{op_at}
-use Rattle.plan_core.specs.Fronts.{Front, front, front_at, AreFronts}
-use Rattle.plan_core.specs.Plans.{Operator, get_descendants, PlanValue}
+use Rattle.plan_core.specs.Fronts.{Front, front}
+use Rattle.plan_core.specs.Plans.{Operator, PlanValue}
 use Rattle.plan_core.specs.Shapes.{a_list_of, an_element_of, filters, extends, first_by_keys, one_group, in_order, Shape, one_source, visits_below, pairs_up, passes_on, no_events, shape_of, shape_at}
 use Rattle.plan_core.specs.Typed.{IsTyped}
 use Rattle.plan_core.specs.Valid.{Kinds, a_list, kinds, shape_inputs, IsShapeFit, IsFit, IsValid}
@@ -23,11 +23,11 @@ use Rattle.browse_visit.specs.Shapes.{shapes_of}
 use Rattle.browse_class.specs.declared.class.Class.TheVariants.{Unbrowsable}
 use Rattle.browse_class.specs.Classes.{shape_bound, op_bound, all_bounds, constant, sorts_any, class_by, class_in}
 use Rattle.browse_class.specs.Facts.{Facts, facts}
-use Rattle.plan_class.specs.Agree.{Agrees, AreKnown, lists_in}
-use Rattle.plan_class.specs.Known.{Known, no_known, known_at, domain_of, visit_along, visits_known, op_known, IsShortShape, IsShort}
+use Rattle.plan_class.specs.Agree.{Agrees, AreKnown, lists_in, known_below}
+use Rattle.plan_class.specs.Known.{Known, no_known, known_at, visit_along, visits_known, pairs_known, shape_known, op_known, IsShortShape, IsShort}
 use Rattle.plan_class.specs.declared.domain.Domain.{Domain}
 use Rattle.plan_class.specs.declared.visit.Visit.{Visit}
-use Rattle.plan_class.proofs.KnownSteps.{shape_known-reads, known_step}
+use Rattle.plan_class.proofs.KnownSteps.{known_step}
 use Rattle.plan_class.proofs.Origins.{trees_known}
 
 -- a path that fits is short
@@ -58,14 +58,23 @@ bounds_at fs ops i at op x found q b e ex ef =
     ∙ ap (λ (o : Op). larger (op_bound (op_of o) fs) (all_bounds (map op_of (drop (suc i) ops)) fs)) (sym e))
 
 -- a visit below each binding, from its parts
-pub visits_are : (shapes : List SourceShape) (fronts : ℕ → Front) (known : List Known) (input start : ℕ) (path : Form) (out : ℕ) (visit : Visit) (m : ℕ) (whole : Bool) (below : Known) (from : Domain)
-    → visit ≡ visit_along shapes path from → m ≡ length (fronts input).vars → whole ≡ (fronts input).whole → from ≡ domain_of known start → below ≡ known_at known input
-    → visits_known out visit m whole below ≡ op_known shapes fronts known (get_descendants input start path out)
-visits_are shapes fronts known input start path out visit m whole below from ev em ew ef eb =
+pub visits_are : (shapes : List SourceShape) (fronts : ℕ → Front) (domains : ℕ → Domain) (at : ℕ → Known) (input start : ℕ) (path : Form) (out : ℕ) (visit : Visit) (m : ℕ) (whole : Bool) (below : Known) (from : Domain)
+    → visit ≡ visit_along shapes path from → m ≡ length (fronts input).vars → whole ≡ (fronts input).whole → from ≡ domains start → below ≡ at input
+    → visits_known out visit m whole below ≡ shape_known shapes fronts domains at (visits_below input start path out)
+visits_are shapes fronts domains at input start path out visit m whole below from ev em ew ef eb =
     ap (λ (v : Visit). visits_known out v m whole below) (ev ∙ ap (visit_along shapes path) ef)
-    ∙ ap (λ (k : Known). visits_known out (visit_along shapes path (domain_of known start)) m whole k) eb
-    ∙ ap (λ (n : ℕ). visits_known out (visit_along shapes path (domain_of known start)) n whole (known_at known input)) em
-    ∙ ap (λ (w : Bool). visits_known out (visit_along shapes path (domain_of known start)) (length (fronts input).vars) w (known_at known input)) ew
+    ∙ ap (λ (k : Known). visits_known out (visit_along shapes path (domains start)) m whole k) eb
+    ∙ ap (λ (n : ℕ). visits_known out (visit_along shapes path (domains start)) n whole (at input)) em
+    ∙ ap (λ (w : Bool). visits_known out (visit_along shapes path (domains start)) (length (fronts input).vars) w (at input)) ew
+
+-- pairs, from their parts
+pub pairs_are : (shapes : List SourceShape) (fronts : ℕ → Front) (domains : ℕ → Domain) (at : ℕ → Known) (l r : ℕ) (tests : List Test) (m : ℕ) (whole : Bool) (left right : Known)
+    → m ≡ length (fronts l).vars → whole ≡ (fronts l).whole → left ≡ at l → right ≡ at r → pairs_known tests m whole left right ≡ shape_known shapes fronts domains at (pairs_up l r tests)
+pairs_are shapes fronts domains at l r tests m whole left right em ew el er =
+    ap (λ (n : ℕ). pairs_known tests n whole left right) em
+    ∙ ap (λ (w : Bool). pairs_known tests (length (fronts l).vars) w left right) ew
+    ∙ ap (λ (k : Known). pairs_known tests (length (fronts l).vars) (fronts l).whole k right) el
+    ∙ ap (λ (k : Known). pairs_known tests (length (fronts l).vars) (fronts l).whole (at l) k) er
 
 -- the operator of a walk over a plan's operators, and its number
 pub op_walked : (ops xs : List Op) (i : ℕ) (o : Op) → xs ≡ ops → i < length xs → o ≡ get_or xs i o → (op_at (map op_of ops) i ≡ op_of o) × (i < length (map op_of ops))
@@ -77,25 +86,24 @@ op_walked ops xs i o e b is =
 
 module _ (shapes : List SourceShape) (p : PlanValue) (valid : IsValid p) (typed : IsTyped p.ops) where
   -- one operator more is known
-  pub known_more : (fronts : List Front) (known : List Known) (n : ℕ) (op : Operator) (k : Known) → AreFronts p.ops fronts → op_at p.ops n ≡ op → n < length p.ops → length known ≡ n
-      → ((i : ℕ) → i < n → Agrees shapes p.ops i (known_at known i)) → k ≡ op_known shapes (front_at fronts) known op → AreKnown shapes p.ops (known ++ k ∷ []) (n + 1)
-  known_more fronts known n op k frs at b count each is = record {
-    count = (let a = length-append known (k ∷ []) in omega (arith, a, count));
+  known_more : (known : List Known) (n : ℕ) (k : Known) → n < length p.ops → AreKnown shapes p.ops known n → k ≡ op_known shapes (front p.ops) known (op_at p.ops n) → AreKnown shapes p.ops (known ++ k ∷ []) (suc n)
+  known_more known n k b are e = record {
+    count = (let a = length-append known (k ∷ []) in let count = are.count in omega (arith, a, count));
     each = λ i c.
         elim (cases_lt i n) as (λ z. Agrees shapes p.ops i (known_at (known ++ k ∷ []) i)) [
-          | inl l ↦ subst (Agrees shapes p.ops i) (sym (get_or_append_left known (k ∷ []) no_known i (omega (arith, count, l)))) (each i l)
+          | inl l ↦ subst (Agrees shapes p.ops i) (sym (get_or_append_left known (k ∷ []) no_known i (let count = are.count in omega (arith, count, l)))) (are.each i l)
           | inr r ↦
               (let q : i ≡ n = omega (arith, c, r) in
               subst (λ (m : ℕ). Agrees shapes p.ops m (known_at (known ++ k ∷ []) m)) (sym q)
-              (subst (Agrees shapes p.ops n) (sym (get_or_at known k [] no_known n count ∙ here)) (known_step shapes p valid typed known n b (record { count = count; each = each }))))
+              (subst (Agrees shapes p.ops n) (sym (get_or_at known k [] no_known n are.count ∙ e)) (known_step shapes p valid typed known n b are)))
         ];
   }
-    where
-      same : AllByRecursion (λ i. front_at fronts i ≡ front p.ops i) (shape_inputs (shape_at p.ops n))
-      same = each_weaker (λ i. i < n) (λ i. front_at fronts i ≡ front p.ops i) (λ i l. frs.each i (omega (arith, l, b))) (shape_inputs (shape_at p.ops n)) (typed.inputs n b)
 
-      here : k ≡ op_known shapes (front p.ops) known (op_at p.ops n)
-      here = is ∙ ap (op_known shapes (front_at fronts) known) (sym at) ∙ shape_known-reads shapes (front_at fronts) (front p.ops) known (shape_at p.ops n) same
+  -- each operator is known
+  pub are_known : (n : ℕ) → n ≤ length p.ops → AreKnown shapes p.ops (known_below shapes p.ops n) n
+  are_known zero h = record { count = refl; each = λ i c. absurd (omega (arith, c)) }
+  are_known (suc n) h =
+      known_more (known_below shapes p.ops n) n (op_known shapes (front p.ops) (known_below shapes p.ops n) (op_at p.ops n)) (omega (arith, h)) (are_known n (omega (arith, h))) refl
 
   module _ (known : List Known) (are : AreKnown shapes p.ops known (length p.ops)) where
     -- what is known of each operator

@@ -8,6 +8,7 @@ use Rattle.plan_core.specs.Shapes.{shape_of}
 use Rattle.plan_core.specs.Unary.{group_by}
 use Rattle.browse_class.specs.Classes.{op_bound, op_sorts}
 use Rattle.browse_class.specs.Facts.{Facts}
+use Rattle.plan_class.specs.declared.domain.Domain.{Domain}
 use Rattle.plan_class.specs.Known.{Known, grouped_known, over_known}
 
 -- groupBys sort nothing, with keys or without
@@ -21,7 +22,7 @@ groups_bound_nothing i out [] piece of = refl
 groups_bound_nothing i out (k ∷ keys) piece of = refl
 
 -- what is known of a groupBy with keys is what is known of the groups by them
-pub groups_are : (known : List Known) (vars : List ℕ) (input : Known) (i out : ℕ) (keys : List Key) (piece : Piece) (len : ℕ) → (len == 0) ≡ false → length keys ≡ len
-    → over_known known vars input (shape_of (over i (group_by keys piece out))) ≡ grouped_known keys vars out input
-groups_are known vars input i out [] piece len e l = absurd (let z : len ≡ 0 = sym l in let t : (len == 0) ≡ true = eq-eqb len 0 z in let f : true ≡ false = sym t ∙ e in cc)
-groups_are known vars input i out (k ∷ keys) piece len e l = refl
+pub groups_are : (domains : ℕ → Domain) (vars : List ℕ) (input : Known) (i out : ℕ) (keys : List Key) (piece : Piece) (len : ℕ) → (len == 0) ≡ false → length keys ≡ len
+    → over_known domains vars input (shape_of (over i (group_by keys piece out))) ≡ grouped_known keys vars out input
+groups_are domains vars input i out [] piece len e l = absurd (let z : len ≡ 0 = sym l in let t : (len == 0) ≡ true = eq-eqb len 0 z in let f : true ≡ false = sym t ∙ e in cc)
+groups_are domains vars input i out (k ∷ keys) piece len e l = refl

@@ -28,7 +28,8 @@ use Rattle.browse_class.specs.Facts.{Facts, facts, one_item, kind_profile, group
 use Rattle.browse_class.specs.Levels.{own_level, visits_level, pairs_level}
 use Rattle.browse_class.proofs.Sound.{facts-of}
 use Rattle.plan_class.specs.Agree.{AgreesWith, Agrees, AreKnown}
-use Rattle.plan_class.specs.Known.{Known, known_at, domain_of, tested_levels, distinct_known, made_known, stage_known, shape_known, op_known}
+use Rattle.plan_class.specs.Known.{Known, known_at, domain_of, pairs_known, tested_levels, distinct_known, made_known, stage_known, shape_known, op_known}
+use Rattle.plan_class.specs.declared.domain.Domain.{Domain}
 use Rattle.plan_class.specs.LevelLists.{level_in, same_levels, with_first, beside, visit_levels, pair_levels}
 use Rattle.plan_class.proofs.LevelLists.{levels_agree, visit_levels_are, pair_levels_are}
 use Rattle.plan_class.proofs.Origins.{nodes_known, pieces_are}
@@ -81,14 +82,21 @@ distinct_same keys vars k f e a h =
     ∙ ap (λ (ks : List Key). cond (not (many f.profile.most) || covers keys ks) f.profile (cond (are_contiguous keys vars) (level_in k.levels (length (shared keys vars))) (first_kept f.profile))) a
     ∙ ap (λ (q : Profile). cond (not (many f.profile.most) || covers keys f.keys) f.profile (cond (are_contiguous keys vars) q (first_kept f.profile))) (h (length (shared keys vars)))
 
--- a shape that reads the same fronts is known in the same way
-pub shape_known-reads : (shapes : List SourceShape) (a b : ℕ → Front) (known : List Known) (f : Shape) → AllByRecursion (λ i. a i ≡ b i) (shape_inputs f)
-    → shape_known shapes a known f ≡ shape_known shapes b known f
-shape_known-reads shapes a b known (one_source s out) h = refl
-shape_known-reads shapes a b known (visits_below i start path out) h = ap (λ (fr : Front). shape_known shapes (λ n. fr) known (visits_below i start path out)) h.0
-shape_known-reads shapes a b known (pairs_up l r tests) h = ap (λ (fr : Front). shape_known shapes (λ n. fr) known (pairs_up l r tests)) h.0
-shape_known-reads shapes a b known (passes_on i stage) h = ap (λ (fr : Front). shape_known shapes (λ n. fr) known (passes_on i stage)) h.0
-shape_known-reads shapes a b known (no_events i made) h = refl
+-- a shape that reads the same of its inputs is known in the same way
+pub shape_known-reads : (shapes : List SourceShape) (a b : ℕ → Front) (domains : ℕ → Domain) (at to : ℕ → Known) (f : Shape) → AllByRecursion (λ i. a i ≡ b i) (shape_inputs f)
+    → AllByRecursion (λ i. at i ≡ to i) (shape_inputs f) → shape_known shapes a domains at f ≡ shape_known shapes b domains to f
+shape_known-reads shapes a b domains at to (one_source s out) h g = refl
+shape_known-reads shapes a b domains at to (visits_below input start path out) h g =
+    ap (λ (fr : Front). shape_known shapes (λ n. fr) domains at (visits_below input start path out)) h.0
+    ∙ ap (λ (k : Known). shape_known shapes b domains (λ n. k) (visits_below input start path out)) g.0
+shape_known-reads shapes a b domains at to (pairs_up l r tests) h g =
+    ap (λ (fr : Front). shape_known shapes (λ n. fr) domains at (pairs_up l r tests)) h.0
+    ∙ ap (λ (k : Known). pairs_known tests (length (b l).vars) (b l).whole k (at r)) g.0
+    ∙ ap (λ (k : Known). pairs_known tests (length (b l).vars) (b l).whole (to l) k) g.1.0
+shape_known-reads shapes a b domains at to (passes_on input stage) h g =
+    ap (λ (fr : Front). shape_known shapes (λ n. fr) domains at (passes_on input stage)) h.0
+    ∙ ap (λ (k : Known). shape_known shapes b domains (λ n. k) (passes_on input stage)) g.0
+shape_known-reads shapes a b domains at to (no_events input made) h g = refl
 
 module _ (shapes : List SourceShape) (p : PlanValue) (valid : IsValid p) (typed : IsTyped p.ops) (known : List Known) (n : ℕ) (b : n < length p.ops) (are : AreKnown shapes p.ops known n) where
   -- what is known of each operator
@@ -105,7 +113,7 @@ module _ (shapes : List SourceShape) (p : PlanValue) (valid : IsValid p) (typed 
 
   -- the trees of what is made
   made_trees : (i : ℕ) → i < n → (made : Made) → IsMadeFit (kinds p.ops i) made → (w : Bool) (v : ℕ) (j : Kind) → w ≡ true → cond w (Some (made_kind made)) (kinds p.ops i v) ≡ Some j
-      → made_known known made ≡ kind_profile (Some j) (cond w (made_profile (kinds p.ops i) (fs i).lists made) ((fs i).lists v))
+      → made_known (domain_of known) made ≡ kind_profile (Some j) (cond w (made_profile (kinds p.ops i) (fs i).lists made) ((fs i).lists v))
   made_trees i s (a_list_of pieces) fit w v j t e =
       pieces_are shapes p valid typed known n within are i costless pieces s fit ∙ list_trees w j (kinds p.ops i v) (pieces_from costless (kinds p.ops i) (fs i).lists pieces) ((fs i).lists v) t e
   made_trees i s (an_element_of label list) fit w v j t e = element_item w j (kinds p.ops i v) (cond w costless ((fs i).lists v)) t e
@@ -116,7 +124,7 @@ module _ (shapes : List SourceShape) (p : PlanValue) (valid : IsValid p) (typed 
 
   -- what is known after a stage agrees with its facts
   stage_agrees : (stage : Stage) (vars : List ℕ) (i : ℕ) → i < n → IsStageFit (kinds p.ops i) stage
-      → AgreesWith shapes (stage_outs stage) (stage_kinds stage (kinds p.ops i)) (stage_facts stage (kinds p.ops i) vars (fs i)) (stage_known known stage vars (at i))
+      → AgreesWith shapes (stage_outs stage) (stage_kinds stage (kinds p.ops i)) (stage_facts stage (kinds p.ops i) vars (fs i)) (stage_known (domain_of known) stage vars (at i))
   stage_agrees (filters test) vars i s fit = record {
     profile = ap passed (are.each i s).profile;
     out = refl;
@@ -193,7 +201,7 @@ module _ (shapes : List SourceShape) (p : PlanValue) (valid : IsValid p) (typed 
 
   -- what is known of a shape agrees with its facts, where its inputs are among the known operators
   shape_agrees : (f : Shape) → AllByRecursion (λ i. i < n) (shape_inputs f) → IsShapeFit f (kinds p.ops)
-      → AgreesWith shapes (shape_outs f) (shape_kinds f (kinds p.ops)) (shape_facts (shapes_of shapes) (kinds p.ops) (front p.ops) f fs) (shape_known shapes (front p.ops) known f)
+      → AgreesWith shapes (shape_outs f) (shape_kinds f (kinds p.ops)) (shape_facts (shapes_of shapes) (kinds p.ops) (front p.ops) f fs) (shape_known shapes (front p.ops) (domain_of known) (known_at known) f)
   shape_agrees (one_source s out) small fit = record {
     profile = refl;
     out = refl;
@@ -255,6 +263,6 @@ module _ (shapes : List SourceShape) (p : PlanValue) (valid : IsValid p) (typed 
   known_step =
       let at_n : Shape = shape_at p.ops n in
       let inputs = typed.inputs n b in
-      subst (λ (ks : Kinds). AgreesWith shapes (shape_outs at_n) ks (fs n) (shape_known shapes (front p.ops) known at_n)) (sym (kinds-of p.ops n (op_at p.ops n) refl inputs))
-      (subst (λ (f : Facts). AgreesWith shapes (shape_outs at_n) (shape_kinds at_n (kinds p.ops)) f (shape_known shapes (front p.ops) known at_n))
+      subst (λ (ks : Kinds). AgreesWith shapes (shape_outs at_n) ks (fs n) (shape_known shapes (front p.ops) (domain_of known) (known_at known) at_n)) (sym (kinds-of p.ops n (op_at p.ops n) refl inputs))
+      (subst (λ (f : Facts). AgreesWith shapes (shape_outs at_n) (shape_kinds at_n (kinds p.ops)) f (shape_known shapes (front p.ops) (domain_of known) (known_at known) at_n))
       (sym (facts-of (shapes_of shapes) p.ops n (op_at p.ops n) refl inputs)) (shape_agrees at_n inputs (typed.fit n b)))

@@ -1,5 +1,5 @@
 -- The lists of levels give the levels.
-use Rattle.std.proofs.Common.{◌≡◌, ℕ, zero, suc, ◌-◌, true, false, cond, List, [], ◌∷◌, ◌++◌, ◌+◌, refl, sym, ap, ◌∙◌, arith, map}
+use Rattle.std.proofs.Common.{◌≡◌, ℕ, zero, suc, ◌-◌, true, false, cond, List, [], ◌∷◌, ◌++◌, refl, sym, ap, ◌∙◌, arith, map}
 use Rattle.std.specs.Prelude.{Bool, ◌==◌, nat_le, drop, slice_index_or}
 use Rattle.std.proofs.lemmas.Bool.Decides.{nat_tests}
 use Rattle.browse_profile.specs.declared.profile.Profile.{Profile}
@@ -59,11 +59,6 @@ mapped_after f rest (suc m) (suc j) ps =
     mapped_after f rest m j ps
     ∙ ap (λ (w : Bool). cond w (f (slice_index_or ps (j - m) rest)) unbounded) (sym e)
     ∙ ap (λ (n : ℕ). cond (nat_le (suc m) (suc j)) (f (slice_index_or ps n rest)) unbounded) (sym d)
-
--- one more of which nothing is known
-pub opens_more : (n : ℕ) → opens n ++ unbounded ∷ [] ≡ opens (n + 1)
-opens_more zero = refl
-opens_more (suc n) = (let e : suc (n + 1) ≡ suc n + 1 = omega arith in ap (λ (ps : List Profile). unbounded ∷ ps) (opens_more n) ∙ ap opens e)
 
 -- the levels of visits as a list are those that the facts say
 pub visit_levels_are : (m : ℕ) (whole : Bool) (i p : Profile) (j : ℕ) → level_in (visit_levels m whole i p) j ≡ visits_level m whole (replaced i p) i p j

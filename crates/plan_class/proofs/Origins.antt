@@ -158,12 +158,12 @@ module _ (shapes : List SourceShape) (p : PlanValue) (valid : IsValid p) (typed 
 
     -- the trees of pieces are known as the facts say
     pub pieces_are : (i : ℕ) (before : Profile) (pieces : List Piece) → i < n → AllByRecursion (IsPiece (kinds p.ops i)) pieces
-        → pieces_known known before pieces ≡ pieces_from before (kinds p.ops i) (fs i).lists pieces
+        → pieces_known (domain_of known) before pieces ≡ pieces_from before (kinds p.ops i) (fs i).lists pieces
     pieces_are i before [] s h = refl
     pieces_are i before (var_piece v ∷ pieces) s h =
         let one : (domain_of known v).trees ≡ kind_profile (kinds p.ops i v) ((fs i).lists v) =
         trees_known i v h.0.0 s h.0.1 ∙ ap (λ (k : Option Kind). kind_profile k ((fs i).lists v)) (sym h.0.1)
         in
-        ap (λ (q : Profile). pieces_known known (in_turn before q) pieces) one ∙ pieces_are i (in_turn before (kind_profile (kinds p.ops i v) ((fs i).lists v))) pieces s h.1
+        ap (λ (q : Profile). pieces_known (domain_of known) (in_turn before q) pieces) one ∙ pieces_are i (in_turn before (kind_profile (kinds p.ops i v) ((fs i).lists v))) pieces s h.1
     pieces_are i before (label_piece v ∷ pieces) s h = pieces_are i (in_turn before one_item) pieces s h.1
     pieces_are i before (text_piece l ∷ pieces) s h = pieces_are i (in_turn before one_item) pieces s h.1

@@ -1,6 +1,7 @@
 -- What the program knows of operators is what is known of them.
-use Rattle.std.specs.Prelude.{◌≡◌, ◌<◌, ℕ, true, List, [], ◌∷◌, length, Option, Some, None}
+use Rattle.std.specs.Prelude.{◌≡◌, ◌<◌, ℕ, zero, suc, true, List, [], ◌∷◌, ◌++◌, length, Option, Some, None}
 use Rattle.plan_core.specs.ByNumber.{op_at}
+use Rattle.plan_core.specs.Fronts.{front}
 use Rattle.plan_core.specs.Plans.{Operator}
 use Rattle.plan_core.specs.Valid.{Kind, a_node, Kinds, kinds, outs_of}
 use Rattle.browse_profile.specs.Profiles.{costless}
@@ -8,7 +9,8 @@ use Rattle.browse_visit.specs.declared.shape.Shape.{Shape}
 use Rattle.browse_visit.specs.SortSet.{IsSet}
 use Rattle.browse_visit.specs.Shapes.{shape_at, shapes_of}
 use Rattle.browse_class.specs.Facts.{Facts, facts, no_facts, kind_profile}
-use Rattle.plan_class.specs.Known.{Known, known_at, binds, domain_of}
+use Rattle.plan_class.specs.Known.{Known, known_at, binds, domain_of, op_known}
+use Rattle.plan_class.specs.declared.domain.Domain.{Domain}
 use Rattle.plan_class.specs.LevelLists.{level_in}
 
 -- the variable that is bound anew
@@ -34,7 +36,15 @@ pub record AreKnown (shapes : List Shape) (ops : List Operator) (known : List Kn
   pub count : length known ≡ n
   pub each : (i : ℕ) → i < n → Agrees shapes ops i (known_at known i)
 
+-- what the values of variables can be, as facts that have the lists of variables alone
+abbrev pub lists_of : (ℕ → Domain) → Facts
+lists_of domains = record { profile = costless; layouts = no_facts.layouts; lists = λ v. (domains v).trees; keys = []; levels = no_facts.levels }
+
 -- what the program knows, as facts that have the lists of variables alone
 abbrev pub lists_in : List Known → Facts
-lists_in known =
-    record { profile = costless; layouts = no_facts.layouts; lists = λ v. (domain_of known v).trees; keys = []; levels = no_facts.levels }
+lists_in known = lists_of (domain_of known)
+
+-- what the program knows of the first n operators
+abbrev pub known_below : List Shape → List Operator → ℕ → List Known
+known_below shapes ops zero = []
+known_below shapes ops (suc n) = known_below shapes ops n ++ op_known shapes (front ops) (known_below shapes ops n) (op_at ops n) ∷ []

@@ -127,56 +127,55 @@ grouped_known keys vars out input = binding out (value_domain (group_profile (ar
 abbrev pub group_known : ℕ → Known → Known
 group_known out input = binding out (value_domain input.profile) (known_with one_binding [] (same_levels unbounded))
 
--- the profile of the trees of a piece
-abbrev pub piece_known : List Known → Piece → Profile
-piece_known known (label_piece v) = one_item
-piece_known known (text_piece label) = one_item
-piece_known known (var_piece v) = (domain_of known v).trees
+-- the profile of the trees of a piece, where the values of variables can be these
+abbrev pub piece_known : (ℕ → Domain) → Piece → Profile
+piece_known domains (label_piece v) = one_item
+piece_known domains (text_piece label) = one_item
+piece_known domains (var_piece v) = (domains v).trees
 
 -- the trees of the pieces, one after another, after others
-abbrev pub pieces_known : List Known → Profile → List Piece → Profile
-pieces_known known before [] = before
-pieces_known known before (p ∷ pieces) = pieces_known known (in_turn before (piece_known known p)) pieces
+abbrev pub pieces_known : (ℕ → Domain) → Profile → List Piece → Profile
+pieces_known domains before [] = before
+pieces_known domains before (p ∷ pieces) = pieces_known domains (in_turn before (piece_known domains p)) pieces
 
 -- the trees of what is made
-abbrev pub made_known : List Known → Made → Profile
-made_known known (a_list_of pieces) = pieces_known known costless pieces
-made_known known (an_element_of label list) = one_item
+abbrev pub made_known : (ℕ → Domain) → Made → Profile
+made_known domains (a_list_of pieces) = pieces_known domains costless pieces
+made_known domains (an_element_of label list) = one_item
 
 -- what is known after a stage, over an input with a front of these variables
-abbrev pub stage_known : List Known → Stage → List ℕ → Known → Known
-stage_known known (filters test) vars input = selected_known input
-stage_known known (extends out made) vars input = extended_known out (made_known known made) input
-stage_known known (first_by_keys keys None) vars input = kept_known keys vars input
-stage_known known (first_by_keys keys (Some group)) vars input = grouped_known keys vars group.1 input
-stage_known known (one_group piece out) vars input = group_known out input
-stage_known known (in_order v desc) vars input = ordered_known input
+abbrev pub stage_known : (ℕ → Domain) → Stage → List ℕ → Known → Known
+stage_known domains (filters test) vars input = selected_known input
+stage_known domains (extends out made) vars input = extended_known out (made_known domains made) input
+stage_known domains (first_by_keys keys None) vars input = kept_known keys vars input
+stage_known domains (first_by_keys keys (Some group)) vars input = grouped_known keys vars group.1 input
+stage_known domains (one_group piece out) vars input = group_known out input
+stage_known domains (in_order v desc) vars input = ordered_known input
 
 -- what is known of an operator without events
 abbrev pub ended_known : Known
 ended_known = known_with costless [] (same_levels unbounded)
 
 -- what is known after a shape with one input, which has a front of these variables; of any other shape, no events
-abbrev pub over_known : List Known → List ℕ → Known → Shape → Known
-over_known known vars input (one_source s out) = ended_known
-over_known known vars input (visits_below i start path out) = ended_known
-over_known known vars input (pairs_up left right tests) = ended_known
-over_known known vars input (passes_on i stage) = stage_known known stage vars input
-over_known known vars input (no_events i made) = ended_known
+abbrev pub over_known : (ℕ → Domain) → List ℕ → Known → Shape → Known
+over_known domains vars input (one_source s out) = ended_known
+over_known domains vars input (visits_below i start path out) = ended_known
+over_known domains vars input (pairs_up left right tests) = ended_known
+over_known domains vars input (passes_on i stage) = stage_known domains stage vars input
+over_known domains vars input (no_events i made) = ended_known
 
--- what is known of a shape, from what is known of the operators before it
-abbrev pub shape_known : List SourceShape → (ℕ → Front) → List Known → Shape → Known
-shape_known shapes fronts known (one_source s out) = source_known shapes s out
-shape_known shapes fronts known (visits_below input start path out) =
-    visits_known out (visit_along shapes path (domain_of known start)) (length (fronts input).vars) (fronts input).whole (known_at known input)
-shape_known shapes fronts known (pairs_up left right tests) =
-    pairs_known tests (length (fronts left).vars) (fronts left).whole (known_at known left) (known_at known right)
-shape_known shapes fronts known (passes_on input stage) = stage_known known stage (fronts input).vars (known_at known input)
-shape_known shapes fronts known (no_events input made) = ended_known
+-- what is known of a shape, from what the values of variables can be and what is known of its inputs
+abbrev pub shape_known : List SourceShape → (ℕ → Front) → (ℕ → Domain) → (ℕ → Known) → Shape → Known
+shape_known shapes fronts domains at (one_source s out) = source_known shapes s out
+shape_known shapes fronts domains at (visits_below input start path out) =
+    visits_known out (visit_along shapes path (domains start)) (length (fronts input).vars) (fronts input).whole (at input)
+shape_known shapes fronts domains at (pairs_up left right tests) = pairs_known tests (length (fronts left).vars) (fronts left).whole (at left) (at right)
+shape_known shapes fronts domains at (passes_on input stage) = stage_known domains stage (fronts input).vars (at input)
+shape_known shapes fronts domains at (no_events input made) = ended_known
 
 -- what is known of an operator, from what is known of those before it
 abbrev pub op_known : List SourceShape → (ℕ → Front) → List Known → Operator → Known
-op_known shapes fronts known op = shape_known shapes fronts known (shape_of op)
+op_known shapes fronts known op = shape_known shapes fronts (domain_of known) (known_at known) (shape_of op)
 
 -- a shape's path is short enough for an automaton
 abbrev pub IsShortShape : Shape → Type 0

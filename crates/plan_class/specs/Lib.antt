@@ -1,3 +1,6 @@
 pub mod Agree
 pub mod Known
 pub mod LevelLists
+pub mod Runs
+pub mod Slots
+pub mod VarDomains

@@ -1,15 +1,18 @@
 // The class of a plan.
-ghost use Rattle.std.specs.Prelude.{◌≡◌, ◌++◌, ◌∷◌, [], IfOk, OnOk, length, map};
+ghost use Rattle.std.specs.Prelude.{◌≡◌, IfOk, OnOk, length, map};
 ghost use Rattle.plan_core.specs.Fronts.{front_at};
 ghost use Rattle.plan_core.specs.PlanMade.{op_of, plan_value};
-ghost use Rattle.plan_core.specs.Valid.{IsValid};
+ghost use Rattle.plan_core.specs.Valid.{AreDistinct, inputs_of, IsValid};
 ghost use Rattle.browse_class.specs.Classes.{op_bound, all_bounds, op_sorts, sorts_any, class_by, class_in};
 ghost use Rattle.browse_visit.specs.Shapes.{shapes_of};
-ghost use Rattle.plan_class.specs.Agree.{AreKnown, lists_in};
-ghost use Rattle.plan_class.specs.Known.{op_known, IsShort};
+ghost use Rattle.plan_class.specs.Agree.{lists_of, known_below};
+ghost use Rattle.plan_class.specs.Known.{IsShort};
+ghost use Rattle.plan_class.specs.Slots.{IsPushed};
+ghost use Rattle.plan_class.specs.VarDomains.{domain_in, AreDomains};
 
-use crate::known::{Known, domain_of};
+use crate::domains::Domains;
 use crate::operators::op_known;
+use crate::so_far::SoFar;
 use browse_class::Class;
 use browse_profile::larger;
 use browse_visit::Shape;
@@ -42,24 +45,24 @@ fn sorts(op: &Op) -> bool
 
 // The greatest number of the list of a new element.
 #[tactic(auto, using(crate::proofs::Groups::groups_bound_nothing))]
-fn op_bound(known: &[Known], op: &Op) -> Option<u64>
-    ensures { result ≡ op_bound (op_of op.now) (λ i. lists_in known.now) }
+fn op_bound(domains: &Domains, op: &Op) -> Option<u64>
+    ensures { result ≡ op_bound (op_of op.now) (λ i. lists_of (domain_in domains.now)) }
 {
     match op {
-        Op::CreateElement { list, .. } => domain_of(known, *list).trees.greatest(),
+        Op::CreateElement { list, .. } => domains.of(*list).trees.greatest(),
         _ => Some(0),
     }
 }
 
 // The greatest of 1 and all of them.
-fn constant(known: &[Known], ops: &[Op]) -> Option<u64>
-    ensures { result ≡ all_bounds (map op_of ops.now) (λ i. lists_in known.now) }
+fn constant(domains: &Domains, ops: &[Op]) -> Option<u64>
+    ensures { result ≡ all_bounds (map op_of ops.now) (λ i. lists_of (domain_in domains.now)) }
 {
     let mut at = ops.len();
     let mut found = Some(1);
     'ops: while at > 0 {
         at -= 1;
-        found = larger(op_bound(known, &ops[at]), found);
+        found = larger(op_bound(domains, &ops[at]), found);
     }
     found
 }
@@ -74,34 +77,35 @@ fn class_by(constant: Option<u64>) -> Class
     }
 }
 
-// Adds what is known of an operator to what is known of those before it.
+// Adds an operator to those before it. `Err`: memory.
 fn push_known(
     alloc: Global,
     shapes: &[Shape],
     fronts: &[Front],
-    known: &mut Vec<Known>,
+    so_far: &mut SoFar,
     op: &Op,
 ) -> Result<(), AllocError>
-    requires { IsShort (op_of op.now) }
-    ensures { OnOk result (known.new.items ≡ known.old.items ++ op_known shapes.now (front_at fronts.now) known.old.items (op_of op.now) ∷ []) }
+    requires short { IsShort (op_of op.now) }
+    requires apart { AreDistinct (inputs_of (op_of op.now)) }
+    ensures { OnOk result (IsPushed shapes.now (front_at fronts.now) so_far.old (op_of op.now) so_far.new) }
 {
-    let one = op_known(alloc, shapes, fronts, known, op)?;
-    known.push(one)?;
+    let one = op_known(alloc, shapes, fronts, so_far, op)?;
+    so_far.push(one)?;
     Ok(())
 }
 
-// What is known of all operators.
-fn all_known(alloc: Global, plan: &Plan, shapes: &[Shape]) -> Result<Vec<Known>, AllocError>
+// What the values of all variables can be.
+fn all_domains(alloc: Global, plan: &Plan, shapes: &[Shape]) -> Result<Domains, AllocError>
     requires { IsValid (plan_value plan.now) }
-    ensures { IfOk result (λ known. AreKnown shapes.now (plan_value plan.now).ops known.items (length (plan_value plan.now).ops)) }
+    ensures { IfOk result (λ ds. AreDomains ds (known_below shapes.now (plan_value plan.now).ops (length (plan_value plan.now).ops))) }
 {
     valid_plans_are_typed();
     let fronts = fronts_of(alloc, &plan.ops)?;
-    let mut known: Vec<Known> = Vec::new(alloc);
+    let mut so_far = SoFar::new(alloc);
     'ops: for op in &plan.ops {
-        push_known(alloc, shapes, &fronts, &mut known, op)?;
+        push_known(alloc, shapes, &fronts, &mut so_far, op)?;
     }
-    Ok(known)
+    Ok(so_far.domains)
 }
 
 /// The class of a plan over sources of such shapes. A source past the end of `shapes` has no known shape. `Err`: want of memory alone.
@@ -113,6 +117,6 @@ pub fn class_of(alloc: Global, plan: &Plan, shapes: &[Shape]) -> Result<Class, A
     if sorts_any(&plan.ops) {
         return Ok(Class::Unbrowsable);
     }
-    let known = all_known(alloc, plan, shapes)?;
-    Ok(class_by(constant(&known, &plan.ops)))
+    let domains = all_domains(alloc, plan, shapes)?;
+    Ok(class_by(constant(&domains, &plan.ops)))
 }

@@ -1,8 +1,9 @@
 // The levels of an operator.
-ghost use Rattle.std.specs.Prelude.{◌≡◌, ◌++◌, IfOk, OnOk, map};
+ghost use Rattle.std.specs.Prelude.{◌≡◌, IfOk, drop, true};
 ghost use Rattle.browse_class.specs.Levels.{own_level};
-ghost use Rattle.plan_class.specs.LevelLists.{level_in, same_levels, with_first, opens, beside, visit_levels, pair_levels};
+ghost use Rattle.plan_class.specs.LevelLists.{level_in, same_levels, with_first, visit_levels, pair_levels};
 
+use crate::runs::{Runs, beside};
 use browse_profile::Profile;
 use std::alloc::{AllocError, Global};
 use std::marker::Model;
@@ -14,19 +15,21 @@ pub struct FrontSize {
     pub whole: bool,
 }
 
-/// The levels of an operator: the first of them, and the one that all others are.
+/// The levels of an operator: level 0 where it is by itself, those after it or the first ones, and the one that all others are.
 #[derive(Drop)]
 pub struct Levels {
-    first: Vec<Profile>,
+    zero: Option<Profile>,
+    after: Runs,
     rest: Profile,
 }
 
 impl Model for Levels {
+    ghost use Rattle.std.specs.Prelude.{◌++◌, option_to_list};
     ghost use Rattle.plan_class.specs.LevelLists.{Levels as LevelList};
 
     ghost Value = { LevelList };
 
-    ghost view = { λ l. record { first = l.first.items; rest = l.rest } };
+    ghost view = { λ l. record { first = option_to_list l.zero ++ l.after; rest = l.rest } };
 }
 
 impl Levels {
@@ -35,7 +38,8 @@ impl Levels {
         ensures { result ≡ same_levels level }
     {
         Levels {
-            first: Vec::new(alloc),
+            zero: None,
+            after: Runs::none(alloc),
             rest: level,
         }
     }
@@ -44,24 +48,48 @@ impl Levels {
     pub fn at(&self, number: usize) -> Profile
         ensures { result ≡ level_in self.now number }
     {
-        match self.first.get(number) {
-            Some(level) => *level,
-            None => self.rest,
+        match self.zero {
+            Some(level) if number == 0 => level,
+            Some(_) => self.after.at(number - 1, self.rest),
+            None => self.after.at(number, self.rest),
         }
     }
 
-    /// These levels, with the first stop of a list alone at level 0. `Err`: memory.
-    pub fn with_first(&self, alloc: Global, list: Profile) -> Result<Levels, AllocError>
-        ensures { IfOk result (λ l. l ≡ with_first list self.now) }
+    // The levels but level 0, and the one that all others are.
+    fn after_zero(self) -> Runs
+        ensures { result ≡ drop 1 self.first }
     {
-        let mut first = Vec::new(alloc);
-        first.push(list.once())?;
-        if let Some((_, others)) = self.first.split_first() {
-            first.extend_from_slice(others)?;
+        match self.zero {
+            Some(_) => self.after,
+            None => self.after.after_first(),
         }
+    }
+
+    /// These levels, with the first stop of a list alone at level 0.
+    pub fn with_first(self, list: Profile) -> Levels
+        ensures { result ≡ with_first list self }
+    {
+        let rest = self.rest;
+        Levels {
+            zero: Some(list.once()),
+            after: self.after_zero(),
+            rest,
+        }
+    }
+
+    // The levels of lists beside each binding of the left side, after m of which nothing is known. `Err`: memory.
+    fn beside(&self, alloc: Global, m: usize, left: Profile) -> Result<Levels, AllocError>
+        ensures { IfOk result (λ l. l ≡ pair_levels m true left self.now) }
+    {
+        let mut after = Runs::opens(alloc, m)?;
+        if let Some(level) = self.zero {
+            after.push(beside(left, level))?;
+        }
+        after.push_beside(left, &self.after)?;
         Ok(Levels {
-            first,
-            rest: self.rest,
+            zero: None,
+            after,
+            rest: beside(left, self.rest),
         })
     }
 }
@@ -77,38 +105,6 @@ pub fn own_level(profile: Profile) -> Profile
     }
 }
 
-// Makes so many levels of which nothing is known.
-fn opens(alloc: Global, count: usize) -> Result<Vec<Profile>, AllocError>
-    ensures { IfOk result (λ levels. levels.items ≡ opens count) }
-{
-    let mut levels = Vec::new(alloc);
-    'levels: for at in 0..count {
-        levels.push(Profile::unbounded())?;
-    }
-    Ok(levels)
-}
-
-// A list beside each binding of the left side of a join.
-fn beside(left: Profile, right: Profile) -> Profile
-    ensures { result ≡ beside left right }
-{
-    left.replaced(Profile::one_skip().in_turn(right))
-}
-
-// Lists beside each binding of the left side, after others.
-fn push_beside(
-    levels: &mut Vec<Profile>,
-    left: Profile,
-    right: &[Profile],
-) -> Result<(), AllocError>
-    ensures { OnOk result (levels.new.items ≡ levels.old.items ++ map (beside left) right.now) }
-{
-    'right: for level in right {
-        levels.push(beside(left, *level))?;
-    }
-    Ok(())
-}
-
 /// The levels of visits below the bindings of an input with such a front. `Err`: memory.
 pub fn visit_levels(
     alloc: Global,
@@ -121,11 +117,12 @@ pub fn visit_levels(
     if !front.whole {
         return Ok(Levels::same(alloc, Profile::unbounded()));
     }
-    let mut first = opens(alloc, front.vars)?;
-    first.push(input.replaced(visit.once()))?;
-    first.push(input.replaced(visit))?;
+    let mut after = Runs::opens(alloc, front.vars)?;
+    after.push(input.replaced(visit.once()))?;
+    after.push(input.replaced(visit))?;
     Ok(Levels {
-        first,
+        zero: None,
+        after,
         rest: Profile::unbounded(),
     })
 }
@@ -139,13 +136,9 @@ pub fn pair_levels(
 ) -> Result<Levels, AllocError>
     ensures { IfOk result (λ l. l ≡ pair_levels front.vars front.whole left right.now) }
 {
-    if !front.whole {
-        return Ok(Levels::same(alloc, Profile::unbounded()));
+    if front.whole {
+        right.beside(alloc, front.vars, left)
+    } else {
+        Ok(Levels::same(alloc, Profile::unbounded()))
     }
-    let mut first = opens(alloc, front.vars)?;
-    push_beside(&mut first, left, &right.first)?;
-    Ok(Levels {
-        first,
-        rest: beside(left, right.rest),
-    })
 }

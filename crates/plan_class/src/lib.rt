@@ -3,9 +3,12 @@
 
 mod classing;
 mod domain;
+mod domains;
 mod known;
 mod levels;
 mod operators;
+mod runs;
+mod so_far;
 mod stages;
 mod visit;
 

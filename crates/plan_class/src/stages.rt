@@ -3,47 +3,41 @@ ghost use Rattle.std.specs.Prelude.{◌≡◌, IfOk};
 ghost use Rattle.plan_core.specs.Fronts.{covers as covers_keys};
 ghost use Rattle.browse_class.specs.Facts.{group_profile};
 ghost use Rattle.plan_class.specs.Known.{distinct_known, kept_known, group_known, grouped_known, selected_known, ordered_known, extended_known, piece_known, pieces_known};
+ghost use Rattle.plan_class.specs.VarDomains.{domain_in};
 ghost use Rattle.browse_profile.specs.Profiles.{costless};
 
 use crate::domain::{Domain, one_item};
-use crate::known::{Known, domain_of};
+use crate::domains::Domains;
+use crate::known::Known;
 use crate::levels::{Levels, own_level};
 use browse_profile::{Most, Profile, larger};
 use mix_tree::{Key, Var, key_stands};
 use plan_core::{Piece, fronts};
 use std::alloc::{AllocError, Global};
 
-/// What is known after a comparison. `Err`: memory.
-pub fn selected_known(alloc: Global, input: &Known) -> Result<Known, AllocError>
-    ensures { IfOk result (λ k. k ≡ selected_known input.now) }
+/// What is known after a comparison.
+pub fn selected_known(alloc: Global, input: Known) -> Known
+    ensures { result ≡ selected_known input }
 {
     let profile = input.profile.passed();
-    let keys = Vec::from_slice(alloc, &input.keys)?;
     let levels = Levels::same(alloc, own_level(profile));
-    Known::new(alloc, profile, keys, &levels)
+    Known::new(profile, input.keys, levels)
 }
 
-/// What is known after an order. `Err`: memory.
-pub fn ordered_known(alloc: Global, input: &Known) -> Result<Known, AllocError>
-    ensures { IfOk result (λ k. k ≡ ordered_known input.now) }
+/// What is known after an order.
+pub fn ordered_known(alloc: Global, input: Known) -> Known
+    ensures { result ≡ ordered_known input }
 {
-    let keys = Vec::from_slice(alloc, &input.keys)?;
     let levels = Levels::same(alloc, Profile::unbounded());
-    Known::new(alloc, Profile::unbounded(), keys, &levels)
+    Known::new(Profile::unbounded(), input.keys, levels)
 }
 
-/// What is known with one variable more, whose values have such trees. `Err`: memory.
-pub fn extended_known(
-    alloc: Global,
-    out: Var,
-    trees: Profile,
-    input: &Known,
-) -> Result<Known, AllocError>
-    ensures { IfOk result (λ k. k ≡ extended_known out trees input.now) }
+/// What is known with one variable more, whose values have such trees.
+pub fn extended_known(out: Var, trees: Profile, input: Known) -> Known
+    ensures { result ≡ extended_known out trees input }
 {
-    let keys = Vec::from_slice(alloc, &input.keys)?;
-    let same = Known::new(alloc, input.profile, keys, &input.levels)?;
-    Ok(same.binding(out, Domain::of_values(trees)))
+    let same = Known::new(input.profile, input.keys, input.levels);
+    same.binding(out, Domain::of_values(trees))
 }
 
 // Whether what agrees by the first keys agrees by the others.
@@ -77,13 +71,13 @@ pub fn kept_known(
     alloc: Global,
     keys: &[Key],
     vars: &[Var],
-    input: &Known,
+    input: Known,
 ) -> Result<Known, AllocError>
-    ensures { IfOk result (λ k. k ≡ kept_known keys.now vars.now input.now) }
+    ensures { IfOk result (λ k. k ≡ kept_known keys.now vars.now input) }
 {
-    let profile = distinct_profile(alloc, keys, vars, input)?;
+    let profile = distinct_profile(alloc, keys, vars, &input)?;
     let own = Vec::from_slice(alloc, keys)?;
-    Known::new(alloc, profile, own, &input.levels)
+    Ok(Known::new(profile, own, input.levels))
 }
 
 // The list of a group by keys, which ends at the first other key where it stops.
@@ -115,42 +109,42 @@ pub fn grouped_known(
     keys: &[Key],
     vars: &[Var],
     out: Var,
-    input: &Known,
+    input: Known,
 ) -> Result<Known, AllocError>
-    ensures { IfOk result (λ k. k ≡ grouped_known keys.now vars.now out input.now) }
+    ensures { IfOk result (λ k. k ≡ grouped_known keys.now vars.now out input) }
 {
-    let kept = kept_known(alloc, keys, vars, input)?;
     let shared = fronts::shared(alloc, keys, vars)?;
     let list = group_profile(fronts::covers(&shared, keys), input.profile);
+    let kept = kept_known(alloc, keys, vars, input)?;
     Ok(kept.binding(out, Domain::of_values(list)))
 }
 
-/// One group of all, with its list. `Err`: memory.
-pub fn group_known(alloc: Global, out: Var, input: &Known) -> Result<Known, AllocError>
-    ensures { IfOk result (λ k. k ≡ group_known out input.now) }
+/// One group of all, with its list.
+pub fn group_known(alloc: Global, out: Var, input: &Known) -> Known
+    ensures { result ≡ group_known out input.now }
 {
     let levels = Levels::same(alloc, Profile::unbounded());
-    let one = Known::new(alloc, Profile::one_binding(), Vec::new(alloc), &levels)?;
-    Ok(one.binding(out, Domain::of_values(input.profile)))
+    let one = Known::new(Profile::one_binding(), Vec::new(alloc), levels);
+    one.binding(out, Domain::of_values(input.profile))
 }
 
 // The profile of the trees of a piece.
-fn piece_profile(known: &[Known], piece: &Piece) -> Profile
-    ensures { result ≡ piece_known known.now piece.now }
+fn piece_profile(domains: &Domains, piece: &Piece) -> Profile
+    ensures { result ≡ piece_known (domain_in domains.now) piece.now }
 {
     match piece {
-        Piece::Var(v) => domain_of(known, *v).trees,
+        Piece::Var(v) => domains.of(*v).trees,
         Piece::LabelOf(_) | Piece::Text(_) => one_item(),
     }
 }
 
 /// The trees of pieces, one after another.
-pub fn pieces_profile(known: &[Known], pieces: &[Piece]) -> Profile
-    ensures { result ≡ pieces_known known.now costless pieces.now }
+pub fn pieces_profile(domains: &Domains, pieces: &[Piece]) -> Profile
+    ensures { result ≡ pieces_known (domain_in domains.now) costless pieces.now }
 {
     let mut found = Profile::costless();
     'pieces: for piece in pieces {
-        found = found.in_turn(piece_profile(known, piece));
+        found = found.in_turn(piece_profile(domains, piece));
     }
     found
 }

@@ -1,0 +1,34 @@
+use Rattle.std.proofs.Common.{◌≡◌, ◌+◌, ℕ, suc, arith, subst}
+use Rattle.plan_core.specs.PlanMade.{op_of, plan_value}
+use Rattle.plan_core.specs.Plans.{Operator}
+use Rattle.plan_core.specs.Valid.{kinds, inputs_of, AreDistinct, IsFit}
+use Rattle.plan_class.specs.Slots.{IsSoFar}
+use Rattle.plan_class.proofs.ClassIs.{fit_short, op_walked}
+use Rattle.plan_class.proofs.Pushed.{inputs_apart, so_far_more}
+use Rattle.plan_class.proofs.classing.all_domains.Goals as goal
+
+pub push_known-requires-clause-short : goal.push_known-requires-clause-short
+push_known-requires-clause-short c =
+    let plan = plan_value c.args.plan.now in
+    let typed = c.valid_plans_are_typed.ensures plan c.requires in
+    let op = op_walked c.args.plan.now.ops.items c.deref-op-items.result.now c.ops.op-index c.op-item.result c.deref-op-items.ensures.value c.ops-test.true c.op-item.is in
+    fit_short (op_of c.op-item.result) (kinds plan.ops) (subst (λ (o : Operator). IsFit o (kinds plan.ops)) op.0 (typed.fit c.ops.op-index op.1))
+
+pub push_known-requires-clause-apart : goal.push_known-requires-clause-apart
+push_known-requires-clause-apart c =
+    let plan = plan_value c.args.plan.now in
+    let typed = c.valid_plans_are_typed.ensures plan c.requires in
+    let op = op_walked c.args.plan.now.ops.items c.deref-op-items.result.now c.ops.op-index c.op-item.result c.deref-op-items.ensures.value c.ops-test.true c.op-item.is in
+    subst (λ (o : Operator). AreDistinct (inputs_of o)) op.0 (inputs_apart c.args.shapes.now plan c.requires typed c.ops.op-index op.1)
+
+pub ops-preserved : goal.ops-preserved
+ops-preserved c =
+    let plan = plan_value c.args.plan.now in
+    let shapes = c.args.shapes.now in
+    let typed = c.valid_plans_are_typed.ensures plan c.requires in
+    let op = op_walked c.args.plan.now.ops.items c.deref-op-items.result.now c.ops.op-index c.op-item.result c.deref-op-items.ensures.value c.ops-test.true c.op-item.is in
+    let fronts = rw c.deref.ensures.value at c.in_ok-fronts.ensures in
+    let pushed = rw (c.deref-in-ops.ensures.value, ← op.0) at c.in_ok-push_known.ensures in
+    let next : suc c.ops.op-index ≡ c.ops.op-index + 1 = omega arith in
+    subst (λ (n : ℕ). IsSoFar shapes plan.ops n c.push_known.new.so_far) next
+    (so_far_more shapes plan c.requires typed c.ops.op-index op.1 c.in_ok-fronts.fronts.items fronts c.ops.so_far c.push_known.new.so_far c.ops.invariant pushed)

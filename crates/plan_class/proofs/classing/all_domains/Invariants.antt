@@ -1,0 +1,6 @@
+use Rattle.plan_core.specs.PlanMade.{plan_value}
+use Rattle.plan_class.specs.Slots.{IsSoFar}
+use Rattle.plan_class.proofs.classing.all_domains.Given as goal
+
+abbrev pub invariant-ops : goal.invariant-ops
+invariant-ops l = IsSoFar l.shapes (plan_value l.plan).ops l.op-index l.so_far
