@@ -23,8 +23,8 @@ use Rattle.mix_talk.proofs.Telling.{spoken_append, spoken_more, spoken_on}
 use Rattle.mix_top.specs.Answered.{IsAnsweredIn, all_told}
 use Rattle.mix_top.specs.Ends.{TookPrefix}
 use Rattle.mix_top.specs.Mounting.{AreMounted}
-use Rattle.mix_top.specs.Question.{Question}
-use Rattle.mix_top.specs.Running.{IsPlanDocument, IsPlanOver, documents_of, question_of}
+use Rattle.mix_top.specs.Question.{Question, IsPlanDocument}
+use Rattle.mix_top.specs.Running.{IsPlanOver, documents_of, question_of}
 use Rattle.mix_top.specs.Stops.{IsDoneWith, outcome_of, outcome_status}
 use Rattle.mix_top.proofs.Answering.{Frugal, IsAnswering, IsManner, answering, prefix_of}
 use Rattle.mix_top.proofs.LinesEnd.{outcome_is}

@@ -12,7 +12,8 @@ use Rattle.plan_core.specs.PlanMade.{plan_value}
 use Rattle.mix_top.specs.Answered.{IsAnsweredIn}
 use Rattle.mix_top.specs.Course.{IsCatalogFile, IsSourceRefused, by_view}
 use Rattle.mix_top.specs.Mounting.{AreMounted}
-use Rattle.mix_top.specs.Running.{IsPlanDocument, IsPlanOver, IsStopAfter, IsViewPlan, documents_of, question_of}
+use Rattle.mix_top.specs.Question.{IsPlanDocument}
+use Rattle.mix_top.specs.Running.{IsPlanOver, IsStopAfter, IsViewPlan, documents_of, question_of}
 use Rattle.mix_top.specs.declared.refusal.Stop.{Stop}
 use Rattle.mix_call.specs.Ends.{TalkedAlong}
 use Rattle.mix_call.specs.Talks.{in_talk}

@@ -7,9 +7,9 @@ use Rattle.mix_script.specs.declared.step.Step.{Step}
 use Rattle.mix_tree.specs.Forest.{LabelledTree}
 use Rattle.plan_core.specs.Plans.{Operator}
 use Rattle.mix_mount.specs.declared.mount.Mount.{Mount}
-use Rattle.mix_top.specs.Course.{AreAccepted, IsCatalogFile, IsScript, PlanFile, by_view}
+use Rattle.mix_top.specs.Course.{AreAccepted, IsCatalogFile, IsScript, PlanFile}
 use Rattle.mix_top.specs.Documents.{SpellsTree, StandsFor, IsDocument}
-use Rattle.mix_top.specs.FilesRead.{ReadsAmong, WalkMayRead, ViewMayRead, IsFileFor, MayReadAfter, ScriptMayRead, SourceMayRead, RunMayRead}
+use Rattle.mix_top.specs.FilesRead.{ReadsAmong, WalkMayRead, FileMayRead, IsFileFor, MayReadAfter, ScriptMayRead, SourceMayRead, RunMayRead}
 use Rattle.mix_top.proofs.MountLaws.{AreMountedTo, document_before}
 
 -- what each of two calls may read, both may
@@ -31,12 +31,12 @@ walk_reads old mid new file script t document first second =
     let May = WalkMayRead old file script in
     reads_twice May old mid new (reads_one May file old mid (inl refl) first) (reads_one May script mid new (inr (refl, t, document)) second)
 
--- where a catalog was read and then a view, only what a view's reading may read was read
-pub view_reads : (old mid new : FilesView) (view catalog : List ℕ) (sources : List SourceSpec) → IsCatalogFile old catalog sources → ReadsOnly catalog old mid → ReadsOnly view mid new
-    → ReadsAmong (ViewMayRead old view catalog) old new
-view_reads old mid new view catalog sources accepted first second =
-    let May = ViewMayRead old view catalog in
-    reads_twice May old mid new (reads_one May catalog old mid (inl refl) first) (reads_one May view mid new (inr (refl, sources, accepted)) second)
+-- where a catalog was read and then a view or a plan text, only what the reading of such a file may read was read
+pub file_reads : (old mid new : FilesView) (file catalog : List ℕ) (sources : List SourceSpec) → IsCatalogFile old catalog sources → ReadsOnly catalog old mid → ReadsOnly file mid new
+    → ReadsAmong (FileMayRead old file catalog) old new
+file_reads old mid new file catalog sources accepted first second =
+    let May = FileMayRead old file catalog in
+    reads_twice May old mid new (reads_one May catalog old mid (inl refl) first) (reads_one May file mid new (inr (refl, sources, accepted)) second)
 
 -- the sources before a number were mounted, so their files are accepted
 pub mounted_accepted : (files : FilesView) (ops : List Operator) (sources : List SourceSpec) (n : ℕ) (docs : List Mount) → AreMountedTo files ops sources n docs → AreAccepted files ops sources n
@@ -79,25 +79,25 @@ module _ (given : PlanFile) (Then : List SourceSpec → List Operator → List �
 pub source_may_before : (old mid : FilesView) (ops : List Operator) (sources : List SourceSpec) → KeepsFiles old mid → (path : List ℕ) → SourceMayRead mid ops sources path → SourceMayRead old ops sources path
 source_may_before old mid ops sources keeps path h = (h.0, h.1, h.2, h.3, accepted_before old mid ops sources h.0 keeps h.4)
 
-module _ (old : FilesView) (view catalog script : List ℕ) where
+module _ (given : PlanFile) (old : FilesView) (file catalog script : List ℕ) where
   -- after the reading of its catalog a run has read only what it may
-  pub run_reads_catalog : (new : FilesView) → ReadsOnly catalog old new → ReadsAmong (RunMayRead old view catalog script) old new
-  run_reads_catalog = reads_catalog by_view (ScriptMayRead old script) old view catalog
+  pub run_reads_catalog : (new : FilesView) → ReadsOnly catalog old new → ReadsAmong (RunMayRead given old file catalog script) old new
+  run_reads_catalog = reads_catalog given (ScriptMayRead old script) old file catalog
 
   module _ (sources : List SourceSpec) (cat : IsCatalogFile old catalog sources) where
-    -- after the reading of its view a run has read only what it may
-    pub run_reads_view : (mid new : FilesView) → ReadsAmong (RunMayRead old view catalog script) old mid → ReadsOnly view mid new → ReadsAmong (RunMayRead old view catalog script) old new
-    run_reads_view = reads_view by_view (ScriptMayRead old script) old view catalog sources cat
+    -- after the reading of the file that gives its plan a run has read only what it may
+    pub run_reads_file : (mid new : FilesView) → ReadsAmong (RunMayRead given old file catalog script) old mid → ReadsOnly file mid new → ReadsAmong (RunMayRead given old file catalog script) old new
+    run_reads_file = reads_view given (ScriptMayRead old script) old file catalog sources cat
 
-    module _ (ops : List Operator) (gives : by_view.Gives old view sources ops) where
+    module _ (ops : List Operator) (gives : given.Gives old file sources ops) where
       -- after the reading of its script a run has read only what it may
-      pub run_reads_script : (mid new : FilesView) → ReadsAmong (RunMayRead old view catalog script) old mid → ReadsOnly script mid new → ReadsAmong (RunMayRead old view catalog script) old new
+      pub run_reads_script : (mid new : FilesView) → ReadsAmong (RunMayRead given old file catalog script) old mid → ReadsOnly script mid new → ReadsAmong (RunMayRead given old file catalog script) old new
       run_reads_script mid new before only =
-          reads_then by_view (ScriptMayRead old script) old view catalog sources cat ops gives mid new before (λ path. path ≡ script) (λ path h. inl h) (λ path no. only path no)
+          reads_then given (ScriptMayRead old script) old file catalog sources cat ops gives mid new before (λ path. path ≡ script) (λ path h. inl h) (λ path no. only path no)
 
       -- after the reading of its sources' files a run has read only what it may
-      pub run_reads_sources : (mid new : FilesView) (steps : List Step) → IsScript old script steps → KeepsFiles old mid → ReadsAmong (RunMayRead old view catalog script) old mid
-          → ReadsAmong (SourceMayRead mid ops sources) mid new → ReadsAmong (RunMayRead old view catalog script) old new
+      pub run_reads_sources : (mid new : FilesView) (steps : List Step) → IsScript old script steps → KeepsFiles old mid → ReadsAmong (RunMayRead given old file catalog script) old mid
+          → ReadsAmong (SourceMayRead mid ops sources) mid new → ReadsAmong (RunMayRead given old file catalog script) old new
       run_reads_sources mid new steps scr keeps before reads =
-          reads_then by_view (ScriptMayRead old script) old view catalog sources cat ops gives mid new before (SourceMayRead mid ops sources)
+          reads_then given (ScriptMayRead old script) old file catalog sources cat ops gives mid new before (SourceMayRead mid ops sources)
           (λ path h. inr (steps, scr, source_may_before old mid ops sources keeps path h)) reads

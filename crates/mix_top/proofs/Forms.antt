@@ -1,11 +1,11 @@
 -- The courses of the commands that differ in the form of what is written alone.
-use Rattle.std.proofs.Common.{◌≡◌, ℕ, true, List, Result, OnOk, IfOk, IfErr, refl, sym, subst}
+use Rattle.std.proofs.Common.{◌≡◌, ◌⊎◌, inl, inr, ℕ, true, List, Result, OnOk, IfOk, IfErr, refl, sym, subst}
 use Rattle.mix_io.specs.Views.{FilesView, SinkView}
 use Rattle.mix_top.specs.Commands.{Command, asks_tables}
 use Rattle.mix_top.specs.Course.{IsCourse, Reads, Runs}
-use Rattle.mix_top.specs.FilesRead.{MayRead, RunMayRead, ViewMayRead}
+use Rattle.mix_top.specs.FilesRead.{FileMayRead, MayRead, RunMayRead}
 use Rattle.mix_top.specs.Outside.{Outside}
-use Rattle.mix_top.specs.Running.{run_lines}
+use Rattle.mix_top.specs.Running.{given_by, run_lines}
 use Rattle.mix_top.specs.Stops.{IsDone, IsDoneAs, IsStop, unmarked_end}
 use Rattle.mix_top.specs.Words.{rule_command, run_command}
 use Rattle.mix_top.specs.Written.{rule_lines}
@@ -14,7 +14,7 @@ use Rattle.mix_top.specs.declared.reading.RuleForm.TheVariants.{Canonical, Plan}
 use Rattle.mix_top.specs.declared.refusal.Outcome.{Outcome}
 use Rattle.mix_top.specs.declared.refusal.Stop.{Stop}
 use Rattle.mix_top.specs.declared.running.RunForm.{RunForm}
-use Rattle.mix_top.specs.declared.running.RunForm.TheVariants.{Answers, Counts}
+use Rattle.mix_top.specs.declared.running.RunForm.TheVariants.{Answers, Counts, Executed}
 use Rattle.mix_top.proofs.RunCourse.{unmarked_done, unmarked_stopped}
 
 -- what is so of the course of a view's reading is so of its command's
@@ -23,27 +23,35 @@ pub rule_course : (P : (ℕ → List ℕ → Type 0) → Type 0) (before after :
 rule_course P before after s0 s1 Canonical view catalog h = h
 rule_course P before after s0 s1 Plan view catalog h = h
 
+-- what is so of two forms is so of a form that is one of them
+pub of_either : (P : RunForm → Type 0) (form one other : RunForm) → (form ≡ one) ⊎ (form ≡ other) → P one → P other → P form
+of_either P form one other (inl e) a b = subst P (sym e) a
+of_either P form one other (inr e) a b = subst P (sym e) b
+
 -- what is so of the course of a run is so of its command's, in each form
-pub run_course : (P : (ℕ → List ℕ → Type 0) → Type 0) (before after : Outside) (s0 s1 : SinkView) (form : RunForm) (view catalog script : List ℕ)
-    → P (Runs (run_lines form) before after view catalog script s0 s1) → P (IsCourse before after (run_command form view catalog script) s0 s1)
-run_course P before after s0 s1 Answers view catalog script h = h
-run_course P before after s0 s1 Counts view catalog script h = h
+pub run_course : (P : (ℕ → List ℕ → Type 0) → Type 0) (before after : Outside) (s0 s1 : SinkView) (form : RunForm) (file catalog script : List ℕ)
+    → P (Runs (given_by form) (run_lines form) before after file catalog script s0 s1) → P (IsCourse before after (run_command form file catalog script) s0 s1)
+run_course P before after s0 s1 Answers file catalog script h = h
+run_course P before after s0 s1 Counts file catalog script h = h
+run_course P before after s0 s1 Executed file catalog script h = h
 
 -- what is so of what a view's reading may read is so of its command's, in each form
-pub rule_may_read : (P : (List ℕ → Type 0) → Type 0) (files : FilesView) (form : RuleForm) (view catalog : List ℕ) → P (ViewMayRead files view catalog) → P (MayRead files (rule_command form view catalog))
+pub rule_may_read : (P : (List ℕ → Type 0) → Type 0) (files : FilesView) (form : RuleForm) (view catalog : List ℕ) → P (FileMayRead files view catalog) → P (MayRead files (rule_command form view catalog))
 rule_may_read P files Canonical view catalog h = h
 rule_may_read P files Plan view catalog h = h
 
 -- what is so of what a run may read is so of its command's, in each form
-pub run_may_read : (P : (List ℕ → Type 0) → Type 0) (files : FilesView) (form : RunForm) (view catalog script : List ℕ) → P (RunMayRead files view catalog script)
-    → P (MayRead files (run_command form view catalog script))
-run_may_read P files Answers view catalog script h = h
-run_may_read P files Counts view catalog script h = h
+pub run_may_read : (P : (List ℕ → Type 0) → Type 0) (files : FilesView) (form : RunForm) (file catalog script : List ℕ) → P (RunMayRead (given_by form) files file catalog script)
+    → P (MayRead files (run_command form file catalog script))
+run_may_read P files Answers file catalog script h = h
+run_may_read P files Counts file catalog script h = h
+run_may_read P files Executed file catalog script h = h
 
 -- a run asks tables in each form
-pub run_asks : (form : RunForm) (view catalog script : List ℕ) → asks_tables (run_command form view catalog script) ≡ true
-run_asks Answers view catalog script = refl
-run_asks Counts view catalog script = refl
+pub run_asks : (form : RunForm) (file catalog script : List ℕ) → asks_tables (run_command form file catalog script) ≡ true
+run_asks Answers file catalog script = refl
+run_asks Counts file catalog script = refl
+run_asks Executed file catalog script = refl
 
 module _ (before after : Outside) (s0 s1 : SinkView) (command words : Command) (is : command ≡ words) (r : Result (Unit {0}) Stop) (end : Result Outcome Stop) (e : end ≡ unmarked_end r) where
   -- a command without fault lines, which the words are, was done

@@ -23,8 +23,8 @@ use Rattle.mix_top.specs.Answered.{IsAnswered, all_told, in_order}
 use Rattle.mix_top.specs.Ends.{TookPrefix}
 use Rattle.mix_top.specs.Mounting.{AreMounted}
 use Rattle.mix_top.specs.declared.asked.Asked.{Asked}
-use Rattle.mix_top.specs.Question.{Question}
-use Rattle.mix_top.specs.Running.{IsLinesEnd, IsPlanDocument, IsPlanOver, LinesOver, by_fills, documents_of, question}
+use Rattle.mix_top.specs.Question.{Question, IsPlanDocument}
+use Rattle.mix_top.specs.Running.{IsLinesEnd, IsPlanOver, LinesOver, by_fills, documents_of, question}
 use Rattle.mix_top.proofs.Answering.{Frugal, IsAnswering, IsManner, answering, prefix_of}
 use Rattle.mix_top.proofs.ReadTables.{plan_within}
 use Rattle.mix_top.specs.Stops.{IsDoneAlong, end_of, outcome_of, outcome_status}

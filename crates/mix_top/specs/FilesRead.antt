@@ -7,8 +7,8 @@ use Rattle.mix_catalog.specs.declared.source.SourceSpec.{SourceSpec}
 use Rattle.mix_catalog.specs.Grammar.{file_of}
 use Rattle.table_wrap.specs.Document.{is_table_of}
 use Rattle.plan_core.specs.Plans.{Operator}
-use Rattle.mix_top.specs.Commands.{Command, help, version, walk, read, plan, run, count, load, unknown}
-use Rattle.mix_top.specs.Course.{AreAccepted, IsCatalogFile, IsScript, PlanFile, by_view}
+use Rattle.mix_top.specs.Commands.{Command, help, version, walk, read, plan, check, run, count, exec, load, unknown}
+use Rattle.mix_top.specs.Course.{AreAccepted, IsCatalogFile, IsScript, PlanFile, by_text, by_view}
 use Rattle.view_class.specs.Reads.{reads_source}
 use Rattle.mix_top.specs.Documents.{SpellsTree, IsDocument}
 
@@ -20,9 +20,9 @@ ReadsAmong May old new = (path : List ℕ) → ¬ May path → new.furthest path
 abbrev pub WalkMayRead : FilesView → List ℕ → List ℕ → List ℕ → Type 0
 WalkMayRead files file script path = (path ≡ file) ⊎ ((path ≡ script) × (t : LabelledTree) × IsDocument SpellsTree files file t)
 
--- the files that reading a view may read: the catalog, and after an accepted one the view
-abbrev pub ViewMayRead : FilesView → List ℕ → List ℕ → List ℕ → Type 0
-ViewMayRead files view catalog path = (path ≡ catalog) ⊎ ((path ≡ view) × (sources : List SourceSpec) × IsCatalogFile files catalog sources)
+-- the files that reading a view or a plan text may read: the catalog, and after an accepted one that file
+abbrev pub FileMayRead : FilesView → List ℕ → List ℕ → List ℕ → Type 0
+FileMayRead files file catalog path = (path ≡ catalog) ⊎ ((path ≡ file) × (sources : List SourceSpec) × IsCatalogFile files catalog sources)
 
 -- a path is that of a source's file, which is read whole: that of a table is not
 abbrev pub IsWholeFile : SourceSpec → List ℕ → Type 0
@@ -47,18 +47,20 @@ MayReadAfter given Then files view catalog path =
 abbrev pub ScriptMayRead : FilesView → List ℕ → List SourceSpec → List Operator → List ℕ → Type 0
 ScriptMayRead files script sources ops path = (path ≡ script) ⊎ ((steps : List Step) × IsScript files script steps × SourceMayRead files ops sources path)
 
--- the files that a run may read: the catalog, the view, the script, and then the files of the sources that the view's plan reads
-abbrev pub RunMayRead : FilesView → List ℕ → List ℕ → List ℕ → List ℕ → Type 0
-RunMayRead files view catalog script = MayReadAfter by_view (ScriptMayRead files script) files view catalog
+-- the files that a run may read: the catalog, the file that gives its plan, the script, and then the files of the sources that the plan reads
+abbrev pub RunMayRead : PlanFile → FilesView → List ℕ → List ℕ → List ℕ → List ℕ → Type 0
+RunMayRead given files file catalog script = MayReadAfter given (ScriptMayRead files script) files file catalog
 
 -- the files that a command may read
 abbrev pub MayRead : FilesView → Command → List ℕ → Type 0
 MayRead files help path = ⊥
 MayRead files version path = ⊥
 MayRead files (walk file script) path = WalkMayRead files file script path
-MayRead files (read view catalog) path = ViewMayRead files view catalog path
-MayRead files (plan view catalog) path = ViewMayRead files view catalog path
-MayRead files (run view catalog script) path = RunMayRead files view catalog script path
-MayRead files (count view catalog script) path = RunMayRead files view catalog script path
+MayRead files (read view catalog) path = FileMayRead files view catalog path
+MayRead files (plan view catalog) path = FileMayRead files view catalog path
+MayRead files (check text catalog) path = FileMayRead files text catalog path
+MayRead files (run view catalog script) path = RunMayRead by_view files view catalog script path
+MayRead files (count view catalog script) path = RunMayRead by_view files view catalog script path
+MayRead files (exec text catalog script) path = RunMayRead by_text files text catalog script path
 MayRead files (load people) path = ⊥
 MayRead files unknown path = ⊥

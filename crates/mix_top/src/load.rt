@@ -5,12 +5,14 @@ ghost use Rattle.mix_io.specs.Views.{FilesView, KeepsFiles, ReadsOnly};
 ghost use Rattle.xmas_rule.specs.RuleMade.{rule_of};
 ghost use Rattle.xmas_rule.specs.Rules.{IsAccepted};
 ghost use Rattle.xmas_read.specs.Results.{names_of_sources};
-ghost use Rattle.mix_top.specs.Causes.{IsRead, IsNoBytes, IsNoCatalog, IsNoRule, IsNoScript, IsNoTable, IsNoTree};
-ghost use Rattle.mix_top.specs.Course.{IsCatalogFile, IsRuleFile, IsScript};
+ghost use Rattle.mix_top.specs.Causes.{IsRead, IsNoBytes, IsNoCatalog, IsNoPlan, IsNoRule, IsNoScript, IsNoTable, IsNoTree};
+ghost use Rattle.plan_core.specs.PlanMade.{plan_value};
+ghost use Rattle.mix_top.specs.Course.{IsCatalogFile, IsPlanFile, IsRuleFile, IsScript};
 ghost use Rattle.mix_top.specs.Documents.{HoldsRows, SpellsTree};
 ghost use Rattle.mix_top.specs.Stops.{IsLoadStop};
 ghost use Rattle.mix_top.specs.Mounted.{IsMounted};
 ghost use Rattle.mix_top.specs.Mounting.{IsMountedFile};
+ghost use Rattle.mix_top.specs.Running.{IsPlanOver};
 
 use crate::refusal::{FileFault, Stop, refused};
 use bracket_text::read_document;
@@ -21,6 +23,8 @@ use mix_io::{Files, ReadWhole, read_whole};
 use mix_mount::{Mount, Mounted};
 use mix_script::{Step, read_script};
 use mix_tree::Label;
+use plan_core::Plan;
+use plan_read::read_plan;
 use std::alloc::Global;
 use table_keep::NoTables;
 use xmas_read::read_rule;
@@ -151,5 +155,26 @@ pub fn load_rule<F: Files>(
     match read_rule(alloc, &bytes, catalog) {
         Ok(rule) => Ok(rule),
         Err(fault) => Err(refused(alloc, path, FileFault::View(fault))),
+    }
+}
+
+/// The plan that a file spells over the sources of a catalog, as it stands. An error is as with a tree.
+pub fn load_plan<F: Files>(
+    alloc: Global,
+    files: &mut F,
+    path: &str,
+    catalog: &Catalog,
+) -> Result<Plan, Stop>
+    ensures keeps { KeepsFiles (F.view files.old) (F.view files.new) }
+    ensures others { ReadsOnly path.now (F.view files.old) (F.view files.new) }
+    ensures steady { OnOk result ((p : List ℕ) → (F.view files.new).faults p ≡ (F.view files.old).faults p) }
+    ensures ok { IfOk result (λ plan. IsPlanFile (F.view files.old) path.now catalog.now (plan_value plan)) }
+    ensures over { IfOk result (λ plan. IsPlanOver catalog.now (plan_value plan)) }
+    ensures err { IfErr result (IsLoadStop (IsNoPlan catalog.now) (F.view files.old) (F.view files.new) path.now) }
+{
+    let bytes = load(alloc, files, path)?;
+    match read_plan(alloc, &bytes, catalog) {
+        Ok(plan) => Ok(plan),
+        Err(fault) => Err(refused(alloc, path, FileFault::Plan(fault))),
     }
 }

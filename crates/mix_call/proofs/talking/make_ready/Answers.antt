@@ -9,7 +9,7 @@ use Rattle.mix_top.specs.Course.{IsSourceRefused, by_view}
 use Rattle.mix_top.specs.FilesRead.{SourceMayRead}
 use Rattle.mix_top.proofs.MountLaws.{is_steady, steady_twice}
 use Rattle.mix_top.proofs.FilesRead.{reads_catalog, reads_view}
-use Rattle.mix_top.proofs.Readiness.{gives_before, plan_before, mounts_before, view_unready}
+use Rattle.mix_top.proofs.Readiness.{gives_before, plan_before, mounts_before, file_unready}
 use Rattle.mix_call.proofs.Readying.{sources_read, sources_unready}
 use Rattle.mix_call.proofs.talking.make_ready.Goals as goal
 
@@ -23,7 +23,7 @@ returns-in_err-plan-clause-err g c =
     let old = view c.args.files.now in
     let mid = view c.load_catalog.new.files in
     let p = err_from_is_err_and c.from_residual-in_err-plan.result c.from_residual-in_err-plan.ensures.1 in
-    rw (p.1, p.2) (view_unready by_view (λ sources ops. IsSourceRefused old (view c.load_view.new.files) ops sources) old mid (view c.load_view.new.files) c.args.talking.now.view.now c.args.talking.now.catalog.now c.in_ok-catalog.catalog _
+    rw (p.1, p.2) (file_unready by_view (λ sources ops. IsSourceRefused old (view c.load_view.new.files) ops sources) old mid (view c.load_view.new.files) c.args.talking.now.view.now c.args.talking.now.catalog.now c.in_ok-catalog.catalog _
     (is_steady old mid c.in_ok-catalog.ensures.keeps c.in_ok-catalog.ensures.steady) c.in_ok-catalog.ensures.ok c.in_err-plan.ensures.err)
 
 pub returns-in_err-docs-clause-keeps : goal.returns-in_err-docs-clause-keeps

@@ -2,9 +2,11 @@ use Rattle.std.proofs.Common.{sym, subst, Result, IfOk, IfErr}
 use Rattle.mix_top.specs.declared.refusal.Outcome.{Outcome}
 use Rattle.mix_top.specs.declared.refusal.Stop.{Stop}
 use Rattle.mix_top.specs.declared.running.RunForm.{RunForm}
+use Rattle.mix_top.specs.declared.running.RunForm.TheVariants.{Answers, Executed}
 use Rattle.mix_top.specs.Course.{lines_of_run}
 use Rattle.mix_top.specs.Running.{LinesOver, run_lines}
 use Rattle.mix_top.specs.Stops.{IsDoneAs, IsStop}
+use Rattle.mix_top.proofs.Forms.{of_either}
 use Rattle.mix_top.proofs.RunCourse.{ended_done, ended_stopped}
 use Rattle.mix_top.proofs.running.run_ready.Goals as goal
 
@@ -16,9 +18,10 @@ returns-in-Answers-clause-done g c =
     let asked = c.args.ready.asked in
     let before = g.K.Sink.view c.args.out.now in
     let after = g.K.Sink.view c.answer-answered.new.out in
-    subst (λ (form : RunForm). IfOk c.ended.result (IsDoneAs (LinesOver (run_lines form) old new docs asked before after) before after)) (sym c.in-Answers.is)
-    (subst (λ (r : Result Outcome Stop). IfOk r (IsDoneAs (LinesOver lines_of_run old new docs asked before after) before after)) (sym c.ended.ensures)
-    (ended_done old new docs asked before after c.answer-answered.result.spent.fills c.answer-answered.result.end c.answer-answered.ensures.end))
+    let done =
+    subst (λ (r : Result Outcome Stop). IfOk r (IsDoneAs (LinesOver lines_of_run old new docs asked before after) before after)) (sym c.ended.ensures)
+    (ended_done old new docs asked before after c.answer-answered.result.spent.fills c.answer-answered.result.end c.answer-answered.ensures.end) in
+    of_either (λ form. IfOk c.ended.result (IsDoneAs (LinesOver (run_lines form) old new docs asked before after) before after)) c.args.form Answers Executed c.in-Answers.is done done
 
 pub returns-in-Counts-clause-done : goal.returns-in-Counts-clause-done
 returns-in-Counts-clause-done g c =
@@ -37,9 +40,10 @@ returns-in-Answers-clause-stop g c =
     let asked = c.args.ready.asked in
     let before = g.K.Sink.view c.args.out.now in
     let after = g.K.Sink.view c.answer-answered.new.out in
-    subst (λ (form : RunForm). IfErr c.ended.result (IsStop (LinesOver (run_lines form) old new docs asked before after) before after)) (sym c.in-Answers.is)
-    (subst (λ (r : Result Outcome Stop). IfErr r (IsStop (LinesOver lines_of_run old new docs asked before after) before after)) (sym c.ended.ensures)
-    (ended_stopped old new docs asked before after c.answer-answered.result.spent.fills c.answer-answered.result.end c.answer-answered.ensures.end))
+    let stopped =
+    subst (λ (r : Result Outcome Stop). IfErr r (IsStop (LinesOver lines_of_run old new docs asked before after) before after)) (sym c.ended.ensures)
+    (ended_stopped old new docs asked before after c.answer-answered.result.spent.fills c.answer-answered.result.end c.answer-answered.ensures.end) in
+    of_either (λ form. IfErr c.ended.result (IsStop (LinesOver (run_lines form) old new docs asked before after) before after)) c.args.form Answers Executed c.in-Answers.is stopped stopped
 
 pub returns-in-Counts-clause-stop : goal.returns-in-Counts-clause-stop
 returns-in-Counts-clause-stop g c =
