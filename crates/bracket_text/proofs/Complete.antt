@@ -56,14 +56,14 @@ name_blanks (b ∷ a) o m l n h =
     let more = name_blanks a o (named l) l refl parts.1 in
     (more.0, run_byte step b a (at o m) (at o (named l)) (named_by o m l b n (blank_not_bare b parts.0) ∙ blank_label o l b parts.0) ∙ more.1, more.2)
 
--- a label, blanks, the opening bracket and blanks
+-- after a label, blanks, the opening bracket and blanks, the machine has that tree open
 opened : (l a b : List ℕ) (o : List Frame) (m : Mode) → IsNamed m l → IsBlanks a → IsBlanks b → run (at o m) (a ++ 91 ∷ b) ≡ Some (at (record { label = l; kids = [] } ∷ o) first)
 opened l a b o m n ha hb =
     let blanks = name_blanks a o m l n ha in
     run_then step a (91 ∷ b) (at o m) (at o blanks.0) blanks.1
     ∙ run_byte step 91 b (at o blanks.0) (at (record { label = l; kids = [] } ∷ o) first) (named_by o blanks.0 l 91 blanks.2 refl) ∙ first_blanks b _ hb
 
--- blanks and the closing bracket after the trees below
+-- after the trees below an open one, blanks and the closing bracket close the tree with them below it
 closes : (l c : List ℕ) (k : Forest) (o : List Frame) (s : State) → IsBlanks c → After (record { label = l; kids = [] }) o (trees_of k) s → run s (c ++ 93 ∷ []) ≡ Some (at o (closed (record { label = l; kids = k })))
 closes l c k o s hc h =
     let f : Frame = with_kids (record { label = l; kids = [] }) h.before in
@@ -73,7 +73,7 @@ closes l c k o s hc h =
     ∙ ap (λ ts. Some (at o (closed (record { label = l; kids = forest_of ts })))) (sym h.all)
     ∙ ap (λ g. Some (at o (closed (record { label = l; kids = g })))) (forest_of-trees_of k)
 
--- brackets round such a text, or nothing
+-- brackets round the text of children, or nothing, lead from their label to the tree with them below it
 brackets_read : (l : List ℕ) (k : Forest) (x : List ℕ) (o : List Frame) (m : Mode) → IsNamed m l → ((y : List ℕ) → SpellsTrees k y → ReadsTrees k y) → SpellsBrackets k (SpellsTrees k) x
     → TreeAfter o (record { label = l; kids = k }) (run (at o m) x)
 brackets_read l none x o m n reads (inl e) = (m, ap (run (at o m)) e, named_hand m l n)

@@ -57,7 +57,7 @@ tree_shuts nodes opened f o t l = let c = comma_lies nodes opened f o t l in rec
 pub empty_shuts : (nodes : List LaidNode) (opened : List ℕ) (f : Frame) (o : List Frame) → Lies nodes opened [] (f ∷ o) → Shuts nodes opened f.label (forest_of f.kids) o
 empty_shuts nodes opened f o l = record { nodes_are = l.nodes_are; places_are = l.places_are }
 
--- a label after which a bracket opens
+-- a label after which a bracket opens is the innermost open tree, with no children yet
 pub open_lies : (nodes : List LaidNode) (opened more : List ℕ) (place : ℕ) (o : List Frame) (l : List ℕ) → Lies nodes opened (laid (alone (leaf l))) o → more ≡ opened ++ place ∷ []
     → place + 1 ≡ length nodes → Lies nodes more [] (record { label = l; kids = [] } ∷ o)
 open_lies nodes opened more place o l h e p =
@@ -80,7 +80,7 @@ not_none xs n b e f l h = by_count n (omega (arith, l, ap length h)) (sym e ∙ 
     by_count : (k : ℕ) → k ≡ 0 → (k == 0) ≡ false → ⊥
     by_count k p q = grind (arith, nat_tests)
 
--- a byte after a tree: a blank
+-- a blank after a tree leaves the reader as it was, and the machine too
 pub tree_blank : (r : Reader) (at : ℕ) (o : List Frame) (t : LabelledTree) (b : ℕ) → Lies r.store r.«open».items (laid (alone t)) o → r.mode ≡ Closed → IsTrue (is_blank b) → Gives (Ok tt) at r (after_tree o t b)
 tree_blank r at o t b l m h = (machine.at o (machine.closed t), rw h refl, record { lies = l; same = m })
 
@@ -112,7 +112,7 @@ pub tree_stops : (o : List Frame) (t : LabelledTree) (b : ℕ) → is_blank b �
 tree_stops [] t b n c d = rw n refl
 tree_stops (f ∷ o) t b n c d = rw (n, c, d) refl
 
--- a closing bracket right after an opening one
+-- a closing bracket right after an opening one leaves the reader with that leaf at hand, as the machine is
 pub empty_close : (r : Reader) (at : ℕ) (nodes : List LaidNode) (opened : List ℕ) (o : List Frame) (b : ℕ) → Lies nodes opened [] o → b ≡ 93 → (opened ≡ [] → ⊥)
     → ClosesTree r nodes opened → Gives (Ok tt) at r (cond (b == 93) (close_empty o) None)
 empty_close r at nodes opened [] b l e some k = absurd (some l.places_are)
@@ -128,7 +128,7 @@ empty_alone opened [] b l e = same (b == 93)
     same false = refl
 empty_alone opened (f ∷ o) b l e = none_open o f opened l e
 
--- a byte after a label: a blank
+-- a blank after a label leaves the reader as it was, and the machine too
 pub label_blank : (r : Reader) (at : ℕ) (o : List Frame) (l : List ℕ) (b : ℕ) → Lies r.store r.«open».items (laid (alone (leaf l))) o → r.mode ≡ Named → IsTrue (is_blank b) → Gives (Ok tt) at r (after_label o l b)
 label_blank r at o l b h m k = (machine.at o (machine.named l), rw k refl, record { lies = h; same = m })
 
@@ -179,6 +179,7 @@ is_start r o (machine.spelling s) h e = absurd h.same
 is_start r o (machine.named l) h e = let k = h.same in cc
 is_start r o (machine.closed t) h e = let k = h.same in cc
 
+-- where the reader is right after an opening bracket, so is the machine
 pub is_first : (r : Reader) (o : List Frame) (m : machine.Mode) → Holds r o m → r.mode ≡ First → m ≡ machine.first
 is_first r o machine.start h e = let k = h.same in cc
 is_first r o machine.first h e = refl
@@ -186,6 +187,7 @@ is_first r o (machine.spelling s) h e = absurd h.same
 is_first r o (machine.named l) h e = let k = h.same in cc
 is_first r o (machine.closed t) h e = let k = h.same in cc
 
+-- where the reader has a label that has ended, so has the machine
 pub is_named : (r : Reader) (o : List Frame) (m : machine.Mode) → Holds r o m → r.mode ≡ Named → (l : List ℕ) × (m ≡ machine.named l)
 is_named r o machine.start h e = let k = h.same in cc
 is_named r o machine.first h e = let k = h.same in cc
@@ -193,6 +195,7 @@ is_named r o (machine.spelling s) h e = absurd h.same
 is_named r o (machine.named l) h e = (l, refl)
 is_named r o (machine.closed t) h e = let k = h.same in cc
 
+-- where the reader has a tree that has ended, so has the machine
 pub is_closed : (r : Reader) (o : List Frame) (m : machine.Mode) → Holds r o m → r.mode ≡ Closed → (t : LabelledTree) × (m ≡ machine.closed t)
 is_closed r o machine.start h e = let k = h.same in cc
 is_closed r o machine.first h e = let k = h.same in cc
@@ -200,7 +203,7 @@ is_closed r o (machine.spelling s) h e = absurd h.same
 is_closed r o (machine.named l) h e = let k = h.same in cc
 is_closed r o (machine.closed t) h e = (t, refl)
 
--- a blank where a tree must come
+-- a blank where a tree must come leaves the reader as it was, and the machine too
 pub start_blank : (r : Reader) (at : ℕ) (o : List Frame) (m : machine.Mode) (b : ℕ) → Holds r o m → r.mode ≡ Start → IsTrue (is_blank b) → Gives (Ok tt) at r (step_in o m b)
 start_blank r at o m b h e k =
     let is = is_start r o m h e in
@@ -221,10 +224,11 @@ no_begin o b n = by_tests (is_bare b) (b == 34) n
     by_tests false true e = cc
     by_tests false false e = refl
 
+-- where a tree must come, no byte goes on but a blank and one that begins a label
 pub start_stops : (r : Reader) (o : List Frame) (m : machine.Mode) (b : ℕ) → Holds r o m → r.mode ≡ Start → is_blank b ≡ false → machine.begins b ≡ false → step_in o m b ≡ None
 start_stops r o m b h e k n = ap (λ q. step_in o q b) (is_start r o m h e) ∙ rw k (no_begin o b n)
 
--- a byte right after an opening bracket
+-- a byte right after an opening bracket that begins no label leaves the reader as the machine is, or stops both
 pub first_gives : (r w : Reader) (res : Result Unit BracketFault) (at : ℕ) (o : List Frame) (m : machine.Mode) (b : ℕ) → Holds r o m → r.mode ≡ First → is_blank b ≡ false → machine.begins b ≡ false
     → ((p : List Frame) → Lies r.store r.«open».items [] p → Gives res at w (cond (b == 93) (close_empty p) None)) → Gives res at w (step_in o m b)
 first_gives r w res at o m b h e k n g =
@@ -281,7 +285,7 @@ label_lies r o m nodes l h k e = record {
   places_are = h.lies.places_are;
 }
 
--- how many brackets are open
+-- the reader has as many open brackets as the machine
 pub few_open : (r : Reader) (o : List Frame) (m : machine.Mode) → Holds r o m → length o ≡ length r.«open».items
 few_open r o m h = sym (open_count o) ∙ ap length (sym h.lies.places_are)
 

@@ -29,7 +29,7 @@ levels_in o m = max (open_levels o) (mode_levels o m)
 abbrev pub reached : State → ℕ
 reached s = levels_in s.open' s.mode
 
--- the levels of a list with one tree more
+-- a list with one tree more has the more levels of the two
 levels_push : (ts : List LabelledTree) (t : LabelledTree) → levels_of (forest_of (ts ++ t ∷ [])) ≡ max (levels_of (forest_of ts)) (levels t)
 levels_push [] t = omega arith
 levels_push (u ∷ us) t = omega (arith, levels_push us t)
@@ -42,7 +42,7 @@ Has n s = reached s ≡ n
 comma_levels : (f : Frame) (o : List Frame) (t : LabelledTree) → reached (at (record { label = f.label; kids = f.kids ++ t ∷ [] } ∷ o) start) ≡ levels_in (f ∷ o) (closed t)
 comma_levels f o t = omega (arith, levels_push f.kids t)
 
--- a closing bracket adds none
+-- a closing bracket after a tree adds no levels
 pub close_levels : (f : Frame) (o : List Frame) (t : LabelledTree) → reached (at o (closed (record { label = f.label; kids = forest_of (f.kids ++ t ∷ []) }))) ≡ levels_in (f ∷ o) (closed t)
 close_levels f o t = omega (arith, levels_push f.kids t)
 
@@ -55,7 +55,7 @@ tree_in_levels (f ∷ o) t b = either _ (b == 44) _ _ (λ e. comma_levels f o t)
 tree_levels : (o : List Frame) (t : LabelledTree) (b : ℕ) → Gives (Has (levels_in o (closed t))) (after_tree o t b)
 tree_levels o t b = either _ (is_blank b) _ _ (λ h. refl) (λ n. tree_in_levels o t b)
 
--- an opening bracket adds none
+-- an opening bracket after a label adds no levels
 open_one : (o : List Frame) (l : List ℕ) → reached (at (record { label = l; kids = [] } ∷ o) first) ≡ levels_in o (named l)
 open_one o l = omega arith
 
@@ -87,7 +87,7 @@ pub record Stepped (o : List Frame) (m : Mode) (b : ℕ) (t : State) : Type 0 wh
   pub shallow : is_deep_in o m b ≡ false → levels_in o m ≤ 200 → reached t ≤ 200
   pub deep : is_deep_in o m b ≡ true → 200 < reached t
 
--- a byte that begins no label adds none
+-- a byte after which there are as many levels as before adds none
 same_levels : (o : List Frame) (m : Mode) (b : ℕ) (r : Option State) → is_deep_in o m b ≡ false → Gives (Has (levels_in o m)) r → Gives (Stepped o m b) r
 same_levels o m b None n h = tt
 same_levels o m b (Some t) n h = record { more = omega (arith, h); shallow = λ k d. omega (arith, h); deep = λ k. absurd_test (is_deep_in o m b) n k }
@@ -96,7 +96,7 @@ same_levels o m b (Some t) n h = record { more = omega (arith, h); shallow = λ 
     absurd_test true p q = cc
     absurd_test false p q = cc
 
--- a test that fails on its first side
+-- where the first of two tests fails, both together fail
 not_deep : (c d : Bool) → c ≡ false → (c && d) ≡ false
 not_deep true d h = cc
 not_deep false d h = refl
@@ -157,7 +157,7 @@ stepped s t b e = by_step (step s b) e (step_levels s.open' s.mode b)
     by_step None f h = none_some t f
     by_step (Some u) f h = subst (Stepped s.open' s.mode b) (some_is u t f) h
 
--- the levels over a first byte and the rest
+-- where a text after a first byte takes no level away, and the byte doesn't, neither do both
 run_more : (x : List ℕ) (s t : State) (b : ℕ) (r : Option State) → step s b ≡ r → option_and_then (λ u. run u x) r ≡ Some t → ((u : State) → run u x ≡ Some t → reached u ≤ reached t) → reached s ≤ reached t
 run_more x s t b None f e k = none_some t e
 run_more x s t b (Some u) f e k = omega (arith, (stepped s u b f).more, k u e)

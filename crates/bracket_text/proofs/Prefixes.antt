@@ -24,7 +24,7 @@ pub record GoesOn (s : State) : Type 0 where
   pub read : option_and_then whole (run s bytes) ≡ Some tree
   pub shallow : reached s ≤ 200 → levels tree ≤ 200
 
--- some bytes, and then as the state after them goes on
+-- a state goes on where the state after some bytes does, and those bytes do not come to more than 200 levels
 text_on : (x : List ℕ) (s t : State) → IsUtf8 x → run s x ≡ Some t → (reached s ≤ 200 → reached t ≤ 200) → GoesOn t → GoesOn s
 text_on x s t u e k h = record {
   bytes = x ++ h.bytes;

@@ -33,7 +33,7 @@ spelling_begins b s e = by_cases (is_bare b) (b == 34) _ _ e
     by_cases false true p q f = refl
     by_cases false false p q f = none_some s f
 
--- blanks where a tree must come, or may
+-- blanks where a tree must come change nothing
 pub start_blanks : (a : List ℕ) (o : List Frame) → IsBlanks a → run (at o start) a ≡ Some (at o start)
 start_blanks [] o h = refl
 start_blanks (b ∷ a) o h =
@@ -63,7 +63,7 @@ label_stops (spelled.in_quotes k) l b e h = none_some l e
 label_stops (spelled.in_escape k) l b e h = none_some l e
 label_stops (spelled.after_quote k) l b e h = refl
 
--- a byte after a label at hand
+-- a byte that goes on no label, after a label at hand, is taken as one after a label
 pub named_by : (o : List Frame) (m : Mode) (l : List ℕ) (b : ℕ) → IsNamed m l → is_bare b ≡ false → step_in o m b ≡ after_label o l b
 named_by o start l b h n = absurd h
 named_by o first l b h n = absurd h
@@ -106,7 +106,7 @@ tree_blanks (b ∷ a) o m t e h =
     let more = tree_blanks a o one.0 t one.2 parts.1 in
     (more.0, run_byte step b a (at o m) (at o one.0) one.1 ∙ more.1, more.2)
 
--- a comma and a closing bracket after a tree
+-- a comma after a tree puts it among the children of the innermost open one, and a tree must come
 pub tree_comma : (f : Frame) (o : List Frame) (m : Mode) (t : LabelledTree) → tree_in m ≡ Some t → step_in (f ∷ o) m 44 ≡ Some (at (record { label = f.label; kids = f.kids ++ t ∷ [] } ∷ o) start)
 tree_comma f o m t e = hand_cases m t e
     (λ l is same. named_by (f ∷ o) m l 44 is refl ∙ ap (λ u. after_tree_in (f ∷ o) u 44) same)
@@ -119,7 +119,7 @@ tree_close f o m t e = hand_cases m t e
     (λ l is same. named_by (f ∷ o) m l 93 is refl ∙ ap (λ u. after_tree_in (f ∷ o) u 93) same)
     (λ same. ap (λ k. step_in (f ∷ o) k 93) same)
 
--- a label's bytes after its first
+-- where the bytes after a label's first lead the machine as its spelling, so do all
 label_more : (o : List Frame) (s t : spelled.Spot) (b : ℕ) (x : List ℕ) (r : Option spelled.Spot) → spelled.step s b ≡ r → option_and_then (λ u. spelled.run u x) r ≡ Some t
     → ((u : spelled.Spot) → spelled.run u x ≡ Some t → run (at o (spelling u)) x ≡ Some (at o (spelling t))) → run (at o (spelling s)) (b ∷ x) ≡ Some (at o (spelling t))
 label_more o s t b x None f e k = none_some t e
@@ -138,7 +138,7 @@ MayBegin (spelling s) = ⊥
 MayBegin (named l) = ⊥
 MayBegin (closed t) = ⊥
 
--- the first byte of a label
+-- a byte with which a label begins begins one in each mode where a tree may begin
 pub begin_step : (o : List Frame) (m : Mode) (b : ℕ) → MayBegin m → IsTrue (begins b) → step_in o m b ≡ begin o b
 begin_step o start b m h = rw (begins_not_blank b h) refl
 begin_step o first b m h = rw (begins_not_blank b h, begins_not_close b h) refl
@@ -150,7 +150,7 @@ begin_step o (closed t) b m h = absurd m
 abbrev pub NamedAfter : List Frame → List ℕ → Option State → Type 0
 NamedAfter o l r = (m : Mode) × (r ≡ Some (at o m)) × IsNamed m l
 
--- a label from its first byte on
+-- a label's bytes lead the machine from its first byte on as they lead its spelling
 first_byte : (o : List Frame) (m : Mode) (l x : List ℕ) (b : ℕ) (s : spelled.Spot) (r : Option spelled.Spot) → MayBegin m → spelled.step spelled.start b ≡ r → option_and_then (λ u. spelled.run u x) r ≡ Some s
     → spelled.label_in s ≡ Some l → NamedAfter o l (run (at o m) (b ∷ x))
 first_byte o m l x b s None h f e k = none_some s e

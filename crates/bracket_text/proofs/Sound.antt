@@ -101,18 +101,18 @@ joined u (v ∷ vs) t y c d x (l, k, w, hl, hk, (a, b, z, ha, hb, hz, ew), e) hc
     let out : (l ++ k ++ (a ++ 44 ∷ b ++ z)) ++ (c ++ 44 ∷ d) ++ x ≡ l ++ k ++ (a ++ 44 ∷ b ++ (z ++ (c ++ 44 ∷ d) ++ x)) = simp append_assoc in
     (l, k, a ++ 44 ∷ b ++ (z ++ (c ++ 44 ∷ d) ++ x), hl, hk, (a, b, z ++ (c ++ 44 ∷ d) ++ x, ha, hb, rest, refl), ap (λ r. r ++ (c ++ 44 ∷ d) ++ x) (e ∙ ap (λ r. l ++ k ++ r) ew) ∙ out)
 
--- a tree after those below the open one
+-- a tree after those below the open one is spelled with them
 kids_then : (ts : List LabelledTree) (t : LabelledTree) (m x : List ℕ) → KidsText ts m → SpellsOne t x → SpellsTrees (forest_of (ts ++ t ∷ [])) (m ++ x)
 kids_then [] t m x hm hx = subst (λ r. SpellsOne t (r ++ x)) (sym hm) hx
 kids_then (u ∷ us) t m x (y, c, d, hy, hc, hd, e) hx =
     subst (λ r. SpellsTrees (forest_of (u ∷ us ++ t ∷ [])) (r ++ x)) (sym (e ∙ append_assoc y c (44 ∷ d))) (joined u us t y c d x hy hc hd hx)
 
--- the text with a comma after the trees
+-- the text of trees with blanks and a comma after it is that of trees with a comma after each
 kids_comma : (ts : List LabelledTree) (t : LabelledTree) (m c : List ℕ) → SpellsTrees (forest_of (ts ++ t ∷ [])) m → IsBlanks c → KidsText (ts ++ t ∷ []) (m ++ c ++ 44 ∷ [])
 kids_comma [] t m c hm hc = (m, c, [], hm, hc, refl, refl)
 kids_comma (u ∷ us) t m c hm hc = (m, c, [], hm, hc, refl, refl)
 
--- the brackets round the text of trees
+-- the text of trees with brackets and blanks round it stands after the label of a tree with these children
 brackets_of : (ts : List LabelledTree) (t : LabelledTree) (a b m c : List ℕ) → IsBlanks a → IsBlanks b → SpellsTrees (forest_of (ts ++ t ∷ [])) m → IsBlanks c
     → SpellsBrackets (forest_of (ts ++ t ∷ [])) (SpellsTrees (forest_of (ts ++ t ∷ []))) (a ++ 91 ∷ b ++ m ++ c ++ 93 ∷ [])
 brackets_of [] t a b m c ha hb hm hc = (a, b, m, c, ha, hb, hc, hm, refl)
@@ -174,7 +174,7 @@ comma_text f o t p h = (
     regrouped : (q l z m a w : List ℕ) → (q ++ (l ++ (z ++ (m ++ a)))) ++ w ≡ q ++ (l ++ (z ++ (m ++ a ++ w)))
     regrouped q l z m a w = simp append_assoc
 
--- a closing bracket after a tree
+-- a closing bracket after a tree leads up to the tree round it at hand, with that tree as its last child
 close_text : (f : Frame) (o : List Frame) (t : LabelledTree) (p : List ℕ) → Within f o t p → HandText o (record { label = f.label; kids = forest_of (f.kids ++ t ∷ []) }) (p ++ 93 ∷ [])
 close_text f o t p h = (
   h.before,
@@ -189,7 +189,7 @@ close_text f o t p h = (
     regrouped : (q l z m a w : List ℕ) → (q ++ (l ++ (z ++ (m ++ a)))) ++ w ≡ q ++ ((l ++ (z ++ m ++ a ++ w) ++ []) ++ [])
     regrouped q l z m a w = simp (append_assoc, append_nil)
 
--- a comma or a bracket after a tree that is in an open one
+-- a byte after a tree in brackets that fits goes on with the text
 pub hand_in : (o : List Frame) (t : LabelledTree) (p : List ℕ) (b : ℕ) → HandText o t p → Gives (StateText (p ++ b ∷ [])) (after_tree_in o t b)
 hand_in [] t p b h = tt
 hand_in (f ∷ o) t p b h =
@@ -203,7 +203,7 @@ hand_in (f ∷ o) t p b h =
 hand_step : (o : List Frame) (t : LabelledTree) (p : List ℕ) (b : ℕ) → HandText o t p → Gives (StateText (p ++ b ∷ [])) (after_tree o t b)
 hand_step o t p b h = either _ (is_blank b) _ _ (λ k. hand_blank o t p b k h) (λ n. hand_in o t p b h)
 
--- an opening bracket after a label
+-- an opening bracket after a label leads up to that tree open without children
 opened_text : (o : List Frame) (l p : List ℕ) → NameText o l p → ModeText (record { label = l; kids = [] } ∷ o) first (p ++ 91 ∷ [])
 opened_text o l p (q, w, a, ho, hl, ha, e) =
     ((q, w, a, [], [], ho, hl, ha, refl, refl, ap (λ r. r ++ 91 ∷ []) e ∙ regrouped q w a (91 ∷ [])), refl)
@@ -219,18 +219,18 @@ name_step o l p b h =
     (λ n. either _ (b == 91) _ _ (λ e. subst (λ c. ModeText (f ∷ o) first (p ++ c ∷ [])) (number_is b 91 e) (opened_text o l p h))
     (λ k. hand_step o (leaf l) p b (hand_of_name o l p h)))
 
--- a byte of a label, or another
+-- a byte that goes on with a label, or else stands after it, goes on with the text
 label_goes : (o : List Frame) (q w : List ℕ) (b : ℕ) (r : Option spelled.Spot) (other : Option State) → OpenText o q → Gives (labels.Writes (w ++ b ∷ [])) r → Gives (StateText ((q ++ w) ++ b ∷ [])) other
     → Gives (StateText ((q ++ w) ++ b ∷ [])) (or_other o other r)
 label_goes o q w b None other ho hw h = h
 label_goes o q w b (Some s) other ho hw h = (q, w ++ b ∷ [], ho, hw, append_assoc q w (b ∷ []))
 
--- the first byte of a label
+-- the first byte of a label goes on with the text
 begin_step : (o : List Frame) (p : List ℕ) (b : ℕ) → OpenText o p → Gives (StateText (p ++ b ∷ [])) (begin o b)
 begin_step o p b h =
     subst (λ r. Gives (StateText (r ++ b ∷ [])) (begin o b)) (append_nil p) (label_goes o p [] b (spelled.step spelled.start b) None h (labels.step_writes [] spelled.start b refl) tt)
 
--- a closing bracket right after the opening one
+-- a closing bracket right after the opening one goes on with the text
 close_step : (o : List Frame) (p : List ℕ) → ModeText o first p → Gives (StateText (p ++ 93 ∷ [])) (close_empty o)
 close_step [] p h = tt
 close_step (f ∷ o) p ((q, w, a, c, m, ho, hl, ha, hc, hm, e), bare) =
@@ -251,12 +251,12 @@ close_step (f ∷ o) p ((q, w, a, c, m, ho, hl, ha, hc, hm, e), bare) =
     empty_brackets : (q l z m w : List ℕ) → (q ++ (l ++ (z ++ m))) ++ w ≡ q ++ ((l ++ ((z ++ m) ++ w) ++ []) ++ [])
     empty_brackets q l z m w = simp (append_assoc, append_nil)
 
--- a byte that does not go on a label
+-- a byte that does not go on a label, and fits after it, goes on with the text
 past_step : (o : List Frame) (s : spelled.Spot) (l : Option (List ℕ)) (p : List ℕ) (b : ℕ) → spelled.label_in s ≡ l → ModeText o (spelling s) p → Gives (StateText (p ++ b ∷ [])) (after o l b)
 past_step o s None p b f h = tt
 past_step o s (Some l) p b f h = name_step o l p b (name_of_spelling o s l p f h)
 
--- a byte of a label, or after it
+-- a byte that comes while a label is being spelled, and fits, goes on with the text
 spelling_step : (o : List Frame) (s : spelled.Spot) (p : List ℕ) (b : ℕ) → ModeText o (spelling s) p → Gives (StateText (p ++ b ∷ [])) (step_in o (spelling s) b)
 spelling_step o s p b (q, w, ho, hw, e) =
     subst (λ r. Gives (StateText (r ++ b ∷ [])) (step_in o (spelling s) b)) (sym e)
@@ -273,7 +273,7 @@ step_text o (spelling s) p b h = spelling_step o s p b h
 step_text o (named l) p b h = name_step o l p b h
 step_text o (closed t) p b h = hand_step o t p b h
 
--- the text of a run after a first byte
+-- where a run from the state after a first byte goes on with the text, so does the run with that byte
 after_step : (x y : List ℕ) (b : ℕ) (s : Option State) → Gives (StateText (x ++ b ∷ [])) s → ((t : State) → StateText (x ++ b ∷ []) t → Gives (StateText ((x ++ b ∷ []) ++ y)) (run t y))
     → Gives (StateText (x ++ b ∷ y)) (option_and_then (λ t. run t y) s)
 after_step x y b None h k = tt
@@ -284,7 +284,7 @@ pub run_text : (y x : List ℕ) (s : State) → StateText x s → Gives (StateTe
 run_text [] x s h = subst (λ z. StateText z s) (sym (append_nil x)) h
 run_text (b ∷ y) x s h = after_step x y b (step s b) (step_text s.open' s.mode x b h) (λ t k. run_text y (x ++ b ∷ []) t k)
 
--- the text of the tree at hand, where no other is open
+-- where no tree is open, a text that leads up to a mode leads up to the tree at hand, where one may end
 hand_in_mode : (m : Mode) (p : List ℕ) (t : LabelledTree) → ModeText [] m p → tree_in m ≡ Some t → HandText [] t p
 hand_in_mode start p t h e = none_some t e
 hand_in_mode first p t h e = none_some t e

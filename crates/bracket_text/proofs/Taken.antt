@@ -125,7 +125,7 @@ other_ascii b h = grind (arith, nat_tests)
 blank_ascii : (b : ℕ) → IsTrue (is_blank b) → b < 128
 blank_ascii b h = grind (arith, nat_tests)
 
--- a byte that is an ASCII one is ASCII
+-- a byte equal to an ASCII byte is ASCII
 same_ascii : (b c : ℕ) → c < 128 → (b == c) ≡ true → b < 128
 same_ascii b c low e = omega (arith, number_is b c e)
 

@@ -46,7 +46,7 @@ ModeHigh (closed t) = ⊥
 abbrev StateHigh : State → Type 0
 StateHigh s = ModeHigh s.mode
 
--- no such byte is an ASCII one
+-- no byte of 128 or more is an ASCII one
 not_high : {Q : Type 0} (b c : ℕ) → c < 128 → 128 ≤ b → (b == c) ≡ true → Q
 not_high b c low high e = absurd (omega (arith, number_is b c e))
 
@@ -68,7 +68,7 @@ label_high : (o : List Frame) (r : Option spelled.Spot) (other : Option State) �
 label_high o None other h k = k
 label_high o (Some s) other h k = h
 
--- no such byte fits after a tree in brackets
+-- no byte of 128 or more fits after a tree in brackets
 tree_in_high : (o : List Frame) (t : LabelledTree) (b : ℕ) → 128 ≤ b → Gives StateHigh (after_tree_in o t b)
 tree_in_high [] t b h = tt
 tree_in_high (f ∷ o) t b h = either _ (b == 44) _ _ (λ e. not_high b 44 (omega arith) h e) (λ n. either _ (b == 93) _ _ (λ e. not_high b 93 (omega arith) h e) (λ k. tt))
@@ -102,7 +102,7 @@ mode_high_step o (closed t) b h = tree_high o t b h
 high_bare : (b : ℕ) → 128 ≤ b → is_bare b ≡ true
 high_bare b h = grind (arith, nat_tests)
 
--- no byte of such a character stops there
+-- no byte of 128 or more stops a label where such bytes go on
 spot_goes : {Q : Type 0} (s : spelled.Spot) (b : ℕ) → SpotHigh s → 128 ≤ b → spelled.step s b ≡ None → Q
 spot_goes spelled.start b h k e = absurd h
 spot_goes (spelled.in_bare l) b h k e = by_test (is_bare b) (high_bare b k) _ e
@@ -200,7 +200,7 @@ Says x (unexpected i) = Refuses x (Unexpected i)
 Says x (too_deep i) = Refuses x (TooDeep i)
 Says x ends = Refuses x Ends
 
--- what is said at the end of the text
+-- what the machine says at the end of a text is so of the text
 said_at_end : (x p : List ℕ) (s : State) (i : ℕ) (r : Option LabelledTree) → Read x p [] s i → whole s ≡ r → Says x (at_end r)
 said_at_end x p s i r h e =
     let all : x ≡ p = h.parts ∙ append_nil p in
@@ -214,7 +214,7 @@ said_at_end x p s i r h e =
     )
     by_whole (Some t) f g = (h.utf8, (read_spelled x t (ap (option_and_then whole) f ∙ g), omega (arith, whole_levels s t g, h.levels)))
 
--- what is said at a byte that does not fit
+-- a byte that does not fit is the first with which no text of the grammar goes on
 said_unexpected : (x p y : List ℕ) (s : State) (i b : ℕ) → Read x p (b ∷ y) s i → step s b ≡ None → Refuses x (Unexpected i)
 said_unexpected x p y s i b h e =
     let u : IsUtf8 p = before_stop x p y s i b h (λ k high. mode_goes s.open' s.mode b k high e) in
@@ -228,7 +228,7 @@ said_unexpected x p y s i b h e =
       },
     )
 
--- the bytes of a character, as far as they go
+-- a text is empty or begins with an ASCII byte
 abbrev LowFirst : List ℕ → Type 0
 LowFirst [] = Unit {0}
 LowFirst (c ∷ y) = c < 128
@@ -338,7 +338,7 @@ said : (y x p : List ℕ) (s : State) (i : ℕ) → Read x p y s i → Says x (v
 said [] x p s i h = said_at_end x p s i (whole s) h refl
 said (b ∷ y) x p s i h = said_byte x p y s i b (is_deep s b) (step s b) h refl refl (λ t e n. said y x (p ++ b ∷ []) t (i + 1) (read_more x p y s t i b h e n))
 
--- what is said of a text from its beginning on
+-- what the machine says of a UTF-8 text from its beginning on is so of the text
 said_of : (x : List ℕ) → IsUtf8 x → Says x (verdict empty 0 x)
 said_of x u = said x x [] empty 0 (record { utf8 = u; parts = refl; place = refl; runs = refl; levels = omega arith; bound = inl IsUtf8-nil })
 

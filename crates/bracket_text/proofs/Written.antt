@@ -12,7 +12,7 @@ abbrev AreSpelled : Forest → Type 0
 AreSpelled none = Unit {0}
 AreSpelled (tree label kids rest) = SpellsTrees (tree label kids rest) (canon_trees (tree label kids rest))
 
--- the brackets round children are spelled so
+-- the brackets round children, where their canonical text spells them, are spelled as the grammar has it
 brackets_spell : (k : Forest) → AreSpelled k → SpellsBrackets k (SpellsTrees k) (canon_brackets k (canon_trees k))
 brackets_spell none h = inl refl
 brackets_spell (tree l k n) h =
@@ -34,7 +34,7 @@ trees_spell (tree l k n) =
 pub canon_spells : (t : LabelledTree) → Spells (canon t) t
 canon_spells t = ([], canon_trees (alone t), [], refl, refl, trees_spell (alone t), sym (append_nil (canon t)) ∙ sym (append_nil (canon t ++ [])))
 
--- the text of a first tree and of the others
+-- the canonical text of a first tree, and then of the others, is that of all of them
 pub first_then : (t : LabelledTree) (ts : List LabelledTree) (x : List ℕ) → (x ++ canon t) ++ canon_rest (forest_of ts) (canon_trees (forest_of ts)) ≡ x ++ canon_trees (forest_of (t ∷ ts))
 first_then t ts x = append_assoc x (canon t) (canon_rest (forest_of ts) (canon_trees (forest_of ts)))
 

@@ -176,7 +176,7 @@ impl Reader {
         self.close_tree(at, byte)
     }
 
-    // Whether a label may begin.
+    // Whether a label may begin where the reader stands.
     #[inline]
     fn may_begin(&self) -> bool
         ensures { IsTrue result ↔ MayBegin self.now.mode }

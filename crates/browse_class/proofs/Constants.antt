@@ -32,12 +32,14 @@ larger_left None y (Some n) h = h
 larger_left (Some a) None (Some n) h = absurd h
 larger_left (Some a) (Some b) (Some n) h = omega (arith, h)
 
+-- a bound that is at least the greater of two is at least the second
 larger_right : (x y n : Option ℕ) → AtMost (larger x y) n → AtMost y n
 larger_right x y None h = tt
 larger_right None y (Some n) h = absurd h
 larger_right (Some a) None (Some n) h = h
 larger_right (Some a) (Some b) (Some n) h = omega (arith, h)
 
+-- the four bounds of a profile are within what bounds the greatest of them
 greatest_within : (p : Profile) (n : Option ℕ) → AtMost (greatest p) n → IsWithin n p
 greatest_within p n h =
     let front = larger_left (larger p.lead p.between) (larger p.trail p.none) n h in
@@ -49,10 +51,12 @@ greatest_within p n h =
       none = larger_right p.trail p.none n back;
     }
 
+-- the list of a new element stays within what bounds its greatest number
 made_within : (made : Made) (f : Facts) (n : Option ℕ) → AtMost (made_bound made f) n → IsMadeWithin n made f
 made_within (a_list_of pieces) f n h = tt
 made_within (an_element_of label list) f n h = greatest_within (f.lists list) n h
 
+-- the list of a new element that a stage makes stays within what bounds its greatest number
 stage_within : (stage : Stage) (f : Facts) (n : Option ℕ) → AtMost (stage_bound stage f) n → IsStageWithin n stage f
 stage_within (filters test) f n h = tt
 stage_within (extends out made) f n h = made_within made f n h
@@ -60,6 +64,7 @@ stage_within (first_by_keys keys group) f n h = tt
 stage_within (one_group piece out) f n h = tt
 stage_within (in_order v desc) f n h = tt
 
+-- the list of a new element that a shape makes stays within what bounds its greatest number
 shape_within : (shape : Shape) (of : ℕ → Facts) (n : Option ℕ) → AtMost (shape_bound shape of) n → IsShapeWithin n shape of
 shape_within (one_source s out) of n h = tt
 shape_within (visits_below input start path out) of n h = tt
@@ -73,6 +78,7 @@ all_within [] of n h i b = absurd (omega (arith, b))
 all_within (op ∷ ops) of n h zero b = shape_within (shape_of op) of n (larger_left (op_bound op of) (all_bounds ops of) n h)
 all_within (op ∷ ops) of n h (suc i) b = all_within ops of n (larger_right (op_bound op of) (all_bounds ops of) n h) i (omega (arith, b))
 
+-- 1 is within a bound that is at least 1
 least : (n : Option ℕ) → AtMost (Some 1) n → Within 1 n
 least None h = tt
 least (Some n) h = h
@@ -87,18 +93,22 @@ cheap_after : (most : Option ℕ) (f : Tolled) → IsCheap most f → IsCheap mo
 cheap_after most (the_end t) h = within_zero most
 cheap_after most (item t label kids rest) h = h.2
 
+-- the trees below the first of a cheap list are cheap
 cheap_below : (most : Option ℕ) (f : Tolled) → IsCheap most f → IsCheap most (trees_below f)
 cheap_below most (the_end t) h = within_zero most
 cheap_below most (item t label kids rest) h = h.1
 
+-- the trees from an index on of a cheap list are cheap
 cheap_from : (most : Option ℕ) (k : ℕ) (f : Tolled) → IsCheap most f → IsCheap most (trees_from k f)
 cheap_from most zero f h = h
 cheap_from most (suc k) f h = cheap_from most k (trees_after f) (cheap_after most f h)
 
+-- the trees at a place of a cheap list are cheap
 cheap_at : (most : Option ℕ) (f : Tolled) (place : List ℕ) → IsCheap most f → IsCheap most (tolled_at f place)
 cheap_at most f [] h = h
 cheap_at most f (k ∷ place) h = cheap_at most (trees_from k (trees_below f)) place (cheap_from most k (trees_below f) (cheap_below most f h))
 
+-- the toll of the first of a cheap list is within the bound
 cheap_toll : (most : Option ℕ) (f : Tolled) → IsCheap most f → Within (toll f) most
 cheap_toll most (the_end t) h = h
 cheap_toll most (item t label kids rest) h = h.0
@@ -115,17 +125,20 @@ last_at [] first last e = (0, omega arith, (let s : first ≡ last = cc in s))
 last_at (op ∷ ops) first last e = (let r = last_at ops op last e in (suc r.0, omega (arith, r.1), r.2))
 
 module _ (docs : Documents) (most : Option ℕ) where
+  -- a made element, as a list of it alone, is cheap
   alone_cheap : (gs : List Layout) (p : Profile) (x : TolledValue) → IsValue docs most an_element gs p x → IsCheap most (element_alone x)
   alone_cheap gs p (of_source n) h = absurd h
   alone_cheap gs p (element label kids) h = (within_zero most, h, within_zero most)
   alone_cheap gs p (trees f) h = absurd h
 
+  -- the element in the first binding that is found is cheap, where each binding's is
   found_cheap : (ks : Kinds) (f : Facts) (es : RowEvents) (made : ℕ) → ks made ≡ Some an_element → EachBinding (IsBound docs most ks f) es → (r : Find TolledRow) → found es ≡ r → IsCheap most (element_alone (tolled_value (first_row r) made))
   found_cheap ks f es made e b nothing h = within_zero most
   found_cheap ks f es made e b (finds row rest) h =
       alone_cheap (f.layouts made) (f.lists made) (tolled_value row made) (value_of docs most ks f row (first_bound (IsBound docs most ks f) es row rest b h) made an_element e)
 
 module _ (shapes : ℕ → Layout) (docs : Documents) (laid : AreLaid shapes docs) (most : Option ℕ) (p : PlanValue) (valid : IsValid p) (typed : IsTyped p.ops) (bounded : AtMost (constant shapes p.ops) most) where
+  -- the document that the last operator makes is cheap
   last_cheap : (last : Option Operator) → last_or None p.ops ≡ last → IsCheap most (tolled_destroyed (events docs p.ops) last)
   last_cheap None e = within_zero most
   last_cheap (Some (source s out)) e = within_zero most

@@ -32,7 +32,7 @@ costs-each_row f [] = refl
 costs-each_row f (skip ∷ es) = ap (more 1) (costs-each_row f es)
 costs-each_row f (bind row ∷ es) = ap (stop 1) (costs-each_row f es)
 
--- a further cost before both
+-- where each stop is replaced, it is so with a further cost before both lists
 pub more_replaced : (Q : Costs → Type 0) (n : ℕ) (c d : Costs) → IsReplaced Q c d → IsReplaced Q (more n c) (more n d)
 more_replaced Q n (ends t) d r = ap (more n) r
 more_replaced Q n (stop t c) d (u, e, r, same, f, next, is) =
@@ -86,6 +86,7 @@ costs-only_none test (skip ∷ es) h = ap (more 1) (costs-only_none test es (non
 costs-only_none test (bind row ∷ es) h = absurd h
 
 module _ (i : Profile) (test : TolledRow → Bool) where
+  -- after the only stop, which a test keeps or passes over, a list is as the profile of a stop that may be passed over says
   dropped : (once : many i.most ≡ false) (n : ℕ) (c : Costs) → Within (n + 1) i.lead → may i.most ≡ true → After i c → (b : Bool) → FourFit (passed_once i) (more n (cond b (stop 1 c) (more 1 c)))
   dropped once n c w m h true = (w, m, h_passed c h)
     where
@@ -97,6 +98,7 @@ module _ (i : Profile) (test : TolledRow → Bool) where
       (subst (λ (z : ℕ). Within z (passed_once i).none) e (within_right i.none (sum i.lead i.trail) (n + 1 + t) (within_sum i.lead i.trail (n + 1) t w h)), refl)
   dropped once n (stop t c) w m h false = absurd (let e : true ≡ false = sym h.1 ∙ once in let f : ⊥ = cc in f)
 
+  -- events of one binding at most, which a test may pass over, are as the profile of a stop that may be passed over says
   only_once : many i.most ≡ false → (n : ℕ) (es : RowEvents) → FourFit i (more n (costs_of es)) → FourFit (passed_once i) (more n (costs_of (only test es)))
   only_once once n [] h = (within_left i.none (sum i.lead i.trail) (n + 0) h.0, refl)
   only_once once n (skip ∷ es) h =
@@ -110,6 +112,7 @@ module _ (i : Profile) (test : TolledRow → Bool) where
         | false ↦ λ z. subst (λ (c : Costs). FourFit (passed_once i) (more n (more 1 c))) (sym same) z
       ] there
 
+-- events that a test may pass over are as the profile says, by how many stops there can be
 only_by : (m : Most) (i : Profile) (test : TolledRow → Bool) → i.most ≡ m → (es : RowEvents) → FourFit i (costs_of es) → FourFit (passed_by m i) (costs_of (only test es))
 only_by Never i test e es h = subst (FourFit i) (sym (costs-only_none test es (none_never i (ap may e) (costs_of es) h))) h
 only_by Once i test e es h =
@@ -117,16 +120,18 @@ only_by Once i test e es h =
     (only_once i test (ap many e) 0 es (subst (FourFit i) (sym (more-zero (costs_of es))) h))
 only_by Many i test e es h = four_with_all i.all unbounded (costs_of (only test es)) (fits_unbounded (costs_of (only test es)))
 
--- bindings may be passed over
+-- events of which a test passes bindings over are as the profile of stops that may be passed over says
 four_only : (i : Profile) (test : TolledRow → Bool) (es : RowEvents) → FourFit i (costs_of es) → FourFit (passed i) (costs_of (only test es))
 four_only i test es h = only_by i.most i test refl es h
 
--- bindings but the first are passed over where their keys were seen
+-- a profile of several stops, and bindings of which those but the first are passed over where their keys were seen
 module _ (i : Profile) (some : many i.most ≡ true) (docs : Documents) (keys : List Key) (make : TolledRow → RowEvents → TolledRow) where
+  -- after the first stop, any list goes on as the profile whose first stop is kept says
   any_after : (c : Costs) → After (first_kept i) c
   any_after (ends t) = tt
   any_after (stop t c) = (tt, some, any_after c)
 
+  -- first bindings by keys, after a further cost, are as the profile whose first stop is kept says
   distinct_from : (n : ℕ) (es : RowEvents) → FourFit i (more n (costs_of es)) → FourFit (first_kept i) (more n (costs_of (distinct docs keys make [] es)))
   distinct_from n [] h = h
   distinct_from n (skip ∷ es) h =
@@ -134,6 +139,7 @@ module _ (i : Profile) (some : many i.most ≡ true) (docs : Documents) (keys : 
       (distinct_from (n + 1) es (subst (FourFit i) (more-more n 1 (costs_of es)) h))
   distinct_from n (bind row ∷ es) h = (h.0, h.1, any_after (costs_of (distinct docs keys make ([] ++ key_values docs keys row ∷ []) es)))
 
+  -- first bindings by keys are as the four bounds of the profile whose first stop is kept say
   four_distinct : (es : RowEvents) → FourFit i (costs_of es) → FourFit (first_kept i) (costs_of (distinct docs keys make [] es))
   four_distinct es h =
       subst (FourFit (first_kept i)) (more-zero (costs_of (distinct docs keys make [] es)))
@@ -162,6 +168,7 @@ total-distinct docs keys make seen (bind row ∷ es) =
       | false ↦ ap (λ (n : ℕ). 1 + n) new
     ]
 
+-- passing stops over changes no bound on the cost of all
 passed_all : (m : Most) (i : Profile) → (passed_by m i).all ≡ i.all
 passed_all Never i = refl
 passed_all Once i = refl

@@ -21,12 +21,12 @@ use Rattle.browse_class.proofs.EventFits.{more_replaced}
 use Rattle.browse_profile.proofs.Totals.{total-more, first_only-more}
 use Rattle.browse_profile.proofs.Following.{more-zero, more-followed}
 
--- what is seen after the same values
+-- values after the same values are seen where they are seen by themselves
 seen_after : (k x : List KeyValue) (si : List (List KeyValue)) → is_seen (k ++ x) (map (λ s. k ++ s) si) ≡ is_seen x si
 seen_after k x [] = refl
 seen_after k x (s ∷ si) = ap (λ (b : Bool). b || is_seen (k ++ x) (map (λ s. k ++ s) si)) (same_after k s x) ∙ ap (λ (b : Bool). same_values s x || b) (seen_after k x si)
 
--- one more after the same values
+-- one more put after values, each after the same ones, is one more after those same ones
 map_snoc : (k x : List KeyValue) (si : List (List KeyValue)) → map (λ s. k ++ s) (si ++ x ∷ []) ≡ map (λ s. k ++ s) si ++ (k ++ x) ∷ []
 map_snoc k x [] = refl
 map_snoc k x (s ∷ si) = ap (λ (z : List (List KeyValue)). (k ++ s) ∷ z) (map_snoc k x si)
@@ -56,6 +56,7 @@ values_same (x ∷ xs) (y ∷ ys) h =
     and_right true b h = h
     and_right false b h = cc
 
+-- values that compare as the same are seen alike
 seen_same : (x y : List KeyValue) → same_values x y ≡ true → (seen : List (List KeyValue)) → is_seen x seen ≡ true → is_seen y seen ≡ true
 seen_same x y s seen t = subst (λ (z : List KeyValue). is_seen z seen ≡ true) (values_same x y s) t
 
@@ -64,13 +65,14 @@ module _ (docs : Documents) (d e : List Key) (make : TolledRow → RowEvents →
   abbrev IsFree : List KeyValue → List (List KeyValue) → Type 0
   IsFree k seen = (x : List KeyValue) → is_seen (k ++ x) seen ≡ false
 
+  -- where nothing with some first values was seen, values after those are seen only among what was put after them
   seen_inside : (k x : List KeyValue) (seen si : List (List KeyValue)) → IsFree k seen → is_seen (k ++ x) (seen ++ map (λ s. k ++ s) si) ≡ is_seen x si
   seen_inside k x seen si free =
       list_any-append (λ s. same_values s (k ++ x)) seen (map (λ s. k ++ s) si)
       ∙ ap (λ (b : Bool). b || is_seen (k ++ x) (map (λ s. k ++ s) si)) (free x)
       ∙ seen_after k x si
 
-  -- events with the same values by the first keys, and what follows them
+  -- first bindings by keys go through events of the same first values, and then through what follows, as by themselves
   inside : (k : List KeyValue) (seen si : List (List KeyValue)) (xs ys : RowEvents) → IsFree k seen → EachBinding (λ a. key_values docs d a ≡ k) xs
       → costs_of (distinct docs (d ++ e) make (seen ++ map (λ s. k ++ s) si) (xs ++ ys))
       ≡ followed (costs_of (distinct docs e make si xs)) (costs_of (distinct docs (d ++ e) make (seen ++ map (λ s. k ++ s) (si ++ keys_seen docs e si xs)) ys))
@@ -131,6 +133,7 @@ module _ (docs : Documents) (d e : List Key) (make : TolledRow → RowEvents →
           ap (λ (w : Bool). w || is_seen (key_values docs d b ++ x) (map (λ s. key_values docs d a ++ s) si)) (differ_after d (key_value docs (row_node a)) (key_value docs (row_node b)) s x apart)
           ∙ none_after si
 
+  -- where no binding's first values were seen and each differs from one, none's are seen after that one's expansion
   all_free : (a : TolledRow) (seen si : List (List KeyValue)) (es : RowEvents) → EachBinding (λ b. IsFree (key_values docs d b) seen) es → EachBinding (Differ docs d a) es
       → EachBinding (λ b. IsFree (key_values docs d b) (seen ++ map (λ s. key_values docs d a ++ s) si)) es
   all_free a seen si [] f h = tt
@@ -172,17 +175,19 @@ module _ (docs : Documents) (d e : List Key) (make : TolledRow → RowEvents →
 
 -- first bindings by no keys: the first binding alone counts
 module _ (docs : Documents) (make : TolledRow → RowEvents → TolledRow) where
+  -- once a binding was seen, by no keys none of the others counts
   none_left : (seen : List (List KeyValue)) (es : RowEvents) → is_seen [] seen ≡ true → costs_of (distinct docs [] make seen es) ≡ ends (total (costs_of es))
   none_left seen [] h = refl
   none_left seen (skip ∷ es) h = ap (more 1) (none_left seen es h) ∙ ap ends (sym (total-more 1 (costs_of es)))
   none_left seen (bind row ∷ es) h = rw h (ap (more 1) (none_left seen es h))
 
+  -- first bindings by no keys cost what events cost of which the first binding alone counts
   pub costs-first : (es : RowEvents) → costs_of (distinct docs [] make [] es) ≡ first_only (costs_of es)
   costs-first [] = refl
   costs-first (skip ∷ es) = ap (more 1) (costs-first es) ∙ sym (first_only-more 1 (costs_of es))
   costs-first (bind row ∷ es) = ap (stop 1) (none_left ([] ++ [] ∷ []) es refl)
 
--- coarser keys of bindings that were kept by finer ones
+-- documents, finer keys and coarser ones, by both of which bindings are kept
 module _ (docs : Documents) (d k : List Key) (make made : TolledRow → RowEvents → TolledRow) where
   -- what is seen by the finer keys is seen by the coarser ones
   abbrev Follows : List (List KeyValue) → List (List KeyValue) → Type 0

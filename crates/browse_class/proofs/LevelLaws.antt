@@ -27,7 +27,7 @@ use Rattle.browse_class.proofs.FirstKeys.{costs-first, costs-coarser}
 pub level_zero : (docs : Documents) (p : Profile) (es : RowEvents) (make : TolledRow → RowEvents → TolledRow) → Fits p (costs_of es) → Fits (once p) (costs_of (distinct docs [] make [] es))
 level_zero docs p es make h = subst (Fits (once p)) (sym (costs-first docs make es)) (fits_once p es h)
 
--- where there is one binding at most
+-- events of one binding at most are, by any keys, as the level that is the profile itself says
 pub level_own : (docs : Documents) (keys : List Key) (p : Profile) (es : RowEvents) (make : TolledRow → RowEvents → TolledRow) → Fits p (costs_of es) → Fits (own_level p) (costs_of (distinct docs keys make [] es))
 level_own docs keys p es make h =
     (elim (many p.most) as (λ w. many p.most ≡ w → Fits (cond w unbounded p) (costs_of (distinct docs keys make [] es))) [
@@ -35,7 +35,7 @@ level_own docs keys p es make h =
       | false ↦ λ e. subst (Fits p) (sym (costs-distinct docs keys make es (apart_once docs keys p e es h.0))) h
     ]) refl
 
--- bindings made anew with the same keys
+-- bindings made anew with the same keys cost, as first bindings by these, what the bindings cost
 level_each : (docs : Documents) (keys : List Key) (P : TolledRow → Type 0) (f : TolledRow → TolledRow) → ((row : TolledRow) → P row → key_values docs keys (f row) ≡ key_values docs keys row) → (make other : TolledRow → RowEvents → TolledRow)
     → (seen : List (List KeyValue)) (es : RowEvents) → EachBinding P es → costs_of (distinct docs keys make seen (each_row f es)) ≡ costs_of (distinct docs keys other seen es)
 level_each docs keys P f same make other seen [] b = refl
@@ -57,7 +57,7 @@ pub level_each_row : (docs : Documents) (keys : List Key) (P : TolledRow → Typ
     → (es : RowEvents) → EachBinding P es → costs_of (distinct docs keys make [] (each_row f es)) ≡ costs_of (distinct docs keys make [] es)
 level_each_row docs keys P f same make es b = level_each docs keys P f same make make [] es b
 
--- all of the first of two lists
+-- the prefix of two lists that is as long as the first is the first
 pub take_whole : (xs more : List ℕ) → take (length xs) (xs ++ more) ≡ xs
 take_whole [] more = refl
 take_whole (x ∷ xs) more = ap (λ (z : List ℕ). x ∷ z) (take_whole xs more)
@@ -68,6 +68,7 @@ gives_var (node_key w) k h = grind (arith, nat_tests, h)
 gives_var (label_key w) (node_key v) h = cc
 gives_var (label_key w) (label_key v) h = grind (arith, nat_tests, h)
 
+-- a variable of a key that one of some keys gives is the variable of one of them
 any_var : (keys : List Key) (k : Key) → list_any (λ f. gives f k) keys ≡ true → has_var keys (key_var k) ≡ true
 any_var [] k h = h
 any_var (f ∷ keys) k h =
@@ -76,10 +77,12 @@ any_var (f ∷ keys) k h =
       | false ↦ λ e g. (let z = any_var keys k g in elim (key_var f == key_var k) as (λ w. (w || has_var keys (key_var k)) ≡ true) [ true ↦ refl | false ↦ z ])
     ]) refl h
 
+-- where two tests hold together, the first holds
 and_left : (a b : Bool) → (a && b) ≡ true → a ≡ true
 and_left true b h = refl
 and_left false b h = h
 
+-- where two tests hold together, the second holds
 and_right : (a b : Bool) → (a && b) ≡ true → b ≡ true
 and_right true b h = h
 and_right false b h = cc
@@ -93,20 +96,25 @@ covered_var keys (k ∷ others) v c h =
       | false ↦ λ e g. covered_var keys others v (and_right (list_any (λ f. gives f k) keys) (covers keys others) c) g
     ]) refl h
 
--- bindings that are kept by keys, by a front that these share
+-- documents, and bindings that are kept by keys, by a front that these share
 module _ (docs : Documents) (keys : List Key) (front : List ℕ) (made : TolledRow → RowEvents → TolledRow) (values : (row : TolledRow) (es : RowEvents) (v : ℕ) → has_var keys v ≡ true → tolled_value (made row es) v ≡ tolled_value row v) where
+  -- the node keys of the first variables of the front
   abbrev part : ℕ → List Key
   part j = node_keys (take j (shared keys front))
 
+  -- a binding made anew has the same values by a part of the front
   pub part_same : (j : ℕ) (row : TolledRow) (es : RowEvents) → key_values docs (part j) (made row es) ≡ key_values docs (part j) row
   part_same j row es = values_alike docs (part j) (made row es) row (λ v h. values row es v (covered_var keys (part j) v (covers_shared keys front j) h))
 
+  -- the first bindings by a part of the front, of those kept by the keys, cost what the first of all by it cost
   pub costs-part : (j : ℕ) (make : TolledRow → RowEvents → TolledRow) (es : RowEvents) → costs_of (distinct docs (part j) make [] (distinct docs keys made [] es)) ≡ costs_of (distinct docs (part j) make [] es)
   costs-part j make es = costs-coarser docs (part j) keys make made (λ a b h. covered_same docs keys (part j) (row_node a) (row_node b) (covers_shared keys front j) h) (part_same j) es
 
+  -- a binding made anew has the same values by the keys
   keys_same : (row : TolledRow) (es : RowEvents) → key_values docs keys (made row es) ≡ key_values docs keys row
   keys_same row es = values_alike docs keys (made row es) row (λ v h. values row es v h)
 
+  -- of bindings kept by keys no two agree by them
   pub kept_apart : (es : RowEvents) → AreApart docs keys (distinct docs keys made [] es)
   kept_apart es = (distinct_is docs keys made keys_same [] es).apart
 

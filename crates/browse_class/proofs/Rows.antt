@@ -41,15 +41,17 @@ abbrev By : Documents → Option ℕ → Option Kind → List Layout → Profile
 By docs most None gs p whole own more = whole ≡ more
 By docs most (Some k) gs p whole own more = (whole ≡ own) × IsValue docs most k gs p own
 
+-- where a binding has a value of the kind, its value is so by itself
 to_by : (docs : Documents) (most : Option ℕ) (k : Option Kind) (gs : List Layout) (p : Profile) (row more : TolledRow) (v : ℕ) → HasValue docs most k gs p row more v → By docs most k gs p (tolled_value (row ++ more) v) (tolled_value row v) (tolled_value more v)
 to_by docs most None gs p row more v h = h
 to_by docs most (Some k) gs p row more v h = h
 
+-- where a value is so by itself, a binding that has it has a value of the kind
 of_by : (docs : Documents) (most : Option ℕ) (k : Option Kind) (gs : List Layout) (p : Profile) (row more : TolledRow) (v : ℕ) → By docs most k gs p (tolled_value (row ++ more) v) (tolled_value row v) (tolled_value more v) → HasValue docs most k gs p row more v
 of_by docs most None gs p row more v h = h
 of_by docs most (Some k) gs p row more v h = h
 
--- a value under a condition
+-- a binding has the value that a condition chooses, where it has each of the two under it
 either_value : (docs : Documents) (most : Option ℕ) (w : Bool) (k : Kind) (j : Option Kind) (gs hs : List Layout) (p q : Profile) (x : TolledValue) (row more : TolledRow) (v : ℕ)
     → IsValue docs most k gs p x → HasValue docs most j hs q row more v → By docs most (cond w (Some k) j) (cond w gs hs) (cond w p q) (cond w x (tolled_value (row ++ more) v)) (cond w x (tolled_value row v)) (tolled_value more v)
 either_value docs most true k j gs hs p q x row more v h r = (refl, h)
@@ -71,13 +73,13 @@ module _ (docs : Documents) (most : Option ℕ) where
   pub bound_none : (f : Facts) (kinds : Kinds) → ((v : ℕ) → kinds v ≡ None) → IsBound docs most kinds f []
   bound_none f kinds e v more = subst (λ (k : Option Kind). HasValue docs most k (f.layouts v) (f.lists v) [] more v) (sym (e v)) refl
 
-  -- other facts of the same variables
+  -- a binding has values as facts say where it has so as facts of the same layouts and lists say
   pub bound_same : (kinds : Kinds) (f g : Facts) (row : TolledRow) → ((v : ℕ) → f.layouts v ≡ g.layouts v) → ((v : ℕ) → f.lists v ≡ g.lists v) → IsBound docs most kinds f row → IsBound docs most kinds g row
   bound_same kinds f g row a b r v more =
       subst (λ (l : List Layout). HasValue docs most (kinds v) l (g.lists v) row more v) (a v)
       (subst (λ (q : Profile). HasValue docs most (kinds v) (f.layouts v) q row more v) (b v) (r v more))
 
-  -- the variables of the keys alone
+  -- a binding restricted to keys of nodes has values as the facts say
   pub bound_restrict : (kinds : Kinds) (f : Facts) (row : TolledRow) (keys : List Key) → ((v : ℕ) → has_var keys v ≡ true → kinds v ≡ Some a_node) → IsBound docs most kinds f row → IsBound docs most (kept keys kinds) f (tolled_restrict keys row)
   bound_restrict kinds f row [] n r v more = refl
   bound_restrict kinds f row (k ∷ keys) n r v more =

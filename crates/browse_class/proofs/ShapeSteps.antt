@@ -81,6 +81,7 @@ node_keys_more : (vs ws : List ℕ) → node_keys (vs ++ ws) ≡ node_keys vs ++
 node_keys_more [] ws = refl
 node_keys_more (v ∷ vs) ws = ap (λ (z : List Key). node_key v ∷ z) (node_keys_more vs ws)
 
+-- variables with one more are one more
 length_snoc : (vs : List ℕ) (v : ℕ) → length (vs ++ v ∷ []) ≡ suc (length vs)
 length_snoc [] v = refl
 length_snoc (x ∷ vs) v = (let h = length_snoc vs v in omega (arith, h))
@@ -93,6 +94,7 @@ module _ (docs : Documents) (most : Option ℕ) (kinds : Kinds) (fr : Front) (f 
   laid_node gs p (trees t) h = absurd h
 
   module _ (start : ℕ) (path : Form) (out : ℕ) (is_node : kinds start ≡ Some a_node) (fresh : kinds out ≡ None) where
+    -- the layouts below the nodes of the start variable
     abbrev gs : List Layout
     gs = f.layouts start
 
@@ -124,9 +126,11 @@ module _ (docs : Documents) (most : Option ℕ) (kinds : Kinds) (fr : Front) (f 
     own_node : AreNodes (node_key out ∷ []) (with_kind out a_node kinds)
     own_node v t = elim (out == v) as (λ w. (w || false) ≡ true → cond w (Some a_node) (kinds v) ≡ Some a_node) [ true ↦ λ g. refl | false ↦ λ g. cc ] t
 
+    -- the profile of the visit below one binding
     abbrev own_profile : Profile
     own_profile = replaced f.profile (visit_below path gs)
 
+    -- the events of the visits below all bindings
     abbrev all_events : RowEvents
     all_events = expand (descendants docs start path out) es
 
@@ -159,6 +163,7 @@ module _ (docs : Documents) (most : Option ℕ) (kinds : Kinds) (fr : Front) (f 
         (first_only-more 1 (costs_of (descendants docs start path out row)) ∙ ap (more 1) (sym (costs-first docs make (descendants docs start path out row))))
         (fits_once (visit_below path gs) (skip ∷ descendants docs start path out row) (visit_fits row b))) es known.bound (fronted.front.whole e)))
 
+    -- the levels of the visits
     abbrev level : ℕ → Profile
     level j = with_zero own_profile (visits_level (length fr.vars) fr.whole own_profile f.profile (visit_below path gs)) j
 
@@ -220,11 +225,13 @@ only_append test [] ys = refl
 only_append test (skip ∷ xs) ys = ap (λ (z : RowEvents). skip ∷ z) (only_append test xs ys)
 only_append test (bind row ∷ xs) ys = ap (λ (z : RowEvents). cond (test row) (bind row) skip ∷ z) (only_append test xs ys)
 
+-- a test of the events that bindings are expanded to tests all of them
 expand_only : (test : TolledRow → Bool) (g : TolledRow → RowEvents) (es : RowEvents) → expand (λ row. only test (g row)) es ≡ only test (expand g es)
 expand_only test g [] = refl
 expand_only test g (skip ∷ es) = ap (λ (z : RowEvents). skip ∷ z) (expand_only test g es)
 expand_only test g (bind row ∷ es) = ap (λ (z : RowEvents). skip ∷ (only test (g row) ++ z)) (expand_only test g es) ∙ ap (λ (z : RowEvents). skip ∷ z) (sym (only_append test (g row) (expand g es)))
 
+-- where there are no comparisons all events pass
 only_all : (docs : Documents) (es : RowEvents) → only (passes_all docs []) es ≡ es
 only_all docs [] = refl
 only_all docs (skip ∷ es) = ap (λ (z : RowEvents). skip ∷ z) (only_all docs es)
@@ -233,36 +240,45 @@ only_all docs (bind row ∷ es) = ap (λ (z : RowEvents). bind row ∷ z) (only_
 module _ (docs : Documents) (most : Option ℕ) (kl kr : Kinds) (fr gr : Front) (f g : Facts) (ls rs : RowEvents) (left_front : AreFronted docs kl fr ls) (right_front : AreFronted docs kr gr rs)
     (left : AreAsKnown docs most kl fr.vars f ls) (right : AreAsKnown docs most kr gr.vars g rs)
     (fresh : (v : ℕ) (k : Kind) → kr v ≡ Some k → kl v ≡ None) where
+  -- the pairs of a left binding with each of the right side's
   abbrev beside : TolledRow → RowEvents
   beside row = each_row (λ r. row ++ r) rs
 
+  -- the kinds that both sides bind together
   abbrev both_kinds : Kinds
   both_kinds v = either_kind (kl v) (kr v)
 
+  -- a pair has the left binding's values by keys of the left side
   left_values : (keys : List Key) → AreNodes keys kl → (row r : TolledRow) → IsBound docs most kl f row → key_values docs keys (row ++ r) ≡ key_values docs keys row
   left_values keys n row r b = values_alike docs keys (row ++ r) row (λ v t. has v (kl v) (n v t) (b v r))
     where
       has : (v : ℕ) (k : Option Kind) → k ≡ Some a_node → HasValue docs most k (f.layouts v) (f.lists v) row r v → tolled_value (row ++ r) v ≡ tolled_value row v
       has v k e h = (let z : HasValue docs most (Some a_node) (f.layouts v) (f.lists v) row r v = subst (λ (j : Option Kind). HasValue docs most j (f.layouts v) (f.lists v) row r v) e h in z.0)
 
+  -- a pair has the right binding's values by keys of the right side
   right_values : (keys : List Key) → AreNodes keys kr → (row r : TolledRow) → IsBound docs most kl f row → key_values docs keys (row ++ r) ≡ key_values docs keys r
   right_values keys n row r b = values_alike docs keys (row ++ r) r (λ v t. lacks v (kl v) (fresh v a_node (n v t)) (b v r))
     where
       lacks : (v : ℕ) (k : Option Kind) → k ≡ None → HasValue docs most k (f.layouts v) (f.lists v) row r v → tolled_value (row ++ r) v ≡ tolled_value r v
       lacks v k e h = (let z : HasValue docs most None (f.layouts v) (f.lists v) row r v = subst (λ (j : Option Kind). HasValue docs most j (f.layouts v) (f.lists v) row r v) e h in z)
 
+  -- keys of nodes of the left side are of nodes of both sides
   left_nodes : (keys : List Key) → AreNodes keys kl → AreNodes keys both_kinds
   left_nodes keys n v t = ap (λ (k : Option Kind). either_kind k (kr v)) (n v t)
 
+  -- keys of nodes of the right side are of nodes of both sides
   right_nodes : (keys : List Key) → AreNodes keys kr → AreNodes keys both_kinds
   right_nodes keys n v t = ap (λ (k : Option Kind). either_kind k (kr v)) (fresh v a_node (n v t)) ∙ n v t
 
+  -- the profile of the pairs, before any comparison
   abbrev plain_profile : Profile
   plain_profile = replaced f.profile (in_turn one_skip g.profile)
 
+  -- the events of all pairs, before any comparison
   abbrev all_rows : RowEvents
   all_rows = expand beside ls
 
+  -- the pairs, before any comparison, are as their profile says
   plain_fits : Fits plain_profile (costs_of all_rows)
   plain_fits =
       fits_replaced f.profile (in_turn one_skip g.profile) (costs_of ls) (costs_of (expand beside ls)) left.fits
@@ -271,6 +287,7 @@ module _ (docs : Documents) (most : Option ℕ) (kl kr : Kinds) (fr gr : Front) 
       (λ row. (let one : Fits one_skip (ends 1) = ((omega arith, refl), omega arith) in
       subst (λ (c : Costs). Fits (in_turn one_skip g.profile) (more 1 c)) (sym (costs-each_row (λ r. row ++ r) rs)) (fits_in_turn one_skip g.profile (ends 1) (costs_of rs) one right.fits))) ls))
 
+  -- each pair beside a left binding has its values by the left side's front
   same_left : (row : TolledRow) → IsBound docs most kl f row → EachBinding (λ a. key_values docs (node_keys fr.vars) a ≡ key_values docs (node_keys fr.vars) row) (beside row)
   same_left row b =
       binding_each_row (λ r. Unit {0}) (λ a. key_values docs (node_keys fr.vars) a ≡ key_values docs (node_keys fr.vars) row) (λ r. row ++ r) (λ r u. left_values (node_keys fr.vars) left_front.nodes row r b) rs (each_binding (λ r. Unit {0}) (λ r. tt) rs)
@@ -288,6 +305,7 @@ module _ (docs : Documents) (most : Option ℕ) (kl kr : Kinds) (fr gr : Front) 
       (sym (level_each_row docs (node_keys (take k gr.vars)) (λ r. Unit {0}) (λ r. row ++ r) (λ r u. right_values (node_keys (take k gr.vars)) (part_nodes kr k gr.vars right_front.nodes) row r b) make rs (each_binding (λ r. Unit {0}) (λ r. tt) rs)))
       (fits_in_turn one_skip (g.levels k) (ends 1) (costs_of (distinct docs (node_keys (take k gr.vars)) make [] rs)) one (right.leveled k h make)))) ls left.bound (left_front.front.whole e))
 
+  -- a prefix of two lists that is at least as long as the first is the first and a prefix of the second
   take_after : (j : ℕ) (xs ys : List ℕ) → length xs ≤ j → take j (xs ++ ys) ≡ xs ++ take (j - length xs) ys
   take_after j [] ys h = let z : j ≡ j - 0 = omega arith in ap (λ (n : ℕ). take n ys) z
   take_after zero (x ∷ xs) ys h = absurd (omega (arith, h))
@@ -295,10 +313,12 @@ module _ (docs : Documents) (most : Option ℕ) (kl kr : Kinds) (fr gr : Front) 
       let z : j - length xs ≡ suc j - length (x ∷ xs) = omega arith in
       ap (λ (n : List ℕ). x ∷ n) (take_after j xs ys (omega (arith, h))) ∙ ap (λ (n : ℕ). x ∷ (xs ++ take n ys)) z
 
+  -- two lists together are as long as both
   length_both : (xs ys : List ℕ) → length (xs ++ ys) ≡ length xs + length ys
   length_both [] ys = omega arith
   length_both (x ∷ xs) ys = (let h = length_both xs ys in omega (arith, h))
 
+  -- where the left side's front is whole, the first pairs by the first j variables of both fronts are as level j says
   whole_join : fr.whole ≡ true → (j : ℕ) → j ≤ length (fr.vars ++ gr.vars) → (make : TolledRow → RowEvents → TolledRow)
       → Fits (with_zero plain_profile (pairs_level (length fr.vars) true f.profile g.levels) j) (costs_of (distinct docs (node_keys (take j (fr.vars ++ gr.vars))) make [] all_rows))
   whole_join e zero h make = level_zero docs plain_profile all_rows make plain_fits
@@ -317,6 +337,7 @@ module _ (docs : Documents) (most : Option ℕ) (kl kr : Kinds) (fr gr : Front) 
         | false ↦ λ t. fits_unbounded (costs_of (distinct docs (node_keys (take (suc j) (fr.vars ++ gr.vars))) make [] all_rows))
       ]) refl
 
+  -- where the left side's front isn't whole, the first pairs by the first j variables of that front are as level j says
   part_join : (j : ℕ) (make : TolledRow → RowEvents → TolledRow)
       → Fits (with_zero plain_profile (pairs_level (length fr.vars) false f.profile g.levels) j) (costs_of (distinct docs (node_keys (take j (fr.vars ++ []))) make [] all_rows))
   part_join zero make = level_zero docs plain_profile all_rows make plain_fits

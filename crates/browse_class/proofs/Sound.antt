@@ -36,7 +36,7 @@ IsShapeWithin most (pairs_up left right tests) of = Unit {0}
 IsShapeWithin most (passes_on input stage) of = IsStageWithin most stage (of input)
 IsShapeWithin most (no_events input made) of = Unit {0}
 
--- facts read those of the inputs
+-- the facts of an operator read of other facts only those of its inputs
 pub op_facts-reads : (shapes : ℕ → Layout) (ks : ℕ → Kinds) (frs : ℕ → Front) → ReadsInputs (op_facts shapes ks frs)
 op_facts-reads shapes ks frs (source s out) a b h = refl
 op_facts-reads shapes ks frs (get_descendants input start path out) a b h = ap (λ (f : Facts). op_facts shapes ks frs (get_descendants input start path out) (λ i. f)) h.0
@@ -125,7 +125,7 @@ module _ (shapes : ℕ → Layout) (docs : Documents) (laid : AreLaid shapes doc
       none : (j : ℕ) → j ≤ 0 → AreBeside docs (node_keys (take j [])) []
       none j l = tt
 
-  -- the operators below a number
+  -- each operator below a number has the front that is known, and its events are as its facts say
   known_below : (k n : ℕ) → n < k → n < length p.ops → Known n
   known_below zero n h b = absurd (omega (arith, h))
   known_below (suc k) n h b =

@@ -99,7 +99,7 @@ last_after : (i : Profile) → many i.most ≡ false → (c : Costs) → After i
 last_after i e (ends t) h = h
 last_after i e (stop t c) h = (let f : true ≡ false = sym h.1 ∙ e in cc)
 
--- up to the first other binding, which is passed
+-- the list of a group, up to the first other binding, which is passed, goes on as its profile says
 run_after : (i : Profile) (test : TolledRow → Bool) (n : ℕ) (es : RowEvents) → After i (more n (costs_of es)) → After (run_list i) (more n (costs_of (run_of test es)))
 run_after i test n [] h = within_right i.between i.trail (n + 0) h
 run_after i test n (skip ∷ es) h =
@@ -124,7 +124,7 @@ costs-passing_none : (stops : Bool) (test : TolledRow → Bool) (es : RowEvents)
 costs-passing_none true test es h = costs-run_none test es h
 costs-passing_none false test es h = costs-only_none test es h
 
--- a group's list, after its first member
+-- a group's list, after its first member, is as its profile says
 group_fits : (i : Profile) (stops : Bool) (test : TolledRow → Bool) (es : RowEvents) → After i (costs_of es) → FourFit (group_profile stops i) (stop 0 (costs_of (passing stops test es)))
 group_fits i stops test es h =
     (elim (many i.most) as (λ w. many i.most ≡ w → FourFit (cond w (cond stops (run_list i) open_list) (single_list i)) (stop 0 (costs_of (passing stops test es)))) [
@@ -165,7 +165,7 @@ IsStageFresh (one_group piece out) kinds = Unit {0}
 IsStageFresh (in_order v desc) kinds = Unit {0}
 
 module _ (docs : Documents) (most : Option ℕ) (one : Within 1 most) (kinds : Kinds) (fr : Front) (f : Facts) (es : RowEvents) (fronted : AreFronted docs kinds fr es) (known : AreAsKnown docs most kinds fr.vars f es) where
-  -- bindings may be passed over
+  -- events that a test leaves, which are as a profile says, have as their levels those of that profile
   leveled_only : (test : TolledRow → Bool) (p : Profile) → Fits p (costs_of (only test es)) → AreLeveled docs fr.vars (with_zero p (λ j. own_level p)) (only test es)
   leveled_only test p fit zero h make = level_zero docs p (only test es) make fit
   leveled_only test p fit (suc j) h make = level_own docs (node_keys (take (suc j) fr.vars)) p (only test es) make fit
@@ -219,7 +219,7 @@ module _ (docs : Documents) (most : Option ℕ) (one : Within 1 most) (kinds : K
 
   -- FIRST BINDINGS BY KEYS
 
-  -- no two agree, where none is passed over
+  -- where none is passed over by keys, no two bindings agree by them
   all_apart : (keys : List Key) → (not (many f.profile.most) || covers keys f.keys) ≡ true → AreApart docs keys es
   all_apart keys h =
       (elim (many f.profile.most) as (λ w. many f.profile.most ≡ w → (not w || covers keys f.keys) ≡ true → AreApart docs keys es) [
@@ -243,7 +243,7 @@ module _ (docs : Documents) (most : Option ℕ) (one : Within 1 most) (kinds : K
     abbrev kept_events : RowEvents
     kept_events = distinct docs keys made [] es
 
-    -- where others are passed over
+    -- where bindings may be passed over by keys, those that are kept are as their profile says
     front_fits : many f.profile.most ≡ true → Fits (cond (are_contiguous keys fr.vars) (f.levels (length (shared keys fr.vars))) (first_kept f.profile)) (costs_of kept_events)
     front_fits some =
         (elim (are_contiguous keys fr.vars)
@@ -301,11 +301,13 @@ module _ (docs : Documents) (most : Option ℕ) (one : Within 1 most) (kinds : K
         leveled = kept_leveled keys made values;
       }
 
-  -- each with the list of its group
+  -- the keys of a grouping, its piece and its list variable, of which the facts of groups are told
   module _ (keys : List Key) (piece : Piece) (out : ℕ) (n : AreNodes keys kinds) (single : IsSinglePiece kinds piece) (fresh : kinds out ≡ None) where
+    -- whether the list of a group stops at the first other binding
     abbrev stops : Bool
     stops = are_contiguous keys fr.vars
 
+    -- the facts of the groups: those of the first bindings, with the list of each
     abbrev group_facts : Facts
     group_facts = kept_facts keys fr.vars f (with_at out [] f.layouts) (with_at out (group_profile stops f.profile) f.lists)
 

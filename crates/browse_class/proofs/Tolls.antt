@@ -37,10 +37,12 @@ pub spine-followed : (f g : Tolled) → spine (tolled_followed f g) ≡ followed
 spine-followed (the_end t) g = spine-dearer t g
 spine-followed (item t label kids rest) g = ap (stop t) (spine-followed rest g)
 
+-- trees below a list whose first toll is raised are as cheap as before
 cheap_dearer : (most : Option ℕ) (n : ℕ) (f : Tolled) → IsCheapBelow most f → IsCheapBelow most (dearer n f)
 cheap_dearer most n (the_end t) h = tt
 cheap_dearer most n (item t label kids rest) h = h
 
+-- trees below one list after another are cheap where those below each are
 cheap_followed : (most : Option ℕ) (f g : Tolled) → IsCheapBelow most f → IsCheapBelow most g → IsCheapBelow most (tolled_followed f g)
 cheap_followed most (the_end t) g h k = cheap_dearer most t g k
 cheap_followed most (item t label kids rest) g h k = (h.0, cheap_followed most rest g h.1 k)
@@ -50,7 +52,7 @@ cheap_charged : (most : Option ℕ) → Within 1 most → (f : Forest) → IsChe
 cheap_charged most m none = m
 cheap_charged most m (tree label kids rest) = (m, cheap_charged most m kids, cheap_charged most m rest)
 
--- nothing is within every bound
+-- 0 is within every bound
 pub within_zero : (most : Option ℕ) → Within 0 most
 within_zero None = tt
 within_zero (Some k) = omega arith
@@ -72,7 +74,7 @@ cheap_list most p w (the_end t) h b = within_most p.none most t w.none h.0
 cheap_list most p w (item t label kids rest) h b = (within_most p.lead most t w.lead h.0, b.0, cheap_after most p w rest h.2 b.1)
 
 module _ (docs : Documents) (most : Option ℕ) (one : Within 1 most) (kinds : Kinds) (f : Facts) where
-  -- trees below those of a value
+  -- below the trees of a value that is bound, before others, all is cheap where it is below the others
   cheap_value : (k : Kind) (gs : List Layout) (p : Profile) (x : TolledValue) (rest : Tolled) → IsValue docs most k gs p x → IsCheapBelow most rest → IsCheapBelow most (value_trees docs x rest)
   cheap_value a_node gs p (of_source n) rest h r = (cheap_charged most one (kids_at docs n), r)
   cheap_value a_node gs p (element label kids) rest h r = absurd h
@@ -84,6 +86,7 @@ module _ (docs : Documents) (most : Option ℕ) (one : Within 1 most) (kinds : K
   cheap_value a_list gs p (element label kids) rest h r = absurd h
   cheap_value a_list gs p (trees t) rest h r = cheap_followed most t rest h.1 r
 
+  -- below the trees of a piece, before others, all is cheap where it is below the others
   cheap_piece : (piece : Piece) (row : TolledRow) (rest : Tolled) → IsPiece kinds piece → IsBound docs most kinds f row → IsCheapBelow most rest → IsCheapBelow most (piece_items docs piece row rest)
   cheap_piece (var_piece v) row rest h b r = cheap_value h.0 (f.layouts v) (f.lists v) (tolled_value row v) rest (value_of docs most kinds f row b v h.0 h.1) r
   cheap_piece (label_piece v) row rest h b r = (within_zero most, r)
@@ -95,24 +98,29 @@ module _ (docs : Documents) (most : Option ℕ) (one : Within 1 most) (kinds : K
   value_costs (element label kids) = stop 0 (ends 0)
   value_costs (trees t) = spine t
 
+  -- the costs of the own tolls of a piece's trees
   abbrev piece_costs : TolledRow → Piece → Costs
   piece_costs row (var_piece v) = value_costs (tolled_value row v)
   piece_costs row (label_piece v) = stop 0 (ends 0)
   piece_costs row (text_piece label) = stop 0 (ends 0)
 
+  -- the own tolls of a value's trees before others are those of the value, and then those of the others
   spine-value : (x : TolledValue) (rest : Tolled) → spine (value_trees docs x rest) ≡ followed (value_costs x) (spine rest)
   spine-value (of_source n) rest = ap (stop 0) (sym (more-zero (spine rest)))
   spine-value (element label kids) rest = ap (stop 0) (sym (more-zero (spine rest)))
   spine-value (trees t) rest = spine-followed t rest
 
+  -- the own tolls of a piece's trees before others are those of the piece, and then those of the others
   spine-piece : (piece : Piece) (row : TolledRow) (rest : Tolled) → spine (piece_items docs piece row rest) ≡ followed (piece_costs row piece) (spine rest)
   spine-piece (var_piece v) row rest = spine-value (tolled_value row v) rest
   spine-piece (label_piece v) row rest = ap (stop 0) (sym (more-zero (spine rest)))
   spine-piece (text_piece label) row rest = ap (stop 0) (sym (more-zero (spine rest)))
 
+  -- an item by itself is as its profile says
   one_fits : FourFit one_item (stop 0 (ends 0))
   one_fits = (omega arith, refl, omega arith)
 
+  -- the own tolls of the trees of a value of a kind are as the kind's profile says
   value_fits : (k : Kind) (gs : List Layout) (p : Profile) (x : TolledValue) → IsValue docs most k gs p x → FourFit (kind_profile (Some k) p) (value_costs x)
   value_fits a_node gs p (of_source n) h = one_fits
   value_fits a_node gs p (element label kids) h = absurd h
@@ -124,6 +132,7 @@ module _ (docs : Documents) (most : Option ℕ) (one : Within 1 most) (kinds : K
   value_fits a_list gs p (element label kids) h = absurd h
   value_fits a_list gs p (trees t) h = h.0
 
+  -- the own tolls of a piece's trees are as the piece's profile says
   piece_fits : (piece : Piece) (row : TolledRow) → IsPiece kinds piece → IsBound docs most kinds f row → FourFit (piece_profile kinds f.lists piece) (piece_costs row piece)
   piece_fits (var_piece v) row h b =
       subst (λ (j : Option Kind). FourFit (kind_profile j (f.lists v)) (value_costs (tolled_value row v))) (sym h.1)
@@ -131,11 +140,12 @@ module _ (docs : Documents) (most : Option ℕ) (one : Within 1 most) (kinds : K
   piece_fits (label_piece v) row h b = one_fits
   piece_fits (text_piece label) row h b = one_fits
 
+  -- nothing after a list changes no costs
   followed_end : (c : Costs) → followed c (ends 0) ≡ c
   followed_end (ends t) = let e : t + 0 ≡ t = omega arith in ap ends e
   followed_end (stop t c) = ap (stop t) (followed_end c)
 
-  -- pieces after what is before
+  -- the own tolls of pieces' trees, after what is before them, are as the profile of both says
   pieces_fit : (pieces : List Piece) (row : TolledRow) (before : Profile) (c : Costs) → AllByRecursion (IsPiece kinds) pieces → IsBound docs most kinds f row → FourFit before c
       → FourFit (pieces_from before kinds f.lists pieces) (followed c (spine (all_items docs pieces row (the_end 0))))
   pieces_fit [] row before c h b k = subst (FourFit before) (sym (followed_end c)) k
@@ -145,11 +155,12 @@ module _ (docs : Documents) (most : Option ℕ) (one : Within 1 most) (kinds : K
       (followed_assoc c (piece_costs row p) (spine rest) ∙ ap (followed c) (sym (spine-piece p row rest)))
       (pieces_fit pieces row (in_turn before (piece_profile kinds f.lists p)) (followed c (piece_costs row p)) h.1 b (fits_in_turn before (piece_profile kinds f.lists p) c (piece_costs row p) k (piece_fits p row h.0 b)))
 
+  -- below the trees of pieces all is cheap
   cheap_pieces : (pieces : List Piece) (row : TolledRow) → AllByRecursion (IsPiece kinds) pieces → IsBound docs most kinds f row → IsCheapBelow most (all_items docs pieces row (the_end 0))
   cheap_pieces [] row h b = tt
   cheap_pieces (p ∷ pieces) row h b = cheap_piece p row (all_items docs pieces row (the_end 0)) h.0 b (cheap_pieces pieces row h.1 b)
 
-  -- the list of a concatenation
+  -- the list of a concatenation is a list with such tolls as its facts say
   pub concatenation_is : (pieces : List Piece) (row : TolledRow) (gs : List Layout) → AllByRecursion (IsPiece kinds) pieces → IsBound docs most kinds f row
       → IsValue docs most a_list gs (pieces_profile kinds f.lists pieces) (trees (all_items docs pieces row (the_end 0)))
   concatenation_is pieces row gs h b = (
@@ -174,6 +185,7 @@ module _ (docs : Documents) (most : Option ℕ) (one : Within 1 most) (kinds : K
   single_piece (label_piece v) h = h
   single_piece (text_piece label) h = h
 
+  -- a value that is no list has one tree, with no toll of its own
   single_value : (k : Kind) (gs : List Layout) (p : Profile) (x : TolledValue) → (k ≡ a_list → ⊥) → IsValue docs most k gs p x → value_costs x ≡ stop 0 (ends 0)
   single_value a_node gs p (of_source n) other h = refl
   single_value a_node gs p (element label kids) other h = absurd h
@@ -183,15 +195,17 @@ module _ (docs : Documents) (most : Option ℕ) (one : Within 1 most) (kinds : K
   single_value an_element gs p (trees t) other h = absurd h
   single_value a_list gs p x other h = absurd (other refl)
 
+  -- a single piece has one tree, with no toll of its own
   single_costs : (piece : Piece) (row : TolledRow) → IsSinglePiece kinds piece → IsBound docs most kinds f row → piece_costs row piece ≡ stop 0 (ends 0)
   single_costs (var_piece v) row h b = single_value h.0 (f.layouts v) (f.lists v) (tolled_value row v) h.2 (value_of docs most kinds f row b v h.0 h.1)
   single_costs (label_piece v) row h b = refl
   single_costs (text_piece label) row h b = refl
 
+  -- the own tolls of a single piece's tree before others are no toll, and then those of the others
   spine-single : (piece : Piece) (row : TolledRow) (rest : Tolled) → IsSinglePiece kinds piece → IsBound docs most kinds f row → spine (piece_items docs piece row rest) ≡ stop 0 (spine rest)
   spine-single piece row rest h b = spine-piece piece row rest ∙ ap (λ (c : Costs). followed c (spine rest)) (single_costs piece row h b) ∙ ap (stop 0) (more-zero (spine rest))
 
-  -- the list that events give
+  -- the own tolls of the list that events give are the costs of the events
   spine-collected : (piece : Piece) (es : RowEvents) → IsSinglePiece kinds piece → EachBinding (IsBound docs most kinds f) es → spine (collected docs piece es (the_end 0)) ≡ costs_of es
   spine-collected piece [] h b = refl
   spine-collected piece (skip ∷ es) h b = spine-dearer 1 (collected docs piece es (the_end 0)) ∙ ap (more 1) (spine-collected piece es h b)
@@ -200,6 +214,7 @@ module _ (docs : Documents) (most : Option ℕ) (one : Within 1 most) (kinds : K
       ∙ ap (more 1) (spine-single piece row (collected docs piece es (the_end 0)) h b.0)
       ∙ ap (stop 1) (spine-collected piece es h b.1)
 
+  -- below the trees of the list that events give all is cheap
   cheap_collected : (piece : Piece) (es : RowEvents) → IsSinglePiece kinds piece → EachBinding (IsBound docs most kinds f) es → IsCheapBelow most (collected docs piece es (the_end 0))
   cheap_collected piece [] h b = tt
   cheap_collected piece (skip ∷ es) h b = cheap_dearer most 1 (collected docs piece es (the_end 0)) (cheap_collected piece es h b)
@@ -207,12 +222,12 @@ module _ (docs : Documents) (most : Option ℕ) (one : Within 1 most) (kinds : K
       cheap_dearer most 1 (piece_items docs piece row (collected docs piece es (the_end 0)))
       (cheap_piece piece row (collected docs piece es (the_end 0)) (single_piece piece h) b.0 (cheap_collected piece es h b.1))
 
-  -- the list of a groupBy by no keys
+  -- the list of a groupBy by no keys is a list with such tolls as its facts say
   pub gathered_is : (piece : Piece) (es : RowEvents) (gs : List Layout) → IsSinglePiece kinds piece → EachBinding (IsBound docs most kinds f) es → FourFit f.profile (costs_of es)
       → IsValue docs most a_list gs f.profile (trees (collected docs piece es (the_end 0)))
   gathered_is piece es gs h b k = (subst (FourFit f.profile) (sym (spine-collected piece es h b)) k, cheap_collected piece es h b)
 
-  -- the list of a group, which stands at its first member
+  -- the list of a group, which stands at its first member, is a list with such tolls as its facts say
   pub group_is : (piece : Piece) (row : TolledRow) (es : RowEvents) (gs : List Layout) (p : Profile) → IsSinglePiece kinds piece → IsBound docs most kinds f row → EachBinding (IsBound docs most kinds f) es
       → FourFit p (stop 0 (costs_of es)) → IsValue docs most a_list gs p (trees (piece_items docs piece row (collected docs piece es (the_end 0))))
   group_is piece row es gs p h b c k = (

@@ -40,7 +40,7 @@ shape_bound (no_events input made) of = Some 0
 abbrev pub op_bound : Operator → (ℕ → Facts) → Option ℕ
 op_bound op of = shape_bound (shape_of op) of
 
--- the greatest of 1 and all of them
+-- the greatest of 1 and the numbers of all operators of a plan
 abbrev pub all_bounds : List Operator → (ℕ → Facts) → Option ℕ
 all_bounds [] of = Some 1
 all_bounds (op ∷ ops) of = larger (op_bound op of) (all_bounds ops of)
@@ -49,7 +49,7 @@ all_bounds (op ∷ ops) of = larger (op_bound op of) (all_bounds ops of)
 abbrev pub constant : (ℕ → Layout) → List Operator → Option ℕ
 constant shapes ops = all_bounds ops (facts shapes ops)
 
--- a stage orders its input's bindings
+-- whether a stage orders its input's bindings
 abbrev pub stage_sorts : Stage → Bool
 stage_sorts (filters test) = false
 stage_sorts (extends out made) = false
@@ -57,7 +57,7 @@ stage_sorts (first_by_keys keys group) = false
 stage_sorts (one_group piece out) = false
 stage_sorts (in_order v desc) = true
 
--- a shape orders its input's bindings
+-- whether a shape orders its input's bindings
 abbrev pub shape_sorts : Shape → Bool
 shape_sorts (one_source s out) = false
 shape_sorts (visits_below input start path out) = false
@@ -65,11 +65,11 @@ shape_sorts (pairs_up left right tests) = false
 shape_sorts (passes_on input stage) = stage_sorts stage
 shape_sorts (no_events input made) = false
 
--- an operator orders its input's bindings
+-- whether an operator orders its input's bindings
 abbrev pub op_sorts : Operator → Bool
 op_sorts op = shape_sorts (shape_of op)
 
--- some operator of a plan orders its input's bindings
+-- whether some operator of a plan orders its input's bindings
 abbrev pub sorts_any : List Operator → Bool
 sorts_any [] = false
 sorts_any (op ∷ ops) = op_sorts op || sorts_any ops

@@ -41,11 +41,11 @@ of_side (Some k) a b = a
 abbrev pub no_facts : Facts
 no_facts = record { profile = costless; layouts = λ v. []; lists = λ v. costless; keys = []; levels = with_zero costless (λ j. unbounded) }
 
--- the visit along a path below such nodes, after the skip for its start
+-- the profile of the visit along a path below nodes that are laid out by one of some layouts, after the skip for its start
 abbrev pub visit_below : Form → List Layout → Profile
 visit_below path gs = in_turn one_skip (path_profile path gs)
 
--- where there are comparisons, bindings may be passed over
+-- the profile of the events that comparisons leave: where there are any, bindings may be passed over
 abbrev pub tested : List Test → Profile → Profile
 tested [] p = p
 tested (t ∷ tests) p = passed p
@@ -56,11 +56,11 @@ distinct_profile keys vars f =
     cond (not (many f.profile.most) || covers keys f.keys) f.profile
     (cond (are_contiguous keys vars) (f.levels (length (shared keys vars))) (first_kept f.profile))
 
--- a list that stands at its first item, of which no more is known
+-- the profile of a list that stands at its first item, of which no more is known
 abbrev pub open_list : Profile
 open_list = record { lead = Some 0; between = None; trail = None; none = Some 0; all = None; sure = true; most = Many }
 
--- one that ends at the first other binding
+-- the profile of a list that ends at the first other binding
 abbrev pub run_list : Profile → Profile
 run_list p = record { lead = Some 0; between = p.between; trail = larger p.between p.trail; none = Some 0; all = None; sure = true; most = Many }
 
@@ -76,7 +76,7 @@ group_profile stops p = cond (many p.most) (cond stops (run_list p) open_list) (
 abbrev pub one_item : Profile
 one_item = record { lead = Some 0; between = Some 0; trail = Some 0; none = Some 0; all = None; sure = true; most = Once }
 
--- the trees of a value of a kind
+-- the profile of the trees of a value of a kind
 abbrev pub kind_profile : Option Kind → Profile → Profile
 kind_profile None p = one_item
 kind_profile (Some a_node) p = one_item
@@ -89,12 +89,12 @@ piece_profile kinds lists (label_piece v) = one_item
 piece_profile kinds lists (text_piece label) = one_item
 piece_profile kinds lists (var_piece v) = kind_profile (kinds v) (lists v)
 
--- the trees of the pieces, one after another, after others
+-- the profile of the trees of pieces, one after another, after others
 abbrev pub pieces_from : Profile → Kinds → (ℕ → Profile) → List Piece → Profile
 pieces_from before kinds lists [] = before
 pieces_from before kinds lists (p ∷ pieces) = pieces_from (in_turn before (piece_profile kinds lists p)) kinds lists pieces
 
--- the trees of the pieces, one after another
+-- the profile of the trees of pieces, one after another
 abbrev pub pieces_profile : Kinds → (ℕ → Profile) → List Piece → Profile
 pieces_profile kinds lists pieces = pieces_from costless kinds lists pieces
 
@@ -128,7 +128,7 @@ stage_facts (one_group piece out) kinds vars f =
 stage_facts (in_order v desc) kinds vars f =
     record { profile = unbounded; layouts = f.layouts; lists = f.lists; keys = f.keys; levels = with_zero unbounded (λ j. unbounded) }
 
--- the visit below each binding
+-- the profile of the visits below the bindings of an operator's events
 abbrev pub visits_profile : Form → ℕ → Facts → Profile
 visits_profile path start f = replaced f.profile (visit_below path (f.layouts start))
 
@@ -143,7 +143,7 @@ visits_facts start path out fr f =
       levels = with_zero (visits_profile path start f) (visits_level (length fr.vars) fr.whole (visits_profile path start f) f.profile (visit_below path (f.layouts start)));
     }
 
--- the right side beside each left binding
+-- the profile of the pairs of two sides: the right side beside each left binding
 abbrev pub beside_profile : Facts → Facts → Profile
 beside_profile f g = replaced f.profile (in_turn one_skip g.profile)
 

@@ -32,6 +32,7 @@ fits_second a b c h = (repeating.fits_second a b c h.0, within_right a.all b.all
 pub fits_unbounded : (c : Costs) → Fits unbounded c
 fits_unbounded c = (repeating.fits_unbounded c, tt)
 
+-- any number is within the bound of the cost of all of any number of lists
 repeated_all : (a : Profile) (n : ℕ) → Within n (repeated a).all
 repeated_all a n = elim a.sure as (λ w. Within n (cond w (repeated_sure a) unbounded).all) [ true ↦ tt | false ↦ tt ]
 
@@ -43,7 +44,7 @@ fits_repeated_none a = (repeating.fits_repeated_none a, repeated_all a 0)
 pub fits_repeated_more : (a : Profile) (c d : Costs) → Fits a c → Fits (repeated a) d → Fits (repeated a) (followed c d)
 fits_repeated_more a c d h k = (repeating.fits_repeated_more a c d h.0 k.0, repeated_all a (total (followed c d)))
 
--- what follows of the lists follows of all
+-- where each stop is replaced by a list of which something holds, it is so by a list of which what follows from that holds
 pub replaced_weaker : (Q R : Costs → Type 0) → ((e : Costs) → Q e → R e) → (c d : Costs) → IsReplaced Q c d → IsReplaced R c d
 replaced_weaker Q R h (ends t) d r = r
 replaced_weaker Q R h (stop t c) d (u, e, r, same, f, next, is) = (u, e, r, same, h e f, replaced_weaker Q R h c r next, is)
@@ -55,9 +56,11 @@ fits_replaced i p c d h r = (
   within_replaced i.all p.all c d h.1 (replaced_weaker (Fits p) (λ e. Within (total e) p.all) (λ e f. f.1) c d r),
 )
 
+-- the profile of a first stop alone has the bound on the cost of all that the profile has
 once_all : (p : Profile) → (once p).all ≡ p.all
 once_all p = elim (many p.most) as (λ w. (cond w (once_of_many p) p).all ≡ p.all) [ true ↦ refl | false ↦ refl ]
 
+-- a list with its first stop alone costs in all what the list does
 total-first : (c : Costs) → total (first_only c) ≡ total c
 total-first (ends t) = refl
 total-first (stop t c) = refl

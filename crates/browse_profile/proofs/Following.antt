@@ -11,22 +11,22 @@ use Rattle.browse_profile.specs.Fits.{After, FourFit}
 use Rattle.browse_profile.specs.Profiles.{may, many, added, in_turn}
 use Rattle.browse_profile.proofs.Bounding.{within_left, within_right, within_sum, within_case, both_true, not_false}
 
--- a further cost of nothing
+-- a further cost of nothing changes no costs
 pub more-zero : (c : Costs) → more 0 c ≡ c
 more-zero (ends t) = let e : 0 + t ≡ t = omega arith in ap ends e
 more-zero (stop t c) = let e : 0 + t ≡ t = omega arith in ap (λ (n : ℕ). stop n c) e
 
--- one further cost after another
+-- one further cost after another is a further cost of both together
 pub more-more : (m n : ℕ) (c : Costs) → more m (more n c) ≡ more (m + n) c
 more-more m n (ends t) = let e : m + (n + t) ≡ m + n + t = omega arith in ap ends e
 more-more m n (stop t c) = let e : m + (n + t) ≡ m + n + t = omega arith in ap (λ (k : ℕ). stop k c) e
 
--- a further cost of the first of two
+-- a further cost of one list after another is one of the first of them
 pub more-followed : (n : ℕ) (c d : Costs) → more n (followed c d) ≡ followed (more n c) d
 more-followed n (ends t) d = more-more n t d
 more-followed n (stop t c) d = refl
 
--- three lists, one after another
+-- of three lists one after another, the first two or the last two may be joined first
 pub followed_assoc : (x y z : Costs) → followed (followed x y) z ≡ followed x (followed y z)
 followed_assoc (ends t) y z = sym (more-followed t y z)
 followed_assoc (stop t x) y z = ap (stop t) (followed_assoc x y z)
@@ -54,7 +54,7 @@ pub fits_looser : (a r : Profile) → IsLooserAfter a r → ((n : ℕ) → Withi
 fits_looser a r l lead none sure m (ends t) h = (none t h.0, sure h.1)
 fits_looser a r l lead none sure m (stop t c) h = (lead t h.0, m h.1, after_looser a r l c h.2)
 
--- one list after another, after a stop
+-- after a stop of the first of two lists, one after another, they go on as a looser profile says, where the second does
 pub after_followed : (a r : Profile) → ((n : ℕ) → Within n a.between → Within n r.between) → (many a.most ≡ true → many r.most ≡ true)
     → (d : Costs) → ((k : ℕ) → Within k a.trail → After r (more k d)) → (c : Costs) → After a c → After r (followed c d)
 after_followed a r b m d rest (ends t) h = rest t h
@@ -104,6 +104,7 @@ may_many Never h = h
 may_many Once h = cc
 may_many Many h = refl
 
+-- where two booleans are false, their disjunction is
 or_false : (a b : Bool) → a ≡ false → b ≡ false → (a || b) ≡ false
 or_false true b h k = cc
 or_false false b h k = k
@@ -128,7 +129,7 @@ module _ (a b : Profile) where
         many = many_right a.most b.most;
       }
 
-  -- the first list has no stop
+  -- where the first of two lists has no stop, both one after the other are as their profiles in turn say
   turn_start : (d : Costs) → FourFit b d → (k : ℕ) → Within k a.none → a.sure ≡ false → FourFit (in_turn a b) (more k d)
   turn_start (ends u) h k w s =
       (within_case (not a.sure && not b.sure) (sum a.none b.none) (k + u) (both_true (not a.sure) (not b.sure) (not_false a.sure s) (not_false b.sure h.1)) (within_sum a.none b.none k u w h.0), or_false a.sure b.sure s h.1)

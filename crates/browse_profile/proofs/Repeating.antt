@@ -11,11 +11,13 @@ use Rattle.browse_profile.specs.Profiles.{may, many, greater, unbounded, with_al
 use Rattle.browse_profile.proofs.Bounding.{within_less, within_left, within_right, within_sum}
 use Rattle.browse_profile.proofs.Following.{fits_looser, after_followed}
 
+-- there can be several stops in either of two lists where there can be in the first
 many_greater_left : (a b : Most) → many a ≡ true → many (greater a b) ≡ true
 many_greater_left Never b h = cc
 many_greater_left Once b h = cc
 many_greater_left Many b h = refl
 
+-- there can be several stops in either of two lists where there can be in the second
 many_greater_right : (a b : Most) → many b ≡ true → many (greater a b) ≡ true
 many_greater_right Never b h = h
 many_greater_right Once Never h = cc
@@ -23,6 +25,7 @@ many_greater_right Once Once h = cc
 many_greater_right Once Many h = refl
 many_greater_right Many b h = refl
 
+-- there can be a stop in either of two lists where there can be in the first
 may_greater_left : (a b : Most) → may a ≡ true → may (greater a b) ≡ true
 may_greater_left Never b h = cc
 may_greater_left Once Never h = refl
@@ -30,6 +33,7 @@ may_greater_left Once Once h = refl
 may_greater_left Once Many h = refl
 may_greater_left Many b h = refl
 
+-- there can be a stop in either of two lists where there can be in the second
 may_greater_right : (a b : Most) → may b ≡ true → may (greater a b) ≡ true
 may_greater_right Never b h = h
 may_greater_right Once Never h = refl
@@ -37,10 +41,12 @@ may_greater_right Once Once h = refl
 may_greater_right Once Many h = refl
 may_greater_right Many b h = refl
 
+-- a conjunction whose first part is false is false
 and_left : (a b : Bool) → a ≡ false → (a && b) ≡ false
 and_left true b h = cc
 and_left false b h = refl
 
+-- a conjunction whose second part is false is false
 and_right : (a b : Bool) → b ≡ false → (a && b) ≡ false
 and_right true b h = h
 and_right false b h = refl
@@ -78,12 +84,14 @@ four_with_all x p c h =
 pub fits_repeated_none : (a : Profile) → FourFit (repeated a) (ends 0)
 fits_repeated_none a = elim a.sure as (λ w. FourFit (cond w (repeated_sure a) unbounded) (ends 0)) [ true ↦ (omega arith, refl) | false ↦ (tt, refl) ]
 
--- one list more, where it has a stop
+-- a profile, any number of whose lists come one after another
 module _ (a : Profile) where
+  -- after a stop, a list and then any number of lists, each with a stop, go on as the profile of any number of them says
   again : (d : Costs) → FourFit (repeated_sure a) d → (k : ℕ) → Within k a.trail → After (repeated_sure a) (more k d)
   again (ends u) h k w = let e : k + u ≤ k = omega (arith, h.0) in within_less a.trail (k + u) k e w
   again (stop u d) h k w = (within_right a.between (sum a.trail a.lead) (k + u) (within_sum a.trail a.lead k u w h.0), refl, h.2)
 
+  -- a list with a stop, before any number of such lists, is as the profile of any number of them says
   more_sure : a.sure ≡ true → (c d : Costs) → FourFit a c → FourFit (repeated_sure a) d → FourFit (repeated_sure a) (followed c d)
   more_sure s (ends t) d h k = absurd (let e : true ≡ false = sym s ∙ h.1 in cc)
   more_sure s (stop t c) d h k =

@@ -12,7 +12,7 @@ use Rattle.browse_profile.specs.Replacing.{IsReplaced}
 use Rattle.browse_profile.proofs.Bounding.{within_less, within_less_one, within_capped}
 use Rattle.browse_profile.proofs.Following.{more-zero, more-more}
 
--- a cost in front is a part of the whole
+-- a further cost before a list is a part of what the whole costs
 pub total-more : (n : ℕ) (c : Costs) → total (more n c) ≡ n + total c
 total-more n (ends t) = refl
 total-more n (stop t c) = omega arith
@@ -60,11 +60,12 @@ pub first_only-more : (n : ℕ) (c : Costs) → first_only (more n c) ≡ more n
 first_only-more n (ends t) = refl
 first_only-more n (stop t c) = refl
 
+-- where there can be one stop at most, what is left after it ends within the bound of the whole
 once_after : (p : Profile) → many p.most ≡ false → (t : ℕ) (c : Costs) → After p c → After p (ends (total c))
 once_after p o t (ends u) h = h
 once_after p o t (stop u c) h = (let e : true ≡ false = sym h.1 ∙ o in cc)
 
--- events of which the first binding alone counts
+-- events of which the first binding alone counts fit the profile of a first stop alone, after a further cost
 fits_once_at : {B : Type 0} (p : Profile) (n : ℕ) (es : List (Event B)) → FourFit p (more n (costs_of es)) → Within (total (more n (costs_of es))) p.all → FourFit (once p) (first_only (more n (costs_of es)))
 fits_once_at p n [] h w = (elim (many p.most) as (λ b. FourFit (cond b (once_of_many p) p) (ends (n + 0))) [ true ↦ h | false ↦ h ])
 fits_once_at p n (skip ∷ es) h w =

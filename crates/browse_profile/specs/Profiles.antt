@@ -5,13 +5,13 @@ use Rattle.browse_profile.specs.declared.profile.Most.{Most}
 use Rattle.browse_profile.specs.declared.profile.Most.TheVariants.{Never, Once, Many}
 use Rattle.browse_profile.specs.Bounds.{larger, sum, less_one, only_if, all_replaced}
 
--- there can be a stop in a list
+-- whether there can be a stop in a list
 abbrev pub may : Most → Bool
 may Never = false
 may Once = true
 may Many = true
 
--- there can be several stops in a list
+-- whether there can be several stops in a list
 abbrev pub many : Most → Bool
 many Never = false
 many Once = false
@@ -49,7 +49,7 @@ unbounded = record { lead = None; between = None; trail = None; none = None; all
 abbrev pub costless : Profile
 costless = record { lead = Some 0; between = Some 0; trail = Some 0; none = Some 0; all = Some 0; sure = false; most = Never }
 
--- one list and then another
+-- the profile of one list and then another
 abbrev pub in_turn : Profile → Profile → Profile
 in_turn a b = record {
   lead = larger a.lead (only_if (not a.sure && may b.most) (sum a.none b.lead));
@@ -73,7 +73,7 @@ one_of a b = record {
   most = greater a.most b.most;
 }
 
--- any number of lists, each of which has a stop
+-- the profile of any number of lists, each of which has a stop
 abbrev pub repeated_sure : Profile → Profile
 repeated_sure a = record { lead = a.lead; between = larger a.between (sum a.trail a.lead); trail = a.trail; none = Some 0; all = None; sure = false; most = Many }
 
@@ -81,7 +81,7 @@ repeated_sure a = record { lead = a.lead; between = larger a.between (sum a.trai
 abbrev pub repeated : Profile → Profile
 repeated a = cond a.sure (repeated_sure a) unbounded
 
--- each stop replaced by a list that has a stop
+-- the profile of a list each stop of which is replaced by a list that has a stop
 abbrev pub replaced_sure : Profile → Profile → Profile
 replaced_sure i p = record {
   lead = sum (less_one i.lead) p.lead;
@@ -93,7 +93,7 @@ replaced_sure i p = record {
   most = cond (many i.most) Many p.most;
 }
 
--- the one stop replaced by a list
+-- the profile of a list whose one stop is replaced by a list
 abbrev pub replaced_once : Profile → Profile → Profile
 replaced_once i p = record {
   lead = only_if (may p.most) (sum (less_one i.lead) p.lead);
@@ -105,7 +105,7 @@ replaced_once i p = record {
   most = p.most;
 }
 
--- each stop replaced by a list
+-- the profile of a list each stop of which is replaced by a list, by the number of stops
 abbrev pub replaced_by : Most → Profile → Profile → Profile
 replaced_by Never i p = i
 replaced_by Once i p = cond p.sure (replaced_sure i p) (replaced_once i p)
@@ -115,11 +115,11 @@ replaced_by Many i p = cond p.sure (replaced_sure i p) unbounded
 abbrev pub with_all : Option ℕ → Profile → Profile
 with_all x p = record { lead = p.lead; between = p.between; trail = p.trail; none = p.none; all = x; sure = p.sure; most = p.most }
 
--- each stop replaced by a list
+-- the profile of a list each stop of which is replaced by a list
 abbrev pub replaced : Profile → Profile → Profile
 replaced i p = with_all (all_replaced i.all p.all) (replaced_by i.most i p)
 
--- the one stop may be passed over
+-- the profile of a list whose one stop may be passed over
 abbrev pub passed_once : Profile → Profile
 passed_once i = record { lead = i.lead; between = i.between; trail = i.trail; none = larger i.none (sum i.lead i.trail); all = i.all; sure = false; most = i.most }
 
@@ -133,11 +133,11 @@ passed_by Many i = with_all i.all unbounded
 abbrev pub passed : Profile → Profile
 passed i = passed_by i.most i
 
--- stops but the first may be passed over
+-- the profile of a list whose stops but the first may be passed over
 abbrev pub first_kept : Profile → Profile
 first_kept i = record { lead = i.lead; between = None; trail = None; none = i.none; all = i.all; sure = i.sure; most = i.most }
 
--- the first stop alone, where there can be several
+-- the profile of a list's first stop alone, where there can be several
 abbrev pub once_of_many : Profile → Profile
 once_of_many p = record { lead = p.lead; between = Some 0; trail = less_one p.all; none = p.none; all = p.all; sure = p.sure; most = Once }
 
@@ -149,7 +149,7 @@ once p = cond (many p.most) (once_of_many p) p
 abbrev pub greatest : Profile → Option ℕ
 greatest p = larger (larger p.lead p.between) (larger p.trail p.none)
 
--- any of the lists that these give; a skip where there is none
+-- the profile of any of the lists that members give; a skip where there is none
 abbrev pub any_of : {X : Type 0} → (X → Profile) → List X → Profile
 any_of f [] = one_skip
 any_of f (x ∷ []) = f x

@@ -1,4 +1,4 @@
--- What profiles made of others describe.
+-- What a profile that is made of others describes.
 use Rattle.std.specs.Prelude.{List}
 use Rattle.mix_base.specs.Events.{Event}
 use Rattle.browse_profile.specs.declared.profile.Profile.{Profile}

@@ -125,7 +125,7 @@ impl Profile {
         }
     }
 
-    /// One list and then another.
+    /// The profile of one list and then another.
     pub fn in_turn(self, b: Profile) -> Profile
         ensures { result ≡ in_turn self b }
     {
@@ -164,7 +164,7 @@ impl Profile {
         }
     }
 
-    /// The profile of any number of lists.
+    /// The profile of any number of lists, one after another.
     pub fn repeated(self) -> Profile
         ensures { result ≡ repeated self }
     {
@@ -183,7 +183,7 @@ impl Profile {
         }
     }
 
-    // Each stop replaced by a list that has a stop.
+    // The profile of a list each stop of which is replaced by a list that has a stop.
     fn replaced_sure(self, p: Profile) -> Profile
         ensures { result ≡ replaced_sure self p }
     {
@@ -204,7 +204,7 @@ impl Profile {
         }
     }
 
-    // The one stop replaced by a list.
+    // The profile of a list whose one stop is replaced by a list.
     fn replaced_once(self, p: Profile) -> Profile
         ensures { result ≡ replaced_once self p }
     {
@@ -226,14 +226,14 @@ impl Profile {
         Profile { all, ..self }
     }
 
-    /// Each stop replaced by a list.
+    /// The profile of a list each stop of which is replaced by a list.
     pub fn replaced(self, p: Profile) -> Profile
         ensures { result ≡ replaced self p }
     {
         self.replaced_by(p).with_all(all_replaced(self.all, p.all))
     }
 
-    // Each stop replaced by a list, but for the cost of all.
+    // The profile of a list each stop of which is replaced by a list, but for the cost of all.
     fn replaced_by(self, p: Profile) -> Profile
         ensures { result ≡ replaced_by self.most self p }
     {
@@ -252,7 +252,7 @@ impl Profile {
         }
     }
 
-    /// Stops may be passed over.
+    /// The profile of a list whose stops may be passed over.
     pub fn passed(self) -> Profile
         ensures { result ≡ passed self }
     {
@@ -283,7 +283,7 @@ impl Profile {
         }
     }
 
-    /// Stops but the first may be passed over.
+    /// The profile of a list whose stops but the first may be passed over.
     pub fn first_kept(self) -> Profile
         ensures { result ≡ first_kept self }
     {

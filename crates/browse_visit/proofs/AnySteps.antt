@@ -3,6 +3,7 @@ use Rattle.std.proofs.Common.{◌≡◌, ℕ, zero, suc, ◌+◌, ◌<◌, List,
 use Rattle.browse_profile.specs.declared.profile.Profile.{Profile}
 use Rattle.browse_profile.specs.Profiles.{one_of, any_of}
 
+-- any of the lists of a member and of those after it is the member's, or any of those after it
 any_at : (f : List ℕ → Profile) (xs : List (List ℕ)) (i : ℕ) (d : List ℕ) → suc i < length xs → one_of (f (get_or xs i d)) (any_of f (drop (suc i) xs)) ≡ any_of f (drop i xs)
 any_at f [] i d h = absurd (omega (arith, h))
 any_at f (x ∷ []) i d h = absurd (omega (arith, h))

@@ -40,12 +40,13 @@ is_written (Some y ∷ ts) l =
       | false ↦ λ e. elim (is_written ts l) [ inl a ↦ inl (inr a) | inr h ↦ inr (λ x a. elim a [ inl i ↦ (let k : x ≡ y = cc in ap (λ (z : List ℕ). bytes_eq z l) k ∙ e) | inr b ↦ h x b ]) ]
     ]) refl
 
--- the other label is longer than each
+-- each of some labels is no longer than all their bytes
 shorter : (ls : List (List ℕ)) (x : List ℕ) → Among x ls → length x ≤ length (all_bytes ls)
 shorter [] x a = absurd a
 shorter (y ∷ ls) x (inl e) = let h = length-append y (all_bytes ls) in subst (λ (z : List ℕ). length z ≤ length (y ++ all_bytes ls)) (sym e) (omega (arith, h))
 shorter (y ∷ ls) x (inr a) = let h = length-append y (all_bytes ls) in let k = shorter ls x a in omega (arith, h, k)
 
+-- the other label is none of the labels that are written
 other_fails : (ls : List (List ℕ)) (x : List ℕ) → Among x ls → bytes_eq x (other_label ls) ≡ false
 other_fails ls x a =
     (elim (bytes_eq x (other_label ls)) as (λ w. bytes_eq x (other_label ls) ≡ w → w ≡ false) [
@@ -61,6 +62,7 @@ test_written (None ∷ ts) x (inr a) = test_written ts x a
 test_written (Some y ∷ ts) x (inl e) = (let k : x ≡ y = cc in inl k)
 test_written (Some y ∷ ts) x (inr a) = inr (test_written ts x a)
 
+-- a label that no label of a test equals passes the same tests as the other label
 alike_other : (ts : List (Option (List ℕ))) (l : List ℕ) → ((x : List ℕ) → Among (Some x) ts → bytes_eq x l ≡ false) → (t : Option (List ℕ)) → Among t ts → passes t l ≡ passes t (other_label (written ts))
 alike_other ts l h None a = refl
 alike_other ts l h (Some x) a = h x a ∙ sym (other_fails (written ts) x (test_written ts x a))

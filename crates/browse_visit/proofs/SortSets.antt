@@ -19,18 +19,22 @@ use Rattle.browse_visit.specs.Shapes.{row_of, row_label, name_of, columns_of, so
 use Rattle.browse_visit.specs.Visits.{visit_profile, layouts_found, layouts_below, profile_below}
 use Rattle.browse_profile.proofs.AnyLaws.{any_same, one_of_assoc}
 
+-- where one of two booleans is true, the first is or the second is
 or_cases : (a b : Bool) → (a || b) ≡ true → (a ≡ true) ⊎ (b ≡ true)
 or_cases true b h = inl refl
 or_cases false b h = inr h
 
+-- a disjunction whose first part is true is true
 or_left : (a b : Bool) → a ≡ true → (a || b) ≡ true
 or_left true b h = refl
 or_left false b h = cc
 
+-- a disjunction whose second part is true is true
 or_right : (a b : Bool) → b ≡ true → (a || b) ≡ true
 or_right true b h = refl
 or_right false b h = h
 
+-- a sort is in the sorts of two sets where it is in one of them
 has_both : (a b : Sorts) (s : Sort) → has_sort (both a b) s ≡ (has_sort a s || has_sort b s)
 has_both a b Document = refl
 has_both a b Root = refl
@@ -40,6 +44,7 @@ has_both a b MaybeValue = refl
 has_both a b Leaf = refl
 has_both a b Anything = refl
 
+-- no sort is in the set of no sorts
 has_none : (s : Sort) → has_sort no_sorts s ≡ false
 has_none Document = refl
 has_none Root = refl
@@ -49,6 +54,7 @@ has_none MaybeValue = refl
 has_none Leaf = refl
 has_none Anything = refl
 
+-- a sort is in the set of it alone
 has_own : (s : Sort) → has_sort (only s) s ≡ true
 has_own Document = refl
 has_own Root = refl
@@ -58,6 +64,7 @@ has_own MaybeValue = refl
 has_own Leaf = refl
 has_own Anything = refl
 
+-- the only sort of a set of one is that sort
 only_own : (a b : Sort) → has_sort (only a) b ≡ true → a ≡ b
 only_own Document Document h = refl
 only_own Document Root h = cc
@@ -109,6 +116,7 @@ only_own Anything MaybeValue h = cc
 only_own Anything Leaf h = cc
 only_own Anything Anything h = refl
 
+-- each sort is in the list of all sorts
 in_all : (s : Sort) → Among s all_sorts
 in_all Document = inl refl
 in_all Root = inr (inl refl)
@@ -118,11 +126,13 @@ in_all MaybeValue = inr (inr (inr (inr (inl refl))))
 in_all Leaf = inr (inr (inr (inr (inr (inl refl)))))
 in_all Anything = inr (inr (inr (inr (inr (inr (inl refl))))))
 
+-- a layout that a member gives is one of all that the members give
 among_flat : {X : Type 0} (f : X → List Layout) (xs : List X) (x : X) (g : Layout) → Among x xs → Among g (f x) → Among g (flat_map f xs)
 among_flat f [] x g a h = absurd a
 among_flat f (y ∷ xs) x g (inl e) h = among_left (f y) (flat_map f xs) g (subst (λ z. Among g (f z)) e h)
 among_flat f (y ∷ xs) x g (inr a) h = among_right (f y) (flat_map f xs) g (among_flat f xs x g a h)
 
+-- a layout of all that members give is given by one of them
 flat_cases : {X : Type 0} (f : X → List Layout) (xs : List X) (g : Layout) → Among g (flat_map f xs) → (x : X) × Among x xs × Among g (f x)
 flat_cases f [] g h = absurd h
 flat_cases f (x ∷ xs) g h =
@@ -143,9 +153,11 @@ module _ (shape : Shape) where
     out = λ g i. inl (sym i.2 ∙ ap (sort_layout shape) (sym (only_own s i.0 i.1)));
   }
 
+  -- a layout of the first of two sets is one of both together
   in_left : (a b : Sorts) (g : Layout) → In shape a g → In shape (both a b) g
   in_left a b g i = (i.0, has_both a b i.0 ∙ or_left (has_sort a i.0) (has_sort b i.0) i.1, i.2)
 
+  -- a layout of the second of two sets is one of both together
   in_right : (a b : Sorts) (g : Layout) → In shape b g → In shape (both a b) g
   in_right a b g i = (i.0, has_both a b i.0 ∙ or_right (has_sort a i.0) (has_sort b i.0) i.1, i.2)
 
@@ -165,11 +177,12 @@ module _ (shape : Shape) where
   set_taken true k gs s = s
   set_taken false k gs s = set_none
 
-  -- lists with the same members
+  -- a set has the layouts of a list where it has those of a list with the same members
   pub set_same : (k : Sorts) (xs ys : List Layout) → IsSet shape k xs → ((g : Layout) → Among g xs → Among g ys) → ((g : Layout) → Among g ys → Among g xs) → IsSet shape k ys
   set_same k xs ys s f b = record { into = λ g a. s.into g (b g a); out = λ g i. f g (s.out g i) }
 
   module _ (m : Machine) (labels : List (List ℕ)) where
+    -- the layouts of the trees below the bindings of a visit of trees that are laid out so
     abbrev found : ℕ → Layout → List Layout
     found q g = layouts_found m labels q g
 
@@ -189,7 +202,7 @@ module _ (shape : Shape) where
         (set_taken (m.accepts q) (only own) (g ∷ []) s)
         (set_taken (m.goes_on q) below gs t)
 
-    -- a list, and another between
+    -- a set has the layouts of three lists together, whichever two are joined first
     regroup : (k : Sorts) (xs ys zs : List Layout) → IsSet shape k ((xs ++ ys) ++ zs) → IsSet shape k (xs ++ (ys ++ zs))
     regroup k xs ys zs s = set_same k ((xs ++ ys) ++ zs) (xs ++ (ys ++ zs)) s (λ g a. fore g a) (λ g a. back g a)
       where
@@ -244,6 +257,7 @@ module _ (shape : Shape) where
     set_sort Leaf = set_none
     set_sort Anything = set_only Anything
 
+    -- the layouts that are found below a node of a sort of the set
     abbrev each_found : Sorts → Sort → List Layout
     each_found k s = cond (has_sort k s) (found m.start (sort_layout shape s)) []
 
@@ -264,7 +278,7 @@ module _ (shape : Shape) where
     member_taken true gs g a = (refl, a)
     member_taken false gs g a = absurd a
 
-    -- what is found below nodes of a set
+    -- the sorts that a visit finds below nodes of a set have the layouts that are found below nodes of its layouts
     pub sorts_found-is : (k : Sorts) (gs : List Layout) → IsSet shape k gs → IsSet shape (sorts_found m labels shape k) (layouts_below m labels gs)
     sorts_found-is k gs s = set_same (sorts_found m labels shape k) (flat_map (each_found k) all_sorts) (layouts_below m labels gs) (set_from k no_sorts [] all_sorts set_none) fore back
       where
@@ -285,10 +299,11 @@ module _ (shape : Shape) where
     abbrev members : Sorts → List Sort → List Layout
     members k ss = flat_map (λ s. cond (has_sort k s) (sort_layout shape s ∷ []) []) ss
 
+    -- the profile of the visit below a node with this layout
     abbrev visit : Layout → Profile
     visit g = visit_profile m labels m.start g
 
-    -- any of them, after others
+    -- the profile of the visits below nodes of one of some layouts, after those so far
     abbrev any_from : Option Profile → List Layout → Profile
     any_from None gs = any_of visit gs
     any_from (Some a) [] = a
@@ -314,7 +329,7 @@ module _ (shape : Shape) where
           | false ↦ refl
         ]
 
-    -- the visit below nodes of a set
+    -- the profile of the visit below nodes of a set is that below nodes of its layouts
     pub sorts_profile-is : (k : Sorts) (gs : List Layout) → IsSet shape k gs → sorts_profile m labels shape k ≡ profile_below m labels gs
     sorts_profile-is k gs s = profiles_are k None all_sorts ∙ any_same (visit_profile m labels m.start) (members k all_sorts) gs fore back
       where

@@ -15,10 +15,11 @@ use Rattle.browse_profile.proofs.Following.{followed_assoc, costs-append}
 use Rattle.browse_profile.proofs.Fitting.{fits_any, fits_in_turn, fits_first, fits_second, fits_unbounded, fits_repeated_none, fits_repeated_more}
 
 module _ (m : Machine) (labels : List (List ℕ)) (samples : AreSamples m labels) where
-  -- the events at a tree and below it
+  -- the events of a visit at a tree and below it, without those after it
   abbrev here : ℕ → List ℕ → Forest → List (Event (List ℕ))
   here q at kids = cond (m.accepts q) (bind at) skip ∷ cond (m.goes_on q) (visit m q (child_place at) kids) []
 
+  -- a visit's event at a tree is as its profile says
   own_fits : (q : ℕ) (at : List ℕ) → Fits (own_profile m q) (costs_of (cond (m.accepts q) (bind at) skip ∷ []))
   own_fits q at =
       elim (m.accepts q) as (λ w. Fits (cond w one_binding one_skip) (costs_of (cond w (bind at) skip ∷ []))) [
@@ -26,6 +27,7 @@ module _ (m : Machine) (labels : List (List ℕ)) (samples : AreSamples m labels
         | false ↦ ((omega arith, refl), omega arith)
       ]
 
+  -- the events at a tree and below it are as their profile says, where those below do
   here_fits : (q : ℕ) (at : List ℕ) (kids : Forest) (below : Profile) → Fits below (costs_of (visit m q (child_place at) kids)) → Fits (tree_profile m q below) (costs_of (here q at kids))
   here_fits q at kids below h =
       elim (m.goes_on q) as (λ w. Fits (cond w (in_turn (own_profile m q) below) (own_profile m q)) (costs_of (cond (m.accepts q) (bind at) skip ∷ cond w (visit m q (child_place at) kids) []))) [
@@ -35,15 +37,17 @@ module _ (m : Machine) (labels : List (List ℕ)) (samples : AreSamples m labels
         | false ↦ own_fits q at
       ]
 
-  -- a visit, its first tree and those after it
+  -- a visit costs what the events at its first tree and below it cost, and then what those after it do
   tree_costs : (q : ℕ) (at label : List ℕ) (kids rest : Forest)
       → costs_of (visit m q at (tree label kids rest)) ≡ followed (costs_of (here (m.step q label) at kids)) (costs_of (visit m q (place_after at) rest))
   tree_costs q at label kids rest = costs-append (here (m.step q label) at kids) (visit m q (place_after at) rest)
 
+  -- a visit of no trees is one skip
   no_trees_fit : (q : ℕ) (at : List ℕ) (f : Forest) → IsNone f → Fits one_skip (costs_of (visit m q at f))
   no_trees_fit q at none h = ((omega arith, refl), omega arith)
   no_trees_fit q at (tree label kids rest) h = absurd h
 
+  -- the visit of a tree and those after it is as the profiles of both in turn say
   tree_then : (q : ℕ) (at label : List ℕ) (kids rest : Forest) (a b : Profile) → Fits a (costs_of (here (m.step q label) at kids)) → Fits b (costs_of (visit m q (place_after at) rest))
       → Fits (in_turn a b) (costs_of (visit m q at (tree label kids rest)))
   tree_then q at label kids rest a b h k =
@@ -61,6 +65,7 @@ module _ (m : Machine) (labels : List (List ℕ)) (samples : AreSamples m labels
         tree_costs q at l kids rest ∙ ap (followed c) r.2 ∙ sym (followed_assoc c r.0 (ends 1)),
       )
 
+  -- what is any number of lists and then a skip fits the profile of those in turn
   rows_then : (q : ℕ) (a : Profile) (d : Costs) → (c : Costs) × Fits (repeated a) c × (d ≡ followed c (ends 1)) → Fits (in_turn (repeated a) one_skip) d
   rows_then q a d r = subst (Fits (in_turn (repeated a) one_skip)) (sym r.2) (fits_in_turn (repeated a) one_skip r.0 (ends 1) r.1 ((omega arith, refl), omega arith))
 
@@ -72,7 +77,7 @@ module _ (m : Machine) (labels : List (List ℕ)) (samples : AreSamples m labels
       (subst (λ (z : ℕ). Fits (tree_profile m z one_skip) (costs_of (here (m.step q label) at kids))) (s.2 q)
       (here_fits (m.step q label) at kids one_skip (no_trees_fit (m.step q label) (child_place at) kids h)))
 
-  -- trees that are laid out so
+  -- the visit of trees that are laid out in a way is as the profile of that layout says
   pub visit_fits : (g : Layout) (q : ℕ) (at : List ℕ) (f : Forest) → IsLaid g f → Fits (visit_profile m labels q g) (costs_of (visit m q at f))
   visit_fits no_trees q at f h = no_trees_fit q at f h
   visit_fits (a_tree label kids rest) q at none h = absurd h

@@ -25,11 +25,12 @@ next_place-push (x ∷ y ∷ p) k = ap (option_map (λ q. x ∷ q)) (next_place-
 after_push : (p : List ℕ) (k : ℕ) → place_after (p ++ k ∷ []) ≡ p ++ (k + 1) ∷ []
 after_push p k = ap (λ o. unwrap_or o (p ++ k ∷ [])) (next_place-push p k)
 
+-- the trees from an index on in those after the first are those after the first from that index on
 from_after : (k : ℕ) (f : Forest) → from k (after_first f) ≡ after_first (from k f)
 from_after zero f = refl
 from_after (suc k) f = from_after k (after_first f)
 
--- the trees there are those after
+-- the trees at the place after a child's are those after the trees at that child's
 trees_next : (whole : Forest) (p : List ℕ) (k : ℕ) → trees_at whole (p ++ (k + 1) ∷ []) ≡ after_first (trees_at whole (p ++ k ∷ []))
 trees_next whole p k =
     let e : k + 1 ≡ suc k = omega arith in
@@ -67,9 +68,11 @@ module _ (m : Machine) (labels : List (List ℕ)) (samples : AreSamples m labels
   abbrev BelowPlace : List Layout → List ℕ → Type 0
   BelowPlace gs place = IsBelow gs (first_kids (trees_at whole place))
 
+  -- trees below a place that have a layout of the first list have one of both lists
   below_left : (gs hs : List Layout) (place : List ℕ) → BelowPlace gs place → BelowPlace (gs ++ hs) place
   below_left gs hs place h = (h.0, among_left gs hs h.0 h.1, h.2)
 
+  -- trees below a place that have a layout of the second list have one of both lists
   below_right : (gs hs : List Layout) (place : List ℕ) → BelowPlace hs place → BelowPlace (gs ++ hs) place
   below_right gs hs place h = (h.0, among_right gs hs h.0 h.1, h.2)
 
@@ -90,7 +93,7 @@ module _ (m : Machine) (labels : List (List ℕ)) (samples : AreSamples m labels
       let there : EachBinding (BelowPlace gs) (visit m q ((p ++ k ∷ []) ++ 0 ∷ []) kids) = h (trees_at-child whole (p ++ k ∷ []) ∙ ap first_kids at) in
       elim (m.goes_on q) as (λ w. EachBinding (BelowPlace (cond w gs [])) (cond w (visit m q (child_place (p ++ k ∷ [])) kids) [])) [ true ↦ there | false ↦ tt ]
 
-  -- a child, what is below it, and what is after it
+  -- the trees below what is bound at a child, below it and after it have the layouts found of each
   tree_kinds : (q : ℕ) (p : List ℕ) (k : ℕ) (label : List ℕ) (kids rest : Forest) (own deep later : List Layout) → trees_at whole (p ++ k ∷ []) ≡ tree label kids rest
       → (IsTrue (m.accepts (m.step q label)) → IsBelow own kids)
       → ((trees_at whole ((p ++ k ∷ []) ++ 0 ∷ []) ≡ kids) → EachBinding (BelowPlace deep) (visit m (m.step q label) ((p ++ k ∷ []) ++ 0 ∷ []) kids))
@@ -109,6 +112,7 @@ module _ (m : Machine) (labels : List (List ℕ)) (samples : AreSamples m labels
       (binding_weaker (BelowPlace later) (BelowPlace gs) (λ x b. below_right own (taken ++ later) x (below_right taken later x b)) (visit m q (p ++ (k + 1) ∷ []) rest)
       (l (trees_next whole p k ∙ ap after_first at)))))
 
+  -- of no trees, nothing is bound, so all that is bound has any layouts
   nothing_found : (q : ℕ) (gs : List Layout) (at : List ℕ) (f : Forest) → IsNone f → EachBinding (BelowPlace gs) (visit m q at f)
   nothing_found q gs at none h = tt
   nothing_found q gs at (tree label kids rest) h = absurd h
@@ -121,10 +125,11 @@ module _ (m : Machine) (labels : List (List ℕ)) (samples : AreSamples m labels
       let t = accepted_any q x ls a h in
       elim (m.accepts (m.step q l)) as (λ w. IsTrue (Rattle.std.specs.Prelude.◌||◌ w (list_any (λ l. m.accepts (m.step q l)) ls))) [ true ↦ refl | false ↦ t ]
 
-  -- what the layout of rows gives
+  -- the layouts of the trees below the bindings of a visit of rows, by a row's label and layout
   abbrev rows_found : ℕ → List ℕ → Layout → List Layout
   rows_found q label kids = cond (m.accepts (m.step q label)) (kids ∷ []) [] ++ cond (m.goes_on (m.step q label)) (layouts_found m labels (m.step q label) kids) []
 
+  -- the trees below the bindings of a visit of rows have the layouts that are found
   rows_kinds : (q : ℕ) (label : List ℕ) (g : Layout)
       → ((p : List ℕ) (k : ℕ) (f : Forest) → trees_at whole (p ++ k ∷ []) ≡ f → IsLaid g f → EachBinding (BelowPlace (layouts_found m labels (m.step q label) g)) (visit m (m.step q label) (p ++ k ∷ []) f))
       → (p : List ℕ) (k : ℕ) (f : Forest) → trees_at whole (p ++ k ∷ []) ≡ f → EachTree label (IsLaid g) f → EachBinding (BelowPlace (rows_found q label g)) (visit m q (p ++ k ∷ []) f)
@@ -142,7 +147,7 @@ module _ (m : Machine) (labels : List (List ℕ)) (samples : AreSamples m labels
       (λ e. each (p ++ k ∷ []) 0 kids e h.1)
       (λ e. rows_kinds q label g each p (k + 1) rest e h.2)))
 
-  -- trees that are laid out so
+  -- the trees below the bindings of a visit of trees that are laid out in a way have the layouts found of it
   pub visit_kinds : (g : Layout) (q : ℕ) (p : List ℕ) (k : ℕ) (f : Forest) → trees_at whole (p ++ k ∷ []) ≡ f → IsLaid g f → EachBinding (BelowPlace (layouts_found m labels q g)) (visit m q (p ++ k ∷ []) f)
   visit_kinds no_trees q p k f at h = nothing_found q [] (p ++ k ∷ []) f h
   visit_kinds (a_tree label kids rest) q p k none at h = absurd h

@@ -51,7 +51,7 @@ sort_found m labels shape MaybeValue = value_found m labels m.start
 sort_found m labels shape Leaf = no_sorts
 sort_found m labels shape Anything = only Anything
 
--- below nodes of a set, after others
+-- the sorts that a visit finds below nodes of a set's sorts among some, after those found so far
 abbrev pub found_from : Machine → List (List ℕ) → Shape → Sorts → Sorts → List Sort → Sorts
 found_from m labels shape k before [] = before
 found_from m labels shape k before (s ∷ ss) = found_from m labels shape k (both before (if_taken (has_sort k s) (sort_found m labels shape s))) ss
@@ -60,7 +60,7 @@ found_from m labels shape k before (s ∷ ss) = found_from m labels shape k (bot
 abbrev pub sorts_found : Machine → List (List ℕ) → Shape → Sorts → Sorts
 sorts_found m labels shape k = found_from m labels shape k no_sorts all_sorts
 
--- one list or another, of those so far and one more
+-- the profile of one list or another: of one of those so far, or of one more
 abbrev pub or_profile : Option Profile → Profile → Profile
 or_profile None p = p
 or_profile (Some a) p = one_of a p
@@ -74,7 +74,7 @@ abbrev pub the_profile : Option Profile → Profile
 the_profile None = one_skip
 the_profile (Some p) = p
 
--- the visit below a node of a sort
+-- the profile of the visit below a node of a sort
 abbrev pub sort_profile : Machine → List (List ℕ) → Shape → Sort → Profile
 sort_profile m labels shape s = visit_profile m labels m.start (sort_layout shape s)
 
@@ -83,6 +83,6 @@ abbrev pub profiles_from : Machine → List (List ℕ) → Shape → Sorts → O
 profiles_from m labels shape k found [] = found
 profiles_from m labels shape k found (s ∷ ss) = profiles_from m labels shape k (with_profile found (has_sort k s) (sort_profile m labels shape s)) ss
 
--- the visit below a node of a set
+-- the profile of the visit below nodes of a set
 abbrev pub sorts_profile : Machine → List (List ℕ) → Shape → Sorts → Profile
 sorts_profile m labels shape k = the_profile (profiles_from m labels shape k None all_sorts)

@@ -34,7 +34,7 @@ abbrev pub IsLeaf : Forest → Type 0
 IsLeaf none = ⊥
 IsLeaf (tree label kids rest) = IsNone kids × IsNone rest
 
--- the trees are laid out so
+-- the trees are laid out as the layout says
 abbrev pub IsLaid : Layout → Forest → Type 0
 IsLaid no_trees f = IsNone f
 IsLaid (a_tree label kids rest) f = HasFirst label (IsLaid kids) (IsLaid rest) f
@@ -47,7 +47,7 @@ IsLaid any_trees f = Unit {0}
 abbrev pub value_layout : Bool → Layout
 value_layout always = cond always one_value (either no_trees one_value)
 
--- the document of each source is laid out so
+-- the document of each source has its layout
 abbrev pub AreLaid : (ℕ → Layout) → Documents → Type 0
 AreLaid shapes docs = (s : ℕ) → IsLaid (shapes s) (docs s)
 

@@ -15,11 +15,11 @@ AreSamples m labels = (l : List ℕ) → (x : List ℕ) × Among x labels × ((q
 abbrev pub own_profile : Machine → ℕ → Profile
 own_profile m q = cond (m.accepts q) one_binding one_skip
 
--- the events at a tree, the states after its label, and below it
+-- the profile of the events at a tree and below it, from the states after its label
 abbrev pub tree_profile : Machine → ℕ → Profile → Profile
 tree_profile m q below = cond (m.goes_on q) (in_turn (own_profile m q) below) (own_profile m q)
 
--- the visit of a list of trees from the states above them, and the skip at its end
+-- the profile of the visit of a list of trees, from the states above them, with the skip at its end
 abbrev pub visit_profile : Machine → List (List ℕ) → ℕ → Layout → Profile
 visit_profile m labels q no_trees = one_skip
 visit_profile m labels q (a_tree label kids rest) = in_turn (tree_profile m (m.step q label) (visit_profile m labels (m.step q label) kids)) (visit_profile m labels q rest)
@@ -28,7 +28,7 @@ visit_profile m labels q (any_rows label kids) = in_turn (repeated (tree_profile
 visit_profile m labels q (either a b) = one_of (visit_profile m labels q a) (visit_profile m labels q b)
 visit_profile m labels q any_trees = unbounded
 
--- how the trees below its bindings are laid out
+-- how the trees below the bindings of a visit are laid out, by the layout of the trees visited and the states above them
 abbrev pub layouts_found : Machine → List (List ℕ) → ℕ → Layout → List Layout
 layouts_found m labels q no_trees = []
 layouts_found m labels q (a_tree label kids rest) =
@@ -40,10 +40,10 @@ layouts_found m labels q (any_rows label kids) =
 layouts_found m labels q (either a b) = layouts_found m labels q a ++ layouts_found m labels q b
 layouts_found m labels q any_trees = any_trees ∷ []
 
--- the visit below a node below which the trees are laid out by one of these
+-- the profile of the visit below a node below which the trees are laid out by one of these
 abbrev pub profile_below : Machine → List (List ℕ) → List Layout → Profile
 profile_below m labels gs = any_of (visit_profile m labels m.start) gs
 
--- how the trees below its bindings are laid out
+-- how the trees below the bindings of a visit below a node are laid out, by the layouts below that node
 abbrev pub layouts_below : Machine → List (List ℕ) → List Layout → List Layout
 layouts_below m labels gs = flat_map (layouts_found m labels m.start) gs

@@ -288,7 +288,7 @@ fn sort_profile(
     }
 }
 
-// One list or another, of those so far and one more.
+// The profile of one list or another: of one of those so far, or of one more.
 fn or_profile(found: Option<Profile>, p: Profile) -> Profile
     ensures { result ≡ or_profile found p }
 {
@@ -309,7 +309,7 @@ fn with_profile(found: Option<Profile>, can: bool, p: Profile) -> Option<Profile
     }
 }
 
-/// The visit below nodes of a set.
+/// The profile of the visit below nodes of a set.
 pub fn sorts_profile(
     automaton: &Auto,
     labels: &[Label],

@@ -28,7 +28,7 @@ fn own_profile(automaton: &Auto, states: StateSet) -> Profile
     }
 }
 
-// The events at a tree and below it.
+// The profile of the events at a tree and below it.
 pub fn tree_profile(automaton: &Auto, states: StateSet, below: Profile) -> Profile
     ensures { result ≡ tree_profile (machine_of automaton.now) states below }
 {
@@ -46,7 +46,7 @@ pub fn one_value_profile(automaton: &Auto, labels: &[Label], states: StateSet) -
     any_leaf_profile(automaton, labels, states).in_turn(Profile::one_skip())
 }
 
-// A leaf of any of these labels.
+// The profile of the visit of a leaf of any of these labels.
 fn any_leaf_profile(automaton: &Auto, labels: &[Label], states: StateSet) -> Profile
     ensures { result ≡ any_of (λ l. tree_profile (machine_of automaton.now) ((machine_of automaton.now).step states l) one_skip) labels.now }
 {

@@ -9,6 +9,7 @@ use std::test::Fail;
 use tree_buffer::Buffer;
 use walk_tree::{walk, walk_all};
 
+// The bracket text of the document that is walked.
 const DOCUMENT: &str = "a[b[d,e],c]";
 
 // The place of the second child of the root. It is found twice, at one spot.

@@ -5,6 +5,7 @@ use plan_core::{Op, Piece, key_facts};
 use std::alloc::{AllocError, Global};
 use std::test::Fail;
 
+// A source operator that binds its root.
 fn source(source: u32, out: u32) -> Op {
     Op::Source {
         source,
@@ -12,6 +13,7 @@ fn source(source: u32, out: u32) -> Op {
     }
 }
 
+// A getDescendants along the path `a`.
 fn descend(alloc: Global, input: u32, start: u32, out: u32) -> Result<Op, AllocError> {
     Ok(Op::GetDescendants {
         input,
@@ -26,6 +28,7 @@ fn nodes(alloc: Global, first: u32, second: u32) -> Result<Vec<Key>, AllocError>
     Ok(vec![in alloc; Key::Node(Var::new(first)), Key::Node(Var::new(second))]?)
 }
 
+// A groupBy with the nodes of two variables as keys.
 fn grouped(alloc: Global, input: u32, first: u32, second: u32) -> Result<Op, AllocError> {
     Ok(Op::GroupBy {
         input,
@@ -35,6 +38,7 @@ fn grouped(alloc: Global, input: u32, first: u32, second: u32) -> Result<Op, All
     })
 }
 
+// A project with the nodes of two variables as keys.
 fn kept(alloc: Global, input: u32, first: u32, second: u32) -> Result<Op, AllocError> {
     Ok(Op::Project {
         input,

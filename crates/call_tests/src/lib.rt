@@ -1,4 +1,5 @@
-//! Tests of calls that no case of text reaches: places and keys, automata, the text and the fronts of plans that no view has, and walks over a buffer by its contract alone.
+//! Tests of calls that no case of text reaches: places and keys, automata, the text and the fronts of plans that no view has, and walks over
+//! a buffer by its contract alone.
 #![tactic(auto)]
 
 #[cfg(test)]

@@ -6,10 +6,12 @@ use std::alloc::{AllocError, Global};
 use std::process::Abort;
 use std::test::Fail;
 
+// The label of a text.
 fn label(alloc: Global, text: &str) -> Result<Label, AllocError> {
     Label::of_text(alloc, text.as_bytes())
 }
 
+// The path that a text spells.
 fn path(alloc: Global, text: &str) -> Result<Path, AllocError> {
     read_path(alloc, text.as_bytes()).map_err(|_| AllocError)
 }

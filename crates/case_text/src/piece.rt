@@ -68,7 +68,7 @@ fn push_numbered(
     Ok(())
 }
 
-/// Adds the bytes of a piece: `*` so many times another, `+` the same with numbers, or one.
+/// Adds the bytes of a piece: after `*` and `+` stands how often another is taken, with `+` the number of each in place of `%`; else it is one by itself.
 pub fn push_piece(
     alloc: Global,
     bytes: &mut Vec<u8>,

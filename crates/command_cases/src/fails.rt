@@ -64,7 +64,7 @@ fn lines_before(lines: &[u8], number: u64) -> &[u8] {
     lines
 }
 
-// Each write fails in turn: the lines before it are written, and half of its own. A write after the last is none.
+// Each write fails in turn: the lines before it are written, and half of its own. There is no write after the last, so none fails there.
 fn writes_fail(
     alloc: Global,
     parts: &[Part<'_>],
@@ -143,7 +143,7 @@ fn first_lines(lines: &[u8], count: u64) -> &[u8] {
     lines
 }
 
-// Each take fails in turn, that which tells the end too: all whole lines before it are answered. A take after that is none.
+// Each take fails in turn, also the one that tells the end: all whole lines before it are answered. There is none after that, so none fails there.
 fn takes_fail(
     alloc: Global,
     parts: &[Part<'_>],

@@ -22,6 +22,7 @@ impl Judge for Commands {
     }
 }
 
+// Runs the cases of the texts that the program's words name.
 fn main(rt: HostRuntime) -> Result<ExitCode, Fault> {
     run_texts::<Commands>(&rt)
 }

@@ -19,7 +19,7 @@ by_test : (P : Open → Type 0) (b : Bool) (x y : Open) → (b ≡ true → P x)
 by_test P true x y h k = h refl
 by_test P false x y h k = k refl
 
--- rows in two pieces, one after another
+-- the trees of rows in two pieces are those of the first, followed by those of the second
 row_forest-append : (columns : List (List ℕ)) (xs ys : List (List (List ℕ))) → row_forest columns (xs ++ ys) ≡ followed (row_forest columns xs) (row_forest columns ys)
 row_forest-append columns xs ys = ap forest_of (map-append (row_tree columns) xs ys) ∙ forest_of-append (map (row_tree columns) xs) (map (row_tree columns) ys)
 
@@ -28,7 +28,7 @@ apart_after : (f : Forest) (o : Open) → IsApart o → IsApart (open_followed (
 apart_after none o h = h
 apart_after (tree label kids rest) o h = (IsApart-without_holes kids, apart_after rest o h)
 
--- rows before a list that is empty where they are none: a node at the top, and no hole first
+-- whole rows before a list that is empty where there are no rows have a node at the top, and no hole first
 top_of : (columns : List (List ℕ)) (rows : List (List (List ℕ))) (o : Open) → (rows ≡ [] → o ≡ nil)
     → (is_nil (open_followed (without_holes (row_forest columns rows)) o) ≡ false → has_node (open_followed (without_holes (row_forest columns rows)) o) ≡ true)
     × (begins_with_hole (open_followed (without_holes (row_forest columns rows)) o) ≡ false)
@@ -47,7 +47,7 @@ module _ (d : CsvDoc) where
       nothing true e = cc e
       nothing false e = refl
 
-  -- before it a hole is given
+  -- before the end of the rows a hole is given
   pub rest_some : (first : ℕ) → first < length (rows_of d) → rest_given d first ≡ hole (hole_of (RowsFrom first)) nil
   rest_some first h = some (nat_lt first (length (rows_of d))) (before (length (rows_of d)) first h)
     where

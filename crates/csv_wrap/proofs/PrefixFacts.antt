@@ -3,6 +3,7 @@ use Rattle.std.proofs.Common.{◌≡◌, ◌≤◌, ℕ, List, [], ◌∷◌, dr
 use Rattle.csv.specs.Reading.{is_bom, strip_bom}
 use Rattle.csv_wrap.specs.Csv.{begins_with_mark, without_marks}
 
+-- a text that begins with a mark has 3 bytes or more
 pub marked_len : (xs : List ℕ) → begins_with_mark xs ≡ true → 3 ≤ length xs
 marked_len [] h = cc h
 marked_len (a ∷ []) h = short a h
@@ -12,6 +13,7 @@ marked_len (a ∷ []) h = short a h
 marked_len (a ∷ b ∷ []) h = grind arith
 marked_len (a ∷ b ∷ c ∷ rest) h = omega arith
 
+-- a text that begins with a mark has without its marks what it has without that mark and the others
 pub marked_drop : (xs : List ℕ) → begins_with_mark xs ≡ true → without_marks (drop 3 xs) ≡ without_marks xs
 unfolding without_marks
 marked_drop [] h = refl
@@ -19,6 +21,7 @@ marked_drop (a ∷ []) h = grind arith
 marked_drop (a ∷ b ∷ []) h = grind arith
 marked_drop (a ∷ b ∷ c ∷ rest) h = rw h refl
 
+-- a text that begins with no mark has no marks to be without
 pub unmarked : (xs : List ℕ) → begins_with_mark xs ≡ false → without_marks xs ≡ xs
 unfolding without_marks
 unmarked [] h = refl

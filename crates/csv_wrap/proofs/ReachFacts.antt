@@ -45,6 +45,7 @@ unfolding Reached next_record
 nothing_at_end cfg [] s2 ys h = refl
 nothing_at_end cfg (r ∷ rs) s2 ys h = cc h.1
 
+-- a reader has reached at most one record more than the text has bytes
 pub reached_short : (cfg : Config) (s s2 : State) (xs ys : List ℕ) (rows : List (List (List ℕ))) → Reached cfg s xs rows s2 ys → length rows ≤ length xs + 1
 unfolding Reached
 reached_short cfg s s2 xs ys [] h = omega arith
@@ -76,15 +77,17 @@ reached_all cfg (suc n) s s2 xs ys [] h e l = rw (h.0, h.1, e) refl
 reached_all cfg zero s s2 xs ys (r ∷ rs) h e l = absurd (omega arith)
 reached_all cfg (suc n) s s2 xs ys (r ∷ rs) h e l = rw (h.1, h.2, reached_all cfg n h.0.1 s2 h.0.2 ys rs h.3 e (omega arith)) refl
 
+-- where nothing is left, the records of a text are those that were reached
 pub text_all : (text : List ℕ) (rows : List (List (List ℕ))) (s2 : State) (ys : List ℕ) → Reached default_config st.StartRecord text rows s2 ys → next_record default_config s2 [] [] ys ≡ None
     → records default_config text ≡ rows
 text_all text rows s2 ys h e = reached_all default_config (length text + 1) st.StartRecord s2 text ys rows h e (reached_short default_config st.StartRecord s2 text ys rows h)
 
+-- the records of a text, from its start, begin with those that were reached
 pub text_prefix : (text : List ℕ) (rows : List (List (List ℕ))) (s2 : State) (ys : List ℕ) → Reached default_config st.StartRecord text rows s2 ys
     → (after : List (List (List ℕ))) × (records default_config text ≡ rows ++ after)
 text_prefix text rows s2 ys h = reached_prefix default_config (length text + 1) st.StartRecord s2 text ys rows h (reached_short default_config st.StartRecord s2 text ys rows h)
 
--- a header, rows and one more record
+-- a file of which a header, some rows and one more record were read has that record as its next row
 pub file_row : (bytes : List ℕ) (header : List (List ℕ)) (rows : List (List (List ℕ))) (f : List (List ℕ)) (s2 : State) (ys : List ℕ)
     → Reached default_config st.StartRecord (without_marks bytes) ((header ∷ rows) ++ f ∷ []) s2 ys
     → (after : List (List (List ℕ))) × (file_records bytes ≡ header ∷ (rows ++ (f ∷ after)))
@@ -93,17 +96,19 @@ file_row bytes header rows f s2 ys h =
     let prefix = text_prefix (without_marks bytes) ((header ∷ rows) ++ f ∷ []) s2 ys h in
     (prefix.0, prefix.1 ∙ ap (λ (t : List (List (List ℕ))). header ∷ t) (append_assoc rows (f ∷ []) prefix.0))
 
+-- a file of which one record was read has that record as its first
 pub file_header : (bytes : List ℕ) (f : List (List ℕ)) (s2 : State) (ys : List ℕ) → Reached default_config st.StartRecord (without_marks bytes) ([] ++ f ∷ []) s2 ys
     → (after : List (List (List ℕ))) × (file_records bytes ≡ f ∷ after)
 unfolding file_records
 file_header bytes f s2 ys h = text_prefix (without_marks bytes) (f ∷ []) s2 ys h
 
--- the start of a text, and one more read
+-- a reader that begins a text stands at its start
 pub start_at : (text : List ℕ) (r : Reader (Bor (List ℕ))) → reader_trim r ≡ trim.None → names_headers r ≡ false → reader_headers r ≡ None → reader_config r ≡ default_config
     → reader_state r ≡ st.StartRecord → source_of (λ s. Some s.now) r ≡ Some text → IsAt text [] r
 unfolding Reached
 start_at text r t n h c s e = (t, inr (inr (n, h)), c, text, e, (sym s, refl))
 
+-- a reader that reads one more record stands after it; where it reads none, the records so far are all of the text
 pub step_at : (text : List ℕ) (rows : List (List (List ℕ))) (a b : Reader (Bor (List ℕ))) (f : List (List ℕ)) (more : Bool) → IsAt text rows a
     → ReadRecord (λ s. Some s.now) a b more f → took_first b ≡ true
     → MatchBool more (IsAt text (rows ++ f ∷ []) b) (records default_config text ≡ rows)

@@ -12,7 +12,7 @@ use Rattle.csv_wrap.specs.declared.table.Table.{Table}
 use Rattle.csv_wrap.specs.Csv.{IsAt, IsRow, without_marks}
 use Rattle.csv_wrap.specs.Table.{cut_rows, rows_in, IsFull}
 
--- a number taken once more is that number more
+-- a number taken once more than i times is the number, and i times the number
 suc_mul : (i w : ℕ) → suc i * w ≡ w + i * w
 suc_mul i w = grind arith
 

@@ -11,7 +11,7 @@ use Rattle.csv_wrap.proofs.FieldFacts.{column_at}
 abbrev pub shown_cells : List (List ℕ) → List (List ℕ) → ℕ → Open
 shown_cells columns fields i = without_holes (forest_of (cells (drop i columns) (drop i fields)))
 
--- the first of them, and the others
+-- the columns of a row from one on are that one, with its field below it, and the others
 pub cells_step : (columns fields : List (List ℕ)) (i : ℕ) → i < length columns → i < length fields
     → shown_cells columns fields i ≡ node (get_or columns i []) (node (get_or fields i []) nil nil) (shown_cells columns fields (i + 1))
 cells_step columns fields i h k =
@@ -26,11 +26,11 @@ cells_end columns fields i h = ap (λ cs. without_holes (forest_of (cells cs (dr
 pub column_is : (columns : List (List ℕ)) (i : ℕ) (column : List ℕ) → i < length columns → column ≡ get_or columns i column → get_or columns i [] ≡ column
 column_is columns i column h e = get_or_from_slice_get columns i column [] (column_at columns i column h e)
 
--- the rows from one on and before another, before a list
+-- the rows from one on and before another, as they stand before a list
 abbrev pub shown_rows : List (List ℕ) → List (List (List ℕ)) → ℕ → ℕ → Open → Open
 shown_rows columns rows from to o = open_followed (without_holes (row_forest columns (take (to - from) (drop from rows)))) o
 
--- the first of them, and the others
+-- the rows from one on and before another are that one, with its columns below it, and the others
 pub rows_step : (columns : List (List ℕ)) (rows : List (List (List ℕ))) (from to : ℕ) (o : Open) → from < to → to ≤ length rows
     → shown_rows columns rows from to o
     ≡ node (114 ∷ 111 ∷ 119 ∷ []) (without_holes (forest_of (cells columns (get_or rows from [])))) (shown_rows columns rows (from + 1) to o)
@@ -39,7 +39,7 @@ rows_step columns rows from to o h k =
     ap (λ rs. open_followed (without_holes (row_forest columns (take (to - from) rs))) o) (drop_more rows from [] (omega arith))
     ∙ ap (λ n. open_followed (without_holes (row_forest columns (take n (get_or rows from [] ∷ drop (from + 1) rows)))) o) more
 
--- before the first there is none
+-- no row is shown from an index on up to one that is no greater
 pub rows_end : (columns : List (List ℕ)) (rows : List (List (List ℕ))) (from to : ℕ) (o : Open) → to ≤ from → shown_rows columns rows from to o ≡ o
 rows_end columns rows from to o h =
     let none : to - from ≡ 0 = omega arith in

@@ -36,7 +36,7 @@ impl CsvDoc {
     ghost use Rattle.csv_wrap.specs.Document.{chunk_of, root_hole, knows, forest, weight, document, given};
 
     /// The document of a file with these columns, as a source of this name, to be given `chunk` rows at a time
-    /// (docs/FORMATS.md, "CSV files"). A chunk is 1 to 1,000.
+    /// (docs/FORMATS.md, "CSV files"). A chunk is 1 to 1,000. An error says why the file is none, or that memory ran out.
     pub fn open(
         alloc: Global,
         bytes: &[u8],

@@ -8,7 +8,7 @@ fn text_of(bytes: &[u8]) -> Result<&str, Fault> {
     str::from_utf8(bytes).ok().ok_or(Fault::Form)
 }
 
-// The lines of a text, and one more before that of a number.
+// The lines of a text, with one more before the line at an index, which counts from 0.
 fn with_line(alloc: Global, text: &str, at: usize, more: &str) -> Result<String, Fault> {
     let mut lines = String::new(alloc);
     for (i, line) in text.lines().enumerate() {
@@ -31,7 +31,7 @@ fn first_other(lines: &str, others: &str) -> usize {
     }
 }
 
-// The number of the step that is answered by a fault where the fill of a number fails.
+// The index of the first line that differs in a run in which a fill fails: the step there is the one that was answered by the fault.
 fn faulty_step(
     alloc: Global,
     parts: &[Part<'_>],

@@ -58,7 +58,7 @@ fn push_list(
     Ok(())
 }
 
-// The hole of three words.
+// The hole whose three words a text writes.
 fn hole_of(words: &str) -> Result<HoleId, Fault> {
     let mut words = words.split(' ');
     let first = number(words.next().ok_or(Fault::Form)?)?;
@@ -69,8 +69,8 @@ fn hole_of(words: &str) -> Result<HoleId, Fault> {
     })
 }
 
-// The hole that is asked: `?N` one that came, a source's number alone that of its root, and with three words after it the one of these.
-// None, where there is no such source.
+// The hole that a line asks for: `?N` is the Nth that came, a source's number alone the hole of its root, and with three words the hole of these.
+// None, where there is no source of that number.
 fn asked_of<S: Sources>(s: &S, given: &Given, words: &str) -> Result<Option<Asked>, Fault> {
     if let Some(came) = words.strip_prefix('?') {
         let at = number(came)?.checked_sub(1).ok_or(Fault::Form)?;
@@ -90,7 +90,7 @@ fn asked_of<S: Sources>(s: &S, given: &Given, words: &str) -> Result<Option<Aske
     Ok(Some(Asked { source, hole }))
 }
 
-// One fill of a source, where there is such a source.
+// What the fill of a hole gives; `UnknownHole`, where there is no source of its number.
 fn fill<S: Sources>(alloc: Global, s: &mut S, asked: Asked) -> Result<Vec<OpenTree>, SourceFault> {
     if asked.source < s.count() {
         s.fill(alloc, asked.source, asked.hole)

@@ -36,7 +36,7 @@ fn lines_differ(
     Ok(Some(format!(in alloc; "  ended {:?}\n", outcome.answer)?))
 }
 
-// The number that a part says, or another where there is no such part.
+// The number in the first part that begins with a given word, and where no part does a number that is given.
 fn said(parts: &[Part<'_>], word: &str, other: u64) -> Result<u64, Fault> {
     match part_of(parts, word) {
         Some(part) => part.number(),
@@ -55,7 +55,7 @@ pub fn fills_differ(
     differing_number(alloc, "fills", fills.max(least).min(most), fills)
 }
 
-// What differs in a run of a script: of its lines alone, where the plan is taken as it is made.
+// What differs in a run of a script: in its lines, and where the plan's selections are moved also in how many fills it asked.
 fn turn_differs(
     alloc: Global,
     parts: &[Part<'_>],

@@ -26,6 +26,7 @@ impl Judge for CutDocuments {
     }
 }
 
+// Runs the cases of the texts that the program's words name.
 fn main(rt: HostRuntime) -> Result<ExitCode, Fault> {
     run_texts::<CutDocuments>(&rt)
 }

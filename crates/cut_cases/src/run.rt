@@ -41,7 +41,7 @@ pub struct Outcome {
     pub failed: Vec<u8>,
 }
 
-// The documents of a case, watched.
+// The documents of a case, with a note of which failed last.
 fn watched(alloc: Global, parts: &[Part<'_>], turn: &Turn<'_>) -> Result<Watched, Fault> {
     Ok(Watched {
         sources: sources_of(alloc, parts, turn.failing)?,
@@ -49,7 +49,7 @@ fn watched(alloc: Global, parts: &[Part<'_>], turn: &Turn<'_>) -> Result<Watched
     })
 }
 
-// The sink of a case.
+// The sink of a case, which fails at the writes that its part `writes` names.
 fn sink_of(alloc: Global, parts: &[Part<'_>]) -> Result<MemSink, Fault> {
     Ok(MemSink::new(alloc, numbers(alloc, parts, "writes")?))
 }
@@ -94,7 +94,7 @@ fn plan_of(alloc: Global, read: &RuleRead, is_unmoved: bool) -> Result<Plan, All
     }
 }
 
-// The mediator of a rule's plan over these sources.
+// The mediator of a rule's plan over the documents of a case. `Fault::Form`: there are not as many documents as sources.
 fn opened(alloc: Global, s: &Watched, read: &RuleRead, is_unmoved: bool) -> Result<Mediator, Fault>
     requires { IsAccepted (length read.now.names.items) (rule_of read.now.rule) }
     ensures { IfOk result (IsMediatorOf (memory_view s.now.sources)) }
@@ -138,7 +138,7 @@ pub fn has_view(parts: &[Part<'_>]) -> bool {
     part_of(parts, "view").is_some()
 }
 
-/// Runs a case, of a view or of a document.
+/// Runs the script of a case, on the document of its view where it has one, and else on its only document.
 pub fn run(alloc: Global, parts: &[Part<'_>], turn: &Turn<'_>) -> Result<Outcome, Fault> {
     if has_view(parts) {
         run_view(alloc, parts, turn)

@@ -12,7 +12,7 @@ fits_none ns from to h = none_below (below ns (to - 1)) (to - from) (omega arith
     none_below : (b d : ℕ) → d ≡ 0 → nat_lt b d ≡ false
     none_below b d e = grind (arith, nat_tests)
 
--- a tree that lies between two positions
+-- a tree that fits between two positions ends, with the nodes below it, after the first of them
 pub fits_some : (ns : List LaidNode) (from to : ℕ) → fits ns from to ≡ true → from + below ns (to - 1) < to
 fits_some ns from to h = some_below (below ns (to - 1)) from to h
   where

@@ -30,7 +30,7 @@ shows_texts bytes ends ts k = ap (λ b. texts_from b 0 ends) k.bytes_are ∙ ap 
 pub texts_kept : (bytes ends : List ℕ) (ts : List (List ℕ)) → KeepsTexts bytes ends ts → AreKept bytes ends
 texts_kept bytes ends ts k = subst (KeepsTexts bytes ends) (sym (shows_texts bytes ends ts k)) k
 
--- the ends with one text more
+-- the ends of texts with one more are their ends and, after those, the end of that one
 ends_more : (start : ℕ) (ts : List (List ℕ)) (t : List ℕ) → ends_from start (ts ++ t ∷ []) ≡ ends_from start ts ++ (start + length (concat ts) + length t) ∷ []
 ends_more start [] t = let none : start + length t ≡ start + 0 + length t = omega arith in ap (λ n. n ∷ []) none
 ends_more start (x ∷ ts) t =

@@ -87,7 +87,7 @@ end_first : (r : List Spot) → end_of r ≡ end_at r 0
 end_first [] = refl
 end_first (s ∷ r) = refl
 
--- the node that is shown at a position
+-- the node that is shown at a position has the label between two kept ends, and the kept number of nodes below it
 pub node-shown : (bytes : List ℕ) (r : List Spot) (i : ℕ) → i < length r
     → node_at (nodes_in bytes r) i ≡ record { label = slice_range bytes (end_at r (suc i)) (end_at r i); below = (spot_of r i).below }
 node-shown bytes [] i h = absurd (omega arith)
@@ -116,6 +116,7 @@ pub record Split (v : List LaidNode) (place : ℕ) : Type 0 where
   pub parts : v ≡ xs ++ node ∷ ys
   pub size : length ys ≡ place
 
+-- a list is taken apart at each place that lies within it
 pub split : (v : List LaidNode) (place : ℕ) → place < length v → Split v place
 split [] place h = absurd (omega arith)
 split (n ∷ v) place h = by_place (same_or_less place (length v) (omega arith)) (λ k. split v place k)
@@ -127,20 +128,22 @@ split (n ∷ v) place h = by_place (same_or_less place (length v) (omega arith))
     by_place (inl k) more = let s = more k in record { xs = n ∷ s.xs; node = s.node; ys = s.ys; parts = ap (λ r. n ∷ r) s.parts; size = s.size }
     by_place (inr e) more = record { xs = []; node = n; ys = v; parts = refl; size = sym e }
 
--- the bytes of some nodes after others
+-- the bytes of the labels of some nodes, after the bytes of others
 abbrev pub bytes_on : List LaidNode → List ℕ → List ℕ
 bytes_on [] base = base
 bytes_on (x ∷ xs) base = bytes_on xs base ++ x.label
 
--- what is kept of some nodes after others
+-- the spots of some nodes before the spots of others, the bytes of whose labels come first
 abbrev pub tops : List LaidNode → List ℕ → List Spot
 tops [] base = []
 tops (x ∷ xs) base = record { end = length (bytes_on xs base ++ x.label); below = x.below } ∷ tops xs base
 
+-- the bytes of the labels of nodes that are taken apart at a node: those before it come after its label and the bytes of the others
 bytes-split : (xs ys : List LaidNode) (n : LaidNode) → bytes_of (xs ++ n ∷ ys) ≡ bytes_on xs (bytes_of ys ++ n.label)
 bytes-split [] ys n = refl
 bytes-split (x ∷ xs) ys n = ap (λ b. b ++ x.label) (bytes-split xs ys n)
 
+-- the spots of a list of nodes that is taken apart at a node are those before it, its own, and those after it
 spots-split : (xs ys : List LaidNode) (n : LaidNode)
     → spots_of (xs ++ n ∷ ys) ≡ tops xs (bytes_of ys ++ n.label) ++ record { end = length (bytes_of ys ++ n.label); below = n.below } ∷ spots_of ys
 spots-split [] ys n = refl
@@ -148,16 +151,18 @@ spots-split (x ∷ xs) ys n =
     let one : List ℕ → List Spot → List Spot = λ b r. record { end = length (b ++ x.label); below = x.below } ∷ r in
     ap (λ b. one b (spots_of (xs ++ n ∷ ys))) (bytes-split xs ys n) ∙ ap (one (bytes_on xs (bytes_of ys ++ n.label))) (spots-split xs ys n)
 
+-- where the labels of nodes are texts, they still are where one node has another number of nodes below it
 texts-split : (xs ys : List LaidNode) (n : LaidNode) (b : ℕ) → AreTexts (xs ++ n ∷ ys) → AreTexts (xs ++ node_of b n.label ∷ ys)
 texts-split [] ys n b t = t
 texts-split (x ∷ xs) ys n b t = (t.0, texts-split xs ys n b t.1)
 
--- a list that is given from its end on
+-- a list whose reverse is taken apart at a spot is taken apart at that spot
 turned : (spots t r : List Spot) (s : Spot) → reverse spots ≡ t ++ s ∷ r → spots ≡ reverse r ++ (s ∷ reverse t)
 turned spots t r s e =
     sym (reverse-reverse spots) ∙ ap reverse e ∙ reverse-append t (s ∷ r)
     ∙ ap (λ q. q ++ reverse t) (reverse-append (s ∷ []) r) ∙ append_assoc (reverse r) (s ∷ []) (reverse t)
 
+-- the reverse of a list that is taken apart at a spot, reversed
 turned_back : (t r : List Spot) (s : Spot) → reverse (reverse r ++ (s ∷ reverse t)) ≡ t ++ s ∷ r
 turned_back t r s =
     reverse-append (reverse r) (s ∷ reverse t) ∙ ap (λ q. q ++ reverse (reverse r)) (reverse-append (s ∷ []) (reverse t))
@@ -178,7 +183,7 @@ get-turned spots t r s d place e l =
     let long : place ≡ length (reverse r) = omega (arith, length-reverse r) in
     ap (λ q. get_or q place d) (turned spots t r s e) ∙ ap (λ k. get_or (reverse r ++ (s ∷ reverse t)) k d) long ∙ get_or-append_seam (reverse r) s (reverse t) d
 
--- a node gets another number
+-- where one node gets another number of nodes below it, what is kept with that number written at its place is kept of it
 pub renumbered : (bytes : List ℕ) (spots : List Spot) (v xs ys : List LaidNode) (n : LaidNode) (w : Spot) (place : ℕ) → Keeps bytes spots v → v ≡ xs ++ n ∷ ys → length ys ≡ place
     → (d : Spot) → w.end ≡ (get_or spots place d).end → Keeps bytes (set spots place w) (xs ++ node_of w.below n.label ∷ ys)
 renumbered bytes spots v xs ys n w place k e l d same =
@@ -196,7 +201,7 @@ renumbered bytes spots v xs ys n w place k e l d same =
       few = omega (arith, k.few, length-set spots place w);
     }
 
--- the last node's label gets some bytes more
+-- where the last node's label gets some bytes more, what is kept with those bytes and the new end is kept of it
 pub lengthened : (bytes bytes' piece : List ℕ) (spots : List Spot) (n : LaidNode) (v : List LaidNode) (w : Spot) (place : ℕ) → Keeps bytes spots (n ∷ v) → IsUtf8 piece → bytes' ≡ bytes ++ piece
     → length v ≡ place → w.end ≡ length bytes + length piece → w.below ≡ n.below → Keeps bytes' (set spots place w) (longer piece (n ∷ v))
 lengthened bytes bytes' piece spots n v w place k u b l end below =
@@ -220,6 +225,7 @@ pub record Ranges (bytes : List ℕ) (n : LaidNode) (from to : ℕ) : Type 0 whe
   pub label : slice_range bytes from to ≡ n.label
   pub utf8 : ∥ IsUtf8 (slice_range bytes from to) ∥₁
 
+-- the bytes between the end before a node's label and its own end are the node's label
 pub label-range : (bytes : List ℕ) (spots : List Spot) (i : ℕ) (before here : Spot) → IsKept bytes spots → i < length spots → before ≡ spot_of (reverse spots) (i + 1)
     → here ≡ spot_of (reverse spots) i → Ranges bytes (node_at (nodes_in bytes (reverse spots)) i) before.end here.end
 label-range bytes spots i before here k h a b =
@@ -242,7 +248,7 @@ label-range bytes spots i before here k h a b =
       utf8 = subst (λ l. ∥ IsUtf8 l ∥₁) (sym label) (∥∥₁_map k.texts (λ t. text-at v i some t));
     }
 
--- the label of the last of some nodes gets some bytes more
+-- where the label of the last of some nodes gets some bytes more, what is kept with those bytes and the new end is kept of it
 pub lengthened_by : (bytes bytes' piece : List ℕ) (spots : List Spot) (v : List LaidNode) (here w : Spot) (place : ℕ) → Keeps bytes spots v → IsUtf8 piece → bytes' ≡ bytes ++ piece → place + 1 ≡ length v
     → here ≡ get_or spots place here → w.end ≡ length bytes + length piece → w.below ≡ here.below → Keeps bytes' (set spots place w) (longer piece v)
 lengthened_by bytes bytes' piece spots [] here w place k u b l at end below = absurd (omega (arith, l))

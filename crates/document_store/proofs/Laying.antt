@@ -26,14 +26,14 @@ length-laid (tree label kids rest) =
 pub laid-last : (ts : List LabelledTree) (t : LabelledTree) → laid (forest_of (ts ++ t ∷ [])) ≡ laid (alone t) ++ laid (forest_of ts)
 laid-last ts t = ap laid (forest_of-append ts (t ∷ [])) ∙ laid-followed (forest_of ts) (alone t)
 
--- the nodes of a tree are those of its children, and its own
+-- the nodes of a tree alone are those of its children before its own
 pub laid-alone : (label : List ℕ) (kids : Forest) (above : ℕ) (others : List LaidNode) → above ≡ nodes_of kids
     → laid kids ++ record { label = label; below = above } ∷ others ≡ laid (alone (record { label = label; kids = kids })) ++ others
 laid-alone label kids above others e =
     let last : ℕ → List LaidNode → List LaidNode = λ n r. record { label = label; below = n } ∷ r in
     ap (λ n. laid kids ++ last n others) e ∙ sym (append_assoc (laid kids) (last (nodes_of kids) []) others)
 
--- a node that is closed after its children is a tree
+-- where a node is closed after its children were laid, what is laid are the nodes of the tree of its label and children
 pub closes_tree : (old new others : List LaidNode) (place : ℕ) (label : List ℕ) (kids : Forest) → Closes old place new → old ≡ laid kids ++ bare_node label ∷ others → place ≡ length others
     → new ≡ laid (alone (record { label = label; kids = kids })) ++ others
 closes_tree old new others place label kids c e p =

@@ -10,7 +10,7 @@ use Rattle.document_store.specs.Between.{before, fits, between}
 use Rattle.document_store.proofs.Laying.{length-laid}
 use Rattle.document_store.proofs.Between.{fits_none, between_none, between_first}
 
--- a smaller number passes the test
+-- a smaller number is tested to be smaller
 fit : (b d : ℕ) → b < d → nat_lt b d ≡ true
 fit b d h = grind (arith, nat_tests)
 
@@ -60,6 +60,7 @@ pub record IsRoot (ns : List LaidNode) (i : ℕ) (t : LabelledTree) : Type 0 whe
   pub label : (node_at ns i).label ≡ t.label
   pub kids : between ns (before ns i) i ≡ t.kids
 
+-- the node right before the document node is the root of the document
 pub root_at : (ns : List LaidNode) (t : LabelledTree) (i : ℕ) → IsDocument ns t → i ≡ length ns - 2 → IsRoot ns i t
 root_at ns t i e p =
     let n : LaidNode = record { label = t.label; below = nodes_of t.kids } in
@@ -82,7 +83,7 @@ same_tree u t l k =
     let made : List ℕ → Forest → LabelledTree = λ m f. record { label = m; kids = f } in
     ap (λ m. made m u.kids) l ∙ ap (made t.label) k
 
--- the first of the trees between two positions, after others
+-- trees so far, with one more that is read between two positions, and those after it, are the trees so far with those between
 pub tree_more : (ns : List LaidNode) (items more : List LabelledTree) (t : LabelledTree) (from to i : ℕ) → fits ns from to ≡ true → i + 1 ≡ to → more ≡ items ++ t ∷ []
     → t.label ≡ (node_at ns i).label → t.kids ≡ between ns (before ns i) i
     → followed (forest_of more) (between ns from (before ns i)) ≡ followed (forest_of items) (between ns from to)

@@ -10,7 +10,7 @@ pub record LaidNode : Type 0 where
   pub label : List ℕ
   pub below : ℕ
 
--- a node below which nothing is known to be
+-- a node of this label with nothing below it
 abbrev pub bare_node : List ℕ → LaidNode
 bare_node label = record { label = label; below = 0 }
 

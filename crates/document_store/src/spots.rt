@@ -17,7 +17,7 @@ pub struct Spot {
 /// The most nodes, and the most bytes of labels.
 pub const MOST: usize = 4_294_967_295;
 
-/// Puts a node without children after others; nothing where there is no room.
+/// Puts a node without children after others. An error, where there is no room, leaves them as they were.
 #[inline(always)]
 pub fn add(bytes: &mut Vec<u8>, spots: &mut Vec<Spot>, label: &[u8]) -> Result<(), AllocError>
     ensures bytes { OnOk result (bytes.new.items ≡ bytes.old.items ++ label.now) }

@@ -27,7 +27,7 @@ impl Model for Texts {
     ghost invariant = { λ t. AreKept t.bytes.items t.ends.items };
 }
 
-// Puts a text's bytes and its end after others; nothing where there is no room.
+// Puts a text's bytes and its end after others. An error, where there is no room, leaves them as they were.
 #[inline]
 fn add(bytes: &mut Vec<u8>, ends: &mut Vec<u32>, text: &[u8]) -> Result<(), AllocError>
     ensures bytes { OnOk result (bytes.new.items ≡ bytes.old.items ++ text.now) }

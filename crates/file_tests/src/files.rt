@@ -9,6 +9,7 @@ use std::os::fd::AsRawFd;
 use std::test::Fail;
 use std::{fs, io};
 
+// A file of a path and a text.
 fn file(alloc: Global, path: &str, text: &str) -> Result<MemFile, AllocError> {
     Ok(MemFile {
         path: String::from_str(alloc, path)?,
@@ -16,6 +17,7 @@ fn file(alloc: Global, path: &str, text: &str) -> Result<MemFile, AllocError> {
     })
 }
 
+// Files in memory of which two have one path and one is empty; the reads of these numbers fail.
 fn two_files(alloc: Global, failing: Vec<u64>) -> Result<MemFiles, AllocError> {
     let files = vec![in alloc;
         file(alloc, "a", "abcdef")?,

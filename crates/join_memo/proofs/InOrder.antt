@@ -7,17 +7,17 @@ use Rattle.join_memo.specs.Kept.{HasLabel, IsFirstFrom, AreFound}
 use Rattle.join_memo.proofs.Searches.{HasPlace, has_place, place_is, places_ascend, not_falling, below_or}
 
 module _ (labels : List (List ℕ)) (key : List ℕ) where
-  -- the place of this number has the label
+  -- each of a label's places in a list of labels has the label
   has_label : (k : ℕ) → k < length (places key 0 labels) → HasLabel labels key (get_or (places key 0 labels) k 0)
   has_label k w = (let q = place_is key 0 labels k w in
       let e : q.index ≡ get_or (places key 0 labels) k 0 = omega (arith, q.is) in subst (λ m. HasLabel labels key m) e q.label)
 
-  -- what is found from the place of this number on, where those before it lie before
+  -- the places of a label from number k on are those at or after one, and those before lie before it
   record IsFrom (from k : ℕ) : Type 0 where
     before : (i : ℕ) → i < k → i < length (places key 0 labels) → get_or (places key 0 labels) i 0 < from
     after : (i : ℕ) → k ≤ i → i < length (places key 0 labels) → from ≤ get_or (places key 0 labels) i 0
 
-  -- the first one found is the place of that number
+  -- the first place of the label at or after one is the place of number k, where those before lie before
   first_is : (from k p : ℕ) → IsFrom from k → IsFirstFrom labels key from p → HasPlace (places key 0 labels) p → (k < length (places key 0 labels)) × (get_or (places key 0 labels) k 0 ≡ p)
   first_is from k p x h q = by_case (below_or q.number k)
     where

@@ -11,7 +11,7 @@ use Rattle.std.proofs.lemmas.Grind.{common_steps}
 use Rattle.smallvec.specs.SmallVec.{SmallVec}
 use Rattle.join_memo.specs.Places.{places, IsKnown, IsIndex}
 
--- the place of a label after others
+-- a label's places among labels with one more are its places among them, and the last where that one is the label
 pub places_then : (key : List ℕ) (n : ℕ) (labels : List (List ℕ)) (label : List ℕ)
     → places key n (labels ++ label ∷ []) ≡ places key n labels ++ cond (bytes_eq key label) ((n + length labels) ∷ []) []
 places_then key n [] label = by_case (bytes_eq key label)
@@ -46,7 +46,7 @@ other_then key labels label h =
     none : (xs : List ℕ) → xs ++ [] ≡ xs
     none xs = grind (arith, common_steps)
 
--- a known label keeps its number where one more label is known
+-- a known label keeps its number where one more label is known after it
 known_left : (known : List (List ℕ)) (key k : List ℕ) (i : ℕ) → IsKnown known k i → IsKnown (known ++ key ∷ []) k i
 known_left known key k i h = record {
   within = (let w = h.within in grind (arith, common_steps));
@@ -136,7 +136,7 @@ module _ (known groups labels : List (List ℕ)) (key : List ℕ) (x : IsIndex k
       apart_at k i j (inr g) (inl h) = absurd (none j (record { within = h.within; is = h.is ∙ sym g.1 }))
       apart_at k i j (inr g) (inr h) = g.0 ∙ sym h.0
 
--- a group with one more place, among vectors
+-- an index of vectors stays one when the vector of a known label gets one more place
 pub grow_vector : (known : List (List ℕ)) (gs : List (SmallVec ℕ)) (labels : List (List ℕ)) (key : List ℕ) → IsIndex known (map (λ g. g.items) gs) labels
     → (i : ℕ) → IsKnown known key i → (v w : SmallVec ℕ) (place : ℕ) → get_or (map (λ g. g.items) gs) i [] ≡ v.items → w.items ≡ v.items ++ place ∷ [] → length labels ≡ place
     → IsIndex known (map (λ g. g.items) (set gs i w)) (labels ++ key ∷ [])
@@ -155,7 +155,7 @@ new_vector known gs hs labels key x none v place e f n =
     ∙ ap (λ (m : List ℕ). map (λ (g : SmallVec ℕ). g.items) gs ++ m ∷ []) (f ∙ ap (λ m. m ∷ []) (sym n)) in
     subst (λ m. IsIndex (known ++ key ∷ []) m (labels ++ key ∷ [])) (sym groups) (index_new known (map (λ g. g.items) gs) labels key x none)
 
--- what an answer that is no refusal says
+-- what holds of an answer that is no error holds of one that the test finds to be none
 pub on_ok : {T E : Type 0} → (P : Type 0) (r : Result T E) → is_err r ≡ false → OnOk r P → P
 on_ok P (Ok v) e h = h
 on_ok P (Err v) e h = cc

@@ -9,10 +9,11 @@ use Rattle.indexmap.specs.IndexSet.{insert_key}
 use Rattle.mix_base.proofs.Choices.{some_is}
 use Rattle.join_memo.specs.Places.{IsKnown, IsNumber, IsPut}
 
+-- a known label has one number more where one more label is known before it
 known_after : (x : List ℕ) (ks : List (List ℕ)) (key : List ℕ) (i : ℕ) → IsKnown ks key i → IsKnown (x ∷ ks) key (suc i)
 known_after x ks key i h = record { within = omega (arith, h.within); is = h.is }
 
--- the first place at which it passes is its number
+-- the first place at which a label passes among the known is its number
 pub number_here : (key : List ℕ) (ks : List (List ℕ)) → position_or_len (bytes_eq key) ks < length ks → IsKnown ks key (position_or_len (bytes_eq key) ks)
 number_here key [] h = absurd (omega (arith, h))
 number_here key (x ∷ ks) h = by_case (number_here key ks) (bytes_eq key x) refl h
@@ -23,7 +24,7 @@ number_here key (x ∷ ks) h = by_case (number_here key ks) (bytes_eq key x) ref
     by_case more true e h = rw e (record { within = omega arith; is = (let d : key ≡ x = grind (arith, bytes_eq-Decides key x, e) in sym d) })
     by_case more false e h = rw e (subst (λ n. IsKnown (x ∷ ks) key n) (omega arith) (known_after x ks key (position_or_len (bytes_eq key) ks) (more (omega (arith, (rw e at h))))))
 
--- where it passes nowhere, it is none of them
+-- a label that passes nowhere among the known is none of them
 pub number_nowhere : (key : List ℕ) (ks : List (List ℕ)) → length ks ≤ position_or_len (bytes_eq key) ks → (i : ℕ) → IsKnown ks key i → ⊥
 number_nowhere key [] h i n = omega (arith, n.within)
 number_nowhere key (x ∷ ks) h i n = by_case (number_nowhere key ks) (bytes_eq key x) refl h i n
@@ -34,7 +35,7 @@ number_nowhere key (x ∷ ks) h i n = by_case (number_nowhere key ks) (bytes_eq 
     by_case more false e h zero n = (let d : key ≡ x = sym n.is in grind (arith, bytes_eq-Decides key x, e, d))
     by_case more false e h (suc i) n = more (omega (arith, (rw e at h))) i (record { within = omega (arith, n.within); is = n.is })
 
--- what a set says of a label
+-- the place that a set of known labels finds of a label is its number; where it finds none, the label is none of them
 pub number_is : (key : List ℕ) (ks : List (List ℕ)) → IsNumber ks key (position (bytes_eq key) ks)
 number_is key ks = by_case (nat_lt (position_or_len (bytes_eq key) ks) (length ks)) refl
   where
@@ -62,7 +63,7 @@ none_within key (x ∷ ks) h = by_case (none_within key ks) (bytes_eq key x) ref
     by_case more true e h = (let f : true ≡ false = (rw e at h) in cc)
     by_case more false e h = (let rest = more (rw e at h) in rw e (omega (arith, rest)))
 
--- what a set answers to a label that is put in
+-- what a set answers to a label that is put in, its number and whether it is new, is so of the known labels
 pub put_is : (key : List ℕ) (ks after : List (List ℕ)) (i : ℕ) (new : Bool) → new ≡ not (list_any (bytes_eq key) ks) → i ≡ position_or_len (bytes_eq key) ks
     → after ≡ insert_key bytes_eq ks key → IsPut ks key i new after
 put_is key ks after i new e f g = by_case (list_any (bytes_eq key) ks) refl

@@ -17,7 +17,7 @@ below_or m n = by_case (nat_lt m n) refl
     by_case true e = inl (grind (arith, nat_tests, e))
     by_case false e = inr (grind (arith, nat_tests, e))
 
--- ascending places in the words of std
+-- of ascending places, one at a later index is no less than one at an earlier index
 pub not_falling : (ps : List ℕ) → IsAscending ps → (i j : ℕ) → i ≤ j → j < length ps → get_or ps i 0 ≤ get_or ps j 0
 not_falling ps h i j le w = by_case (i == j) refl
   where
@@ -35,7 +35,7 @@ least_here ps from i h at = record {
   before = λ k l. omega (arith, h k i l at.0, at.1);
 }
 
--- the next one where it was not
+-- where a place isn't found among ascending places, the next one after where it would stand is the first at or after it
 pub least_next : (ps : List ℕ) (from i p : ℕ) → (i ≤ length ps) × ((k : ℕ) → k < i → get_or ps k 0 < from) × ((k : ℕ) → i ≤ k → k < length ps → from < get_or ps k 0)
     → i < length ps → get_or ps i 0 ≡ p → IsLeast ps from p
 least_next ps from i p gap w e = record {
@@ -57,6 +57,7 @@ pub record IsPlace (key : List ℕ) (n : ℕ) (labels : List (List ℕ)) (p : �
   pub is : p ≡ n + index
   pub label : HasLabel labels key index
 
+-- a place of the labels after a first one is a place of all of them
 later_place : (key : List ℕ) (n : ℕ) (label : List ℕ) (labels : List (List ℕ)) (p : ℕ) → IsPlace key (suc n) labels p → IsPlace key n (label ∷ labels) p
 later_place key n label labels p h = record {
   index = suc h.index;
@@ -64,6 +65,7 @@ later_place key n label labels p h = record {
   label = record { within = omega (arith, h.label.within); is = h.label.is };
 }
 
+-- each of a label's places is a place at which it stands
 pub place_is : (key : List ℕ) (n : ℕ) (labels : List (List ℕ)) (k : ℕ) → k < length (places key n labels) → IsPlace key n labels (get_or (places key n labels) k 0)
 place_is key n [] k w = absurd (omega (arith, w))
 place_is key n (x ∷ labels) k w = by_case (place_is key (suc n) labels) (bytes_eq key x) refl k w
@@ -81,9 +83,11 @@ pub record HasPlace (ps : List ℕ) (p : ℕ) : Type 0 where
   pub within : number < length ps
   pub is : get_or ps number 0 ≡ p
 
+-- a place among others is one of them with one more before them
 later_has : (n : ℕ) (ps : List ℕ) (p : ℕ) → HasPlace ps p → HasPlace (n ∷ ps) p
 later_has n ps p h = record { number = suc h.number; within = omega (arith, h.within); is = h.is }
 
+-- where a label stands at an index, that index is one of its places
 pub has_place : (key : List ℕ) (n : ℕ) (labels : List (List ℕ)) (j : ℕ) → j < length labels → get_or labels j [] ≡ key → HasPlace (places key n labels) (n + j)
 has_place key n [] j w e = absurd (omega (arith, w))
 has_place key n (x ∷ labels) j w e = by_case (has_place key (suc n) labels) (bytes_eq key x) refl j w e
@@ -109,7 +113,7 @@ places_ascend key n (x ∷ labels) i j l w = by_case (places_ascend key (suc n) 
     by_case more false i j l w = more i j l w
 
 module _ (key : List ℕ) (labels : List (List ℕ)) (from : ℕ) where
-  -- the first place at or after one
+  -- the first of a label's places at or after one is the first place at or after one at which the label stands
   first_place : (p : ℕ) → IsLeast (places key 0 labels) from p → IsFirstFrom labels key from p
   first_place p h = record {
     after = h.after;
@@ -155,14 +159,14 @@ vector_is known gs labels key x i h v e =
     let n : length (map (λ (g : SmallVec ℕ). g.items) gs) ≡ length gs = length-map gs (λ (g : SmallVec ℕ). g.items) in
     sym (vector_at gs i v (omega (arith, h.within, x.lists, n)) e) ∙ group_is known (map (λ g. g.items) gs) labels key x i h
 
--- the label of the pair at a place
+-- the label of the pair at a place stands there among the labels of the pairs
 pub label_there : {T : Type 0} (pairs : List (List ℕ × T)) (i : ℕ) (x : List ℕ × T) → i < length pairs → x ≡ get_or pairs i x → HasLabel (labels_of pairs) x.0 i
 label_there {T} pairs i x w e = record {
   within = omega (arith, w, length-map pairs (λ (p : List ℕ × T). p.0));
   is = get_or-map (λ (p : List ℕ × T). p.0) pairs i x [] w ∙ ap (λ (p : List ℕ × T). p.0) (sym e);
 }
 
--- where the last label is the one that is looked up
+-- where the last label is the one that is looked up, its place is the first at or after itself that has it
 pub last_has : (labels : List (List ℕ)) (x key : List ℕ) (last : ℕ) → HasLabel labels x last → bytes_eq x key ≡ true → IsFirstFrom labels key last last
 last_has labels x key last h e = record {
   after = omega arith;

@@ -28,7 +28,7 @@ pub record IsIndex (known groups : List (List ℕ)) (labels : List (List ℕ)) :
   pub apart : (key : List ℕ) (i j : ℕ) → IsKnown known key i → IsKnown known key j → i ≡ j
   pub absent : (key : List ℕ) → ((i : ℕ) → IsKnown known key i → ⊥) → places key 0 labels ≡ []
 
--- these places are in ascending order
+-- places are in ascending order
 abbrev pub IsAscending : List ℕ → Type 0
 IsAscending ps = (i j : ℕ) → i < j → j < length ps → slice_index_or ps i 0 < slice_index_or ps j 0
 

@@ -35,13 +35,13 @@ use Rattle.lazy_binding.proofs.Keep.{told-kept, docs_kept, spot_kept}
 use Rattle.lazy_binding.proofs.Stay.{values_kept, cursors_kept}
 use Rattle.lazy_binding.proofs.Members.{same_members}
 
--- what stands at an index that was written
+-- at an index that was written stands what was written there
 pub get_set : {X : Type 0} (xs : List X) (i : ℕ) (x : X) → i < length xs → slice_get (set xs i x) i ≡ Some x
 get_set [] i x h = absurd (omega (arith, h))
 get_set (y ∷ xs) zero x h = refl
 get_set (y ∷ xs) (suc i) x h = get_set xs i x (omega (arith, h))
 
--- what stands at an index other than the one that was written
+-- at an index other than the one that was written stands what stood there
 get_other : {X : Type 0} (xs : List X) (i j : ℕ) (x : X) → (j ≡ i → ⊥) → slice_get (set xs i x) j ≡ slice_get xs j
 get_other [] i j x ne = refl
 get_other (y ∷ xs) zero zero x ne = absurd (ne refl)
@@ -105,7 +105,7 @@ module _ {a b : World} (k : Keeps a b) where
       at : (n : ℕ) → seen_at b n ≡ seen_at a n
       at n = ap (λ (z : List (List (List KeyPart))). seen_at (record { view = a.view; buffers = a.buffers; seen = z; memos = a.memos; walked = a.walked }) n) same
 
--- a call on the buffer of one source
+-- sources and their buffers, before and after a call on the buffer of one source
 module _ (v v' : View) (bs : List Buffer) (seen : List (List (List KeyPart))) (memos : List (Kept (Rc Position Global))) (walked : Walked) (ops : List Operator) (bench : IsBench (world v bs seen memos walked) ops) (keeps : KeepsView v v')
     (s : ℕ) (x y : Buffer) (there : slice_get bs s ≡ Some x) (goes : Goes v x v' y) (sources : IsSourcesOf v' y) (others : (c : Buffer) → IsSourcesOf v c → IsKept v v' c) where
   -- a call on the buffer of one source keeps what every call keeps

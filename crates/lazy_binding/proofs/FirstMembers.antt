@@ -33,6 +33,7 @@ same_values-true (x ∷ xs) [] h = cc
 same_values-true (x ∷ xs) (y ∷ ys) h =
     let z = and_parts (same_value x y) (same_values xs ys) h in ap (λ (v : KeyValue). v ∷ xs) (same_value-true x y z.0) ∙ ap (λ (vs : List KeyValue). y ∷ vs) (same_values-true xs ys z.1)
 
+-- values of a key compare as the same as themselves
 pub same_values-refl : (xs : List KeyValue) → same_values xs xs ≡ true
 same_values-refl [] = refl
 same_values-refl (x ∷ xs) = and_from (same_value x x) (same_values xs xs) (same_value-refl x) (same_values-refl xs)
@@ -68,13 +69,13 @@ module _ (ops : List Operator) (i : ℕ) (keys : List Key) {d e : Documents} (do
       subst (λ (y : List (List KeyValue)). NoneBefore e keys (events e ops i) y m) (sym seen)
       (subst (λ (y : RowEvents). NoneBefore e keys (events e ops i) s y) (sym later) (subst (λ (y : Documents). NoneBefore y keys (events y ops i) s l) (sym docs) h))
 
-  -- the first binding with its keys stays the first one
+  -- the first binding with its keys is so still where the documents, the binding and the events after it are the same
   pub first_by_kept : {r q : TolledRow} → q ≡ r → {l m : RowEvents} → m ≡ l → IsFirstBy d keys (events d ops i) r l → IsFirstBy e keys (events e ops i) q m
   first_by_kept {r} {q} row {l} {m} later h =
       subst (λ (y : TolledRow). IsFirstBy e keys (events e ops i) y m) (sym row)
       (subst (λ (y : RowEvents). IsFirstBy e keys (events e ops i) r y) (sym later) (subst (λ (y : Documents). IsFirstBy y keys (events y ops i) r l) (sym docs) h))
 
-  -- a binding among events stays one
+  -- a binding among events is so still where the documents, the binding and the events after it are the same
   pub binding_of_kept : {r q : TolledRow} → q ≡ r → {l m : RowEvents} → m ≡ l → IsBindingOf (events d ops i) r l → IsBindingOf (events e ops i) q m
   binding_of_kept {r} {q} row {l} {m} later h =
       (h.0, ap (λ (y : Documents). found (past_first h.0 (events y ops i))) docs ∙ h.1 ∙ ap (λ (y : TolledRow). finds y l) (sym row) ∙ ap (finds q) (sym later))

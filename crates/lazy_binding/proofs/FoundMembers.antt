@@ -136,11 +136,11 @@ module _ (w : World) (ops : List Operator) (n i : ℕ) (keys : List Key) (group 
           }
 
   module _ (at : Position) (place : ℕ) (here : IsFound w n number place at) where
-    -- the members of the group, of which there is one
+    -- the first member of a group and the others, of which one was found
     abbrev ms : Members
     ms = some_members
 
-    -- what is there, among the members
+    -- the member that was found stands at its place among the first one and the others
     among : slice_get (ms.one ∷ ms.others) place ≡ Some here.0
     among = sym (ap (λ (xs : List (Rc Position Global)). slice_get xs place) ms.are) ∙ here.1
 

@@ -98,7 +98,7 @@ module _ (a b : World) (ops : List Operator) (bench : IsBench a ops) (k : Keeps 
     )
     group_passed other at n (m ∷ ms) of h = (member_kept at n m.value of h.0, group_passed other m.value (suc n) ms h.0.cursor h.1)
 
-    -- where it goes on to one of this group, that is one more member
+    -- where the walk goes on to a binding of this group, that is one more of its members
     pub group_pushed : (IsTrue (is_told a ops) → of_group (binding b ops i d) ≡ true) → (at : Position) (n : ℕ) (ms : List (Rc Position Global)) (r : Rc Position Global) → r.value ≡ d
         → IsOf a ops i at → AreInGroup a ops i keys row last at n ms → AreInGroup b ops i keys row d at n (ms ++ r ∷ [])
     group_pushed same at n [] r is of h = (
@@ -119,7 +119,7 @@ module _ (a b : World) (ops : List Operator) (bench : IsBench a ops) (k : Keeps 
     group_pushed same at n (m ∷ ms) r is of h = (member_kept at n m.value of h.0, group_pushed same m.value (suc n) ms r is h.0.cursor h.1)
 
 module _ (a b : World) (ops : List Operator) (bench : IsBench a ops) (k : Keeps a b) (n i : ℕ) (keys : List Key) (group : Option (Piece × ℕ)) where
-  -- the operator's bindings after these, with so many keys seen
+  -- the operator's bindings that are made after some events, where these keys were seen
   abbrev made_after : Documents → List (List KeyValue) → RowEvents → RowEvents
   made_after docs seen es = distinct docs keys (kept_row docs keys (stops_over ops i keys) group) seen es
 
@@ -195,7 +195,7 @@ module _ (a b : World) (ops : List Operator) (bench : IsBench a ops) (k : Keeps 
 -- WHAT A LOOK-UP GIVES
 
 module _ (w : World) (ops : List Operator) (i : ℕ) (keys : List Key) (row : TolledRow) (last : Position) where
-  -- after the member at a place stands the one at the next place
+  -- after the member at a place of a group stands the one at the next place
   pub next_at : (at : Position) (k : ℕ) (ms : List (Rc Position Global)) (p j : ℕ) → p < length ms → j ≡ k + p → AreInGroup w ops i keys row last at k ms
       → IsNextMember w ops i keys row (at_place at ms p) j (at_place at ms (suc p))
   next_at at k [] p j l e h = absurd (omega (arith, l))
@@ -208,7 +208,7 @@ module _ (w : World) (ops : List Operator) (i : ℕ) (keys : List Key) (row : To
   last_past at k [] h t = h.1 t
   last_past at k (m ∷ ms) h t = last_past m.value (suc k) ms h.1 t
 
-  -- where the walk has ended, there is none
+  -- where the walk has ended, no binding of the group comes after its last found member
   pub last_none : (at : Position) (k : ℕ) (ms : List (Rc Position Global)) → AreInGroup w ops i keys row last at k ms → IsTrue (is_told w ops) → found (ahead w ops i last) ≡ nothing
       → found (same_group (docs_of w) keys row (ahead w ops i (at_place at ms (length ms)))) ≡ nothing
   last_none at k ms h t none =

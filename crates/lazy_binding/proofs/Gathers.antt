@@ -30,7 +30,7 @@ HasKeys a b ops i keys at v (m ∷ ms) = IsTrue (is_told a ops) → same_values 
 module _ (a b : World) (ops : List Operator) (bench : IsBench a ops) (k : Keeps a b) (n i : ℕ) (keys : List Key) (group : Option (Piece × ℕ)) (g : Gathered)
     (h : AreGathered a ops n i keys group g) (r : Rc Position Global) (cursor : IsOf b ops i r.value) (stands : IsTrue (has_row r.value)) (falls : number b ops i r.value < number a ops i g.last)
     (there : IsTrue (is_told a ops) → found (ahead a ops i g.last) ≡ finds (binding b ops i r.value) (ahead b ops i r.value)) where
-  -- a group with other members after its first
+  -- a group with its first member, and others after it that come one after another, is that group
   has_group_with : (j : ℕ) (m : Rc Position Global) (ms later : List (Rc Position Global)) → HasGroup a ops n i keys g.last j (m ∷ ms)
       → AreInGroup b ops i keys (binding a ops i m.value) r.value m.value 1 later → HasGroup b ops n i keys r.value j (m ∷ later)
   has_group_with j m ms later x y = (
@@ -49,19 +49,19 @@ module _ (a b : World) (ops : List Operator) (bench : IsBench a ops) (k : Keeps 
       first : (q : Rc (Unit {0}) Global) → Stays a b ops n (First' q m.value (suc j))
       first q = cursors_kept a b k ops bench n (First' q m.value (suc j)) (x.0 q)
 
-  -- a group of other keys keeps its members
+  -- a group of other keys than the new binding's has the members that it had
   has_group_passed : (j : ℕ) (ms : List (Rc Position Global)) → HasKeys a b ops i keys r.value false ms → HasGroup a ops n i keys g.last j ms → HasGroup b ops n i keys r.value j ms
   has_group_passed j [] o x = x
   has_group_passed j (m ∷ ms) o x = has_group_with j m ms ms x
       (group_passed a b ops bench k i keys (binding a ops i m.value) g.last r.value h.walked.cursor cursor stands falls there o m.value 1 ms x.2 x.3)
 
-  -- the group of these keys has one more
+  -- the group of the new binding's keys has that binding as one more member
   has_group_pushed : (j : ℕ) (ms : List (Rc Position Global)) → HasKeys a b ops i keys r.value true ms → HasGroup a ops n i keys g.last j ms → HasGroup b ops n i keys r.value j (ms ++ r ∷ [])
   has_group_pushed j [] o x = absurd x
   has_group_pushed j (m ∷ ms) o x = has_group_with j m ms (ms ++ r ∷ []) x
       (group_pushed a b ops bench k i keys (binding a ops i m.value) g.last r.value h.walked.cursor cursor stands falls there o m.value 1 ms r refl x.2 x.3)
 
-  -- the binding is of a group that was found
+  -- where the binding is of a group that was found, what is gathered with it is right
   pub gathered_joined : (later : List (List (Rc Position Global))) (m : ℕ) → m < length g.groups → IsJoined g.groups later m r → length (seen_at b n) ≡ length (seen_at a n)
       → IsPassed b ops n i keys group r.value (length g.groups) → HasKeys a b ops i keys r.value true (slice_index_or g.groups m [])
       → ((j : ℕ) → j < length g.groups → (j ≡ m → ⊥) → HasKeys a b ops i keys r.value false (slice_index_or g.groups j []))
@@ -78,7 +78,7 @@ module _ (a b : World) (ops : List Operator) (bench : IsBench a ops) (k : Keeps 
           (subst (HasGroup b ops n i keys r.value m) (sym joined.here) (has_group_pushed m (slice_index_or g.groups m []) same_keys (h.groups m within)))
       each j l (inr ne) = subst (HasGroup b ops n i keys r.value j) (sym (joined.others j ne)) (has_group_passed j (slice_index_or g.groups j []) (other_keys j l ne) (h.groups j l))
 
-  -- the binding is the first of a new group
+  -- where the binding is the first of a new group, what is gathered with it is right
   pub gathered_begun : (later : List (List (Rc Position Global))) → IsBegun g.groups later r → length (seen_at b n) ≡ suc (length (seen_at a n))
       → IsPassed b ops n i keys group r.value (suc (length g.groups)) → ((j : ℕ) → j < length g.groups → HasKeys a b ops i keys r.value false (slice_index_or g.groups j []))
       → ((q : Rc (Unit {0}) Global) → IsOf b ops n (First' q r.value (suc (length g.groups))))

@@ -25,7 +25,7 @@ use Rattle.lazy_binding.specs.Reading.{Found}
 use Rattle.lazy_binding.specs.Spots.{spot_in}
 use Rattle.lazy_binding.proofs.Spots.{IsSpotOf}
 
--- what is read at an index is what is there
+-- what is read at an index of a list is what stands there
 pub read_is : {X : Type 0} (xs : List X) (i : ℕ) (x y : X) → slice_get xs i ≡ Some x → y ≡ get_or xs i y → y ≡ x
 read_is xs i x y e h = h ∙ get_or_from_slice_get xs i x y e
 
@@ -48,7 +48,7 @@ told_read w ops s r t = all_read w.view.told ops r.number r.within s r.is t
 pub forward_read : (w : World) (ops : List Operator) (s : ℕ) → IsRead ops s → IsTrue (is_forward w ops) → w.view.forward s ≡ true
 forward_read w ops s r t = all_read w.view.forward ops r.number r.within s r.is t
 
--- the label of the first tree
+-- the label of the first tree, where there is one, is the label of the trees' first
 first_is : (f : Forest) (l : List ℕ) → first_label f ≡ Some l → label_of_first f ≡ l
 first_is none l e = cc
 first_is (tree x kids rest) l e = cc

@@ -12,7 +12,7 @@ pub none_passed : (at : Position) (ms : List Member) → last_of at (take zero m
 none_passed at [] = refl
 none_passed at (m ∷ ms) = refl
 
--- the item that a memo gives at a place
+-- the item that a memo gives at a place is the last member once those up to it were passed
 pub item_is : (ms : List Member) (p : ℕ) (q : Rc Position Global) → Some q ≡ option_map (λ (m : Member). m.1) (slice_get ms p) → passed ms (suc p) ≡ q.value
 item_is ms p q h = at Start ms p h
   where

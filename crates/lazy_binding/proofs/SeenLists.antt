@@ -16,7 +16,7 @@ use Rattle.lazy_binding.specs.Keys.{same_parts, was_seen}
 use Rattle.lazy_binding.specs.KeyLaws.{part_equivalence}
 use Rattle.lazy_binding.proofs.FirstLists.{take_map}
 
--- a key of a set, by its parts
+-- whether two keys of a set have the same parts
 abbrev same_key : SmallVec KeyPart → SmallVec KeyPart → Bool
 same_key a b = same_parts a.items b.items
 
@@ -63,12 +63,13 @@ module _ {X : Type 0} (p : X → Bool) where
       by_case true e = (let y = rw e at h in cc)
       by_case false e = any_missing xs few (grind (arith, nat_tests, e))
 
--- what was seen is what the set has
+-- whether a key was seen among the first few is whether the set has it among these
 seen_is : (key : List KeyPart) (ks : List (SmallVec KeyPart)) → was_seen key (map (λ k. k.items) ks) ≡ list_any (λ k. same_parts key k.items) ks
 seen_is key [] = refl
 seen_is key (k ∷ ks) = ap (λ (b : Bool). b || was_seen key (map (λ j. j.items) ks)) ((lists_equiv part_equivalence).symm k.items key) ∙ ap (λ (b : Bool). same_parts key k.items || b) (seen_is key ks)
 
 module _ (key : List KeyPart) (ks : List (SmallVec KeyPart)) (few : ℕ) where
+  -- whether a key was seen among the first few is whether one of these has its parts
   few_is : was_seen key (take few (map (λ k. k.items) ks)) ≡ list_any (λ k. same_parts key k.items) (take few ks)
   few_is = ap (was_seen key) (take_map (λ k. k.items) ks few) ∙ seen_is key (take few ks)
 
@@ -76,7 +77,7 @@ module _ (key : List KeyPart) (ks : List (SmallVec KeyPart)) (few : ℕ) where
   pub seen_at_place : (i : ℕ) → position (λ k. same_parts key k.items) ks ≡ Some i → nat_lt i few ≡ was_seen key (take few (map (λ k. k.items) ks))
   seen_at_place i h = sym (few_is ∙ any_some (λ k. same_parts key k.items) ks few i h)
 
-  -- a key that it has not was not seen
+  -- a key that the set has not was not seen among the first few
   pub seen_nowhere : position (λ k. same_parts key k.items) ks ≡ None → false ≡ was_seen key (take few (map (λ k. k.items) ks))
   seen_nowhere h = sym (few_is ∙ any_none (λ k. same_parts key k.items) ks few h)
 
@@ -90,7 +91,7 @@ put_last key ks = by_case (list_any (same_key key) ks) refl
     by_case true e = rw (seen_is key.items ks ∙ e, e) refl
     by_case false e = rw (seen_is key.items ks ∙ e, e) (map-append (λ k. k.items) ks (key ∷ []))
 
--- whether it is one, by the keys of the set
+-- a key is new to the set exactly where it was not seen among the set's keys
 pub is_new : (key : SmallVec KeyPart) (ks : List (SmallVec KeyPart)) → not (list_any (same_key key) ks) ≡ not (was_seen key.items (map (λ k. k.items) ks))
 is_new key ks = ap not (sym (seen_is key.items ks))
 
@@ -98,16 +99,18 @@ is_new key ks = ap not (sym (seen_is key.items ks))
 pub seen_in_all : (key : List KeyPart) (xs : List (List KeyPart)) (n : ℕ) → n ≡ length xs → was_seen key (take n xs) ≡ true → was_seen key xs ≡ true
 seen_in_all key xs n e h = sym (ap (was_seen key) (ap (λ (m : ℕ). take m xs) e ∙ take-length xs)) ∙ h
 
--- what stands at a place of a list
+-- what is read at an index of a list is what stands there in an equal list
 pub there_in : (xs ks : List (SmallVec KeyPart)) (i : ℕ) (k : SmallVec KeyPart) → xs ≡ ks → i < length xs → k ≡ get_or xs i k → slice_get ks i ≡ Some k
 there_in xs ks i k e l is = ap (λ (z : List (SmallVec KeyPart)). slice_get z i) (sym e) ∙ slice_get-get_or xs i k l ∙ ap Some (sym is)
 
+-- a disjunction whose second part is true is true
 or_true : (b : Bool) → (b || true) ≡ true
 or_true true = refl
 or_true false = refl
 
--- of a key that stands at a place of the set
+-- a key, and one of the set at a place that has the same parts
 module _ (key : List KeyPart) (k : SmallVec KeyPart) (same : same_parts k.items key ≡ true) where
+  -- having the same parts is an equivalence of keys
   equal : IsEquivalence same_parts
   equal = lists_equiv part_equivalence
 
@@ -118,12 +121,14 @@ module _ (key : List KeyPart) (k : SmallVec KeyPart) (same : same_parts k.items 
       sym (equal.congr k.items key x.items same) ∙ equal.symm k.items x.items ∙ ap (λ (z : SmallVec KeyPart). same_parts x.items z.items) (sym (some_is y k e)) ∙ d.0
   apart_from (y ∷ xs) x (suc i) d e = apart_from xs x i d.1 e
 
+  -- none of the keys before a place of the set has the parts of the key there
   none_before : (ks : List (SmallVec KeyPart)) (i : ℕ) → IsDistinct same_key ks → slice_get ks i ≡ Some k → list_any (λ j. same_parts key j.items) (take i ks) ≡ false
   unfolding IsDistinct
   none_before [] i d e = cc
   none_before (x ∷ xs) zero d e = refl
   none_before (x ∷ xs) (suc i) d e = ap (λ (b : Bool). b || list_any (λ j. same_parts key j.items) (take i xs)) (apart_from xs x i d.0 e) ∙ none_before xs i d.1 e
 
+  -- one of the keys up to a place of the set has the parts of the key there
   one_there : (ks : List (SmallVec KeyPart)) (i : ℕ) → slice_get ks i ≡ Some k → list_any (λ j. same_parts key j.items) (take (suc i) ks) ≡ true
   one_there [] i e = cc
   one_there (x ∷ xs) zero e =
@@ -139,7 +144,7 @@ module _ (key : List KeyPart) (k : SmallVec KeyPart) (same : same_parts k.items 
     pub seen_up_to : was_seen key (take (suc i) (map (λ j. j.items) ks)) ≡ true
     seen_up_to = few_is key ks (suc i) ∙ one_there ks i there
 
--- what stands at a place of the keys
+-- at each place of the keys that were seen stands a key of the set, by its parts
 key_at : (ks : List (SmallVec KeyPart)) (j : ℕ) → j < length (map (λ k. k.items) ks) → (k : SmallVec KeyPart) × (slice_get ks j ≡ Some k) × (slice_index_or (map (λ k. k.items) ks) j [] ≡ k.items)
 key_at [] j l = absurd (omega (arith, l))
 key_at (k ∷ ks) zero l = (k, refl, refl)

@@ -27,7 +27,7 @@ pub all_both : {X : Type 0} (P : X → Type 0) (xs ys : List X) → AllByRecursi
 all_both P [] ys a b = b
 all_both P (x ∷ xs) ys a b = (a.0, all_both P xs ys a.1 b)
 
--- the binding at an index is found first from there on
+-- of bindings from an index on, the one at the index is found first, before those after it
 pub found_at : (rows : List TolledRow) (k : ℕ) → k < length rows → found (map bind (drop k rows)) ≡ finds (get_or rows k []) (map bind (drop (suc k) rows))
 found_at [] k l = absurd (omega (arith, l))
 found_at (x ∷ rows) zero l = refl
@@ -70,7 +70,7 @@ nth_past m (one_more q c rest) zero h = cc
 nth_past m (one_more q c rest) (suc k) h = nth_past _ rest k h
 
 module _ (ops : List Operator) (i v : ℕ) where
-  -- the spot of a variable at an index
+  -- the spot of a variable at an index of a sorted list is that at the position there
   spot_items : (m : _) (row : Row m) (k : ℕ) (p : Rc Position Global) → slice_get (items m row) k ≡ Some p → spot_nth ops i row k v ≡ spot_in ops i p.value v
   spot_items m no_more k p h = cc
   spot_items m (one_more q c rest) zero p h = ap (λ (z : Option (Rc Position Global)). elim z as (λ _. Option (ℕ × Spot)) [ Some y ↦ spot_in ops i y.value v | None ↦ None ]) h
@@ -88,7 +88,7 @@ module _ (w : World) (ops : List Operator) (i : ℕ) where
   rows_items m no_more = refl
   rows_items m (one_more q c rest) = ap (λ (rows : List TolledRow). binding w ops i c ∷ rows) (rows_items _ rest)
 
-  -- positions of an operator, from a list of them
+  -- a sorted list is one of positions of an operator where its members are
   in_items : (m : _) (row : Row m) → ArePositions w ops i (items m row) → AreIn w ops i row
   in_items m no_more h = tt
   in_items m (one_more q c rest) h = (h.0.0, h.0.1, in_items _ rest h.1)
@@ -99,11 +99,11 @@ module _ (w : World) (ops : List Operator) (i : ℕ) where
   items_in m (one_more q c rest) h = ((h.0, h.1), items_in _ rest h.2)
 
 module _ (list : Rc (Vec (Rc Position Global) Global) Global) (k : ℕ) where
-  -- a list that the code made has as many positions
+  -- a list that the code made has as many positions as members
   pub list_count : count (list_of (Sorted list k)).1 ≡ length list.value.items
   list_count = let l = list_of (Sorted list k) in count_items l.0 l.1 ∙ ap length (items_are list.value)
 
-  -- the position under it is the one at its index
+  -- the position under one that stands in a sorted list is the member at its index
   pub list_below : (p : Rc Position Global) → slice_get list.value.items k ≡ Some p → below (Sorted list k) ≡ p.value
   list_below p h = let l = list_of (Sorted list k) in nth_items l.0 l.1 k p (ap (λ (xs : List (Rc Position Global)). slice_get xs k) (items_are list.value) ∙ h)
 
@@ -111,11 +111,11 @@ module _ (list : Rc (Vec (Rc Position Global) Global) Global) (k : ℕ) where
   pub list_past : slice_get list.value.items k ≡ None → below (Sorted list k) ≡ Start
   list_past h = let l = list_of (Sorted list k) in nth_past l.0 l.1 k (ap (λ (xs : List (Rc Position Global)). slice_get xs k) (items_are list.value) ∙ h)
 
-  -- the spot of a variable is that of the one at its index
+  -- the spot of a variable at the index of a sorted list that the code made is that at the member there
   pub list_spot : (ops : List Operator) (i v : ℕ) (p : Rc Position Global) → slice_get list.value.items k ≡ Some p → spot_nth ops i (list_of (Sorted list k)).1 k v ≡ spot_in ops i p.value v
   list_spot ops i v p h = let l = list_of (Sorted list k) in spot_items ops i v l.0 l.1 k p (ap (λ (xs : List (Rc Position Global)). slice_get xs k) (items_are list.value) ∙ h)
 
-  -- a variable has no spot there
+  -- past the end of a sorted list that the code made, a variable has no spot
   pub list_no_spot : (ops : List Operator) (i v : ℕ) → slice_get list.value.items k ≡ None → spot_nth ops i (list_of (Sorted list k)).1 k v ≡ None
   list_no_spot ops i v h = let l = list_of (Sorted list k) in spot_past ops i v l.0 l.1 k (ap (λ (xs : List (Rc Position Global)). slice_get xs k) (items_are list.value) ∙ h)
 
@@ -124,7 +124,7 @@ module _ (list : Rc (Vec (Rc Position Global) Global) Global) (k : ℕ) where
     pub list_rows : rows_in w ops i (list_of (Sorted list k)).1 ≡ bindings_at w ops i list.value.items
     list_rows = let l = list_of (Sorted list k) in rows_items w ops i l.0 l.1 ∙ ap (bindings_at w ops i) (items_are list.value)
 
-    -- positions of an operator, as a list of them
+    -- a list of positions of an operator is, as a position holds it, one of that operator's positions
     pub list_in : ArePositions w ops i list.value.items → AreIn w ops i (list_of (Sorted list k)).1
     list_in h = let l = list_of (Sorted list k) in in_items w ops i l.0 l.1 (subst (ArePositions w ops i) (sym (items_are list.value)) h)
 
@@ -133,7 +133,7 @@ module _ (list : Rc (Vec (Rc Position Global) Global) Global) (k : ℕ) where
     in_list h = let l = list_of (Sorted list k) in subst (ArePositions w ops i) (items_are list.value) (items_in w ops i l.0 l.1 h)
 
 module _ (list : Rc (Vec (Rc Position Global) Global) Global) (k : ℕ) (xs : List (Rc Position Global)) (e : xs ≡ list.value.items) (here : Position) (is : here ≡ Sorted list k) where
-  -- what is read at the index is the position under it
+  -- what is read at the index of a sorted list is the position under the one that stands there
   pub list_part : (r : Option (Bor (Rc Position Global))) → IsItemAt xs k r → MatchOption r (below here ≡ Start) (λ p. p.now.value ≡ below here)
   list_part None h = ap below is ∙ list_past list k (ap (λ (zs : List (Rc Position Global)). slice_get zs k) (sym e) ∙ slice_get_past xs k h.3)
   list_part (Some p) h = sym (ap below is ∙ list_below list k p.now (ap (λ (zs : List (Rc Position Global)). slice_get zs k) (sym e) ∙ slice_get_read xs (length xs) k p.now refl h.3.0 h.1))

@@ -6,7 +6,7 @@ use Rattle.tree_buffer.specs.declared.buffer.Buffer.{Buffer}
 use Rattle.tree_buffer.specs.Buffer.{IsSourcesOf, number_of}
 use Rattle.lazy_binding.specs.Opening.{AreBuffers}
 
--- what is so of each member by its index, and of one more after them
+-- what is so of each member by its index, and of one more at the end, is so of each of all of them
 member_more : {X : Type 0} (P : ℕ → X → Type 0) (xs : List X) (b : X) (base : ℕ) → ((k : ℕ) (d : X) → slice_get xs k ≡ Some d → P (base + k) d) → P (base + length xs) b
     → (n : ℕ) (c : X) → slice_get (xs ++ b ∷ []) n ≡ Some c → P (base + n) c
 member_more P [] b base f g zero c t = let e : b ≡ c = cc in subst (P (base + 0)) e g

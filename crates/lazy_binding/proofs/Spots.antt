@@ -39,7 +39,7 @@ IsSpotOf w ops n c v = IsSpotAt w ops n (shape_at ops n) c v
 no_kind : (k : Kind) → None ≡ Some k → ⊥
 no_kind k h = cc
 
--- a new node, or what was there
+-- a variable that is the new one has the new node, and any other what was there
 either_node : (out v : ℕ) (of : Kinds) (x : Node) (row : TolledRow) → cond (out == v) (Some a_node) (of v) ≡ Some a_node
     → (((out == v) ≡ true) × (tolled_value ((out, of_source x) ∷ row) v ≡ of_source x)) ⊎ (((out == v) ≡ false) × (of v ≡ Some a_node) × (tolled_value ((out, of_source x) ∷ row) v ≡ tolled_value row v))
 either_node out v of x row h =

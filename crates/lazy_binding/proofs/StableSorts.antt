@@ -15,7 +15,7 @@ module _ {X : Type 0} (lt : X → X → Bool) (o : IsStrictWeakOrder lt) where
   Rises [] = Unit {0}
   Rises (x ∷ xs) = AllByRecursion (λ y. lt y x ≡ false) xs × Rises xs
 
-  -- each element of a list that is sorted at every index
+  -- where no element at any index is before a given one, none of the elements is
   all_far : (x : X) (xs : List X) → ((i : ℕ) (d : X) → i < length xs → lt (get_or xs i d) x ≡ false) → AllByRecursion (λ y. lt y x ≡ false) xs
   all_far x [] h = tt
   all_far x (y ∷ xs) h = (h zero y (omega arith), all_far x xs (λ i d l. h (suc i) d (omega (arith, l))))
@@ -46,11 +46,11 @@ module _ {X : Type 0} (lt : X → X → Bool) (o : IsStrictWeakOrder lt) where
   apart_all : (x y : X) (zs : List X) → lt x y ≡ true → AllByRecursion (λ z. lt z y ≡ false) zs → filter (ties lt x) (y ∷ zs) ≡ []
   apart_all x y zs h a = rw h (apart x y zs h a)
 
-  -- the first of a list is kept by its own test
+  -- the first element of a list ties with itself, so it is among those that tie with it
   keeps_first : (x : X) (xs : List X) → filter (ties lt x) (x ∷ xs) ≡ x ∷ filter (ties lt x) xs
   keeps_first x xs = rw (ties_self x) refl
 
-  -- the rests are alike where the wholes are
+  -- two lists that are alike with one element before each, or with none, are alike without it
   rest_same : (t : Bool) (x : X) (xs ys : List X) → cond t (x ∷ xs) xs ≡ cond t (x ∷ ys) ys → xs ≡ ys
   rest_same true x xs ys h = cc
   rest_same false x xs ys h = h
@@ -134,7 +134,7 @@ module _ {X : Type 0} (lt : X → X → Bool) (o : IsStrictWeakOrder lt) where
       first_false true u h = cc
       first_false false u h = refl
 
-  -- of two elements that don't both pass a test, the order doesn't matter to what passes
+  -- of two elements of which not both pass a test, the order doesn't matter to what passes
   swapped : (s t : Bool) (x y : X) (xs : List X) → (s ≡ true → t ≡ false) → cond t (y ∷ cond s (x ∷ xs) xs) (cond s (x ∷ xs) xs) ≡ cond s (x ∷ cond t (y ∷ xs) xs) (cond t (y ∷ xs) xs)
   swapped true true x y xs h = let c : true ≡ false = h refl in cc
   swapped true false x y xs h = refl
@@ -161,7 +161,7 @@ module _ {X : Type 0} (lt : X → X → Bool) (o : IsStrictWeakOrder lt) where
   pub sort_is : (xs ys : List X) → IsSortedBy lt ys → IsStableBy lt xs ys → ys ≡ sorted_by lt xs
   sort_is xs ys up stable = one_sort ys (sorted_by lt xs) (rises ys (sorted_far lt o ys up)) (rises_sorted xs) (λ z. stable z ∙ sym (stable_sorted xs z))
 
--- the order by labels, or that order turned round
+-- the label order of what has labels, or that order turned round, is a strict weak order
 pub label_weak : {X : Type 0} (desc : Bool) (key : X → List ℕ) → IsStrictWeakOrder (λ x y. comes_before desc (key x) (key y))
 label_weak true key = IsStrictWeakOrder-flip (λ x y. label_before (key x) (key y)) (ranks_by label_order_ok.total key)
 label_weak false key = ranks_by label_order_ok.total key

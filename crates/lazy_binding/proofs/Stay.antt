@@ -38,7 +38,7 @@ module _ (a b : World) (k : Keeps a b) (ops : List Operator) (bench : IsBench a 
   stays_in : (s : ℕ) (d : DescCursor) (h : IsMatchIn a s d) (m : Machine) → StaysMatch a.view h.buffer b.view (k.goes s h.buffer h.there).later m d
   stays_in s d h m = cursors_stay a.view h.buffer b.view (k.goes s h.buffer h.there).later (bench.sources s h.buffer h.there).1 k.view (k.goes s h.buffer h.there).goes m d h.cursor
 
-  -- what a source's buffer says of a cursor of a visit
+  -- what a function makes of the buffer of a source, in which a cursor of a visit is, is what it makes of that buffer
   at_old : {A : Type 0} (x : A) (f : Buffer → A) (s : ℕ) (d : DescCursor) (h : IsMatchIn a s d) → of_buffer x f (buffer_at a s) ≡ f h.buffer
   at_old x f s d h = ap (of_buffer x f) h.there
 
@@ -68,7 +68,7 @@ module _ (a b : World) (k : Keeps a b) (ops : List Operator) (bench : IsBench a 
       let l = (stays_in s d h (machine_of (record { labels = []; after = []; live = 0; first = 0 }))).number in
       omega (arith, e, f, l)
 
-  -- the events of a visit that are ahead
+  -- the events of a visit that are ahead of a match are the same after a call
   visit_ahead-kept : (start : ℕ) (path : Form) (out : ℕ) (row : TolledRow) (s : ℕ) (d : DescCursor) → IsMatchIn a s d → visit_ahead b start path out row s d ≡ visit_ahead a start path out row s d
   visit_ahead-kept start path out row s d h = ap (λ (es : List (Event (List ℕ))). nodes_found out (row_node row start) row es) (match_ahead-kept s (machine_of (table_of path)) d h)
 

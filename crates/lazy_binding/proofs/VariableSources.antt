@@ -25,7 +25,7 @@ use Rattle.lazy_binding.specs.Unders.{or_other, stage_source, shape_source, sour
 use Rattle.lazy_binding.proofs.Bound.{with_other, no_list, no_node, kinds_at, inputs_at, fit_at}
 use Rattle.lazy_binding.proofs.Spots.{spot_is}
 
--- sources of variables read those of the inputs
+-- the source of an operator's variable reads of others only those of its inputs' variables
 source-reads : ReadsInputs (λ o. shape_source (shape_of o))
 source-reads (source s out) a b h = refl
 source-reads (get_descendants input start path out) a b h = ap (λ (f : ℕ → Option ℕ). λ v. cond (out == v) (f start) (f v)) h.0
@@ -35,7 +35,7 @@ source-reads (over input op) a b h = ap (stage_source (stage_of op)) h.0
 source-reads (tuple_destroy input made) a b h = refl
 
 module _ (ops : List Operator) (typed : IsTyped ops) (n : ℕ) (within : n < length ops) (f : Shape) (e : shape_at ops n ≡ f) where
-  -- the source of a variable, from those of the inputs
+  -- the source of a variable of an operator is that of its shape, from those of the inputs' variables
   pub source_at : (v : ℕ) → source_var ops n v ≡ shape_source f (source_var ops) v
   unfolding source_var
   source_at v = ap (λ (g : ℕ → Option ℕ). g v) (by_number-is (λ o. shape_source (shape_of o)) (λ v. None) ops n source-reads (typed.inputs n within))

@@ -22,7 +22,7 @@ pub record IsNextMember (w : World) (ops : List Operator) (i : ℕ) (keys : List
   pub found : IsTrue (is_told w ops)
       → found (same_group (docs_of w) keys row (ahead w ops i at)) ≡ finds (binding w ops i m) (same_group (docs_of w) keys row (ahead w ops i m))
 
--- these positions of operator i stand at the bindings with the keys of a row after position `at`, one after another, up to position `last`; after that one the next comes at no greater cost
+-- given positions of operator i stand at its bindings with a row's keys after `at` up to `last`, in order; after that the next costs no more
 abbrev pub AreInGroup : World → List Operator → ℕ → List Key → TolledRow → Position → Position → ℕ → List (Rc Position Global) → Type 0
 AreInGroup w ops i keys row last at k [] = (k + number w ops i last ≤ size w ops i)
     × (IsTrue (is_told w ops) → IsPast (same_group (docs_of w) keys row (ahead w ops i at)) (same_group (docs_of w) keys row (ahead w ops i last)))
@@ -40,7 +40,7 @@ pub record IsPassed (w : World) (ops : List Operator) (n i : ℕ) (keys : List K
   pub past : IsTrue (is_told w ops) → IsPast (past_first k (events (docs_of w) ops n))
       (distinct (docs_of w) keys (kept_row (docs_of w) keys (stops_over ops i keys) group) (up_to w n k) (ahead w ops i c))
 
--- these are the members of group k, counted from 0, of operator n: the binding of operator n after k others is made of the first, and the others come one after another
+-- given positions are the members of group k, from 0, of operator n: its binding after k others is made of the first, the others come in order
 abbrev pub HasGroup : World → List Operator → ℕ → ℕ → List Key → Position → ℕ → List (Rc Position Global) → Type 0
 HasGroup w ops n i keys last k [] = ⊥
 HasGroup w ops n i keys last k (m ∷ ms) = ((q : Rc (Unit {0}) Global) → IsOf w ops n (First' q m.value (suc k)))

@@ -56,7 +56,7 @@ pub record IsMember (w : World) (ops : List Operator) (i : ℕ) (by : List Link)
   pub found : IsTrue (is_told w ops) → found (ahead w ops i at) ≡ finds (binding w ops i m) (ahead w ops i m)
   pub label_is : IsTrue (is_told w ops) → label ≡ member_label w ops i by m
 
--- these members of operator i stand at its next bindings after position `at`, one after another, the first with k members before it
+-- given members of operator i stand at its next bindings after position `at`, one after another, the first with k members before it
 abbrev pub AreNext : World → List Operator → ℕ → List Link → Position → ℕ → List Member → Type 0
 AreNext w ops i by at k [] = Unit {0}
 AreNext w ops i by at k (m ∷ ms) = IsMember w ops i by at k m.0 m.1.value × AreNext w ops i by m.1.value (suc k) ms

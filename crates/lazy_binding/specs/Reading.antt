@@ -54,7 +54,7 @@ pub record Found (w : World) (ops : List Operator) (n : ℕ) (c : Position) (v s
   pub known : IsSpotIn w s x
   pub node : row_node (binding w ops n c) v ≡ spot_node w s x
 
--- in each world of which a position is one of the operator that is walked, this holds of the world and of the binding there
+-- in each world of which a position is one of the operator that is walked, a property holds of the world and of the binding there
 abbrev pub InEachWorld : Walk → Position → (World → TolledRow → Type 0) → Type 0
 InEachWorld k c holds = (w : World) → IsOf w (operators k.fixed.now) k.op c → holds w (binding w (operators k.fixed.now) k.op c)
 

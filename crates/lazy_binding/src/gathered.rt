@@ -118,7 +118,7 @@ impl Gathered {
         }
     }
 
-    /// The last binding of the input that was walked to, or the position before all events.
+    /// The last binding of the input that was walked to, or the position before all events. It fails where memory runs out.
     pub fn last(&self, alloc: Global) -> Result<Rc<Position>, WalkFault>
         ensures ok { IfOk result (λ r. r.value ≡ self.now.last) }
         ensures err { IfErr result (λ e. e ≡ OutOfMemory) }

@@ -16,6 +16,7 @@ use std::alloc::Global;
 use std::rc::Rc;
 
 /// Puts one more member after those of an operator's memo.
+/// Where memory runs out it fails, and the memos are as they were.
 pub fn push_member(
     alloc: Global,
     memos: &mut Vec<Memo<Rc<Position>>>,
@@ -38,7 +39,7 @@ pub fn push_member(
     }
 }
 
-/// The last of a memo's members, or the position before all events.
+/// The last of a memo's members, or the position before all events. It fails where memory runs out.
 pub fn last_member(alloc: Global, memo: &Memo<Rc<Position>>) -> Result<Rc<Position>, WalkFault>
     ensures ok { IfOk result (λ r. r.value ≡ last_of Start memo.now.pairs) }
     ensures err { IfErr result (λ e. e ≡ OutOfMemory) }
@@ -60,7 +61,7 @@ pub fn end_members(memos: &mut Vec<Memo<Rc<Position>>>, op: usize)
     memo.end();
 }
 
-/// Whether a key is new after the first few; where it is the newest of all, it is put after them.
+/// Whether a key is new after the first few; where it is the newest of all, it is put after them. It fails where memory runs out.
 pub fn is_first(list: &mut SeenKeys, key: KeyTuple, count: usize) -> Result<bool, WalkFault>
     requires { count ≤ length list.old }
     ensures err { IfErr result (λ e. e ≡ OutOfMemory) }

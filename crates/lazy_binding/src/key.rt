@@ -149,6 +149,7 @@ impl SeenKeys {
     }
 
     /// Puts a key after the others where it was not seen; whether it did so. No key is hashed where it is the last of them.
+    /// Where memory runs out it fails, and the keys are as they were.
     pub fn push(&mut self, key: KeyTuple) -> Result<bool, WalkFault>
         ensures new { IfOk result (λ new. new ≡ not (was_seen key.items self.old)) }
         ensures ok { IfOk result (λ new. self.new ≡ (if new then self.old ++ key.items ∷ [] else self.old)) }

@@ -40,7 +40,7 @@ pub struct Reached {
     pub seen: usize,
 }
 
-/// A position that can be shared.
+/// A position that can be shared. It fails where memory runs out.
 pub fn put(alloc: Global, position: Position) -> Result<Rc<Position>, WalkFault>
     ensures ok { IfOk result (λ r. r.value ≡ position) }
     ensures err { IfErr result (λ e. e ≡ OutOfMemory) }
@@ -48,7 +48,7 @@ pub fn put(alloc: Global, position: Position) -> Result<Rc<Position>, WalkFault>
     Ok(Rc::new(alloc, position)?)
 }
 
-/// The same position once more.
+/// The same position once more, shared. It fails where memory runs out.
 pub fn share(position: &Rc<Position>) -> Result<Rc<Position>, WalkFault>
     ensures ok { IfOk result (λ r. r.value ≡ position.now.value) }
     ensures err { IfErr result (λ e. e ≡ OutOfMemory) }
@@ -56,7 +56,7 @@ pub fn share(position: &Rc<Position>) -> Result<Rc<Position>, WalkFault>
     Ok(position.clone()?)
 }
 
-/// The position of the input in a position; that of the left input of a join.
+/// The position of the input in a position of an operator; of a join that of the left input. It fails where memory runs out.
 pub fn inside(alloc: Global, at: &Position) -> Result<Rc<Position>, WalkFault>
     ensures ok { IfOk result (λ r. r.value ≡ below at.now) }
     ensures err { IfErr result (λ e. e ≡ OutOfMemory) }

@@ -25,11 +25,11 @@ pub record Cursors (C B : Type 0) : Type 1 where
 abbrev pub AsksAtMost : Telling → Telling → ℕ → Type 0
 AsksAtMost old new most = IsTrue old.told → IsTrue old.forward → new.fills ≤ old.fills + most
 
--- over told sources none of these events is a binding
+-- over told sources none of some events is a binding
 abbrev pub FindsNone : {B : Type 0} → Telling → List (Event B) → Type 0
 FindsNone old es = IsTrue old.told → found es ≡ nothing
 
--- over told sources this is the first binding of these events, with those after it
+-- over told sources a binding is the first one of some events, with given ones after it
 abbrev pub FindsAt : {B : Type 0} → Telling → List (Event B) → B → List (Event B) → Type 0
 FindsAt old es row later = IsTrue old.told → found es ≡ finds row later
 

@@ -93,7 +93,7 @@ module _ (ops : List Operator) (n i : ℕ) (keys : List Key) (made : Piece × �
         ap found (sym whole_is)
         ∙ (found_past b ops n i keys (Some made) (good b late) count first (kept.found n count 0 first begun) at place (kept.found n count place at here) none t).found
 
-    -- where nothing is left, there is none
+    -- where the next member isn't there and the walk has nothing left, the group has no further member
     pub member_none : member_at b n count (suc place) ≡ None → (IsTrue (is_told b ops) → found (ahead b ops i (gathered_at b n).last) ≡ nothing) → FindsNone (telling a ops) whole
     member_none none ended t =
         let u = still_told (tells_on kept ops) t in

@@ -61,7 +61,7 @@ use Rattle.lazy_steps.proofs.SeenPlaces.{last_taken, each_one}
 
 -- WHERE A GROUP BEGINS
 
--- the shape of a groupBy by keys
+-- an operator that gathers groups by keys keeps the first bindings by these, each with the list of its group
 pub group_shape : (o : Operator) → form o ≡ gathers_groups → (group : Piece × ℕ) × (shape_of o ≡ passes_on (input_of o) (first_by_keys (keys_of o) (Some group)))
 group_shape (over i (group_by [] piece out)) h = cc
 group_shape (over i (group_by (k ∷ keys) piece out)) h = ((piece, out), refl)
@@ -152,7 +152,7 @@ reached_bench b ops late walked n to r seen = record {
     reached_at_one j x e q (inr ne) =
         (cursors_kept b here keeps ops late j (Seen' q x.below.value x.seen) (late.reached j x (sym (r.others j ne) ∙ e) q)).cursor
 
--- a call, and then a group that was walked on
+-- a call after which it is noted that a group was walked on leaves what a call leaves
 pub ran_reached : {S : Type 0} {view : S → View} {came_from : S → S → Type 0} {ops : List Operator} {n : ℕ} {es : RowEvents} {s t : S} {g h : Growing} (walked : Walked)
     → walked.gathered ≡ h.walked.gathered → IsBench (world (view t) h.buffers.items h.seen.items h.memos.items walked) ops
     → Ran view came_from ops n es s g t h → Ran view came_from ops n es s g t (record { buffers = h.buffers; seen = h.seen; memos = h.memos; walked = walked })
@@ -169,7 +169,7 @@ ran_reached {view} {t} {h} walked same bench ran = record {
 
 -- THE NEXT MEMBER
 
--- the keys that an operator has seen, as they are read
+-- the keys that an operator has seen, as they are read, are those of the world
 pub seen_read : (v : View) (g : Growing) (ops : List Operator) → IsBench (world_of v g) ops → (n : ℕ) → n < length ops → (keys : List (List KeyPart)) → keys ≡ get_or g.seen.items n keys
     → keys ≡ seen_at (world_of v g) n
 seen_read v g ops bench n within keys e = e ∙ get_or_default g.seen.items n keys [] (let l = bench.lists in omega (arith, l, within))
@@ -235,11 +235,11 @@ module _ {place : ℕ} (a b : World) (p : Plan) (op m : ℕ) (first at : Positio
   abbrev of_group : Documents → TolledRow → TolledRow → Bool
   of_group docs r row = same_values (key_values docs keys r) (key_values docs keys row)
 
-  -- no further binding is no further member
+  -- where the input has no further binding, the group has no further member
   pub no_member : FindsNone (telling a ops) (ahead a ops i at) → IsTrue (is_told a ops) → found (group_ahead (record { world = a; plan = p }) op first at) ≡ nothing
   no_member h t = found-passing_none (stops_at ops op) (of_group (docs_of a) (binding a ops i first)) (ahead a ops i at) (h t)
 
-  -- what is asked is within what is allowed
+  -- what a call for the next member asks is within the cost of the group's events
   pub member_lazy : AsksAtMost (record { world = a; plan = p }) (record { world = b; plan = p }) (cost (group_ahead (record { world = a; plan = p }) op first at))
   member_lazy t w =
       let asked = k.lazy t w in

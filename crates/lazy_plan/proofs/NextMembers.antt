@@ -75,7 +75,7 @@ module _ (a : World) (p : Plan) (op m place : ℕ) (first at : Position) (is : f
   next_none h t = ap found (events_are a at) ∙ h t
 
   module _ (b : World) (k : Asks a b ops op (members_after a ops i keys first at)) where
-    -- what is asked is within what is allowed
+    -- what a call for the next member asks is within the cost of the group's events
     pub next_lazy : AsksAtMost (record { world = a; plan = p }) (record { world = b; plan = p }) (cost (group_ahead (record { world = a; plan = p }) op first at))
     next_lazy t f = (let x = k.lazy t f in let y = ap cost (events_are a at) in omega (arith, x, y))
 

@@ -13,7 +13,7 @@ use Rattle.lazy_value.specs.Ways.{IsHeldAt, IsBelow, IsWay, IsWays, foot_op, foo
 use Rattle.lazy_value.specs.declared.ways.Way.{Way, Top, Below'}
 use Rattle.lazy_value.specs.declared.ways.Ways.{Ways}
 
--- a value is that in the cursor's own binding
+-- a value that is held at a cursor is held at that cursor itself
 pub held_here : (st : BenchState) (n v : ℕ) (c d : Position) → d ≡ c → IsCursor st n c → IsHeldAt st n c v n d
 held_here st n v c d e h = subst (λ (x : Position). IsHeldAt st n c v n x) (sym e) (record { within = omega arith; cursor = h; value = refl; kind = refl; size = omega arith; extent = omega arith })
 
@@ -67,22 +67,25 @@ pub of_foot : (P : ℕ → Position → Type 0) (w : Way) (m : ℕ) (d : Positio
 of_foot P w m d e f h = subst (λ (j : ℕ). P j (foot_at w)) e (subst (λ (x : Position). P m x) f h)
 
 module _ (st : BenchState) (n : ℕ) (c : Position) (h : IsCursor st n c) (w : Way) (k : IsWay st n c w) (m : ℕ) (d : Position) (e : m ≡ foot_op w) (f : d ≡ foot_at w) where
-  -- the lowest cursor of a way, by another name
+  -- the lowest cursor of a way is below the uppermost, where operator and cursor are read off the way
   foot_is : IsBelow st n c m d
   foot_is = at_foot (IsBelow st n c) w m d e f (foot_below st n c h w k)
 
-  -- the way with one cursor more
+  -- a way with one cursor of an input more below, from which the lowest one has all values, is a way
   pub way_on : (i : ℕ) (g : Position) → i < m → PassesAll st.plan m i → (IsCursor st m d → IsUnder st m d i g) → (x u : Way) (q : _) → x ≡ Below' i g q u → u ≡ w → IsWay st n c x
   way_on i g l all u x y q is same =
       subst (λ (z : Way). IsWay st n c z) (sym (is ∙ ap (λ (z : Way). Below' i g q z) same)) (below_on st n m i c d g foot_is l all (u foot_is.cursor), k)
 
 module _ (a b : BenchState) (k : KeepsBench a b) where
+  -- the operators of the plan are the same after a call
   ops_same : ops_of b ≡ ops_of a
   ops_same = ap (λ (p : Plan). (plan_value p).ops) k.plan
 
+  -- the whole number of each operator is the same after a call
   sizes_same : ◌≡◌ {A = ℕ → ℕ} (size_of b) (size_of a)
   sizes_same = λ i n. k.size n i
 
+  -- a value that is held further down from a cursor is held there after a call
   held-kept : (n : ℕ) (c : Position) → IsCursor a n c → (v m : ℕ) (d : Position) → IsHeldAt a n c v m d → IsHeldAt b n c v m d
   held-kept n c h v m d i =
       let s = k.cursors n c h in let t = k.cursors m d i.cursor in
@@ -96,6 +99,7 @@ module _ (a b : BenchState) (k : KeepsBench a b) where
             (subst (λ (ops : List Operator). extent (size_of a) ops m v ≤ extent (size_of a) ops n v) (sym ops_same) i.extent);
       }
 
+  -- a cursor further down that has all values is so after a call
   below-kept : (n : ℕ) (c : Position) → IsCursor a n c → (m : ℕ) (d : Position) → IsBelow a n c m d → IsBelow b n c m d
   below-kept n c h m d i = record {
     within = i.within;

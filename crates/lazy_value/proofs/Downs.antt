@@ -25,7 +25,7 @@ use Rattle.lazy_value.specs.declared.ids.Rest.{Rest, End}
 use Rattle.lazy_value.specs.declared.ids.Site.{Site}
 use Rattle.lazy_value.proofs.Turns.{tells_on, Paid, paid_start, paid_on, paid_at, paid_over}
 
--- the trees of an element are those of its list
+-- the trees below the element that an operator makes are those of its list's value, with nothing after it
 pub element_is : (st : BenchState) (op list input : ℕ) (at : Position) (origin : Origin) (r : Rest) → pieces_of (op_at (ops_of st) op) ≡ var_piece list ∷ [] → input ≡ input_at (ops_of st) op
     → IsOriginOf st input at list origin → r ≡ End → value_trees (documents st) (value_of st origin) (rest_trees st r) ≡ element_trees st op at
 element_is st op list input at origin r ps i o e =
@@ -42,7 +42,7 @@ end_rest st r e = subst (λ (x : Rest). IsRest st x) (sym e) tt
 pub goes_as : (a : BenchState) (f g : Tolled) (w : ℕ) (r : Rest) → f ≡ g → GoesOn a a f w r → GoesOn a a g w r
 goes_as a f g w r e h = subst (λ (x : Tolled). GoesOn a a x w r) e h
 
--- what was paid before a rest
+-- where a rest goes on for trees in one state, its trees are left of those, and what coming to it cost was paid
 pub on_paid : (a : BenchState) (f : Tolled) (w : ℕ) (r : Rest) → GoesOn a a f w r → Paid a a f (rest_trees a r)
 on_paid a f w r g = paid_on (paid_start a f) (keeps_on.same a) w r g
 
@@ -59,7 +59,7 @@ root_trees a b input v op c at h later e o =
     ∙ ap (λ (x : Find TolledRow). trees_below (element_alone (tolled_value (first_row x) v))) e
     ∙ ap (λ (x : TolledValue). trees_below (element_alone x)) o.value
 
--- the walk to the root's first child
+-- a walk that reaches the first tree of the last operator's list, after the first binding was found, reaches the root's first child
 pub root_walked : {S : Type 0} {view : S → View} {came_from : S → S → Type 0} → ((x y z : S) → came_from x y → came_from y z → came_from x z) → (s t u : S) (b d e : Bench) (input v op : ℕ) (c at : Position) (x : Origin)
     → IsLast (ops_of (state_of (view s) b)) input v → BenchRan view came_from s b t d → AsksNoneOnSingle (state_of (view s) b) (state_of (view t) d) input
     → IsFirstOf (state_of (view s) b) (state_of (view t) d) input (events_of (state_of (view s) b) input) (size_of (state_of (view s) b) input) c

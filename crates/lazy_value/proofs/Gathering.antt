@@ -21,12 +21,12 @@ use Rattle.lazy_value.proofs.Keep.{ops_kept, input_kept, rest_trees-kept, IsRest
 use Rattle.lazy_value.proofs.Laws.{collected_nothing, collected_finds, toll_collected}
 use Rattle.lazy_value.proofs.Turns.{on_end, at_after}
 
--- what asks less than is allowed
+-- a call that leaves what one of at most some fills leaves does so for any greater number of fills
 walked_less : {S : Type 0} {view : S → View} {came_from : S → S → Type 0} {s t : S} {b d : Bench} (m n : ℕ) → Walked view came_from s b t d m → m ≤ n → Walked view came_from s b t d n
 walked_less m n w l = record { came = w.came; bench = w.bench; kept = w.kept; asks = λ y v. (let z = w.asks y v in omega (arith, z, l)) }
 
 module _ (a c : BenchState) (k : KeepsBench a c) (op : ℕ) (up : Rest) (h : IsRest a up) where
-  -- what is gathered of events of which this is the first binding
+  -- what is gathered of events is the trees of the first binding that is found, and then those of the later ones
   gathers_some : (es : RowEvents) (row : TolledRow) (later : RowEvents) → found es ≡ finds row later
       → collected (documents a) (piece_of (ops_of a) op) es (rest_trees a up)
       ≡ dearer (cost es) (piece_items (documents c) (piece_of (ops_of c) op) row (collected (documents c) (piece_of (ops_of c) op) later (rest_trees c up)))
@@ -37,13 +37,14 @@ module _ (a c : BenchState) (k : KeepsBench a c) (op : ℕ) (up : Rest) (h : IsR
       ∙ ap (λ (d : Documents). piece_items d (piece_of (ops_of a) op) row (collected d (piece_of (ops_of a) op) later (rest_trees c up))) (sym k.documents)
       ∙ ap (λ (ops : List Operator). piece_items (documents c) (piece_of ops op) row (collected (documents c) (piece_of ops op) later (rest_trees c up))) (sym (ops_kept a c k)))
 
-  -- a list that is at its end
+  -- where no binding of the events is found, a list is at its end, and the rest after it goes on
   gathers_over : (es : RowEvents) → AsksAtMost a c (cost es) → FindsNone (told_by a) es → (x : Rest) → x ≡ up
       → GoesOn a c (collected (documents a) (piece_of (ops_of a) op) es (rest_trees a up)) (suc (weight a up)) x
   gathers_over es asks e x z =
       subst (λ (r : Rest). GoesOn a c (collected (documents a) (piece_of (ops_of a) op) es (rest_trees a up)) (suc (weight a up)) r) (sym z)
       (on_end a c k (cost es) asks _ up h (λ y. collected_nothing (documents a) (piece_of (ops_of a) op) es (rest_trees a up) (e y)))
 
+  -- as many trees are left in a rest as in the one that it is, or fewer
   left_over : (n : ℕ) (x : Rest) → x ≡ up → left c x ≤ n + left a up
   left_over n x z = let l = left-kept a c k up h in let e = ap (left c) z in omega (arith, l, e)
 
@@ -56,6 +57,7 @@ module _ {S : Type 0} {view : S → View} {came_from : S → S → Type 0} (s t 
       (subst (λ (n : ℕ). cost (ahead_from (state_of (view s) b) n at) ≤ toll (members_trees (state_of (view s) b) op at (rest_trees (state_of (view s) b) up))) (sym i)
       (toll_collected (documents (state_of (view s) b)) (piece_of (ops_of (state_of (view s) b)) op) (ahead_from (state_of (view s) b) (input_at (ops_of (state_of (view s) b)) op) at) (rest_trees (state_of (view s) b) up)))
 
+  -- what was asked is within the cost of the events that are ahead
   asked : AsksAtMost (state_of (view s) b) (state_of (view t) d) (cost (ahead_from (state_of (view s) b) (input_at (ops_of (state_of (view s) b)) op) at))
   asked = subst (λ (n : ℕ). AsksAtMost (state_of (view s) b) (state_of (view t) d) (cost (ahead_from (state_of (view s) b) n at))) i walked.asks
 
@@ -63,7 +65,7 @@ module _ {S : Type 0} {view : S → View} {came_from : S → S → Type 0} (s t 
     pub rest_after : IsRest (state_of (view t) d) up
     rest_after = IsRest-kept (state_of (view s) b) (state_of (view t) d) walked.kept up h
 
-    -- without a further one the list is at its end
+    -- without a further binding a list of all bindings is at its end
     pub members_over : FindsNone (told_by (state_of (view s) b)) (ahead_from (state_of (view s) b) input at) → (x : Rest) → x ≡ up
         → GoesOn (state_of (view s) b) (state_of (view t) d) (members_trees (state_of (view s) b) op at (rest_trees (state_of (view s) b) up)) (suc (weight (state_of (view s) b) up)) x
     members_over e x z =
@@ -109,7 +111,7 @@ module _ {S : Type 0} {view : S → View} {came_from : S → S → Type 0} (s t 
     group_rest : IsRest (state_of (view t) d) up
     group_rest = IsRest-kept (state_of (view s) b) (state_of (view t) d) walked.kept up h
 
-    -- without a further one the list is at its end
+    -- without a further member a group's list is at its end
     pub group_over : FindsNone (told_by (state_of (view s) b)) (group_ahead (state_of (view s) b) op first at) → (x : Rest) → x ≡ up
         → GoesOn (state_of (view s) b) (state_of (view t) d) (group_trees (state_of (view s) b) op first at (rest_trees (state_of (view s) b) up)) (suc (weight (state_of (view s) b) up)) x
     group_over e x z = gathers_over (state_of (view s) b) (state_of (view t) d) walked.kept op up h (group_ahead (state_of (view s) b) op first at) walked.asks e x z

@@ -84,14 +84,14 @@ pub element_label : (ops : List Operator) → IsTyped ops → (n v : ℕ) → n 
 element_label ops typed n v h e = subst (λ (k : _). FitsKind k (labels ops n v)) e (labels_fit ops typed n v h)
 
 module _ (docs : Documents) (ops : List Operator) (typed : IsTyped ops) (input v : ℕ) (h : IsLast ops input v) (label : List ℕ) (e : labels ops input v ≡ Some (Some label)) where
-  -- the document of the first binding
+  -- where a first binding is found, the document is the element of it, with the label that the plan tells
   row_document : (row : TolledRow) (rest : RowEvents) → found (events docs ops input) ≡ finds row rest → (kids : Tolled) × (tolled_document docs ops ≡ item 0 label kids (ends 0))
   row_document row rest f =
       let fits = each_first (Fits (labels ops input)) (events docs ops input) (rows_fit docs ops typed input h.within) row rest f v in
       let z = (subst (λ (l : Option (Option (List ℕ))). Holds l (stands_in row v) (tolled_value row v)) e fits).1 in
       (z.0, ap (tolled_destroyed (events docs ops)) h.last ∙ ap (λ (x : Find TolledRow). element_alone (tolled_value (first_row x) v)) f ∙ ap element_alone z.1)
 
-  -- the label of the document
+  -- the label of the document is the one that the plan tells
   pub label_of_root : IsTrue (is_item (tolled_document docs ops)) → label ≡ item_label (tolled_document docs ops)
   label_of_root i = go (found (events docs ops input)) refl
     where
@@ -130,7 +130,7 @@ element_made ks ls (over i (concatenate ps out)) v m e = let z : Some a_list ≡
 element_made ks ls (over i (create_element label list out)) v m e = (refl, cond_true (out == v) (Some (Some label)) (ls i v) m)
 element_made ks ls (tuple_destroy i w) v m e = cc
 
--- where a variable that holds an element is made
+-- an operator at which a variable that holds an element is made makes an element of it
 pub made_there : (p : Plan) → IsTyped (plan_value p).ops → (n v : ℕ) → n < length (plan_value p).ops → IsMadeHere p n v → kinds (plan_value p).ops n v ≡ Some an_element
     → (form (op_at (plan_value p).ops n) ≡ makes_element) × (labels (plan_value p).ops n v ≡ Some (Some (label_in (op_at (plan_value p).ops n))))
 made_there p typed n v h (inl k) e = cc

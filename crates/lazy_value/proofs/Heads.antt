@@ -15,13 +15,13 @@ use Rattle.lazy_value.specs.declared.ids.Head.{Head}
 use Rattle.lazy_value.specs.declared.ids.Head.TheVariants.{Whole, Built, Leaf, Text}
 use Rattle.lazy_value.specs.declared.ids.Origin.TheVariants.{Node as node_origin, Element as element_origin}
 
--- what is said of an answer, where something that follows from it is asked
+-- what follows from a property of an answer holds of an answer that has the property
 pub if_ok : {T E : Type 0} (r : Result T E) (P Q : T → Type 0) → ((x : T) → P x → Q x) → IfOk r P → IfOk r Q
 if_ok (Ok x) P Q f h = f x h
 if_ok (Err e) P Q f h = tt
 
 module _ (st : BenchState) (op index input : ℕ) (c : Position) (p : Piece) (v : ℕ) (e : p ≡ piece_at (ops_of st) op index) (i : input ≡ input_at (ops_of st) op) where
-  -- the trees of a piece, over a binding of the input
+  -- the trees of a piece over a cursor of the input are those of the piece over the binding there
   items_are : (q : Piece) → p ≡ q → (rest : Tolled) → piece_items (documents st) (piece_at (ops_of st) op index) (binding_at st (input_at (ops_of st) op) c) rest ≡ piece_items (documents st) q (binding_at st input c) rest
   items_are q z rest =
       ap (λ (k : ℕ). piece_items (documents st) (piece_at (ops_of st) op index) (binding_at st k c) rest) (sym i)
@@ -51,7 +51,7 @@ module _ (st : BenchState) (op index input : ℕ) (c : Position) (p : Piece) (v 
     trees = λ rest. items_are (var_piece v) z rest ∙ ap (λ (t : TolledValue). value_trees (documents st) t rest) o.value;
   }
 
-  -- the one tree of a variable
+  -- where a variable's value is the tree of a node alone, that node is the head of the variable's piece
   pub tree_head : (x : Head) → p ≡ var_piece v → IsTreeOf st input c v x → input < op → IsHeadOf st op index c x
   tree_head (Whole s x) z o l = node_head s x z o
   tree_head (Built maker at) z o l = element_head maker at z o l

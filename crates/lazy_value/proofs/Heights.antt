@@ -44,6 +44,7 @@ input_within (join i r tests) n index l h = h.0
 input_within (over i op) n index l h = h.0
 input_within (tuple_destroy i v) n index l h = h.0
 
+-- the input of an operator with pieces has a smaller number
 pub input_low : (ops : List Operator) → IsTyped ops → (op index : ℕ) → op < length ops → index < length (pieces_of (op_at ops op)) → input_at ops op < op
 input_low ops typed op index within l = input_within (op_at ops op) op index l (typed.inputs op within)
 
@@ -59,7 +60,7 @@ rest_ranked x up op t e h = h (rest_rank x) (subst (λ (n : ℕ). op ≤ n) (sym
 pub put_ranked : (x up : Rest) (op k : ℕ) → rest_rank x ≡ max op (rest_rank up) → op ≤ k → rest_rank up ≤ k → rest_rank x ≤ k
 put_ranked x up op k e l m = subst (λ (n : ℕ). n ≤ k) (sym e) (max-le l m)
 
--- a member of an operator's list, with those after it
+-- a member of an operator's list, with those after it, keeps the rank of the operator
 pub member_ranked : (x : Head) (r : Rc Rest Global) (op : ℕ) (up : Rest) → head_rank x ≤ op → rest_rank r.value ≡ max op (rest_rank up) → KeepsRank op up (At (Item x r))
 member_ranked x r op up h e k l m = (omega (arith, h, l), put_ranked r.value up op k e l m)
 
@@ -106,7 +107,7 @@ ranked_lower a b k e (Some Root) h = absurd h
 ranked_lower a b k e (Some (Inside s p)) h = absurd h
 ranked_lower a b k e (Some (Item x r)) h = let m = max-le h.0 h.1 in omega (arith, e, m)
 
--- what is below a smaller number
+-- what is lower than a number is lower than any greater one
 pub lower_more : (b : BenchState) (m n : ℕ) → m ≤ n → (r : Option Site) → IsLower m b r → IsLower n b r
 lower_more b m n l None h = tt
 lower_more b m n l (Some x) h = omega (arith, l, h)
@@ -129,7 +130,7 @@ heights_kept a b k e Root h = let l = ap (λ (p : Plan). length (plan_value p).o
 heights_kept a b k e (Inside s p) h = let z = k.spots s p h in let x = z.below in let y = z.after in omega (arith, x, y)
 heights_kept a b k e (Item x r) h = omega (arith, e)
 
--- what a call leaves of a mediator
+-- what a call of a bench leaves, with heights that didn't rise, is what a call of a mediator leaves
 pub mediator_walked : {S : Type 0} {view : S → View} {came_from : S → S → Type 0} → ((a b : S) → came_from a b → KeepsView (view a) (view b)) → (s t : S) (m n : Mediator) (most : ℕ) → IsMediatorOf (view s) m
     → Walked view came_from s m.bench t n.bench most → MediatorWalked view came_from s m t n
 mediator_walked {view = view} keeps s t m n most h w =

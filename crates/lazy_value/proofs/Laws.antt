@@ -45,7 +45,7 @@ pub all_followed : (docs : Documents) (ps : List Piece) (b : TolledRow) (f g : T
 all_followed docs [] b f g = refl
 all_followed docs (p ∷ ps) b f g = piece_followed docs p b (all_items docs ps b f) g ∙ ap (piece_items docs p b) (all_followed docs ps b f g)
 
--- collected trees before two lists
+-- collected trees before two lists of trees are those before the first, and then the second
 pub collected_followed : (docs : Documents) (p : Piece) (es : RowEvents) (f g : Tolled) → tolled_followed (collected docs p es f) g ≡ collected docs p es (tolled_followed f g)
 collected_followed docs p [] f g = refl
 collected_followed docs p (skip ∷ es) f g = followed_dearer 1 (collected docs p es f) g ∙ ap (dearer 1) (collected_followed docs p es f g)
@@ -73,7 +73,7 @@ pub toll_dearer : (t : ℕ) (f : Tolled) → toll (dearer t f) ≡ t + toll f
 toll_dearer t (ends u) = refl
 toll_dearer t (item u x d r) = refl
 
--- does not change whether there is a tree
+-- a further toll before trees does not change whether there is a tree
 pub is_item_dearer : (t : ℕ) (f : Tolled) → is_item (dearer t f) ≡ is_item f
 is_item_dearer t (ends u) = refl
 is_item_dearer t (item u x d r) = refl

@@ -34,12 +34,12 @@ use Rattle.lazy_value.specs.declared.ids.Origin.{Origin}
 use Rattle.lazy_value.specs.declared.ids.Origin.TheVariants.{Node, Element, Joined, All, Group as Same}
 use Rattle.lazy_value.proofs.Numbering as numbering
 
--- a choice whose test holds
+-- a choice whose test holds is its first part
 pub cond_true : {A : Type 0} (b : Bool) (x y : A) → b ≡ true → cond b x y ≡ x
 cond_true true x y h = refl
 cond_true false x y h = cc
 
--- a test for another variable that fails
+-- a test whose denial fails holds
 pub not_other : (b r : Bool) → r ≡ not b → r ≡ false → b ≡ true
 not_other true r e h = refl
 not_other false r e h = cc
@@ -92,6 +92,7 @@ node_one ks of bound (over i (create_element l w out)) h v e =
     elim (out == v) as (λ t. cond t (Some an_element) (ks i v) ≡ Some a_node → 1 ≤ cond t 1 (of i v)) [ true ↦ λ g. omega arith | false ↦ λ g. h.0 v g ] e
 node_one ks of bound (tuple_destroy i w) h v e = cc
 
+-- a variable of nodes has one tree at least
 node_extent : (ops : List Operator) → IsTyped ops → (bound : ℕ → ℕ) (n v : ℕ) → n < length ops → kinds ops n v ≡ Some a_node → 1 ≤ extent bound ops n v
 node_extent ops typed bound n v h e = below (suc n) n v (omega arith) h e
   where
@@ -145,7 +146,7 @@ module _ (st : BenchState) (typed : IsTyped (ops_of st)) (n : ℕ) (within : n <
         rank = omega arith;
       }
 
-  -- an operator that stands over a cursor of its input
+  -- an operator of a form with a cursor of its input stands over that cursor
   stands_over : (o : Operator) (f : Form) (d : Position) → o ≡ op_at (ops_of st) n → form o ≡ f → IsCursor st (input_of o) d → Stands st n f d
   stands_over o f d e h k = record { within = within; is = ap form (sym e) ∙ h; cursor = subst (λ (p : Operator). IsCursor st (input_of p) d) e k }
 
@@ -153,7 +154,7 @@ module _ (st : BenchState) (typed : IsTyped (ops_of st)) (n : ℕ) (within : n <
   made_by : (o : Operator) (d : Position) → o ≡ op_at (ops_of st) n → IsUnder st n c (input_of o) d → IsMadeOf st (binding_at st n c) (input_of o) (binding_at st (input_of o) d) (ahead_at st (input_of o) d) o
   made_by o d e u = subst (λ (p : Operator). IsMadeOf st (binding_at st n c) (input_of o) (binding_at st (input_of o) d) (ahead_at st (input_of o) d) p) (sym e) u.made
 
-  -- the binding of a group by keys
+  -- the binding of a group by keys is made of the first binding of the input with these keys
   by_keys : (row below : TolledRow) (es : RowEvents) (i : ℕ) (keys : List Key) (piece : Piece) (out : ℕ) → (keys ≡ [] → ⊥) → IsMadeOf st row i below es (over i (group_by keys piece out))
       → row ≡ group_row (documents st) keys (stops_over (ops_of st) i keys) piece out below es
   by_keys row below es i [] piece out some h = absurd (some refl)

@@ -13,6 +13,7 @@ use Rattle.plan_core.proofs.Numbers.{ReadsInputs, by_number-of, kinds-of}
 use Rattle.lazy_value.specs.Labels.{Labels, either_label, unary_labels, op_labels, labels}
 use Rattle.lazy_value.specs.Sizes.{unary_size, op_size, size, unary_extent, op_extent, extent}
 
+-- how much is entered through an operator's variables reads of others only what its inputs say
 size-reads : ReadsInputs op_size
 size-reads (source s out) a b h = refl
 size-reads (get_descendants i start path out) a b h = ap (λ (f : ℕ → ℕ). λ v. cond (out == v) 1 (f v)) h.0
@@ -20,6 +21,7 @@ size-reads (join l r tests) a b h = ap {B = ℕ → ℕ} (λ (f : ℕ → ℕ). 
 size-reads (over i op) a b h = ap (unary_size op) h.0
 size-reads (tuple_destroy i w) a b h = refl
 
+-- how many trees an operator's variables have reads of others only what its inputs say
 extent-reads : (bound : ℕ → ℕ) → ReadsInputs (op_extent bound)
 extent-reads bound (source s out) a b h = refl
 extent-reads bound (get_descendants i start path out) a b h = ap (λ (f : ℕ → ℕ). λ v. cond (out == v) 1 (f v)) h.0
@@ -27,6 +29,7 @@ extent-reads bound (join l r tests) a b h = ap {B = ℕ → ℕ} (λ (f : ℕ �
 extent-reads bound (over i op) a b h = ap (unary_extent (bound i) op) h.0
 extent-reads bound (tuple_destroy i w) a b h = refl
 
+-- the labels of an operator's variables read of others only those of its inputs
 labels-read : ReadsInputs op_labels
 labels-read (source s out) a b h = refl
 labels-read (get_descendants i start path out) a b h = ap {B = Labels} (λ (f : Labels). λ v. cond (out == v) (Some None) (f v)) h.0
@@ -35,7 +38,7 @@ labels-read (over i op) a b h = ap (unary_labels op) h.0
 labels-read (tuple_destroy i w) a b h = refl
 
 module _ (ops : List Operator) (typed : IsTyped ops) (n : ℕ) (within : n < length ops) (o : Operator) (e : o ≡ op_at ops n) where
-  -- the inputs have smaller numbers
+  -- the inputs of the operator of a number have smaller numbers
   pub inputs_below : AllByRecursion (λ i. i < n) (inputs_of o)
   inputs_below = subst (λ (p : Operator). AllByRecursion (λ i. i < n) (inputs_of p)) (sym e) (typed.inputs n within)
 
@@ -43,7 +46,7 @@ module _ (ops : List Operator) (typed : IsTyped ops) (n : ℕ) (within : n < len
   pub kind_of : (v : ℕ) → kinds ops n v ≡ op_kinds o (kinds ops) v
   kind_of v = ap (λ (f : Kinds). f v) (kinds-of ops n o (sym e) inputs_below)
 
-  -- how much is entered on the way through its value
+  -- how much is entered on the way through a variable's value, from its inputs' variables
   pub size_of : (v : ℕ) → size ops n v ≡ op_size o (size ops) v
   unfolding size
   size_of v = ap (λ (f : ℕ → ℕ). f v) (by_number-of op_size (λ v. 0) ops n o size-reads (sym e) inputs_below)
@@ -70,16 +73,19 @@ fits_other : (b : Bool) (k : Kind) (x : Option (List ℕ)) (j : Option Kind) (l 
 fits_other true k x j l h i = h
 fits_other false k x j l h i = i
 
+-- a kind and what is told of it fit where they are kept together
 fits_kept : (b : Bool) (j : Option Kind) (l : Option (Option (List ℕ))) → FitsKind j l → FitsKind (cond b j None) (cond b l None)
 fits_kept true j l h = h
 fits_kept false j l h = refl
 
+-- the first of two kinds and what is told of it fit where both do
 fits_either : (j k : Option Kind) (l m : Option (Option (List ℕ))) → FitsKind j l → FitsKind k m → FitsKind (either_kind j k) (either_label l m)
 fits_either None k l m h i = rw h i
 fits_either (Some a_node) k l m h i = rw h refl
 fits_either (Some a_list) k l m h i = rw h refl
 fits_either (Some an_element) k l m h i = (h.0, ap (λ (z : Option (Option (List ℕ))). either_label z m) h.1)
 
+-- the kinds and labels of an operator's variables fit where those of its inputs' do
 fits_op : (kinds_of : ℕ → Kinds) (labels_of : ℕ → Labels) (o : Operator) → AllByRecursion (λ i. (v : ℕ) → FitsKind (kinds_of i v) (labels_of i v)) (inputs_of o) → (v : ℕ) → FitsKind (op_kinds o kinds_of v) (op_labels o labels_of v)
 fits_op ks ls (source s out) h v = fits_other (out == v) a_node None None None refl refl
 fits_op ks ls (get_descendants i start path out) h v = fits_other (out == v) a_node None (ks i v) (ls i v) refl (h.0 v)

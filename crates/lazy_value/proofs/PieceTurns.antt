@@ -33,6 +33,7 @@ turns_more a b f v w Over l h = h
 turns_more a b f v w (At n) l h = h
 turns_more a b f v w (On r) l h = record { rest = h.rest; falls = (let z = h.falls in omega (arith, z, l)); trees = h.trees }
 
+-- fewer trees left than a number are fewer than any greater one
 falls_more : (b : BenchState) (v w : ℕ) (t : Turn) → v ≤ w → Falls v b t → Falls w b t
 falls_more b v w Over l h = tt
 falls_more b v w (At n) l h = omega (arith, l, h)

@@ -28,14 +28,17 @@ below_paid : (f : Tolled) → trees_below (paid f) ≡ trees_below f
 below_paid (ends t) = refl
 below_paid (item t x d r) = refl
 
+-- the trees after the first are the same when that is reached
 after_paid : (f : Tolled) → trees_after (paid f) ≡ trees_after f
 after_paid (ends t) = refl
 after_paid (item t x d r) = refl
 
+-- there is a first tree when it is reached exactly where there was
 is_item_paid : (f : Tolled) → is_item (paid f) ≡ is_item f
 is_item_paid (ends t) = refl
 is_item_paid (item t x d r) = refl
 
+-- the label of the first tree is the same when that is reached
 label_paid : (f : Tolled) → item_label (paid f) ≡ item_label f
 label_paid (ends t) = refl
 label_paid (item t x d r) = refl
@@ -45,11 +48,12 @@ at_down : (f : Tolled) (p : List ℕ) → tolled_at f (child_place p) ≡ trees_
 at_down f [] = refl
 at_down f (k ∷ p) = at_down (trees_from k (trees_below f)) p
 
+-- the trees from an index on among those after the first are those after the first from that index on
 from_after : (k : ℕ) (f : Tolled) → trees_from k (trees_after f) ≡ trees_after (trees_from k f)
 from_after zero f = refl
 from_after (suc k) f = from_after k (trees_after f)
 
--- the next sibling is the first of the trees after
+-- the trees at the next place of a place are those after the first at the place
 at_right : (f : Tolled) (p q : List ℕ) → next_place p ≡ Some q → tolled_at f q ≡ trees_after (tolled_at f p)
 at_right f [] q e = cc
 at_right f (i ∷ []) q e =
@@ -62,23 +66,25 @@ at_right f (i ∷ j ∷ p) q e = deeper (next_place (j ∷ p)) (λ r z. at_right
     deeper None h z d = cc
     deeper (Some r) h z d = let y : q ≡ i ∷ r = cc in rw y (h r z)
 
--- only the root has no next sibling
+-- a place that isn't the root's has a next one
 never_none : (c : ℕ) (r : List ℕ) → next_place (c ∷ r) ≡ None → ⊥
 never_none c [] e = absurd cc
 never_none c (d ∷ r) e = elim (next_place (d ∷ r)) as (λ o. next_place (d ∷ r) ≡ o → option_map (λ s. c ∷ s) o ≡ None → ⊥) [ None ↦ λ u v. never_none d r u | Some s ↦ λ u v. cc ] refl e
 
--- a tree with nothing after it has none
+-- a place that has no next one, in a tree with nothing after it, has no tree after it
 alone_place : (r : List ℕ) → next_place r ≡ None → (f : Tolled) → trees_after f ≡ ends 0 → is_item (trees_after (tolled_at f r)) ≡ true → ⊥
 alone_place [] e f g j = let c : false ≡ true = ap is_item (sym g) ∙ j in cc
 alone_place (c ∷ r) e f g j = never_none c r e
 
 -- WITHOUT TOLLS
 
+-- the trees from an index on without their tolls are those from it on of the trees without theirs
 plain_from : (k : ℕ) (f : Tolled) → plain (trees_from k f) ≡ from k (plain f)
 plain_from zero f = refl
 plain_from (suc k) (ends t) = plain_from k (ends 0)
 plain_from (suc k) (item t x d r) = plain_from k r
 
+-- the trees below the first without their tolls are those below the first of the trees without theirs
 plain_below : (f : Tolled) → plain (trees_below f) ≡ first_kids (plain f)
 plain_below (ends t) = refl
 plain_below (item t x d r) = refl
@@ -98,7 +104,7 @@ plain_label : (f : Tolled) → is_item f ≡ true → (u : LabelledTree) × (fir
 plain_label (ends t) h = cc
 plain_label (item t x d r) h = (record { label = x; kids = plain d }, refl, refl)
 
--- a tree with nothing after it
+-- a tree with nothing after it is, without tolls, its first tree alone
 plain_alone : (f : Tolled) → trees_after f ≡ ends 0 → (t : LabelledTree) → first_tree (plain f) ≡ Some t → plain f ≡ alone t
 plain_alone (ends u) b t e = cc
 plain_alone (item u x d r) b t e =
@@ -107,11 +113,13 @@ plain_alone (item u x d r) b t e =
 
 -- THE DOCUMENT
 
+-- nothing comes after a made element as a list of it alone
 alone_value : (v : TolledValue) → trees_after (element_alone v) ≡ ends 0
 alone_value (of_source n) = refl
 alone_value (element x k) = refl
 alone_value (trees f) = refl
 
+-- nothing comes after the document that the last operator makes
 alone_last : (of : ℕ → RowEvents) (o : Option Operator) → trees_after (tolled_destroyed of o) ≡ ends 0
 alone_last of None = refl
 alone_last of (Some (source s out)) = refl
@@ -120,11 +128,13 @@ alone_last of (Some (join l r tests)) = refl
 alone_last of (Some (over i op)) = refl
 alone_last of (Some (tuple_destroy i v)) = alone_value _
 
+-- a made element as a list of it alone is reached as it is
 paid_value : (v : TolledValue) → paid (element_alone v) ≡ element_alone v
 paid_value (of_source n) = refl
 paid_value (element x k) = refl
 paid_value (trees f) = refl
 
+-- the document that the last operator makes is reached as it is
 paid_last : (of : ℕ → RowEvents) (o : Option Operator) → paid (tolled_destroyed of o) ≡ tolled_destroyed of o
 paid_last of None = refl
 paid_last of (Some (source s out)) = refl
@@ -142,7 +152,7 @@ abbrev pub IsTolled : BenchState → Type 0
 IsTolled st = plan_document st ≡ first_tree (plain (tolled st))
 
 module _ (st : BenchState) (law : IsTolled st) (t : LabelledTree) (e : plan_document st ≡ Some t) where
-  -- the document without its tolls
+  -- the document with its tolls is, without them, the plan's document alone
   document_is : plain (tolled st) ≡ alone t
   document_is = plain_alone (tolled st) (alone_last (events (documents st) (ops_of st)) (last_or None (ops_of st))) t
       (sym law ∙ e)
@@ -168,6 +178,7 @@ root_at st n e = record {
 }
 
 module _ (a b : BenchState) (k : KeepsBench a b) where
+  -- the operators of the plan are the same after a call
   ops_same : ops_of b ≡ ops_of a
   ops_same = ap (λ (p : Plan). (plan_value p).ops) k.plan
 
@@ -175,6 +186,7 @@ module _ (a b : BenchState) (k : KeepsBench a b) where
   document_same : plan_document b ≡ plan_document a
   document_same = ap (λ (d : Documents). document (visited d) (ops_of b)) k.documents ∙ ap (λ (ops : List Operator). document (visited (documents a)) ops) ops_same
 
+  -- the document with its tolls is the same after a call
   tolled_same : tolled b ≡ tolled a
   tolled_same = ap (λ (d : Documents). tolled_document d (ops_of b)) k.documents ∙ ap (tolled_document (documents a)) ops_same
 
@@ -182,6 +194,7 @@ module _ (a b : BenchState) (k : KeepsBench a b) where
   has_same : (p : List ℕ) → HasPlace a p → HasPlace b p
   has_same p h t e = h t (sym document_same ∙ e)
 
+  -- an identifier that stands at a place stands there after a call
   at_same : (n : NodeId) (p : List ℕ) → IsAt a n p → IsAt b n p
   at_same n p h = record {
     node = (keeps_sites a b k n.site h.node).node;
@@ -202,6 +215,7 @@ module _ (st : BenchState) (law : IsTolled st) (n : NodeId) (p : List ℕ) (h : 
   pub below_at : IsTrue (told st) → trees_below (here st n.site) ≡ tolled_at (tolled st) (child_place p)
   below_at y = ap trees_below (h.here y) ∙ below_paid (tolled_at (tolled st) p) ∙ sym (at_down (tolled st) p)
 
+  -- the trees after an identifier are those after its place
   after_here : IsTrue (told st) → trees_after (here st n.site) ≡ trees_after (tolled_at (tolled st) p)
   after_here y = ap trees_after (h.here y) ∙ after_paid (tolled_at (tolled st) p)
 
@@ -236,6 +250,7 @@ module _ (a b : BenchState) (k : KeepsBench a b) (law : IsTolled a) (f : Tolled)
         };
       }
 
+  -- where no tree is reached, the document has no node at the place that is asked for
   reached_none : is_item f ≡ false → HasNoPlace a (Some q)
   reached_none h t d p z = let i : q ≡ p = cc in ap (has_place (alone t)) (sym i) ∙ has_is a law t d q ∙ ap is_item (sym e) ∙ h
 

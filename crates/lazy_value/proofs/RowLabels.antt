@@ -46,7 +46,7 @@ entry : (t : Bool) (k : Option (List ℕ)) (l : Option (Option (List ℕ))) (s :
 entry true k l s x y h i = h
 entry false k l s x y h i = i
 
--- two bindings, one after another
+-- what is told of a value in the first of two bindings, or else in the second, holds in both together
 both : (k l : Option (Option (List ℕ))) (s t : Bool) (x y : TolledValue) → Holds k s x → Holds l t y → Holds (either_label k l) (s || t) (cond s x y)
 both None l true t x y h i = cc
 both None l false t x y h i = i
@@ -55,27 +55,31 @@ both (Some None) l false t x y h i = cc
 both (Some (Some label)) l true t x y h i = h
 both (Some (Some label)) l false t x y h i = (let z = h.0 in cc)
 
+-- a variable stands in two bindings together where it stands in one of them
 stands-append : (a b : TolledRow) (v : ℕ) → stands_in (a ++ b) v ≡ stands_in a v || stands_in b v
 stands-append [] b v = refl
 stands-append (p ∷ a) b v =
     elim (p.0 == v) as (λ t. t || stands_in (a ++ b) v ≡ (t || stands_in a v) || stands_in b v) [ true ↦ refl | false ↦ stands-append a b v ]
 
+-- the value of a variable in two bindings together is the first's where it stands there, and else the second's
 value-append : (a b : TolledRow) (v : ℕ) → tolled_value (a ++ b) v ≡ cond (stands_in a v) (tolled_value a v) (tolled_value b v)
 value-append [] b v = refl
 value-append (p ∷ a) b v =
     elim (p.0 == v) as (λ t. cond t p.1 (tolled_value (a ++ b) v) ≡ cond (t || stands_in a v) (cond t p.1 (tolled_value a v)) (tolled_value b v)) [ true ↦ refl | false ↦ value-append a b v ]
 
+-- two bindings that hold what is told of their variables do so together
 fits_both : (k l : Labels) (a b : TolledRow) → Fits k a → Fits l b → Fits (λ v. either_label (k v) (l v)) (a ++ b)
 fits_both k l a b h i v =
     subst (λ (s : Bool). Holds (either_label (k v) (l v)) s (tolled_value (a ++ b) v)) (sym (stands-append a b v))
     (subst (λ (x : TolledValue). Holds (either_label (k v) (l v)) (stands_in a v || stands_in b v) x) (sym (value-append a b v))
     (both (k v) (l v) (stands_in a v) (stands_in b v) (tolled_value a v) (tolled_value b v) (h v) (i v)))
 
--- the variables of keys, each of which is a node
+-- the variables that stand in a binding of keys are those of the keys
 stands-restrict : (keys : List Key) (row : TolledRow) (v : ℕ) → stands_in (tolled_restrict keys row) v ≡ has_var keys v
 stands-restrict [] row v = refl
 stands-restrict (k ∷ keys) row v = ap (λ (t : Bool). (key_var k == v) || t) (stands-restrict keys row v)
 
+-- a binding of keys, each of a node, holds what is told of its variables
 fits_restrict : (keys : List Key) (ls : Labels) (row : TolledRow) → ((v : ℕ) → has_var keys v ≡ true → ls v ≡ Some None) → Fits (λ v. cond (has_var keys v) (ls v) None) (tolled_restrict keys row)
 fits_restrict keys ls row nodes v =
     subst (λ (s : Bool). Holds (cond (has_var keys v) (ls v) None) s (tolled_value (tolled_restrict keys row) v)) (sym (stands-restrict keys row v))
@@ -84,37 +88,44 @@ fits_restrict keys ls row nodes v =
       | false ↦ λ e. refl
     ] refl)
 
+-- a binding with one variable more that holds what is told of it holds what is told of all
 fits_entry : (out : ℕ) (k : Option (List ℕ)) (ls : Labels) (x : TolledValue) (row : TolledRow) → Holds (Some k) true x → Fits ls row → Fits (λ v. cond (out == v) (Some k) (ls v)) ((out, x) ∷ row)
 fits_entry out k ls x row h i v = entry (out == v) k (ls v) (stands_in row v) x (tolled_value row v) h (i v)
 
 -- LISTS OF EVENTS
 
+-- what each binding of two lists of events has, each of both together has
 each_append : (P : TolledRow → Type 0) (a b : RowEvents) → EachRow P a → EachRow P b → EachRow P (a ++ b)
 each_append P [] b h i = i
 each_append P (skip ∷ a) b h i = each_append P a b h i
 each_append P (bind row ∷ a) b h i = (h.0, each_append P a b h.1 i)
 
+-- what each binding has that comes of a binding, each of the expanded events has
 each_expand : (P Q : TolledRow → Type 0) (f : TolledRow → RowEvents) → ((row : TolledRow) → P row → EachRow Q (f row)) → (es : RowEvents) → EachRow P es → EachRow Q (expand f es)
 each_expand P Q f g [] h = tt
 each_expand P Q f g (skip ∷ es) h = each_expand P Q f g es h
 each_expand P Q f g (bind row ∷ es) h = each_append Q (f row) (expand f es) (g row h.0) (each_expand P Q f g es h.1)
 
+-- what each binding has that is made of a binding, each of the events made anew has
 each_made : (P Q : TolledRow → Type 0) (f : TolledRow → TolledRow) → ((row : TolledRow) → P row → Q (f row)) → (es : RowEvents) → EachRow P es → EachRow Q (each_row f es)
 each_made P Q f g [] h = tt
 each_made P Q f g (skip ∷ es) h = each_made P Q f g es h
 each_made P Q f g (bind row ∷ es) h = (g row h.0, each_made P Q f g es h.1)
 
+-- what each binding of events has, each has that a test leaves
 each_only : (P : TolledRow → Type 0) (test : TolledRow → Bool) (es : RowEvents) → EachRow P es → EachRow P (only test es)
 each_only P test [] h = tt
 each_only P test (skip ∷ es) h = each_only P test es h
 each_only P test (bind row ∷ es) h =
     elim (test row) as (λ t. EachRow P (cond t (bind row) skip ∷ only test es)) [ true ↦ (h.0, each_only P test es h.1) | false ↦ each_only P test es h.1 ]
 
+-- what a binding with any place of a visit has, each binding of the visit has
 each_found : (Q : TolledRow → Type 0) (out : ℕ) (start : Node) (row : TolledRow) → ((place : List ℕ) → Q (with_node out start row place)) → (es : List (Event (List ℕ))) → EachRow Q (nodes_found out start row es)
 each_found Q out start row g [] = tt
 each_found Q out start row g (skip ∷ es) = each_found Q out start row g es
 each_found Q out start row g (bind place ∷ es) = (g place, each_found Q out start row g es)
 
+-- what each binding has that is made of a first binding by keys, each of these has
 each_distinct : (P Q : TolledRow → Type 0) (docs : Documents) (keys : List Key) (make : TolledRow → RowEvents → TolledRow) → ((row : TolledRow) (es : RowEvents) → P row → Q (make row es)) → (seen : List (List KeyValue)) (es : RowEvents)
     → EachRow P es → EachRow Q (distinct docs keys make seen es)
 each_distinct P Q docs keys make g seen [] h = tt
@@ -126,24 +137,29 @@ each_distinct P Q docs keys make g seen (bind row ∷ es) h =
       | false ↦ (g row es h.0, each_distinct P Q docs keys make g (seen ++ key_values docs keys row ∷ []) es h.1)
     ]
 
+-- skips have no bindings, so each has any property
 each_skips : (P : TolledRow → Type 0) (es : RowEvents) → EachRow P (skips es)
 each_skips P [] = tt
 each_skips P (e ∷ es) = each_skips P es
 
+-- what each binding of events has, each of the bindings alone has
 all_rows : (P : TolledRow → Type 0) (es : RowEvents) → EachRow P es → AllByRecursion P (without_skips es)
 all_rows P [] h = tt
 all_rows P (skip ∷ es) h = all_rows P es h
 all_rows P (bind row ∷ es) h = (h.0, all_rows P es h.1)
 
+-- what a binding and some others have, each has once it is put among them
 all_inserted : (P : TolledRow → Type 0) (less : TolledRow → TolledRow → Bool) (x : TolledRow) (xs : List TolledRow) → P x → AllByRecursion P xs → AllByRecursion P (insert_by less x xs)
 all_inserted P less x [] h i = (h, tt)
 all_inserted P less x (y ∷ ys) h i =
     elim (less y x) as (λ t. AllByRecursion P (cond t (y ∷ insert_by less x ys) (x ∷ y ∷ ys))) [ true ↦ (i.0, all_inserted P less x ys h i.1) | false ↦ (h, i) ]
 
+-- what each of some bindings has, each of the sorted ones has
 all_sorted : (P : TolledRow → Type 0) (less : TolledRow → TolledRow → Bool) (xs : List TolledRow) → AllByRecursion P xs → AllByRecursion P (sorted_by less xs)
 all_sorted P less [] h = tt
 all_sorted P less (x ∷ xs) h = all_inserted P less x (sorted_by less xs) h.0 (all_sorted P less xs h.1)
 
+-- what each of some bindings has, each binding of the events that they are has
 each_bound : (P : TolledRow → Type 0) (xs : List TolledRow) → AllByRecursion P xs → EachRow P (map bind xs)
 each_bound P [] h = tt
 each_bound P (x ∷ xs) h = (h.0, each_bound P xs h.1)
@@ -154,6 +170,7 @@ each_first P [] h row rest e = cc
 each_first P (skip ∷ es) h row rest e = each_first P es h row rest e
 each_first P (bind a ∷ es) h row rest e = let z : a ≡ row = cc in subst P z h.0
 
+-- what follows from what each binding of events has, each has
 each_as : (P Q : TolledRow → Type 0) → ((row : TolledRow) → P row → Q row) → (es : RowEvents) → EachRow P es → EachRow Q es
 each_as P Q f [] h = tt
 each_as P Q f (skip ∷ es) h = each_as P Q f es h
@@ -162,7 +179,7 @@ each_as P Q f (bind row ∷ es) h = (f row h.0, each_as P Q f es h.1)
 -- THE OPERATORS
 
 module _ (docs : Documents) (fronts : ℕ → Front) (ks : ℕ → Kinds) (ls : ℕ → Labels) (of : ℕ → RowEvents) where
-  -- the bindings of an operator, where those of its inputs are such ones
+  -- the bindings of an operator hold what is told of its variables, where those of its inputs do
   op_rows : (o : Operator) → IsFit o ks → AllByRecursion (λ i. EachRow (Fits (ls i)) (of i)) (inputs_of o) → AllByRecursion (λ i. (v : ℕ) → ks i v ≡ Some a_node → ls i v ≡ Some None) (inputs_of o)
       → EachRow (Fits (op_labels o ls)) (op_events docs fronts o of)
   op_rows (source s out) fit h n = (fits_entry out None (λ v. None) (of_source (document_node s)) [] refl (λ v. refl), tt)

@@ -19,7 +19,7 @@ use Rattle.lazy_value.proofs.Keep.{IsRest-kept, rest_trees-kept, weight-kept}
 pub tells_on : {a b : BenchState} → KeepsBench a b → TellsOn (told_by a) (told_by b)
 tells_on k = record { told = k.told; forward = k.forward }
 
--- of trees `f` the later trees `g` are left, after a toll that was paid
+-- of trees the later ones are left, after a toll that was paid
 pub record Paid (a b : BenchState) (f g : Tolled) : Type 0 where
   pub kept : KeepsBench a b
   pub trees : IsTrue (told a) → (t : ℕ) × (f ≡ dearer t g) × (IsTrue (forward a) → fills_of b ≤ fills_of a + t)
@@ -29,7 +29,7 @@ pub paid_start : (a : BenchState) (f : Tolled) → Paid a a f f
 paid_start a f = record { kept = keeps_on.same a; trees = λ y. (0, sym (dearer_zero f), λ w. omega arith) }
 
 module _ {a b c : BenchState} {f g : Tolled} (p : Paid a b f g) where
-  -- what is asked for the later trees is within all
+  -- what is asked for the toll of the later trees is within that of all
   pub paid_asks : KeepsBench b c → AsksAtMost b c (toll g) → AsksAtMost a c (toll f)
   paid_asks k h y w =
       let q = p.trees y in
@@ -44,7 +44,7 @@ module _ {a b c : BenchState} {f g : Tolled} (p : Paid a b f g) where
     tree = λ y. (let q = p.trees y in ap is_item q.1 ∙ is_item_dearer q.0 g ∙ h.tree (still_told (tells_on p.kept) y));
   }
 
-  -- a rest of them is one of all
+  -- a rest that goes on for the later trees is left of all, and what coming to it cost was paid
   pub paid_on : KeepsBench b c → (w : ℕ) (r : Rest) → GoesOn b c g w r → Paid a c f (rest_trees c r)
   paid_on k w r h = record {
     kept = keeps_on.twice a b c p.kept k;
@@ -56,7 +56,7 @@ module _ {a b c : BenchState} {f g : Tolled} (p : Paid a b f g) where
   }
 
 module _ {a b : BenchState} {f g : Tolled} (p : Paid a b f g) where
-  -- where no later tree is, there is none
+  -- where there is no later tree, there is none of all
   pub paid_over : (IsTrue (told b) → is_item g ≡ false) → IsTrue (told a) → is_item f ≡ false
   paid_over h y = let q = p.trees y in ap is_item q.1 ∙ is_item_dearer q.0 g ∙ h (still_told (tells_on p.kept) y)
 
@@ -64,7 +64,7 @@ module _ {a b : BenchState} {f g : Tolled} (p : Paid a b f g) where
 pub walked_same : {S : Type 0} {view : S → View} {came_from : S → S → Type 0} → ((s : S) → came_from s s) → (s : S) (b : Bench) → IsBenchOf (view s) b → (most : ℕ) → Walked view came_from s b s b most
 walked_same {S} {view} same s b h most = record { came = same s; bench = h; kept = keeps_on.same (state_of (view s) b); asks = λ y w. omega arith }
 
--- what a call of a bench leaves
+-- a call of a bench that asks at most so many fills leaves what a walk of so many leaves
 pub walked_ran : {S : Type 0} {view : S → View} {came_from : S → S → Type 0} {s t : S} {b c : Bench} → BenchRan view came_from s b t c → (most : ℕ) → AsksAtMost (state_of (view s) b) (state_of (view t) c) most
     → Walked view came_from s b t c most
 walked_ran ran most asks = record { came = ran.came; bench = ran.bench; kept = ran.kept; asks = asks }
@@ -83,7 +83,7 @@ walked_then {S} {view} after {s} {t} {u} {b} {c} {d} came paid walked = record {
 pub on_same : (s : BenchState) (f : Tolled) (w : ℕ) (r : Rest) → IsRest s r → weight s r < w → f ≡ rest_trees s r → GoesOn s s f w r
 on_same s f w r h l e = record { rest = h; falls = l; trees = λ y. (0, e ∙ sym (dearer_zero (rest_trees s r)), λ v. omega arith) }
 
--- what is after a list that is at its end
+-- where a list is at its end after a toll, what is after it goes on for its trees
 pub on_end : (a b : BenchState) (k : KeepsBench a b) (m : ℕ) → AsksAtMost a b m → (f : Tolled) (r : Rest) → IsRest a r → (IsTrue (told a) → f ≡ dearer m (rest_trees a r)) → GoesOn a b f (suc (weight a r)) r
 on_end a b k m asks f r h e = record {
   rest = IsRest-kept a b k r h;

@@ -53,7 +53,7 @@ Turns old new f w Over = IsTrue (told old) → is_item f ≡ false
 Turns old new f w (At n) = StandsFor old new f n
 Turns old new f w (On r) = GoesOn old new f w r.value
 
--- after one turn fewer trees are left than this where a node was found, and no more where a rest goes on
+-- after one turn fewer trees are left than a number where a node was found, and no more than that number where a rest goes on
 abbrev pub Falls : ℕ → BenchState → Turn → Type 0
 Falls w st Over = Unit {0}
 Falls w st (At n) = site_left st n < w

@@ -46,7 +46,7 @@ fn place_after(place: usize) -> Result<usize, AllocError>
     place.checked_add(1).ok_or(AllocError)
 }
 
-/// The first binding of an operator, or the next one after a cursor.
+/// The first binding of an operator, or the next one after a cursor where one is given.
 fn after<S: Sources>(
     alloc: Global,
     bench: &mut Bench,

@@ -82,7 +82,7 @@ pub IsApart-without_holes : (f : Forest) → IsApart (without_holes f)
 IsApart-without_holes none = tt
 IsApart-without_holes (tree label kids rest) = (IsApart-without_holes kids, IsApart-without_holes rest)
 
--- the trees of two lists, one after another
+-- the trees of one list after another are those of the first, followed by those of the second
 pub forest_of-append : (xs ys : List LabelledTree) → forest_of (xs ++ ys) ≡ followed (forest_of xs) (forest_of ys)
 forest_of-append [] ys = refl
 forest_of-append (x ∷ xs) ys = ap (tree x.label x.kids) (forest_of-append xs ys)

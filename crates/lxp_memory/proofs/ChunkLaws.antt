@@ -24,18 +24,22 @@ last-hole_if : (ns : List DocNode) (wanted : Bool) (p : Span) (rest : Open) → 
 last-hole_if ns true p rest h k = (h, k)
 last-hole_if ns false p rest h k = k
 
+-- a count is equal to itself
 same_count : (n : ℕ) → (n == n) ≡ true
 same_count n = grind (arith, nat_tests)
 
+-- each hole below a node, in a list in chunks, stands for children up to the last
 last-kids_of : (ns : List DocNode) (most : ℕ) (whole : Bool) (i : ℕ) → AllHoles (to_last ns) (kids_of ns (in_chunks most whole) i)
 last-kids_of ns most true i = AllHoles-without_holes (to_last ns) (run ns (first_of ns i) (count_of ns i))
 last-kids_of ns most false i =
     last-hole_if ns (nat_lt 0 (count_of ns i)) (record { node = i; from = 0; to = count_of ns i }) nil (same_count (count_of ns i)) tt
 
+-- each hole of children in chunks, before holes for children up to the last, stands for children up to the last
 last-children : (ns : List DocNode) (most : ℕ) (whole : Bool) (i m : ℕ) (rest : Open) → AllHoles (to_last ns) rest → AllHoles (to_last ns) (children ns (in_chunks most whole) i m rest)
 last-children ns most whole i zero rest k = k
 last-children ns most whole i (suc m) rest k = (last-kids_of ns most whole i, last-children ns most whole (suc i) m rest k)
 
+-- each hole of a list in chunks of the children up to the last stands for children up to the last
 last-cut : (ns : List DocNode) (most : ℕ) (whole : Bool) (p : Span) → (p.to == count_of ns p.node) ≡ true → AllHoles (to_last ns) (cut ns (in_chunks most whole) p)
 last-cut ns most whole p h = go (p.from == p.to)
   where
@@ -52,6 +56,7 @@ last-cut ns most whole p h = go (p.from == p.to)
     go true = tt
     go false = last-children ns most whole _ _ _ (last-hole_if ns (nat_lt 0 (p.to - to)) (record p { from = to }) nil h tt)
 
+-- two tests that hold hold together
 both : (a b : Bool) → a ≡ true → b ≡ true → a && b ≡ true
 both true b h k = k
 both false b h k = h

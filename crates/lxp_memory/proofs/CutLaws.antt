@@ -74,9 +74,11 @@ record HasChildren (ns : List DocNode) (p : Span) : Type 0 where
   order : p.from ≤ p.to
   count : p.to ≤ count_of ns p.node
 
+-- a document that has children of a node has the node, and as many children of it
 has_children : (ns : List DocNode) (p : Span) → has_span ns p ≡ true → HasChildren ns p
 has_children ns p e = record { node = grind (arith, nat_tests); order = grind (arith, nat_tests); count = grind (arith, nat_tests) }
 
+-- where a document has a node and as many children of it, it has those children
 has_span-of : (ns : List DocNode) (p : Span) → HasChildren ns p → has_span ns p ≡ true
 has_span-of ns p h = let a = h.node in let b = h.order in let c = h.count in grind (arith, nat_tests)
 
@@ -100,6 +102,7 @@ record Shows (choice : Choice) (p : Span) : Type 0 where
   some : shown_from choice p < shown_to choice p
   to : shown_to choice p ≤ p.to
 
+-- where there are children, a list cut by a choice shows some of them
 shows : (choice : Choice) (p : Span) → IsChoice choice → p.from < p.to → Shows choice p
 shows choice p is h =
     record { from = omega arith; some = omega (arith, is.some); to = omega arith }
@@ -124,6 +127,7 @@ known-hole_if : (ns : List DocNode) (wanted : Bool) (p : Span) (rest : Open) →
 known-hole_if ns true p rest h k = (h, k)
 known-hole_if ns false p rest h k = k
 
+-- a document knows each hole of the list below one of its nodes
 known-kids_of : (ns : List DocNode) (choice : Choice) (i : ℕ) → i < length ns → AllHoles (known_in ns) (kids_of ns choice i)
 known-kids_of ns choice i h = go choice.whole
   where
@@ -133,10 +137,12 @@ known-kids_of ns choice i h = go choice.whole
     go false =
         known-hole_if ns (wants_hole choice (count_of ns i)) (record { node = i; from = 0; to = count_of ns i }) nil (has_span-of ns (record { node = i; from = 0; to = count_of ns i }) (record { node = h; order = omega arith; count = omega arith })) tt
 
+-- a document knows each hole of the list of some of its nodes, where it knows those after them
 known-children : (ns : List DocNode) (choice : Choice) (i m : ℕ) (rest : Open) → i + m ≤ length ns → AllHoles (known_in ns) rest → AllHoles (known_in ns) (children ns choice i m rest)
 known-children ns choice i zero rest h k = k
 known-children ns choice i (suc m) rest h k = (known-kids_of ns choice i (omega arith), known-children ns choice (suc i) m rest (omega arith) k)
 
+-- a document knows each hole of a list that shows some children that it has
 known-shown : (ns : List DocNode) (choice : Choice) (p : Span) → HasChildren ns p → AreWithin ns 0 → Shows choice p
     → AllHoles (known_in ns) (hole_if choice.leads (record p { to = shown_from choice p }) (children ns choice (first_of ns p.node + shown_from choice p) (shown_to choice p - shown_from choice p) (hole_if (wants_hole choice (p.to - shown_to choice p)) (record p { from = shown_to choice p }) nil)))
 known-shown ns choice p has within sh =
@@ -158,10 +164,12 @@ apart-kids_of ns choice i = go choice.whole (wants_hole choice (count_of ns i))
     go false true = (refl, tt)
     go false false = tt
 
+-- holes stand apart in a list of nodes, where they do in what stands after it
 apart-children : (ns : List DocNode) (choice : Choice) (i m : ℕ) (rest : Open) → IsApart rest → IsApart (children ns choice i m rest)
 apart-children ns choice i zero rest a = a
 apart-children ns choice i (suc m) rest a = (apart-kids_of ns choice i, apart-children ns choice (suc i) m rest a)
 
+-- holes stand apart in a list of one hole at most
 apart-last : (wanted : Bool) (p : Span) → IsApart (hole_if wanted p nil)
 apart-last true p = (refl, tt)
 apart-last false p = tt
@@ -172,6 +180,7 @@ progress-shown ns choice leads p i zero rest h a = absurd (omega arith)
 progress-shown ns choice true p i (suc m) rest h a = record { top = λ e. refl; apart = (refl, apart-children ns choice i (suc m) rest a) }
 progress-shown ns choice false p i (suc m) rest h a = record { top = λ e. refl; apart = apart-children ns choice i (suc m) rest a }
 
+-- a list that shows a child begins with no hole where none leads
 forward-shown : (ns : List DocNode) (choice : Choice) (leads : Bool) (p : Span) (i m : ℕ) (rest : Open) → 0 < m → leads ≡ false → begins_with_hole (hole_if leads p (children ns choice i m rest)) ≡ false
 forward-shown ns choice leads p i zero rest h e = absurd (omega arith)
 forward-shown ns choice true p i (suc m) rest h e = sym (sym e)

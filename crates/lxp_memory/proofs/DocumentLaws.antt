@@ -12,10 +12,12 @@ use Rattle.lxp_memory.specs.Documents.{document_at, root_of, nodes_at}
 use Rattle.lxp_memory.specs.Memory.{choices_of, turn_of, next_list}
 use Rattle.lxp_memory.proofs.CutLaws.{IsAnswer, answer-cut, is_choice}
 
+-- the first of some lists of trees; no trees where there is none
 first_of_list : List Forest → Forest
 first_of_list [] = none
 first_of_list (f ∷ fs) = f
 
+-- the lists of trees after the first
 rest_of_list : List Forest → List Forest
 rest_of_list [] = []
 rest_of_list (f ∷ fs) = fs
@@ -34,6 +36,7 @@ nodes_at-read [] s d h e = absurd (omega arith)
 nodes_at-read (x ∷ docs) zero d h e = ap (λ (y : Document). y.nodes.items) (sym e)
 nodes_at-read (x ∷ docs) (suc s) d h e = nodes_at-read docs s d (omega arith) e
 
+-- the children of each node of a source's document are among its nodes
 within_at : (docs : List Document) (s : ℕ) → s < length docs → AreWithin (nodes_at docs s) 0
 within_at [] s h = absurd (omega arith)
 within_at (d ∷ docs) zero h = d.within

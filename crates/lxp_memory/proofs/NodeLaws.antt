@@ -19,6 +19,7 @@ part-append : (a c : ℕ) (xs ys : List LabelledTree) → a + c ≤ length xs �
 part-append a c xs ys h =
     ap (take c) (drop-append-le a xs ys (omega arith)) ∙ take-append-le c (drop a xs) ys (omega (arith, length-drop a xs))
 
+-- where the children of each node are among the nodes and further trees, they are so without the first node
 within-rest : (n : DocNode) (ns : List DocNode) (further : ℕ) → AreWithin (n ∷ ns) further → AreWithin ns further
 within-rest n ns further h i lt = omega (arith, h (suc i) (omega arith))
 
@@ -44,6 +45,7 @@ with_node-placed t n queue kids label ahead count below =
     ∙ ap (λ l. record { label = l; kids = forest_of kids } ∷ (queue ++ kids)) label
     ∙ ap (λ f. record { label = t.label; kids = f } ∷ (queue ++ kids)) below
 
+-- the first of the trees of nodes is the same with other trees after them
 first_tree-append : (ns : List DocNode) (t : LabelledTree) (queue kids : List LabelledTree) → first_tree (forest_of (trees_before ns (t ∷ queue) ++ kids)) ≡ first_tree (forest_of (trees_before ns (t ∷ queue)))
 first_tree-append [] t queue kids = refl
 first_tree-append (n ∷ ns) t queue kids = refl
@@ -59,6 +61,7 @@ first_tree-placed t ns queue ns' queue' p h =
     ∙ ap (λ ts. first_tree (forest_of ts)) (trees_before-append ns (t ∷ queue) p.kids h)
     ∙ first_tree-append ns t queue p.kids
 
+-- with one node more, whose children are among so many further trees, the children of each node are among those
 within-push : (ns : List DocNode) (n : DocNode) (before after : ℕ) → AreWithin ns (suc before) → before ≤ after → n.ahead + n.count ≤ after → AreWithin (ns ++ n ∷ []) after
 within-push [] n before after h more last zero lt = omega arith
 within-push [] n before after h more last (suc i) lt = absurd (omega arith)
@@ -79,6 +82,7 @@ pub fewer-placed : (t : LabelledTree) (ns : List DocNode) (queue : List Labelled
 fewer-placed t ns queue ns' queue' p =
     omega (arith, ap (λ q. nodes_of (forest_of q)) p.queue_is, ap nodes_of (forest_of-append queue p.kids), nodes_of-followed (forest_of queue) (forest_of p.kids), ap nodes_of p.below)
 
+-- trees that make up one tree alone are one
 one_tree : (xs : List LabelledTree) (label : List ℕ) (kids : Forest) → forest_of xs ≡ tree label kids none → length xs ≡ 1
 one_tree [] label kids e = cc
 one_tree (x ∷ []) label kids e = refl
@@ -91,6 +95,7 @@ one_tree (x ∷ y ∷ xs) label kids e = absurd (two e)
     two : forest_of (x ∷ y ∷ xs) ≡ tree label kids none → ⊥
     two h = let r : forest_of (y ∷ xs) ≡ none = ap rest_of h in cc
 
+-- the children of a tree, where there is one
 abbrev kids_in : Option LabelledTree → Forest
 kids_in None = none
 kids_in (Some t) = t.kids
@@ -149,6 +154,7 @@ run-suc [] i m h = absurd (omega arith)
 run-suc (n ∷ ns) zero m h = refl
 run-suc (n ∷ ns) (suc i) m h = run-suc ns i m (omega arith)
 
+-- what stands after one place, and after another from there, stands after both together
 drop_twice : (xs : List LabelledTree) (i a : ℕ) → drop a (drop i xs) ≡ drop (i + a) xs
 drop_twice xs zero a = let e : a ≡ 0 + a = omega arith in ap (λ k. drop k xs) e
 drop_twice [] (suc i) a = drop_nothing a ∙ sym (drop_nothing (suc i + a))

@@ -41,7 +41,7 @@ fails_next m = nat_lt m.fills (2 ^ 64 - 1) && fails_at m (m.fills + 1)
 abbrev pub choices_of : MemSources → List ℕ
 choices_of m = m.circle.bytes.items
 
--- the place in them whose turn it is
+-- the place whose turn it is, among the bytes that choose how lists are cut
 abbrev pub turn_of : MemSources → ℕ
 turn_of m = m.circle.turn
 

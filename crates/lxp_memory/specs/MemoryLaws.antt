@@ -51,6 +51,7 @@ came_keeps a b x = record {
   faults = x.faults;
 }
 
+-- each document has the one child of its document node that its root's hole stands for
 root_in : (docs : List Document) (s : ℕ) → s < length docs → has_span (nodes_at docs s) root_span ≡ true
 root_in [] s h = absurd (omega arith)
 root_in (d ∷ docs) zero h = rest_is_there d.nodes.items root_span (root_hole_known d)

@@ -26,6 +26,6 @@ has_span ns p = nat_le p.from p.to && (nat_lt p.node (length ns) && nat_le p.to 
 abbrev pub has_rest : List DocNode → Span → Bool
 has_rest ns p = has_span ns p && (p.to == count_of ns p.node)
 
--- the trees of these children
+-- the trees of some children of a node
 abbrev pub span_trees : List DocNode → Span → Forest
 span_trees ns p = run ns (first_of ns p.node + p.from) (p.to - p.from)

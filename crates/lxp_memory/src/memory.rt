@@ -25,7 +25,7 @@ pub struct MemSources {
     failing: Vec<u64>,
     forward: bool,
     fills: u64,
-    // how often each document failed
+    // How often each document failed.
     faults: Vec<u64>,
     ghost few: { length docs.items < 2 ^ 32 },
     ghost counted: { length faults.items ≡ length docs.items },

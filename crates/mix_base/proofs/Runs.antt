@@ -5,7 +5,7 @@ use Rattle.mix_base.specs.Runs.{run_by, LeadsTo}
 use Rattle.mix_base.proofs.Choices.{some_is, none_some}
 
 module _ {S : Type 0} (step : S → ℕ → Option S) where
-  -- a run over two parts, after a first byte
+  -- where a run over two parts goes over one and then the other, so does the run that follows a first byte
   after : (x y : List ℕ) → ((t : S) → run_by step t (x ++ y) ≡ option_and_then (λ u. run_by step u y) (run_by step t x)) → (o : Option S)
       → option_and_then (λ t. run_by step t (x ++ y)) o ≡ option_and_then (λ t. run_by step t y) (option_and_then (λ t. run_by step t x) o)
   after x y h None = refl
@@ -29,7 +29,7 @@ module _ {S : Type 0} (step : S → ℕ → Option S) where
   run_one None = refl
   run_one (Some t) = refl
 
--- a prefix with one more byte
+-- a prefix with one byte more is the prefix and that byte
 pub take_next : (x : List ℕ) (i : ℕ) → i < length x → take (i + 1) x ≡ take i x ++ slice_index x i ∷ []
 take_next x i h = take_more x i 0 h
 
@@ -40,7 +40,7 @@ kept_none kept (Some s) e = none_some _ (sym e)
 
 -- a scan that keeps something of a machine's state, and goes on by that alone where the machine stands in such a state
 module _ {S T : Type 0} (step : S → ℕ → Option S) (kept : S → T) (scan : T → ℕ → Option T) where
-  -- one byte more, from an option
+  -- where the machine stands in a state, or in none, a scan that keeps something of it goes on with a byte as the machine does
   pub scan_after : (o : Option S) (t : T) (b : ℕ) → ((s : S) → o ≡ Some s → option_map kept (step s b) ≡ scan (kept s) b) → option_map kept o ≡ Some t
       → option_map kept (option_and_then (λ s. run_by step s (b ∷ [])) o) ≡ scan t b
   scan_after None t b alike e = none_some t e

@@ -50,22 +50,28 @@ module _ (files : FilesView) (a b : Mounting) (came : CameFrom a b) (basis : Bas
     (docs_are : documents st ≡ documents_of a.tables a.docs) (ahead : IsTrue (forward st)) (t : LabelledTree)
     (document_is : all_told a.tables (plan_value basis.plan).ops basis.catalog ≡ true → IsDocument st t) (unasked : a.fills ≡ 0) (few : b.tables.pages ≤ a.tables.pages + b.fills)
     (is_document : IsPlanDocument (documents_of a.tables a.docs) (plan_value basis.plan).ops t) (input input' : InputView) (before after : SinkView) where
+  -- the names of the sources of the catalog
   abbrev names : List (List ℕ)
   names = names_of_sources basis.catalog
 
+  -- the course of a talk over what is mounted, by the fills that were asked
   abbrev Course : List Heard → SinkView → SinkView → ℕ → List ℕ → Type 0
   Course = TalkOver b.fills a.tables b.tables a.docs basis
 
   module _ (asked : List Heard) where
+    -- the steps among the lines that were heard
     abbrev steps : List Step
     steps = steps_in asked
 
+    -- the question of the steps that were heard, on the document, over what is mounted
     abbrev q : Question
     q = question_of a.tables a.docs basis.catalog (plan_value basis.plan).ops steps t
 
+    -- answers that a run on the course of the plan gives
     abbrev Are : List Answer → Type 0
     Are answers = IsRun (plan_course st) (view_of a).faults (view_of b).faults steps answers
 
+    -- answers that ask for no more fills than the course of the plan allows
     abbrev Cost : List Answer → Type 0
     Cost answers = IsLazy (plan_course st) (view_of a).fills (view_of b).fills steps answers
 

@@ -7,12 +7,12 @@ use Rattle.mix_catalog.specs.declared.fault.CatalogFault.{CatalogFault}
 use Rattle.mix_catalog.specs.declared.fault.CatalogFault.TheVariants.{Line, Chunk, Columns, ColumnTwice, NameTwice, TooMany, OutOfMemory}
 use Rattle.mix_catalog.specs.Sources.{Adds, Accepts, IsFault, IsFirstFault, Refuses}
 
--- one line more is accepted
+-- accepted lines with one more that adds to their sources are accepted
 Accepts-push : (before : List SourceSpec) (lines : List (List ℕ)) (line : List ℕ) (middle after : List SourceSpec) → Accepts before lines middle → Adds middle line after → Accepts before (lines ++ line ∷ []) after
 Accepts-push before [] line middle after e h = (after, subst (λ b. Adds b line after) e h, refl)
 Accepts-push before (l ∷ lines) line middle after (next, adds, rest) h = (next, adds, Accepts-push next lines line middle after rest h)
 
--- the line at a place is accepted
+-- where the lines before a place are accepted, and the line there adds to their sources, those with it are accepted
 pub Accepts-more : (lines : List (List ℕ)) (i : ℕ) (line : List ℕ) (middle after : List SourceSpec) → i < length lines → line ≡ get_or lines i [] → Accepts [] (take i lines) middle → Adds middle line after
     → Accepts [] (take (i + 1) lines) after
 Accepts-more lines i line middle after inside same accepted adds =

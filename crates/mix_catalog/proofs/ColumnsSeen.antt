@@ -59,7 +59,7 @@ unread line seen (Got l end) e never m j y h = never l end refl
 unread line seen (Unexpected at) e never m j y h = cc (sym e ∙ h)
 unread line seen Ends e never m j y h = cc (sym e ∙ h)
 
--- a byte in front that is a comma
+-- a text whose first byte is a comma begins with a comma
 pub comma_first : (x : List ℕ) → IsTrue (get_or x 0 0 == 44) → has_comma x ≡ true
 comma_first [] h = cc h
 comma_first (b ∷ x) h = h

@@ -10,11 +10,11 @@ use Rattle.mix_catalog.specs.Forms.{number_after, number_of, chunk_form, chunk_o
 use Rattle.mix_catalog.specs.Grammar.{IsNumber, cutting_words, SpellsCutting}
 use Rattle.mix_catalog.proofs.Digits.{number_after-found, number_after-given}
 
--- bytes of which the test says that they are equal
+-- bytes that the test finds equal are the same
 pub same_bytes : (x y : List ℕ) → IsTrue (bytes_eq x y) → x ≡ y
 same_bytes x y h = (bytes_eq-Decides x y).0 h
 
--- what is made of an option's value
+-- where a function is applied to an option and gives a value, the option has a value from which it comes
 pub mapped_some : {X Y : Type 0} (f : X → Y) (o : Option X) (y : Y) → option_map f o ≡ Some y → (x : X) × (o ≡ Some x) × (f x ≡ y)
 mapped_some f None y e = none_some y e
 mapped_some f (Some x) y e = (x, refl, some_is (f x) y e)
@@ -47,7 +47,7 @@ chunk_form-found a b n e = by_case (bytes_eq a (codes "chunk")) refl e
     by_case true h f = (same_bytes a (codes "chunk") h, number_of-found b n f)
     by_case false h f = none_some n f
 
--- words, where they give a cutting
+-- the words of a cutting: the word chunk, its digits, and deep or nothing
 pub record CuttingIs (words : List (List ℕ)) (cutting : Cutting) : Type 0 where
   pub digits : List ℕ
   pub are : words ≡ cutting_words digits cutting.deep
@@ -105,7 +105,7 @@ chunk_found text n e = by_case (ends_word text) refl e
 pub chunk_given : (text : List ℕ) (n : ℕ) → IsTrue (ends_word text) → SpellsCutting n false text → chunk_after text ≡ Some n
 chunk_given text n ends h = ap (λ t. cond t (chunk_of (words_of text)) None) ends ∙ ap chunk_of h.words ∙ number_of-given h.digits n h.numbered
 
--- words that pass the test are the one word columns
+-- words that are tested to be the one word columns are it
 pub columns_word : (words : List (List ℕ)) → is_columns_word words ≡ true → words ≡ codes "columns" ∷ []
 columns_word [] h = cc h
 columns_word (w ∷ []) h = ap (λ x. x ∷ []) (same_bytes w (codes "columns") h)

@@ -12,7 +12,7 @@ use Rattle.mix_catalog.specs.Kept.{AreNamed, IsKept}
 use Rattle.mix_catalog.proofs.Numbered.{AreNumbered-push}
 use Rattle.mix_tree.specs.Names.{IsName}
 
--- the first place among what f makes of a list, or its length
+-- the first place that passes among a list's images, or the length, is that of the list by the test of images
 position_or_len-map : {X Y : Type 0} (p : Y → Bool) (f : X → Y) (xs : List X) → position_or_len p (map f xs) ≡ position_or_len (λ x. p (f x)) xs
 position_or_len-map p f [] = refl
 position_or_len-map p f (x ∷ xs) = by_case (p (f x)) refl (position_or_len-map p f xs)
@@ -21,11 +21,11 @@ position_or_len-map p f (x ∷ xs) = by_case (p (f x)) refl (position_or_len-map
     by_case true e more = rw e refl
     by_case false e more = rw (e, more) refl
 
--- the first place among what f makes of a list
+-- the first place that passes among a list's images is that of the list by the test of images
 position-map : {X Y : Type 0} (p : Y → Bool) (f : X → Y) (xs : List X) → position p (map f xs) ≡ position (λ x. p (f x)) xs
 position-map p f xs = rw (position_or_len-map p f xs, length-map xs f) refl
 
--- the source of a name is that of the key
+-- among entries whose keys are their sources' names, the source of a name is that of the key
 pub found_by_name : (es : List (Vec ℕ Global × SourceSpec)) (name : List ℕ) → AreNamed es
     → position (λ k. bytes_eq name k.items) (keys_of es) ≡ source_named (map (λ e. e.1) es) name
 found_by_name es name named =

@@ -22,13 +22,13 @@ bytes_ascii (x ∷ xs) h (suc i) = bytes_ascii xs (and_parts (is_name_byte x) (l
 pub IsUtf8-source_name : (xs : List ℕ) → IsTrue (is_source_name xs) → IsUtf8 xs
 IsUtf8-source_name xs h = IsUtf8-from_ascii xs (bytes_ascii xs (and_parts (nat_le 1 (length xs)) (list_all is_name_byte xs) h).1)
 
--- what passes the test is a name
+-- bytes that are tested to be a source's name are one
 pub name_tested : (xs : List ℕ) → IsTrue (is_source_name xs) → IsName xs
 name_tested xs h =
     let parts = and_parts (nat_le 1 (length xs)) (list_all is_name_byte xs) h in
     let first : nat_le 1 (length xs) ≡ true = parts.0 in
     (parts.1, grind (arith, nat_tests))
 
--- a name passes the test
+-- a source's name is tested to be one
 pub name_passes : (xs : List ℕ) → IsName xs → IsTrue (is_source_name xs)
 name_passes xs (bytes, some) = let first : nat_le 1 (length xs) ≡ true = grind (arith, nat_tests) in and_both _ _ first bytes

@@ -23,7 +23,7 @@ slice_get-push (x ∷ xs) y t (suc i) e = after (slice_get-push xs y t i e)
     after (inl h) = inl h
     after (inr (h, same)) = inr (omega arith, same)
 
--- the first place that passes
+-- the first place that passes, where it lies within the list, is found
 at_first : {X : Type 0} (p : X → Bool) (xs : List X) (i : ℕ) → position_or_len p xs ≡ i → i < length xs → position p xs ≡ Some i
 at_first p xs i e inside = let found : nat_lt (position_or_len p xs) (length xs) ≡ true = grind (arith, nat_tests) in rw found (ap Some e)
 

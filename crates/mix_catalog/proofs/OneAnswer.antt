@@ -93,7 +93,7 @@ SameFault e f = (e ≡ f) ⊎ (IsWantOfMemory e ⊎ IsWantOfMemory f)
 abbrev is_chunk : ℕ → Bool
 is_chunk n = nat_le 1 n && nat_le n 1000
 
--- a chunk from 1 to 1000 passes the test
+-- a chunk from 1 to 1000 is tested to be in the range
 chunk_in : (n : ℕ) → IsChunk n → is_chunk n ≡ true
 chunk_in n (some, few) = grind (arith, nat_tests)
 

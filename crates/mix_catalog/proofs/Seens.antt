@@ -35,7 +35,7 @@ pub spelling_begins : (x l : List ℕ) → SpellsLabel x l → Begins x
 spelling_begins x l (inl (bare, e)) = bare_begins x bare
 spelling_begins x l (inr (ps, are, e, m)) = record { byte = 34; rest = _; parts = e; other = refl }
 
--- what is seen after a text that was run over
+-- what is seen of a text, after a prefix that a spelling goes on with, is what is seen from there on
 seen_run : (x y : List ℕ) (s t : Spot) (i : ℕ) → run s x ≡ Some t → seen_from s i (x ++ y) ≡ seen_from t (i + length x) y
 seen_run [] y s t i e = let here : i ≡ i + 0 = omega arith in ap (λ u. seen_from u i y) (some_is s t e) ∙ ap (λ j. seen_from t j y) here
 seen_run (b ∷ x) y s t i e = after (step s b) refl e (λ u h. seen_run x y u t (i + 1) h)
@@ -50,7 +50,7 @@ abbrev pub stops : List ℕ → Bool
 stops [] = true
 stops (b ∷ y) = not (is_bare b)
 
--- not with a blank or the end
+-- no spelling goes on with a blank or the end where it may end
 pub word_end_stops : (y : List ℕ) → IsTrue (ends_word y) → IsTrue (stops y)
 word_end_stops [] h = refl
 word_end_stops (b ∷ y) h = rw (blank_no_bare b h) refl

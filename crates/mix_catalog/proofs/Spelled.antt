@@ -50,7 +50,7 @@ form_of-found word f e = by_bracket (bytes_eq word (codes "bracket")) refl e
     by_bracket true h g = same_bytes word (codes "bracket") h ∙ ap form_word (some_is form.Bracket f g)
     by_bracket false h g = by_csv (bytes_eq word (codes "csv")) refl g
 
--- the words before FILE, where they say this
+-- the words are those before FILE that say what the prefix says
 record PrefixIs (words : List (List ℕ)) (prefix : Prefix) : Type 0 where
   pub are : words ≡ prefix_words prefix.name prefix.form
   pub named : IsName prefix.name
@@ -64,7 +64,7 @@ three_words a b c prefix true h e =
     subst (PrefixIs (a ∷ b ∷ c ∷ [])) m.2 (record { are = are; named = name_tested b parts.1 })
 three_words a b c prefix false h e = none_some prefix e
 
--- what says so are the words before FILE
+-- words that give a prefix are those before FILE that say it
 prefix_of-found : (words : List (List ℕ)) (prefix : Prefix) → prefix_of words ≡ Some prefix → PrefixIs words prefix
 prefix_of-found [] prefix e = none_some prefix e
 prefix_of-found (a ∷ []) prefix e = none_some prefix e
@@ -72,13 +72,13 @@ prefix_of-found (a ∷ b ∷ []) prefix e = none_some prefix e
 prefix_of-found (a ∷ b ∷ c ∷ []) prefix e = three_words a b c prefix (bytes_eq a (codes "source") && is_source_name b) refl e
 prefix_of-found (a ∷ b ∷ c ∷ d ∷ words) prefix e = none_some prefix e
 
--- the words before FILE say it
+-- the words before FILE of a name and a form give the prefix of both
 prefix_of-given : (name : List ℕ) (f : Form) → IsName name → prefix_of (prefix_words name f) ≡ Some (prefix_with name f)
 prefix_of-given name form.Bracket named = let passes : is_source_name name ≡ true = name_passes name named in rw passes refl
 prefix_of-given name form.Csv named = let passes : is_source_name name ≡ true = name_passes name named in rw passes refl
 prefix_of-given name form.Table named = let passes : is_source_name name ≡ true = name_passes name named in rw passes refl
 
--- what a source has after its file, where it is found
+-- what stands after a file is that of the source found of it, which is of the form
 record AfterIs (f : Form) (name file after : List ℕ) (s : SourceSpec) : Type 0 where
   pub name_is : s.name ≡ name
   pub file_is : file_of s.kind ≡ file

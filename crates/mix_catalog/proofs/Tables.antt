@@ -90,7 +90,7 @@ some_bytes : (x : List ℕ) → get_or x (length x - 1) 0 == 33 ≡ true → 1 �
 some_bytes [] h = cc h
 some_bytes (b ∷ x) h = omega arith
 
--- a piece whose last byte is the mark
+-- a piece whose last byte is the mark is the bytes before it and the mark
 marked_parts : (x : List ℕ) → get_or x (length x - 1) 0 == 33 ≡ true → x ≡ take (length x - 1) x ++ 33 ∷ []
 marked_parts x h =
     let some = some_bytes x h in
@@ -130,7 +130,7 @@ next_piece items i d done o inside e =
     ap (columns_after done) first ∙ ap (option_and_then (λ c. columns_after (done ++ c ∷ []) (drop (suc i) pieces))) same
     ∙ ap (λ ps. option_and_then (λ c. columns_after (done ++ c ∷ []) ps) o) after
 
--- what gives nothing is nothing
+-- an option that has no value is None
 pub gives_none : {X : Type 0} (o : Option X) → ((x : X) → o ≡ Some x → ⊥) → o ≡ None
 gives_none None never = refl
 gives_none (Some x) never = absurd (never x refl)

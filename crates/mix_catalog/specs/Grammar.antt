@@ -49,7 +49,7 @@ pub record SpellsBetween (words : List (List ℕ)) (Spelled After : List ℕ →
 abbrev pub table_words : List ℕ → List ℕ → List ℕ → List ℕ → List (List ℕ)
 table_words table key columns digits = table ∷ codes "key" ∷ key ∷ codes "columns" ∷ columns ∷ cutting_words digits false
 
--- these are the words of a table, and the names in them are SQL names
+-- words are those after the file of a table, and the names in them are SQL names
 pub record AreTableWords (chunk : ℕ) (table key : List ℕ) (columns : List Column) (words : List (List ℕ)) : Type 0 where
   pub spelling : List ℕ
   pub digits : List ℕ

@@ -21,7 +21,7 @@ AreNumbered sources = (i : ℕ) (s : SourceSpec) → slice_get sources i ≡ Som
 abbrev pub IsChunk : ℕ → Type 0
 IsChunk n = (1 ≤ n) × (n ≤ 1000)
 
--- there are at most 200 columns, none of them twice
+-- a list of columns has at most 200 of them, none twice
 abbrev pub AreColumns : List (List ℕ) → Type 0
 AreColumns columns = (length columns ≤ 200) × (are_apart columns ≡ true)
 

@@ -29,12 +29,14 @@ pub struct Cutting {
     pub deep: bool,
 }
 
+// Whether a byte may stand in a source's name: an ASCII letter, a digit, `_` or `-`.
 fn is_in_name(byte: u8) -> bool
     ensures { result ≡ is_name_byte byte }
 {
     matches!(byte, b'a'..=b'z' | b'A'..=b'Z' | b'0'..=b'9' | b'_' | b'-')
 }
 
+// Whether each byte may stand in a source's name.
 fn are_in_name(bytes: &[u8]) -> bool
     ensures { result ≡ list_all is_name_byte bytes.now }
 {

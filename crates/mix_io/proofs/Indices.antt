@@ -49,7 +49,7 @@ pub index_read : (fails : Bool) (files : List MemFile) (path : List ℕ) (i : �
 index_read true files path i e = absurd (cc e)
 index_read false files path i e = (refl, sym e)
 
--- the end at the path of the file at an index, where that was set
+-- an end that is set at the index of a path's first file is the furthest end at that path
 pub end_set : (files : List MemFile) (ends : List ℕ) (path : List ℕ) (i end : ℕ) (d : MemFile) → length ends ≡ length files → position (is_at path) files ≡ Some i
     → end_at files (slice_set ends i end) path ≡ end
 end_set files ends path i end d same e =
@@ -65,7 +65,7 @@ first_passes p xs i d within e =
     turned true h = refl
     turned false h = absurd (cc h)
 
--- the end at each other path stays
+-- where the end at one path is set, the ends at all other paths stay
 pub end_kept : (files : List MemFile) (ends : List ℕ) (path other : List ℕ) (i end : ℕ) (d : MemFile) → position (is_at path) files ≡ Some i → ¬ (other ≡ path)
     → end_at files (slice_set ends i end) other ≡ end_at files ends other
 end_kept files ends path other i end d e apart = get_or-set_other ends i (position_or_len (is_at other) files) end 0 (λ same. apart (one same))

@@ -32,7 +32,7 @@ given bytes piece rest from count faults is inside few end = record {
     prefix : take count (piece ++ rest) ≡ piece
     prefix = take_whole piece rest count long
 
--- none were copied where there is no room, or where all were taken
+-- where a take copies nothing, there is no room, or all bytes were taken
 pub none_left : (bytes : List ℕ) (room from most count : ℕ) → count ≡ min (min (length bytes - from) room) most → 0 < most → count ≡ 0 → (room ≡ 0) ⊎ (drop (from + count) bytes ≡ [])
 none_left bytes zero from most count is some none = inl refl
 none_left bytes (suc room) from most count is some none = inr (drop_end bytes (from + count) (omega (arith, is, some, none)))

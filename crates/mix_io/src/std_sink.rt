@@ -37,7 +37,7 @@ fn write_once<W: Write>(out: &mut W, piece: &[u8]) -> Result<usize, SinkFault>
     }
 }
 
-// Writes a piece to standard output, by as many writes as it takes.
+// Writes a piece to standard output, by as many writes as it takes. Where one fails, a prefix of the piece was written.
 pub fn write_whole<W: Write>(out: &mut W, piece: &[u8]) -> Result<(), SinkFault>
     ensures ok { OnOk result (Appends (W.contents out.old) (W.contents out.new) piece.now) }
     ensures err { OnErr result ((count : ℕ) × Appends (W.contents out.old) (W.contents out.new) (take count piece.now)) }

@@ -14,7 +14,7 @@ use Rattle.mix_lines.specs.Lines.{IsRun, IsLazy, Ends}
 use Rattle.mix_lines.specs.Told.{EndsUnmarked}
 use Rattle.mix_lines.proofs.Telling.{ends_unmarked}
 
--- of sources that may fail and did not: their counts are as they were, and not at their limit
+-- sources that may fail and did not: their counts are as they were, and not at their limit
 module _ {W : Type 0} (c : Course W) (old new : View) (names : List (List ℕ)) (steps : List Step) (before after : SinkView) (steady : (s : ℕ) → c.MayFail s → new.faults s ≡ old.faults s)
     (room : (s : ℕ) → c.MayFail s → old.faults s + 1 < 2 ^ 64) where
   -- where the sources' counts stand, no fault of a source is among the answers

@@ -32,11 +32,11 @@ module _ (a : Mounting) (t : LabelledTree) (one : IsAlone a t) where
   pub alone_told : (view_of a).told 0 ≡ true
   alone_told = ap (λ (docs : List Mount). is_told a.tables (mount_at docs 0)) one.only ∙ one.told
 
-  -- the document of a source that is alone is the tree
+  -- the document of a source that is alone is the given tree
   pub alone_given : document_of (view_of a) 0 ≡ alone t
   alone_given = ap (λ (docs : List Mount). document a.tables (mount_at docs 0)) one.only ∙ one.given
 
-  -- neither it nor any other source ever failed
+  -- where a source is alone, neither it nor any other source ever failed
   pub alone_unfailed : (s : ℕ) → (view_of a).faults s ≡ 0
   alone_unfailed zero = ap (λ (docs : List Mount). faults a.tables (mount_at docs 0)) one.only ∙ in_memory_unfailed a.tables one.mount one.in_memory
   alone_unfailed (suc s) = ap (λ (docs : List Mount). faults a.tables (mount_at docs (suc s))) one.only

@@ -77,7 +77,7 @@ module _ (roots : Bool) (MayFail : ℕ → Type 0) where
       after : (b : Bool) (more : ℕ) → cond b 1 0 + more ≡ 0 → more ≡ 0
       after b more e = omega (arith, e)
 
--- the first of two is counted
+-- a count that rose where a test holds has risen by one where it holds, and else by nothing
 counted_first : (b : Bool) (before now : ℕ) → before ≤ now → (b ≡ true → HasRisen before now) → HasRisenBy (cond b 1 0 + 0) before now
 counted_first true before now h rose = let risen : HasRisen before now = rose refl in omega (arith, risen)
 counted_first false before now h rose = omega arith
@@ -94,12 +94,12 @@ counted_answer before now (answer.Fault n) h rose s = counted_first (n == s) (be
     same : (n == s) ≡ true → n ≡ s
     same e = grind (arith, nat_tests)
 
--- how many faults of a source there are with one answer more
+-- answers with one more have as many faults of a source as they had, and that one's
 pub faults_push : (s : ℕ) (answers : List Answer) (a : Answer) → faults_of s (answers ++ a ∷ []) ≡ faults_of s answers + faults_of s (a ∷ [])
 faults_push s [] a = omega arith
 faults_push s (x ∷ answers) a = omega (arith, faults_push s answers a)
 
--- whether there is a fault with one answer more
+-- there is a fault among answers with one more where there is one among them or that one is a fault
 pub has_fault_push : (answers : List Answer) (a : Answer) → has_fault (answers ++ a ∷ []) ≡ has_fault answers || is_fault a
 has_fault_push [] a = last (is_fault a)
   where

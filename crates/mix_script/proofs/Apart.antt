@@ -36,7 +36,7 @@ module _ (t : LabelledTree) (client : List ℕ) (names others : Names) (same : A
   same_answer mark (Fetch from) = ap (λ o. label_answer (option_and_then (tree_at t) o)) (same from)
   same_answer mark (Print from) = ap (λ o. if_held o (unless_marked mark (text_answer (option_and_then (tree_at t) o)))) (same from)
 
-  -- a name that is given leaves them the same
+  -- where a client's names hold the same, they do after one of them holds the same new thing
   same_with : (name : List ℕ) (v w : Option (List ℕ)) → v ≡ w → Agree client (with_name names client name v) (with_name others client name w)
   same_with name v w e n = of (bytes_eq client client && bytes_eq name n)
     where
@@ -44,6 +44,7 @@ module _ (t : LabelledTree) (client : List ℕ) (names others : Names) (same : A
       of true = e
       of false = same n
 
+  -- where a client's names hold the same, they do after the name that an act of the client names holds the same new thing
   same_named : (act : Act) (v w : Option (List ℕ)) → v ≡ w → Agree client (with_named names client act v) (with_named others client act w)
   same_named (Root name) v w e = same_with name v w e
   same_named (Move way name from) v w e = same_with name v w e
@@ -61,10 +62,11 @@ module _ (t : LabelledTree) (client : List ℕ) (names others : Names) (same : A
   same_after act (answer.Fault s) = same
 
 module _ (client other : List ℕ) (apart : bytes_eq other client ≡ false) (names others : Names) (same : Agree client names others) where
-  -- a name that another client is given leaves them the same
+  -- a client's names hold the same after a name of another client holds something else
   apart_with : (name : List ℕ) (v : Option (List ℕ)) → Agree client (with_name names other name v) others
   apart_with name v n = ap (λ b. cond (b && bytes_eq name n) v (names client n)) apart ∙ same n
 
+  -- a client's names hold the same after the name that an act of another client names holds something else
   apart_named : (act : Act) (v : Option (List ℕ)) → Agree client (with_named names other act v) others
   apart_named (Root name) v = apart_with name v
   apart_named (Move way name from) v = apart_with name v

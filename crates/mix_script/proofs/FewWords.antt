@@ -8,7 +8,7 @@ use Rattle.mix_script.specs.Forms.{act_of}
 use Rattle.mix_script.specs.Lines.{act_from, act_in}
 use Rattle.mix_script.specs.declared.step.Act.{Act}
 
--- a word that goes on is as many
+-- words of which the first gets a byte more before it are as many
 length-with_first : (b : ℕ) (words : List (List ℕ)) → 0 < length words → length (with_first b words) ≡ length words
 length-with_first b [] h = absurd (omega arith)
 length-with_first b (w ∷ words) h = refl
@@ -26,10 +26,11 @@ some_word b bs h = rw h (begun (ends_word bs) (words_of bs))
 pub ends_before : (b c : ℕ) (cs : List ℕ) → is_blank b ≡ false → is_blank c ≡ true → words_of (b ∷ c ∷ cs) ≡ (b ∷ []) ∷ words_of cs
 ends_before b c cs h k = rw (h, k) refl
 
+-- a byte before a byte of the first word is put before that word
 pub goes_on : (b c : ℕ) (cs : List ℕ) → is_blank b ≡ false → is_blank c ≡ false → words_of (b ∷ c ∷ cs) ≡ with_first b (words_of (c ∷ cs))
 goes_on b c cs h k = rw (h, k) refl
 
--- a word that goes on is no word more
+-- a text with a byte more at the beginning of its first word has as many words
 words_on : (b c : ℕ) (cs : List ℕ) → is_blank b ≡ false → is_blank c ≡ false → length (words_of (b ∷ c ∷ cs)) ≡ length (words_of (c ∷ cs))
 words_on b c cs h k = ap length (goes_on b c cs h k) ∙ length-with_first b (words_of (c ∷ cs)) (some_word c cs k)
 
@@ -69,7 +70,7 @@ few_act (x ∷ is ∷ command ∷ []) a e = omega arith
 few_act (x ∷ is ∷ command ∷ y ∷ []) a e = omega arith
 few_act (x ∷ is ∷ command ∷ y ∷ w ∷ words) a e = none_some a e
 
--- what such words ask for is what their line asks for
+-- what words ask for that end with a name or root is what their line asks for
 pub few_words : (line : List ℕ) (a : Act) → act_of (words_of line) ≡ Some a → Some a ≡ act_in line
 few_words line a e =
     let none : place_of_word 4 line ≡ None = (none_from line).apart 4 0 (few_act (words_of line) a e) in

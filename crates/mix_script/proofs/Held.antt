@@ -31,11 +31,11 @@ module _ {V : Type 0} where
   abbrev held_in : Own V → BTreeMap (List ℕ) (Own V) → NamesOf V
   held_in plain m client name = maybe_held (own_in plain m client) name
 
-  -- one client has these names now
+  -- one client's names are given ones after a change, and those of the others are what they were
   abbrev HasOwn : (before after : List ℕ → Option (Own V)) → List ℕ → Own V → Type 0
   HasOwn before after client own = (c : List ℕ) → after c ≡ cond (bytes_eq client c) (Some own) (before c)
 
-  -- one name was given a value
+  -- an update of one key in a client's names lets that name hold the value, and the others what they held
   pub named : (m n : Own V) (name : List ℕ) (value : Option V) → Updates (slice_cmp nat_cmp) m n name value → HasNamed m n name value
   named m n name value u q = u.0 q ∙ ap (λ b. cond b value (own_held m q)) (is_eq-slice_cmp name q)
 
@@ -69,7 +69,7 @@ module _ {V : Type 0} where
             split true same = inner q ∙ ap (λ k. cond (bytes_eq name q) value (maybe_held (before k) q)) (same refl)
             split false same = refl
 
-    -- where they hold what they held, so do all names
+    -- where one client's names hold what they held, so do all names
     unchanged : ((q : List ℕ) → own_held own q ≡ maybe_held (before client) q) → ◌≡◌ {A = NamesOf V} (λ c q. maybe_held (after c) q) (λ c q. maybe_held (before c) q)
     unchanged inner = λ i c q. at c q i
       where
@@ -80,7 +80,7 @@ module _ {V : Type 0} where
             split true same = inner q ∙ ap (λ k. maybe_held (before k) q) (same refl)
             split false same = refl
 
-  -- a name of the client without a name was given a value
+  -- where a name of the client without a name gets a value, all names hold what they held but for that one
   pub plain_named : (plain own : Own V) (m : BTreeMap (List ℕ) (Own V)) (client name : List ℕ) (value : Option V) → client ≡ [] → HasNamed plain own name value
       → held_in own m ≡ with_name (held_in plain m) client name value
   plain_named plain own m client name value none h =
@@ -95,7 +95,7 @@ module _ {V : Type 0} where
   own_known plain old m [] some known = absurd (omega (arith, some))
   own_known plain old m (b ∷ bs) some known = known
 
-  -- a name of another client was given a value in the client's own names
+  -- where a name of a client with a name gets a value in that client's own names, all names hold what they held but for that one
   pub other_named : (plain old own : Own V) (m n : BTreeMap (List ℕ) (Own V)) (client name : List ℕ) (value : Option V) → 0 < length client → Some old ≡ get (slice_cmp nat_cmp) m client
       → HasNamed old own name value → WritesThrough (slice_cmp nat_cmp) (slice_cmp nat_cmp client) m own n → held_in plain n ≡ with_name (held_in plain m) client name value
   other_named plain old own m n client name value some known h w =
@@ -109,16 +109,16 @@ module _ {V : Type 0} where
       unchanged (own_in plain m) (own_in plain n) client own (own_other plain own m n client some (w.3 (subst IsSome known refl)))
       (λ q. same_held old own e q ∙ ap (λ o. maybe_held o q) (own_known plain old m client some known))
 
-  -- one name was given a value through what was lent for it
+  -- a value that is written through what was lent for a name is what that name holds, and the others hold what they held
   pub named_through : (m n : Own V) (name : List ℕ) (old value : V) → Some old ≡ get (slice_cmp nat_cmp) m name → WritesThrough (slice_cmp nat_cmp) (slice_cmp nat_cmp name) m value n → HasNamed m n name (Some value)
   named_through m n name old value known w = named m n name (Some value) (w.3 (subst IsSome known refl))
 
-  -- a new name was given a value
+  -- a name that wasn't there holds the value that is put under it, and the others what they held
   pub named_new : (m kept n : Own V) (key name : List ℕ) (value : Option V) → kept ≡ m → key ≡ name → Updates (slice_cmp nat_cmp) kept n key value → HasNamed m n name value
   named_new m kept n key name value same e u =
       named m n name value (subst (λ (k : Own V). Updates (slice_cmp nat_cmp) k n name value) same (subst (λ k. Updates (slice_cmp nat_cmp) kept n k value) e u))
 
-  -- a new client has names, of which one was given a value
+  -- where a client that had no names gets some, of which one has a value, all names hold what they held but for that one
   pub other_new : (plain empty own : Own V) (m kept n : BTreeMap (List ℕ) (Own V)) (fresh client name : List ℕ) (value : Option V) → 0 < length client → None ≡ get (slice_cmp nat_cmp) m client
       → kept ≡ m → empty.entries ≡ [] → fresh ≡ client → HasNamed empty own name value → Updates (slice_cmp nat_cmp) kept n fresh (Some own) → held_in plain n ≡ with_name (held_in plain m) client name value
   other_new plain empty own m kept n fresh client name value some unknown same nothing d h u =

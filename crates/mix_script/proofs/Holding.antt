@@ -9,7 +9,7 @@ module _ {V W : Type 0} where
   pub hold_none : (With : V → W → Type 0) → HoldBoth With no_names no_names
   hold_none With client name = tt
 
-  -- a name that holds values which go together
+  -- where one name is given, in both ways, what goes together, names still hold what goes together
   pub hold_with : (With : V → W → Type 0) (vs : NamesOf V) (ws : NamesOf W) (client name : List ℕ) (v : Option V) (w : Option W) → HoldBoth With vs ws → Both With v w
       → HoldBoth With (with_name vs client name v) (with_name ws client name w)
   hold_with With vs ws client name v w hold both c n = at (bytes_eq client c && bytes_eq name n)

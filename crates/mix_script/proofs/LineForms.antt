@@ -10,26 +10,26 @@ use Rattle.mix_words.specs.Words.{words_of}
 use Rattle.mix_script.specs.Forms.{select_of}
 use Rattle.mix_script.specs.Lines.{before_colon, no_words, label_alone, step_in, utf8_step}
 
--- the last byte of a longer text
+-- the last byte of two bytes or more is the last of those after the first
 last_after : (b c : ℕ) (xs : List ℕ) → get_or (b ∷ c ∷ xs) (length (b ∷ c ∷ xs) - 1) 0 ≡ get_or (c ∷ xs) (length (c ∷ xs) - 1) 0
 last_after b c xs =
     let e : length (b ∷ c ∷ xs) - 1 ≡ suc (length (c ∷ xs) - 1) = omega arith in
     ap (λ n. get_or (b ∷ c ∷ xs) n 0) e
 
--- all but the last byte of a longer text
+-- all but the last of two bytes or more are the first, and all but the last of those after it
 prefix_kept : (b c : ℕ) (xs : List ℕ) → take (length (b ∷ c ∷ xs) - 1) (b ∷ c ∷ xs) ≡ b ∷ take (length (c ∷ xs) - 1) (c ∷ xs)
 prefix_kept b c xs =
     let e : length (b ∷ c ∷ xs) - 1 ≡ suc (length (c ∷ xs) - 1) = omega arith in
     ap (λ n. take n (b ∷ c ∷ xs)) e
 
--- what stands before a last colon
+-- where the last byte is a colon, what stands before it is found
 pub colon_found : (xs : List ℕ) → 1 ≤ length xs → get_or xs (length xs - 1) 0 ≡ 58 → before_colon xs ≡ Some (take (length xs - 1) xs)
 colon_found [] h e = absurd (omega arith)
 colon_found (b ∷ []) h e = let is : b ≡ 58 = e in rw is refl
 colon_found (b ∷ c ∷ xs) h e =
     ap (option_map (λ name. b ∷ name)) (colon_found (c ∷ xs) (omega arith) (sym (last_after b c xs) ∙ e)) ∙ ap Some (sym (prefix_kept b c xs))
 
--- nothing does where another byte is the last
+-- where the last byte is no colon, nothing is found before a colon
 pub no_colon : (xs : List ℕ) → get_or xs (length xs - 1) 0 ≢ 58 → before_colon xs ≡ None
 no_colon [] h = refl
 no_colon (b ∷ []) h = let e : b == 58 ≡ false = grind arith in rw e refl
@@ -67,6 +67,6 @@ no_utf8 line h = by_case (is_utf8 line) refl
     by_case true e = absurd (h (IsUtf8-from_is_utf8 line e))
     by_case false e = rw e refl
 
--- one that is has the step of its words
+-- a line that is UTF-8 has the step of its words
 pub utf8_line : (line : List ℕ) → IsUtf8 line → step_in line ≡ utf8_step line
 utf8_line line h = sym (ap (λ b. cond b (step_in line) None) (is_utf8-from_IsUtf8 line h))

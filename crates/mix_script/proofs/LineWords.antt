@@ -6,7 +6,7 @@ use Rattle.mix_words.specs.Words.{is_blank, words_of, unless_empty}
 use Rattle.mix_words.proofs.Pieces.{Free, Free-rest, rest_whole}
 use Rattle.mix_words.proofs.WordCuts.{word_cut, words_at_end}
 
--- a blank in front is in no word
+-- a blank at the beginning of a text is in no word
 pub blank_prefix : (b : ℕ) (bs : List ℕ) → is_blank b ≡ true → words_of (b ∷ bs) ≡ words_of bs
 blank_prefix b bs h = rw h refl
 

@@ -7,19 +7,21 @@ use Rattle.mix_script.specs.declared.script.ScriptFault.TheVariants.{Line, OutOf
 use Rattle.mix_script.specs.declared.step.Step.{Step}
 use Rattle.mix_script.specs.Steps.{line_steps, with_line, steps_from}
 
--- steps that were read, before those to come
+-- steps that were read before what reading the rest gives
 abbrev pub after_steps : List Step → Result (List Step) ℕ → Result (List Step) ℕ
 after_steps prefix (Ok steps) = Ok (prefix ++ steps)
 after_steps prefix (Err n) = Err n
 
+-- steps so far with those of one line more, before the rest, are the steps so far before that line's and the rest
 after_two : (prefix new : List Step) (n : ℕ) (rest : Result (List Step) ℕ) → after_steps (prefix ++ new) rest ≡ after_steps prefix (with_line (Some new) n rest)
 after_two prefix new n (Ok steps) = ap Ok (append_assoc prefix new steps)
 after_two prefix new n (Err m) = refl
 
+-- the steps of lines from a place on are those of the line there, and those of the lines after it
 at_line : (lines : List (List ℕ)) (i n : ℕ) → i < length lines → steps_from n (drop i lines) ≡ with_line (line_steps (get_or lines i [])) n (steps_from (n + 1) (drop (i + 1) lines))
 at_line lines i n h = ap (steps_from n) (drop_more lines i [] h)
 
--- the steps of one line more were read
+-- with the steps of one line more, the steps so far before the rest are still those of the script
 pub line_taken : (lines : List (List ℕ)) (i n : ℕ) (prefix new more : List Step) (whole : Result (List Step) ℕ) → i < length lines → line_steps (get_or lines i []) ≡ Some new → more ≡ prefix ++ new
     → after_steps prefix (steps_from n (drop i lines)) ≡ whole → after_steps more (steps_from (n + 1) (drop (i + 1) lines)) ≡ whole
 line_taken lines i n prefix new more whole h a m e =
@@ -32,6 +34,7 @@ pub line_refused : (lines : List (List ℕ)) (i n : ℕ) (prefix : List Step) (w
 line_refused lines i n prefix whole h a e =
     sym e ∙ ap (after_steps prefix) (at_line lines i n h ∙ ap (λ o. with_line o n (steps_from (n + 1) (drop (i + 1) lines))) a)
 
+-- the fault of a result; where there is none, want of memory
 abbrev fault_in : {T : Type 0} → Result T ScriptFault → ScriptFault
 fault_in (Ok x) = OutOfMemory
 fault_in (Err e) = e

@@ -11,6 +11,7 @@ use Rattle.mix_script.specs.declared.step.Step.{Step}
 document : LabelledTree
 document = record { label = codes "a"; kids = tree (codes "b") (tree (codes "d") none (tree (codes "e") none none)) (tree (codes "c") none none) }
 
+-- the transcript of a script's steps, under marks, over the document of the worked walks
 transcript_of : List (Option ℕ) → Result (List Step) ℕ → List ℕ
 transcript_of marks (Ok steps) = transcript document (codes "s" ∷ []) marks steps
 transcript_of marks (Err n) = []
@@ -32,6 +33,7 @@ marked = refl
 siblings : LabelledTree
 siblings = record { label = codes "l"; kids = tree (codes "a") none (tree (codes "b") none (tree (codes "a") none (tree (codes "c") none none))) }
 
+-- the transcript of a script's steps, under marks, over the document of the worked searches
 siblings_of : List (Option ℕ) → Result (List Step) ℕ → List ℕ
 siblings_of marks (Ok steps) = transcript siblings (codes "s" ∷ []) marks steps
 siblings_of marks (Err n) = []

@@ -15,7 +15,7 @@ way_named word = cond (bytes_eq word (codes "down")) (Some Down) (cond (bytes_eq
 abbrev pub act_named : List ℕ → List ℕ → List ℕ → Option Act
 act_named x command y = option_map (λ way. Move way x y) (way_named command)
 
--- X = down Y, and X = right Y
+-- the act of the words X = down Y and X = right Y
 abbrev pub move_form : List ℕ → List ℕ → List ℕ → List ℕ → Option Act
 move_form x is command y = cond (is_name x && bytes_eq is (codes "=") && is_name y) (act_named x command y) None
 

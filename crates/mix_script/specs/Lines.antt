@@ -46,7 +46,7 @@ name_alone name = cond (is_name name) (Some name) None
 abbrev pub client_named : List ℕ → Option (List ℕ)
 client_named word = option_and_then name_alone (before_colon word)
 
--- the client that the only word in front names
+-- the client that words name: one word alone may name one, by what stands before its colon
 abbrev pub client_of : List (List ℕ) → Option (List ℕ)
 client_of [] = None
 client_of (word ∷ []) = client_named word

@@ -27,6 +27,6 @@ own_of names (b ∷ bs) = get (slice_cmp nat_cmp) names.clients (b ∷ bs)
 abbrev pub held : {V : Type 0} → Names V → NamesOf V
 held names client name = option_and_then (λ own. get (slice_cmp nat_cmp) own name) (own_of names client)
 
--- among one client's names, one holds this now, and the others what they held
+-- among one client's names, a given one holds a value after a change, or none, and the others what they held
 abbrev pub HasNamed : {V : Type 0} → BTreeMap (List ℕ) V → BTreeMap (List ℕ) V → List ℕ → Option V → Type 0
 HasNamed before after name value = (q : List ℕ) → get (slice_cmp nat_cmp) after q ≡ cond (bytes_eq name q) value (get (slice_cmp nat_cmp) before q)

@@ -68,6 +68,6 @@ goal_on trail names client (Select name from label) = None
 goal_on trail names client (Fetch from) = None
 goal_on trail names client (Print from) = None
 
--- the names after an answer to such an act
+-- the names after an answer to an act of at most one way
 abbrev pub names_on : {W : Type 0} → Trail W → NamesOf W → List ℕ → Act → Answer → NamesOf W
 names_on trail names client act a = names_with (goal_on trail names client act) names client act a

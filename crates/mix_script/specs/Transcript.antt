@@ -86,7 +86,7 @@ abbrev pub first_mark : List (Option ℕ) → Option ℕ
 first_mark [] = None
 first_mark (mark ∷ marks) = mark
 
--- the marks of the steps after it
+-- the marks of the steps after the first
 abbrev pub later_marks : List (Option ℕ) → List (Option ℕ)
 later_marks [] = []
 later_marks (mark ∷ marks) = marks

@@ -56,7 +56,7 @@ fn read_command(
     Ok(Some(Act::Move { way, name, from }))
 }
 
-// `X = down Y` and `X = right Y`.
+// The act of the words `X = down Y` and `X = right Y`.
 fn read_move(
     alloc: Global,
     name: &[u8],

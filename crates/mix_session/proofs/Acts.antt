@@ -148,7 +148,7 @@ module _ {V W : Type 0} (m m' : Meaning V W) (v v' : View) (rises : (s : ℕ) �
           (answered (names_found values client name r) (answer_found r) found_step (names_given values client name act r (λ xs x. same V xs x))))
       taken values' (Err e) is after still = refused values' e still
 
-  -- of a step that seeks the root
+  -- a step that seeks the root: what it may ask, and what it is answered
   module _ (client name : List ℕ) (toll : m.course.HasTolls → v'.fills ≤ v.fills + m.course.root_toll) where
     pub root_tolled : IsTolled m v.fills v'.fills values client (Root name)
     root_tolled one tolls xs hold = toll tolls
@@ -167,7 +167,7 @@ module _ {V W : Type 0} (m m' : Meaning V W) (v v' : View) (rises : (s : ℕ) �
         (λ nodes hold. may_root m.course.roots m.course.MayFail r root.sure (may_find m.course.MayFail v.faults v'.faults r root.cause))
         (λ t one places hold. (λ mark. refl, root.place t one)) (λ one tolls xs hold. root.told tolls)
 
-  -- of a step that seeks a node from the one that a name holds
+  -- a step that seeks a node from the one that a name holds
   module _ (client from : List ℕ) (n : V) (held : values client from ≡ Some n) where
     -- the place of the document that the name holds
     own_place : (places : Names) → HoldPlaces m values places → (p : List ℕ) × (places client from ≡ Some p) × m.IsAt n p
@@ -186,7 +186,7 @@ module _ {V W : Type 0} (m m' : Meaning V W) (v v' : View) (rises : (s : ℕ) �
         let place = own_place places hold in
         subst (λ (o : Option (List ℕ)). v'.fills ≤ v.fills + toll_from (toll t) o) (sym place.1) (asks tolls place.0 place.2 t one)
 
-    -- of a step that goes one way from a node
+    -- a step that goes one way from a node: what it may ask, and what it is answered
     module _ (name : List ℕ) (way : Way) (toll : (x : W) → m.IsTold n x → m.course.HasTolls → v'.fills ≤ v.fills + m.course.toll way x) where
       pub move_tolled : IsTolled m v.fills v'.fills values client (Move way name from)
       move_tolled one tolls xs hold =
@@ -208,7 +208,7 @@ module _ {V W : Type 0} (m m' : Meaning V W) (v v' : View) (rises : (s : ℕ) �
           let x = some_other m.IsTold (values client from) (xs client from) n held (hold client from) in
           subst (λ (o : Option W). IfNode (IsAsked m'.IsTold (option_and_then (m.course.trail.to way) o)) r) (sym x.1) (next.told x.0 x.2 tolls))
 
-    -- of a step that seeks among later siblings of a node
+    -- a step that seeks among later siblings of a node: what it may ask, and what it is answered
     module _ (name label : List ℕ) (cost : CostsOn m n v.fills v'.fills (λ toll t p. select_toll toll t label p)) where
       pub select_tolled : IsTolled m v.fills v'.fills values client (Select name from label)
       select_tolled one = cc
@@ -226,7 +226,7 @@ module _ {V W : Type 0} (m m' : Meaning V W) (v v' : View) (rises : (s : ℕ) �
           ))
           (λ one. cc)
 
-    -- of a step that asks for the text of a node's subtree
+    -- a step that asks for the text of a node's subtree: what it may ask, and what it is answered
     module _ (cost : CostsOn m n v.fills v'.fills print_toll) where
       pub print_tolled : IsTolled m v.fills v'.fills values client (Print from)
       print_tolled one = cc
@@ -350,7 +350,7 @@ module _ {V W : Type 0} (m : Meaning V W) (v : View) (stays : Stays m m) (values
           counted = λ s. omega arith;
         }) refl
 
-  -- of a step that asks for the label of the node that a name holds
+  -- the label that was read of the node that a name holds answers a step that asks for it
   pub fetched : (n : V) (label : List ℕ) → values client from ≡ Some n → ReadsLabel m n label → Stepped m m v v values values client (Fetch from) (Ok (answer.Label label))
   fetched n label held reads = answered m m v v (λ s. omega arith) stays values session client (Fetch from) (idle (Fetch from)) (free (Fetch from)) values (answer.Label label)
       (record {

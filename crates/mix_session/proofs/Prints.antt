@@ -252,7 +252,7 @@ one_costs m m' n fills fills' fills'' stays own right tolls p at t one =
 
 module _ {V W : Type 0} (m m' m3 : Meaning V W) (first node : V) (fills fills' fills3 : ℕ) (before now : List ℕ) (so : ArePrinted m m' fills fills' before now first node) (stays : Stays m' m3) (there : IsThere m' node)
     (cost : CostsOn m' node fills' fills3 one_toll) where
-  -- of the trees from a first node on: one more of them was printed
+  -- one more tree was printed, after those from a first node up to it, where the first one stands at a place
   module _ (p : List ℕ) (at : m.IsAt first p) (t : LabelledTree) (one : m.course.IsDocument t) where
     on : IsOnWay m m' fills fills' so.prefix node p t
     on = so.place p at t one

@@ -114,6 +114,7 @@ other_toll toll label (tree other kids rest) x h = ap (λ b. cond b 0 (search_to
 
 -- where the tolls of all ways are no greater, the toll of a search is no greater
 module _ (toll toll' : Way → List ℕ → ℕ) (less : (way : Way) (p : List ℕ) → toll' way p ≤ toll way p) where
+  -- where the tolls of all ways are no greater, the toll of a search among trees is no greater
   pub search_less : (label : List ℕ) (f : Forest) (p : List ℕ) → search_toll toll' label f p ≤ search_toll toll label f p
   search_less label none p = less Right p
   search_less label (tree other kids rest) p = let here = less Right p in let rest_less = either (search_less label rest) (bytes_eq other label) (next_place p) in omega (arith, here, rest_less)
@@ -124,6 +125,7 @@ module _ (toll toll' : Way → List ℕ → ℕ) (less : (way : Way) (p : List �
       either more false None = omega arith
       either more false (Some q) = more q
 
+  -- where the tolls of all ways are no greater, the toll of a search from a node of a tree on is no greater
   pub ahead_less : (t : LabelledTree) (label p : List ℕ) → ahead_at toll' t label p ≤ ahead_at toll t label p
   ahead_less t label p = of (trees_at (alone t) p)
     where
@@ -180,7 +182,7 @@ module _ {V W : Type 0} (m : Meaning V W) (label : List ℕ) (first : V) where
     }
 
     module _ (m'' : Meaning V W) (fills'' : ℕ) (other : bytes_eq read label ≡ false) (stays : Stays m' m'') (toll : (x : W) → m'.IsTold node x → m'.course.HasTolls → fills'' ≤ fills' + m'.course.toll Right x) where
-      -- of a search at a node with another label, whose way to the next sibling was paid for
+      -- a search has come to a node with another label, and the way to the next sibling was paid for
       module _ (p : List ℕ) (at : m.IsAt first p) (t : LabelledTree) (one : m.course.IsDocument t) where
         on : IsOnWay m m' fills fills' label first node p t
         on = so.place p at t one
@@ -238,7 +240,7 @@ start_costs m label n fills fills' toll tolls p at t one =
     let paid : fills' ≤ fills + place_toll m.course Right p = toll (m.course.at p) (m.told_at n p at) tolls in
     let all = toll_on (place_toll m.course) t label p in omega (arith, paid, all)
 
--- of a search among the later siblings of a node, from the next one on
+-- a search among the later siblings of a node, which begins with a step to the next one
 module _ {V W : Type 0} (m m' : Meaning V W) (label : List ℕ) (n : V) (before mid : ℕ → ℕ) (fills fills' : ℕ) (stays : Stays m m') (toll : (x : W) → m.IsTold n x → m.course.HasTolls → fills' ≤ fills + m.course.toll Right x)
     (r : Found V) (next : IsNext m m' before mid Right n r) where
   -- where there is no next sibling, none of the later siblings is found

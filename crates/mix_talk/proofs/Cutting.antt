@@ -140,6 +140,7 @@ module _ (old now : InputView) (r r' : LineReader) (line : List ℕ) (cut : IsCu
 
   -- the line's part of a page was moved, with its end
   module _ (page line' : List ℕ) (moved : Moved r'.page page line line' true) where
+    -- the bytes of the line without its end: those that were kept, and those of the page
     abbrev body : List ℕ
     body = cut.body ++ moved.is.0
 

@@ -7,6 +7,7 @@ gone_none : (left : Option (List ℕ)) → Gone left left []
 gone_none None = refl
 gone_none (Some left) = (left, refl, refl)
 
+-- where nothing was taken of an input, no bytes are counted
 pub took_none : (input : InputView) → Took input input []
 took_none input = record { gone = gone_none input.left; counted = omega arith }
 
@@ -17,6 +18,7 @@ gone_more (Some left) between new bytes more first second =
     let then : Gone (Some first.0) new more = subst (λ (o : Option (List ℕ)). Gone o new more) first.2 second in
     (then.0, first.1 ∙ ap (λ r. bytes ++ r) then.1 ∙ sym (append_assoc bytes more then.0), then.2)
 
+-- bytes that were taken and then more of them were taken together
 pub took_more : (old between new : InputView) (bytes more : List ℕ) → Took old between bytes → Took between new more → Took old new (bytes ++ more)
 took_more old between new bytes more first second = record {
   gone = gone_more old.left between.left new.left bytes more first.gone second.gone;

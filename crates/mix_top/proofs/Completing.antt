@@ -37,6 +37,7 @@ held_unmarked : (a : Answer) → mark_of a ≡ None → (o : Option (Unit {0})) 
 held_unmarked a e None = refl
 held_unmarked a e (Some node) = e
 
+-- the answer without a fault to any act marks no source
 any_unmarked : (nodes : Nodes) (client : List ℕ) (act : Act) → mark_of (any_answer nodes client act) ≡ None
 any_unmarked nodes client (Root name) = refl
 any_unmarked nodes client (Move way name from) = held_unmarked answer.None refl (nodes client from)
@@ -123,6 +124,7 @@ module _ (May Real : ℕ → Type 0) where
   find_may answer.NoNode w h = h
   find_may (answer.Fault s) w h = w s refl h
 
+  -- an answer to a print that may be under one property of sources may be under another, where a fault of a source with the first has the second
   print_may : (a : Answer) → ((s : ℕ) → mark_of a ≡ Some s → May s → Real s) → MayPrint May a → MayPrint Real a
   print_may answer.Node w h = h
   print_may answer.None w h = h
@@ -131,10 +133,12 @@ module _ (May Real : ℕ → Type 0) where
   print_may answer.NoNode w h = h
   print_may (answer.Fault s) w h = w s refl h
 
+  -- where one property of an answer gives another, an answer with the one where a name holds a node is one with the other
   held_may : (P Q : Answer → Type 0) (a : Answer) → (P a → Q a) → (o : Option (Unit {0})) → WhereHeld o P a → WhereHeld o Q a
   held_may P Q a w None h = h
   held_may P Q a w (Some node) h = w h
 
+  -- an answer to an act that may be under one property of sources may be under another, where the source that it marks has the second
   answer_may : (nodes : Nodes) (client : List ℕ) (act : Act) (a : Answer) → ((s : ℕ) → mark_of a ≡ Some s → May s → Real s) → MayAnswer false May nodes client act a
       → MayAnswer false Real nodes client act a
   answer_may nodes client (Root name) a w h = h

@@ -28,12 +28,15 @@ pub record AreCounts (tables tables' : TablesView) (asked : Asked) (counts : Cou
   pub class : counts.class ≡ class_over asked.catalog (plan_value asked.plan).ops
 
 module _ (tables tables' : TablesView) (docs : List Mount) (asked : Asked) (counts : Counts) (are : AreCounts tables tables' asked counts) where
+  -- the lines that answer the script, by the fills that were counted
   abbrev Answers : SinkView → SinkView → ℕ → List ℕ → Type 0
   Answers = LinesOver (by_fills counts.spent.fills) tables tables' docs asked
 
+  -- the lines of `count`: those that answer the script, and those of the counts
   abbrev Counted : SinkView → SinkView → ℕ → List ℕ → Type 0
   Counted = LinesOver lines_of_count tables tables' docs asked
 
+  -- the lines that write the counts
   abbrev more : List ℕ
   more = lines_of_counts counts
 

@@ -62,24 +62,31 @@ module _ (files : FilesView) (a b : Mounting) (came : CameFrom a b) (asked : Ask
     (docs_are : documents st ≡ documents_of a.tables a.docs) (ahead : IsTrue (forward st)) (t : LabelledTree)
     (document_is : all_told a.tables (plan_value asked.plan).ops asked.catalog ≡ true → IsDocument st t) (unasked : a.fills ≡ 0) (few : b.tables.pages ≤ a.tables.pages + b.fills) (before after : SinkView)
     (is_document : IsPlanDocument (documents_of a.tables a.docs) (plan_value asked.plan).ops t) where
+  -- the names of the sources of the catalog
   abbrev names : List (List ℕ)
   names = names_of_sources asked.catalog
 
+  -- the steps of the script
   abbrev steps : List Step
   steps = asked.steps.items
 
+  -- the question of the run: its script on the document, over what is mounted
   abbrev q : Question
   q = question a.tables a.docs asked t
 
+  -- answers that a run on the course of the plan gives
   abbrev Are : List Answer → Type 0
   Are answers = IsRun (plan_course st) (view_of a).faults (view_of b).faults steps answers
 
+  -- answers that ask for no more fills than the course of the plan allows
   abbrev Cost : List Answer → Type 0
   Cost answers = IsLazy (plan_course st) (view_of a).fills (view_of b).fills steps answers
 
+  -- the lines that answer the script, by the fills that were asked
   abbrev Answers : SinkView → SinkView → ℕ → List ℕ → Type 0
   Answers = LinesOver (by_fills b.fills) a.tables b.tables a.docs asked
 
+  -- the lines of the run, written in the order of the steps, answer the question
   run : IsAnswering (in_order q) a b asked.catalog (plan_value asked.plan).ops steps st t before after
   run = answering files a b came asked.catalog (plan_value asked.plan).ops steps mounted (plan_within asked.catalog (plan_value asked.plan) over) (in_order q) st same docs_are ahead t document_is unasked few before after (in_order_is_manner q)
 

@@ -27,14 +27,17 @@ held_quiet : (o : Option (List ℕ)) (a : Answer) → mark_of a ≡ None → mar
 held_quiet None a e = refl
 held_quiet (Some place) a e = e
 
+-- the answer of a move in a finished tree marks no source
 move_quiet : (t : LabelledTree) (goal : Option (List ℕ)) → mark_of (move_answer t goal) ≡ None
 move_quiet t None = refl
 move_quiet t (Some place) = elim (has_place (alone t) place) as (λ b. mark_of (cond b answer.Node answer.None) ≡ None) [ true ↦ refl | false ↦ refl ]
 
+-- the answer of a fetch in a finished tree marks no source
 label_quiet : (o : Option LabelledTree) → mark_of (label_answer o) ≡ None
 label_quiet None = refl
 label_quiet (Some t) = refl
 
+-- the answer of a print in a finished tree marks no source
 text_quiet : (o : Option LabelledTree) → mark_of (text_answer o) ≡ None
 text_quiet None = refl
 text_quiet (Some t) = refl

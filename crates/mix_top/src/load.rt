@@ -69,7 +69,7 @@ pub fn mount_tree<F: Files>(
     }
 }
 
-/// The rows of a CSV file with these columns, mounted as the document of a source. An error is as with a tree.
+/// The rows of a CSV file with these columns, mounted as the document of a source. An error is as with `mount_tree`.
 pub fn mount_table<F: Files>(
     alloc: Global,
     files: &mut F,
@@ -107,7 +107,7 @@ pub fn mount_alone<F: Files>(
     Ok(Mounted::new(vec![in alloc; mount]?, NoTables::new()))
 }
 
-/// The steps of a file that is a script. An error is as with a tree.
+/// The steps of a file that is a script. An error is as with `mount_tree`.
 pub fn load_script<F: Files>(alloc: Global, files: &mut F, path: &str) -> Result<Vec<Step>, Stop>
     ensures keeps { KeepsFiles (F.view files.old) (F.view files.new) }
     ensures others { ReadsOnly path.now (F.view files.old) (F.view files.new) }
@@ -122,7 +122,7 @@ pub fn load_script<F: Files>(alloc: Global, files: &mut F, path: &str) -> Result
     }
 }
 
-/// The catalog that a file spells. An error is as with a tree.
+/// The catalog that a file spells. An error is as with `mount_tree`.
 pub fn load_catalog<F: Files>(alloc: Global, files: &mut F, path: &str) -> Result<Catalog, Stop>
     ensures keeps { KeepsFiles (F.view files.old) (F.view files.new) }
     ensures others { ReadsOnly path.now (F.view files.old) (F.view files.new) }
@@ -137,7 +137,7 @@ pub fn load_catalog<F: Files>(alloc: Global, files: &mut F, path: &str) -> Resul
     }
 }
 
-/// The rule that a file spells over the sources of a catalog. An error is as with a tree.
+/// The rule that a file spells over the sources of a catalog. An error is as with `mount_tree`.
 pub fn load_rule<F: Files>(
     alloc: Global,
     files: &mut F,
@@ -158,7 +158,7 @@ pub fn load_rule<F: Files>(
     }
 }
 
-/// The plan that a file spells over the sources of a catalog, as it stands. An error is as with a tree.
+/// The plan that a file spells over the sources of a catalog, as it stands. An error is as with `mount_tree`.
 pub fn load_plan<F: Files>(
     alloc: Global,
     files: &mut F,

@@ -15,6 +15,7 @@ from_past [] i h = from_none i
 from_past (t ∷ ts) zero h = absurd (omega arith)
 from_past (t ∷ ts) (suc i) h = from_past ts i (omega arith)
 
+-- a tree at an index within a list is the first of the trees from that index on
 from_within : (ts : List LabelledTree) (i : ℕ) (t : LabelledTree) → i < length ts → t ≡ get_or ts i t → Some t ≡ first_tree (from i (forest_of ts))
 from_within [] i t h e = absurd (omega arith)
 from_within (u ∷ ts) zero t h e = ap Some e
@@ -29,12 +30,15 @@ first_tree-get ts i None h = ap first_tree (sym (from_past ts i h))
     sym e = Rattle.std.proofs.Common.sym e
 first_tree-get ts i (Some t) h = from_within ts i t h.0 h.1
 
+-- no index is below 0
 no_index : (i : ℕ) → false ≡ nat_lt i 0
 no_index i = grind (arith, nat_tests)
 
+-- index 0 is below the length of a list that has a first member
 first_index : (n : ℕ) → true ≡ nat_lt 0 (suc n)
 first_index n = grind (arith, nat_tests)
 
+-- an index is below a length where the next one is below the next length
 later_index : (i n : ℕ) → nat_lt i n ≡ nat_lt (suc i) (suc n)
 later_index i n = grind (arith, nat_tests)
 

@@ -28,7 +28,7 @@ pub record GoesOn (s : Spot) : Type 0 where
   pub runs : run s bytes ≡ Some spot
   pub ends : label_in spot ≡ Some label
 
--- a byte, and then as the spot after it goes on
+-- a spot goes on to a label's end where the spot after an ASCII byte does
 byte_on : (s t : Spot) (b : ℕ) → b < 128 → step s b ≡ Some t → GoesOn t → GoesOn s
 byte_on s t b low e h = record {
   bytes = b ∷ h.bytes;
@@ -55,7 +55,7 @@ goes_on (in_quotes l) = quotes_on l
 goes_on (in_escape l) = byte_on (in_escape l) (in_quotes (l ++ 10 ∷ [])) 110 (omega arith) refl (quotes_on (l ++ 10 ∷ []))
 goes_on (after_quote l) = ended (after_quote l) l refl
 
--- what a run over a text writes
+-- a text that a run goes over is what its last spot has read
 pub run_writes_some : (w : List ℕ) (t : Spot) → run start w ≡ Some t → Writes w t
 run_writes_some w t e = by_case (run start w) e (run_writes w [] start refl)
   where
@@ -175,7 +175,7 @@ longest x l from end u inside boundary h =
           no_longer w y other h.spot (n - end) (omega arith) (omega (arith, h.place, both)) h.runs h.stops (subst (λ z. SpellsLabel z other) longer s);
     }
 
--- a byte that does not fit, where no label has ended
+-- where no label has ended, a byte that does not fit is the first with which no spelling goes on
 no_label : (x : List ℕ) (from at : ℕ) → IsUtf8 x → from ≤ length x → IsCharBoundary x from → SawStop start from (drop from x) at → IsNoLabel x from at
 no_label x from at u inside boundary h =
     let w = h.prefix in
@@ -195,7 +195,7 @@ no_label x from at u inside boundary h =
       nowhere = nowhere (drop from x) w (h.byte ∷ h.rest) h.spot h.parts h.runs h.label h.stops;
     }
 
--- the end of the text in a label
+-- where the text ends within a spelling, no label is spelled there, and a spelling goes on from the end
 cut_label : (x : List ℕ) (from : ℕ) → IsUtf8 x → IsCharBoundary x from → SawEnd start (drop from x) → IsCutLabel x from
 cut_label x from u boundary (t, r, e) = record {
   prefix = prefix_of (drop from x) t (IsUtf8-drop x from u boundary) r;

@@ -22,7 +22,7 @@ reads_bare (b ∷ l) h =
     let parts = and_parts (is_bare b) (list_all is_bare l) h in
     rw parts.0 (bare_goes_on (b ∷ []) l parts.1)
 
--- a plain byte between quotes
+-- a byte that stands for itself between quotes is read as itself
 pub plain_step : (b : ℕ) (l : List ℕ) → IsTrue (is_plain b) → step (in_quotes l) b ≡ Some (in_quotes (l ++ b ∷ []))
 plain_step b l h = by_cases (b == 34) (b == 92) _ _ _ h
   where

@@ -18,7 +18,7 @@ Writes x (in_quotes l) = WritesPieces x l []
 Writes x (in_escape l) = WritesPieces x l (92 ∷ [])
 Writes x (after_quote l) = WritesPieces x l (34 ∷ [])
 
--- one piece more, as it is written
+-- pieces with one more are written as they were, with that one's text after them
 pub inside-push : (ps : List Piece) (q : Piece) → inside_quotes (ps ++ q ∷ []) ≡ inside_quotes ps ++ inside_quotes (q ∷ [])
 inside-push [] q = refl
 inside-push (plain b ∷ ps) q = ap (λ r. b ∷ r) (inside-push ps q)
@@ -39,11 +39,11 @@ bare-push : (l : List ℕ) (b : ℕ) → IsTrue (is_bare_label l) → IsTrue (is
 bare-push [] b h k = cc
 bare-push (c ∷ l) b h k = list_all-push is_bare (c ∷ l) b h k
 
--- one byte more after the text
+-- a text of a quote and pieces, with one byte more, is the quote, the pieces and that byte
 text_more : (x : List ℕ) (ps : List Piece) (b c : ℕ) → c ≡ b → x ≡ 34 ∷ inside_quotes ps ++ [] → x ++ b ∷ [] ≡ 34 ∷ inside_quotes ps ++ c ∷ []
 text_more x ps b c same e = ap (λ r. r ++ b ∷ []) e ∙ ap (λ r. 34 ∷ r ++ b ∷ []) (append_nil (inside_quotes ps)) ∙ ap (λ d. 34 ∷ inside_quotes ps ++ d ∷ []) (sym same)
 
--- one byte more that stands for itself
+-- a byte that stands for itself, after pieces, makes one piece more, which means that byte
 plain_more : (x l : List ℕ) (b : ℕ) → IsTrue (is_plain b) → WritesPieces x l [] → WritesPieces (x ++ b ∷ []) (l ++ b ∷ []) []
 plain_more x l b h (ps, are, e, m) = (
   ps ++ plain b ∷ [],
@@ -61,7 +61,7 @@ escape_more x l b h (ps, are, e, m) = (
   meaning-push ps (escape b) ∙ ap (λ r. r ++ escaped_byte b ∷ []) m,
 )
 
--- a quote or a backslash after the pieces
+-- a byte after pieces that makes no piece yet, as a quote or a backslash, is what is written after them
 byte_more : (x l : List ℕ) (b c : ℕ) → c ≡ b → WritesPieces x l [] → WritesPieces (x ++ b ∷ []) l (c ∷ [])
 byte_more x l b c same (ps, are, e, m) = (ps, are, text_more x ps b c same e, m)
 

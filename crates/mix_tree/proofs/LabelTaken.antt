@@ -18,7 +18,7 @@ use Rattle.mix_tree.proofs.LabelComplete.{plain_step}
 pub seen_byte : (s t : Spot) (i b : ℕ) (y : List ℕ) → step s b ≡ Some t → seen_from s i (b ∷ y) ≡ seen_from t (i + 1) y
 seen_byte s t i b y e = ap (or_stop (λ u. seen_from u (i + 1) y) _) e
 
--- bytes that stand for themselves
+-- bytes that stand for themselves between quotes are passed, and are put to the label
 plain_seen : (x y l : List ℕ) (i : ℕ) → IsTrue (list_all is_plain x) → seen_from (in_quotes l) i (x ++ y) ≡ seen_from (in_quotes (l ++ x)) (i + length x) y
 plain_seen [] y l i h =
     let none : i ≡ i + length {A = ℕ} [] = omega arith in
@@ -29,7 +29,7 @@ plain_seen (b ∷ x) y l i h =
     seen_byte (in_quotes l) (in_quotes (l ++ b ∷ [])) i b (x ++ y) (plain_step b l parts.0) ∙ plain_seen x y (l ++ b ∷ []) (i + 1) parts.1
     ∙ ap (λ k. seen_from (in_quotes k) (i + 1 + length x) y) (append_assoc l (b ∷ []) x) ∙ ap (λ n. seen_from (in_quotes (l ++ b ∷ x)) n y) one
 
--- bytes of a text that stand for themselves
+-- the bytes of a text between two places that stand for themselves between quotes are passed, and are put to the label
 pub quotes_seen : (x l : List ℕ) (at end : ℕ) → at ≤ end → end ≤ length x → IsTrue (list_all is_plain (slice_range x at end))
     → seen_from (in_quotes l) at (drop at x) ≡ seen_from (in_quotes (l ++ slice_range x at end)) end (drop end x)
 quotes_seen x l at end order inside h =
@@ -37,7 +37,7 @@ quotes_seen x l at end order inside h =
     ap (seen_from (in_quotes l) at) (sym (slice_then x at end order)) ∙ plain_seen (slice_range x at end) (drop end x) l at h
     ∙ ap (λ n. seen_from (in_quotes (l ++ slice_range x at end)) n (drop end x)) place
 
--- the text ends between quotes
+-- a text that ends between quotes is seen to end within a spelling
 pub cut_seen : (x l : List ℕ) (end : ℕ) → length x ≤ end → seen_from (in_quotes l) end (drop end x) ≡ ends
 cut_seen x l end h = ap (seen_from (in_quotes l) end) (drop_end x end h)
 
@@ -46,7 +46,7 @@ closed_seen : (l y : List ℕ) (i : ℕ) → seen_from (after_quote l) i y ≡ g
 closed_seen l [] i = refl
 closed_seen l (b ∷ y) i = refl
 
--- a byte of a text that goes on
+-- where the spelling goes on with a byte of a text, what is seen there is what is seen after that byte
 byte_seen : (x : List ℕ) (s t : Spot) (i : ℕ) → i < length x → step s (slice_index x i) ≡ Some t → seen_from s i (drop i x) ≡ seen_from t (i + 1) (drop (i + 1) x)
 byte_seen x s t i inside e = ap (seen_from s i) (drop_more x i 0 inside) ∙ seen_byte s t i (slice_index x i) (drop (i + 1) x) e
 
@@ -58,7 +58,7 @@ quote_seen x l end inside e = byte_seen x (in_quotes l) (after_quote l) end insi
 backslash_seen : (x l : List ℕ) (end : ℕ) → end < length x → slice_index x end ≡ 92 → seen_from (in_quotes l) end (drop end x) ≡ seen_from (in_escape l) (end + 1) (drop (end + 1) x)
 backslash_seen x l end inside e = byte_seen x (in_quotes l) (in_escape l) end inside (ap (step (in_quotes l)) e)
 
--- a backslash at the end of the text
+-- a text that ends with a backslash between quotes is seen to end within a spelling
 pub escape_cut : (x l : List ℕ) (end : ℕ) → end < length x → slice_index x end ≡ 92 → length x ≤ end + 1 → seen_from (in_quotes l) end (drop end x) ≡ ends
 escape_cut x l end inside e h = backslash_seen x l end inside e ∙ ap (seen_from (in_escape l) (end + 1)) (drop_end x (end + 1) h)
 
@@ -78,7 +78,7 @@ some_escape l b m e = by_case (is_escape b) e
     by_case true f = ap (λ d. Some (in_quotes (l ++ d ∷ []))) (some_is (escaped_byte b) m f)
     by_case false f = none_some m f
 
--- a backslash and a byte that is no escape
+-- between quotes, after a backslash, a byte that is no escape is seen not to fit
 pub escape_wrong : (x l : List ℕ) (end : ℕ) → end < length x → slice_index x end ≡ 92 → end + 1 < length x → escape_of (slice_index x (end + 1)) ≡ None
     → seen_from (in_quotes l) end (drop end x) ≡ unexpected (end + 1)
 escape_wrong x l end inside e more n =
@@ -115,7 +115,7 @@ escape_ascii b m e = by_case (is_escape b) refl e
     by_case true h f = (low h, subst (λ k. k < 128) (some_is (escaped_byte b) m f) (meant (b == 110) (b == 116) (low h)))
     by_case false h f = none_some m f
 
--- a scan ends where a character does
+-- a place where the text ends, or an ASCII byte stands, is where a character begins
 pub scan_boundary : (x : List ℕ) (end : ℕ) → end ≤ length x → (end < length x → slice_index x end < 128) → IsCharBoundary x end
 scan_boundary x end inside h = by_cases (same_or_less end (length x) inside)
   where
@@ -126,7 +126,7 @@ scan_boundary x end inside h = by_cases (same_or_less end (length x) inside)
     by_cases (inl k) = IsCharBoundary-before_ascii x end k (h k)
     by_cases (inr e) = subst (IsCharBoundary x) (sym e) (IsCharBoundary-end x)
 
--- no bare character goes on
+-- the text is empty, or does not begin with a byte of a bare character
 abbrev pub NoBare : List ℕ → Type 0
 NoBare [] = Unit {0}
 NoBare (b ∷ y) = is_bare b ≡ false
@@ -144,7 +144,7 @@ bare_seen (b ∷ x) y l i h k =
     seen_byte (in_bare l) (in_bare (l ++ b ∷ [])) i b (x ++ y) goes ∙ bare_seen x y (l ++ b ∷ []) (i + 1) parts.1 k
     ∙ ap (λ m. got m (i + 1 + length x) y) (append_assoc l (b ∷ []) x) ∙ ap (λ n. got (l ++ b ∷ x) n y) one
 
--- a label of bare characters
+-- bare characters, after which none follows, are seen as the label
 label_seen : (x y : List ℕ) (i : ℕ) → 0 < length x → IsTrue (list_all is_bare x) → NoBare y → seen_from start i (x ++ y) ≡ got x (i + length x) y
 label_seen [] y i some h k = absurd (omega arith)
 label_seen (b ∷ x) y i some h k =
@@ -164,7 +164,7 @@ no_bare x end h inside = by_rest (drop end x) refl
         let same : slice_index x end ≡ b = ap (λ r. slice_index r 0) (sym (drop_more x end 0 more) ∙ e) in
         subst (λ c. is_bare c ≡ false) same (h more)
 
--- a bare character is passed
+-- where a bare character stands at the beginning of a scan, and none at its end, the scan ends after its beginning
 pub passed : (x : List ℕ) (from end : ℕ) → from ≤ end → IsTrue (is_bare (slice_index x from)) → from < length x → (end < length x → is_bare (slice_index x end) ≡ false) → from < end
 passed x from end order bare inside h = by_cases (same_or_less from end order)
   where

@@ -34,7 +34,7 @@ same_word : (xs ys : List ℕ) → length xs ≡ 8 → length ys ≡ 8 → AreBy
 same_word xs ys m n h k e =
     sym (le_bytes_8 xs (from_le_bytes w64 xs) m h refl) ∙ ap (to_le_bytes w64) e ∙ le_bytes_8 ys (from_le_bytes w64 ys) n k refl
 
--- lists whose parts are the same
+-- lists are the same where their prefixes up to a place are, and what stands after them
 same_parts : (n : ℕ) (xs ys : List ℕ) → take n xs ≡ take n ys → drop n xs ≡ drop n ys → xs ≡ ys
 same_parts n xs ys e f = sym (take-append-drop n xs) ∙ ap (λ a. a ++ drop n xs) e ∙ ap (λ b. take n ys ++ b) f ∙ take-append-drop n ys
 
@@ -46,7 +46,7 @@ from_words xs ys m n h k e f =
     let back = same_word (drop 6 xs) (drop 6 ys) (omega (arith, length-drop 6 xs)) (omega (arith, length-drop 6 ys)) (drop_bytes 6 xs h) (drop_bytes 6 ys k) f in
     same_parts 8 xs ys prefix (sym (drop-drop 2 6 xs) ∙ ap (drop 2) back ∙ drop-drop 2 6 ys)
 
--- tests that hold under the same conditions
+-- two tests, each of which holds where the other does, are equal
 same_test : (a b : Bool) → (a ≡ true → b ≡ true) → (b ≡ true → a ≡ true) → a ≡ b
 same_test true b h k = sym (h refl)
 same_test false true h k = k refl
@@ -80,7 +80,7 @@ texts_differ m n xs ys h k d =
     same_test (m == n) (bytes_eq (take m xs) (take n ys)) (λ t. absurd (d ((Decides-eqb m n).0 t)))
     (λ t. let e = ap length ((bytes_eq-Decides (take m xs) (take n ys)).0 t) in absurd (d (omega (arith, e, length-take m xs, length-take n ys))))
 
--- a text that is put before the zeros
+-- a UTF-8 text of at most 14 bytes, with zeros after it, lies in place as a label's text
 pub text_in_place : (text : List ℕ) → length text ≤ 14 → IsUtf8 text → IsText (Short (length text) (text ++ drop (length text) (replicate 14 0)))
 text_in_place text h u =
     let n : ℕ = length text in

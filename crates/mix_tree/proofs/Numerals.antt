@@ -38,7 +38,7 @@ digit_at [] i h k = absurd (omega arith)
 digit_at (b ∷ x) zero h k = (and_parts (is_digit b) (list_all is_digit x) h).0
 digit_at (b ∷ x) (suc i) h k = digit_at x i (and_parts (is_digit b) (list_all is_digit x) h).1 (omega arith)
 
--- 1 to 18 digits: how many, and that they are digits
+-- 1 to 18 digits are at most 18, and each of them is a digit
 parts : (x : List ℕ) → are_digits x ≡ true → (length x ≤ 18) × (list_all is_digit x ≡ true)
 parts x h =
     let p = and_parts (nat_lt 0 (length x) && nat_le (length x) 18) (list_all is_digit x) h in

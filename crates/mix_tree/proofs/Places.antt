@@ -25,7 +25,7 @@ pub tree_at_nowhere : (f : Forest) (place : List ℕ) → None ≡ first_tree f 
 tree_at_nowhere none place e = ap first_tree (trees_at_none place)
 tree_at_nowhere (tree label kids rest) place e = cc
 
--- one step down, to a child that is there or not
+-- what stands at a place below a tree is what stands at the place's rest, below the child at its first index
 pub tree_at-step : (t : LabelledTree) (i : ℕ) (place : List ℕ) (kid : Option LabelledTree) → kid ≡ first_tree (from i t.kids)
     → tree_at t (i ∷ place) ≡ option_and_then (λ (u : LabelledTree). tree_at u place) kid
 tree_at-step t i place None e = tree_at_nowhere (from i t.kids) place e

@@ -2,7 +2,7 @@
 use Rattle.mix_tree.specs.Tables.{tabulate}
 use Rattle.std.proofs.Common.{◌≡◌, ◌<◌, ◌+◌, ◌∙◌, ℕ, zero, suc, ap, arith, get_or}
 
--- the table's entry at a place
+-- the entry of a table at a place is what the function gives at the number of that place
 pub tabulate-at : {X : Type 0} → (f : ℕ → X) (k n i : ℕ) (d : X) → i < n → get_or (tabulate f k n) i d ≡ f (k + i)
 tabulate-at f k zero i d h = absurd (omega arith)
 tabulate-at f k (suc n) zero d h = let e : k ≡ k + 0 = omega arith in ap f e

@@ -26,10 +26,12 @@ abbrev pub first_forest : List Forest → Forest
 first_forest [] = none
 first_forest (f ∷ others) = f
 
+-- of three lists, the first two or the last two may be joined first
 append_assoc : (a b c : List (Option (List ℕ))) → (a ++ b) ++ c ≡ a ++ (b ++ c)
 append_assoc [] b c = refl
 append_assoc (x ∷ a) b c = ap (λ r. x ∷ r) (append_assoc a b c)
 
+-- nothing after a list changes nothing
 append_nil : (a : List (Option (List ℕ))) → a ++ [] ≡ a
 append_nil [] = refl
 append_nil (x ∷ a) = ap (λ r. x ∷ r) (append_nil a)

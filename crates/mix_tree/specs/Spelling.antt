@@ -13,7 +13,7 @@ is_ascii_bare b =
     || b == 36
     || b == 37
 
--- a byte of a bare character: one of those, or of any character that is not ASCII
+-- a byte of a bare character: an ASCII one that may stand in a bare label, or any that is not ASCII
 abbrev pub is_bare : ℕ → Bool
 is_bare b = is_ascii_bare b || nat_le 128 b
 

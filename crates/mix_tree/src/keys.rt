@@ -18,32 +18,35 @@ fn key_gives(key: &Key, other: &Key) -> bool
     }
 }
 
-/// Whether a key stands in force: it is one of these keys, or it is the label of a node that is one.
+/// Whether a key stands in force: it is one of the keys in force, or it is the label of a node that is one.
 pub fn key_stands(force: &[Key], key: &Key) -> bool
     ensures { result ≡ stands force.now key.now }
 {
     force.iter().any(|f| key_gives(f, key))
 }
 
+// Whether each key of an item stands in force.
 fn all_stand(force: &[Key], own: &[Key]) -> bool
     ensures { result ≡ list_all (stands force.now) own.now }
 {
     own.iter().all(|k| key_stands(force, k))
 }
 
-/// Whether an item of these keys collects: one of them doesn't stand in force around it.
+/// Whether an item with the keys `own` collects: one of them doesn't stand in force around it.
 pub fn item_collects(force: &[Key], own: &[Key]) -> bool
     ensures { result ≡ collects force.now own.now }
 {
     !all_stand(force, own)
 }
 
+// Whether a key is one of some keys.
 fn is_among(key: &Key, keys: &[Key]) -> bool
     ensures { result ≡ list_any (key_eq key.now) keys.now }
 {
     keys.iter().any(|f| key == f)
 }
 
+// Puts a key after others, unless it is one of them.
 fn add_key(keys: &mut Vec<Key>, key: &Key) -> Result<(), AllocError>
     ensures { OnOk result (keys.new.items ≡ in_force keys.old.items (key.now ∷ [])) }
 {

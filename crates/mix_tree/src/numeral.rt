@@ -6,18 +6,21 @@ ghost use Rattle.mix_tree.specs.LabelOrder.{is_digit, are_digits, magnitude, rai
 // What numbers are raised by, so that none is below 0.
 const RAISE: u64 = 1_000_000_000_000_000_000;
 
+// Whether a byte is an ASCII digit.
 fn is_digit_byte(byte: u8) -> bool
     ensures { result ≡ is_digit byte }
 {
     matches!(byte, b'0'..=b'9')
 }
 
+// Whether each byte of a text is an ASCII digit.
 fn all_digit_bytes(text: &[u8]) -> bool
     ensures { result ≡ list_all is_digit text.now }
 {
     text.iter().all(|b| is_digit_byte(*b))
 }
 
+// Whether a text is 1 to 18 ASCII digits.
 fn are_digit_bytes(text: &[u8]) -> bool
     ensures { result ≡ are_digits text.now }
 {

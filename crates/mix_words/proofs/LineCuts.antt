@@ -9,16 +9,18 @@ use Rattle.mix_words.proofs.Pieces.{Free, cut_at}
 abbrev pub is_lf : ℕ → Bool
 is_lf b = b == 10
 
+-- a conjunction with false is false
 and_false : (a : Bool) → (a && false) ≡ false
 and_false true = refl
 and_false false = refl
 
--- a byte that is followed by another of its line
+-- a byte, where no LF follows it, is the first byte of the first line
 line_longer : (b c : ℕ) (bs : List ℕ) → is_lf b ≡ false → is_lf c ≡ false → lines_of (b ∷ c ∷ bs) ≡ with_first b (lines_of (c ∷ bs))
 line_longer b c bs h k =
     ap (λ t. cond t ([] ∷ lines_of (c ∷ bs)) (cond (b == 13 && begins_with_lf (c ∷ bs)) (lines_of (c ∷ bs)) (with_first b (lines_of (c ∷ bs))))) h
     ∙ ap (λ t. cond t (lines_of (c ∷ bs)) (with_first b (lines_of (c ∷ bs)))) (ap (λ t. b == 13 && t) k ∙ and_false (b == 13))
 
+-- a text that begins with LF has an empty first line
 lf_ends : (c : ℕ) (bs : List ℕ) → is_lf c ≡ true → lines_of (c ∷ bs) ≡ [] ∷ lines_of bs
 lf_ends c bs h = rw h refl
 
@@ -40,12 +42,13 @@ lines_at_lf [] c bs f h = lf_ends c bs h
 lines_at_lf (b ∷ []) c bs f h = byte_before_lf b c bs f.0 h
 lines_at_lf (b ∷ d ∷ line) c bs f h = line_longer b d (line ++ c ∷ bs) f.0 f.1.0 ∙ ap (with_first b) (lines_at_lf (d ∷ line) c bs f.1 h)
 
+-- a byte alone that is no LF is a line
 last_byte : (b : ℕ) → is_lf b ≡ false → lines_of (b ∷ []) ≡ (b ∷ []) ∷ []
 last_byte b h =
     ap (λ t. cond t ([] ∷ []) (cond (b == 13 && false) [] ((b ∷ []) ∷ []))) h
     ∙ ap (λ t. cond t [] ((b ∷ []) ∷ [])) (and_false (b == 13))
 
--- a line at the end of the text
+-- bytes without LF, at the end of the text, are its last line
 lines_at_end : (b : ℕ) (line : List ℕ) → Free is_lf (b ∷ line) → lines_of (b ∷ line) ≡ (b ∷ line) ∷ []
 lines_at_end b [] f = last_byte b f.0
 lines_at_end b (d ∷ line) f = line_longer b d line f.0 f.1.0 ∙ ap (with_first b) (lines_at_end d line f.1)
@@ -58,6 +61,7 @@ line_cut text from at prefix more whole h k f s m e =
     ∙ append_assoc prefix (without_cr (slice_range text from at) ∷ []) (lines_of (drop (at + 1) text))
     ∙ ap (λ ls. prefix ++ ls) (sym (ap lines_of (cut_at text from at h k) ∙ lines_at_lf (slice_range text from at) (slice_index text at) (drop (at + 1) text) f s)) ∙ e
 
+-- a text with some bytes and no LF is one line
 lines_at_any_end : (line : List ℕ) → 0 < length line → Free is_lf line → lines_of line ≡ line ∷ []
 lines_at_any_end [] h f = absurd (omega arith)
 lines_at_any_end (b ∷ line) h f = lines_at_end b line f

@@ -50,14 +50,14 @@ IsAscii-sql_name (x ∷ xs) h (suc i) = IsAscii-script_bytes xs (and_parts (is_l
 pub IsUtf8-sql_name : (xs : List ℕ) → IsTrue (is_sql_name xs) → IsUtf8 xs
 IsUtf8-sql_name xs h = IsUtf8-from_ascii xs (IsAscii-sql_name xs h)
 
--- a prefix as long as the list
+-- a prefix as long as the list is the list
 take_length : (n : ℕ) (xs : List ℕ) → n ≡ length xs → take n xs ≡ xs
 take_length zero [] e = refl
 take_length zero (x ∷ xs) e = absurd (omega arith)
 take_length (suc n) [] e = refl
 take_length (suc n) (x ∷ xs) e = ap (λ r. x ∷ r) (take_length n xs (omega arith))
 
--- a name by its first byte and those after it
+-- a text is a script name by the tests of its first byte and of those after it
 pub is_name-parts : (xs : List ℕ) → 1 ≤ length xs → is_name xs ≡ (is_letter (get_or xs 0 0) && list_all is_script_byte (take (length xs - 1) (drop 1 xs)))
 is_name-parts [] h = absurd (omega arith)
 is_name-parts (x ∷ xs) h = let e : length (x ∷ xs) - 1 ≡ length xs = omega arith in ap (λ r. is_letter x && list_all is_script_byte r) (sym (take_length _ xs e))

@@ -2,13 +2,13 @@
 use Rattle.std.proofs.Common.{◌≡◌, ◌≢◌, ◌≤◌, ◌-◌, ◌∙◌, ℕ, suc, false, ◌==◌, List, [], ◌∷◌, refl, sym, ap, arith, length, take, get_or}
 use Rattle.mix_words.specs.Lines.{without_cr}
 
--- the last byte of a longer list
+-- the last byte of two bytes or more is the last of those after the first
 last_after : (b c : ℕ) (xs : List ℕ) → get_or (b ∷ c ∷ xs) (length (b ∷ c ∷ xs) - 1) 0 ≡ get_or (c ∷ xs) (length (c ∷ xs) - 1) 0
 last_after b c xs =
     let e : length (b ∷ c ∷ xs) - 1 ≡ suc (length (c ∷ xs) - 1) = omega arith in
     ap (λ n. get_or (b ∷ c ∷ xs) n 0) e
 
--- all but the last byte of a longer list
+-- all but the last of two bytes or more are the first, and all but the last of those after it
 prefix_kept : (b c : ℕ) (xs : List ℕ) → take (length (b ∷ c ∷ xs) - 1) (b ∷ c ∷ xs) ≡ b ∷ take (length (c ∷ xs) - 1) (c ∷ xs)
 prefix_kept b c xs =
     let e : length (b ∷ c ∷ xs) - 1 ≡ suc (length (c ∷ xs) - 1) = omega arith in

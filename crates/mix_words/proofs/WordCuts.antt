@@ -3,7 +3,7 @@ use Rattle.std.proofs.Common.{◌≡◌, ◌<◌, ◌≤◌, ◌+◌, ◌∙◌,
 use Rattle.mix_words.specs.Words.{is_blank, words_of, with_first, unless_empty}
 use Rattle.mix_words.proofs.Pieces.{Free, cut_at, rest_whole}
 
--- a byte that is followed by another of its word
+-- a byte of a word, where another byte of a word follows it, is the first byte of the first word
 word_longer : (b c : ℕ) (bs : List ℕ) → is_blank b ≡ false → is_blank c ≡ false → words_of (b ∷ c ∷ bs) ≡ with_first b (words_of (c ∷ bs))
 word_longer b c bs h k = rw (h, k) refl
 
@@ -11,6 +11,7 @@ word_longer b c bs h k = rw (h, k) refl
 word_ends : (b c : ℕ) (bs : List ℕ) → is_blank b ≡ false → is_blank c ≡ true → words_of (b ∷ c ∷ bs) ≡ (b ∷ []) ∷ words_of bs
 word_ends b c bs h k = rw (h, k) refl
 
+-- a blank before a text changes none of its words
 blank_passed : (c : ℕ) (bs : List ℕ) → is_blank c ≡ true → words_of (c ∷ bs) ≡ words_of bs
 blank_passed c bs h = rw h refl
 
@@ -20,10 +21,11 @@ words_at_blank [] c bs f h = blank_passed c bs h
 words_at_blank (b ∷ []) c bs f h = word_ends b c bs f.0 h
 words_at_blank (b ∷ d ∷ word) c bs f h = word_longer b d (word ++ c ∷ bs) f.0 f.1.0 ∙ ap (with_first b) (words_at_blank (d ∷ word) c bs f.1 h)
 
+-- a byte alone that is no blank is a word
 last_byte : (b : ℕ) → is_blank b ≡ false → words_of (b ∷ []) ≡ (b ∷ []) ∷ []
 last_byte b h = rw h refl
 
--- a word at the end of the line
+-- bytes without blanks, at the end of the line, are its last word, unless there are none
 pub words_at_end : (word : List ℕ) → Free is_blank word → words_of word ≡ unless_empty word
 words_at_end [] f = refl
 words_at_end (b ∷ []) f = last_byte b f.0

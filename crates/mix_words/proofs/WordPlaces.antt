@@ -13,7 +13,7 @@ pub ends_blank-push : (p : Bool) (xs : List ℕ) (b : ℕ) → ends_blank p (xs 
 ends_blank-push p [] b = refl
 ends_blank-push p (x ∷ xs) b = ends_blank-push (is_blank x) xs b
 
--- whether a blank stands before a place
+-- the text up to and with a byte ends in a blank where that byte is one
 pub blank_before : (line : List ℕ) (i : ℕ) → i < length line → ends_blank true (take (i + 1) line) ≡ is_blank (get_or line i 0)
 blank_before line i h = ap (ends_blank true) (take_more line i 0 h) ∙ ends_blank-push true (take i line) (get_or line i 0)
 
@@ -80,27 +80,27 @@ word_from-found (b ∷ prefix) p n at c rest many blank other =
     place_after p n (begun (is_blank b) prefix) at b (at + length (b ∷ prefix)) (prefix ++ c ∷ rest) (p && not (is_blank b)) refl many
     (word_from-found prefix (is_blank b) (begun (is_blank b) prefix) (at + 1) c rest refl blank other ∙ ap Some (omega arith))
 
--- the place of the word after so many
+-- the word that has n words before it begins after a prefix of n words that ends in a blank or is empty, where no blank follows
 pub place_found : (prefix : List ℕ) (n c : ℕ) (rest : List ℕ) → length (words_of prefix) ≡ n → ends_blank true prefix ≡ true → is_blank c ≡ false
     → place_of_word n (prefix ++ c ∷ rest) ≡ Some (length prefix)
 place_found prefix n c rest many blank other = word_from-found prefix true n 0 c rest (sym (length-words_of prefix) ∙ many) blank other ∙ ap Some (omega arith)
 
--- one byte was looked at, at which no word begins
+-- where no word begins at the first byte, the word that is looked for is looked for from the next byte on
 pub word_from-other : (p : Bool) (n at b : ℕ) (bs : List ℕ) → (p && not (is_blank b)) ≡ false → word_from p n at (b ∷ bs) ≡ word_from (is_blank b) n (at + 1) bs
 word_from-other p zero at b bs e = rw e refl
 word_from-other p (suc n) at b bs e = rw e refl
 
--- one byte was looked at, at which a word begins that has others before it
+-- where a word begins at the first byte and others are passed first, one fewer is passed from the next byte on
 pub word_from-next : (p : Bool) (n at b : ℕ) (bs : List ℕ) → (p && not (is_blank b)) ≡ true → 0 < n → word_from p n at (b ∷ bs) ≡ word_from (is_blank b) (n - 1) (at + 1) bs
 word_from-next p zero at b bs e h = absurd (omega arith)
 word_from-next p (suc n) at b bs e h = let same : suc n - 1 ≡ n = omega arith in rw (e, same) refl
 
--- one byte was looked at, at which the word begins
+-- where a word begins at the first byte and none is passed first, it is the word that is looked for
 pub word_from-here : (p : Bool) (n at b : ℕ) (bs : List ℕ) → (p && not (is_blank b)) ≡ true → n ≡ 0 → word_from p n at (b ∷ bs) ≡ Some at
 word_from-here p zero at b bs e h = rw e refl
 word_from-here p (suc n) at b bs e h = absurd (omega arith)
 
--- the search after a byte at which a word begins that has others before it
+-- a search that passes the word at the first byte finds the same from the next byte on, with one word fewer to pass
 pub looked_next : (line : List ℕ) (at left : ℕ) (p t : Bool) (whole : Option ℕ) → at < length line → t ≡ is_blank (get_or line at 0) → (p && not t) ≡ true → 0 < left
     → word_from p left at (drop at line) ≡ whole → word_from t (left - 1) (at + 1) (drop (at + 1) line) ≡ whole
 looked_next line at left p t whole inside blank begins some h =

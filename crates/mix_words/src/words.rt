@@ -38,18 +38,21 @@ pub fn cut_words(alloc: Global, line: &[u8]) -> Result<Vec<&[u8]>, AllocError>
     Ok(words)
 }
 
+// Whether a byte is an ASCII letter.
 fn is_letter_byte(byte: u8) -> bool
     ensures { result ≡ is_letter byte }
 {
     matches!(byte, b'a'..=b'z' | b'A'..=b'Z')
 }
 
+// Whether a byte may stand in a name after the first: an ASCII letter, a digit or `_`.
 fn is_in_name(byte: u8) -> bool
     ensures { result ≡ is_script_byte byte }
 {
     matches!(byte, b'a'..=b'z' | b'A'..=b'Z' | b'0'..=b'9' | b'_')
 }
 
+// Whether each byte may stand in a name after the first.
 fn are_in_name(bytes: &[u8]) -> bool
     ensures { result ≡ list_all is_script_byte bytes.now }
 {
@@ -66,6 +69,7 @@ pub fn is_script_name(word: &[u8]) -> bool
     }
 }
 
+// Whether an SQL name may begin with a byte: an ASCII letter or `_`.
 fn begins_sql_name(byte: u8) -> bool
     ensures { result ≡ (is_letter byte || byte == 95) }
 {

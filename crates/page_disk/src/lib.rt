@@ -15,6 +15,7 @@ use std::os::unix::fs::FileExt;
 // The furthest byte of a file that the system reads.
 const FURTHEST: usize = (1 << 63) - 1;
 
+// What a disk reads: a file of the system, or a log in memory.
 enum Part {
     // A file of the system, and its length when it was opened.
     Pages(File, usize),
@@ -92,6 +93,7 @@ fn fill(file: &File, from: usize, room: &mut [u8]) -> io::Result<()> {
     Ok(())
 }
 
+// Copies the bytes from an offset on; where fewer are there than room, that is an error.
 fn copy(bytes: &[u8], from: usize, room: &mut [u8]) -> io::Result<()> {
     if from > bytes.len() || room.len() > bytes.len() - from {
         return Err(io::ErrorKind::UnexpectedEof.into());
@@ -100,6 +102,7 @@ fn copy(bytes: &[u8], from: usize, room: &mut [u8]) -> io::Result<()> {
     Ok(())
 }
 
+// Fills the room with the bytes from an offset on; where fewer are there, that is an error.
 fn read(part: &Part, from: usize, room: &mut [u8]) -> io::Result<()> {
     match part {
         Part::Pages(file, _) => fill(file, from, room),
@@ -107,6 +110,7 @@ fn read(part: &Part, from: usize, room: &mut [u8]) -> io::Result<()> {
     }
 }
 
+// Cuts a log to a length, or makes it that long with zeros.
 fn resize(log: &mut Vec<u8>, len: usize) -> Result<(), AllocError>
     ensures len { OnOk result (length log.new.items ≡ len) }
     ensures others { Cut len log.old.items log.new.items }
@@ -114,6 +118,7 @@ fn resize(log: &mut Vec<u8>, len: usize) -> Result<(), AllocError>
     log.resize(len, 0)
 }
 
+// Writes bytes into a log from a place on, and makes it longer where it ends before.
 fn overwrite(log: &mut Vec<u8>, at: usize, bytes: &[u8]) -> Result<(), AllocError>
     ensures written { OnOk result (Holds log.new.items at bytes.now) }
     ensures others { Torn at (length bytes.now) log.old.items log.new.items }
@@ -137,6 +142,7 @@ fn put(part: &mut Part, at: usize, bytes: &[u8]) -> Result<(), AllocError>
     }
 }
 
+// Gives a log another length; a file is refused.
 fn cut(part: &mut Part, len: usize) -> Result<(), AllocError>
     ensures len { OnOk result (length (bytes_in part.new) ≡ len) }
     ensures others { Cut len (bytes_in part.old) (bytes_in part.new) }

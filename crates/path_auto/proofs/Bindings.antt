@@ -18,28 +18,28 @@ use Rattle.path_auto.specs.Law.{BindingsAreMatches, VisitsAreMatches}
 use Rattle.path_auto.specs.Visit.{place_after, visit}
 use Rattle.path_auto.proofs.Automata.{table_follows}
 
--- what a list of one, or of none, holds
+-- a member of a list that holds one place where a test holds, and else none, is that place, and the test holds
 among_one : (a : Bool) (x y : List ℕ) → Among y (cond a (x ∷ []) []) → IsTrue a × (y ≡ x)
 among_one true x y (inl e) = (refl, e)
 among_one true x y (inr h) = absurd h
 among_one false x y h = absurd h
 
--- a list that is taken holds what it does
+-- a member of a list is one of the list that is taken where a test holds, if it does
 among_if : (a : Bool) (xs : List (List ℕ)) (y : List ℕ) → IsTrue a → Among y xs → Among y (cond a xs [])
 among_if true xs y t h = h
 among_if false xs y t h = let f : false ≡ true = t in cc
 
--- what a list holds that is taken if so
+-- a member of a list that is taken where a test holds is one of the list
 among_taken : (a : Bool) (xs : List (List ℕ)) (y : List ℕ) → Among y (cond a xs []) → Among y xs
 among_taken true xs y h = h
 among_taken false xs y h = absurd h
 
--- the binding of an event, and those after it
+-- the bindings of an event and others are that event's, where it is one, and those of the others
 bindings_first : (a : Bool) (x : List ℕ) (es : List (Event (List ℕ))) → without_skips (cond a (bind x) skip ∷ es) ≡ cond a (x ∷ []) [] ++ without_skips es
 bindings_first true x es = refl
 bindings_first false x es = refl
 
--- the bindings of events that are taken if so
+-- the bindings of events that are taken where a test holds are the bindings, taken where it holds
 bindings_if : (a : Bool) (es : List (Event (List ℕ))) → without_skips (cond a es []) ≡ cond a (without_skips es) []
 bindings_if true es = refl
 bindings_if false es = refl
@@ -200,7 +200,7 @@ module _ (m : Machine) where
   accepts_there q (tree x kids later) zero [] e h = h
   accepts_there q (tree x kids later) zero (j ∷ r) e h = accepts_there (m.step q x) kids j r e h
 
-  -- steps by two lists of labels
+  -- steps by one list of labels after another are steps by the first and then by the second
   steps_append : (n : ℕ) (x y : Labels) → steps m n (x ++ y) ≡ steps m (steps m n x) y
   steps_append n [] y = refl
   steps_append n (l ∷ x) y = steps_append (m.step n l) x y

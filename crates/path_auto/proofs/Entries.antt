@@ -57,7 +57,7 @@ same_or i b = by_test (i == b) refl
     by_test true e = inl ((Decides-eqb i b).0 e)
     by_test false e = inr (not_from_Decides (i == b) (Decides-eqb i b) e)
 
--- what leads on from a set of one leads on from that
+-- what leads on from a set of one number leads on from that number
 pub single_is : (T : Way) (b : ℕ) (x : Labels) → Leads T (2 ^ b) x → T b x
 single_is T b x (i, h, t) = elim (same_or i b) [ inl e ↦ subst (λ j. T j x) e t | inr d ↦ zero_one (bit_at (2 ^ b) i) (bit_at-pow_other b i d) h ]
 
@@ -65,7 +65,7 @@ single_is T b x (i, h, t) = elim (same_or i b) [ inl e ↦ subst (λ j. T j x) e
 pub is_single : (T : Way) (b : ℕ) (x : Labels) → T b x → Leads T (2 ^ b) x
 is_single T b x t = (b, bit_at-pow_same b, t)
 
--- the length of positions in two parts
+-- two lists of positions, one after another, are as long as both together
 length_append : (s t : List Position) → length (s ++ t) ≡ length s + length t
 length_append [] t = omega arith
 length_append (a ∷ s) t = omega (arith, length_append s t)

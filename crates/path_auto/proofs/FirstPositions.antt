@@ -88,7 +88,7 @@ pub so_begins : (n : Bool) (s : List Position) (x : Labels) → IsTrue n → Beg
 so_begins true s x h b = b
 so_begins false s x h b = cc
 
--- what begins at positions that are taken if so: they are taken
+-- where labels begin at positions that are taken by a test, the test holds and they begin at the positions
 pub begins_so : (n : Bool) (s : List Position) (x : Labels) → Begins (positions_if n s) x → IsTrue n × Begins s x
 begins_so true s x b = (refl, b)
 begins_so false s x b = absurd b
@@ -154,7 +154,7 @@ nullable_describes (path h m after) one_of n =
 abbrev pub Sound : Paths → Type 0
 Sound m = (w : How) (k : Paths) (x : Labels) → Begins (starts m w k) x → Then (DescribesAs m w) (DescribesAs k in_turn) x
 
--- one repetition more before others
+-- one list that paths describe before repetitions of them, and then what follows, is repetitions and then what follows
 again : (m k : Paths) (x : Labels) → Then (DescribesAs m one_of) (DescribesAs (path star m k) in_turn) x → Then (Then (DescribesAs m one_of) (Many (DescribesAs m one_of))) (DescribesAs k in_turn) x
 again m k x (y, z, e, p, (u, v, d, t, f)) = (y ++ u, v, append_assoc y u v ∙ ap (λ q. y ++ q) d ∙ e, (y, u, refl, p, t), f)
 
@@ -178,7 +178,7 @@ sound_by star m ih k x b = let r = again m k x (ih one_of (path star m k) x b) i
 sound_by plus m ih k x b = again m k x (ih one_of (path star m k) x b)
 sound_by opt m ih k x b = let r = ih one_of k x b in (r.0, r.1, r.2, inr r.3, r.4)
 
--- a path and what follows it in turn
+-- what a head describes, then a path and what follows it in turn, is the head and the path, and then what follows
 sound_turn : (h : Head) (after m k : Paths) (x : Labels) → Then (DescribesBy h (DescribesAs m)) (DescribesAs (path seq after k) in_turn) x → Then (Then (DescribesBy h (DescribesAs m)) (DescribesAs after in_turn)) (DescribesAs k in_turn) x
 sound_turn h after m k x (y, z, e, p, (u, v, d, t, f)) = (y ++ u, v, append_assoc y u v ∙ ap (λ q. y ++ q) d ∙ e, (y, u, refl, p, t), f)
 

@@ -17,15 +17,15 @@ some_in n i h = elim (cases_eq n 0) [
   | inr d ↦ omega arith
 ]
 
--- without the first position, the least is one nearer
+-- half of a set whose least position is not 0 has its least position one nearer
 halved : (n i : ℕ) → IsLeast n (suc i) → IsLeast (n / 2) i
 halved n i h = record { has = sym (bit_at-suc n i) ∙ h.has; below = λ j l. sym (bit_at-suc n j) ∙ h.below (suc j) (omega arith) }
 
--- half of an even number less one
+-- half of a set less one is half of the set, less one, where its least position is not 0
 half_less : (n i : ℕ) → IsLeast n (suc i) → (n - 1) / 2 ≡ n / 2 - 1
 half_less n i h = omega (arith, some_in n (suc i) h, bit_at_lowest n, h.below 0 (omega arith))
 
--- half of an odd number less one
+-- half of a set less one is half of the set, where its least position is 0
 half_odd : (n : ℕ) → IsLeast n 0 → (n - 1) / 2 ≡ n / 2
 half_odd n h = omega (arith, bit_at_lowest n, h.has)
 
@@ -51,7 +51,7 @@ without_is n i h = record {
   ];
 }
 
--- a step from the same positions
+-- a step from two sets with the same positions from a number on gives the same
 step_same : (ts : List (Option (List ℕ))) (rs : List ℕ) (b n m : ℕ) (l : List ℕ) → ((j : ℕ) → b ≤ j → bit_at n j ≡ bit_at m j)
     → step_from ts rs b n l ≡ step_from ts rs b m l
 step_same [] rs b n m l h = refl
@@ -91,7 +91,7 @@ step_parts (t ∷ ts) (r ∷ rs) b (suc k) p n m l e h w =
     ∙ ap (λ c. bit_or (cond (c == 1 && passes t l) r 0) (bit_or (row_at ts rs k l) more)) (sym (w.others b (omega arith)))
     ∙ or_swap (cond (bit_at m b == 1 && passes t l) r 0) (row_at ts rs k l) more
 
--- what has been found and what the rest gives, where the least of its positions is taken
+-- what has been found, with what the least position gives, and what the set without it gives, is what the set gives
 pub step_on : (ts : List (Option (List ℕ))) (rs : List ℕ) (i n m found given : ℕ) (l : List ℕ) → IsLeast n i → IsWithout n i m → given ≡ row_at ts rs i l
     → bit_or (bit_or found given) (step_from ts rs 0 m l) ≡ bit_or found (step_from ts rs 0 n l)
 step_on ts rs i n m found given l h w g =
@@ -107,7 +107,7 @@ row_here (u ∷ ts) [] i t l n h e = absurd (omega arith)
 row_here (u ∷ ts) (r ∷ rs) zero t l n h e = ap (λ v. cond (passes v l) r 0) (sym e)
 row_here (u ∷ ts) (r ∷ rs) (suc i) t l n h e = row_here ts rs i t l (omega arith) (omega arith) e
 
--- after the last position there is nothing to give to a step
+-- after the last position no row is given
 pub row_after : (ts : List (Option (List ℕ))) (rs : List ℕ) (i : ℕ) (l : List ℕ) → length ts ≤ i → row_at ts rs i l ≡ 0
 row_after [] rs i l h = refl
 row_after (u ∷ ts) [] i l h = refl
@@ -122,7 +122,7 @@ above_zero m h = by_test (m == 0) refl
     by_test false e = ap not e
     by_test true e = (let none : m ≡ 0 = (Decides-eqb m 0).0 e in absurd (omega arith))
 
--- a set has a position where it has one in common with the set of that position
+-- a set has a member in common with the set of one position exactly where it has that position
 pub has_position : (n i set : ℕ) → set ≡ 2 ^ i → not (bit_and n set == 0) ≡ (bit_at n i == 1)
 has_position n i set is = by_bit (bit_at n i) refl
   where

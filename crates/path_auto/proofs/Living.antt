@@ -25,7 +25,7 @@ texts_append (l ∷ x) y h k = (h.0, texts_append x y h.1 k)
 abbrev pub Exists : (Labels → Type 0) → Type 0
 Exists P = (x : Labels) × AreTexts x × P x
 
--- what of labels is UTF-8 is said under a premise, under which the labels of the path are
+-- what is UTF-8 of the path's labels is so under a premise, so that it may be left out
 module _ (Texts : Type 0) where
   -- whether there is any list; where there is one, there is one of UTF-8 labels
   abbrev pub Tells : Bool → (Labels → Type 0) → Type 0
@@ -89,7 +89,7 @@ module _ (Texts : Type 0) where
   star_goes : (m k : Paths) (o : Bool) → Goes o k → Goes o (path star m k)
   star_goes m k o g = ((λ t h. let r = g.0 t h in (r.0, r.1, ([], r.0, refl, (0, refl), r.2))), (λ x h. g.1 h.1 h.4))
 
-  -- a sequence before what is to come
+  -- whether any list leads on by a sequence before what is to come is said rightly, where it is of both
   turn_goes : (after k : Paths) (o : Bool) → (Texts → AreUtf8 after) → Goes o k → Goes (some after in_turn && o) (path seq after k)
   turn_goes after k o u g =
       let a = somes after u in_turn in (
@@ -124,7 +124,7 @@ module _ (Texts : Type 0) where
       lives_append (lives_by h (lives m) o) (listed_by h m (listed m) k) (lives after one_of o) (listed after one_of k)
       (live_by h m (λ t. (u t).0) (λ t. (u t).1) (all_live m) k o g) (all_live after (λ t. (u t).2) one_of k o g)
 
--- a UTF-8 label that may stand at a position
+-- at each position some UTF-8 label may stand
 some_label : (t : Option (List ℕ)) → TestUtf8 t → (c : List ℕ) × IsUtf8 c × IsTrue (passes t c)
 some_label None u = ([], IsUtf8-nil, refl)
 some_label (Some l) u = (l, u, same_label l)
@@ -133,11 +133,11 @@ some_label (Some l) u = (l, u, same_label l)
 abbrev pub Longer : (Labels → Type 0) → Type 0
 Longer P = (l : List ℕ) × (y : Labels) × IsUtf8 l × AreTexts y × P (l ∷ y)
 
--- a set and the set of those positions have a member in common
+-- two sets have a member in common
 abbrev pub Meet : ℕ → ℕ → Type 0
 Meet n m = (i : ℕ) × (bit_at n i ≡ 1) × (bit_at m i ≡ 1)
 
--- the member of a set of one
+-- a list of labels leads on from the one member of a set
 abbrev Is : ℕ → ℕ → Labels → Type 0
 Is n i x = bit_at n i ≡ 1
 
@@ -153,12 +153,12 @@ meet_left n a b (i, h, k) = let r = union_left (Is n) a b [] (i, k, h) in (r.0, 
 meet_right : (n a b : ℕ) → Meet n b → Meet n (bit_or a b)
 meet_right n a b (i, h, k) = let r = union_right (Is n) a b [] (i, k, h) in (r.0, r.2, r.1)
 
--- where the set meets a set of at most one
+-- where a set meets a set of at most one number, there is that number, and the set has it
 here_meets : (o : Bool) (n b : ℕ) → Meet n (cond o (2 ^ b) 0) → IsTrue o × (bit_at n b ≡ 1)
 here_meets true n b (i, h, k) = (refl, single_is (Is n) b [] (i, k, h))
 here_meets false n b (i, h, k) = empty_leads (Is n) [] (i, k, h)
 
--- a set with the number meets the set of it
+-- a set that has a number meets the set of that number
 meets_here : (o : Bool) (n b : ℕ) → IsTrue o → bit_at n b ≡ 1 → Meet n (cond o (2 ^ b) 0)
 meets_here true n b t h = let r = is_single (Is n) b [] h in (r.0, r.2, r.1)
 meets_here false n b t h = let f : false ≡ true = t in cc

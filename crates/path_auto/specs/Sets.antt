@@ -52,7 +52,7 @@ From (s ∷ ss) (suc i) x = From ss i x
 abbrev pub Leads : (ℕ → Labels → Type 0) → ℕ → Labels → Type 0
 Leads T n x = (i : ℕ) × (bit_at n i ≡ 1) × T i x
 
--- from number b on, what leads to the end is what these positions take
+-- what leads to the end from number b is what the first of given positions takes, from b + 1 what the next one takes, and so on
 abbrev pub Located : (ℕ → Labels → Type 0) → ℕ → List Position → Type 0
 Located T b [] = Unit {0}
 Located T b (s ∷ ss) = ((x : Labels) → T b x ↔ Takes s x) × Located T (b + 1) ss

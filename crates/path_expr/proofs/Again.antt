@@ -200,7 +200,7 @@ paths_again : (ps : form.Paths) → form.paths_of (forms_of ps) ≡ ps
 paths_again form.none = refl
 paths_again (form.path h m after) = ap (form.path h m) (paths_again after)
 
--- parentheses leave no trace
+-- a path in parentheses means what it means without them
 wrapped_value : (c : Bool) (p : Spelled) → valued.value_of (cond c (group p) p) ≡ valued.value_of p
 wrapped_value true p = refl
 wrapped_value false p = refl
@@ -253,7 +253,7 @@ dots_good (m ∷ ms) (f ∷ fs) gs p a h =
     let one : Dots (dot p w) (gs ++ f ∷ []) = record { is = (h.is, seq_part m.head m.spelled a.0.is); dots = all; value = ap (form.joined form.seq) all } in
     subst (Dots (dots_from (dot p w) ms)) (append_assoc gs (f ∷ []) fs) (dots_good ms fs (gs ++ f ∷ []) (dot p w) a.1 one)
 
--- members with dots between them
+-- members that mean paths, with dots between them, are a sequence of those paths
 dots_all : (m : Part) (ms : List Part) (f : form.Form) (fs : List form.Form) → AllGood (m ∷ ms) (f ∷ fs) → Dots (dots (m ∷ ms)) (f ∷ fs)
 dots_all m ms f fs a =
     let w : Spelled = wrapped wraps_in_seq m in
@@ -279,7 +279,7 @@ bars_good (m ∷ ms) (f ∷ fs) gs p a h =
     let one : Bars (bar p w) (gs ++ f ∷ []) = record { is = (h.is, alt_part m.head m.spelled a.0.is); bars = all; value = ap (form.joined form.alt) all } in
     subst (Bars (bars_from (bar p w) ms)) (append_assoc gs (f ∷ []) fs) (bars_good ms fs (gs ++ f ∷ []) (bar p w) a.1 one)
 
--- members with bars between them
+-- members that mean paths, with bars between them, are a choice of those paths
 bars_all : (m : Part) (ms : List Part) (f : form.Form) (fs : List form.Form) → AllGood (m ∷ ms) (f ∷ fs) → Bars (bars (m ∷ ms)) (f ∷ fs)
 bars_all m ms f fs a =
     let w : Spelled = wrapped wraps_in_alt m in

@@ -10,7 +10,7 @@ use Rattle.path_expr.specs.Form as form
 use Rattle.path_expr.specs.Labels.{HeadUtf8, AreUtf8}
 use Rattle.path_expr.specs.Canonical.{is_plain_name, canon_label, Member, wraps_in_seq, wraps_in_alt, wraps_in_mark, canon_member, canon_rest, canon_between, canon_only, canon_by, members_of, canon, parenthesized}
 
--- one byte's escape before others
+-- a UTF-8 text stays UTF-8 where a byte of it, and all bytes after that, are written with their escapes
 escaped_one : (u : List ℕ) (b : ℕ) (l : List ℕ) → IsUtf8 (u ++ b ∷ l) → IsUtf8 ((u ++ b ∷ []) ++ flat_map escaped l) → (IsUtf8 l → IsUtf8 (flat_map escaped l)) → IsUtf8 (u ++ (escaped b ++ flat_map escaped l))
 escaped_one u b l h next rest = by_cases (b == 34) (b == 92) (b == 10) (b == 9) refl refl refl refl
   where
@@ -33,11 +33,11 @@ escaped_all : (u l : List ℕ) → IsUtf8 (u ++ l) → IsUtf8 (u ++ flat_map esc
 escaped_all u [] h = h
 escaped_all u (b ∷ l) h = escaped_one u b l h (escaped_all (u ++ b ∷ []) l (subst IsUtf8 (sym (append_assoc u (b ∷ []) l)) h)) (escaped_all [] l)
 
--- ASCII bytes around a text
+-- a UTF-8 text with an ASCII byte on each side is UTF-8
 around : (a b : ℕ) (x : List ℕ) → a < 128 → b < 128 → IsUtf8 x → IsUtf8 (a ∷ x ++ b ∷ [])
 around a b x h k u = IsUtf8-append (a ∷ []) (x ++ b ∷ []) (one_utf8 a h) (utf8_push x b k u)
 
--- a label as the canonical text has it
+-- a UTF-8 label as the canonical text has it is UTF-8
 label_canon : (l : List ℕ) → IsUtf8 l → IsUtf8 (canon_label l)
 label_canon l u = by_case (is_plain_name l)
   where
@@ -45,7 +45,7 @@ label_canon l u = by_case (is_plain_name l)
     by_case true = u
     by_case false = around 34 34 (flat_map escaped l) (omega arith) (omega arith) (escaped_all [] l u)
 
--- the canonical text of such paths is UTF-8
+-- each of these members has a UTF-8 canonical text
 abbrev AllText : List Member → Type 0
 AllText [] = Unit {0}
 AllText (m ∷ ms) = IsUtf8 m.text × AllText ms
@@ -65,7 +65,7 @@ rest_utf8 wraps b (m ∷ ms) h u =
     IsUtf8-append (b ∷ []) (canon_member wraps m ++ canon_rest wraps b ms) (one_utf8 b h)
     (IsUtf8-append (canon_member wraps m) (canon_rest wraps b ms) (member_utf8 wraps m u.0) (rest_utf8 wraps b ms h u.1))
 
--- members with a separator between them
+-- members with an ASCII separator between them are UTF-8, where their texts are
 between_utf8 : (wraps : form.Head → Bool) (b : ℕ) (ms : List Member) → b < 128 → AllText ms → IsUtf8 (canon_between wraps b ms)
 between_utf8 wraps b [] h u = IsUtf8-nil
 between_utf8 wraps b (m ∷ ms) h u = IsUtf8-append (canon_member wraps m) (canon_rest wraps b ms) (member_utf8 wraps m u.0) (rest_utf8 wraps b ms h u.1)

@@ -28,7 +28,7 @@ scan_deep (b ∷ x) i s = after_scan i (scan_deep x (i + 1)) (shape_step s b)
 not_deep : (n i : ℕ) → n ≤ 100 → deep_here n i ≡ None
 not_deep n i h = let e : nat_lt 100 n ≡ false = grind (arith, nat_tests) in ap (λ c. cond c (Some i) None) e
 
--- a byte that opens and closes nothing
+-- a scan goes past a byte that opens and closes no parenthesis, and finds what it finds from the next byte on
 flat : (b : ℕ) (x : List ℕ) (i n : ℕ) (s t : Stage) → n ≤ 100 → shape_in n s b ≡ Some (shape n t) → scan_deep (b ∷ x) i (shape n s) ≡ scan_deep x (i + 1) (shape n t)
 flat b x i n s t h e = ap (after_scan i (scan_deep x (i + 1))) e ∙ ap (λ d. first_of d (scan_deep x (i + 1) (shape n t))) (not_deep n i h)
 
@@ -40,7 +40,7 @@ name_deep (b ∷ l) y i n m h =
     let e : i + 1 + length l ≡ i + length (b ∷ l) = omega arith in
     flat b (l ++ y) i n Naming Naming m (rw parts.0 refl) ∙ name_deep l y (i + 1) n m parts.1 ∙ ap (λ k. scan_deep y k (shape n Naming)) e
 
--- a byte that stands for itself inside quotes
+-- a scan inside quotes goes past a byte that stands for itself, and is still inside quotes
 plain_step : (b n : ℕ) → IsTrue (is_plain b) → shape_in n Quoting b ≡ Some (shape n Quoting)
 plain_step b n h = by_cases (b == 34) (b == 92) h
   where
@@ -219,19 +219,19 @@ pub whole_deep : (x : List ℕ) (p : Spelled) → Writes x p → scan_deep x 0 (
 whole_deep x p h =
     ap (λ r. scan_deep r 0 (shape 0 Start)) (sym h.1 ∙ sym (append_nil (text_of p))) ∙ finds p a_path h.0 [] 0 0 (omega arith) ∙ first_none (deep_at p)
 
--- what is found up to a byte and after it
+-- the first place up to and with a byte, and then after it, is the first one of a scan that stood before the byte
 pub deep_next : (x : List ℕ) (at : ℕ) (s t : Scan) (deep : Option ℕ) → at < length x → shape_step s (slice_index x at) ≡ Some t
     → first_of (first_of deep (deep_here t.depth at)) (scan_deep (drop (at + 1) x) (at + 1) t) ≡ first_of deep (scan_deep (drop at x) at s)
 deep_next x at s t deep within e =
     sym (first_assoc deep (deep_here t.depth at) (scan_deep (drop (at + 1) x) (at + 1) t))
     ∙ ap (first_of deep) (sym (ap (λ r. scan_deep r at s) (drop_more x at 0 within) ∙ ap (after_scan at (scan_deep (drop (at + 1) x) (at + 1))) e))
 
--- two places of which the first is none are none
+-- where the first of two places is none, both are
 both_none : (a b : Option ℕ) → first_of a b ≡ None → (a ≡ None) × (b ≡ None)
 both_none None b e = (refl, e)
 both_none (Some a) b e = none_some a (sym e)
 
--- where there is no such parenthesis, no more than 100 are open at once
+-- where no parenthesis of a written path is open inside 100 others, no more than 100 are open at once
 pub none_nests : (p : Spelled) (n i : ℕ) → n ≤ 100 → deep_from n i p ≡ None → n + nesting p ≤ 100
 none_nests (word l) n i h e = omega (arith, h)
 none_nests (quote ps) n i h e = omega (arith, h)
@@ -250,7 +250,7 @@ none_nests (bar p q) n i h e =
     let both = both_none (deep_from n i p) (deep_from n (i + length (text_of p) + 1) q) e in
     omega (arith, none_nests p n i h both.0, none_nests q n (i + length (text_of p) + 1) h both.1)
 
--- where no more than 100 are open at once, there is no such parenthesis
+-- where no more than 100 parentheses of a written path are open at once, none is open inside 100 others
 pub nests_none : (p : Spelled) (n i : ℕ) → n + nesting p ≤ 100 → deep_from n i p ≡ None
 nests_none (word l) n i h = refl
 nests_none (quote ps) n i h = refl

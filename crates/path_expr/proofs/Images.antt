@@ -45,31 +45,31 @@ bars_of_sequence (marked p m) h = refl
 bars_of_sequence (dot p q) h = refl
 bars_of_sequence (bar p q) h = absurd h
 
--- the members of a sequence with one more
+-- the members of a sequence with one more are the values of its members and of that one
 seq_dots : (d : Option Spelled) (p : Spelled) → Is p a_repeat → (valued.read (seq_with d p)).dots ≡ building.dots_in d ++ valued.value_of p ∷ []
 seq_dots None p h = dots_of_repeat p h
 seq_dots (Some q) p h = refl
 
--- the value of a sequence with one more
+-- a sequence with one member more means the sequence of its members' values and that one's
 seq_value : (d : Option Spelled) (p : Spelled) → valued.value_of (seq_with d p) ≡ form.joined form.seq (building.dots_in d ++ valued.value_of p ∷ [])
 seq_value None p = refl
 seq_value (Some q) p = refl
 
--- the members of a choice with one more
+-- the members of a choice with one more are the values of its members and of that one
 path_bars : (d : Option Spelled) (p : Spelled) → Is p a_sequence → (valued.read (path_with d p)).bars ≡ building.bars_in d ++ valued.value_of p ∷ []
 path_bars None p h = bars_of_sequence p h
 path_bars (Some q) p h = refl
 
--- the value of a choice with one more
+-- a choice with one member more means the choice of its members' values and that one's
 path_value : (d : Option Spelled) (p : Spelled) → valued.value_of (path_with d p) ≡ form.joined form.alt (building.bars_in d ++ valued.value_of p ∷ [])
 path_value None p = refl
 path_value (Some q) p = refl
 
--- the value of the path at hand
+-- the path at hand means what the machine with values has at hand
 value_in : (f : Frame) (p : Spelled) → valued.value_of (path_in f p) ≡ building.path_in (building.level_of f) (valued.value_of p)
 value_in f p = path_value f.bars (seq_with f.dots p) ∙ ap (λ w. form.joined form.alt (building.bars_in f.bars ++ w ∷ [])) (seq_value f.dots p)
 
--- the members of a choice with the sequence at hand
+-- the choice at hand has as its members those before the last bar, and the sequence at hand
 bars_with : (f : Frame) (p : Spelled) → IsFrame f → Is p a_repeat → (valued.read (path_in f p)).bars ≡ building.bars_in f.bars ++ building.seq_in (building.level_of f) (valued.value_of p) ∷ []
 bars_with f p h k = path_bars f.bars (seq_with f.dots p) (seq_with_is f.dots p h.1 k) ∙ ap (λ w. building.bars_in f.bars ++ w ∷ []) (seq_value f.dots p)
 
@@ -79,18 +79,18 @@ label-push [] q = refl
 label-push (plain b ∷ ps) q = ap (λ r. b ∷ r) (label-push ps q)
 label-push (escape b ∷ ps) q = ap (λ r. escaped_byte b ∷ r) (label-push ps q)
 
--- a closing parenthesis, with values
+-- a closing parenthesis does to the values what it does to what is written
 close_value : (f : Frame) (o : List Frame) (p : Spelled) → option_map building.values_of (close o (path_in f p)) ≡ building.close (building.levels_of o) (building.path_in (building.level_of f) (valued.value_of p))
 close_value f [] p = refl
 close_value f (g ∷ o) p = ap (λ w. Some (building.at (building.level_of g) (building.levels_of o) (building.past_atom w))) (value_in f p)
 
--- a byte that ends a member, with values
+-- a byte that ends a member does to the values what it does to what is written
 repeat_value : (f : Frame) (o : List Frame) (p : Spelled) (b : ℕ) → IsFrame f → Is p a_repeat → option_map building.values_of (after_repeat f o p b) ≡ building.after_repeat (building.level_of f) (building.levels_of o) (valued.value_of p) b
 repeat_value f o p b h k =
     either (b == 46) _ _ _ _ (ap (λ ds. Some (building.at (building.level (building.bars_in f.bars) ds) (building.levels_of o) building.start)) (seq_dots f.dots p k))
     (either (b == 124) _ _ _ _ (ap (λ bs. Some (building.at (building.level bs []) (building.levels_of o) building.start)) (bars_with f p h k)) (either (b == 41) _ _ _ _ (close_value f o p) refl))
 
--- a byte that marks an atom or ends it, with values
+-- a byte that marks an atom or ends it does to the values what it does to what is written
 atom_value : (f : Frame) (o : List Frame) (p : Spelled) (b : ℕ) → IsFrame f → Is p an_atom → option_map building.values_of (after_atom f o p b) ≡ building.after_atom (building.level_of f) (building.levels_of o) (valued.value_of p) b
 atom_value f o p b h k = either (is_mark b) _ _ _ _ refl (repeat_value f o p b h (repeat_of_atom p k))
 
@@ -104,7 +104,7 @@ step_value x f o (escaping ps) b h = either (is_escape b) _ _ _ _ (ap (λ l. Som
 step_value x f o (past_atom p) b h = atom_value f o p b h.here h.mode
 step_value x f o (past_repeat p) b h = repeat_value f o p b h.here h.mode
 
--- the last member, with values
+-- the member at hand may end in both machines or in none, with that member's value in the one with values
 repeat_in_value : (m : Mode) → option_map valued.value_of (repeat_in m) ≡ building.repeat_in (building.mode_of m)
 repeat_in_value start = refl
 repeat_in_value (naming l) = refl
@@ -113,13 +113,13 @@ repeat_in_value (escaping ps) = refl
 repeat_in_value (past_atom p) = refl
 repeat_in_value (past_repeat p) = refl
 
--- the path where no parenthesis is open, with values
+-- where no parenthesis is open, the machine with values has the value of the path that may end
 whole_in_value : (f : Frame) (o : List Frame) (r : Option Spelled) → option_map valued.value_of (whole_in f o r) ≡ building.whole_in (building.level_of f) (building.levels_of o) (option_map valued.value_of r)
 whole_in_value f [] None = refl
 whole_in_value f [] (Some p) = ap Some (value_in f p)
 whole_in_value f (g ∷ o) r = refl
 
--- the path that has been read, with values
+-- the path that has been read, in the machine with values, is the value of that of the machine
 whole_value : (s : State) → option_map valued.value_of (whole s) ≡ building.whole (building.values_of s)
 whole_value s = whole_in_value s.here s.outer (repeat_in s.mode) ∙ ap (building.whole_in (building.level_of s.here) (building.levels_of s.outer)) (repeat_in_value s.mode)
 

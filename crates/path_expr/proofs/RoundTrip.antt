@@ -25,7 +25,7 @@ part_of f = record { head = f.head; spelled = spelled_as f }
 abbrev inner : (form.Head → Bool) → form.Form → ℕ
 inner wraps f = nesting (wrapped wraps (part_of f))
 
--- no head stands in parentheses
+-- no head stands in parentheses: as of a path by itself
 abbrev never : form.Head → Bool
 never h = false
 
@@ -85,11 +85,11 @@ alt_under_seq form.star e = e
 alt_under_seq form.plus e = e
 alt_under_seq form.opt e = e
 
--- nothing stands in parentheses nowhere
+-- from a head that stands in parentheses where none does, anything follows
 never_holds : (h : form.Head) (b : Bool) → IsTrue (never h) → IsTrue b
 never_holds h b e = cc
 
--- one pair of parentheses more
+-- a path that fits by itself up to a depth fits in parentheses, one deeper
 one_pair : (wraps : form.Head → Bool) (n : ℕ) (f : form.Form) → Fits never n f → Fits wraps (1 + n) f
 one_pair wraps n f h = record { formed = h.formed; head = h.head; members = h.members; nests = by_case (wraps f.head) h.nests }
   where
@@ -97,12 +97,12 @@ one_pair wraps n f h = record { formed = h.formed; head = h.head; members = h.me
     by_case true h = omega (arith, h)
     by_case false h = omega (arith, h)
 
--- members of a sequence, and of a choice
+-- the depth bound holds for a sequence that goes on with members that fit in it
 dots_nest : (p : Spelled) (fs : List form.Form) (n : ℕ) → nesting p ≤ n → AllFit wraps_in_seq n fs → nesting (dots_from p (parts_of (form.paths_of fs))) ≤ n
 dots_nest p [] n h k = h
 dots_nest p (f ∷ fs) n h k = dots_nest (dot p (wrapped wraps_in_seq (part_of f))) fs n (omega (arith, h, k.0.nests)) k.1
 
--- the bound holds for a choice of members
+-- the depth bound holds for a choice that goes on with members that fit in it
 bars_nest : (p : Spelled) (fs : List form.Form) (n : ℕ) → nesting p ≤ n → AllFit wraps_in_alt n fs → nesting (bars_from p (parts_of (form.paths_of fs))) ≤ n
 bars_nest p [] n h k = h
 bars_nest p (f ∷ fs) n h k = bars_nest (bar p (wrapped wraps_in_alt (part_of f))) fs n (omega (arith, h, k.0.nests)) k.1
@@ -117,7 +117,7 @@ all_utf8 : (wraps : form.Head → Bool) (n : ℕ) (fs : List form.Form) → AllF
 all_utf8 wraps n [] h = tt
 all_utf8 wraps n (f ∷ fs) h = (h.0.head, h.0.members, all_utf8 wraps n fs h.1)
 
--- a sequence of two or more
+-- a sequence of two members or more that fit in it fits in a choice
 two_seq : (n : ℕ) (f g : form.Form) (fs : List form.Form) → AllFit wraps_in_seq n (f ∷ g ∷ fs) → Fits wraps_in_alt n (form.joined form.seq (f ∷ g ∷ fs))
 two_seq n f g fs h = record {
   formed = (tt, all_formed wraps_in_seq n (f ∷ g ∷ fs) h);
@@ -135,13 +135,13 @@ two_alt n f g fs h = record {
   nests = bars_nest (wrapped wraps_in_alt (part_of f)) (g ∷ fs) n h.0.nests h.1;
 }
 
--- a sequence with one member more
+-- a sequence that is not empty, with one member more, fits in a choice, where all members fit in the sequence
 seq_fits : (n : ℕ) (fs : List form.Form) (f : form.Form) → 0 < length fs → AllFit wraps_in_seq n (fs ++ f ∷ []) → Fits wraps_in_alt n (form.joined form.seq (fs ++ f ∷ []))
 seq_fits n [] f h k = absurd (omega arith)
 seq_fits n (g ∷ []) f h k = two_seq n g f [] k
 seq_fits n (g ∷ i ∷ fs) f h k = two_seq n g i (fs ++ f ∷ []) k
 
--- a choice with one member more
+-- a choice that is not empty, with one member more, fits by itself, where all members fit in the choice
 alt_fits : (n : ℕ) (fs : List form.Form) (f : form.Form) → 0 < length fs → AllFit wraps_in_alt n (fs ++ f ∷ []) → Fits never n (form.joined form.alt (fs ++ f ∷ []))
 alt_fits n [] f h k = absurd (omega arith)
 alt_fits n (g ∷ []) f h k = two_alt n g f [] k
@@ -188,7 +188,7 @@ path_of p i h =
       value = fewer wraps_in_alt never (nesting p) (valued.value_of p) (never_holds (valued.value_of p).head (wraps_in_alt (valued.value_of p).head)) h.value;
     }
 
--- a repeat as each kind but an atom
+-- a repeat that fits in a sequence fits as each kind but an atom
 from_repeat : (k : Kind) (p : Spelled) → Is p a_repeat → (k ≡ an_atom → ⊥) → Fits wraps_in_seq (nesting p) (valued.value_of p) → KindFits k p
 from_repeat a_path p i n h = path_of p (sequence_of_repeat p i) (seq_of p i h)
 from_repeat a_sequence p i n h = seq_of p i h

@@ -78,7 +78,7 @@ scan_prefix_at x s (Some t) u r e = run_prefix x t u r
 pub scan_prefix : (x : List ℕ) (s : Scan) → IsUtf8 x → ScansTo x s → IsPrefix Spells x
 scan_prefix x s u e = scan_prefix_at x s (run first x) u refl e
 
--- what a byte that is not ASCII is not
+-- a byte is none of the ASCII bytes of a path's text: of names, quotes, backslashes, parentheses, dots, bars, marks, escapes
 pub record IsHigh (b : ℕ) : Type 0 where
   pub name : is_name_byte b ≡ false
   pub quote : (b == 34) ≡ false
@@ -90,7 +90,7 @@ pub record IsHigh (b : ℕ) : Type 0 where
   pub mark : is_mark b ≡ false
   pub escape : is_escape b ≡ false
 
--- each byte from 128 on is such
+-- a byte from 128 on is none of the ASCII bytes of a path's text
 pub is_high : (b : ℕ) → 128 ≤ b → IsHigh b
 is_high b h = record {
   name = grind (arith, nat_tests);
@@ -189,6 +189,6 @@ is_whole_at x s (Some t) r e = ap (λ u. is_some (option_and_then whole u)) r �
 pub scan_whole : (x : List ℕ) (s : Scan) → ScansTo x s → is_whole s ≡ true → (p : Spelled) × Writes x p
 scan_whole x s e w = found x (read_of x) refl (is_whole_at x s (run first x) refl e ∙ w)
 
--- where it may not end, the text is cut
+-- where a scan may not end after a text, the text is a proper prefix of a path's text
 pub scan_cut : (x : List ℕ) (s : Scan) → IsUtf8 x → ScansTo x s → is_whole s ≡ false → IsCut Spells x
 scan_cut x s u e w = record { prefix = scan_prefix x s u e; none = λ v (p, h, k). not_found x (read_of x) refl (is_whole_at x s (run first x) refl e ∙ w) p h }

@@ -122,7 +122,7 @@ inside-push [] q = refl
 inside-push (plain b ∷ ps) q = ap (λ r. b ∷ r) (inside-push ps q)
 inside-push (escape b ∷ ps) q = ap (λ r. 92 ∷ b ∷ r) (inside-push ps q)
 
--- a byte more after what the mode writes
+-- a byte that the next mode writes after what the mode has written is one more of the state's text
 more : (x : List ℕ) (f : Frame) (o : List Frame) (m n : Mode) (b : ℕ) → Stands x f o m → IsMode n → mode_text n ≡ mode_text m ++ b ∷ [] → Stands (x ++ b ∷ []) f o n
 more x f o m n b h k e = record {
   here = h.here;
@@ -145,7 +145,7 @@ opened x f o h = record {
   text = append_nil _ ∙ sym (append_assoc (outer_text o) (frame_text f) (40 ∷ [])) ∙ ap (λ r. (outer_text o ++ r) ++ 40 ∷ []) (sym (append_nil (frame_text f))) ∙ ap (λ r. r ++ 40 ∷ []) h.text;
 }
 
--- what a choice gives, where both of its sides give it
+-- the state after the first byte of a member is well formed, and writes that byte more
 begin_stands : (x : List ℕ) (f : Frame) (o : List Frame) (b : ℕ) → Stands x f o start → Gives (StandsAt (x ++ b ∷ [])) (begin f o b)
 begin_stands x f o b h =
     either _ (is_name_byte b) _ _ (λ p. more x f o start (naming (b ∷ [])) b h (and_both (is_name_byte b) true p refl, omega arith) refl)
@@ -286,7 +286,7 @@ ended x f o (escaping ps) p e h = none_some p e
 ended x f o (past_atom q) p e h = subst (Ended x f o a_repeat) (some_is _ _ e) (record { here = h.here; outer = h.outer; is = repeat_of_atom q h.mode; text = h.text })
 ended x f o (past_repeat q) p e h = subst (Ended x f o a_repeat) (some_is _ _ e) (record { here = h.here; outer = h.outer; is = h.mode; text = h.text })
 
--- the path that ends there writes the text, from an option
+-- where a member may end and no parenthesis is open, the path that ends there writes the text; from an option
 whole_ended : (x : List ℕ) (f : Frame) (o : List Frame) (r : Option Spelled) (p : Spelled) → ((q : Spelled) → r ≡ Some q → Ended x f o a_repeat q) → whole_in f o r ≡ Some p → Writes x p
 whole_ended x f [] None p h e = none_some p e
 whole_ended x f [] (Some q) p h e =
@@ -298,7 +298,7 @@ whole_ended x f (g ∷ o) r p h e = none_some p e
 pub whole_writes : (x : List ℕ) (s : State) (p : Spelled) → StandsAt x s → whole s ≡ Some p → Writes x p
 whole_writes x s p h e = whole_ended x s.here s.outer (repeat_in s.mode) p (λ q k. ended x s.here s.outer s.mode q k h) e
 
--- what is read writes the text, from an option
+-- the path that is read from a state which writes the text writes it; from an option
 read_from : (x : List ℕ) (s : Option State) (p : Spelled) → Gives (StandsAt x) s → option_and_then whole s ≡ Some p → Writes x p
 read_from x None p h e = none_some p e
 read_from x (Some s) p h e = whole_writes x s p h e

@@ -48,7 +48,7 @@ IsAscii-name (x ∷ xs) h (suc i) = IsAscii-name xs (and_parts (is_name_byte x) 
 pub name_utf8 : (xs : List ℕ) → IsTrue (list_all is_name_byte xs) → IsUtf8 xs
 name_utf8 xs h = IsUtf8-from_ascii xs (IsAscii-name xs h)
 
--- between two quotes of a UTF-8 text
+-- the label between two quotes of a UTF-8 text is UTF-8
 pub quoted_utf8 : (a b rest : List ℕ) (ps : List Piece) → ArePieces ps → IsUtf8 ((a ++ (b ++ 34 ∷ inside_quotes ps)) ++ 34 ∷ rest) → IsUtf8 (meaning ps)
 quoted_utf8 a b rest ps q h =
     let all = utf8_split (a ++ (b ++ 34 ∷ inside_quotes ps)) rest 34 (omega arith) h in

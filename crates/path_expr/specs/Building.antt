@@ -83,7 +83,7 @@ step_in f o (past_repeat p) b = after_repeat f o p b
 abbrev pub step : State → ℕ → Option State
 step s b = step_in s.here s.outer s.mode b
 
--- the last member, where it may end there
+-- the member at hand, where it may end in the mode
 abbrev pub repeat_in : Mode → Option Form
 repeat_in start = None
 repeat_in (naming l) = Some (word_form l)
@@ -98,7 +98,7 @@ whole_in f [] (Some p) = Some (path_in f p)
 whole_in f [] None = None
 whole_in f (g ∷ o) m = None
 
--- the path that has been read, where it may end there
+-- the path that has been read, where it may end in the state
 abbrev pub whole : State → Option Form
 whole s = whole_in s.here s.outer (repeat_in s.mode)
 
@@ -116,7 +116,7 @@ bars_in (Some p) = (read p).bars
 abbrev pub level_of : machine.Frame → Level
 level_of f = level (bars_in f.bars) (dots_in f.dots)
 
--- the values of each of these frames
+-- the values of each of some frames, in order
 abbrev pub levels_of : List machine.Frame → List Level
 levels_of [] = []
 levels_of (f ∷ o) = level_of f ∷ levels_of o

@@ -55,12 +55,12 @@ paths_from [] = []
 paths_from (None ∷ codes) = none ∷ paths_from codes
 paths_from (Some head ∷ codes) = with_head head (paths_from codes)
 
--- the first of these lists of paths, or none
+-- the first of some lists of paths; no paths where there is none
 abbrev pub first_paths : List Paths → Paths
 first_paths [] = none
 first_paths (p ∷ rest) = p
 
--- three lists one after another
+-- of three lists, the first two or the last two may be joined first
 append_assoc' : (a b c : List (Option Head)) → (a ++ b) ++ c ≡ a ++ (b ++ c)
 append_assoc' [] b c = refl
 append_assoc' (x ∷ a) b c = ap (λ r. x ∷ r) (append_assoc' a b c)

@@ -36,7 +36,7 @@ joined h (p ∷ q ∷ ps) = record { head = h; members = paths_of (p ∷ q ∷ p
 abbrev pub repeated : Head → Form → Form
 repeated h p = record { head = h; members = paths_of (p ∷ []) }
 
--- how many labels stand in it, and _
+-- how many label positions a head has itself: one for a label or _, else none
 abbrev pub head_positions : Head → ℕ
 head_positions (name l) = 1
 head_positions any = 1

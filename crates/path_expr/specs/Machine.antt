@@ -91,7 +91,7 @@ step s b = step_in s.here s.outer s.mode b
 abbrev pub run : State → List ℕ → Option State
 run = run_by step
 
--- the last member, where it may end there
+-- the member at hand, where it may end in the mode
 abbrev pub repeat_in : Mode → Option Spelled
 repeat_in start = None
 repeat_in (naming l) = Some (word l)
@@ -106,7 +106,7 @@ whole_in f [] (Some p) = Some (path_in f p)
 whole_in f [] None = None
 whole_in f (g ∷ o) m = None
 
--- the path that has been read, where it may end there
+-- the path that has been read, where it may end in the state
 abbrev pub whole : State → Option Spelled
 whole s = whole_in s.here s.outer (repeat_in s.mode)
 

@@ -270,7 +270,7 @@ fn build_quoting(
     Ok(Some(Builder { here, outer, spot }))
 }
 
-/// The builder after one more byte; none where no text goes on so.
+/// The builder after one more byte; `None` where no path's text goes on with it.
 pub fn build_byte(alloc: Global, builder: Builder, byte: u8) -> Result<Option<Builder>, AllocError>
     requires { AreUtf8 builder.spot byte }
     ensures { Builds result (step (state_in builder) byte) }
@@ -305,7 +305,7 @@ pub fn build_byte(alloc: Global, builder: Builder, byte: u8) -> Result<Option<Bu
     }
 }
 
-/// The path that has been built; none where no text ends so.
+/// The path that has been built; `None` where no path's text ends there.
 pub fn build_end(alloc: Global, builder: Builder) -> Result<Option<Path>, AllocError>
     requires { AreUtf8Now builder.spot }
     ensures { IfOk result (λ p. p ≡ whole (state_in builder)) }

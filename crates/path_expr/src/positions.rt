@@ -19,7 +19,7 @@ pub fn count_positions(path: &Path) -> usize
     }
 }
 
-// How many they have together.
+// How many label positions some paths have together.
 #[cycle(count)]
 fn count_all(paths: &[Path]) -> usize
     requires { positions_of (paths_of paths.now) < 2 ^ 64 }

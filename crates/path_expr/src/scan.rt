@@ -64,7 +64,7 @@ pub fn is_mark_byte(byte: u8) -> bool
     matches!(byte, b'*' | b'+' | b'?')
 }
 
-/// The scan after one more byte; `None` where no path's text goes on so.
+/// The scan after one more byte; `None` where no path's text goes on with it.
 pub fn scan_byte(scan: Scan, byte: u8) -> Option<Scan>
     requires { scan.depth + 1 < 2 ^ 64 }
     ensures step { result ≡ shape_step scan byte }
@@ -110,7 +110,7 @@ fn scan_after(depth: usize, byte: u8) -> Option<Scan>
     }
 }
 
-/// Whether a path's text may end there.
+/// Whether a path's text may end where the scan stands.
 pub fn may_end_scan(scan: Scan) -> bool
     ensures { result ≡ is_whole scan }
 {

@@ -21,7 +21,7 @@ enum Around {
     Mark,
 }
 
-// Whether a member stands in parentheses there.
+// Whether a member stands in parentheses in what it stands in.
 fn is_wrapped(path: &Path, around: Around) -> bool
     ensures { result ≡ wraps_in around path.now.head }
 {

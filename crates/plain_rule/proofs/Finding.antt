@@ -15,7 +15,7 @@ use Rattle.path_expr.specs.Matches.{labels_down, LeadsTo, AreMatches}
 use Rattle.plain_rule.specs.Found.{Tests, found_in}
 use Rattle.plain_rule.proofs.Deciding.{test_of, tests}
 
--- what a list of one, or of none, holds
+-- a member of a list that holds one place where a test holds, and else none, is that place, and the test holds
 among_one : (a : Bool) (x y : List ℕ) → Among y (cond a (x ∷ []) []) → (a ≡ true) × (y ≡ x)
 among_one true x y (inl e) = (refl, e)
 among_one true x y (inr h) = absurd h
@@ -36,7 +36,7 @@ before_deeper : (p : List ℕ) (i : ℕ) (r : List ℕ) → PlaceBefore p (p ++ 
 before_deeper [] i r = tt
 before_deeper (x ∷ p) i r = inr (refl, before_deeper p i r)
 
--- the index at a list's own prefix
+-- an index is itself and 0 more
 same_index : (k : ℕ) → k ≡ k + 0
 same_index k = omega arith
 
@@ -221,7 +221,7 @@ pub one_match_list : (p : Form) (f : Forest) (start : List ℕ) (xs ys : List (L
 one_match_list p f start xs ys a b =
     same_ascents PlaceBefore places_strict xs ys a.ascending b.ascending (λ y m. (b.exactly y).1 ((a.exactly y).0 m)) (λ y m. (a.exactly y).1 ((b.exactly y).0 m))
 
--- a test is right about what is known otherwise
+-- where a boolean says whether a path describes labels, it is what the path's test says
 pub tested : (p : Form) (test : Labels → Bool) → Tests p test → (x : Labels) (b : Bool) → IsTrue b ↔ Describes p x → b ≡ test x
 tested p test says x true h = sym ((says x).1 (h.0 refl))
 tested p test says x false h = elim (test x) as (λ v. test x ≡ v → false ≡ v) [ true ↦ λ e. (let f : false ≡ true = h.1 ((says x).0 e) in f) | false ↦ λ e. refl ] refl
@@ -232,7 +232,7 @@ pub found_by_test : (p : Form) (f : Forest) (start : List ℕ) (kids : Forest) (
 found_by_test p f start kids xs e h =
     subst (AreMatches p f start) (sym (h (test_of p) (tests p) ∙ ap (found_in (test_of p) [] start 0) e)) (found_are_matches p (test_of p) (tests p) f start)
 
--- one tree more is searched
+-- what is found from a tree of a list on is what is found at it, below it, and from the next one on
 found_first : (test : Labels → Bool) (above : Labels) (p : List ℕ) (i : ℕ) (trees : List LabelledTree) (t : LabelledTree) → i < length trees → t ≡ get_or trees i t
     → found_in test above p i (forest_of (drop i trees))
     ≡ cond (test (above ++ t.label ∷ [])) ((p ++ i ∷ []) ∷ []) [] ++ (found_in test (above ++ t.label ∷ []) (p ++ i ∷ []) 0 t.kids ++ found_in test above p (i + 1) (forest_of (drop (i + 1) trees)))
@@ -240,7 +240,7 @@ found_first test above p i trees t h e =
     let here : drop i trees ≡ t ∷ drop (i + 1) trees = rw (add-one, drop-cons trees i t) (ap (λ (u : LabelledTree). u ∷ drop (suc i) trees) (sym e)) in
     ap (λ ts. found_in test above p i (forest_of ts)) here
 
--- what is found with one tree more
+-- what was found before a tree, with what is found at it and below it, and what is found after it are all that is found
 pub found_next : (test : Labels → Bool) (above labels : Labels) (p below : List ℕ) (i : ℕ) (trees : List LabelledTree) (t : LabelledTree) (label : List ℕ) (some more all : List (List ℕ))
     → i < length trees → t ≡ get_or trees i t → label ≡ t.label → labels ≡ above ++ label ∷ [] → below ≡ p ++ i ∷ []
     → more ≡ some ++ cond (test labels) (below ∷ []) [] → all ≡ more ++ found_in test labels below 0 t.kids

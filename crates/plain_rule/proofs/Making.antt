@@ -22,7 +22,7 @@ pushed ts more t u e f = ap forest_of (e ∙ ap (λ (z : LabelledTree). ts ++ z 
     last [] = refl
     last (t ∷ ts) = ap (tree t.label t.kids) (last ts)
 
--- the trees of one member more
+-- the trees made so far with those of one member more, and those of the rest, are all trees to be made
 pub joined_next : {X : Type 0} (f : X → Forest) (xs : List X) (i : ℕ) (x : X) (some more : Forest) → i < length xs → x ≡ get_or xs i x → more ≡ followed some (f x)
     → followed more (joined f (drop (i + 1) xs)) ≡ followed some (joined f (drop i xs))
 joined_next f xs i x some more h e m =
@@ -42,7 +42,7 @@ instances_before docs force (item.LabelOf v keys) rest bs =
     ap (λ z. followed z (instances docs force rest bs)) (sym (followed-none (joined (shown_first docs label_alone v) (parts docs force keys.items bs))))
 instances_before docs force (item.Element t) rest bs = ap (λ z. followed z (instances docs force rest bs)) (sym (followed-none _))
 
--- the instances of one item more
+-- the instances made so far with those of one item more, and those of the rest, are all instances to be made
 pub instances_next : (docs : Documents) (force : List Key) (items : List Item) (i : ℕ) (x : Item) (bs : List Binding) (some more : Forest) → i < length items → x ≡ get_or items i x
     → more ≡ followed some (instances docs force (item_before x done) bs)
     → followed more (instances docs force (items_of (drop (i + 1) items)) bs) ≡ followed some (instances docs force (items_of (drop i items)) bs)

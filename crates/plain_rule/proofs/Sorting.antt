@@ -34,7 +34,7 @@ put_all-none less (x ∷ xs) = ap (insert_by less x) (put_all-none less xs)
 pub put_whole : {X : Type 0} (less : X → X → Bool) (xs : List X) (n : ℕ) → n ≡ length xs → put_all less (take n xs) [] ≡ sorted_by less xs
 put_whole less xs n e = ap (λ k. put_all less (take k xs) []) e ∙ ap (λ z. put_all less z []) (take-length xs) ∙ put_all-none less xs
 
--- bindings in the order of a rule that orders by a variable
+-- bindings that are sorted by the rule's variable are in the order of the rule
 pub ordered_some : (docs : Documents) (o p : OrderBy) (bs cs : List Binding) (order : Option OrderBy) → o ≡ p → order ≡ Some p → bs ≡ cs
     → sorted_by (λ a b. sorts_before o (label_of docs o.var a) (label_of docs o.var b)) bs ≡ in_order_of docs order cs
 unfolding in_order_of
@@ -43,7 +43,7 @@ ordered_some docs o p bs cs order e f g =
     ∙ ap (λ z. in_order_of docs (Some p) z) g
     ∙ ap (λ z. in_order_of docs z cs) (sym f)
 
--- bindings of a rule that doesn't order
+-- bindings of a rule that doesn't order are in the order of the rule as they stand
 pub ordered_none : (docs : Documents) (bs : List Binding) (order : Option OrderBy) → order ≡ None → bs ≡ in_order_of docs order bs
 unfolding in_order_of
 ordered_none docs bs order e = ap (λ z. in_order_of docs z bs) (sym e)

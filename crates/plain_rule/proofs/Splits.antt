@@ -23,7 +23,7 @@ then_cases P Q l x (m ∷ y, z, e, a, b) =
     let g : y ++ z ≡ x = cc in
     inr (y, z, g, subst (λ k. P (k ∷ y)) f a, b)
 
--- a split after the first label
+-- a list of labels after a first one that splits so, with that label before its first part, splits so with it
 pub then_later : (P Q : Labels → Type 0) (l : List ℕ) (x : Labels) → Then (λ y. P (l ∷ y)) Q x → Then P Q (l ∷ x)
 then_later P Q l x (y, z, e, a, b) = (l ∷ y, z, ap (λ r. l ∷ r) e, a, b)
 
@@ -92,7 +92,7 @@ some_empty P x e = (
 pub both_ways : {A B C : Type 0} → A ↔ B → C ↔ B → A ↔ C
 both_ways f g = ((λ a. g.1 (f.0 a)), (λ c. f.1 (g.0 c)))
 
--- where no index from 1 on splits it, it doesn't begin so
+-- where no index from 1 on splits a list, the list doesn't begin with a list of the kind that has a label
 pub not_begun : (P : Labels → Type 0) (x : Labels) → ((i : ℕ) → i ≤ length x → 0 < i → P (take i x) → Many P (drop i x) → ⊥) → Begins P x → ⊥
 not_begun P x h t = not_then (λ y. (0 < length y) × P y) (Many P) x (λ i s a b. h i s (some_index i a.0) a.1 b) t
   where

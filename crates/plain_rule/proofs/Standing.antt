@@ -27,7 +27,7 @@ document_missing (t ∷ docs) (suc s) h = document_missing docs s (omega arith)
 next_step : (place : List ℕ) (i : ℕ) → i < length place → drop i place ≡ get_or place i 0 ∷ drop (i + 1) place
 next_step place i h = rw (add-one, drop-cons place i 0) refl
 
--- a step to a child that is not there
+-- below a child that is not there, no trees stand
 pub step_missing : (kids : List LabelledTree) (place : List ℕ) (i : ℕ) → i < length place → length kids ≤ get_or place i 0
     → first_kids (trees_at (tree [] (forest_of kids) none) (drop i place)) ≡ none
 step_missing kids place i h k =
@@ -56,7 +56,7 @@ step_there kids place i t h k e =
     ap (λ p. first_kids (trees_at (tree [] (forest_of kids) none) p)) (next_step place i h)
     ∙ below_first (from (get_or place i 0) (forest_of kids)) [] (drop (i + 1) place) t (first_tree-get kids (get_or place i 0) (Some t) (k, e))
 
--- the label of the first tree
+-- the label of the first tree, where there is one, is the label of the trees' first
 pub label_of_some : (f : Forest) (t : LabelledTree) → Some t ≡ first_tree f → t.label ≡ label_of_first f
 label_of_some none t e = cc
 label_of_some (tree l kids rest) t e = ap label_in e

@@ -23,7 +23,7 @@ use Rattle.plain_rule.specs.Found.{found_in}
 use Rattle.plain_rule.proofs.Deciding.{test_of, tests}
 use Rattle.plain_rule.proofs.Finding.{found_are_matches, one_match_list}
 
--- the next members of a list
+-- a list from a place on is the member there and those after it
 pub drop_next : {X : Type 0} (xs : List X) (i : ℕ) (x : X) → i < length xs → x ≡ get_or xs i x → drop i xs ≡ x ∷ drop (i + 1) xs
 drop_next {X} xs i x h e = rw (add-one, drop-cons xs i x) (ap (λ (u : X). u ∷ drop (suc i) xs) (sym e))
 
@@ -34,7 +34,7 @@ drop_past [] (suc i) h = refl
 drop_past (x ∷ xs) zero h = absurd (omega arith)
 drop_past (x ∷ xs) (suc i) h = drop_past xs i (omega arith)
 
--- one member more that a test keeps
+-- what a test has kept so far with one member more, where it passes, and what it keeps of the rest are all that it keeps
 pub kept_next : {X : Type 0} (p : X → Bool) (xs : List X) (i : ℕ) (x : X) (some more : List X) → i < length xs → x ≡ get_or xs i x → more ≡ some ++ cond (p x) (x ∷ []) []
     → more ++ filter p (drop (i + 1) xs) ≡ some ++ filter p (drop i xs)
 kept_next {X} p xs i x some more h e m =
@@ -57,17 +57,17 @@ pub one_list : (docs : Documents) (lists : MatchLists) (path : Form) (start : No
     → AreMatches path (tree [] (docs start.source) none) start.place places → places ≡ lists path start
 one_list docs lists path start places are a = one_match_list path (tree [] (docs start.source) none) start.place places (lists path start) a (are path start)
 
--- the tuple with each node that a source condition allows
+-- the tuples with a variable at each match of a path from a document node are those that a source condition makes
 pub longer_source : (lists : MatchLists) (s : ℕ) (path : Form) (v : ℕ) (b : Binding) → map (λ q. b ++ (v, record { source = s; place = q }) ∷ []) (lists path (document_node s)) ≡ longer lists (from_source s path v) b
 unfolding longer next_nodes
 longer_source lists s path v b = sym (map-map (λ (m : Node). b ++ (v, m) ∷ []) (λ q. record { source = s; place = q }) (lists path (document_node s)))
 
--- the tuple with each node that a condition from another variable allows
+-- the tuples with a variable at each match of a path from another's node are those that a condition from that variable makes
 pub longer_var : (lists : MatchLists) (x : ℕ) (path : Form) (v : ℕ) (b : Binding) → map (λ q. b ++ (v, record { source = (node_of b x).source; place = q }) ∷ []) (lists path (node_of b x)) ≡ longer lists (from_var x path v) b
 unfolding longer next_nodes
 longer_var lists x path v b = sym (map-map (λ (m : Node). b ++ (v, m) ∷ []) (λ q. record { source = (node_of b x).source; place = q }) (lists path (node_of b x)))
 
--- one tuple more is extended
+-- the tuples extended so far with those of one more, and those of the rest, are all extended tuples
 pub extend_next : (lists : MatchLists) (c : Binder) (bs : List Binding) (i : ℕ) (b : Binding) (some more : List Binding) → i < length bs → b ≡ get_or bs i b → more ≡ some ++ longer lists c b
     → more ++ extend lists c (drop (i + 1) bs) ≡ some ++ extend lists c (drop i bs)
 unfolding extend
@@ -79,7 +79,7 @@ pub extend_end : (lists : MatchLists) (c : Binder) (bs : List Binding) (i : ℕ)
 unfolding extend
 extend_end lists c bs i some h = ap (λ z. some ++ extend lists c z) (drop_past bs i h) ∙ append_nil some
 
--- tuples of two lists of conditions
+-- the tuples with nodes for the conditions of one list and then of another are those for both lists together
 pub tuples_append : (lists : MatchLists) (bs : List Binding) (xs ys : List Binder) → tuples lists (tuples lists bs xs) ys ≡ tuples lists bs (xs ++ ys)
 unfolding tuples
 tuples_append lists bs [] ys = refl
@@ -100,7 +100,7 @@ pub tuples_more : (lists : MatchLists) (bs : List Binding) (c : Binder) (cs : Li
 unfolding tuples
 tuples_more lists bs c cs = refl
 
--- one condition more is walked by
+-- the tuples so far with those of one condition more, where it is reached, and of the rest are all tuples of what is reached
 pub reached_next : (lists : MatchLists) (vs us : List ℕ) (conds : List Cond) (i : ℕ) (x : Cond) (some more : List Binding) → i < length conds → x ≡ get_or conds i x
     → more ≡ tuples lists some (reached vs (binders (x ∷ []))) → us ≡ vs ++ binder_vars (reached vs (binders (x ∷ [])))
     → tuples lists more (reached us (binders (drop (i + 1) conds))) ≡ tuples lists some (reached vs (binders (drop i conds)))
@@ -131,7 +131,7 @@ begun_source lists s path v after some same more e m =
     ∙ tuples_more lists some c (reached (v ∷ []) after)
     ∙ ap (tuples lists some) (sym (append_nil (c ∷ reached (v ∷ []) after)))
 
--- one condition more of the body
+-- the tuples so far with the component that a condition begins, and the components of the rest, are all of the body
 pub body_next : (lists : MatchLists) (x : Cond) (xs : List Cond) (some more : List Binding) → more ≡ tuples lists some (flat (begun x (binders xs)))
     → tuples lists more (flat (reaches (binders xs))) ≡ tuples lists some (flat (reaches (binders (x ∷ xs))))
 body_next lists x xs some more m =
@@ -154,7 +154,7 @@ pub passing_none : (docs : Documents) (bs : List Binding) → passing docs [] bs
 unfolding passing
 passing_none docs bs = refl
 
--- the comparisons of one condition more
+-- the bindings kept so far by one condition's comparisons more, and by those of the rest, are those that pass all
 pub passing_next : (docs : Documents) (conds : List Cond) (i : ℕ) (x : Cond) (some more : List Binding) → i < length conds → x ≡ get_or conds i x → more ≡ passing docs (comparisons (x ∷ [])) some
     → passing docs (comparisons (drop (i + 1) conds)) more ≡ passing docs (comparisons (drop i conds)) some
 unfolding passing

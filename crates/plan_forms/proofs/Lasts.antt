@@ -44,6 +44,7 @@ module _ (p : PlanValue) (valid : IsValid p) where
   pub last_at : op_at p.ops (length p.ops - 1) ≡ tuple_destroy valid_ends.input valid_ends.element
   last_at = let e = valid_ends.count in let z : length p.ops - 1 ≡ valid_ends.number = omega (arith, e) in ap (op_at p.ops) z ∙ valid_ends.is
 
+  -- what is read off the last operator of a valid plan makes the plan's document
   pub last_is : IsTyped p.ops → IsLast p.ops valid_ends.input valid_ends.element
   last_is typed =
       let e = valid_ends.count in

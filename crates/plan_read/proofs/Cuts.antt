@@ -19,7 +19,7 @@ prefix_nothing : (b : ℕ) (pieces : List (List ℕ)) → with_prefix [] (with_f
 prefix_nothing b [] = refl
 prefix_nothing b (piece ∷ pieces) = refl
 
--- nothing before what was cut
+-- an empty prefix leaves what was cut as it is
 pub nothing_before : (separator : ℕ) (m : Mode) (x : List ℕ) → with_prefix [] (cut separator m x) ≡ cut separator m x
 nothing_before separator m [] = refl
 nothing_before separator m (b ∷ bs) = by_case (is_outside m && b == separator)
@@ -29,12 +29,12 @@ nothing_before separator m (b ∷ bs) = by_case (is_outside m && b == separator)
     by_case true = refl
     by_case false = prefix_nothing b (cut separator (mode_after m b) bs)
 
--- bytes and one more before the first of these pieces
+-- bytes and one more before the first of pieces are that one before it, and then the bytes before that
 prefix_byte : (x : List ℕ) (b : ℕ) (pieces : List (List ℕ)) → with_prefix (x ++ b ∷ []) pieces ≡ with_prefix x (with_first b pieces)
 prefix_byte x b [] = refl
 prefix_byte x b (piece ∷ pieces) = ap (λ y. y ∷ pieces) (append_assoc x (b ∷ []) piece)
 
--- a part with one byte more
+-- the part between two places, with the byte at the second, is the part up to the next place
 grown : (xs : List ℕ) (from to : ℕ) → from ≤ to → to < length xs → slice_range xs from (to + 1) ≡ slice_range xs from to ++ slice_index xs to ∷ []
 grown xs from to h k =
     let n : to + 1 - from ≡ (to - from) + 1 = omega arith in

@@ -25,19 +25,19 @@ digit_of n h =
     let high : nat_le (48 + n) 57 ≡ true = grind (arith, nat_tests, h) in
     and_both (nat_le 48 (48 + n)) (nat_le (48 + n) 57) low high
 
--- a number of one digit
+-- a number below 10 is written as one digit
 one_digit : (n : ℕ) → n < 10 → IsNumber n ((48 + n) ∷ [])
 one_digit n h = (digit_of n h, λ more. large n more)
   where
     large : (n : ℕ) → 0 < n → not (48 + n == 48) ≡ true
     large n more = let differs : (48 + n == 48) ≡ false = grind (arith, nat_tests, more) in ap not differs
 
--- digits and one more
+-- digits with one more are digits
 digits_and : (x : List ℕ) (d : ℕ) → IsTrue (list_all is_digit x) → IsTrue (is_digit d) → IsTrue (list_all is_digit (x ++ d ∷ []))
 digits_and [] d h k = and_both (is_digit d) true k refl
 digits_and (b ∷ x) d h k = let parts = and_parts (is_digit b) (list_all is_digit x) h in and_both (is_digit b) (list_all is_digit (x ++ d ∷ [])) parts.0 (digits_and x d parts.1 k)
 
--- a number of a digit more
+-- a number that isn't 0, written with one digit more, is written as a number
 digit_more : (n m d : ℕ) (x : List ℕ) → 0 < m → IsTrue (is_digit d) → IsNumber m x → IsNumber n (x ++ d ∷ [])
 digit_more n m d [] h k (is, large) = absurd (no_number is)
   where

@@ -12,7 +12,7 @@ use Rattle.mix_tree.specs.LabelOrder.{is_digit}
 pub digit_bounds : (b : ℕ) → is_digit b ≡ true → (48 ≤ b) × (b ≤ 57)
 digit_bounds b h = (grind (arith, nat_tests), grind (arith, nat_tests))
 
--- the value of a digit
+-- the value of a digit is its byte less 48
 digit_value_is : (b : ℕ) → is_digit b ≡ true → digit_value b ≡ b - 48
 digit_value_is b h =
     let low : nat_lt b 48 ≡ false = grind (arith, nat_tests) in
@@ -25,7 +25,7 @@ digit_at [] i h k = absurd (omega arith)
 digit_at (d ∷ ds) ℕ.zero h k = (and_parts (is_digit d) (list_all is_digit ds) k).0
 digit_at (d ∷ ds) (ℕ.suc i) h k = digit_at ds i (omega arith) (and_parts (is_digit d) (list_all is_digit ds) k).1
 
--- the value of digits and one more
+-- the value of digits with one more is ten times theirs and that one's, and the greatest of 64 bits where it is greater
 pub value_more : (ds : List ℕ) (i value : ℕ) → i < length ds → list_all is_digit ds ≡ true → value ≡ min (digits_value 10 (take i ds)) 18446744073709551615
     → min (min (value * 10) 18446744073709551615 + (get_or ds i 0 - 48)) 18446744073709551615 ≡ min (digits_value 10 (take (i + 1) ds)) 18446744073709551615
 value_more ds i value h k e =

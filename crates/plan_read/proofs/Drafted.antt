@@ -21,14 +21,14 @@ use Rattle.plan_read.proofs.SpelledLines.{line_spelled}
 use Rattle.plan_read.proofs.Stopping.{each_last}
 
 module _ (names : List (List ℕ)) (sources : List SourceSpec) where
-  -- drafts of lines, and one more of one line more
+  -- drafts of lines, and a draft of one line more, are together drafts of all of them
   drafts_append : (ls : List Line) (ds : List Draft) (l : Line) (d : Draft) → AreDrafts names sources ls ds → IsDraft names sources l d → AreDrafts names sources (ls ++ l ∷ []) (ds ++ d ∷ [])
   drafts_append [] [] l d a h = (h, tt)
   drafts_append [] (e ∷ ds) l d a h = absurd a
   drafts_append (m ∷ ls) [] l d a h = absurd a
   drafts_append (m ∷ ls) (e ∷ ds) l d a h = (a.0, drafts_append ls ds l d a.1 h)
 
-  -- drafts of the first lines, and the draft of the next one
+  -- drafts of the lines before a place, and a draft of the line there, are drafts of the lines up to and with that one
   pub drafts_more : (ls : List Line) (i : ℕ) (l : Line) (ds : List Draft) (d : Draft) → i < length ls → AreDrafts names sources (take i ls) ds → IsDraft names sources (get_or ls i l) d
       → AreDrafts names sources (take (i + 1) ls) (ds ++ d ∷ [])
   drafts_more ls i l ds d h a e = subst (λ ms. AreDrafts names sources ms (ds ++ d ∷ [])) (sym (take_more ls i l h)) (drafts_append (take i ls) ds (get_or ls i l) d a e)

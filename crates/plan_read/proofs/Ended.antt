@@ -15,7 +15,7 @@ use Rattle.plan_core.proofs.Numbers.{by_number-of}
 use Rattle.plan_core.proofs.Inputs.{is_single-reads}
 use Rattle.plan_read.specs.Ops.{is_destroy, are_none, ends_by}
 
--- operators of which the test of their end holds end so
+-- operators that are tested to end in the only tupleDestroy, over what is single, do so
 pub ends_sound : (single : ℕ → Bool) (ops : List Operator) → ends_by single ops ≡ true → EndsSingle single ops
 ends_sound single [] h = false_true h
   where
@@ -31,7 +31,7 @@ ends_sound single (tuple_destroy input element ∷ op ∷ ops) h = false_true h
     false_true : ◌≡◌ {A = Bool} false true → ⊥
     false_true h = cc
 
--- the test of their end holds of operators that end so
+-- operators that end in the only tupleDestroy, over what is single, are tested to do so
 pub ends_test : (single : ℕ → Bool) (ops : List Operator) → EndsSingle single ops → ends_by single ops ≡ true
 ends_test single [] h = absurd h
 ends_test single (source s out ∷ ops) h = ends_test single ops h
@@ -85,7 +85,7 @@ ends_nowhere single [] (suc k) h = refl
 ends_nowhere single (op ∷ ops) zero h = absurd (omega arith)
 ends_nowhere single (op ∷ ops) (suc k) h = ends_nowhere single ops k (omega arith)
 
--- an operator of which the test holds is a tupleDestroy
+-- an operator that is tested to be a tupleDestroy is one
 pub destroys : (op : Operator) → is_destroy op ≡ true → (input : ℕ) × (element : ℕ) × (op ≡ tuple_destroy input element)
 destroys (source s out) h = absurd (false_true h)
   where
@@ -105,12 +105,12 @@ destroys (over input op) h = absurd (false_true h)
     false_true h = cc
 destroys (tuple_destroy input element) h = (input, element, refl)
 
--- whether an operator has a single binding, by its inputs
+-- an operator has a single binding exactly where it says so of its inputs
 single_of : (ops : List Operator) (n : ℕ) (op : Operator) → op_at ops n ≡ op → AllByRecursion (λ i. i < n) (inputs_of op) → is_single_at ops n ≡ is_single op (is_single_at ops)
 unfolding is_single_at
 single_of ops n op e h = by_number-of is_single false ops n op is_single-reads e h
 
--- whether an operator has a single binding, by a list of whether those before it have one
+-- an operator has a single binding exactly where it says so by a list of whether those before it have one
 pub single_known : (ops : List Operator) (n : ℕ) (op : Operator) (known : List Bool) → op_at ops n ≡ op → AllByRecursion (λ i. i < n) (inputs_of op)
     → ((i : ℕ) → i < n → slice_index_or known i false ≡ is_single_at ops i) → is_single op (λ i. slice_index_or known i false) ≡ is_single_at ops n
 single_known ops n op known e small each =
@@ -138,12 +138,12 @@ pub ends_else : (single : ℕ → Bool) (ops : List Operator) (k input element :
     → (k + 1 ≡ length ops → ⊥) → ends_by single (drop k ops) ≡ false
 ends_else single ops k input element h e l = ends_here single ops k input element h e ∙ ap (λ b. b && single input) (ne_eqb (k + 1) (length ops) l)
 
--- a test, and that it and the true one hold
+-- a test and the true one hold together exactly where the test does
 pub and_true : (b : Bool) → b ≡ (b && true)
 and_true true = refl
 and_true false = refl
 
--- an operator of the program that is no tupleDestroy
+-- an operator of the code that is no tupleDestroy fails the test of one
 pub not_destroy : (o : Op) → ((input : ℕ) (element : Var) → o ≡ op.TupleDestroy input element → ⊥) → is_destroy (op_of o) ≡ false
 not_destroy (op.Source s out) f = refl
 not_destroy (op.GetDescendants input start path out) f = refl

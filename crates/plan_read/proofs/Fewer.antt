@@ -30,7 +30,7 @@ first_distinct (x ∷ xs) ys d = (
   first_distinct xs ys d.1,
 )
 
--- operators, by the first of them and what follows
+-- the first operators up to a place are those up to an earlier one, and those between the two
 parted : (ops : List Operator) (j k : ℕ) → j ≤ k → take k ops ≡ take j ops ++ drop j (take k ops)
 parted ops j k h = sym (take-append-drop j (take k ops)) ∙ ap (λ os. os ++ drop j (take k ops)) (take-take j k ops h)
 
@@ -51,31 +51,31 @@ uses_fewer ops j k n h u =
     less : (a b c : ℕ) → a ≡ b + c → a ≤ 1 → b ≤ 1
     less a b c e u = omega (arith, e, u)
 
--- lines that spell operators, fewer of them
+-- where the first lines up to a number each spell an operator, so do fewer of them
 pub spelled_closed : (names : List (List ℕ)) (sources : List SourceSpec) (lines : List Line) → IsClosed (AreSpelled names sources lines)
 spelled_closed names sources lines j k h a = each_fewer (λ (l : Line). (n : Numbered) × SpellsLine names sources l.text n) lines j k h a
 
--- few operators, fewer of them
+-- where a number of operators is few, so is a smaller one
 pub few_closed : IsClosed AreFew
 few_closed j k h a = omega (arith, h, a)
 
--- operators numbered by their places, fewer of them
+-- where the first operators up to a number are numbered by their places, so are fewer of them
 pub numbered_closed : (ns : List Numbered) → IsClosed (AreNumbered ns)
 numbered_closed ns j k h a = record { counted = count_fewer 0 ns j k h a.counted; smaller = smaller_fewer 0 (ops_of ns) j k h a.smaller }
 
--- operators with known sources, fewer of them
+-- where the first operators up to a number have known sources, so have fewer of them
 pub known_closed : (count : ℕ) (ns : List Numbered) → IsClosed (AreKnown count ns)
 known_closed count ns j k h a = each_fewer (HasSource count) (ops_of ns) j k h a
 
--- operators with short paths, fewer of them
+-- where the first operators up to a number have short paths, so have fewer of them
 pub short_closed : (ns : List Numbered) → IsClosed (AreShort ns)
 short_closed ns j k h a = each_fewer (λ (op : Operator). IsShort (shape_of op)) (ops_of ns) j k h a
 
--- lines with variables in range, fewer of them
+-- where the first lines up to a number have their variables in range, so have fewer of them
 pub ranged_closed : (count : ℕ) (lines : List Line) → IsClosed (AreRanged count lines)
 ranged_closed count lines j k h a = each_fewer (IsRanged count) lines j k h a
 
--- sound operators, fewer of them
+-- where the first operators up to a number are sound, so are fewer of them
 pub sound_closed : (ns : List Numbered) → IsClosed (AreSound ns)
 sound_closed ns j k h a = record {
   fit = each_fewer (λ (op : Operator). IsFit op (kinds (ops_of ns))) (ops_of ns) j k h a.fit;
@@ -83,6 +83,6 @@ sound_closed ns j k h a = record {
   once = λ n. uses_fewer (ops_of ns) j k n h (a.once n);
 }
 
--- operators that are inputs, fewer of them
+-- where the first operators up to a number are inputs, so are fewer of them
 pub used_closed : (ns : List Numbered) → IsClosed (AreUsed ns)
 used_closed ns j k h a = λ n below more. a n (omega (arith, h, below)) more

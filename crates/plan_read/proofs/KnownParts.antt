@@ -41,7 +41,7 @@ module _ (sources : List SourceSpec) (catalog : AreNumbered sources) (names : Li
   abbrev AreKnown : List Part → Type 0
   AreKnown ps = AllByRecursion (IsKnown sources catalog names are) ps
 
-  -- a fixed word
+  -- a fixed word that stays whole, is ASCII and begins like neither a variable nor keys is known
   fixed : (w : List ℕ) → IsWhole w → IsTrue (is_other w) → IsTrue (list_all (λ b. nat_lt b 128) w) → IsKnown sources catalog names are (keyword w)
   fixed w h k u = (record { whole = h; other = k }, ascii_utf8 w u)
 

@@ -11,7 +11,7 @@ use Rattle.plan_core.specs.Valid.{either_kind}
 use Rattle.plan_read.specs.Scopes.{kind_of}
 use Rattle.plan_read.specs.declared.scope.Bound.{Bound}
 
--- the kind of the first of two bounds
+-- the kind of the first of two bounds, or else the second, is the first kind, or else the second
 mapped_or : (a b : Option Bound) → option_map kind_of (option_or a b) ≡ either_kind (option_map kind_of a) (option_map kind_of b)
 mapped_or None b = refl
 mapped_or (Some a) b = refl

@@ -11,6 +11,7 @@ use Rattle.plan_read.specs.Lines.{Line}
 use Rattle.plan_read.specs.Variables.{line_vars, with_new, names_in}
 use Rattle.plan_read.proofs.ReadWords.{all_weaker}
 
+-- false is not true
 false_true : ◌≡◌ {A = Bool} false true → ⊥
 false_true h = cc
 

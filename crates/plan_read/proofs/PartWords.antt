@@ -68,18 +68,18 @@ digit_name b h = third_of (nat_le 97 b && nat_le b 122) (nat_le 65 b && nat_le b
 digits_utf8 : (x : List ℕ) → IsTrue (list_all is_digit x) → IsUtf8 x
 digits_utf8 x h = name_utf8 x (all_weaker is_digit is_name_byte digit_name x h)
 
--- a name has such bytes
+-- a script name has bytes of variables' names
 name_script : (x : List ℕ) → IsTrue (is_name x) → IsTrue (list_all is_script_byte x)
 name_script [] h = refl
 name_script (b ∷ x) h =
     let parts = and_parts (is_letter b) (list_all is_script_byte x) h in
     and_both (is_script_byte b) (list_all is_script_byte x) (left_holds (is_letter b || (nat_le 48 b && nat_le b 57)) (b == 95) (left_holds (is_letter b) (nat_le 48 b && nat_le b 57) parts.0)) parts.1
 
--- a byte that may stand between braces
+-- whether a byte may stand between braces
 abbrev in_braces : ℕ → Bool
 in_braces b = not (b == 10) && not (b == 125)
 
--- a text between braces
+-- a text whose bytes all may stand between braces leaves a line between braces
 braces_pass : (x : List ℕ) → IsTrue (list_all in_braces x) → passes parts_words Braced x ≡ Some Braced
 braces_pass [] h = refl
 braces_pass (b ∷ x) h = let parts = and_parts (in_braces b) (list_all in_braces x) h in by_byte (b == 10) (b == 125) parts.0 (braces_pass x parts.1)
@@ -99,7 +99,7 @@ inside_append : (x y : List ℕ) → IsTrue (list_all in_braces x) → IsTrue (l
 inside_append [] y h k = k
 inside_append (b ∷ x) y h k = let parts = and_parts (in_braces b) (list_all in_braces x) h in and_both (in_braces b) (list_all in_braces (x ++ y)) parts.0 (inside_append x y parts.1 k)
 
--- the source of a number, and its name
+-- a source of a catalog has its number's name among the names of sources
 source_at : (ss : List SourceSpec) (n : ℕ) → n < length ss → (s : SourceSpec) × (slice_get ss n ≡ Some s) × (slice_index_or (map (λ (t : SourceSpec). t.name) ss) n [] ≡ s.name)
 source_at [] n h = absurd (omega arith)
 source_at (s ∷ ss) zero h = (s, refl, refl)
@@ -199,7 +199,7 @@ module _ (sources : List SourceSpec) (catalog : AreNumbered sources) (names : Li
   each_spelled [] small = tt
   each_spelled (k ∷ ks) small = (key_spelled k small.0, each_spelled ks small.1)
 
-  -- keys with commas between them
+  -- the canonical text of keys is their texts with commas between them
   between_keys : (ks : List Key) → keys_between names ks ≡ between 44 (map (key_text names) ks)
   between_keys [] = refl
   between_keys (k ∷ ks) = ap (λ x. key_text names k ++ x) (more ks)
@@ -221,7 +221,7 @@ module _ (sources : List SourceSpec) (catalog : AreNumbered sources) (names : Li
   keys_vars_read [] = refl
   keys_vars_read (k ∷ ks) = ap (λ xs. xs ++ flat_map key_dollared (map (key_text names) ks)) (key_var_read k) ∙ ap (λ xs. name_or_number names (key_var k) ∷ xs) (keys_vars_read ks)
 
-  -- the variables of the word of keys
+  -- the variables of the word of keys are the keys' variables
   keys_vars : (ks : List Key) → AllByRecursion (λ v. v < 2 ^ 32) (map key_var ks) → word_vars (keys_text names ks) ≡ map (name_or_number names) (map key_var ks)
   keys_vars ks small =
       ap (λ o. flat_map (λ body. flat_map key_dollared (key_texts body)) (as_list o)) (braced_reads (keys_between names ks))
@@ -232,7 +232,7 @@ module _ (sources : List SourceSpec) (catalog : AreNumbered sources) (names : Li
       one : (x : List ℕ) → flat_map (λ body. flat_map key_dollared (key_texts body)) (x ∷ []) ≡ flat_map key_dollared (key_texts x)
       one x = append_nil (flat_map key_dollared (key_texts x))
 
-  -- the name of a source, which is found by it
+  -- the name of a source of a catalog is a name, and the source is found by it
   source_is : (s : ℕ) → s < length sources → IsName (slice_index_or names_of_sources s []) × (source_number sources (slice_index_or names_of_sources s []) ≡ s)
   source_is s h =
       let at = source_at sources s h in

@@ -29,16 +29,16 @@ part_as f (text label) = text label
 part_as f (keys ks) = keys (map (key_as f) ks)
 
 module _ (f : ℕ → ℕ) where
-  -- the part of what stands on the right of a comparison
+  -- the part of an operand of other numbers is its part by those numbers
   operand_parts_as : (o : Operand) → operand_part (operand_as f o) ≡ part_as f (operand_part o)
   operand_parts_as (var_operand v) = refl
   operand_parts_as (text_operand label) = refl
 
-  -- the parts of a comparison
+  -- the parts of a comparison of other numbers are its parts by those numbers
   test_parts_as : (t : Test) → test_parts (test_as f t) ≡ map (part_as f) (test_parts t)
   test_parts_as t = ap (λ o. variable (f t.left) ∷ keyword (op_sign t.op) ∷ o ∷ []) (operand_parts_as t.right)
 
-  -- the parts of comparisons, each after AND
+  -- the parts of comparisons of other numbers, each after AND, are theirs by those numbers
   more_parts_as : (tests : List Test)
       → flat_map (λ t. keyword (codes "AND") ∷ test_parts t) (map (test_as f) tests) ≡ map (part_as f) (flat_map (λ t. keyword (codes "AND") ∷ test_parts t) tests)
   more_parts_as [] = refl
@@ -47,7 +47,7 @@ module _ (f : ℕ → ℕ) where
       ∙ ap (λ ps. (keyword (codes "AND") ∷ map (part_as f) (test_parts t)) ++ ps) (more_parts_as tests)
       ∙ sym (map-append (part_as f) (keyword (codes "AND") ∷ test_parts t) (flat_map (λ t. keyword (codes "AND") ∷ test_parts t) tests))
 
-  -- the parts of comparisons
+  -- the parts of comparisons of other numbers are theirs by those numbers
   tests_parts_as : (tests : List Test) → tests_parts (map (test_as f) tests) ≡ map (part_as f) (tests_parts tests)
   tests_parts_as [] = refl
   tests_parts_as (t ∷ tests) =
@@ -55,20 +55,20 @@ module _ (f : ℕ → ℕ) where
       ∙ ap (λ ps. map (part_as f) (test_parts t) ++ ps) (more_parts_as tests)
       ∙ sym (map-append (part_as f) (test_parts t) (flat_map (λ t. keyword (codes "AND") ∷ test_parts t) tests))
 
-  -- the parts of a piece
+  -- the parts of a piece of other numbers are its parts by those numbers
   piece_parts_as : (p : Piece) → piece_parts (piece_as f p) ≡ map (part_as f) (piece_parts p)
   piece_parts_as (var_piece v) = refl
   piece_parts_as (label_piece v) = refl
   piece_parts_as (text_piece label) = refl
 
-  -- the parts of pieces
+  -- the parts of pieces of other numbers are theirs by those numbers
   pieces_parts_as : (ps : List Piece) → flat_map piece_parts (map (piece_as f) ps) ≡ map (part_as f) (flat_map piece_parts ps)
   pieces_parts_as [] = refl
   pieces_parts_as (p ∷ ps) =
       ap (λ qs. qs ++ flat_map piece_parts (map (piece_as f) ps)) (piece_parts_as p) ∙ ap (λ qs. map (part_as f) (piece_parts p) ++ qs) (pieces_parts_as ps)
       ∙ sym (map-append (part_as f) (piece_parts p) (flat_map piece_parts ps))
 
-  -- the parts of an operator with one input
+  -- the parts of an operator with one input, of other numbers, are its parts by those numbers
   unary_parts_as : (i : ℕ) (op : Unary) → unary_parts i (unary_as f op) ≡ map (part_as f) (unary_parts i op)
   unary_parts_as i (select test) = ap (λ ps. keyword (codes "select") ∷ number i ∷ ps) (test_parts_as test)
   unary_parts_as i (order_by v desc) = refl
@@ -81,7 +81,7 @@ module _ (f : ℕ → ℕ) where
       (ap (λ ps. ps ++ out_parts (f out)) (pieces_parts_as pieces) ∙ sym (map-append (part_as f) (flat_map piece_parts pieces) (out_parts out)))
   unary_parts_as i (create_element label list out) = refl
 
-  -- the parts of an operator by other numbers
+  -- the parts of an operator of other numbers are its parts by those numbers
   pub op_parts_as : (op : Operator) → op_parts (operator_as f op) ≡ map (part_as f) (op_parts op)
   op_parts_as (source s out) = refl
   op_parts_as (get_descendants i start p out) = refl
@@ -113,7 +113,7 @@ module _ (f : ℕ → ℕ) where
       ap (λ vs. vs ++ flat_map part_vars (map (part_as f) ps)) (part_vars_as p) ∙ ap (λ vs. map f (part_vars p) ++ vs) (parts_vars_as ps)
       ∙ sym (map-append f (part_vars p) (flat_map part_vars ps))
 
-  -- the variables of operators by other numbers
+  -- the variables of operators of other numbers are theirs by those numbers
   pub vars_as : (ops : List Operator) → vars_of (map (operator_as f) ops) ≡ map f (vars_of ops)
   vars_as [] = refl
   vars_as (op ∷ ops) =
@@ -164,7 +164,7 @@ module _ (f : ℕ → ℕ) where
     part_text_as (text label) = refl
     part_text_as (keys ks) = ap (λ x. 123 ∷ x ++ 125 ∷ []) (keys_text_as ks)
 
-    -- the text of parts by other numbers
+    -- the text of parts by other numbers is what it was, where variables are written as they were
     pub parts_text_as : (ps : List Part) → parts_text others sources (map (part_as f) ps) ≡ parts_text names sources ps
     parts_text_as [] = refl
     parts_text_as (p ∷ ps) =

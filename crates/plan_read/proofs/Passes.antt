@@ -15,11 +15,11 @@ abbrev pub passes : (ℕ → Bool) → Mode → List ℕ → Option Mode
 passes bad m [] = Some m
 passes bad m (b ∷ x) = cond (b == 10 || (is_outside m && bad b)) None (passes bad (mode_after m b) x)
 
--- a blank or CR
+-- whether a byte is a blank or CR, at which lines and words are parted
 abbrev pub parts_words : ℕ → Bool
 parts_words b = b == 32 || b == 13
 
--- CR
+-- whether a byte is CR
 abbrev pub is_cr : ℕ → Bool
 is_cr b = b == 13
 
@@ -37,7 +37,7 @@ passes_append bad m n (b ∷ x) y h = by_case (b == 10 || (is_outside m && bad b
     by_case true h more = none_some n h
     by_case false h more = more h
 
--- whole words one after another
+-- one whole word after another is a whole word
 pub whole_append : (x y : List ℕ) → IsWhole x → IsWhole y → IsWhole (x ++ y)
 whole_append x y h k = passes_append parts_words Plain Plain x y h ∙ k
 
@@ -54,7 +54,7 @@ no_cr m n (b ∷ x) h = by_case (b == 10) (is_outside m) (b == 32) (b == 13) h (
     by_case false true false true h more = none_some n h
     by_case false true false false h more = more h
 
--- a word before what follows, cut at blanks
+-- a text that passes, before others, is cut into it before the first piece of the others
 pub cut_over : (m n : Mode) (x rest : List ℕ) → passes parts_words m x ≡ Some n → cut 32 m (x ++ rest) ≡ with_prefix x (cut 32 n rest)
 cut_over m n [] rest h = ap (λ k. cut 32 k rest) (some_is m n h) ∙ sym (nothing_before 32 n rest)
 cut_over m n (b ∷ x) rest h = by_case (b == 10) (is_outside m) (b == 32) (b == 13) h (cut_over (mode_after m b) n x rest)
@@ -76,11 +76,11 @@ cut_over m n (b ∷ x) rest h = by_case (b == 10) (is_outside m) (b == 32) (b ==
 pub cut_last : (x : List ℕ) → IsWhole x → cut 32 Plain x ≡ x ∷ []
 cut_last x h = ap (cut 32 Plain) (sym (append_nil x)) ∙ cut_over Plain Plain x [] h ∙ ap (λ y. y ∷ []) (append_nil x)
 
--- a word and a blank behind it
+-- a whole word and a blank before others are that word, and the words of the others
 pub cut_word : (x rest : List ℕ) → IsWhole x → cut 32 Plain (x ++ 32 ∷ rest) ≡ x ∷ cut 32 Plain rest
 cut_word x rest h = cut_over Plain Plain x (32 ∷ rest) h ∙ ap (λ y. y ∷ cut 32 Plain rest) (append_nil x)
 
--- a byte that is no CR before LF
+-- a text of one byte that passes as a line is no CR
 plain_end : (m : Mode) (b : ℕ) → passes is_cr m (b ∷ []) ≡ Some Plain → (b == 13) ≡ false
 plain_end m b h = by_case (b == 13) refl
   where
@@ -94,7 +94,7 @@ plain_end m b h = by_case (b == 13) refl
     by_case false e = refl
     by_case true e = sym (by_mode m (subst (λ (d : ℕ). passes is_cr m (d ∷ []) ≡ Some Plain) (sym (number_is b 13 e)) h))
 
--- a line before LF
+-- a text that passes as a line, with LF after it, is the first line, before those after the LF
 pub line_over : (m : Mode) (x rest : List ℕ) → passes is_cr m x ≡ Some Plain → lines_of (x ++ 10 ∷ rest) ≡ x ∷ lines_of rest
 line_over m [] rest h = refl
 line_over m (b ∷ []) rest h = by_case (b == 10) (b == 13) h (plain_end m b h)

@@ -28,7 +28,7 @@ pub record IsPlain (x : List ℕ) : Type 0 where
   pub whole : IsWhole x
   pub other : IsTrue (is_other x)
 
--- one such text after another
+-- one plain text after another is plain
 pub plain_append : (x y : List ℕ) → IsPlain x → IsPlain y → IsPlain (x ++ y)
 plain_append x y h k = record { whole = whole_append x y h.whole k.whole; other = first x h.other }
   where
@@ -36,7 +36,7 @@ plain_append x y h k = record { whole = whole_append x y h.whole k.whole; other 
     first [] e = k.other
     first (b ∷ x) e = e
 
--- such a word has no variables
+-- a plain word has no variables
 pub plain_vars : (x : List ℕ) → IsPlain x → word_vars x ≡ []
 plain_vars [] h = refl
 plain_vars (b ∷ x) h = by_byte (b == 36) (b == 123) h.other
@@ -56,7 +56,7 @@ calm_by p lf cr blank quote brace b h =
     (and_both (not (b == 10)) (not (b == 13)) (ap not (other_byte p b 10 lf h)) (ap not (other_byte p b 13 cr h)))
     (ap not (other_byte p b 32 blank h))) (ap not (other_byte p b 34 quote h))) (ap not (other_byte p b 123 brace h))
 
--- bytes for which such a test holds, that doesn't hold of $ either
+-- bytes for which a test holds that holds of calm bytes alone, and of neither $ nor {, are a plain word
 plain_by : (p : ℕ → Bool) → ((b : ℕ) → p b ≡ true → is_calm b ≡ true) → p 36 ≡ false → p 123 ≡ false → (x : List ℕ) → IsTrue (list_all p x) → IsPlain x
 plain_by p calm dollar brace x h = record { whole = calm_whole x (all_weaker p is_calm calm x h); other = first x h }
   where
@@ -76,19 +76,19 @@ ascii_utf8 (b ∷ x) h =
     low : (b : ℕ) → nat_lt b 128 ≡ true → b < 128
     low b h = grind (arith, nat_tests, h)
 
--- digits
+-- digits are a plain word
 pub digits_plain : (x : List ℕ) → IsTrue (list_all is_digit x) → IsPlain x
 digits_plain x h = plain_by is_digit (calm_by is_digit refl refl refl refl refl) refl refl x h
 
--- the bytes of names
+-- bytes of names are a plain word
 pub name_plain : (x : List ℕ) → IsTrue (list_all is_name_byte x) → IsPlain x
 name_plain x h = plain_by is_name_byte (calm_by is_name_byte refl refl refl refl refl) refl refl x h
 
--- the bytes of the names of variables
+-- bytes of variables' names are a plain word
 pub script_plain : (x : List ℕ) → IsTrue (list_all is_script_byte x) → IsPlain x
 script_plain x h = plain_by is_script_byte (calm_by is_script_byte refl refl refl refl refl) refl refl x h
 
--- a byte between quotes, as it is written
+-- a byte as it is written between quotes leaves a line between quotes
 escaped_passes : (b : ℕ) → passes parts_words Quoted (escaped b) ≡ Some Quoted
 escaped_passes b = by_byte (b == 34) (b == 92) (b == 10) (b == 9) refl refl refl
   where
@@ -102,12 +102,12 @@ escaped_passes b = by_byte (b == 34) (b == 92) (b == 10) (b == 9) refl refl refl
         ap (λ c. cond (c || false) None (Some (cond (b == 34) Plain (cond (b == 92) Escaped Quoted)))) g ∙ ap (λ c. Some (cond c Plain (cond (b == 92) Escaped Quoted))) e
         ∙ ap (λ c. Some (cond c Escaped Quoted)) f
 
--- a label between quotes, as it is written
+-- a label as it is written between quotes leaves a line between quotes
 inside_passes : (l : List ℕ) → passes parts_words Quoted (flat_map escaped l) ≡ Some Quoted
 inside_passes [] = refl
 inside_passes (b ∷ l) = passes_append parts_words Quoted Quoted (escaped b) (flat_map escaped l) (escaped_passes b) ∙ inside_passes l
 
--- a quoted label
+-- a quoted label is a plain word
 pub quoted_plain : (l : List ℕ) → IsPlain (quoted l)
 quoted_plain l = record {
   whole = passes_append parts_words Quoted Quoted (flat_map escaped l) (34 ∷ []) (inside_passes l);
@@ -123,7 +123,7 @@ bare_bytes (b ∷ l) h = by_name (bytes_eq (b ∷ l) (95 ∷ [])) h
     by_name true h = cc
     by_name false h = h
 
--- the label of a path
+-- a label as a path has it is a plain word
 label_plain : (l : List ℕ) → IsPlain (canon_label l)
 label_plain l = by_case (is_plain_name l) refl
   where
@@ -131,7 +131,7 @@ label_plain l = by_case (is_plain_name l) refl
     by_case true e = name_plain l (bare_bytes l e)
     by_case false e = quoted_plain l
 
--- a byte that is calm, and begins neither a variable nor keys
+-- a byte that is calm, and begins neither a variable nor keys, is a plain word
 one_plain : (b : ℕ) → passes parts_words Plain (b ∷ []) ≡ Some Plain → IsTrue (is_other (b ∷ [])) → IsPlain (b ∷ [])
 one_plain b h k = record { whole = h; other = k }
 
@@ -179,7 +179,7 @@ members_plain : (ps : form.Paths) → AllPlain (members_of ps)
 members_plain form.none = tt
 members_plain (form.path head members after) = (by_plain head (members_of members) (members_plain members), members_plain after)
 
--- the canonical text of a path
+-- the canonical text of a path is a plain word
 pub canon_plain : (p : form.Form) → IsPlain (canon p)
 canon_plain p = by_plain p.head (members_of p.members) (members_plain p.members)
 

@@ -14,7 +14,7 @@ use Rattle.plan_read.specs.declared.scopes.Scopes.{Scopes}
 use Rattle.plan_read.proofs.Slotted.{Slots, added_before, added_here, added_after}
 use Rattle.plan_read.proofs.Whole.{none_used}
 
--- the inputs of one operator more are used once more
+-- with one operator more, its inputs are used as often as before and once more
 pub uses_more : (before : List Operator) (op : Operator) (n : ℕ) → uses_of (before ++ op ∷ []) n ≡ used_more (uses_of before) (inputs_of op) n
 uses_more before op n =
     ap (count_by (λ i. i == n)) (sym (flat_map_more inputs_of [] before op)) ∙ count-append n (flat_map inputs_of before) (inputs_of op)
@@ -55,14 +55,14 @@ pub fits_below : (op : Operator) (of : ℕ → Kinds) (s : Scope) → ((v : ℕ)
     → shape_fits (shape_of op) (kinds_in s) ≡ shape_fits (shape_of op) (kinds_below (inputs_of op) of)
 fits_below op of s h = ap (shape_fits (shape_of op)) (scope_kinds s (kinds_below (inputs_of op) of) h)
 
--- the kinds of an operator's scope
+-- the scope of an operator, made of that of its inputs, has the kinds that it binds
 pub kinds_pushed : (op : Operator) (of : ℕ → Kinds) (below above : Scope) (n : ℕ) → ((v : ℕ) → kinds_in below v ≡ kinds_below (inputs_of op) of v)
     → ((v : ℕ) → kinds_in above v ≡ kinds_above (shape_of op) (kinds_in below) v) → of n ≡ op_kinds op of → (v : ℕ) → kinds_in above v ≡ of n v
 kinds_pushed op of below above n h k e v =
     k v ∙ ap (λ (ks : Kinds). kinds_above (shape_of op) ks v) (scope_kinds below (kinds_below (inputs_of op) of) h)
     ∙ ap (λ (ks : Kinds). ks v) (sym (shape_above (shape_of op) of)) ∙ ap (λ (ks : Kinds). ks v) (sym e)
 
--- the scope of one operator more
+-- with the scope of one operator more, what is kept is so of all operators up to it
 slots_pushed : (slots : Slots) (before : List Operator) (op : Operator) (of : ℕ → Kinds) (s : Scope) → AreSlots slots (length before) (used_more (uses_of before) (inputs_of op)) of
     → HaveSmallerInputs 0 (before ++ op ∷ []) → ((v : ℕ) → kinds_in s v ≡ of (length before) v)
     → AreSlots (slots ++ Some s ∷ []) (length (before ++ op ∷ [])) (uses_of (before ++ op ∷ [])) of

@@ -34,10 +34,11 @@ quoted_first word l (ps, are, e, m) = ap (begins 36) e
 var_no_label : (names : List (List ℕ)) (v : ℕ) (word : List ℕ) → SpellsVar names v word → bytes_eq word (codes "label") ≡ false
 var_no_label names v word (x, e, t) = ap (λ w. bytes_eq w (codes "label")) e
 
+-- a quoted label is another word than label
 quoted_no_label : (word l : List ℕ) → SpellsQuoted word l → bytes_eq word (codes "label") ≡ false
 quoted_no_label word l (ps, are, e, m) = ap (λ w. bytes_eq w (codes "label")) e
 
--- the right side of a comparison
+-- a word that spells the right side of a comparison is read as that
 operand_reads : (names : List (List ℕ)) (sources : List SourceSpec) (o : Operand) (word : List ℕ) → SpellsPart names sources (operand_part o) word → operand_read names word ≡ Some o
 operand_reads names sources (var_operand v) word h =
     ap (λ b. cond b (option_map var_operand (var_read names word)) (option_map text_operand (quoted_read word))) (var_first names v word h) ∙ ap (option_map var_operand) (var_reads names v word h)
@@ -55,6 +56,7 @@ test_reads names sources t l s r a b d =
 abbrev more_parts : List Test → List Part
 more_parts tests = flat_map (λ t. keyword (codes "AND") ∷ test_parts t) tests
 
+-- the words of comparisons, each after AND, are read as those comparisons
 more_reads : (names : List (List ℕ)) (sources : List SourceSpec) (ts : List Test) (ws : List (List ℕ)) → SpellParts names sources (more_parts ts) ws → more_tests names ws ≡ Some ts
 more_reads names sources [] [] h = refl
 more_reads names sources [] (w ∷ ws) h = absurd h
@@ -78,7 +80,7 @@ tests_reads names sources (t ∷ ts) (l ∷ s ∷ r ∷ ws) h =
     ap (λ o. with_test o (more_tests names ws)) (test_reads names sources t l s r h.0 h.1.0 h.1.1.0)
     ∙ ap (with_test (Some t)) (more_reads names sources ts ws h.1.1.1)
 
--- the variable that is bound
+-- an arrow and a word that spells a variable are read as the variable that is bound
 out_reads : (names : List (List ℕ)) (v : ℕ) (arrow out : List ℕ) → arrow ≡ codes "->" → SpellsVar names v out → out_read names arrow out ≡ Some v
 out_reads names v arrow out a h = ap (λ w. out_read names w out) a ∙ var_reads names v out h
 
@@ -86,16 +88,18 @@ out_reads names v arrow out a h = ap (λ w. out_read names w out) a ∙ var_read
 abbrev pieces_with : List Piece → ℕ → List Part
 pieces_with ps out = flat_map piece_parts ps ++ out_parts out
 
+-- pieces as they are read, with the variable after them
 abbrev made : List Piece → ℕ → Pieces
 made ps out = record { pieces = ps; out = out }
 
--- there are two words at least
+-- a list of words has two at least
 record HasTwo (ws : List (List ℕ)) : Type 0 where
   pub first : List ℕ
   pub second : List ℕ
   pub rest : List (List ℕ)
   pub parts : ws ≡ first ∷ second ∷ rest
 
+-- words of parts and of a bound variable are two at least
 two_words : (names : List (List ℕ)) (sources : List SourceSpec) (ps : List Part) (out : ℕ) (ws : List (List ℕ)) → SpellParts names sources (ps ++ out_parts out) ws → HasTwo ws
 two_words names sources [] out [] h = absurd h
 two_words names sources [] out (a ∷ []) h = absurd h.1
@@ -103,7 +107,7 @@ two_words names sources [] out (a ∷ b ∷ ws) h = record { first = a; second =
 two_words names sources (p ∷ ps) out [] h = absurd h
 two_words names sources (p ∷ ps) out (a ∷ ws) h = let t = two_words names sources ps out ws h.1 in record { first = a; second = t.first; rest = t.second ∷ t.rest; parts = ap (λ r. a ∷ r) t.parts }
 
--- a piece of one word before others
+-- a piece of one word before others is read as that piece and those of the other words
 one_word : (names : List (List ℕ)) (w : List ℕ) (p : Piece) (ps : List Piece) (out : ℕ) (ws : List (List ℕ)) → HasTwo ws → bytes_eq w (codes "label") ≡ false → piece_read names w ≡ Some p
     → pieces_read names ws ≡ Some (made ps out) → pieces_read names (w ∷ ws) ≡ Some (made (p ∷ ps) out)
 one_word names w p ps out ws two other here rest =
@@ -112,7 +116,7 @@ one_word names w p ps out ws two other here rest =
     ∙ ap (λ o. with_piece o (pieces_read names (two.first ∷ two.second ∷ two.rest))) here
     ∙ ap (with_piece (Some p)) (ap (pieces_read names) (sym two.parts) ∙ rest)
 
--- the label of a variable before others
+-- the label of a variable before other pieces is read as that piece and those of the other words
 two_more : (names : List (List ℕ)) (v : List ℕ) (n : ℕ) (ps : List Piece) (out : ℕ) (ws : List (List ℕ)) → HasTwo ws → var_read names v ≡ Some n
     → pieces_read names ws ≡ Some (made ps out) → pieces_read names (codes "label" ∷ v ∷ ws) ≡ Some (made (label_piece n ∷ ps) out)
 two_more names v n ps out ws two here rest =
@@ -120,6 +124,7 @@ two_more names v n ps out ws two here rest =
     ∙ ap (λ o. with_piece (option_map label_piece o) (pieces_read names (two.first ∷ two.second ∷ two.rest))) here
     ∙ ap (with_piece (Some (label_piece n))) (ap (pieces_read names) (sym two.parts) ∙ rest)
 
+-- the words of pieces and of a bound variable are read as those
 pieces_reads : (names : List (List ℕ)) (sources : List SourceSpec) (ps : List Piece) (out : ℕ) (ws : List (List ℕ)) → SpellParts names sources (pieces_with ps out) ws → pieces_read names ws ≡ Some (made ps out)
 pieces_reads names sources [] out [] h = absurd h
 pieces_reads names sources [] out (w ∷ []) h = absurd h.1
@@ -141,7 +146,7 @@ pieces_reads names sources (label_piece v ∷ ps) out (w ∷ x ∷ ws) h =
     ap (λ k. pieces_read names (k ∷ x ∷ ws)) h.0
     ∙ two_more names x v ps out ws (two_words names sources (flat_map piece_parts ps) out ws h.1.1) (var_reads names v x h.1.0) (pieces_reads names sources ps out ws h.1.1)
 
--- the pieces of a group
+-- the parts of a group's piece and of its variable are those of that piece alone before the variable
 group_parts : (p : Piece) (out : ℕ) → piece_parts p ++ out_parts out ≡ pieces_with (p ∷ []) out
 group_parts p out = ap (λ ps. ps ++ out_parts out) (sym (append_nil (piece_parts p)))
 
@@ -150,20 +155,20 @@ direction_reads : (desc : Bool) → direction_read (direction_text desc) ≡ Som
 direction_reads true = refl
 direction_reads false = refl
 
--- IN VAR, and -> VAR
+-- where an operator's number, a variable and a bound variable are each read, their words together are read as the three
 ends_reads : (names : List (List ℕ)) (i v o : ℕ) (input var arrow out : List ℕ) → op_number input ≡ Some i → var_read names var ≡ Some v → out_read names arrow out ≡ Some o → ends_read names input var arrow out ≡ Some (i, v, o)
 ends_reads names i v o input var arrow out a b d =
     ap (option_and_then (λ i. option_and_then (λ v. option_map (λ (o : ℕ). (i, v, o)) (out_read names arrow out)) (var_read names var))) a
     ∙ ap (option_and_then (λ v. option_map (λ (o : ℕ). (i, v, o)) (out_read names arrow out))) b ∙ ap (option_map (λ (o : ℕ). (i, v, o))) d
 
--- there are as many words as parts
+-- parts are spelled by as many words as they are
 same_length : (names : List (List ℕ)) (sources : List SourceSpec) (ps : List Part) (ws : List (List ℕ)) → SpellParts names sources ps ws → length ps ≡ length ws
 same_length names sources [] [] h = refl
 same_length names sources [] (w ∷ ws) h = absurd h
 same_length names sources (p ∷ ps) [] h = absurd h
 same_length names sources (p ∷ ps) (w ∷ ws) h = omega (arith, same_length names sources ps ws h.1)
 
--- an operator, its keyword first
+-- the words of an operator, its keyword first, are read as that operator
 op_reads : (names : List (List ℕ)) (sources : List SourceSpec) (op : Operator) (kw : List ℕ) (ws : List (List ℕ)) → SpellParts names sources (op_parts op) (kw ∷ ws) → keyword_read names sources kw ws ≡ Some op
 op_reads names sources (source s out) kw (name ∷ arrow ∷ v ∷ []) h =
     ap (λ k. keyword_read names sources k (name ∷ arrow ∷ v ∷ [])) h.0

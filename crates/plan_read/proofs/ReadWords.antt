@@ -42,7 +42,7 @@ digit_no_letter b h =
     let high : nat_le 65 b ≡ false = grind (arith, nat_tests, bounds.1) in
     ap (λ c. (c && nat_le b 122) || (nat_le 65 b && nat_le b 90)) low ∙ ap (λ c. c && nat_le b 90) high
 
--- the digits of a number
+-- the bytes of a number are digits
 pub all_digits : (x : List ℕ) → IsTrue (is_decimal x) → IsTrue (list_all is_digit x)
 all_digits [] h = refl
 all_digits (b ∷ []) h = and_both (is_digit b) true h refl
@@ -55,7 +55,7 @@ no_name (b ∷ x) h =
     let digit = (and_parts (is_digit b) (list_all is_digit x) (all_digits (b ∷ x) h)).0 in
     ap (λ c. c && list_all is_script_byte x) (digit_no_letter b digit)
 
--- a variable after its $
+-- a text that is a variable's after its $ is read as that variable
 text_reads : (names : List (List ℕ)) (v : ℕ) (x : List ℕ) → IsVarText names v x → var_named names x ≡ Some v
 text_reads names v x (inl (n, h)) = ap (λ b. cond b (position (bytes_eq x) names) (var_number x)) n ∙ h
 text_reads names v x (inr (d, e, l)) =
@@ -81,7 +81,7 @@ sign_reads Gt = refl
 sign_reads Ge = refl
 sign_reads Same = refl
 
--- what is seen of a text that a run goes through
+-- a text over which a run comes to a label's end is seen as that label, whole
 seen_whole : (x : List ℕ) (s t : Spot) (i : ℕ) (l : List ℕ) → run s x ≡ Some t → label_in t ≡ Some l → whole_label (seen_from s i x) ≡ Some l
 seen_whole [] s t i l r e = ap (λ o. whole_label (seen_at_end i o)) (ap label_in (some_is s t r) ∙ e)
 seen_whole (b ∷ x) s t i l r e =
@@ -107,7 +107,7 @@ pub all_weaker : (p q : ℕ → Bool) → ((b : ℕ) → p b ≡ true → q b �
 all_weaker p q f [] h = refl
 all_weaker p q f (b ∷ x) h = let parts = and_parts (p b) (list_all p x) h in and_both (q b) (list_all q x) (f b parts.0) (all_weaker p q f x parts.1)
 
--- a byte for which a test holds that doesn't hold for another one
+-- a byte for which a test holds is another one than a byte for which it fails
 pub other_byte : (p : ℕ → Bool) (b c : ℕ) → p c ≡ false → p b ≡ true → (b == c) ≡ false
 other_byte p b c f h = by_test (b == c) refl
   where
@@ -115,6 +115,7 @@ other_byte p b c f h = by_test (b == c) refl
     by_test false e = refl
     by_test true e = sym h ∙ ap p (sym (number_is b c e)) ∙ f
 
+-- a byte for which a test holds that fails for a quote, a brace and a comma is quiet
 quiet_by : (p : ℕ → Bool) → p 34 ≡ false → p 123 ≡ false → p 44 ≡ false → (b : ℕ) → p b ≡ true → quiet b ≡ true
 quiet_by p f g k b h =
     and_both (not (b == 34) && not (b == 123)) (not (b == 44))
@@ -142,6 +143,7 @@ abbrev IsSome : List ℕ → Type 0
 IsSome [] = ⊥
 IsSome (b ∷ x) = Unit {0}
 
+-- a text that spells a key isn't empty
 some_key : (names : List (List ℕ)) (k : Key) (x : List ℕ) → SpellsKey names k x → IsSome x
 some_key names (node_key v) x (y, e, t) = subst IsSome (sym e) tt
 some_key names (label_key v) x (y, e, h) = subst IsSome (sym e) tt
@@ -163,7 +165,7 @@ each_reads names (k ∷ ks) (x ∷ xs) h =
     ap (option_and_then (λ a. option_map (λ rest. a ∷ rest) (all_read (key_read names) xs))) (key_reads names k x h.0)
     ∙ ap (option_map (λ rest. k ∷ rest)) (each_reads names ks xs h.1)
 
--- a quiet byte stays where it stands
+-- a quiet byte before a text is put before the first of the texts that commas cut it into
 quiet_step : (b : ℕ) (x : List ℕ) → IsTrue (quiet b) → cut 44 Plain (b ∷ x) ≡ with_first b (cut 44 Plain x)
 quiet_step b x h = by_tests (b == 34) (b == 123) (b == 44) h
   where
@@ -174,14 +176,14 @@ quiet_step b x h = by_tests (b == 34) (b == 123) (b == 44) h
     by_tests false true e h = cc
     by_tests false false true h = cc
 
--- a quiet text before a comma
+-- a quiet text before a comma is the first of the texts that commas cut, before those after the comma
 cut_quiet : (t rest : List ℕ) → IsTrue (list_all quiet t) → cut 44 Plain (t ++ 44 ∷ rest) ≡ t ∷ cut 44 Plain rest
 cut_quiet [] rest h = refl
 cut_quiet (b ∷ t) rest h =
     let parts = and_parts (quiet b) (list_all quiet t) h in
     quiet_step b (t ++ 44 ∷ rest) parts.0 ∙ ap (with_first b) (cut_quiet t rest parts.1)
 
--- a quiet text at the end
+-- a quiet text at the end is one text
 cut_end : (t : List ℕ) → IsTrue (list_all quiet t) → cut 44 Plain t ≡ t ∷ []
 cut_end [] h = refl
 cut_end (b ∷ t) h = let parts = and_parts (quiet b) (list_all quiet t) h in quiet_step b t parts.0 ∙ ap (with_first b) (cut_end t parts.1)
@@ -193,6 +195,7 @@ cut_between names k [] t (u ∷ us) h = absurd h.1
 cut_between names k (j ∷ ks) t (u ∷ us) h =
     cut_quiet t (between 44 (u ∷ us)) (quiet_key names k t h.0) ∙ ap (λ r. t ∷ r) (cut_between names j ks u us h.1)
 
+-- texts that spell keys, put together with commas between them, are cut as they were
 pub texts_cut : (names : List (List ℕ)) (ks : List Key) (ts : List (List ℕ)) → SpellEach names ks ts → key_texts (between 44 ts) ≡ ts
 texts_cut names ks [] h = refl
 texts_cut names [] (t ∷ ts) h = absurd h

@@ -38,11 +38,11 @@ module _ (f : ℕ → ℕ) (apart : (v w : ℕ) → f v ≡ f w → v ≡ w) whe
   abbrev pub AreKinds : Kinds → Kinds → Type 0
   AreKinds ks js = (v : ℕ) → js (f v) ≡ ks v
 
-  -- a variable more
+  -- with one variable more bound, kinds of variables are those of their numbers
   with_kind_as : (out : ℕ) (k : Kind) (ks js : Kinds) → AreKinds ks js → AreKinds (with_kind out k ks) (with_kind (f out) k js)
   with_kind_as out k ks js h v = ap (λ b. cond b (Some k) (js (f v))) (same_var out v) ∙ ap (λ (o : Option Kind). cond (out == v) (Some k) o) (h v)
 
-  -- nothing bound
+  -- where nothing is bound, kinds of variables are those of their numbers
   none_as : AreKinds no_kinds no_kinds
   none_as v = refl
 
@@ -58,11 +58,11 @@ module _ (f : ℕ → ℕ) (apart : (v w : ℕ) → f v ≡ f w → v ≡ w) whe
       ap (λ b. b || has_var (map (key_as f) keys) (f v)) (ap (λ w. w == f v) (key_var_as k) ∙ same_var (key_var k) v)
       ∙ ap (λ b. (key_var k == v) || b) (has_var_as keys v)
 
-  -- the variables of keys alone
+  -- the kinds of the keys' variables alone are those of their numbers
   kept_as : (keys : List Key) (ks js : Kinds) → AreKinds ks js → AreKinds (kept keys ks) (kept (map (key_as f) keys) js)
   kept_as keys ks js h v = ap (λ b. cond b (js (f v)) None) (has_var_as keys v) ∙ ap (λ (o : Option Kind). cond (has_var keys v) o None) (h v)
 
-  -- what an operator with one input binds
+  -- the kinds that an operator with one input binds are those of the variables' numbers
   unary_kinds_as : (op : Unary) (ks js : Kinds) → AreKinds ks js → AreKinds (unary_kinds op ks) (unary_kinds (unary_as f op) js)
   unary_kinds_as (select test) ks js h = h
   unary_kinds_as (order_by v desc) ks js h = h
@@ -73,7 +73,7 @@ module _ (f : ℕ → ℕ) (apart : (v w : ℕ) → f v ≡ f w → v ≡ w) whe
   unary_kinds_as (concatenate pieces out) ks js h = with_kind_as out a_list ks js h
   unary_kinds_as (create_element label list out) ks js h = with_kind_as out an_element ks js h
 
-  -- what an operator binds
+  -- the kinds that an operator binds are those of the variables' numbers
   op_kinds_as : (op : Operator) (of by : ℕ → Kinds) → ((i : ℕ) → AreKinds (of i) (by i)) → AreKinds (op_kinds op of) (op_kinds (operator_as f op) by)
   op_kinds_as (source s out) of by h = with_kind_as out a_node no_kinds no_kinds none_as
   op_kinds_as (get_descendants i start path out) of by h = with_kind_as out a_node (of i) (by i) (h i)
@@ -189,7 +189,7 @@ module _ (f : ℕ → ℕ) (apart : (v w : ℕ) → f v ≡ f w → v ≡ w) whe
   single_as (over i (create_element label list out)) of = refl
   single_as (tuple_destroy i element) of = refl
 
-  -- the operator of a number, by other numbers of variables
+  -- the operator of a number, by other numbers of variables, is that operator by other numbers
   at_as : (ops : List Operator) (n : ℕ) → n < length ops → op_at (map (operator_as f) ops) n ≡ operator_as f (op_at ops n)
   at_as [] n h = absurd (omega arith)
   at_as (op ∷ ops) zero h = refl
@@ -201,7 +201,7 @@ module _ (f : ℕ → ℕ) (apart : (v w : ℕ) → f v ≡ f w → v ≡ w) whe
   single_at_as (op ∷ ops) zero of = single_as op of
   single_at_as (op ∷ ops) (suc n) of = single_at_as ops n of
 
-  -- which operators below a number are single
+  -- the operators below a number that are single are so by other numbers
   singles_as : (ops : List Operator) (n j : ℕ) → below_op is_single false (map (operator_as f) ops) n j ≡ below_op is_single false ops n j
   unfolding below_op
   singles_as ops zero j = refl
@@ -213,7 +213,7 @@ module _ (f : ℕ → ℕ) (apart : (v w : ℕ) → f v ≡ f w → v ≡ w) whe
           → is_single (op_at (map (operator_as f) ops) n) (below_op is_single false (map (operator_as f) ops) n) ≡ is_single (op_at ops n) (below_op is_single false ops n)
       here n more = single_at_as ops n (below_op is_single false (map (operator_as f) ops) n) ∙ ap (λ (of : ℕ → Bool). is_single (op_at ops n) of) (fun_ext more)
 
-  -- the kinds of the operators below a number
+  -- the kinds of the operators below a number are those of the variables' numbers
   kinds_below_as : (ops : List Operator) (n : ℕ) → n ≤ length ops → (j : ℕ) → AreKinds (below_op op_kinds no_kinds ops n j) (below_op op_kinds no_kinds (map (operator_as f) ops) n j)
   unfolding below_op
   kinds_below_as ops zero h j = none_as

@@ -71,7 +71,7 @@ module _ (sources : List SourceSpec) (p : PlanValue) (w : IsWritable sources p) 
   abbrev names : List (List ℕ)
   names = p.names
 
-  -- its names in the order in which its text first has them
+  -- the names of the plan in the order in which its text first has them
   abbrev said : List (List ℕ)
   said = names_said p
 
@@ -104,11 +104,11 @@ module _ (sources : List SourceSpec) (p : PlanValue) (w : IsWritable sources p) 
       (new_each (λ x. is_in x names ≡ true) [] (map name (filter (λ i. nat_lt i (length names)) (vars_of p.ops))) tt
       (names_each (λ x. is_in x names ≡ true) names (vars_of p.ops) (λ v h. in_names names v h)))
 
-  -- the number of a named variable
+  -- the number of a named variable is the place of its name among the names that are said
   named_number : (v : ℕ) → v < length names → f v ≡ position_or_len (bytes_eq (name v)) said
   named_number v h = let less : nat_lt v (length names) ≡ true = grind (arith, nat_tests, h) in ap (λ b. cond b (position_or_len (bytes_eq (name v)) said) v) less
 
-  -- the number of another variable
+  -- the number of a variable without a name is its own
   other_number : (v : ℕ) → length names ≤ v → f v ≡ v
   other_number v h = let more : nat_lt v (length names) ≡ false = grind (arith, nat_tests, h) in ap (λ b. cond b (position_or_len (bytes_eq (name v)) said) v) more
 

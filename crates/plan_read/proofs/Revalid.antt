@@ -65,7 +65,7 @@ module _ (f : ℕ → ℕ) (apart : (v w : ℕ) → f v ≡ f w → v ≡ w) whe
   source_as n (over i op) h = h
   source_as n (tuple_destroy i v) h = h
 
-  -- the kinds that inputs bind together
+  -- the kinds that inputs bind together are those of the variables' numbers
   below_as : (ops : List Operator) (is : List ℕ) → AllByRecursion (λ i. i < length ops) is → AreKinds f apart (kinds_below is (kinds ops)) (kinds_below is (kinds (anew ops)))
   below_as ops [] h v = refl
   below_as ops (i ∷ []) h v = kinds_as f apart ops i h.0 v

@@ -22,7 +22,7 @@ AreApart (x ∷ xs) = (is_in x xs ≡ false) × AreApart xs
 pub same_text : (x y : List ℕ) → bytes_eq x y ≡ true → x ≡ y
 same_text x y h = (bytes_eq-Decides x y).0 h
 
--- whether texts have the same bytes, turned round
+-- texts that differ one way differ the other way round
 turned : (x y : List ℕ) → bytes_eq x y ≡ false → bytes_eq y x ≡ false
 turned x y h = by_case (bytes_eq y x) refl
   where
@@ -53,7 +53,7 @@ either_holds : (a b : Bool) → b ≡ true → (a || b) ≡ true
 either_holds true b h = refl
 either_holds false b h = h
 
--- texts and a new one
+-- texts of which none stands twice stay so with one more that is new
 apart_more : (xs : List (List ℕ)) (x : List ℕ) → AreApart xs → is_in x xs ≡ false → AreApart (xs ++ x ∷ [])
 apart_more [] x a n = (refl, tt)
 apart_more (y ∷ xs) x a n = (

@@ -38,7 +38,7 @@ added_before [] s i h = absurd (omega arith)
 added_before (t ∷ slots) s zero h = refl
 added_before (t ∷ slots) s (suc i) h = added_before slots s i (omega arith)
 
--- the slot that was added
+-- after others, the slot that was added has the scope that was added
 pub added_here : (slots : Slots) (s : Option Scope) (i : ℕ) → i ≡ length slots → slice_get (slots ++ s ∷ []) i ≡ Some s
 added_here [] s zero e = refl
 added_here [] s (suc i) e = absurd (omega arith)
@@ -60,11 +60,11 @@ count_here i = let e : (i == i) ≡ true = eq-eqb i i refl in rw e refl
 count_other : (i n : ℕ) → (n ≡ i → ⊥) → count_by (λ m. m == n) (i ∷ []) ≡ 0
 count_other i n h = let e : (i == n) ≡ false = ne_eqb i n (λ p. h (sym p)) in rw e refl
 
--- what is kept at one slot where the uses are as many
+-- what is kept at a slot of an operator is so where its uses are as many
 slot_same : (s : Option (Option Scope)) (m n : ℕ) (kinds : Kinds) → m ≡ n → IsSlot s m kinds → IsSlot s n kinds
 slot_same s m n kinds e h = subst (λ k. IsSlot s k kinds) e h
 
--- what is kept at all slots where the uses are as many
+-- what is kept at all slots is so where the uses of each operator are as many
 pub slots_same : (slots : Slots) (count : ℕ) (u w : ℕ → ℕ) (of : ℕ → Kinds) → ((n : ℕ) → u n ≡ w n) → AreSlots slots count u of → AreSlots slots count w of
 slots_same slots count u w of e h = record { many = h.many; each = λ i. slot_same (slice_get slots i) (u i) (w i) (of i) (e i) (h.each i) }
 
@@ -89,7 +89,7 @@ slots_emptied slots count uses of i h l u = record { many = length-set slots i N
           (slot_same (slice_get slots j) (uses j) (used_more uses (i ∷ []) j) (of j) same (h.each j)))
     ]
 
--- what taking one input gives
+-- taking the scope of one input gives it where the input was unused, and leaves its slot empty
 pub below_one : (slots left : Slots) (count : ℕ) (uses : ℕ → ℕ) (of : ℕ → Kinds) (i : ℕ) (r : Option Scope) → AreSlots slots count uses of → i < count
     → r ≡ scope_in (slice_get slots i) → left ≡ slice_set slots i None → IsBelow left count uses of (i ∷ []) r
 below_one slots left count uses of i r h l e g =
@@ -140,7 +140,7 @@ both_once uses i j a b =
     let none : count_by (λ m. m == i) (j ∷ []) ≡ 0 = count_other j i apart in
     (omega (arith, f, none, one), (omega (arith, e, two), tt))
 
--- what taking two inputs gives
+-- taking the scopes of two inputs gives the scope of both together, and leaves their slots empty
 pub below_both : (slots left : Slots) (count : ℕ) (uses : ℕ → ℕ) (of : ℕ → Kinds) (i j : ℕ) (first second both : Scope)
     → IsBelow slots count uses of (i ∷ []) (Some first) → IsBelow left count (used_more uses (i ∷ [])) of (j ∷ []) (Some second)
     → ((v : ℕ) → kinds_in both v ≡ either_kind (kinds_in first v) (kinds_in second v)) → IsBelow left count uses of (i ∷ j ∷ []) (Some both)

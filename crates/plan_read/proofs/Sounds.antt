@@ -134,11 +134,11 @@ each_end : {X : Type 0} (P : X → Type 0) (xs : List X) (x : X) → AllByRecurs
 each_end P [] x h = h.0
 each_end P (y ∷ xs) x h = each_end P xs x h.1
 
--- what the first operators and one more bind
+-- what operators and one more bind anew is what they bind, and then what that one does
 outs_more : (before : List Operator) (op : Operator) → flat_map outs_of (before ++ op ∷ []) ≡ flat_map outs_of before ++ outs_of op
 outs_more before op = sym (flat_map_more outs_of [] before op)
 
--- operators and one more that is sound after them
+-- sound operators and one more that is sound after them are sound
 pub sound_more : (ns : List Numbered) (i k : ℕ) (op : Operator) → take k (ops_of ns) ≡ take i (ops_of ns) ++ op ∷ [] → IsShort (shape_of op) → AreSound ns i
     → IsSoundAfter (take i (ops_of ns)) op (kinds (ops_of ns)) → AreSound ns k
 sound_more ns i k op e short s h =
@@ -166,10 +166,11 @@ sound_last ns i k op e s =
     }
 
 module _ (ds : List Draft) (k : ℕ) (d : Draft) (inside : k < length ds) (is : d ≡ get_or ds k d) where
+  -- the operators that were read, without their numbers
   abbrev ops : List Operator
   ops = ops_of (all_numbered ds)
 
-  -- the first operators and the next one
+  -- the operators up to and with the next one are those before it and that one
   pub taken : take (suc k) ops ≡ take k ops ++ op_of d.op ∷ []
   taken =
       let l = many_ops ds in

@@ -27,7 +27,7 @@ use Rattle.plan_read.specs.Numbers.{is_decimal, op_number, var_number}
 use Rattle.plan_read.specs.Reading.{begins, whole_label, quoted_read, long_path, within_positions, path_form, path_read}
 use Rattle.plan_read.specs.Variables.{dollared, var_named, var_read}
 
--- what a choice gives that is nothing else
+-- where a choice whose other side is None gives something, the test holds, and the first side gives it
 pub cond_some : {A : Type 0} (b : Bool) (x : Option A) (y : A) → cond b x None ≡ Some y → (b ≡ true) × (x ≡ Some y)
 cond_some true x y e = (refl, e)
 cond_some false x y e = none_some y e
@@ -37,13 +37,13 @@ pub then_some : {A B : Type 0} (f : A → Option B) (o : Option A) (y : B) → o
 then_some f None y e = none_some y e
 then_some f (Some x) y e = (x, refl, e)
 
--- a number of an operator
+-- a word that is read as an operator's number is one, and stands for at most the greatest of 32 bits
 pub number_spelled : (word : List ℕ) (n : ℕ) → op_number word ≡ Some n → IsTrue (is_decimal word) × (min (digits_value 10 word) 4294967295 ≡ n)
 number_spelled word n e =
     let h = cond_some (is_decimal word) (Some (min (digits_value 10 word) 4294967295)) n e in
     (h.0, some_is (min (digits_value 10 word) 4294967295) n h.1)
 
--- a variable after its $
+-- a text that is read as a variable after its $ is that variable's
 text_spelled : (names : List (List ℕ)) (v : ℕ) (x : List ℕ) → var_named names x ≡ Some v → IsVarText names v x
 text_spelled names v x e = by_name (is_name x) refl e
   where
@@ -59,7 +59,7 @@ text_spelled names v x e = by_name (is_name x) refl e
     by_name true n h = inl (n, h)
     by_name false n h = numbered h
 
--- what stands after a $
+-- a word after whose $ a text stands is $ and that text
 dollar_spelled : (word x : List ℕ) → dollared word ≡ Some x → word ≡ 36 ∷ x
 dollar_spelled [] x e = none_some x e
 dollar_spelled (b ∷ y) x e =
@@ -96,7 +96,7 @@ path_spelled word p e =
         let more : 120 < positions_in (value_of s) = grind (arith, nat_tests, t) in
         inr (positions_in (value_of s), (s, w, few, refl, more), sym e)
 
--- what was seen of a label that is the whole of a word
+-- a word that is seen as a label, whole, spells that label
 whole_seen : (word l : List ℕ) (z : Seen) → Saw start 0 word z → whole_label z ≡ Some l → SpellsLabel word l
 whole_seen word l (got k end []) s e =
     let same : word ≡ s.spelled = s.parts ∙ append_nil s.spelled in

@@ -20,16 +20,16 @@ use Rattle.plan_read.specs.declared.words.Mode.{Mode}
 use Rattle.plan_read.specs.declared.words.Mode.TheVariants.{Plain}
 use Rattle.plan_read.proofs.Spelled.{cond_some, then_some, var_spelled}
 
--- what is made of something
+-- where a function is applied to an option and gives a value, the option has a value from which it comes
 pub map_some : {A B : Type 0} (f : A → B) (o : Option A) (y : B) → option_map f o ≡ Some y → (x : A) × (o ≡ Some x) × (f x ≡ y)
 map_some f None y e = none_some y e
 map_some f (Some x) y e = (x, refl, some_is (f x) y e)
 
--- a word that is a fixed one
+-- a word that the test finds equal to a fixed word is that word
 pub word_is : (word fixed : List ℕ) → bytes_eq word fixed ≡ true → word ≡ fixed
 word_is word fixed h = (bytes_eq-Decides word fixed).0 h
 
--- the sign of a comparison
+-- a word that is read as a comparison's sign is the sign of that comparison
 pub sign_spelled : (word : List ℕ) (op : TestOp) → sign_read word ≡ Some op → word ≡ op_sign op
 sign_spelled word op e = first Eq _ e (λ e. first Ne _ e (λ e. first Lt _ e (λ e. first Le _ e (λ e. first Gt _ e (λ e. first Ge _ e (λ e. first Same None e (λ e. none_some op e)))))))
   where
@@ -61,12 +61,13 @@ each_spelled names (x ∷ xs) ks e =
     let m = map_some (λ rest. h.0 ∷ rest) (all_read (key_read names) xs) ks h.2 in
     subst (λ qs. SpellEach names qs (x ∷ xs)) m.2 (key_spelled names h.0 x h.1, each_spelled names xs m.0 m.1)
 
--- there is a first piece
+-- a list of pieces has a first one
 record HasFirst (xs : List (List ℕ)) : Type 0 where
   pub first : List ℕ
   pub rest : List (List ℕ)
   pub parts : xs ≡ first ∷ rest
 
+-- what a text is cut into has a first piece
 first_piece : (separator : ℕ) (m : Mode) (x : List ℕ) → HasFirst (cut separator m x)
 first_piece separator m [] = record { first = []; rest = []; parts = refl }
 first_piece separator m (b ∷ bs) = by_case (is_outside m && b == separator)
@@ -105,7 +106,7 @@ texts_between : (body : List ℕ) → between 44 (key_texts body) ≡ body
 texts_between [] = refl
 texts_between (b ∷ x) = between_cut 44 Plain (b ∷ x)
 
--- a text up to its last byte, and that byte
+-- a text that isn't empty is its bytes up to the last one, and that byte
 last_byte : (x : List ℕ) → 0 < length x → x ≡ take (length x - 1) x ++ get_or x (length x - 1) 0 ∷ []
 last_byte x h =
     let inside : length x - 1 < length x = omega arith in

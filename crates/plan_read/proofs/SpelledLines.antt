@@ -23,14 +23,14 @@ use Rattle.plan_read.specs.Words.{words}
 use Rattle.plan_read.proofs.Spelled.{cond_some, then_some, number_spelled, var_spelled, name_spelled, path_spelled, quoted_spelled}
 use Rattle.plan_read.proofs.SpelledKeys.{map_some, word_is, sign_spelled, keys_spelled}
 
--- words of parts after those of others
+-- words that spell parts, and words that spell others, together spell both
 spell-append : (names : List (List ℕ)) (sources : List SourceSpec) (ps qs : List Part) (xs ys : List (List ℕ)) → SpellParts names sources ps xs → SpellParts names sources qs ys → SpellParts names sources (ps ++ qs) (xs ++ ys)
 spell-append names sources [] qs [] ys h k = k
 spell-append names sources [] qs (x ∷ xs) ys h k = absurd h
 spell-append names sources (p ∷ ps) qs [] ys h k = absurd h
 spell-append names sources (p ∷ ps) qs (x ∷ xs) ys h k = (h.0, spell-append names sources ps qs xs ys h.1 k)
 
--- the right side of a comparison
+-- a word that is read as the right side of a comparison spells it
 operand_spelled : (names : List (List ℕ)) (sources : List SourceSpec) (word : List ℕ) (o : Operand) → operand_read names word ≡ Some o → SpellsPart names sources (operand_part o) word
 operand_spelled names sources word o e = by_first (begins 36 word) e
   where
@@ -51,7 +51,7 @@ test_spelled names sources l s r t e =
     subst (λ q. SpellParts names sources (test_parts q) (l ∷ s ∷ r ∷ [])) right.2
     (var_spelled names left.0 l left.1, (sign_spelled s sign.0 sign.1, (operand_spelled names sources r right.0 right.1, tt)))
 
--- the words of one comparison before those of others
+-- comparisons that are read of a first one and of others are that one and the others
 with_test_some : (t : Option Test) (rest : Option (List Test)) (ts : List Test) → with_test t rest ≡ Some ts → (a : Test) × (more : List Test) × (t ≡ Some a) × (rest ≡ Some more) × (a ∷ more ≡ ts)
 with_test_some t rest ts e =
     let h = then_some (λ a. option_map (λ more. a ∷ more) rest) t ts e in
@@ -62,6 +62,7 @@ with_test_some t rest ts e =
 abbrev more_parts : List Test → List Part
 more_parts tests = flat_map (λ t. keyword (codes "AND") ∷ test_parts t) tests
 
+-- words that are read as comparisons, each after AND, spell those comparisons
 more_spelled : (names : List (List ℕ)) (sources : List SourceSpec) (ws : List (List ℕ)) (ts : List Test) → more_tests names ws ≡ Some ts → SpellParts names sources (more_parts ts) ws
 more_spelled names sources [] ts e = subst (λ q. SpellParts names sources (more_parts q) []) (some_is [] ts e) tt
 more_spelled names sources (a ∷ []) ts e = none_some ts e
@@ -87,13 +88,13 @@ tests_spelled names sources (l ∷ s ∷ r ∷ ws) ts e =
     subst (λ q. SpellParts names sources (tests_parts q) (l ∷ s ∷ r ∷ ws)) w.4
     (spell-append names sources (test_parts w.0) (more_parts w.1) (l ∷ s ∷ r ∷ []) ws (test_spelled names sources l s r w.0 w.2) (more_spelled names sources ws w.1 w.3))
 
--- the variable that is bound
+-- words that are read as a bound variable spell an arrow and that variable
 out_spelled : (names : List (List ℕ)) (sources : List SourceSpec) (arrow out : List ℕ) (v : ℕ) → out_read names arrow out ≡ Some v → SpellParts names sources (out_parts v) (arrow ∷ out ∷ [])
 out_spelled names sources arrow out v e =
     let h = cond_some (bytes_eq arrow (codes "->")) (var_read names out) v e in
     (word_is arrow (codes "->") h.0, (var_spelled names v out h.1, tt))
 
--- a piece of one word
+-- a word that is read as a piece spells that piece
 piece_spelled : (names : List (List ℕ)) (sources : List SourceSpec) (word : List ℕ) (p : Piece) → piece_read names word ≡ Some p → SpellParts names sources (piece_parts p) (word ∷ [])
 piece_spelled names sources word p e = by_first (begins 36 word) e
   where
@@ -109,7 +110,7 @@ piece_spelled names sources word p e = by_first (begins 36 word) e
 abbrev pieces_parts : Pieces → List Part
 pieces_parts r = flat_map piece_parts r.pieces ++ out_parts r.out
 
--- the words of one piece before those of others
+-- pieces that are read of a first one and of others are that one and the others
 with_piece_some : (p : Option Piece) (rest : Option Pieces) (r : Pieces) → with_piece p rest ≡ Some r
     → (a : Piece) × (more : Pieces) × (p ≡ Some a) × (rest ≡ Some more) × (◌≡◌ {A = Pieces} (record { pieces = a ∷ more.pieces; out = more.out }) r)
 with_piece_some p rest r e =
@@ -117,7 +118,7 @@ with_piece_some p rest r e =
     let m = map_some (λ (m : Pieces). record { pieces = h.0 ∷ m.pieces; out = m.out }) rest r h.2 in
     (h.0, m.0, h.1, m.1, m.2)
 
--- pieces and the variable after them
+-- words that are read as pieces and a variable after them spell those
 pieces_spelled : (names : List (List ℕ)) (sources : List SourceSpec) (ws : List (List ℕ)) (r : Pieces) → pieces_read names ws ≡ Some r → SpellParts names sources (pieces_parts r) ws
 pieces_spelled names sources [] r e = none_some r e
 pieces_spelled names sources (w ∷ []) r e = none_some r e
@@ -147,6 +148,7 @@ pieces_spelled names sources (w ∷ v ∷ x ∷ ws) r e =
 abbrev Spelt : List (List ℕ) → List SourceSpec → List ℕ → List (List ℕ) → Operator → Type 0
 Spelt names sources kw ws op = SpellParts names sources (op_parts op) (kw ∷ ws)
 
+-- words that are read as a source spell that source
 source_spelled : (names : List (List ℕ)) (sources : List SourceSpec) (ws : List (List ℕ)) (op : Operator) → source_form names sources ws ≡ Some op → Spelt names sources (codes "source") ws op
 source_spelled names sources (name ∷ arrow ∷ out ∷ []) op e =
     let h = cond_some (is_source_name name) (option_map (source (source_number sources name)) (out_read names arrow out)) op e in
@@ -154,7 +156,7 @@ source_spelled names sources (name ∷ arrow ∷ out ∷ []) op e =
     subst (Spelt names sources (codes "source") (name ∷ arrow ∷ out ∷ [])) m.2 (refl, ((name_spelled name h.0, refl), out_spelled names sources arrow out m.0 m.1))
 source_spelled names sources ws op e = none_some op e
 
--- IN VAR, and -> VAR
+-- where the words IN VAR and -> VAR are read as three numbers, they are those of the input, the variable and the bound variable
 ends_spelled : (names : List (List ℕ)) (input var arrow out : List ℕ) (t : ℕ × ℕ × ℕ) → ends_read names input var arrow out ≡ Some t → (op_number input ≡ Some t.0) × (var_read names var ≡ Some t.1) × (out_read names arrow out ≡ Some t.2)
 ends_spelled names input var arrow out t e =
     let i = then_some (λ i. option_and_then (λ v. option_map (λ (o : ℕ). (i, v, o)) (out_read names arrow out)) (var_read names var)) (op_number input) t e in
@@ -162,6 +164,7 @@ ends_spelled names input var arrow out t e =
     let o = map_some (λ (o : ℕ). (i.0, v.0, o)) (out_read names arrow out) t v.2 in
     (i.1 ∙ ap (λ (q : ℕ × ℕ × ℕ). Some q.0) o.2, v.1 ∙ ap (λ (q : ℕ × ℕ × ℕ). Some q.1) o.2, o.1 ∙ ap (λ (q : ℕ × ℕ × ℕ). Some q.2) o.2)
 
+-- words that are read as a getDescendants spell that operator
 descent_spelled : (names : List (List ℕ)) (sources : List SourceSpec) (ws : List (List ℕ)) (op : Operator) → descent_form names ws ≡ Some op → Spelt names sources (codes "getDescendants") ws op
 descent_spelled names sources (input ∷ from ∷ way ∷ arrow ∷ out ∷ []) op e =
     let h = then_some (λ (t : ℕ × ℕ × ℕ). option_map (λ p. get_descendants t.0 t.1 p t.2) (path_read way)) (ends_read names input from arrow out) op e in
@@ -171,6 +174,7 @@ descent_spelled names sources (input ∷ from ∷ way ∷ arrow ∷ out ∷ []) 
     (refl, (number_spelled input h.0.0 k.0, (var_spelled names h.0.1 from k.1, (path_spelled way m.0 m.1, out_spelled names sources arrow out h.0.2 k.2))))
 descent_spelled names sources ws op e = none_some op e
 
+-- words that are read as a selection spell that operator
 select_spelled : (names : List (List ℕ)) (sources : List SourceSpec) (ws : List (List ℕ)) (op : Operator) → select_form names ws ≡ Some op → Spelt names sources (codes "select") ws op
 select_spelled names sources (input ∷ l ∷ s ∷ r ∷ []) op e =
     let h = then_some (λ i. option_map (λ t. over i (select t)) (test_read names l s r)) (op_number input) op e in
@@ -178,6 +182,7 @@ select_spelled names sources (input ∷ l ∷ s ∷ r ∷ []) op e =
     subst (Spelt names sources (codes "select") (input ∷ l ∷ s ∷ r ∷ [])) m.2 (refl, (number_spelled input h.0 h.1, test_spelled names sources l s r m.0 m.1))
 select_spelled names sources ws op e = none_some op e
 
+-- words that are read as a join spell that operator
 join_spelled : (names : List (List ℕ)) (sources : List SourceSpec) (ws : List (List ℕ)) (op : Operator) → join_form names ws ≡ Some op → Spelt names sources (codes "join") ws op
 join_spelled names sources (left ∷ right ∷ tests) op e =
     let h = then_some (λ l. option_and_then (λ r. option_map (join l r) (tests_read names tests)) (op_number right)) (op_number left) op e in
@@ -187,6 +192,7 @@ join_spelled names sources (left ∷ right ∷ tests) op e =
     (refl, (number_spelled left h.0 h.1, (number_spelled right k.0 k.1, tests_spelled names sources tests m.0 m.1)))
 join_spelled names sources ws op e = none_some op e
 
+-- words that are read as a projection spell that operator
 project_spelled : (names : List (List ℕ)) (sources : List SourceSpec) (ws : List (List ℕ)) (op : Operator) → project_form names ws ≡ Some op → Spelt names sources (codes "project") ws op
 project_spelled names sources (input ∷ ks ∷ []) op e =
     let h = then_some (λ i. option_map (λ q. over i (project q)) (keys_read names ks)) (op_number input) op e in
@@ -194,6 +200,7 @@ project_spelled names sources (input ∷ ks ∷ []) op e =
     subst (Spelt names sources (codes "project") (input ∷ ks ∷ [])) m.2 (refl, (number_spelled input h.0 h.1, (keys_spelled names ks m.0 m.1, tt)))
 project_spelled names sources ws op e = none_some op e
 
+-- words that are read as an order spell that operator
 order_spelled : (names : List (List ℕ)) (sources : List SourceSpec) (ws : List (List ℕ)) (op : Operator) → order_form names ws ≡ Some op → Spelt names sources (codes "orderBy") ws op
 order_spelled names sources (input ∷ var ∷ direction ∷ []) op e =
     let h = then_some (λ i. option_and_then (λ v. option_map (λ d. over i (order_by v d)) (direction_read direction)) (var_read names var)) (op_number input) op e in
@@ -211,6 +218,7 @@ order_spelled names sources (input ∷ var ∷ direction ∷ []) op e =
         by_desc false h false k g = none_some d g
 order_spelled names sources ws op e = none_some op e
 
+-- words that are read as a concatenate spell that operator
 concat_spelled : (names : List (List ℕ)) (sources : List SourceSpec) (ws : List (List ℕ)) (op : Operator) → concat_form names ws ≡ Some op → Spelt names sources (codes "concatenate") ws op
 concat_spelled names sources (input ∷ rest) op e =
     let h = then_some (λ i. option_map (λ (r : Pieces). over i (concatenate r.pieces r.out)) (pieces_read names rest)) (op_number input) op e in
@@ -218,6 +226,7 @@ concat_spelled names sources (input ∷ rest) op e =
     subst (Spelt names sources (codes "concatenate") (input ∷ rest)) m.2 (refl, (number_spelled input h.0 h.1, pieces_spelled names sources rest m.0 m.1))
 concat_spelled names sources ws op e = none_some op e
 
+-- words that are read as a createElement spell that operator
 element_spelled : (names : List (List ℕ)) (sources : List SourceSpec) (ws : List (List ℕ)) (op : Operator) → element_form names ws ≡ Some op → Spelt names sources (codes "createElement") ws op
 element_spelled names sources (input ∷ name ∷ list ∷ arrow ∷ out ∷ []) op e =
     let h = cond_some (is_source_name name) (option_map (λ (t : ℕ × ℕ × ℕ). over t.0 (create_element name t.1 t.2)) (ends_read names input list arrow out)) op e in
@@ -227,6 +236,7 @@ element_spelled names sources (input ∷ name ∷ list ∷ arrow ∷ out ∷ [])
     (refl, (number_spelled input m.0.0 k.0, ((name_spelled name h.0, refl), (var_spelled names m.0.1 list k.1, out_spelled names sources arrow out m.0.2 k.2))))
 element_spelled names sources ws op e = none_some op e
 
+-- words that are read as a tupleDestroy spell that operator
 destroy_spelled : (names : List (List ℕ)) (sources : List SourceSpec) (ws : List (List ℕ)) (op : Operator) → destroy_form names ws ≡ Some op → Spelt names sources (codes "tupleDestroy") ws op
 destroy_spelled names sources (input ∷ element ∷ []) op e =
     let h = then_some (λ i. option_map (tuple_destroy i) (var_read names element)) (op_number input) op e in
@@ -240,6 +250,7 @@ one_is [] p e = none_some p e
 one_is (q ∷ []) p e = ap (λ r. r ∷ []) (some_is q p e)
 one_is (q ∷ r ∷ ps) p e = none_some p e
 
+-- words that are read as a groupBy spell that operator
 group_spelled : (names : List (List ℕ)) (sources : List SourceSpec) (ws : List (List ℕ)) (op : Operator) → group_form names ws ≡ Some op → Spelt names sources (codes "groupBy") ws op
 group_spelled names sources (input ∷ ks ∷ rest) op e =
     let h = then_some (λ i. option_and_then (λ q. option_and_then (group_of i q) (pieces_read names rest)) (keys_read names ks)) (op_number input) op e in
@@ -255,7 +266,7 @@ group_spelled names sources (input ∷ ks ∷ rest) op e =
         subst (Spelt names sources (codes "groupBy") (input ∷ ks ∷ rest)) m.2 (refl, (a, (b, subst (λ ps. SpellParts names sources (ps ++ out_parts r.out) rest) only d)))
 group_spelled names sources ws op e = none_some op e
 
--- the words of an operator, its keyword first
+-- words that are read as an operator, its keyword first, spell that operator
 keyword_spelled : (names : List (List ℕ)) (sources : List SourceSpec) (kw : List ℕ) (ws : List (List ℕ)) (op : Operator) → keyword_read names sources kw ws ≡ Some op → Spelt names sources kw ws op
 keyword_spelled names sources kw ws op e =
     first (codes "source") _ _ e (source_spelled names sources ws op) (λ e.

@@ -41,7 +41,7 @@ draft_number [] k d n h = absurd (omega arith)
 draft_number (e ∷ ds) zero d n h = refl
 draft_number (e ∷ ds) (suc k) d n h = draft_number ds k d n (omega arith)
 
--- the operator of a draft that stands at a number
+-- the operator of a draft that stands at a number is the one at that number
 pub draft_here : (ds : List Draft) (k : ℕ) (d : Draft) (op : Operator) → k < length ds → d ≡ get_or ds k d → get_or (ops_of (all_numbered ds)) k op ≡ op_of d.op
 draft_here ds k d op h e = draft_op ds k d op h ∙ ap (λ (x : Draft). op_of x.op) (sym e)
 
@@ -69,7 +69,7 @@ pub many_of : (ns : List Numbered) → length (ops_of ns) ≡ length ns
 many_of [] = refl
 many_of (n ∷ ns) = ap suc (many_of ns)
 
--- something stops to hold at the line of a draft
+-- what holds of the drafts before one, and not with that one, stops to hold at its line
 pub stops_at : (P : ℕ → Type 0) (ds : List Draft) (k : ℕ) (d : Draft) → k < length ds → d ≡ get_or ds k d → P k → (P (suc k) → ⊥) → StopsAt P (lines_of ds) d.line
 stops_at P ds k d h e before stops = record {
   place = k;

@@ -16,7 +16,7 @@ all_ops : (ns : List Numbered) → take (length ns) (ops_of ns) ≡ ops_of ns
 all_ops [] = refl
 all_ops (n ∷ ns) = ap (λ r. n.op ∷ r) (all_ops ns)
 
--- a plan of these operators
+-- a plan of operators that pass all checks is valid
 pub whole_valid : (names : List (List ℕ)) (sources : List SourceSpec) (lines : List Line) (ns : List Numbered) (p : PlanValue)
     → p.ops ≡ ops_of ns → length p.sources ≡ length sources → ArePlain names sources lines ns → AreWhole ns → IsValid p
 whole_valid names sources lines ns p e c plain whole =
@@ -31,7 +31,7 @@ whole_valid names sources lines ns p e c plain whole =
       sources = subst (λ k. AllByRecursion (HasSource k) p.ops) (sym c) (subst (AllByRecursion (HasSource (length sources))) (all_ops ns ∙ sym e) plain.known);
     }
 
--- a plan that ends in a single one ends in one
+-- operators that end in the only tupleDestroy, over what is single, end in the only tupleDestroy
 ends_any : (single : ℕ → Bool) (ops : List Operator) → EndsSingle single ops → EndsSingle (λ n. true) ops
 ends_any single [] h = h
 ends_any single (tuple_destroy i v ∷ []) h = refl

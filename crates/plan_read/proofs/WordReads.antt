@@ -24,7 +24,7 @@ use Rattle.mix_catalog.specs.Forms.{is_source_name}
 use Rattle.plan_read.specs.Reading.{begins, whole_label, quoted_read, long_path, within_positions, path_form, path_read}
 use Rattle.plan_read.specs.Grammar.{SpellsPath}
 
--- the test of UTF-8, where what it tests doesn't hold
+-- the test of UTF-8 fails for what isn't UTF-8
 pub no_utf8 : (x : List ℕ) → (IsUtf8 x → ⊥) → is_utf8 x ≡ false
 no_utf8 x h = by_case (is_utf8 x) refl
   where
@@ -40,15 +40,15 @@ no_text_path x h = ap (λ b. cond b (option_and_then path_form (read_of x)) None
 pub no_text_quoted : (x : List ℕ) → (IsUtf8 x → ⊥) → quoted_read x ≡ None
 no_text_quoted x h = ap (λ b. cond (b && begins 34 x) (whole_label (seen_from start 0 x)) None) (no_utf8 x h)
 
--- a written path of at most 100 parentheses open at once
+-- a written path of at most 100 parentheses open at once is read as its value, or as the path of 121 label positions
 path_within : (p : Spelled) → nesting p ≤ 100 → path_form p ≡ Some (within_positions (value_of p))
 path_within p h = let e : nat_le (nesting p) 100 ≡ true = grind (arith, nat_tests) in rw e refl
 
--- what a word that is UTF-8 reads as
+-- a word that is UTF-8 is read as the path that the machine reads of it, if any
 path_text : (x : List ℕ) → IsUtf8 x → path_read x ≡ option_and_then path_form (read_of x)
 path_text x u = ap (λ b. cond b (option_and_then path_form (read_of x)) None) (is_utf8-from_IsUtf8 x u)
 
--- what a word that is written so reads as
+-- a word that is written as a path of at most 100 parentheses open at once is read as that path
 path_written : (x : List ℕ) → IsUtf8 x → (p : Spelled) → Writes x p → nesting p ≤ 100 → path_read x ≡ Some (within_positions (value_of p))
 path_written x u p w n = path_text x u ∙ ap (option_and_then path_form) (writes_read x p w) ∙ path_within p n
 
@@ -117,11 +117,11 @@ nothing_after [] (suc n) h = refl
 nothing_after (b ∷ x) zero h = absurd (omega arith)
 nothing_after (b ∷ x) (suc n) h = nothing_after x n (omega arith)
 
--- a label up to the end is the whole
+-- a label that is seen up to the end of a word is the whole of it
 pub whole_to_end : (x l : List ℕ) (end : ℕ) → length x ≤ end → whole_label (got l end (drop end x)) ≡ Some l
 whole_to_end x l end h = ap (λ r. whole_label (got l end r)) (nothing_after x end h)
 
--- a label that ends before isn't
+-- a label that is seen to end before the end of a word isn't the whole of it
 pub whole_before : (x l : List ℕ) (end : ℕ) → end < length x → whole_label (got l end (drop end x)) ≡ None
 whole_before x l end h = by_drop x end h
   where
@@ -130,7 +130,7 @@ whole_before x l end h = by_drop x end h
     by_drop (b ∷ y) zero k = refl
     by_drop (b ∷ y) (suc n) k = by_drop y n (omega arith)
 
--- what a word that is UTF-8 and begins with a quote reads as
+-- a word that is UTF-8 and begins with a quote is read as the label that is seen of it whole, if any
 pub quoted_text : (x : List ℕ) → IsUtf8 x → begins 34 x ≡ true → quoted_read x ≡ whole_label (seen_from start 0 x)
 quoted_text x u b =
     ap (λ t. cond (t && begins 34 x) (whole_label (seen_from start 0 x)) None) (is_utf8-from_IsUtf8 x u)

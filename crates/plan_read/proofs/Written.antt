@@ -19,12 +19,12 @@ text-append : (names sources : List (List ℕ)) (ps qs : List Part) → parts_te
 text-append names sources [] qs = refl
 text-append names sources (p ∷ ps) qs = ap (λ r. 32 ∷ part_text names sources p ++ r) (text-append names sources ps qs) ∙ sym (append_assoc (32 ∷ part_text names sources p) (parts_text names sources ps) (parts_text names sources qs))
 
--- the right side of a comparison
+-- the canonical text of the right side of a comparison is the word of its part
 operand_written : (names sources : List (List ℕ)) (o : Operand) → operand_text names o ≡ part_text names sources (operand_part o)
 operand_written names sources (var_operand v) = refl
 operand_written names sources (text_operand label) = refl
 
--- a comparison after a blank
+-- the canonical text of a comparison, after a blank, is that of its parts
 test_written : (names sources : List (List ℕ)) (t : Test) → 32 ∷ test_text names t ≡ parts_text names sources (test_parts t)
 test_written names sources t =
     ap (λ x. 32 ∷ x) (append_assoc (var_text names t.left) (32 ∷ op_sign t.op) (32 ∷ operand_text names t.right))
@@ -46,7 +46,7 @@ tests_written names sources (t ∷ tests) =
     ∙ ap (λ x. parts_text names sources (test_parts t) ++ x) (more_written names sources tests)
     ∙ sym (text-append names sources (test_parts t) (flat_map (λ t. keyword (codes "AND") ∷ test_parts t) tests))
 
--- a piece after a blank
+-- the canonical text of a piece, after a blank, is that of its parts
 piece_written : (names sources : List (List ℕ)) (p : Piece) → 32 ∷ piece_text names p ≡ parts_text names sources (piece_parts p)
 piece_written names sources (var_piece v) = sym (append_nil (32 ∷ var_text names v))
 piece_written names sources (label_piece v) = sym (ap (λ x. codes " label " ++ x) (append_nil (var_text names v)))
@@ -59,16 +59,17 @@ pieces_written names sources (p ∷ ps) =
     ap (λ x. x ++ pieces_text names ps) (piece_written names sources p) ∙ ap (λ x. parts_text names sources (piece_parts p) ++ x) (pieces_written names sources ps)
     ∙ sym (text-append names sources (piece_parts p) (flat_map piece_parts ps))
 
--- the variable that is bound
+-- the canonical text of a bound variable is that of its parts
 out_written : (names sources : List (List ℕ)) (v : ℕ) → out_text names v ≡ parts_text names sources (out_parts v)
 out_written names sources v = sym (ap (λ x. codes " -> " ++ x) (append_nil (var_text names v)))
 
--- what stands before pieces and the variable that is bound
+-- a prefix, the text of parts and of a bound variable are the prefix and the text of both together
 gathered : (names sources : List (List ℕ)) (prefix : List ℕ) (ps : List Part) (x : List ℕ) (out : ℕ) → x ≡ parts_text names sources ps → (prefix ++ x) ++ out_text names out ≡ prefix ++ parts_text names sources (ps ++ out_parts out)
 gathered names sources prefix ps x out e =
     append_assoc prefix x (out_text names out) ∙ ap (λ y. prefix ++ (y ++ out_text names out)) e
     ∙ ap (λ y. prefix ++ (parts_text names sources ps ++ y)) (out_written names sources out) ∙ ap (λ y. prefix ++ y) (sym (text-append names sources ps (out_parts out)))
 
+-- the canonical text of an operator with one input is that of its parts
 unary_written : (names sources : List (List ℕ)) (i : ℕ) (op : Unary) → unary_text names i op ≡ parts_text names sources (unary_parts i op)
 unary_written names sources i (select test) = ap (λ x. codes " select " ++ decimal i ++ x) (test_written names sources test) ∙ simp append_assoc
 unary_written names sources i (order_by v true) = simp (append_assoc, append_nil)

@@ -71,7 +71,7 @@ module _ (sources : List SourceSpec) (catalog : AreNumbered sources) (names : Li
   abbrev AreGood : List Part → Type 0
   AreGood ps = AllByRecursion (IsGood sources catalog names are) ps
 
-  -- a word and the words of parts after it, cut
+  -- a word and the words of parts after it are cut into those words
   cut_parts : (w : List ℕ) (ps : List Part) → IsWhole w → AreGood ps → words (w ++ parts_text names spec_names ps) ≡ w ∷ words_of ps
   cut_parts w [] h g = ap words (append_nil w) ∙ cut_last w h
   cut_parts w (p ∷ ps) h g =
@@ -83,7 +83,7 @@ module _ (sources : List SourceSpec) (catalog : AreNumbered sources) (names : Li
   parts_spelled [] g = tt
   parts_spelled (p ∷ ps) g = (part_spelled sources catalog names are p g.0, parts_spelled ps g.1)
 
-  -- the variables of the words of parts
+  -- the variables of the words of parts are the variables of the parts
   parts_read : (ps : List Part) → AreGood ps → flat_map word_vars (words_of ps) ≡ map (name_or_number names) (flat_map part_vars ps)
   parts_read [] g = refl
   parts_read (p ∷ ps) g =
@@ -117,7 +117,7 @@ module _ (sources : List SourceSpec) (catalog : AreNumbered sources) (names : Li
   number_good n h = record { known = h; written = tt; vars = tt }
 
   module _ (n : ℕ) (op : Operator) (small : n < 4294967295) (good : AreGood (op_parts op)) where
-    -- the words of an operator's line
+    -- the words of an operator's line are its number's and those of its parts
     line_words : words (line_text n op) ≡ words_of (number n ∷ op_parts op)
     line_words = ap words (line_parts n op) ∙ cut_parts (decimal n) (op_parts op) (part_whole sources catalog names are (number n) (number_good n small)) good
 
@@ -125,7 +125,7 @@ module _ (sources : List SourceSpec) (catalog : AreNumbered sources) (names : Li
     pub line_spelled : SpellsLine names sources (line_text n op) (numbered n op)
     line_spelled = subst (SpellParts names sources (number n ∷ op_parts op)) (sym line_words) (parts_spelled (number n ∷ op_parts op) (number_good n small, good))
 
-    -- the variables of an operator's line are its
+    -- the variables of an operator's line are the operator's variables
     pub line_read : line_vars (line_text n op) ≡ map (name_or_number names) (op_vars op)
     line_read = ap (flat_map word_vars) line_words ∙ parts_read (number n ∷ op_parts op) (number_good n small, good)
 
@@ -155,7 +155,7 @@ module _ (sources : List SourceSpec) (catalog : AreNumbered sources) (names : Li
   laid k n [] = []
   laid k n (op ∷ ops) = record { number = k; text = line_text n op } ∷ laid (k + 1) (suc n) ops
 
-  -- the texts of these lines
+  -- the texts of lines, in order
   abbrev texts : ℕ → List Operator → List (List ℕ)
   texts n [] = []
   texts n (op ∷ ops) = line_text n op ∷ texts (suc n) ops
@@ -226,7 +226,7 @@ module _ (sources : List SourceSpec) (catalog : AreNumbered sources) (names : Li
       by_case true e = let less : v < length names = grind (arith, nat_tests, e) in (are v less).0
       by_case false e = no_name (decimal v) (decimal_number v (omega (arith, small)))
 
-  -- the variables that are written as names
+  -- of variables, those that are written as names are the named ones, each by its name
   pub names_read : (vs : List ℕ) → AllByRecursion (λ v. v < 2 ^ 32) vs
       → filter is_name (map (name_or_number names) vs) ≡ map (λ v. slice_index_or names v []) (filter (λ v. nat_lt v (length names)) vs)
   names_read [] h = refl

@@ -18,7 +18,7 @@ is_destroy (join left right tests) = false
 is_destroy (over input op) = false
 is_destroy (tuple_destroy input element) = true
 
--- there are no operators
+-- a list of operators is empty
 abbrev pub are_none : List Operator → Bool
 are_none [] = true
 are_none (op ∷ ops) = false

@@ -103,7 +103,7 @@ more_tests names (a ∷ l ∷ []) = None
 more_tests names (a ∷ l ∷ s ∷ []) = None
 more_tests names (a ∷ l ∷ s ∷ r ∷ ws) = cond (bytes_eq a (codes "AND")) (with_test (test_read names l s r) (more_tests names ws)) None
 
--- comparisons with more behind them, where there are more
+-- comparisons with more after them, where there are more
 abbrev pub with_more : List Test → Option (List Test) → Option (List Test)
 with_more tests more = option_map (λ ts. tests ++ ts) more
 
@@ -153,33 +153,33 @@ pieces_read names (w ∷ v ∷ x ∷ ws) =
 abbrev pub direction_read : List ℕ → Option Bool
 direction_read word = cond (bytes_eq word (codes "desc")) (Some true) (cond (bytes_eq word (codes "asc")) (Some false) None)
 
--- IN VAR, and -> VAR
+-- the input and the variables of the words IN VAR before an operator's own, and -> VAR after them
 abbrev pub ends_read : List (List ℕ) → List ℕ → List ℕ → List ℕ → List ℕ → Option (ℕ × ℕ × ℕ)
 ends_read names input var arrow out = option_and_then (λ i. option_and_then (λ v. option_map (λ (o : ℕ). (i, v, o)) (out_read names arrow out)) (var_read names var)) (op_number input)
 
--- NAME -> VAR
+-- the source of the words NAME -> VAR
 abbrev pub source_form : List (List ℕ) → List SourceSpec → List (List ℕ) → Option Operator
 source_form names sources (name ∷ arrow ∷ out ∷ []) =
     cond (is_source_name name) (option_map (source (source_number sources name)) (out_read names arrow out)) None
 source_form names sources ws = None
 
--- IN VAR PATH -> VAR
+-- the getDescendants of the words IN VAR PATH -> VAR
 abbrev pub descent_form : List (List ℕ) → List (List ℕ) → Option Operator
 descent_form names (input ∷ from ∷ path ∷ arrow ∷ out ∷ []) =
     option_and_then (λ (e : ℕ × ℕ × ℕ). option_map (λ p. get_descendants e.0 e.1 p e.2) (path_read path)) (ends_read names input from arrow out)
 descent_form names ws = None
 
--- IN TEST
+-- the selection of the words IN TEST
 abbrev pub select_form : List (List ℕ) → List (List ℕ) → Option Operator
 select_form names (input ∷ left ∷ sign ∷ right ∷ []) = option_and_then (λ i. option_map (λ t. over i (select t)) (test_read names left sign right)) (op_number input)
 select_form names ws = None
 
--- LEFT RIGHT, and comparisons
+-- the join of the words LEFT RIGHT and comparisons
 abbrev pub join_form : List (List ℕ) → List (List ℕ) → Option Operator
 join_form names (left ∷ right ∷ tests) = option_and_then (λ l. option_and_then (λ r. option_map (join l r) (tests_read names tests)) (op_number right)) (op_number left)
 join_form names ws = None
 
--- IN KEYS
+-- the projection of the words IN KEYS
 abbrev pub project_form : List (List ℕ) → List (List ℕ) → Option Operator
 project_form names (input ∷ keys ∷ []) = option_and_then (λ i. option_map (λ ks. over i (project ks)) (keys_read names keys)) (op_number input)
 project_form names ws = None
@@ -194,28 +194,28 @@ one_piece (p ∷ q ∷ ps) = None
 abbrev pub group_of : ℕ → List Key → Pieces → Option Operator
 group_of i keys read = option_map (λ p. over i (group_by keys p read.out)) (one_piece read.pieces)
 
--- IN KEYS PIECE -> VAR
+-- the groupBy of the words IN KEYS PIECE -> VAR
 abbrev pub group_form : List (List ℕ) → List (List ℕ) → Option Operator
 group_form names (input ∷ keys ∷ rest) = option_and_then (λ i. option_and_then (λ ks. option_and_then (group_of i ks) (pieces_read names rest)) (keys_read names keys)) (op_number input)
 group_form names ws = None
 
--- IN VAR asc, and IN VAR desc
+-- the order of the words IN VAR asc, or IN VAR desc
 abbrev pub order_form : List (List ℕ) → List (List ℕ) → Option Operator
 order_form names (input ∷ var ∷ direction ∷ []) = option_and_then (λ i. option_and_then (λ v. option_map (λ d. over i (order_by v d)) (direction_read direction)) (var_read names var)) (op_number input)
 order_form names ws = None
 
--- IN PIECE PIECE .. -> VAR
+-- the concatenate of the words IN PIECE PIECE .. -> VAR
 abbrev pub concat_form : List (List ℕ) → List (List ℕ) → Option Operator
 concat_form names (input ∷ rest) = option_and_then (λ i. option_map (λ (r : Pieces). over i (concatenate r.pieces r.out)) (pieces_read names rest)) (op_number input)
 concat_form names ws = None
 
--- IN NAME VAR -> VAR
+-- the createElement of the words IN NAME VAR -> VAR
 abbrev pub element_form : List (List ℕ) → List (List ℕ) → Option Operator
 element_form names (input ∷ name ∷ list ∷ arrow ∷ out ∷ []) =
     cond (is_source_name name) (option_map (λ (e : ℕ × ℕ × ℕ). over e.0 (create_element name e.1 e.2)) (ends_read names input list arrow out)) None
 element_form names ws = None
 
--- IN VAR
+-- the tupleDestroy of the words IN VAR
 abbrev pub destroy_form : List (List ℕ) → List (List ℕ) → Option Operator
 destroy_form names (input ∷ element ∷ []) = option_and_then (λ i. option_map (tuple_destroy i) (var_read names element)) (op_number input)
 destroy_form names ws = None

@@ -32,19 +32,19 @@ kind_of bound.List = a_list
 abbrev pub kinds_in : Scope → Kinds
 kinds_in s v = option_map kind_of (get nat_cmp s.vars v)
 
--- whether it is the kind of a source node
+-- whether a kind is that of a source node
 abbrev pub is_a_node : Option Kind → Bool
 is_a_node None = false
 is_a_node (Some a_node) = true
 is_a_node (Some an_element) = false
 is_a_node (Some a_list) = false
 
--- whether it is a kind
+-- whether there is a kind
 abbrev pub is_a_kind : Option Kind → Bool
 is_a_kind None = false
 is_a_kind (Some k) = true
 
--- whether it is a kind, and not that of a list
+-- whether there is a kind, and not that of a list
 abbrev pub is_no_list : Option Kind → Bool
 is_no_list None = false
 is_no_list (Some a_node) = true
@@ -76,14 +76,14 @@ single_fits kinds (var_piece v) = is_no_list (kinds v)
 single_fits kinds (label_piece v) = is_a_node (kinds v)
 single_fits kinds (text_piece label) = true
 
--- whether it is the kind of a made element
+-- whether a kind is that of a made element
 abbrev pub is_a_made : Option Kind → Bool
 is_a_made None = false
 is_a_made (Some a_node) = false
 is_a_made (Some an_element) = true
 is_a_made (Some a_list) = false
 
--- whether it is the kind of a list
+-- whether a kind is that of a list
 abbrev pub is_a_list : Option Kind → Bool
 is_a_list None = false
 is_a_list (Some a_node) = false
@@ -148,7 +148,7 @@ abbrev pub scope_in : Option (Option Scope) → Option Scope
 scope_in None = None
 scope_in (Some s) = s
 
--- the operator of a slot is there, and isn't used
+-- whether the operator of a slot is there, and isn't used
 abbrev pub is_open : Option (Option Scope) → Bool
 is_open None = false
 is_open (Some None) = false

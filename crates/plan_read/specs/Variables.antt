@@ -79,11 +79,11 @@ names_in lines = with_new [] (filter is_name (flat_map (λ l. line_vars l.text) 
 abbrev pub names_of : List ℕ → List (List ℕ)
 names_of text = names_in (operator_lines text)
 
--- a number is smaller than n
+-- whether a variable's number is there, and smaller than n
 abbrev pub is_less : ℕ → Option ℕ → Bool
 is_less n None = false
 is_less n (Some v) = nat_lt v n
 
--- a variable without a name has a number smaller than n
+-- whether a variable is written as a number smaller than n, and not as a name
 abbrev pub is_below : ℕ → List ℕ → Bool
 is_below n x = cond (is_name x) false (is_less n (var_number x))

@@ -12,7 +12,7 @@ mode_after Braced b = cond (b == 125) Plain Braced
 mode_after Quoted b = cond (b == 34) Plain (cond (b == 92) Escaped Quoted)
 mode_after Escaped b = Quoted
 
--- outside of quotes and braces
+-- whether a byte in this mode stands outside of quotes and braces
 abbrev pub is_outside : Mode → Bool
 is_outside Plain = true
 is_outside Braced = false

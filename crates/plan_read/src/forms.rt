@@ -27,7 +27,7 @@ fn source_number(catalog: &Catalog, name: &Label) -> u32
     }
 }
 
-// NAME -> VAR
+// The source of the words NAME -> VAR.
 fn read_source(
     alloc: Global,
     names: &Names,
@@ -52,7 +52,7 @@ fn read_source(
     Ok(Some(Op::Source { source, out }))
 }
 
-// IN VAR, and -> VAR
+// The input and the variables of the words IN VAR before an operator's own, and -> VAR after them.
 fn read_ends(
     names: &Names,
     input: &[u8],
@@ -69,7 +69,7 @@ fn read_ends(
     Some((input, start, out))
 }
 
-// IN VAR PATH -> VAR
+// The getDescendants of the words IN VAR PATH -> VAR.
 fn read_descent(alloc: Global, names: &Names, words: &[&[u8]]) -> Result<Option<Op>, AllocError>
     requires { length names.now < 2 ^ 32 }
     ensures reads { IfOk result (λ op. option_map op_of op ≡ descent_form names.now (map (λ w. w.now) words.now)) }
@@ -92,7 +92,7 @@ fn read_descent(alloc: Global, names: &Names, words: &[&[u8]]) -> Result<Option<
     }))
 }
 
-// IN TEST
+// The selection of the words IN TEST.
 fn read_select(alloc: Global, names: &Names, words: &[&[u8]]) -> Result<Option<Op>, AllocError>
     requires { length names.now < 2 ^ 32 }
     ensures reads { IfOk result (λ op. option_map op_of op ≡ select_form names.now (map (λ w. w.now) words.now)) }
@@ -110,7 +110,7 @@ fn read_select(alloc: Global, names: &Names, words: &[&[u8]]) -> Result<Option<O
     }
 }
 
-// LEFT RIGHT, and comparisons
+// The join of the words LEFT RIGHT and comparisons.
 fn read_join(alloc: Global, names: &Names, words: &[&[u8]]) -> Result<Option<Op>, AllocError>
     requires { length names.now < 2 ^ 32 }
     ensures reads { IfOk result (λ op. option_map op_of op ≡ join_form names.now (map (λ w. w.now) words.now)) }
@@ -128,7 +128,7 @@ fn read_join(alloc: Global, names: &Names, words: &[&[u8]]) -> Result<Option<Op>
     }
 }
 
-// IN KEYS
+// The projection of the words IN KEYS.
 fn read_project(alloc: Global, names: &Names, words: &[&[u8]]) -> Result<Option<Op>, AllocError>
     requires { length names.now < 2 ^ 32 }
     ensures reads { IfOk result (λ op. option_map op_of op ≡ project_form names.now (map (λ w. w.now) words.now)) }
@@ -164,7 +164,7 @@ fn group_of(input: u32, keys: Vec<Key>, read: PiecesRead) -> Option<Op>
     })
 }
 
-// IN KEYS PIECE -> VAR
+// The groupBy of the words IN KEYS PIECE -> VAR.
 fn read_group(alloc: Global, names: &Names, words: &[&[u8]]) -> Result<Option<Op>, AllocError>
     requires { length names.now < 2 ^ 32 }
     ensures reads { IfOk result (λ op. option_map op_of op ≡ group_form names.now (map (λ w. w.now) words.now)) }
@@ -185,7 +185,7 @@ fn read_group(alloc: Global, names: &Names, words: &[&[u8]]) -> Result<Option<Op
     }
 }
 
-// IN VAR asc, and IN VAR desc
+// The order of the words IN VAR asc, or IN VAR desc.
 fn read_order(names: &Names, words: &[&[u8]]) -> Option<Op>
     requires { length names.now < 2 ^ 32 }
     ensures reads { option_map op_of result ≡ order_form names.now (map (λ w. w.now) words.now) }
@@ -200,7 +200,7 @@ fn read_order(names: &Names, words: &[&[u8]]) -> Option<Op>
     Some(Op::OrderBy { input, var, desc })
 }
 
-// IN PIECE PIECE .. -> VAR
+// The concatenate of the words IN PIECE PIECE .. -> VAR.
 fn read_concatenate(alloc: Global, names: &Names, words: &[&[u8]]) -> Result<Option<Op>, AllocError>
     requires { length names.now < 2 ^ 32 }
     ensures reads { IfOk result (λ op. option_map op_of op ≡ concat_form names.now (map (λ w. w.now) words.now)) }
@@ -218,7 +218,7 @@ fn read_concatenate(alloc: Global, names: &Names, words: &[&[u8]]) -> Result<Opt
     }
 }
 
-// IN NAME VAR -> VAR
+// The createElement of the words IN NAME VAR -> VAR.
 fn read_element(alloc: Global, names: &Names, words: &[&[u8]]) -> Result<Option<Op>, AllocError>
     requires { length names.now < 2 ^ 32 }
     ensures reads { IfOk result (λ op. option_map op_of op ≡ element_form names.now (map (λ w. w.now) words.now)) }
@@ -242,7 +242,7 @@ fn read_element(alloc: Global, names: &Names, words: &[&[u8]]) -> Result<Option<
     }))
 }
 
-// IN VAR
+// The tupleDestroy of the words IN VAR.
 fn read_destroy(names: &Names, words: &[&[u8]]) -> Option<Op>
     requires { length names.now < 2 ^ 32 }
     ensures reads { option_map op_of result ≡ destroy_form names.now (map (λ w. w.now) words.now) }

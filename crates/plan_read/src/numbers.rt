@@ -5,12 +5,14 @@ ghost use Rattle.std.specs.Str.Parse.{digits_value};
 ghost use Rattle.mix_tree.specs.LabelOrder.{is_digit};
 ghost use Rattle.plan_read.specs.Numbers.{is_decimal, op_number, var_number};
 
+// Whether a byte is an ASCII digit.
 fn is_digit_byte(byte: u8) -> bool
     ensures { result ≡ is_digit byte }
 {
     matches!(byte, b'0'..=b'9')
 }
 
+// Whether each byte is an ASCII digit.
 fn are_digits(bytes: &[u8]) -> bool
     ensures { result ≡ list_all is_digit bytes.now }
 {

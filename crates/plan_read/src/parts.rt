@@ -14,6 +14,7 @@ use std::alloc::{AllocError, Global};
 /// The most label positions that a path may have.
 pub const POSITIONS: usize = 120;
 
+// Whether each byte may stand in a name.
 fn are_in_name(bytes: &[u8]) -> bool
     ensures { result ≡ list_all is_name_byte bytes.now }
 {
@@ -37,6 +38,7 @@ pub fn begins_var(word: &[u8]) -> bool
     }
 }
 
+// Whether a word begins with a quote.
 fn begins_quoted(word: &[u8]) -> bool
     ensures { result ≡ begins 34 word.now }
 {

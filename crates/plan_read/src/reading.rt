@@ -68,7 +68,7 @@ fn plan_of(alloc: Global, text: &[u8], catalog: &Catalog) -> Result<Plan, PlanFa
 pub fn read_plan(alloc: Global, text: &[u8], catalog: &Catalog) -> Result<Plan, PlanFault>
     // The answer is that of the text: its plan, which is valid, or why it is no plan's.
     ensures answers { Answers text.now catalog.now (answer_of result) }
-    // It is the only one.
+    // The text has no other answer, want of memory apart.
     ensures only { (other : Result PlanValue PlanFault) → Answers text.now catalog.now other → SameAnswer (answer_of result) other }
 {
     plan_of(alloc, text, catalog)

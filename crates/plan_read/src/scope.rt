@@ -42,12 +42,14 @@ impl Scope {
         self.vars.get(&var.number()).copied()
     }
 
+    // Whether a variable is bound to a source node.
     fn is_node(&self, var: Var) -> bool
         ensures { result ≡ is_a_node (kinds_in self.now var) }
     {
         self.bound(var) == Some(Bound::Node)
     }
 
+    // Whether each key is of a variable that is bound to a source node.
     fn are_nodes(&self, keys: &[Key]) -> bool
         ensures { result ≡ keys_fit (kinds_in self.now) keys.now }
     {
@@ -118,6 +120,7 @@ impl Scope {
         Ok(joined)
     }
 
+    // Whether what a comparison uses is bound here, and of the kind that it needs.
     fn fits_test(&self, test: &Test) -> bool
         ensures { result ≡ test_fits (kinds_in self.now) test.now }
     {
@@ -128,12 +131,14 @@ impl Scope {
         fits && self.is_node(test.left)
     }
 
+    // Whether what each comparison uses is bound here, and of the kind that it needs.
     fn fits_tests(&self, tests: &[Test]) -> bool
         ensures { result ≡ list_all (test_fits (kinds_in self.now)) tests.now }
     {
         tests.iter().all(|test| self.fits_test(test))
     }
 
+    // Whether what a piece uses is bound here, and of the kind that it needs.
     fn fits_piece(&self, piece: &Piece) -> bool
         ensures { result ≡ piece_fits (kinds_in self.now) piece.now }
     {
@@ -144,13 +149,14 @@ impl Scope {
         }
     }
 
+    // Whether what each piece uses is bound here, and of the kind that it needs.
     fn fits_pieces(&self, pieces: &[Piece]) -> bool
         ensures { result ≡ list_all (piece_fits (kinds_in self.now)) pieces.now }
     {
         pieces.iter().all(|piece| self.fits_piece(piece))
     }
 
-    // A piece that isn't a list.
+    // Whether a piece is of a bound variable that isn't a list, or of a source node's label.
     fn fits_single(&self, piece: &Piece) -> bool
         ensures { result ≡ single_fits (kinds_in self.now) piece.now }
     {

@@ -21,7 +21,7 @@ pub struct Scopes {
 }
 
 impl Scopes {
-    /// Those of no operators.
+    /// The scopes of no operators.
     pub fn new(alloc: Global) -> Scopes
         ensures { (of : ℕ → Kinds) → AreScopes result [] of }
     {

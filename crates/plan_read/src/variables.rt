@@ -176,7 +176,7 @@ pub fn line_vars(alloc: Global, line: &[u8]) -> Result<Vec<&[u8]>, AllocError>
     Ok(vars)
 }
 
-/// Whether it is a number smaller than this, and no name.
+/// Whether a variable's text is a number smaller than a count, and no name.
 pub fn is_below(text: &[u8], count: usize) -> bool
     ensures { result ≡ is_below count text.now }
 {

@@ -18,7 +18,7 @@ pub enum Mode {
     Escaped,
 }
 
-// Where the byte after this one stands.
+// Where the next byte stands, after one that stands in a mode.
 fn mode_after(mode: Mode, byte: u8) -> Mode
     ensures { result ≡ mode_after mode byte }
 {
@@ -34,6 +34,7 @@ fn mode_after(mode: Mode, byte: u8) -> Mode
     }
 }
 
+// Whether a byte in a mode stands outside of quotes and braces.
 fn is_outside(mode: Mode) -> bool
     ensures { result ≡ is_outside mode }
 {

@@ -97,7 +97,7 @@ plain_below (join left right tests) t of blocks h = absurd t
 plain_below (over input op) t of blocks h = (h.0.0, block_some (of input) (block_at blocks input) h.0.1)
 plain_below (tuple_destroy input element) t of blocks h = (h.0.0, block_some (of input) (block_at blocks input) h.0.1)
 
--- no other block is taken for it
+-- the inputs of an operator that is no selection and no join are its one input, where it has one
 pub plain_inputs : (op : Operator) → IsPlain op → option_to_list (one_input op) ≡ inputs_of op
 plain_inputs (source s out) t = refl
 plain_inputs (get_descendants input start path out) t = refl

@@ -31,7 +31,7 @@ pub record AreBlocks (ops : List Operator) (blocks : List (List Operator)) (k : 
   pub count : length blocks ≡ k
   pub each : (i : ℕ) → i < k → IsUnread ops i k → block_at blocks i ≡ plan_block ops i
 
--- the operator of a number, where the operators are read as others
+-- the operator of a number is the same where a plan's operators are read as others
 pub op_here : (xs ops : List Op) (n : ℕ) (o : Op) → xs ≡ ops → n < length xs → o ≡ get_or xs n o → (op_of o ≡ op_at (map op_of ops) n) × (n < length (map op_of ops))
 op_here xs ops n o same l e =
     let m = length-map xs op_of in

@@ -20,7 +20,7 @@ use Rattle.plan_core.proofs.Fresh.{distinct_apart, distinct_after}
 use Rattle.plan_rewrite.specs.Rewritten.{is_bound, binds_operand, binds_test, pushed, put_over, rewritten}
 use Rattle.plan_make.proofs.TreeParts.{ReadsBelow, tree_outs, TreeFits, tree_single, IsWhole}
 
--- what a selection over a join becomes
+-- what holds of a selection pushed into a join holds in each of three cases: into the left side, the right side, or the join itself
 pub pushed_cases : (P : Tree → Type 0) (t : Test) (l r : Tree) (tests : List Test)
     → (binds_test (tree_kinds l) t ≡ true → P (both (pushed t l) r tests))
     → (binds_test (tree_kinds r) t ≡ true → P (both l (pushed t r) tests))
@@ -32,7 +32,7 @@ pushed_cases P t l r tests a b c =
       | false ↦ λ e. (elim (binds_test (tree_kinds r) t) as (λ w. binds_test (tree_kinds r) t ≡ w → P (cond w (both l (pushed t r) tests) (both l r (tests ++ t ∷ [])))) [ true ↦ λ d. b d | false ↦ λ d. c ]) refl
     ] refl
 
--- what an operator over a tree becomes
+-- what holds of a pushed selection and of an operator over a tree holds of any operator put over the tree
 pub put_cases : (P : Tree → Type 0) (op : Unary) (x : Tree) → ((t : Test) → op ≡ select t → P (pushed t x)) → P (above x op) → P (put_over op x)
 put_cases P (select t) x a b = a t refl
 put_cases P (order_by v desc) x a b = b
@@ -97,6 +97,7 @@ rewritten-outs (above x op) =
 
 -- SOURCES
 
+-- a tree with a selection pushed into it reads only sources below n where the tree did
 pub pushed_reads : (n : ℕ) (t : Test) (x : Tree) → ReadsBelow n x → ReadsBelow n (pushed t x)
 unfolding ReadsBelow
 pushed_reads n t (begin s out) h = h
@@ -104,6 +105,7 @@ pushed_reads n t (descend x start path out) h = h
 pushed_reads n t (above x op) h = h
 pushed_reads n t (both l r tests) h = pushed_cases (ReadsBelow n) t l r tests (λ e. (pushed_reads n t l h.0, h.1)) (λ e. (h.0, pushed_reads n t r h.1)) h
 
+-- a rewritten tree reads only sources below n where the tree did
 pub rewritten_reads : (n : ℕ) (x : Tree) → ReadsBelow n x → ReadsBelow n (rewritten x)
 unfolding ReadsBelow
 rewritten_reads n (begin s out) h = h
@@ -113,7 +115,7 @@ rewritten_reads n (above x op) h = let r = rewritten_reads n x h in put_cases (R
 
 -- SINGLE
 
--- an operator over a tree that is as single
+-- an operator put over a tree that is single where another one is leaves it single where it leaves the other so
 over_single : (op : Unary) (x y : Tree) → (tree_single x ≡ true → tree_single y ≡ true) → unary_single op (tree_single x) ≡ true → tree_single (put_over op y) ≡ true
 unfolding tree_single
 over_single (select t) x y f h = cc
@@ -124,6 +126,7 @@ over_single (group_by (k ∷ keys) piece out) x y f h = cc
 over_single (concatenate pieces out) x y f h = f h
 over_single (create_element label list out) x y f h = f h
 
+-- a rewritten tree has a single binding where the tree has
 pub rewritten_single : (x : Tree) → tree_single x ≡ true → tree_single (rewritten x) ≡ true
 unfolding tree_single
 rewritten_single (begin s out) h = h
@@ -144,6 +147,7 @@ rewritten_single (above x op) h = over_single op x (rewritten x) (rewritten_sing
 
 -- SIDES OF A JOIN
 
+-- of two lists together without repeats the first has none
 pub distinct_prefix : (xs ys : List ℕ) → AreDistinct (xs ++ ys) → AreDistinct xs
 distinct_prefix [] ys d = tt
 distinct_prefix (x ∷ xs) ys d =
@@ -175,6 +179,7 @@ unary_out (group_by (k ∷ keys) piece out) ks outs v h f = with_out v out a_lis
 unary_out (concatenate pieces out) ks outs v h f = with_out v out a_list ks outs h f
 unary_out (create_element label list out) ks outs v h f = with_out v out an_element ks outs h f
 
+-- what a tree binds is bound anew by an operator of the tree
 pub bound_out : (x : Tree) (v : ℕ) → is_bound (tree_kinds x v) ≡ true → Among v (tree_outs x)
 unfolding tree_kinds tree_outs
 bound_out (begin s out) v h = with_out v out a_node no_kinds [] h (λ g. cc)
@@ -196,10 +201,12 @@ sides_apart l r d v h =
 
 -- TESTS
 
+-- where two tests hold together, the first holds
 pub first_true : (p q : Bool) → (p && q) ≡ true → p ≡ true
 first_true true q h = refl
 first_true false q h = cc
 
+-- where two tests hold together, the second holds
 pub second_true : (p q : Bool) → (p && q) ≡ true → q ≡ true
 second_true true q h = h
 second_true false q h = cc
@@ -232,16 +239,19 @@ test_right a b t apart h e =
     operand (var_operand v) h e = node_right (a v) (b v) (apart v h) e
     operand (text_operand label) h e = e
 
+-- a test of a join whose variables the left side binds is a test of the left side
 pub test_of_left : (l r : Tree) (tests : List Test) (t : Test) → binds_test (tree_kinds l) t ≡ true → IsTest (tree_kinds (both l r tests)) t → IsTest (tree_kinds l) t
 unfolding tree_kinds
 test_of_left l r tests t h e = test_left (tree_kinds l) (tree_kinds r) t h e
 
+-- a test of a join whose variables the right side binds is a test of the right side, where the sides bind nothing both
 pub test_of_right : (l r : Tree) (tests : List Test) (t : Test) → AreDistinct (tree_outs (both l r tests)) → binds_test (tree_kinds r) t ≡ true → IsTest (tree_kinds (both l r tests)) t → IsTest (tree_kinds r) t
 unfolding tree_kinds tree_outs
 test_of_right l r tests t d h e = test_right (tree_kinds l) (tree_kinds r) t (sides_apart l r d) h e
 
 -- FIT
 
+-- a tree that fits still does with a selection pushed into it, where no variable is bound anew twice
 pub pushed_fits : (t : Test) (x : Tree) → TreeFits x → IsTest (tree_kinds x) t → AreDistinct (tree_outs x) → TreeFits (pushed t x)
 unfolding TreeFits tree_kinds tree_outs
 pushed_fits t (begin s out) h e d = (h, e)
@@ -261,6 +271,7 @@ pushed_fits t (both l r tests) h e d =
     ))
     (h.0, h.1, each_snoc (IsTest (tree_kinds (both l r tests))) tests t h.2 e)
 
+-- a rewritten tree fits where the tree does and no variable is bound anew twice
 pub rewritten_fits : (x : Tree) → TreeFits x → AreDistinct (tree_outs x) → TreeFits (rewritten x)
 unfolding TreeFits tree_kinds tree_outs
 rewritten_fits (begin s out) h d = h

@@ -26,7 +26,7 @@ joins k [] = true
 joins zero (op ∷ ops) = is_join op
 joins (suc k) (op ∷ ops) = joins k ops
 
--- an operator among the first of two lists
+-- whether an operator of the first of two lists is a join is told by that list alone
 joins-prefix : (k : ℕ) (xs ys : List Operator) → k < length xs → joins k (xs ++ ys) ≡ joins k xs
 unfolding joins
 joins-prefix k [] ys h = absurd (omega (arith, h))
@@ -40,7 +40,7 @@ joins-after n k [] ys h = (let e : n ≡ k = omega (arith, h) in ap (λ (m : ℕ
 joins-after zero k (op ∷ xs) ys h = absurd (omega (arith, h))
 joins-after (suc n) k (op ∷ xs) ys h = joins-after n k xs ys (omega (arith, h))
 
--- a selection over an operator that more follow
+-- a selection put over an operator, or into it, leaves those of a second list after it, numbered on where it isn't a join
 landed-append : (t : Test) (n : ℕ) (op : Operator) (xs ys : List Operator) → landed t n op (xs ++ ys) ≡ landed t n op xs ++ cond (is_join op) ys (map (bumped_op n) ys)
 unfolding is_join
 landed-append t n (source s out) xs ys = ap (λ (z : List Operator). source s out ∷ over n (select t) ∷ z) (map-append (bumped_op n) xs ys)
@@ -49,7 +49,7 @@ landed-append t n (join left right tests) xs ys = refl
 landed-append t n (over input op) xs ys = ap (λ (z : List Operator). over input op ∷ over n (select t) ∷ z) (map-append (bumped_op n) xs ys)
 landed-append t n (tuple_destroy input element) xs ys = ap (λ (z : List Operator). tuple_destroy input element ∷ over n (select t) ∷ z) (map-append (bumped_op n) xs ys)
 
--- a selection among the first of two lists
+-- a selection put in among the first of two lists leaves the second as it is, or only numbered on
 edited-prefix : (t : Test) (n k : ℕ) (xs ys : List Operator) → k < length xs → edited t n k (xs ++ ys) ≡ edited t n k xs ++ cond (joins k xs) ys (map (bumped_op n) ys)
 unfolding joins
 edited-prefix t n k [] ys h = absurd (omega (arith, h))
@@ -62,7 +62,7 @@ edited-after t n a k [] ys h = (let e : a ≡ k = omega (arith, h) in ap (λ (m 
 edited-after t n zero k (op ∷ xs) ys h = absurd (omega (arith, h))
 edited-after t n (suc a) k (op ∷ xs) ys h = ap (λ (z : List Operator). op ∷ z) (edited-after t n a k xs ys (omega (arith, h)))
 
--- a number at or after the one of the insertion
+-- a number at or after that of an insertion is one more
 bumped-high : (n i : ℕ) → n ≤ i → bumped n i ≡ suc i
 bumped-high n i h = (let e : nat_lt i n ≡ false = grind (arith, nat_tests, h) in rw e refl)
 
@@ -70,7 +70,7 @@ bumped-high n i h = (let e : nat_lt i n ≡ false = grind (arith, nat_tests, h) 
 bumped-low : (n i : ℕ) → i < n → bumped n i ≡ i
 bumped-low n i h = (let e : nat_lt i n ≡ true = grind (arith, nat_tests, h) in rw e refl)
 
--- operators that all stand after it
+-- operators that all stand after an insertion are numbered on by one
 numbered-bumped : (n : ℕ) (x : Tree) (i : ℕ) → n < i → map (bumped_op n) (numbered i x) ≡ numbered (suc i) x
 numbered-bumped n (begin s out) i h = refl
 numbered-bumped n (descend x start path out) i h =
@@ -106,7 +106,7 @@ pub record IsEdit (t : Test) (i : ℕ) (x y : Tree) (k : ℕ) : Type 0 where
   pub inside : k ≤ under x
   pub size : under y ≡ cond (joins k (numbered i x)) (under x) (suc (under x))
 
--- over the last operator, which is no join
+-- where the last operator is no join, a selection put over it is an edit
 edit_last : (t : Test) (i : ℕ) (prefix : List Operator) (op : Operator) (u : ℕ) → length prefix ≡ u → is_join op ≡ false
     → (edited t (i + u) u (prefix ++ op ∷ []) ≡ (prefix ++ op ∷ []) ++ over (i + u) (select t) ∷ []) × (joins u (prefix ++ op ∷ []) ≡ false)
 unfolding joins is_join
@@ -126,7 +126,7 @@ edit_last t i prefix op u l h = (
 after_left : ℕ → ℕ → Tree → List Test → List Operator
 after_left i u r tests = numbered (i + suc u) r ++ join (i + u) ((i + suc u) + under r) tests ∷ []
 
--- what stands after the left side of a join, where an operator is put into that side
+-- what stands after the left side of a join is numbered on by one where an operator is put into that side
 left-bumped : (n i u : ℕ) (r : Tree) (tests : List Test) → n ≤ i + u → map (bumped_op n) (after_left i u r tests) ≡ after_left i (suc u) r tests
 unfolding after_left
 left-bumped n i u r tests h =
@@ -139,7 +139,7 @@ left-bumped n i u r tests h =
     ∙ ap (λ (j : ℕ). numbered (i + suc (suc u)) r ++ join j (bumped n (m + under r)) tests ∷ []) ea
     ∙ ap (λ (j : ℕ). numbered (i + suc (suc u)) r ++ join (i + suc u) j tests ∷ []) eb
 
--- a selection in the left side of a join
+-- an edit in the left side of a join is an edit of the join
 edit_left : (t : Test) (i : ℕ) (l r y : Tree) (tests : List Test) (k : ℕ) → IsEdit t i l y k → IsEdit t i (both l r tests) (both y r tests) k
 unfolding after_left
 edit_left t i l r y tests k h =

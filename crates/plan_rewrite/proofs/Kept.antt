@@ -27,14 +27,15 @@ ended-document world t v =
     (rows-stable world prefix (end ∷ []) (under t) (let l = numbered-length t 0 in omega (arith, l))
     ∙ (let e : 0 + under t ≡ under t = omega arith in ap (rows_of world prefix) (sym e)) ∙ numbered-means world t [] 0 refl)
 
--- the rewritten operators of operators that end
+-- operators that end with a tupleDestroy are, rewritten, the rewritten tree below it with the tupleDestroy over it
 pub rewritten-ended : (ops : List Operator) (e : Ended (is_single_at ops) ops) → rewritten_ops ops ≡ ended (rewritten (tree_at ops e.input)) e.element
 rewritten-ended ops e = ap (ended_by (tree_at ops)) (ap (last_or None) e.is ∙ last-snoc None e.prefix (tuple_destroy e.input e.element))
 
--- the document of a plan whose operators end
+-- the document of operators that end with a tupleDestroy is the element in the first binding of its input
 plan-document : (world : World) (ops : List Operator) (e : Ended (is_single_at ops) ops) → document world ops ≡ element_of e.element (rows_of world ops e.input)
 plan-document world ops e = ap (destroyed (rows_of world ops)) (ap (last_or None) e.is ∙ last-snoc None e.prefix (tuple_destroy e.input e.element))
 
+-- the rewritten operators of a valid plan have its document
 pub keeps_document : (p : PlanValue) → IsValid p → IsTyped p.ops → SameDocument (rewritten_ops p.ops) p.ops
 keeps_document p valid typed world =
     let e : Ended (is_single_at p.ops) p.ops = ending p valid typed in
@@ -45,6 +46,7 @@ keeps_document p valid typed world =
     ∙ ap (element_of e.element) (rewritten-rows world x w.fits w.distinct ∙ plan_means p valid typed world)
     ∙ sym (plan-document world p.ops e)
 
+-- the rewritten plan of a valid plan is valid
 pub keeps_validity : (p : PlanValue) → IsValid p → IsTyped p.ops → IsValid (rewritten_plan p)
 keeps_validity p valid typed =
     let e : Ended (is_single_at p.ops) p.ops = ending p valid typed in

@@ -15,14 +15,14 @@ pub filter-flat_map : {X Y : Type 0} (p : Y → Bool) (f : X → List Y) (xs : L
 filter-flat_map p f [] = refl
 filter-flat_map {X} {Y} p f (x ∷ xs) = filter-append p (f x) (flat_map f xs) ∙ ap (λ (zs : List Y). filter p (f x) ++ zs) (filter-flat_map p f xs)
 
--- the lists of those that pass
+-- the joined lists of the members that pass are those of all members, with nothing for one that doesn't
 pub flat_map-filter : {X Y : Type 0} (p : X → Bool) (f : X → List Y) (xs : List X) → flat_map f (filter p xs) ≡ flat_map (λ x. cond (p x) (f x) []) xs
 flat_map-filter p f [] = refl
 flat_map-filter {X} {Y} p f (x ∷ xs) =
     elim (p x) as (λ v. flat_map f (cond v (x ∷ filter p xs) (filter p xs)) ≡ cond v (f x) [] ++ flat_map (λ y. cond (p y) (f y) []) xs)
     [ true ↦ ap (λ (zs : List Y). f x ++ zs) (flat_map-filter p f xs) | false ↦ flat_map-filter p f xs ]
 
--- a test that answers the same of all
+-- a filter whose test answers the same of all members gives all of them or none
 pub filter_const : {X : Type 0} (p : X → Bool) (b : Bool) (xs : List X) → AllByRecursion (λ x. p x ≡ b) xs → filter p xs ≡ cond b xs []
 filter_const p true [] h = refl
 filter_const p false [] h = refl
@@ -39,7 +39,7 @@ filter_both {X} p q r h (x ∷ xs) =
       | false ↦ filter_both p q r h xs
     ])
 
--- a test of all, and of one more
+-- a test holds of all of a list with one more member where it holds of all of the list and of that one
 pub list_all-more : {X : Type 0} (p : X → Bool) (xs : List X) (y : X) → list_all p (xs ++ y ∷ []) ≡ (list_all p xs && p y)
 list_all-more p [] y = elim (p y) as (λ v. (v && true) ≡ v) [ true ↦ refl | false ↦ refl ]
 list_all-more p (x ∷ xs) y = elim (p x) as (λ v. (v && list_all p (xs ++ y ∷ [])) ≡ ((v && list_all p xs) && p y)) [ true ↦ list_all-more p xs y | false ↦ refl ]

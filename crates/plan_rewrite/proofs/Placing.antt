@@ -16,6 +16,7 @@ use Rattle.plan_rewrite.specs.Edits.{Added, bumped_op, landed, edited}
 use Rattle.plan_rewrite.specs.Marks.{unary_binds, op_binds, marks}
 use Rattle.plan_make.proofs.Numbering.{numbered_end, numbered_ends, join_after}
 
+-- an operator to which a comparison was added, before others, is the selection put into a join
 in_join : (t : Test) (n : ℕ) (o p : Operator) (rest : List Operator) → Added t None o p → p ∷ rest ≡ landed t n o rest
 in_join t n (source s out) p rest h = absurd h
 in_join t n (get_descendants input start path out) p rest h = absurd h
@@ -23,7 +24,7 @@ in_join t n (join left right tests) p rest h = ap (λ (z : Operator). z ∷ rest
 in_join t n (over input op) p rest h = absurd h
 in_join t n (tuple_destroy input element) p rest h = absurd h
 
--- a comparison that was not added goes over the operator
+-- an operator to which a comparison was not added, with the selection after it, is the selection put over it
 over_it : (t u : Test) (n : ℕ) (o p : Operator) (rest : List Operator) → Added t (Some u) o p → p ∷ over n (select u) ∷ map (bumped_op n) rest ≡ landed t n o rest
 over_it t u n (source s out) p rest h = rw (h.0, h.1) refl
 over_it t u n (get_descendants input start path out) p rest h = rw (h.0, h.1) refl
@@ -31,13 +32,13 @@ over_it t u n (join left right tests) p rest h = absurd h
 over_it t u n (over input op) p rest h = rw (h.0, h.1) refl
 over_it t u n (tuple_destroy input element) p rest h = rw (h.0, h.1) refl
 
--- the comparison was added to a join
+-- where a comparison was added to the operator at a place, the operators are those with the selection put in there
 pub placed_in : (t : Test) (n k : ℕ) (ops : List Op) (d new : Op) → k < length ops → Added t None (op_of (get_or ops k d)) (op_of new) → map op_of (set ops k new) ≡ edited t n k (map op_of ops)
 placed_in t n k [] d new l h = absurd (omega (arith, l))
 placed_in t n zero (op ∷ ops) d new l h = in_join t n (op_of op) (op_of new) (map op_of ops) h
 placed_in t n (suc k) (op ∷ ops) d new l h = ap (λ (z : List Operator). op_of op ∷ z) (placed_in t n k ops d new (omega (arith, l)) h)
 
--- the selection stands over another operator
+-- where a selection stands over the operator at a place, the operators are those with the selection put in there
 pub placed_over : (t u : Test) (n k : ℕ) (ops : List Op) (d new s : Op) (after : List Op) → k < length ops → Added t (Some u) (op_of (get_or ops k d)) (op_of new) → op_of s ≡ over n (select u)
     → map op_of after ≡ map (bumped_op n) (map op_of (drop (suc k) (set ops k new)))
     → map op_of ((take (suc k) (set ops k new) ++ s ∷ []) ++ after) ≡ edited t n k (map op_of ops)
@@ -48,6 +49,7 @@ placed_over t u n (suc k) (op ∷ ops) d new s after l h e g = ap (λ (z : List 
 
 -- MARKS
 
+-- the marks of operators up to and with one are those before it and that one's
 pub marks_more : (v : ℕ) (all : List Bool) (ops : List Op) (i : ℕ) (op : Op) → i < length ops → op ≡ get_or ops i op
     → marks v all (drop i (map op_of ops)) ≡ marks v (all ++ op_binds v (op_of op) (λ j. get_or all j false) ∷ []) (drop (i + 1) (map op_of ops))
 marks_more v all ops i op l e =
@@ -108,7 +110,7 @@ unary-bound v (group_by (k ∷ keys) piece out) ks = sym (with_bound out v a_lis
 unary-bound v (concatenate pieces out) ks = sym (with_bound out v a_list (ks v))
 unary-bound v (create_element label list out) ks = sym (with_bound out v an_element (ks v))
 
--- the variables of two sides
+-- a join binds a variable exactly where one of its sides does
 both-bound : (a b : Option Kind) → (is_bound a || is_bound b) ≡ is_bound (either_kind a b)
 both-bound None b = refl
 both-bound (Some k) b = refl

@@ -27,7 +27,7 @@ use Rattle.plan_make.proofs.TreeParts.{ReadsBelow, tree_outs, TreeFits, tree_sin
 
 -- WHAT READS INPUTS ALONE
 
--- trees read those of the inputs
+-- the tree of an operator reads of other trees only those of its inputs
 pub op_tree-reads : ReadsInputs op_tree
 op_tree-reads (source s out) a b h = refl
 op_tree-reads (get_descendants input start path out) a b h = ap (λ (x : Tree). descend x start path out) h.0
@@ -35,7 +35,7 @@ op_tree-reads (join left right tests) a b h = ap (λ (x : Tree). both x (a right
 op_tree-reads (over input op) a b h = ap (λ (x : Tree). above x op) h.0
 op_tree-reads (tuple_destroy input element) a b h = refl
 
--- bindings read those of the inputs
+-- the bindings of an operator read of other bindings only those of its inputs
 op_rows-reads : (world : World) → ReadsInputs (op_rows world)
 op_rows-reads world (source s out) a b h = refl
 op_rows-reads world (get_descendants input start path out) a b h = ap (descended world start path out) h.0
@@ -101,7 +101,7 @@ op_out (join left right tests) b of v a = elim (among_cases (tree_outs (of left)
 op_out (over input op) b of v a = elim (among_cases (tree_outs (of input)) (unary_outs op) v a) [ inl x ↦ inr (input, inl refl, x) | inr x ↦ inl x ]
 op_out (tuple_destroy input element) b of v a = absurd b
 
--- a number that is not among others
+-- of a number that is not among others the test finds none equal
 none_any : (v : ℕ) (vs : List ℕ) → (Among v vs → ⊥) → list_any (λ w. w == v) vs ≡ false
 none_any v [] f = refl
 none_any v (w ∷ vs) f =
@@ -110,7 +110,7 @@ none_any v (w ∷ vs) f =
       | false ↦ λ e. none_any v vs (λ a. f (inr a))
     ]) refl
 
--- a number that is in neither of two lists
+-- a number that the test finds in neither of two lists it doesn't find in both together
 any_of_two : (v : ℕ) (xs ys : List ℕ) → list_any (λ w. w == v) xs ≡ false → list_any (λ w. w == v) ys ≡ false → list_any (λ w. w == v) (xs ++ ys) ≡ false
 any_of_two v xs ys h g = list_any-append (λ w. w == v) xs ys ∙ rw (h, g) refl
 
@@ -142,6 +142,7 @@ op_distinct (over input op) b of h f g = distinct_append (tree_outs (of input)) 
 op_distinct (tuple_destroy input element) b of h f g = absurd b
 
 module _ (p : PlanValue) (valid : IsValid p) (typed : IsTyped p.ops) where
+  -- the operators of the plan
   abbrev pub ops : List Operator
   ops = p.ops
 
@@ -159,10 +160,11 @@ module _ (p : PlanValue) (valid : IsValid p) (typed : IsTyped p.ops) where
       let at : op_at ops n ≡ op_at e.prefix n = ap (λ (z : List Operator). op_at z n) e.is ∙ get_or_append_left e.prefix (tuple_destroy e.input e.element ∷ []) (source 0 0) n lt in
       subst IsBelow (sym at) (each_at IsBelow e.prefix n lt e.below)
 
-  -- an operator that is not the last
+  -- an operator that is not the last one stands within the plan
   less : (n : ℕ) → suc n < length ops → n < length ops
   less n b = omega (arith, b)
 
+  -- each input of an operator that is not the last one isn't the last one
   input_less : (n i : ℕ) → suc n < length ops → Among i (inputs_of (op_at ops n)) → suc i < length ops
   input_less n i b a = (let s = smaller p valid typed i n (less n b) a in omega (arith, s, b))
 
@@ -176,7 +178,7 @@ module _ (p : PlanValue) (valid : IsValid p) (typed : IsTyped p.ops) where
   unfolding is_single_at
   single-is n b = by_number-is is_single false ops n is_single-reads (typed.inputs n b)
 
-  -- an operator stands between others
+  -- the operators of a plan are those before one, that one, and those after it
   split : (all : List Operator) (n : ℕ) → n < length all → (a : List Operator) × (b : List Operator) × (all ≡ a ++ op_at all n ∷ b) × (n ≡ length a)
   split [] n l = absurd (omega (arith, l))
   split (op ∷ all) zero l = ([], all, refl, refl)
@@ -285,12 +287,15 @@ module _ (p : PlanValue) (valid : IsValid p) (typed : IsTyped p.ops) where
 
   -- THE WHOLE PLAN
 
+  -- the last operator is the tupleDestroy
   pub last_at : op_at ops (length ending.prefix) ≡ tuple_destroy ending.input ending.element
   last_at = ap (λ (z : List Operator). op_at z (length ending.prefix)) ending.is ∙ get_or_at ending.prefix (tuple_destroy ending.input ending.element) [] (source 0 0) (length ending.prefix) refl
 
+  -- there is one operator more than stand before the tupleDestroy
   pub all_but_one : length ops ≡ suc (length ending.prefix)
   all_but_one = (let l = length-append ending.prefix (tuple_destroy ending.input ending.element ∷ []) in let e = ap length ending.is in omega (arith, l, e))
 
+  -- the input of the tupleDestroy isn't the last operator
   input_at : suc ending.input < length ops
   input_at =
       let l = all_but_one in

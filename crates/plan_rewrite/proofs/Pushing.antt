@@ -106,7 +106,7 @@ tree_bound world (above x op) h = unary_bound world.docs op (tree_kinds x) (tree
 
 -- A TEST OF TWO ROWS
 
--- the value of a variable in a pair
+-- the value of a variable in a pair is the left row's where that has it, and else the right row's
 value-both : (a b : Row) (v : ℕ) → value (a ++ b) v ≡ cond (has a v) (value a v) (value b v)
 value-both [] b v = refl
 value-both (p ∷ a) b v = elim (p.0 == v) as (λ w. cond w p.1 (value (a ++ b) v) ≡ cond (w || has a v) (cond w p.1 (value a v)) (value b v)) [ true ↦ refl | false ↦ value-both a b v ]
@@ -170,6 +170,7 @@ holds_right docs t ks js apart a b h e =
 -- A SELECTION OVER A JOIN
 
 module _ (docs : Documents) (tests : List Test) (t : Test) where
+  -- whether a comparison holds of a binding
   abbrev p : Row → Bool
   p row = list_all (λ s. holds docs s row) tests
 
@@ -213,7 +214,7 @@ module _ (docs : Documents) (tests : List Test) (t : Test) where
       lefts)
       ∙ sym (filter-flat_map q (beside rights) lefts)
 
--- the bindings of a tree with a selection pushed into it
+-- the bindings of a tree with a selection pushed into it are those of the tree of which the comparison holds
 pub pushed-rows : (world : World) (t : Test) (x : Tree) → TreeFits x → AreDistinct (tree_outs x) → tree_rows world (pushed t x) ≡ filter (holds world.docs t) (tree_rows world x)
 unfolding TreeFits tree_outs
 pushed-rows world t (begin s out) h d = refl
@@ -227,7 +228,7 @@ pushed-rows world t (both l r tests) h d =
     ∙ join_right world.docs tests t (tree_kinds l) (tree_kinds r) (tree_rows world l) (tree_rows world r) (sides_apart l r d) (tree_bound world l h.0) e)
     (join_more world.docs tests t (tree_rows world l) (tree_rows world r))
 
--- the bindings of a rewritten tree
+-- the bindings of a rewritten tree are those of the tree
 pub rewritten-rows : (world : World) (x : Tree) → TreeFits x → AreDistinct (tree_outs x) → tree_rows world (rewritten x) ≡ tree_rows world x
 unfolding TreeFits tree_outs
 rewritten-rows world (begin s out) h d = refl

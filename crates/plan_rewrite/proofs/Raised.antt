@@ -5,7 +5,7 @@ use Rattle.plan_core.specs.Plans.{Operator, get_descendants, join, over}
 use Rattle.plan_make.specs.Trees.{Tree, begin, descend, both, above, under, numbered}
 use Rattle.plan_rewrite.specs.Edits.{raised_op}
 
--- the operators of a tree after so many others
+-- the operators of a tree with their inputs raised are the tree's operators, numbered from later on
 pub numbered-raised : (i : ℕ) (x : Tree) (j : ℕ) → map (raised_op i) (numbered j x) ≡ numbered (i + j) x
 numbered-raised i (begin s out) j = refl
 numbered-raised i (descend x start path out) j =

@@ -40,7 +40,7 @@ mark-inside v z a b =
     ∙ mark-stable v (a ++ numbered i z) b (i + under z) (omega (arith, l, k))
     ∙ mark-tree v z a i refl
 
--- whether it binds the variables of a comparison
+-- the last operator of a tree between others binds the variables of a comparison exactly where the tree does
 covers-inside : (t : Test) (z : Tree) (a b : List Operator) → covers t (a ++ (numbered (length a) z ++ b)) (length a + under z) ≡ binds_test (tree_kinds z) t
 covers-inside t z a b =
     ap (λ (w : Bool). w && marks_operand t.right (a ++ (numbered (length a) z ++ b)) (length a + under z)) (mark-inside t.left z a b)
@@ -61,7 +61,7 @@ op-last a prefix b op n h =
 ends_here : (t : Test) (all : List Operator) (goal at : ℕ) (op : Operator) → op_at all at ≡ op → next_in (covers t all) op ≡ None → at ≡ goal → Steps t all goal at (next_in (covers t all) (op_at all at))
 ends_here t all goal at op e n h = subst (λ (o : Option ℕ). Steps t all goal at o) (sym (ap (next_in (covers t all)) e ∙ n)) h
 
--- a step from the last operator of a tree
+-- a step from the last operator of a tree into which the selection lands ends there, or goes on at a side that it lands in
 step_in : (t : Test) (all : List Operator) (goal at : ℕ) (a b : List Operator) (y : Tree) → all ≡ a ++ (numbered (length a) y ++ b) → at ≡ length a + under y → goal ≡ length a + landing t y
     → Steps t all goal at (next_in (covers t all) (op_at all at))
 step_in t all goal at a b (begin s out) is at_is lands =

@@ -11,7 +11,7 @@ use Rattle.plan_rewrite.specs.Rewritten.{binds_test}
 abbrev pub bumped : ℕ → ℕ → ℕ
 bumped n i = cond (nat_lt i n) i (suc i)
 
--- an operator that reads it, or others
+-- an operator whose inputs are numbered as where one is put in after operator n
 abbrev pub bumped_op : ℕ → Operator → Operator
 bumped_op n (source s out) = source s out
 bumped_op n (get_descendants input start path out) = get_descendants (bumped n input) start path out
@@ -19,7 +19,7 @@ bumped_op n (join left right tests) = join (bumped n left) (bumped n right) test
 bumped_op n (over input op) = over (bumped n input) op
 bumped_op n (tuple_destroy input element) = tuple_destroy (bumped n input) element
 
--- a selection over operator n, which is followed by others: in it where it is a join, else after it
+-- operator n with a selection put into it, where it is a join, and else after it; then the others
 abbrev pub landed : Test → ℕ → Operator → List Operator → List Operator
 landed t n (source s out) ops = source s out ∷ over n (select t) ∷ map (bumped_op n) ops
 landed t n (get_descendants input start path out) ops = get_descendants input start path out ∷ over n (select t) ∷ map (bumped_op n) ops
@@ -53,7 +53,7 @@ Added t (Some u) (join left right tests) after = ⊥
 Added t (Some u) (over input op) after = (after ≡ over input op) × (u ≡ t)
 Added t (Some u) (tuple_destroy input element) after = (after ≡ tuple_destroy input element) × (u ≡ t)
 
--- an operator whose inputs are raised
+-- an operator whose inputs are raised by one amount
 abbrev pub raised_op : ℕ → Operator → Operator
 raised_op i (source s out) = source s out
 raised_op i (get_descendants input start path out) = get_descendants (i + input) start path out

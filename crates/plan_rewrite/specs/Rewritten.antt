@@ -18,12 +18,12 @@ abbrev pub is_bound : Option Kind → Bool
 is_bound None = false
 is_bound (Some k) = true
 
--- what is compared with is a text or bound
+-- whether what is compared with is a text, or a variable that is bound
 abbrev pub binds_operand : Kinds → Operand → Bool
 binds_operand kinds (var_operand v) = is_bound (kinds v)
 binds_operand kinds (text_operand label) = true
 
--- all variables of a comparison are bound
+-- whether all variables of a comparison are bound
 abbrev pub binds_test : Kinds → Test → Bool
 binds_test kinds t = is_bound (kinds t.left) && binds_operand kinds t.right
 
@@ -43,7 +43,7 @@ put_over (group_by keys piece out) x = above x (group_by keys piece out)
 put_over (concatenate pieces out) x = above x (concatenate pieces out)
 put_over (create_element label list out) x = above x (create_element label list out)
 
--- all selections of a tree moved
+-- a tree with all its selections moved
 abbrev pub rewritten : Tree → Tree
 rewritten (begin s out) = begin s out
 rewritten (descend x start path out) = descend (rewritten x) start path out

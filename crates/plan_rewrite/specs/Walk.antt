@@ -8,16 +8,16 @@ use Rattle.plan_core.specs.Plans.{Operator, source, get_descendants, join, over,
 use Rattle.plan_rewrite.specs.Marks.{marks}
 use Rattle.plan_rewrite.specs.declared.way.Covered.{Covered}
 
--- what a comparison's variable is compared with is a text, or bound by operator n
+-- whether what is compared with is a text, or a variable that operator n binds
 abbrev pub marks_operand : Operand → List Operator → ℕ → Bool
 marks_operand (var_operand v) ops n = slice_index_or (marks v [] ops) n false
 marks_operand (text_operand label) ops n = true
 
--- operator n binds all variables of a comparison
+-- whether operator n binds all variables of a comparison
 abbrev pub covers : Test → List Operator → ℕ → Bool
 covers t ops n = slice_index_or (marks t.left [] ops) n false && marks_operand t.right ops n
 
--- the side of a join into which the selection goes
+-- the side of a join into which the selection goes; None at any other operator, and where no side binds all variables
 abbrev pub next_in : (ℕ → Bool) → Operator → Option ℕ
 next_in covered (source s out) = None
 next_in covered (get_descendants input start path out) = None

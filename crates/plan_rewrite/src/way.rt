@@ -54,7 +54,7 @@ fn binds_all(c: &Covered, n: u32) -> bool
     }
 }
 
-// The side of a join into which the selection goes.
+// The side of a join into which a selection goes; `None` at any other operator, and where no side binds all variables.
 fn next(ops: &[Op], c: &Covered, at: u32) -> Option<u32>
     ensures { (t : Test) → AreCovered t (map op_of ops.now) c.now → result ≡ next_in (covers t (map op_of ops.now)) (op_at (map op_of ops.now) at) }
 {

@@ -49,7 +49,7 @@ kept_is_written p k =
 pub path_written : (p : Spelled) → PathKept p → IsWrittenPath (path_value (path_form p))
 path_written p k = subst (λ (r : Result Form PathLimit). IsWrittenPath (path_value r)) (sym k.value) (kept_is_written p k)
 
--- in a UTF-8 text what stands before blanks and what stands after the ASCII byte behind them are UTF-8
+-- in a UTF-8 text what stands before blanks and what stands after the ASCII byte that follows them are UTF-8
 pub around_blanks : (x g y : List ℕ) (b : ℕ) → IsBlanks g → b < 128 → IsUtf8 (x ++ (g ++ b ∷ y)) → IsUtf8 x × IsUtf8 y
 around_blanks x [] y b h l u = utf8_split x y b l u
 around_blanks x (c ∷ g) y b h l u =

@@ -35,6 +35,7 @@ fn stays(kind: Kind, default: ValueRef<'_>) -> bool {
     }
 }
 
+// Whether a value is NULL.
 fn is_null(value: ValueRef<'_>) -> bool {
     matches!(value, ValueRef::Null)
 }
@@ -44,6 +45,7 @@ fn has_default(table: &Table, column: &Column, place: usize) -> bool {
     !is_null(lend_value(&column.default)) || table.computed.as_slice().contains(&place)
 }
 
+// What stands for a column in a row that lacks it: its default, where that is not NULL and stays as it is written.
 fn default_of(alloc: Global, column: &Column) -> Result<Option<Value>, AllocError> {
     let default = lend_value(&column.default);
     if is_null(default) || !stays(column.kind, default) {
@@ -110,6 +112,7 @@ pub fn has_late_columns(schema: &Schema) -> bool {
     false
 }
 
+// Whether a name asks for the number of a row: the key that is it has this name, or no column has.
 fn is_row_number(table: &Table, name: &[u8]) -> bool {
     match table.column_named(name) {
         Some(number) => table.key == Some(number),
@@ -148,6 +151,7 @@ fn stored(
     }
 }
 
+// Puts the value at a place of what is asked, or the default where the row lacks the column; a default that isn't known is a fault.
 fn push_value(
     filled: &mut Row,
     asked: &Row,

@@ -13,10 +13,12 @@ use sqlite_value::row::Row;
 use sqlite_value::value::ValueRef;
 use std::alloc::{AllocError, Global};
 
+// Whether a value is the text of this word.
 fn is_word(value: ValueRef<'_>, word: &[u8]) -> bool {
     is_same(value, ValueRef::Text(word))
 }
 
+// Puts the values of an entry but for its root, the fifth of them.
 fn push_without_root(row: &mut Row, entry: &Row) -> Result<(), AllocError> {
     row.push(entry.get(0))?;
     row.push(entry.get(1))?;
@@ -25,6 +27,7 @@ fn push_without_root(row: &mut Row, entry: &Row) -> Result<(), AllocError> {
     row.push(entry.get(5))
 }
 
+// An entry without its root.
 fn without_root(alloc: Global, entry: &Row) -> Result<Row, AllocError> {
     let mut row = Row::new(alloc);
     push_without_root(&mut row, entry)?;
@@ -53,6 +56,7 @@ fn binds(alloc: Global, row: &Row) -> Result<bool, AllocError> {
     load::is_unread(alloc, row.get(4))
 }
 
+// Whether something keeps a table from being read: a trigger of it, or an index that is not understood.
 fn is_bound(alloc: Global, rows: &[Row], table: &Row) -> Result<bool, AllocError> {
     for other in rows {
         if same_name(bytes_of(table.get(2)), bytes_of(other.get(3))) && binds(alloc, other)? {
@@ -62,6 +66,7 @@ fn is_bound(alloc: Global, rows: &[Row], table: &Row) -> Result<bool, AllocError
     Ok(false)
 }
 
+// Whether an entry is a table that is read.
 fn is_own_table(alloc: Global, rows: &[Row], row: &Row) -> Result<bool, AllocError> {
     if is_bound(alloc, rows, row)? {
         return Ok(false);
@@ -73,6 +78,7 @@ fn is_own_table(alloc: Global, rows: &[Row], row: &Row) -> Result<bool, AllocErr
     Ok(is_read)
 }
 
+// Whether the table of an entry, as of an index, is one that is read.
 fn has_own_table(alloc: Global, rows: &[Row], row: &Row) -> Result<bool, AllocError> {
     for other in rows {
         if is_same(other.get(2), row.get(3)) && is_own_table(alloc, rows, other)? {
@@ -82,6 +88,7 @@ fn has_own_table(alloc: Global, rows: &[Row], row: &Row) -> Result<bool, AllocEr
     Ok(false)
 }
 
+// The shape of an entry's tree: what is not read keeps its pages frozen.
 fn shape_for(
     alloc: Global,
     rows: &[Row],
@@ -109,6 +116,7 @@ fn shape_for(
     })
 }
 
+// The tree that a row lists: its number less one.
 fn tree_of(row: &Row) -> Option<u32> {
     match row.get(0) {
         ValueRef::Int(id) if 1 <= id && id <= 65536 => Some((id - 1) as u32),
@@ -136,6 +144,7 @@ fn layout(schema: &Schema, tree: u32, shape: Shape) -> Option<(Shape, u64)> {
     ))
 }
 
+// The shape and the REAL columns of each row's tree. A row without a tree is a fault.
 fn layouts(
     alloc: Global,
     schema: &Schema,
@@ -158,6 +167,7 @@ fn layouts(
     Ok(all)
 }
 
+// The shape of each entry's tree.
 fn shapes_for(alloc: Global, rows: &[Row], roots: &[bool]) -> Result<Vec<Shape>, AllocError>
     requires { length roots.now ≡ length rows.now }
     ensures { IfOk result (λ all. length all.items ≡ length rows.now) }
@@ -169,6 +179,7 @@ fn shapes_for(alloc: Global, rows: &[Row], roots: &[bool]) -> Result<Vec<Shape>,
     Ok(all)
 }
 
+// The entries with the code of each one's shape.
 fn with_codes(alloc: Global, rows: &[Row], shapes: &[Shape]) -> Result<Vec<Row>, AllocError>
     requires { length shapes.now ≡ length rows.now }
 {

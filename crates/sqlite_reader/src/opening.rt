@@ -12,6 +12,7 @@ use std::alloc::Global;
 // How many bytes of pages are kept in memory.
 const CACHE: usize = 1 << 23;
 
+// The size of a page as the files have it; files that have none are a fault.
 fn page_size(files: &mut Files<PageDisk>) -> Result<PageSize, ReadFault> {
     match probe_page_size(files)? {
         Some(size) => Ok(size),
@@ -19,6 +20,7 @@ fn page_size(files: &mut Files<PageDisk>) -> Result<PageSize, ReadFault> {
     }
 }
 
+// The store over the files with no page read, which keeps `CACHE` bytes of pages.
 fn unopened(alloc: Global, mut files: Files<PageDisk>) -> Result<Unopened<PageDisk>, ReadFault> {
     let size = page_size(&mut files)?;
     let options = Options {
@@ -31,6 +33,7 @@ fn unopened(alloc: Global, mut files: Files<PageDisk>) -> Result<Unopened<PageDi
     Ok(Unopened::new(alloc, pager, &[])?)
 }
 
+// The schema that the files list, which is told to the store; a list that it doesn't take is a fault.
 fn list(alloc: Global, files: &mut Unopened<PageDisk>) -> Result<Schema, ReadFault> {
     let listed = files.read_catalog()?;
     let roots = files.index_roots(listed.as_slice())?;
@@ -43,6 +46,7 @@ fn list(alloc: Global, files: &mut Unopened<PageDisk>) -> Result<Schema, ReadFau
     }
 }
 
+// The store with its schema taken as it was listed.
 fn opened(fresh: Unopened<PageDisk>) -> Result<FileStore<PageDisk>, ReadFault> {
     match fresh.open_trusted() {
         Ok(store) => Ok(store),

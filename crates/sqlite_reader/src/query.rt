@@ -34,6 +34,7 @@ fn push_column(text: &mut Vec<u8>, table: &[u8], name: &[u8]) -> Result<(), Allo
     push_quoted(text, name)
 }
 
+// Writes the key and the columns that are asked, with commas between them.
 fn push_columns(text: &mut Vec<u8>, query: &Query<'_>) -> Result<(), AllocError> {
     push_column(text, query.table, query.key)?;
     for name in query.columns {
@@ -43,6 +44,7 @@ fn push_columns(text: &mut Vec<u8>, query: &Query<'_>) -> Result<(), AllocError>
     Ok(())
 }
 
+// Writes that the key is above the number; where there is none, what always holds.
 fn push_condition(text: &mut Vec<u8>, query: &Query<'_>) -> Result<(), AllocError> {
     if query.after.is_some() {
         push_column(text, query.table, query.key)?;
@@ -53,6 +55,7 @@ fn push_condition(text: &mut Vec<u8>, query: &Query<'_>) -> Result<(), AllocErro
     Ok(())
 }
 
+// Writes what is selected: the key, the columns, and a further one where one is named.
 fn push_selection(
     text: &mut Vec<u8>,
     query: &Query<'_>,
@@ -67,6 +70,7 @@ fn push_selection(
     Ok(())
 }
 
+// Writes the whole statement.
 fn push_statement(
     text: &mut Vec<u8>,
     query: &Query<'_>,

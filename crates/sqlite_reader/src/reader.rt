@@ -57,12 +57,14 @@ impl Drop for Reader {
     }
 }
 
+// The file at a path as a disk, of the length that it has now.
 fn file_disk(rt: &HostRuntime, path: &str) -> Result<PageDisk, ReadFault> {
     let file = open_plain(rt, path)?;
     let length = file.metadata()?.len();
     Ok(PageDisk::of_file(file, length as usize))
 }
 
+// The log of the database at a path as a disk in memory; an empty one where it has none.
 fn log_disk(rt: &HostRuntime, alloc: Global, path: &str) -> Result<PageDisk, ReadFault> {
     // Recovery may write a header, for which no memory may be wanting then.
     let mut bytes = Vec::with_capacity(alloc, LOG_ROOM)?;
@@ -72,6 +74,7 @@ fn log_disk(rt: &HostRuntime, alloc: Global, path: &str) -> Result<PageDisk, Rea
     Ok(PageDisk::of_log(bytes))
 }
 
+// The disks of the database at a path.
 fn files_at(rt: &HostRuntime, alloc: Global, path: &str) -> Result<Files<PageDisk>, ReadFault> {
     let db = file_disk(rt, path)?;
     let log = log_disk(rt, alloc, path)?;
@@ -79,6 +82,7 @@ fn files_at(rt: &HostRuntime, alloc: Global, path: &str) -> Result<Files<PageDis
 }
 
 impl Engine {
+    // The rows that a program gives over the pages of the file.
     fn rows(
         &mut self,
         catalog: &[Index<'_>],
@@ -99,6 +103,7 @@ impl Engine {
     }
 }
 
+// The rows that a compiled program gives; a program that the schema doesn't accept is a fault.
 fn run(
     alloc: Global,
     engine: &mut Engine,
@@ -121,6 +126,7 @@ fn run(
     rows
 }
 
+// The rows that a compiled statement gives; one that selects nothing, or has other parameters, is a fault.
 fn answer(
     alloc: Global,
     engine: &mut Engine,
@@ -137,6 +143,7 @@ fn answer(
     }
 }
 
+// The parameters of a query's statement: its limit, and the number that keys are above or NULL.
 fn params_of(alloc: Global, query: &Query<'_>) -> Result<Row, AllocError> {
     let mut params = Row::new(alloc);
     params.push(ValueRef::Int(query.limit as i64))?;
@@ -163,7 +170,7 @@ impl Reader {
         })
     }
 
-    /// Whether the files at the path are those that were opened, and as they were then.
+    /// Whether the files at the path are those that were opened, and as they were then. It fails where that can't be told.
     pub fn is_at(&self, rt: &HostRuntime, alloc: Global, path: &str) -> Result<bool, ReadFault> {
         let real = real_path(rt, path)?;
         Ok(stamp_at(rt, alloc, real.as_str())? == self.stamp)
@@ -179,6 +186,7 @@ impl Reader {
         }
     }
 
+    // The rows that are asked of a table of this number, with the defaults of the columns that rows lack.
     fn table_rows(
         &mut self,
         alloc: Global,
@@ -200,6 +208,7 @@ impl Reader {
         self.filled(alloc, tree, late.as_slice(), rows)
     }
 
+    // The rows with the default of each column that a row lacks.
     fn filled(
         &mut self,
         alloc: Global,
@@ -214,6 +223,7 @@ impl Reader {
         Ok(all)
     }
 
+    // The rows that are asked as they stand in the file, with a further column where one is named.
     fn found(
         &mut self,
         alloc: Global,

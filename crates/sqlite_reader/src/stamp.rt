@@ -6,11 +6,13 @@ use std::io::{self, ErrorKind};
 use std::os::unix::fs::{FileExt, MetadataExt};
 use std::path::PathBuf;
 
-// Where a database has the count of its changes, and a log the numbers that are new whenever it is begun again.
+// The offset at which the header of a database has the count of its changes.
 const CHANGES: u64 = 24;
 
+// The offset at which the header of a log has the numbers that are new whenever the log is begun again.
 const SALTS: u64 = 12;
 
+// What tells one state of a file from another: which file it is, its length, its time of change, and some bytes of its header.
 #[derive(Clone, Copy, PartialEq, Eq)]
 struct FileStamp {
     device: u64,
@@ -29,7 +31,7 @@ pub struct Stamp {
     log: Option<FileStamp>,
 }
 
-// The header's bytes are those from an offset on.
+// The stamp of a file, with the bytes of its header from an offset on.
 fn stamp_of(file: &File, from: u64) -> io::Result<FileStamp> {
     let data = file.metadata()?;
     let mut head = [0; 16];
@@ -44,6 +46,7 @@ fn stamp_of(file: &File, from: u64) -> io::Result<FileStamp> {
     })
 }
 
+// A path with an ending after it.
 fn named(alloc: Global, path: &str, end: &str) -> Result<String, ReadFault> {
     let mut name = String::from_str(alloc, path)?;
     name.push_str(end)?;

@@ -6,6 +6,7 @@ use sqlite_value::value::ValueRef;
 use std::alloc::Global;
 use table_keep::{Cell, TableRow};
 
+// The cell of a text; bytes that are not UTF-8 are a fault.
 fn text_cell(alloc: Global, bytes: &[u8]) -> Result<Cell, ReadFault> {
     match Label::new(alloc, bytes)? {
         Some(text) => Ok(Cell::Text(text)),
@@ -13,6 +14,7 @@ fn text_cell(alloc: Global, bytes: &[u8]) -> Result<Cell, ReadFault> {
     }
 }
 
+// The cell of a value; a REAL is a fault.
 fn cell(alloc: Global, value: ValueRef<'_>) -> Result<Cell, ReadFault> {
     match value {
         ValueRef::Null => Ok(Cell::Null),
@@ -23,6 +25,7 @@ fn cell(alloc: Global, value: ValueRef<'_>) -> Result<Cell, ReadFault> {
     }
 }
 
+// So many cells of a row, after its key; fewer are a fault.
 fn cells(alloc: Global, row: &Row, count: usize) -> Result<Vec<Cell>, ReadFault> {
     if row.len() <= count {
         return Err(ReadFault::Failed);
@@ -34,6 +37,7 @@ fn cells(alloc: Global, row: &Row, count: usize) -> Result<Vec<Cell>, ReadFault>
     Ok(cells)
 }
 
+// The row of a key and so many cells; a key that is no whole number is a fault.
 fn table_row(alloc: Global, row: &Row, count: usize) -> Result<TableRow, ReadFault> {
     let ValueRef::Int(key) = row.get(0) else {
         return Err(ReadFault::Failed);

@@ -21,6 +21,7 @@ impl Drop for OpenFile {
     }
 }
 
+// The index of the file that was asked by a path, where it is open.
 fn place(files: &[OpenFile], path: &[u8]) -> Option<usize> {
     files.iter().position(|file| file.path.as_slice() == path)
 }
@@ -34,6 +35,7 @@ fn take(files: &mut Vec<OpenFile>, path: &[u8]) -> Option<OpenFile> {
     Some(files.swap_remove(at))
 }
 
+// The path of the file that is asked; one that is not UTF-8 is a fault.
 fn path_of<'a>(ask: &PageAsk<'a>) -> Result<&'a str, ReadFault> {
     match str::from_utf8(ask.file.bytes()) {
         Ok(path) => Ok(path),
@@ -41,6 +43,7 @@ fn path_of<'a>(ask: &PageAsk<'a>) -> Result<&'a str, ReadFault> {
     }
 }
 
+// Opens the file at a path.
 fn open_file(rt: &HostRuntime, alloc: Global, path: &str) -> Result<OpenFile, ReadFault> {
     let reader = Reader::open(rt, alloc, path)?;
     Ok(OpenFile {
@@ -64,6 +67,7 @@ fn fresh(
     open_file(rt, alloc, path)
 }
 
+// The names of columns, in order.
 fn names<'a>(alloc: Global, columns: &'a [Column]) -> Result<Vec<&'a [u8]>, AllocError> {
     let mut names = Vec::new(alloc);
     for column in columns {
@@ -72,6 +76,7 @@ fn names<'a>(alloc: Global, columns: &'a [Column]) -> Result<Vec<&'a [u8]>, Allo
     Ok(names)
 }
 
+// The rows that are asked of an open file.
 fn found(alloc: Global, file: &mut OpenFile, ask: &PageAsk<'_>) -> Result<Vec<Row>, ReadFault> {
     let names = names(alloc, ask.columns)?;
     let query = Query {

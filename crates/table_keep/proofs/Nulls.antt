@@ -54,15 +54,16 @@ all_take p (suc n) (x ∷ xs) h =
 
 -- of rows that rise, each with a short value for each column, the first above a key
 module _ (ask : PageAsk) (all : List Row) (rise : keys_rise None all ≡ true) (rows : list_all (is_row (length ask.columns.now)) all ≡ true) where
+  -- the first rows above a key fit exactly where none of them has NULL in a column that never is
   by_null : all_fit ask.columns.now (first_above ask.after ask.limit all) ≡ list_all (λ r. keeps_null ask.columns.now r.values) (first_above ask.after ask.limit all)
   by_null = fit_by_null ask.columns.now (first_above ask.after ask.limit all)
       (all_take (is_row (length ask.columns.now)) ask.limit (filter (λ (r : Row). is_above ask.after r.key) all) (all_filter (is_row (length ask.columns.now)) (λ (r : Row). is_above ask.after r.key) all rows))
 
-  -- where they are a page, none of them is refused
+  -- where the first rows above a key are a page, none of them is refused
   pub page_given : IsPage ask (first_above ask.after ask.limit all) → unless_null ask.columns.now (first_above ask.after ask.limit all) ≡ Some (first_above ask.after ask.limit all)
   page_given is = ap (λ b. if b then Some (first_above ask.after ask.limit all) else None) (sym by_null ∙ is.cells)
 
-  -- where they are not, one of them is
+  -- where the first rows above a key are no page, one of them is refused
   pub page_refused : ¬ IsPage ask (first_above ask.after ask.limit all) → unless_null ask.columns.now (first_above ask.after ask.limit all) ≡ None
   page_refused not_page = by_test (list_all (λ r. keeps_null ask.columns.now r.values) (first_above ask.after ask.limit all)) refl
     where
@@ -74,7 +75,7 @@ module _ (ask : PageAsk) (all : List Row) (rise : keys_rise None all ≡ true) (
         cells = by_null ∙ e;
       }))
 
--- what a call gives that isn't to fail: the first of these rows above a key, unless one of them has NULL in a column that never is
+-- what a call gives that isn't to fail: the first rows above a key, unless one of them has NULL in a column that never is
 abbrev pub gives_of : PageAsk → Bool → Option (List Row) → Option (List Row)
 gives_of ask fails told = if fails then None else option_and_then (λ rows. unless_null ask.columns.now (first_above ask.after ask.limit rows)) told
 
@@ -82,13 +83,13 @@ gives_of ask fails told = if fails then None else option_and_then (λ rows. unle
 abbrev pub first_of : PageAsk → Option (List Row) → Option (List Row)
 first_of ask told = option_map (first_above ask.after ask.limit) told
 
--- nothing is given where nothing is told
+-- a call gives nothing where nothing is told
 pub nothing_given : (ask : PageAsk) (fails : Bool) (told : Option (List Row)) → None ≡ first_of ask told → gives_of ask fails told ≡ None
 nothing_given ask true told e = refl
 nothing_given ask false None e = refl
 nothing_given ask false (Some rows) e = absurd (cc e)
 
--- what is given are the first of the rows that are told
+-- what a call gives are the first of the rows that are told
 pub given_first : (ask : PageAsk) (fails : Bool) (told : Option (List Row)) (rows : List Row) → gives_of ask fails told ≡ Some rows → IfSome told (λ all. rows ≡ first_above ask.after ask.limit all)
 given_first ask true told rows e = absurd (cc e)
 given_first ask false None rows e = tt

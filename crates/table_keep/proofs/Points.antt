@@ -9,10 +9,12 @@ use Rattle.table_keep.specs.declared.row.TableRow.{TableRow}
 use Rattle.table_keep.specs.Page.{is_above, keys_rise}
 use Rattle.table_keep.specs.Rows.{Row, row_of, rows_of}
 
+-- a boolean whose negation is false is true
 turned_false : (b : Bool) → not b ≡ false → b ≡ true
 turned_false true h = refl
 turned_false false h = absurd (cc h)
 
+-- a boolean whose negation is true is false
 turned_true : (b : Bool) → not b ≡ true → b ≡ false
 turned_true true h = absurd (cc h)
 turned_true false h = refl

@@ -49,14 +49,16 @@ short_at_all : (values : List Value) → list_all is_short values ≡ true → (
 short_at_all values h [] = refl
 short_at_all values h (p ∷ places) = and_both (is_short (get_or values p null)) _ (short_at values h p) (short_at_all values h places)
 
+-- there are as many images as members
 same_length : {X Y : Type 0} (f : X → Y) (xs : List X) → length (map f xs) ≡ length xs
 same_length f [] = refl
 same_length f (x ∷ xs) = ap suc (same_length f xs)
 
+-- numbers that are the same are tested to be so
 same_number : (m n : ℕ) → m ≡ n → (m == n) ≡ true
 same_number m n e = grind arith
 
--- rows with some of their values are rows
+-- rows with the values at some places alone have as many values as there are places, all of them short
 pub rows_projected : (width : ℕ) (places : List ℕ) (rows : List Row) → list_all (is_row width) rows ≡ true → list_all (is_row (length places)) (map (projected places) rows) ≡ true
 rows_projected width places [] h = refl
 rows_projected width places (r ∷ rows) h =

@@ -34,7 +34,7 @@ by_test : (P : Open → Type 0) (b : Bool) (x y : Open) → (b ≡ true → P x)
 by_test P true x y h k = h refl
 by_test P false x y h k = k refl
 
--- rows in two pieces, one after another
+-- the trees of rows in two pieces are those of the first, followed by those of the second
 row_forest-append : (columns : List Column) (xs ys : List Row) → row_forest columns (xs ++ ys) ≡ followed (row_forest columns xs) (row_forest columns ys)
 row_forest-append columns xs ys = ap forest_of (map-append (row_tree columns) xs ys) ∙ forest_of-append (map (row_tree columns) xs) (map (row_tree columns) ys)
 
@@ -43,7 +43,7 @@ apart_after : (f : Forest) (o : Open) → IsApart o → IsApart (open_followed (
 apart_after none o h = h
 apart_after (tree label kids rest) o h = (IsApart-without_holes kids, apart_after rest o h)
 
--- rows before a list that is empty where they are none: a node at the top, and no hole first
+-- whole rows before a list that is empty where there are no rows have a node at the top, and no hole first
 top_of : (columns : List Column) (rows : List Row) (o : Open) → (rows ≡ [] → o ≡ nil)
     → (is_nil (open_followed (without_holes (row_forest columns rows)) o) ≡ false → has_node (open_followed (without_holes (row_forest columns rows)) o) ≡ true)
     × (begins_with_hole (open_followed (without_holes (row_forest columns rows)) o) ≡ false)
@@ -77,7 +77,7 @@ all_above : (after : Option ℤ) (rows : List Row) → AllByRecursion (λ r. is_
 all_above after [] h = refl
 all_above after (r ∷ rows) h = rw h.0 (ap (λ (rs : List Row). r ∷ rs) (all_above after rows h.1))
 
--- after the last of the first so many rows are the others
+-- of rows that rise, those above the last of the first so many are the others
 above_taken : (n : ℕ) (after : Option ℤ) (rows : List Row) → keys_rise after rows ≡ true → filter (λ r. is_above (last_key after (take n rows)) r.key) rows ≡ drop n rows
 above_taken zero after rows h = all_above after rows (rise_above after rows h)
 above_taken (suc n) after [] h = refl
@@ -96,9 +96,11 @@ cells_light (c ∷ cs) (v ∷ vs) = omega (arith, cells_light cs vs, leaf_light 
     leaf_light None = omega arith
     leaf_light (Some l) = omega arith
 
+-- a number taken once more than n times is the number, and n times the number
 one_more : (n w : ℕ) → suc n * w ≡ w + n * w
 one_more n w = grind arith
 
+-- rows have each at most a node of their own and two for each column
 rows_light : (columns : List Column) (rows : List Row) → nodes_of (row_forest columns rows) ≤ length rows * (1 + 2 * length columns)
 rows_light columns [] = omega arith
 rows_light columns (r ∷ rows) = omega (arith, one_more (length rows) (1 + 2 * length columns), cells_light columns r.values, rows_light columns rows)
@@ -135,6 +137,7 @@ part_back : (key : ℤ) → SFits w64 key → part_of (hole_of (Rows (Some key))
 part_back key fits = ap (λ k. Some (Rows (Some k))) (to_z-of_z w64 key fits)
 
 module _ (d : TableDoc) (after : Option ℤ) (rows : List Row) where
+  -- the hole for the rows above a key
   rest_hole : HoleId
   rest_hole = hole_of (Rows (last_key after rows))
 

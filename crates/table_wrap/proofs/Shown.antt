@@ -9,7 +9,7 @@ use Rattle.table_keep.specs.Rows.{Row, row_of, rows_of}
 use Rattle.table_wrap.specs.Document.{last_key}
 use Rattle.table_wrap.specs.Rows.{cells, row_forest}
 
--- one row more, before a list
+-- the trees of rows with one row more, before a list, are theirs before that row's tree and the list
 pub rows_more : (columns : List Column) (rows : List Row) (r : Row) (rest : Open)
     → open_followed (without_holes (row_forest columns (rows ++ r ∷ []))) rest
     ≡ open_followed (without_holes (row_forest columns rows)) (node (114 ∷ 111 ∷ 119 ∷ []) (without_holes (forest_of (cells columns r.values))) rest)
@@ -21,6 +21,6 @@ pub last_more : (after : Option ℤ) (rows : List Row) (r : Row) → last_key af
 last_more after [] r = refl
 last_more after (s ∷ rows) r = last_more (Some s.key) rows r
 
--- the plain rows of one row more
+-- the plain rows of rows with one more are theirs, and that one's plain row
 pub rows_of_more : (rows : List TableRow) (r : TableRow) → rows_of (rows ++ r ∷ []) ≡ rows_of rows ++ row_of r ∷ []
 rows_of_more rows r = map-append row_of rows (r ∷ [])

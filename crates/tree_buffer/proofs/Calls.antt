@@ -22,7 +22,7 @@ advances_twice {a} {b} {c} {x} {y} {z} first second = record {
   moved = moved_twice (weigh a x) (weigh b y) (weigh c z) (nodes_of x) (nodes_of y) (nodes_of z) first.moved second.moved;
 }
 
--- a view that means the sources of a buffer's nodes
+-- a view that means the sources of a buffer's nodes, and what is so of its spots then
 module _ (v : View) (b : Buffer) (s : Sourced v (number_of b) (nodes_of b)) where
   -- no spot has more below it than the source's root hole weighs
   below_root : (x : Spot) → IsSpot b x → below v b x ≤ v.weight (number_of b) (v.root (number_of b))
@@ -45,9 +45,9 @@ module _ (v : View) (b : Buffer) (s : Sourced v (number_of b) (nodes_of b)) wher
   pub sources_from : IsSourcesOf v b
   sources_from = record { sourced = s; count = s.number; label = λ told x spot. s.stands told x.number spot; light = below_root; lighter = child_weight }
 
--- of a buffer that goes on over a part of a call
+-- a buffer that goes on over a part of a call, and what stays of it then
 module _ {v v' : View} {b b' : Buffer} (s : IsSourcesOf v b) (keeps : Keeps v v') (goes : Advances v b v' b') where
-  -- a source that tells its document still does
+  -- a source that tells its document still does after a part of a call
   pub still_told : v'.told (number_of b') ≡ v.told (number_of b)
   still_told = ap v'.told goes.number ∙ keeps.told (number_of b)
 
@@ -57,7 +57,7 @@ module _ {v v' : View} {b b' : Buffer} (s : IsSourcesOf v b) (keeps : Keeps v v'
       ap (document_node v') goes.number
       ∙ ap (λ f. tree [] f none) (same_document v v' b.number (nodes_of b) (nodes_of b).rests s.sourced keeps refl (all_stay v v' b.number (nodes_of b) s.sourced keeps))
 
-  -- a spot whose siblings were handed out
+  -- a spot whose siblings were all handed out has them all handed out after a part of a call
   siblings_stay : (x : Spot) → IsSpot b x → HasAllSiblings b x → HasAllSiblings b' x
   siblings_stay x spot all u k within child =
       let m = nodes_of b in
@@ -85,7 +85,7 @@ module _ {v v' : View} {b b' : Buffer} (s : IsSourcesOf v b) (keeps : Keeps v v'
     siblings = siblings_stay;
   }
 
--- a buffer that calls don't take
+-- a buffer of sources that a call doesn't take is kept where the sources keep what every call keeps
 pub kept : {v v' : View} {b : Buffer} → IsSourcesOf v b → Keeps v v' → IsKept v v' b
 kept {v} {v'} {b} s keeps =
     let stay = all_stay v v' b.number (nodes_of b) s.sourced keeps in
@@ -95,7 +95,7 @@ kept {v} {v'} {b} s keeps =
     }
 
 module _ {S : Type 0} {view : S → View} {came_from : S → S → Type 0} (keeps : (a b : S) → came_from a b → Keeps (view a) (view b)) where
-  -- the parts of a call are the call
+  -- what the parts of a call leave together is what the call leaves
   pub ran_from : {s t : S} {b c : Buffer} → IsSourcesOf (view s) b → Advanced view came_from s b t c → Ran view came_from s b t c
   ran_from {s} {t} {b} {c} sources part = record {
     came = part.came;

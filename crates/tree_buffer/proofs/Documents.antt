@@ -11,11 +11,11 @@ from-suc : (k : ℕ) (f : Forest) → from (suc k) f ≡ after_first (from k f)
 from-suc zero f = refl
 from-suc (suc k) f = from-suc k (after_first f)
 
--- the trees from the next index on
+-- the trees from the next index on are those after the first of those from an index on
 pub from-more : (k : ℕ) (f : Forest) → from (k + 1) f ≡ after_first (from k f)
 from-more k f = rw add-one (from-suc k f)
 
--- the child of a place at an index
+-- what stands at the child of a place at an index is the trees from that index on among the children of the tree there
 pub trees_at-push : (f : Forest) (p : List ℕ) (k : ℕ) → trees_at f (p ++ k ∷ []) ≡ from k (first_kids (trees_at f p))
 trees_at-push f p k = trees_at-append f p (k ∷ [])
 
@@ -34,7 +34,7 @@ pub no_tree : (f : Forest) → is_some (first_label f) ≡ false → f ≡ none
 no_tree none e = refl
 no_tree (tree label kids rest) e = cc
 
--- what stands at the next place is what stands after
+-- what stands at the next place of a place is what stands after the first tree there
 pub trees_at-next : (f : Forest) (p q : List ℕ) → Some q ≡ next_place p → trees_at f q ≡ after_first (trees_at f p)
 trees_at-next f [] q e = cc
 trees_at-next f (k ∷ []) q e = let same : q ≡ (k + 1) ∷ [] = cc in ap (trees_at f) same ∙ from-more k (first_kids f)

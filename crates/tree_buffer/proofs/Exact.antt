@@ -17,14 +17,14 @@ use Rattle.tree_buffer.proofs.Calls.{still_told, still_node}
 use Rattle.tree_buffer.proofs.Documents.{trees_at-next, next_place-push, no_next, no_tree}
 use Rattle.tree_buffer.proofs.Spots.{child_lighter, child_told, none_told}
 
--- of what a call answers about children that were handed out
+-- two states of a buffer of which the second goes on from the first, and the children of a node there
 module _ {v v' : View} {b b' : Buffer} (keeps : Keeps v v') (s : IsSourcesOf v b) (s' : IsSourcesOf v' b') (goes : Advances v b v' b') (q k : ℕ) (within : q < length (nodes_of b).links) where
   -- where a child was handed out, the document had one
   pub exact_child : (c : ℕ) → IsChild (nodes_of b').links q k c → v.told b.number ≡ true → has_place (document_node v b.number) (place (nodes_of b).links q ++ k ∷ []) ≡ true
   exact_child c h told =
       rw (← still_node s keeps goes, ← goes.moved.places q within) (child_told (nodes_of b') b'.linked v' b'.number q k c s'.sourced (still_told s keeps goes ∙ told) h)
 
-  -- where none was left, the document had none
+  -- where no child was handed out at an index and none is left, the document has none there
   pub exact_none : get_or (nodes_of b').counts q 0 ≡ k → get_or (nodes_of b').rests q nil ≡ nil → v.told b.number ≡ true → has_place (document_node v b.number) (place (nodes_of b).links q ++ k ∷ []) ≡ false
   exact_none e empty told =
       rw (← still_node s keeps goes, ← goes.moved.places q within, ← e)
@@ -55,7 +55,7 @@ next_spot b p q spot place = record {
   child = λ u k own. record { spot = spot; place = ap (λ o. unwrap_or o []) (place ∙ ap next_place own.place ∙ next_place-push (place_of b u) k) };
 }
 
--- what holds where there is no answer
+-- what holds where an option is None holds of one that has no value
 pub none_from : {X : Type 0} (r : Option X) (P : Type 0) (Q : X → Type 0) → MatchOption r P Q → is_some r ≡ false → P
 none_from None P Q h e = h
 none_from (Some x) P Q h e = cc

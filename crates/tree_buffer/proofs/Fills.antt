@@ -7,7 +7,7 @@ use Rattle.lxp_core.specs.View.{View, Keeps}
 use Rattle.lxp_core.proofs.Opens.{closed-open_followed, weight_of-open_followed, AllHoles-open_followed, IsApart-open_followed, begins_with_hole-open_followed, closed-same, weight_of-same, AllHoles-weaker}
 use Rattle.tree_buffer.specs.Fills.{hole_first, holes_weight, fills_left, IsRefined, IsLazy}
 
--- a list that no fill touched
+-- a list that no fill touched is refined to itself
 pub stays : (old new : View) (n : ℕ) (o : Open) → Keeps old new → AllHoles (old.knows n) o → IsApart o → IsRefined old new n o o
 stays old new n o keeps known apart = record {
   known = AllHoles-weaker (old.knows n) (new.knows n) (keeps.knows n) o known;
@@ -51,7 +51,7 @@ holes_weight-lt w nil e = cc
 holes_weight-lt w (node l ks rest) e = omega (arith, holes_weight-le w ks, holes_weight-le w rest)
 holes_weight-lt w (hole h rest) e = omega (arith, holes_weight-lt w rest e)
 
--- at most one hole stands at the beginning of a list
+-- what a hole at the beginning of a list counts for is at most 1
 pub hole_first-le : (o : Open) → hole_first o ≤ 1
 hole_first-le nil = omega arith
 hole_first-le (node l ks rest) = omega arith
@@ -98,6 +98,6 @@ module _ (old new : View) (n : ℕ) (h : HoleId) (tail list : Open) (keeps : Kee
       fewer (node l ks rest) e pr le = some (node l ks rest) refl pr le
       fewer (hole g rest) e pr le = some (hole g rest) refl pr le
 
-  -- over a forward source it begins with no hole
+  -- over a forward source, a list whose first hole was replaced by one fill begins with none, so it was asked for lazily
   pub lazily : (old.forward n ≡ true → begins_with_hole list ≡ false) → new.fills ≤ old.fills + 1 → IsLazy old new n (hole h tail) (open_followed list tail)
   lazily forward one told = omega (arith, one, hole_first-zero (open_followed list tail) (begins_with_hole-open_followed list tail (forward told) apart.0))

@@ -132,7 +132,7 @@ module _ (m : Nodes) (linked : IsLinked m.links m.counts m.firsts m.nexts) (q fi
       let fewer : index m.links (suc j) < get_or m.counts q 0 = subst (λ p. index m.links (suc j) < get_or m.counts p 0) same few in
       omega (arith, parts.1, fewer)
 
-  -- what the two names of the code are
+  -- what the code's names of the first child of q and of the node before the new one stand for
   module _ (no_first : get_or m.counts q 0 ≡ 0 → first ≡ length m.links) (a_first : 0 < get_or m.counts q 0 → first ≡ get_or m.firsts q 0)
       (no_before : get_or m.counts q 0 ≡ 0 → before ≡ length m.links)
       (a_before : 0 < get_or m.counts q 0 → IsChild m.links q (index m.links before) before × (index m.links before + 1 ≡ get_or m.counts q 0)) where
@@ -197,7 +197,7 @@ module _ (m : Nodes) (linked : IsLinked m.links m.counts m.firsts m.nexts) (q fi
             subst (IsChild (handed m q first before l ks o).links i 0) (sym (firsts_old i ne h))
             (child_old i 0 (get_or m.firsts i 0) (linked.down i h (omega (arith, counts_old i ne h))))
 
-    -- the node before the new one
+    -- the last child of q that was handed out, where one was, is the node before the new one
     is_before : (i : ℕ) → 0 < i → i < length m.links → parent m.links i ≡ q → index m.links i + 1 ≡ get_or m.counts q 0 → i ≡ before
     is_before i pos h p e =
         let b = a_before (omega arith) in

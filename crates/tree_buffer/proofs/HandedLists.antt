@@ -18,7 +18,7 @@ use Rattle.tree_buffer.proofs.Places.{places-push, length-places}
 use Rattle.tree_buffer.proofs.Handed.{handed, split, links_old, old_place, new_place, counts_own, counts_old, counts_new, longer}
 
 module _ (m : Nodes) (linked : IsLinked m.links m.counts m.firsts m.nexts) (q first before : ℕ) (l : List ℕ) (ks o : Open) (within : q < length m.links) where
-  -- the list that is left to q
+  -- with one node more handed out, the list of q is the one that is left to it
   rests_own : length m.rests ≡ length m.links → get_or (handed m q first before l ks o).rests q nil ≡ o
   rests_own e =
       get_or_append_left (set m.rests q o) (ks ∷ []) nil q (omega (arith, length-set m.rests q o, e)) ∙ get_or-set_same m.rests q o nil (omega (arith, e))
@@ -51,11 +51,11 @@ module _ (m : Nodes) (linked : IsLinked m.links m.counts m.firsts m.nexts) (q fi
       pushed (x ∷ os) all (suc i) = pushed os (λ j. all (suc j)) i
 
   module _ (w : HoleId → ℕ) (lists : length m.rests ≡ length m.links) (names : length m.labels ≡ length m.links) (at : get_or m.rests q nil ≡ node l ks o) where
-    -- what the list of q weighed
+    -- the list of q weighed the new node, its list, and the list that is left to q
     at_weight : weight_of w (get_or m.rests q nil) ≡ 1 + weight_of w ks + weight_of w o
     at_weight = ap (weight_of w) at
 
-    -- what the nodes below a place weigh
+    -- with one node more handed out, the nodes below a place weigh what they did and what the new one weighs where it is below
     held_new : (p : List ℕ) (k : ℕ) → held (weight_of w) p k (places (handed m q first before l ks o).links) (handed m q first before l ks o).rests
         ≡ held (weight_of w) p k (places m.links) (set m.rests q o) + cond (in_from p k (place m.links q ++ get_or m.counts q 0 ∷ [])) (1 + weight_of w ks) 0
     held_new p k =
@@ -63,7 +63,7 @@ module _ (m : Nodes) (linked : IsLinked m.links m.counts m.firsts m.nexts) (q fi
         ∙ held-push (weight_of w) p k (places m.links) (set m.rests q o) (place m.links q ++ get_or m.counts q 0 ∷ []) ks
         (omega (arith, length-set m.rests q o, lists, length-places m.links))
 
-    -- what is counted where a test passes is at most that
+    -- what is counted where a test passes, and else as nothing, is at most that
     cond-le : (b : Bool) (x : ℕ) → cond b x 0 ≤ x
     cond-le true x = omega arith
     cond-le false x = omega arith
@@ -143,7 +143,7 @@ module _ (m : Nodes) (linked : IsLinked m.links m.counts m.firsts m.nexts) (q fi
         (rw ((new_place m linked q first before l ks o within), labels_new s.labels)
         (ap first_label (trees_at-push (document_node v n) (place m.links q) (get_or m.counts q 0)) ∙ ap first_label (s.closes told q within ∙ ap (closed (v.forest n)) at)))
 
-    -- the view means the sources of the nodes
+    -- with one node more handed out, the view means the sources of the nodes
     pub sourced_handed : Sourced v n (handed m q first before l ks o)
     sourced_handed =
         let known = subst (AllHoles (v.knows n)) at (s.known q) in

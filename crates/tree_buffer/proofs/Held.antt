@@ -98,7 +98,7 @@ held-parts w p k [] os = omega arith
 held-parts w p k (r ∷ rs) [] = omega arith
 held-parts w p k (r ∷ rs) (o ∷ os) = omega (arith, held-parts w p k rs os, in_from-parts p k r (1 + w o))
 
--- a child itself is a third part
+-- the child at k itself is a part of the children from k on, beside what is below it and what is at or below later ones
 pub held-child : (w : Open → ℕ) (p : List ℕ) (k : ℕ) (rs : List (List ℕ)) (os : List Open) (c : ℕ) → length os ≡ length rs → c < length rs → get_or rs c [] ≡ p ++ k ∷ []
     → 1 + w (get_or os c nil) + held w (p ++ k ∷ []) 0 rs os + held w p (k + 1) rs os ≤ held w p k rs os
 held-child w p k [] os c e within is = absurd (omega arith)
@@ -121,7 +121,7 @@ and_false : (b : Bool) → (b && false) ≡ false
 and_false true = refl
 and_false false = refl
 
--- a new child of another place
+-- a new child of another place is below a place where that other place is
 pub in_from-push : (p q : List ℕ) (k j : ℕ) → (p ≡ q → ⊥) → in_from p k (q ++ j ∷ []) ≡ in_from p k q
 in_from-push [] [] k j ne = absurd (ne refl)
 in_from-push [] (y ∷ q) k j ne = refl
@@ -132,7 +132,7 @@ in_from-push (x ∷ p) (y ∷ q) k j ne = cases (x == y) refl (in_from-push p q 
     cases true e h = h (λ same. ne (ap (λ z. z ∷ p) (eqb-true x y e) ∙ ap (λ r. y ∷ r) same))
     cases false e h = refl
 
--- a new child of the place itself
+-- a new child of a place itself is among its children from k on where its index is at least k
 pub in_from-own : (p : List ℕ) (k j : ℕ) → in_from p k (p ++ j ∷ []) ≡ nat_le k j
 in_from-own [] k j = refl
 in_from-own (x ∷ p) k j = rw (eq-refl x) (in_from-own p k j)

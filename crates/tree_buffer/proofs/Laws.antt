@@ -6,7 +6,7 @@ use Rattle.tree_buffer.specs.declared.spot.Spot.{Spot}
 use Rattle.tree_buffer.specs.Buffer.{IsSpot, place_of, IsSourcesOf, Goes, IsKept, Ran}
 use Rattle.tree_buffer.proofs.Calls.{kept}
 
--- nothing happened to a buffer
+-- a buffer to which nothing happened goes on
 goes_same : (v : View) (b : Buffer) → Goes v b v b
 goes_same v b = record {
   number = refl;
@@ -63,7 +63,7 @@ module _ {S : Type 0} {view : S → View} {came_from : S → S → Type 0} where
         record { sources = twice.sources; goes = goes_twice once.goes twice.goes };
   }
 
--- what calls of the sources leave of a buffer
+-- a buffer of sources is kept by calls that don't take it, where the sources keep what every call keeps
 pub keeps_buffers : {v v' : View} {b : Buffer} → IsSourcesOf v b → Keeps v v' → IsKept v v' b
 keeps_buffers = kept
 

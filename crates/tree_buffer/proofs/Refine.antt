@@ -10,7 +10,7 @@ use Rattle.tree_buffer.specs.Sourced.{Sourced, Moved}
 use Rattle.tree_buffer.proofs.Fills.{stays}
 use Rattle.tree_buffer.proofs.Held.{held-le}
 
--- what holds of each list and itself, and of one list and its new one
+-- what relates each list to itself, and one list to its new one, relates each list to the one at its place once that one is written
 pub set_relates : (R : Open → Open → Type 0) (os : List Open) (q : ℕ) (o : Open) → R (get_or os q nil) o → ((i : ℕ) → R (get_or os i nil) (get_or os i nil)) → (i : ℕ) → R (get_or os i nil) (get_or (set os q o) i nil)
 set_relates R [] q o at all i = all i
 set_relates R (x ∷ os) zero o at all zero = at
@@ -36,7 +36,7 @@ module _ (v v' : View) (n : ℕ) (m : Nodes) (os : List Open) (s : Sourced v n m
     whole = λ i within. (refined i).whole;
   }
 
-  -- the document stays the same
+  -- the document of a source is the same after a call
   pub same_document : document v' n ≡ document v n
   same_document = ap (v'.forest n) (keeps.root n) ∙ keeps.forest n (v.root n) s.root
 
@@ -63,7 +63,7 @@ module _ (v v' : View) (n : ℕ) (m : Nodes) (os : List Open) (s : Sourced v n m
     stands = λ told i within. rw same_node (s.stands (sym (keeps.told n) ∙ told) i within);
   }
 
--- the nodes that no fill touched
+-- the lists of nodes that no fill touched are refined to themselves
 pub all_stay : (v v' : View) (n : ℕ) (m : Nodes) → Sourced v n m → Keeps v v' → (i : ℕ) → IsRefined v v' n (get_or m.rests i nil) (get_or m.rests i nil)
 all_stay v v' n m s keeps i = stays v v' n (get_or m.rests i nil) keeps (s.known i) (s.apart i)
 

@@ -33,7 +33,7 @@ if_some_from (Some x) P Q R h f = f x h
 not_first : (c : ℕ) → 0 < c → (c == 0) ≡ false
 not_first c h = grind (arith, nat_tests)
 
--- the second number of a node that isn't the document node
+-- what lies after a node that isn't the document node is its parent's children from the next index on
 pub after_some : (w : Open → ℕ) (m : Nodes) (c : ℕ) → 0 < c → after_node w m c ≡ weight_from w m (parent m.links c) (index m.links c + 1)
 after_some w m c h = ap (λ b. if b then 0 else weight_from w m (parent m.links c) (index m.links c + 1)) (not_first c h)
 
@@ -69,7 +69,7 @@ module _ (m : Nodes) (linked : IsLinked m.links m.counts m.firsts m.nexts) where
   none_told v n q s told h empty =
       ap is_some (ap first_label (trees_at-push (document_node v n) (place m.links q) (get_or m.counts q 0)) ∙ ap first_label (s.closes told q h ∙ ap (closed (v.forest n)) empty))
 
-  -- the second number of a node that goes on
+  -- what lies after a node weighs no more once the nodes have moved
   pub after_moved : (w w' : Open → ℕ) (m' : Nodes) (i : ℕ) → i < length m.links → Moved w m w' m' → after_node w' m' i ≤ after_node w m i
   after_moved w w' m' zero h moved = omega arith
   after_moved w w' m' (suc i) h moved =
@@ -81,7 +81,7 @@ module _ (m : Nodes) (linked : IsLinked m.links m.counts m.firsts m.nexts) where
         ap (λ (l : ℕ × ℕ). weight_from w' m' l.0 (l.1 + 1)) (moved.links (suc i) h),
       )
 
--- the child that is named by an entry
+-- the first child that an entry names is the child at index 0, where a child was handed out
 pub first_child : (es : List Entry) (p : ℕ) (e : Entry) → AreLinked es → p < length (nodes es).links → e ≡ get_or es p e → 0 < e.count → IsChild (nodes es).links p 0 e.first
 first_child es p e linked within read some =
     let inside : p < length es = omega (arith, within, length-links es) in
@@ -95,11 +95,11 @@ link_read es p e within read =
     let l : get_or (nodes es).links p (0, 0) ≡ link_of e = column link_of es p e (0, 0) inside read in
     (ap (λ x. x.0) l, ap (λ x. x.1) l)
 
--- an entry's count of children
+-- how many children of a node were handed out is the count of its entry
 pub count_read : (es : List Entry) (p : ℕ) (e : Entry) → p < length (nodes es).links → e ≡ get_or es p e → get_or (nodes es).counts p 0 ≡ e.count
 count_read es p e within read = column (λ (e : Entry). e.count) es p e 0 (omega (arith, within, length-links es)) read
 
--- the next sibling that is named by an entry
+-- the next sibling that an entry names is the child of its parent at the next index, where that was handed out
 pub next_child : (es : List Entry) (p : ℕ) (e f : Entry) → AreLinked es → 0 < p → p < length (nodes es).links → e ≡ get_or es p e → f ≡ get_or es e.parent f → e.index + 1 < f.count → IsChild (nodes es).links e.parent (e.index + 1) e.next
 next_child es p e f linked some within read above more =
     let l = link_read es p e within read in
@@ -116,7 +116,7 @@ last_child es p e f linked some within read above no_more =
     let up : e.parent < length (nodes es).links = omega (arith, linked.back p some within, l.0) in
     omega (arith, no_more, l.1, linked.counted p some within, ap (λ q. get_or (nodes es).counts q 0) l.0, count_read es e.parent f up above)
 
--- a node that isn't the document node, by its entry
+-- a node that isn't the document node, with its entry
 module _ (es : List Entry) (p : ℕ) (e : Entry) (linked : AreLinked es) (some : 0 < p) (within : p < length (nodes es).links) (read : e ≡ get_or es p e) where
   -- the parent is one of the nodes
   pub up : e.parent < length (nodes es).links

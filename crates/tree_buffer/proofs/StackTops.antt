@@ -9,7 +9,7 @@ use Rattle.lxp_core.specs.Open.{nil, hole, open_followed, begins_with_hole}
 use Rattle.lxp_core.specs.Plain.{put, stacked, plain}
 use Rattle.lxp_core.proofs.Plains.{put-hole, put-node, put_all-open_followed, stacked-append, stacked-reverse}
 
--- the last of a stack is the first of the list
+-- a stack's last tree is put before the list that the others are
 pub stacked-top : (prefix : List OpenTree) (t : OpenTree) → stacked (prefix ++ t ∷ []) nil ≡ put t (stacked prefix nil)
 stacked-top prefix t = stacked-append prefix (t ∷ []) nil
 
@@ -17,7 +17,7 @@ stacked-top prefix t = stacked-append prefix (t ∷ []) nil
 pub stacked-hole : (prefix : List OpenTree) (h : HoleId) → stacked (prefix ++ Hole h ∷ []) nil ≡ hole h (stacked prefix nil)
 stacked-hole prefix h = stacked-top prefix (Hole h) ∙ put-hole h (stacked prefix nil)
 
--- a list put after a stack's top, of which the old top is then removed
+-- a list put after a stack's top, of which the old top is then removed, is that list and then what was below the top
 pub stacked-refilled : (prefix list : List OpenTree) (t : OpenTree) → stacked (remove ((prefix ++ t ∷ []) ++ reverse list) (length prefix)) nil ≡ open_followed (plain list) (stacked prefix nil)
 stacked-refilled prefix list t =
     let parts : (prefix ++ t ∷ []) ++ reverse list ≡ prefix ++ (t ∷ reverse list) = append_assoc prefix (t ∷ []) (reverse list) in
@@ -29,12 +29,12 @@ stacked-refilled prefix list t =
     dropped [] t rest = refl
     dropped (x ∷ prefix) t rest = dropped prefix t rest
 
--- a list in the place of a stack's only tree
+-- a list that takes the place of a stack's only tree is that list
 pub stacked-only : (prefix list : List OpenTree) (t : OpenTree) → length (prefix ++ t ∷ []) ≡ 1 → stacked (reverse list) nil ≡ open_followed (plain list) (stacked prefix nil)
 stacked-only [] list t e = stacked-reverse list nil ∙ put_all-open_followed list nil
 stacked-only (x ∷ prefix) list t e = absurd (omega (arith, e, length-append prefix (t ∷ [])))
 
--- the last of a list after the others
+-- a stack that has a last tree is the others and that one
 pub last_split : (xs : List OpenTree) (t : OpenTree) → Some t ≡ slice_get xs (length xs - 1) → (prefix : List OpenTree) × (xs ≡ prefix ++ t ∷ [])
 last_split [] t e = cc
 last_split (x ∷ []) t e = ([], cc)

@@ -9,7 +9,7 @@ use Rattle.tree_buffer.specs.Document.{document_node}
 use Rattle.tree_buffer.specs.Nodes.{Nodes}
 use Rattle.tree_buffer.specs.Sourced.{Sourced}
 
--- the document node alone, of whose children nothing is known
+-- the nodes of a new buffer: the document node alone, of whose children nothing is known
 abbrev pub start : View → ℕ → Nodes
 start v n = record {
   links = (0, 0) ∷ [];
@@ -20,7 +20,7 @@ start v n = record {
   rests = hole (v.root n) nil ∷ [];
 }
 
--- the view means its sources
+-- the view means the sources of a new buffer's nodes
 pub sourced_start : (v : View) (n : ℕ) → n < v.count → v.knows n (v.root n) ≡ true → Sourced v n (start v n)
 sourced_start v n h known = record {
   number = h;

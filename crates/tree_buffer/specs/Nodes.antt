@@ -7,13 +7,13 @@ use Rattle.lxp_core.specs.Open.{Open, nil}
 pub record Nodes : Type 0 where
   -- each node's parent, and its index among its parent's children
   pub links : List (ℕ × ℕ)
-  -- how many of its children were handed out, and the first of them
+  -- how many of each node's children were handed out, and the first of them
   pub counts : List ℕ
   pub firsts : List ℕ
   -- each node's next sibling, where it was handed out
   pub nexts : List ℕ
   pub labels : List (List ℕ)
-  -- the list of its other children
+  -- the list of each node's other children
   pub rests : List Open
 
 -- the place that a link leads to, where the earlier nodes stand at these places

@@ -81,7 +81,7 @@ tree_reads s (descend t start path out) = tree_reads s t
 tree_reads s (both l r tests) = tree_reads s l || tree_reads s r
 tree_reads s (above t op) = tree_reads s t
 
--- an operator more that reads no source
+-- with one operator more that doesn't read a source, operators read it where they did
 last_reads : (s : ℕ) (ops : List Operator) (op : Operator) → op_reads s op ≡ false → reads_source (ops ++ op ∷ []) s ≡ reads_source ops s
 last_reads s ops op h =
     list_any-append (op_reads s) ops (op ∷ [])
@@ -220,6 +220,7 @@ branches_read s reads body n h outer force (element label inside own rest) after
 
 -- THE PLAN
 
+-- the plan of an accepted rule, its selections moved, reads the sources that the rule names, and no others
 pub reads_named : ReadsNamed
 reads_named n v a s =
     let comps : List (List Binder) = components v.conds in

@@ -31,11 +31,11 @@ module _ (a b : ℕ → Layout) (kinds_of : ℕ → Kinds) (fronts : ℕ → Fro
   shape_same (no_events input made) h of = refl
 
   module _ (ops : List Operator) (same : (s : ℕ) → reads_source ops s ≡ true → a s ≡ b s) where
-    -- what is known of an operator, from what is known of those before it
+    -- what is known of an operator, from what is known of others, is the same where the sources that it reads are laid out alike
     at_same : (n : ℕ) → n < length ops → (of : ℕ → Facts) → op_facts a kinds_of fronts (op_at ops n) of ≡ op_facts b kinds_of fronts (op_at ops n) of
     at_same n h of = shape_same (shape_of (op_at ops n)) (λ s e. same s (at_reads ops n h s e)) of
 
-    -- what is known of the operators below a number
+    -- what is known of the operators below a number is the same where the sources that they read are laid out alike
     below_same : (n : ℕ) → n ≤ length ops → (j : ℕ) → below_op (op_facts a kinds_of fronts) no_facts ops n j ≡ below_op (op_facts b kinds_of fronts) no_facts ops n j
     unfolding below_op
     below_same zero h j = refl
@@ -50,7 +50,7 @@ module _ (a b : ℕ → Layout) (kinds_of : ℕ → Kinds) (fronts : ℕ → Fro
         ap (λ (x : Facts). cond (j == n) x (below_op F no_facts ops n j)) here
         ∙ ap (λ (x : Facts). cond (j == n) (G (op_at ops n) (below_op G no_facts ops n)) x) (below_same n low j)
 
-    -- what is known of the operator of a number
+    -- what is known of the operator of a number is the same where the sources that the plan reads are laid out alike
     number_same : (n : ℕ) → n < length ops → by_number (op_facts a kinds_of fronts) no_facts ops n ≡ by_number (op_facts b kinds_of fronts) no_facts ops n
     number_same n h =
         let before = fun_ext (below_same n (omega (arith, h))) in
@@ -77,6 +77,7 @@ bounds_same (op ∷ ops) n count of to less h k =
     ap (λ m. larger m (all_bounds ops of)) (bound_same (shape_of op) of to (inputs_same (inputs_of op) n count of to below h k.0))
     ∙ ap (larger (op_bound op to)) (bounds_same ops (suc n) count of to (omega (arith, less)) h k.1)
 
+-- how a source is laid out that no operator of a valid plan reads doesn't matter to the plan's class
 pub unread_dont_matter : UnreadDontMatter
 unfolding facts
 unread_dont_matter a b p valid same =

@@ -16,25 +16,25 @@ field_column name = record { label = name; has_value = true }
 abbrev pub declared_column : Column → TableColumn
 declared_column column = record { label = column.name; has_value = column.never_null }
 
--- a root of this name, and below it any number of rows with these columns
+-- the layout of a root of this name, and below it any number of rows with these columns
 abbrev pub rows_layout : List ℕ → List TableColumn → Layout
 rows_layout name columns = a_tree name (any_rows row_label (row_of columns)) no_trees
 
--- the documents of a source of this name and kind: of bracket text nothing is known
+-- how the documents of a source of this name and kind are laid out: of bracket text nothing is known
 abbrev pub kind_layout : List ℕ → SourceKind → Layout
 kind_layout name (Bracket file deep) = any_trees
 kind_layout name (Csv file columns) = rows_layout name (map field_column columns)
 kind_layout name (Table file table key columns) = rows_layout name (map declared_column columns)
 
--- the documents of a source
+-- how the documents of a source are laid out
 abbrev pub spec_layout : SourceSpec → Layout
 spec_layout spec = kind_layout spec.name spec.kind
 
--- the documents of a source, where there is one; of none nothing is known
+-- how the documents of a source are laid out, where there is one; of none nothing is known
 abbrev pub layout_there : Option SourceSpec → Layout
 layout_there None = any_trees
 layout_there (Some spec) = spec_layout spec
 
--- the documents of the source of a number among the sources of a catalog; of a number that no source has nothing is known
+-- how the documents of the source of a number in a catalog are laid out; of a number that no source has nothing is known
 abbrev pub layout_in : List SourceSpec → ℕ → Layout
 layout_in sources s = layout_there (slice_get sources s)

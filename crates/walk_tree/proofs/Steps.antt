@@ -10,12 +10,12 @@ use Rattle.tree_buffer.specs.Document.{document_node}
 use Rattle.tree_buffer.specs.Buffer.{number_of, IsSpot, place_of, label_of, below, after, trees_from, IsSourcesOf, Goes}
 use Rattle.walk_tree.specs.Walk.{first_labels, labels_from, left}
 
--- what is left from an answer on
+-- where an answer counts with all that is below and after it at most a number, so does what is left from the answer on
 pub left_le : (v : View) (b : Buffer) (r : Option Spot) (n : ℕ) → IfSome r (λ x. 1 + below v b x + after v b x ≤ n) → left v b r ≤ n
 left_le v b None n h = omega arith
 left_le v b (Some x) n h = h
 
--- what holds of an answer holds weaker
+-- what follows from a property of spots holds of an answer whose spot has it
 pub if_some_weaker : (r : Option Spot) (P Q : Spot → Type 0) → ((x : Spot) → P x → Q x) → IfSome r P → IfSome r Q
 if_some_weaker None P Q f h = tt
 if_some_weaker (Some x) P Q f h = f x h

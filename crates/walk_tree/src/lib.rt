@@ -70,7 +70,7 @@ fn walk_from<S: Sources>(
     Ok(())
 }
 
-/// The labels of a whole document in document order, that of the document node before the others.
+/// The labels of a whole document in document order, that of the document node before the others. `Failed`: the source failed.
 pub fn walk_all<S: Sources>(alloc: Global, s: &mut S, number: u32) -> Result<Vec<Label>, WalkFault>
     requires { number < (S.view s.old).count }
     ensures came { S.came_from s.old s.new }

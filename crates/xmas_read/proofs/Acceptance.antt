@@ -21,7 +21,7 @@ use Rattle.xmas_read.proofs.Bodies.{conds_bound, all_bound, conds_compared, orde
 use Rattle.xmas_read.proofs.Limits.{conds_sourced, conds_few}
 use Rattle.xmas_read.proofs.NamePlaces.{among_themselves}
 
--- where no refusal comes of some places and others, there are no such places, and none of the others
+-- where places of a refusal and other refusals give none, there are no such places, and the others give none
 pub no_place : (f : ℕ → XmasFault) (places : List ℕ) (os : List (Option XmasFault)) → first_of (first_place f places ∷ os) ≡ None → (places ≡ []) × (first_of os ≡ None)
 no_place f [] os h = (refl, h)
 no_place f (at ∷ places) os h = cc
@@ -40,7 +40,7 @@ no_refusal sources t v h = by (first_of (refusals sources t)) refl h
     by None e k = (e, cc)
     by (Some d) e k = cc
 
--- a group label without keys
+-- where the outer element has no keys, the keys of its group label are none
 no_keys : (names : List (List ℕ)) (g : Option GroupForm) → outer_keys g ≡ [] → own_keys names [] g ≡ []
 no_keys names None h = refl
 no_keys names (Some g) h = by g.keys (unless_none (nat_lt (length g.keys) 1) g.at h)
@@ -49,7 +49,7 @@ no_keys names (Some g) h = by g.keys (unless_none (nat_lt (length g.keys) 1) g.a
     by [] e = refl
     by (k ∷ ks) e = absurd (grind (arith, nat_tests))
 
--- a list that has members has some with others after them
+-- a list that has members has members with others after them
 grows : {X : Type 0} (xs ys : List X) → 0 < length xs → 0 < length (xs ++ ys)
 grows xs ys h = omega (arith, h, length-append xs ys)
 

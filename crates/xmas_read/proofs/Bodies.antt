@@ -26,12 +26,12 @@ not_true : (b : Bool) → not b ≡ true → b ≡ false
 not_true true h = cc
 not_true false h = refl
 
--- the places of names with one more
+-- the places of names with one more are theirs, and the place of that one
 places_more : (names earlier : List (List ℕ)) (n : List ℕ) → map (place_in names) (earlier ++ n ∷ []) ≡ map (place_in names) earlier ++ place_in names n ∷ []
 places_more names [] n = refl
 places_more names (m ∷ earlier) n = ap (λ r. place_in names m ∷ r) (places_more names earlier n)
 
--- one more is among names, where all of some are
+-- where all of some names and one more are among names, so are all of them together
 all_and : (names some : List (List ℕ)) (n : List ℕ) → AllByRecursion (λ m. has_name names m ≡ true) some → has_name names n ≡ true → AllByRecursion (λ m. has_name names m ≡ true) (some ++ n ∷ [])
 all_and names [] n h k = (k, tt)
 all_and names (m ∷ some) n h k = (h.0, all_and names some n h.1 k)
@@ -66,7 +66,7 @@ bound_places sources names (condition.FromSource at source path var ∷ conds) =
 bound_places sources names (condition.FromVar start path var ∷ conds) = ap (λ r. place_in names var.name ∷ r) (bound_places sources names conds)
 bound_places sources names (condition.Compare left op right ∷ conds) = bound_places sources names conds
 
--- what isn't among names with one more isn't among names, and is another one
+-- where none of some names is among names with one more, none is among the names, and each differs from that one
 apart_each : (earlier : List (List ℕ)) (n : List ℕ) (some : List (List ℕ)) → AllByRecursion (λ m. has_name (earlier ++ n ∷ []) m ≡ false) some
     → AllByRecursion (λ m. has_name earlier m ≡ false) some × AllByRecursion (λ m. bytes_eq n m ≡ false) some
 apart_each earlier n [] h = (tt, tt)
@@ -97,7 +97,7 @@ var_below : (names : List (List ℕ)) (v : VarText) (vs : List VarText) → unbo
 var_below names v vs h =
     let p = both_none (unless (has_name names v.name) v.at) (unbound_vars names vs) h in (place_small names v.name (unless_none (has_name names v.name) v.at p.0), p.1)
 
--- an operand of a variable that is bound
+-- the value of an operand whose variable is bound is a text, or a variable of the rule
 operand_below : (names : List (List ℕ)) (o : OperandText) → unbound_vars names (operand_vars o) ≡ [] → OperandBelow (length names) (operand_value names o)
 operand_below names (operand.Var v) h = (var_below names v [] h).0
 operand_below names (operand.Text l) h = tt

@@ -61,7 +61,7 @@ rule_written sources n m k p a g h w =
 abbrev pub Again : List ℕ → List (List ℕ) → RuleValue → Type 0
 Again x sources v = IsUtf8 x × ((t : Tree) × SpellsWithin x (form_of_tree t) × (checked sources t ≡ Ok v))
 
--- a value as what comes of a tree
+-- what a tree comes to that stands for a given value
 abbrev comes : RuleValue → Result RuleValue XmasFault
 comes v = Ok v
 
@@ -101,7 +101,7 @@ again_of sources lead gap tail p n m k w u l h =
 abbrev pub tree_by : ElementForm → List CondText → Option OrderText → Tree
 tree_by e cs o = record { template = e; conds = cs; order = o }
 
--- one element is another one
+-- two items that are the same and are elements are the same element
 pub one_element : (e f : ElementForm) → item.Element e ∷ [] ≡ item.Element f ∷ [] → e ≡ f
 one_element e f h = cc
 

@@ -99,7 +99,7 @@ firsts_different (x ∷ xs) = (
   different_filter (λ n. not (bytes_eq x n)) (firsts bytes_eq xs) (firsts_different xs),
 )
 
--- a name is among the first ones of names
+-- a name among names is among their first occurrences
 pub among_firsts : (xs : List (List ℕ)) (n : List ℕ) → has_name xs n ≡ true → has_name (firsts bytes_eq xs) n ≡ true
 among_firsts [] n h = cc
 among_firsts (x ∷ xs) n h =
@@ -108,12 +108,12 @@ among_firsts (x ∷ xs) n h =
       | false ↦ λ e k. others_keep x n (firsts bytes_eq xs) e (among_firsts xs n k)
     ] refl h
 
--- a name is among names with others after them
+-- a name of the first of two lists is among the names of both
 pub has_left : (xs ys : List (List ℕ)) (n : List ℕ) → has_name xs n ≡ true → has_name (xs ++ ys) n ≡ true
 has_left [] ys n h = cc
 has_left (x ∷ xs) ys n h = elim (bytes_eq x n) as (λ w. (w || has_name xs n) ≡ true → (w || has_name (xs ++ ys) n) ≡ true) [ true ↦ λ k. refl | false ↦ λ k. has_left xs ys n k ] h
 
--- a name is among names with others before them
+-- a name of the second of two lists is among the names of both
 pub has_right : (xs ys : List (List ℕ)) (n : List ℕ) → has_name ys n ≡ true → has_name (xs ++ ys) n ≡ true
 has_right [] ys n h = h
 has_right (x ∷ xs) ys n h = among_more (xs ++ ys) x n (has_right xs ys n h)
@@ -127,7 +127,7 @@ pub names_both : (vs ws : List VarText) → var_names (vs ++ ws) ≡ var_names v
 names_both [] ws = refl
 names_both (v ∷ vs) ws = ap (λ (r : List (List ℕ)). v.name ∷ r) (names_both vs ws)
 
--- all of names stand among the variables after one more
+-- names that are all among those of variables are so with one variable more before these
 more_vars : (v : VarText) (vs : List VarText) (xs : List (List ℕ)) → AllByRecursion (λ n. has_name (var_names vs) n ≡ true) xs → AllByRecursion (λ n. has_name (var_names (v ∷ vs)) n ≡ true) xs
 more_vars v vs xs h = each_weaker (λ n. has_name (var_names vs) n ≡ true) (λ n. has_name (var_names (v ∷ vs)) n ≡ true) (λ n k. among_more (var_names vs) v.name n k) xs h
 
@@ -213,7 +213,7 @@ order_names n m unordered = refl
 order_names n m (ordered g h i v) = refl
 order_names n m (descending g h i v j) = refl
 
--- variables of the same names are bound
+-- variables whose names are all among names are bound by them
 pub same_names_bound : (names : List (List ℕ)) (vs : List VarText) → AllByRecursion (λ n. has_name names n ≡ true) (var_names vs) → unbound_vars names vs ≡ []
 same_names_bound names [] h = refl
 same_names_bound names (v ∷ vs) h = ap (λ b. unless b v.at ++ unbound_vars names vs) h.0 ∙ same_names_bound names vs h.1

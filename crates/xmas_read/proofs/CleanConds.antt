@@ -77,7 +77,7 @@ pub conds_are : (cs : Conds) → AreConds cs → KeptConds cs → AreConds (clea
 conds_are (one g c) w k = (refl, cond_is c w.1 k)
 conds_are (also cs g h c) w k = (conds_are cs w.0 k.0, refl, refl, cond_is c w.3 k.1)
 
--- the names are the same without places
+-- the names that conditions bind are the same without places
 pub names_unplaced : (cs : List CondText) → bound_names (map unplaced cs) ≡ bound_names cs
 names_unplaced [] = refl
 names_unplaced (condition.FromSource at from path var ∷ cs) = ap (λ (r : List (List ℕ)). var.name ∷ r) (names_unplaced cs)
@@ -110,7 +110,7 @@ pub length_unplaced : (cs : List CondText) → length (map unplaced cs) ≡ leng
 length_unplaced [] = refl
 length_unplaced (c ∷ cs) = ap (λ n. suc n) (length_unplaced cs)
 
--- one place that a test asks for before others
+-- where places are counted alike, they are with one more before them that a test asks for
 test_before : (b : Bool) (n : ℕ) (xs ys : List ℕ) → counted xs ≡ ys → counted (unless b n ++ xs) ≡ unless b 0 ++ ys
 test_before true n xs ys h = h
 test_before false n xs ys h = ap (λ (r : List ℕ). 0 ∷ r) h
@@ -149,7 +149,7 @@ abbrev pub KnownOperand : List (List ℕ) → OperandText → Type 0
 KnownOperand names (operand.Var v) = has_name names v.name ≡ true
 KnownOperand names (operand.Text l) = Unit {0}
 
--- the source and the variables of a condition are
+-- the source and the variables of a condition are among names
 abbrev pub KnownCond : List (List ℕ) → List (List ℕ) → CondText → Type 0
 KnownCond sources names (condition.FromSource at from path var) = (has_name sources from ≡ true) × (has_name names var.name ≡ true)
 KnownCond sources names (condition.FromVar start path var) = (has_name names start.name ≡ true) × (has_name names var.name ≡ true)
@@ -187,7 +187,7 @@ cond_written sources names n (compare v g o h (a_text ps)) k w =
     ∙ ap (λ r. 36 ∷ (get_or names (place_in names v) [] ++ (32 ∷ (r ++ (32 ∷ quoted_text (pieces_of (meaning ps))))))) (op_written o)
     ∙ ap (λ r. 36 ∷ (get_or names (place_in names v) [] ++ (32 ∷ (op_sign (op_value o) ++ (32 ∷ r))))) (sym (quoted_pieces (meaning ps)).2)
 
--- conditions after a first one, and one more
+-- the text of conditions after a first one, with one more, is theirs and that one's after AND
 more_push : (sources names : List (List ℕ)) (cs : List ValueCond) (c : ValueCond) → more_conds sources names (cs ++ c ∷ []) ≡ more_conds sources names cs ++ (codes " AND " ++ cond_text sources names c)
 more_push sources names [] c = ap (λ r. codes " AND " ++ r) (nil_after (cond_text sources names c))
   where
@@ -198,14 +198,14 @@ more_push sources names (d ∷ cs) c =
     ap (λ r. codes " AND " ++ (cond_text sources names d ++ r)) (more_push sources names cs c)
     ∙ ap (λ r. codes " AND " ++ r) (sym (append_assoc (cond_text sources names d) (more_conds sources names cs) (codes " AND " ++ cond_text sources names c)))
 
--- some conditions and one more
+-- the text of some conditions with one more is theirs and that one's after AND
 conds_push : (sources names : List (List ℕ)) (cs : List ValueCond) (c : ValueCond) → 0 < length cs → conds_text sources names (cs ++ c ∷ []) ≡ conds_text sources names cs ++ (codes " AND " ++ cond_text sources names c)
 conds_push sources names [] c h = absurd (omega arith)
 conds_push sources names (d ∷ cs) c h =
     ap (λ r. cond_text sources names d ++ r) (more_push sources names cs c)
     ∙ sym (append_assoc (cond_text sources names d) (more_conds sources names cs) (codes " AND " ++ cond_text sources names c))
 
--- written conditions have some values
+-- the values of written conditions are some
 some_conds : (sources names : List (List ℕ)) (n : ℕ) (cs : Conds) → 0 < length (map (cond_value sources names) (conds_at n cs))
 some_conds sources names n (one g c) = omega arith
 some_conds sources names n (also cs g h c) =

@@ -84,7 +84,7 @@ clean_are_keys none h = tt
 clean_are_keys (first g k) h = (refl, clean_is_key k h.1)
 clean_are_keys (more ks g b k) h = (clean_has ks h.0, clean_are_keys ks h.1, refl, refl, clean_is_key k h.4)
 
--- a group label remains one
+-- a group label of the grammar remains one in its canonical form
 pub clean_is_group : (ks : Keys) (e : Group) → AreKeys ks → IsGroup e → IsGroup (clean_group ks e)
 clean_is_group ks absent k h = (refl, k, refl)
 clean_is_group ks (braced g own b) k h = (refl, clean_are_keys own h.1, refl)

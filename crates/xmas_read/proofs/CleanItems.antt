@@ -24,12 +24,12 @@ use Rattle.xmas_read.proofs.CleanForm.{clean_key, clean_keys, clean_group, clean
 use Rattle.xmas_read.proofs.Templates.{both_none}
 use Rattle.xmas_read.proofs.CleanText.{map_push, KnownKey, KnownGroup, KnownItems, key_written, group_written, then_items, value_push, text_push}
 
--- a key's value is the same
+-- a key's value is the same in the canonical form
 key_same : (names : List (List ℕ)) (n m : ℕ) (k : Key) → key_value names (key_at n (clean_key k)) ≡ key_value names (key_at m k)
 key_same names n m (node v) = refl
 key_same names n m (label g v) = refl
 
--- the values of keys are the same
+-- the values of keys are the same in the canonical form
 keys_same : (names : List (List ℕ)) (n m : ℕ) (ks : Keys) → map (key_value names) (keys_at n (clean_keys ks)) ≡ map (key_value names) (keys_at m ks)
 keys_same names n m none = refl
 keys_same names n m (first g k) = ap (λ (r : ValueKey). r ∷ []) (key_same names (n + length {A = ℕ} []) (m + length g) k)
@@ -41,14 +41,14 @@ keys_same names n m (more ks g b k) =
     ∙ ap (λ (r : ValueKey). map (key_value names) (keys_at m ks) ++ r ∷ []) (key_same names at from k)
     ∙ sym (map_push (key_value names) (keys_at m ks) (key_at from k))
 
--- the keys of a group label are the same
+-- the keys of a group label are the same in the canonical form
 pub own_same :
     (names : List (List ℕ)) (n m : ℕ) (w : Keys) (without others : List ValueKey) (e : Group) → ((i : ℕ) → map (key_value names) (keys_at i w) ≡ without)
     → own_keys names others (group_at n (clean_group w e)) ≡ own_keys names without (group_at m e)
 own_same names n m w without others absent h = h (n + 1 + 1)
 own_same names n m w without others (braced g ks b) h = keys_same names (n + 1 + 1) (m + length g + 1) ks
 
--- the value of an item that shows a variable is the same
+-- the value of an item that shows a variable is the same in the canonical form
 shown_same :
     (names : List (List ℕ)) (a b n m : ℕ) (k : Key) (e : Group)
     → items_value names (contents_of (shown_at a (clean_key k) (group_at n (clean_group (first [] (clean_key k)) e)) ∷ []))
@@ -60,7 +60,7 @@ shown_same names a b n m (label g v) e =
     let own : List ValueKey = label_key (place_in names v) ∷ [] in
     ap (λ (r : List ValueKey). items.variable items.label_alone (place_in names v) r items.done) (own_same names n m (first [] (label (32 ∷ []) v)) own own e (λ i. refl))
 
--- the value of items is the same
+-- the value of items is the same in the canonical form
 pub items_same : (names : List (List ℕ)) (n m : ℕ) (xs : Items) → items_value names (contents_of (items_at n (clean_items xs))) ≡ items_value names (contents_of (items_at m xs))
 items_same names n m nothing = refl
 items_same names n m (variable before g k e) =
@@ -92,7 +92,7 @@ items_same names n m (element before g name inside b close e) =
     (own_same names end last none [] [] e (λ i. refl))
     ∙ sym (value_push names (items_at m before) _)
 
--- an item after others, with the blanks turned round
+-- where items with a blank after them are a blank and a text, so are those items with one more after a blank
 turned : (before text item rest : List ℕ) → before ++ 32 ∷ [] ≡ 32 ∷ text → item ++ 32 ∷ [] ≡ rest → (before ++ (32 ∷ item)) ++ 32 ∷ [] ≡ 32 ∷ (text ++ rest)
 turned before text item rest h k =
     regroup before item ∙ ap (λ r. r ++ (item ++ 32 ∷ [])) h ∙ ap (λ r. 32 ∷ (text ++ r)) k
@@ -104,7 +104,7 @@ turned before text item rest h k =
 literal_written : (ps : List Piece) → quoted_text (pieces_of (meaning ps)) ≡ quoted (meaning ps)
 literal_written ps = sym (quoted_pieces (meaning ps)).2
 
--- the keys that stand for those of a variable without a group label
+-- the keys of a variable's item have the text of its group label, or of the one that is written out for it
 own_written : (names : List (List ℕ)) (n m : ℕ) (k : Key) (e : Group) → KnownKey names k → written.IsGroup e → KnownGroup names e
     → (items_text names (items_value names (contents_of (shown_at n k (group_at m e) ∷ []))) ≡ (written.key_text (clean_key k) ++ written.group_text (clean_group (first [] (clean_key k)) e)) ++ 32 ∷ [])
 own_written names n m (node v) e h a w =
@@ -136,7 +136,7 @@ own_written names n m (label b v) e h a w =
     regroup : (k g : List ℕ) → k ++ (32 ∷ (g ++ (32 ∷ []))) ≡ (k ++ (32 ∷ g)) ++ 32 ∷ []
     regroup k g = simp append_assoc
 
--- the text of an element from its opening tag to its group label
+-- the text of an element of the canonical form is that of the canonical text, from its opening tag to its group label
 pub element_written :
     (names : List (List ℕ)) (name inside text group own : List ℕ) → inside ++ 32 ∷ [] ≡ 32 ∷ text → group ≡ 32 ∷ own
     → 60 ∷ (name ++ 62 ∷ (inside ++ (32 ∷ 60 ∷ 47 ∷ (name ++ 62 ∷ group)))) ≡ 60 ∷ (name ++ (codes "> " ++ (text ++ (codes "</" ++ (name ++ (codes "> " ++ own))))))
@@ -145,7 +145,7 @@ element_written names name inside text group own h k =
     ∙ ap (λ r. 60 ∷ (name ++ 62 ∷ (r ++ (60 ∷ 47 ∷ (name ++ 62 ∷ group))))) h
     ∙ ap (λ r. 60 ∷ (name ++ 62 ∷ 32 ∷ (text ++ (60 ∷ 47 ∷ (name ++ 62 ∷ r))))) k
 
--- the text of items, with a blank before each for one after each
+-- the text of items in the canonical form with a blank after it is the canonical text of their value with a blank before it
 pub items_written :
     (names : List (List ℕ)) (n : ℕ) (xs : Items) → AreItems xs → KnownItems names xs
     → written.items_text (clean_items xs) ++ 32 ∷ [] ≡ 32 ∷ items_text names (items_value names (contents_of (items_at n xs)))
@@ -179,7 +179,7 @@ pub none_both : {X : Type 0} (xs ys : List X) → xs ≡ [] → ys ≡ [] → xs
 none_both [] ys h k = k
 none_both (x ∷ xs) ys h k = cc
 
--- the closing tags of more items
+-- where in items and in one more no closing tag differs, none does in all of them
 differing_push : (is : List ItemText) (i : ItemText) → differing_tags (contents_of is) ≡ [] → differing_tags (contents_of (i ∷ [])) ≡ [] → differing_tags (contents_of (is ++ i ∷ [])) ≡ []
 differing_push [] i h k = k
 differing_push (item.Element e ∷ is) i h k =

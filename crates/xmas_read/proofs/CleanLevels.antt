@@ -22,7 +22,7 @@ pub none_counted : (xs : List ℕ) → counted xs ≡ [] → xs ≡ []
 none_counted [] h = refl
 none_counted (x ∷ xs) h = cc
 
--- a place, where a test fails
+-- a place that is listed where a test fails counts as any other place would
 pub unless_counted : (b : Bool) (n : ℕ) → counted (unless b n) ≡ unless b 0
 unless_counted true n = refl
 unless_counted false n = refl
@@ -54,7 +54,7 @@ loose_in force (items.literal l rest) = loose_in force rest
 loose_in force (items.variable s v own rest) = unless (stands (in_force force own) (items.shown_key s v)) 0 ++ loose_in force rest
 loose_in force (items.element l inside own rest) = loose_in (in_force force own) inside ++ loose_in force rest
 
--- the place that an item gives, where a test fails, before those of others counts as one more
+-- where places are counted alike, they are with one more before them that is listed where a test fails
 leaf_counted : (b : Bool) (n : ℕ) (xs ys : List ℕ) → counted xs ≡ ys → counted (unless b n ++ xs) ≡ unless b 0 ++ ys
 leaf_counted true n xs ys h = h
 leaf_counted false n xs ys h = ap (λ (r : List ℕ). 0 ∷ r) h

@@ -22,11 +22,11 @@ bound_both names [] ws h k = k
 bound_both names (v ∷ vs) ws h k =
     let p = both_none (unless (has_name names v.name) v.at) (unbound_vars names vs) h in none_both (unless (has_name names v.name) v.at) (unbound_vars names (vs ++ ws)) p.0 (bound_both names vs ws p.1 k)
 
--- a variable among names before others
+-- where a variable's name is among names and others are bound, it is bound with them
 pub bound_more : (names : List (List ℕ)) (v : VarText) (vs : List VarText) → has_name names v.name ≡ true → unbound_vars names vs ≡ [] → unbound_vars names (v ∷ vs) ≡ []
 bound_more names v vs h k = none_both (unless (has_name names v.name) v.at) (unbound_vars names vs) (ap (λ b. unless b v.at) h) k
 
--- a first variable is among names
+-- where a variable and others are bound, its name is among the names, and the others are bound
 pub bound_one : (names : List (List ℕ)) (v : VarText) (vs : List VarText) → unbound_vars names (v ∷ vs) ≡ [] → (has_name names v.name ≡ true) × (unbound_vars names vs ≡ [])
 bound_one names v vs h = let p = both_none (unless (has_name names v.name) v.at) (unbound_vars names vs) h in (unless_none (has_name names v.name) v.at p.0, p.1)
 
@@ -40,7 +40,7 @@ key_bound : (names : List (List ℕ)) (n : ℕ) (k : Key) → KnownKey names k �
 key_bound names n (node v) h = h
 key_bound names n (label g v) h = h
 
--- the variables of keys with one more
+-- the variables of keys with one more are theirs and that one's
 keys_vars_push : (ks : List KeyText) (k : KeyText) → keys_vars (ks ++ k ∷ []) ≡ keys_vars ks ++ key_var_text k ∷ []
 keys_vars_push [] k = refl
 keys_vars_push (j ∷ ks) k = ap (λ (r : List VarText). key_var_text j ∷ r) (keys_vars_push ks k)
@@ -73,7 +73,7 @@ pub group_bound : (names : List (List ℕ)) (n : ℕ) (e : Group) → KnownGroup
 group_bound names n absent h = refl
 group_bound names n (braced g ks b) h = keys_bound names (n + length g + 1) ks h
 
--- the variables of items with one more
+-- the variables of items with one more are theirs and that one's
 vars_push : (is : List ItemText) (i : ItemText) → contents_vars (contents_of (is ++ i ∷ [])) ≡ contents_vars (contents_of is) ++ contents_vars (contents_of (i ∷ []))
 vars_push [] i = refl
 vars_push (item.Element e ∷ is) i =
@@ -85,7 +85,7 @@ vars_push (item.LabelOf s ∷ is) i =
     ap (λ (r : List VarText). (s.var ∷ group_vars s.group) ++ r) (vars_push is i) ∙ sym (append_assoc (s.var ∷ group_vars s.group) (contents_vars (contents_of is)) (contents_vars (contents_of (i ∷ []))))
 vars_push (item.Text l ∷ is) i = vars_push is i
 
--- the variables of both parts are bound
+-- where the variables of two parts are bound, those of both together are
 parts_bound : (names : List (List ℕ)) (is : List ItemText) (i : ItemText) → unbound_vars names (contents_vars (contents_of (is ++ i ∷ []))) ≡ []
     → (unbound_vars names (contents_vars (contents_of is)) ≡ []) × (unbound_vars names (contents_vars (contents_of (i ∷ []))) ≡ [])
 parts_bound names is i h = unbound_append names (contents_vars (contents_of is)) (contents_vars (contents_of (i ∷ []))) (sym (ap (unbound_vars names) (vars_push is i)) ∙ h)

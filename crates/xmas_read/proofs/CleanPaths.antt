@@ -24,7 +24,7 @@ use Rattle.xmas_text.specs.declared.cond.CondText.{CondText}
 use Rattle.xmas_read.specs.Refusals.{is_nested, has_many, has_path}
 use Rattle.xmas_read.proofs.CleanForm.{or_else, clean_path}
 
--- what holds of a path in the canonical form
+-- a written path of the canonical form: of the grammar, UTF-8, within the limits, and of the same value
 pub record PathKept (p : Spelled) : Type 0 where
   pub is : Is (clean_path p) a_path
   pub text : text_of (clean_path p) ≡ canon (value_of p)
@@ -32,7 +32,7 @@ pub record PathKept (p : Spelled) : Type 0 where
   pub value : path_form p ≡ Ok (value_of p)
   pub utf8 : IsUtf8 (canon (value_of p))
 
--- a path within the limits
+-- the value of a path that passes no limit
 abbrev within : Form → Result Form PathLimit
 within f = Ok f
 
@@ -83,7 +83,7 @@ pub gap_blanks : (g : List ℕ) → IsGap g → IsBlanks g
 gap_blanks [] h = absurd h
 gap_blanks (b ∷ g) h = h
 
--- what stands on both sides of a gap
+-- what stands on both sides of a gap in a UTF-8 text is UTF-8
 pub around_gap : (x g y : List ℕ) → IsGap g → IsUtf8 (x ++ (g ++ y)) → IsUtf8 x × IsUtf8 y
 around_gap x [] y h u = absurd h
 around_gap x (b ∷ g) y h u =
@@ -95,7 +95,7 @@ before_blanks : (x g : List ℕ) → IsBlanks g → IsUtf8 (x ++ g) → IsUtf8 x
 before_blanks x [] h u = subst IsUtf8 (append_nil x) u
 before_blanks x (b ∷ g) h u = let p = and_parts (is_blank b) (list_all is_blank g) h in (utf8_split x g b (blank_low b p.0) u).0
 
--- what stands before an order and blanks
+-- what stands before an order and blanks in a UTF-8 text is UTF-8
 before_order : (x g : List ℕ) (o : Order) → IsBlanks g → IsOrder o → IsUtf8 (x ++ (order_text o ++ g)) → IsUtf8 x
 before_order x g unordered h k u = before_blanks x g h u
 before_order x g (ordered [] b c v) h k u = absurd k.0
@@ -103,7 +103,7 @@ before_order x g (ordered (a ∷ l) b c v) h k u = let p = and_parts (is_blank a
 before_order x g (descending [] b c v j) h k u = absurd k.0
 before_order x g (descending (a ∷ l) b c v j) h k u = let p = and_parts (is_blank a) (list_all is_blank l) k.0 in (utf8_split x _ a (blank_low a p.0) u).0
 
--- the items and the conditions of a rule in UTF-8
+-- the items and the conditions of a rule in UTF-8 are UTF-8
 pub rule_parts : (r : Rule) → IsRule r → IsUtf8 (rule_text r) → IsUtf8 (items_text r.template) × IsUtf8 (conds_text r.conds)
 rule_parts r w u =
     let rest = conds_text r.conds ++ (order_text r.order ++ r.tail) in
@@ -119,7 +119,7 @@ KeptCond (source name g p h v) = PathKept p
 KeptCond (walk start g p h v) = PathKept p
 KeptCond (compare v g o h a) = Unit {0}
 
--- the paths of conditions are
+-- the paths of conditions are kept
 abbrev pub KeptConds : Conds → Type 0
 KeptConds (one g c) = KeptCond c
 KeptConds (also cs g h c) = KeptConds cs × KeptCond c
@@ -128,7 +128,7 @@ KeptConds (also cs g h c) = KeptConds cs × KeptCond c
 abbrev pub IsShort : CondText → Type 0
 IsShort c = (has_path is_nested c ≡ false) × (has_path has_many c ≡ false)
 
--- all of more, so all of each part
+-- what holds of all members of a list with one more holds of all of the list, and of that one
 pub all_parts : {X : Type 0} (P : X → Type 0) (xs : List X) (x : X) → AllByRecursion P (xs ++ x ∷ []) → AllByRecursion P xs × P x
 all_parts P [] x h = (tt, h.0)
 all_parts P (y ∷ xs) x h = let p = all_parts P xs x h.1 in ((h.0, p.0), p.1)

@@ -36,7 +36,7 @@ abbrev pub KnownKey : List (List ℕ) → Key → Type 0
 KnownKey names (node v) = has_name names v ≡ true
 KnownKey names (label g v) = has_name names v ≡ true
 
--- the variables of keys are
+-- the variables of keys are among names
 abbrev pub KnownKeys : List (List ℕ) → Keys → Type 0
 KnownKeys names none = Unit {0}
 KnownKeys names (first g k) = KnownKey names k
@@ -54,7 +54,7 @@ KnownItems names (variable before g k e) = KnownItems names before × KnownKey n
 KnownItems names (literal before g ps) = KnownItems names before
 KnownItems names (element before g name inside h close e) = KnownItems names before × KnownItems names inside × KnownGroup names e
 
--- members that are mapped together
+-- the images of a list with one member more are those of the list and that one's image
 pub map_push : {X Y : Type 0} (f : X → Y) (xs : List X) (x : X) → map f (xs ++ x ∷ []) ≡ map f xs ++ f x ∷ []
 map_push f [] x = refl
 map_push f (y ∷ xs) x = ap (λ r. f y ∷ r) (map_push f xs x)
@@ -64,7 +64,7 @@ pub key_written : (names : List (List ℕ)) (n : ℕ) (k : Key) → KnownKey nam
 key_written names n (node v) h = ap (λ r. 36 ∷ r) (name_back names v h)
 key_written names n (label g v) h = ap (λ r. codes "label " ++ (36 ∷ r)) (name_back names v h)
 
--- keys after a first one, and one more
+-- the text of keys after a first one, with one more, is theirs and that one's after a comma
 more_push : (names : List (List ℕ)) (ks : List ValueKey) (k : ValueKey) → more_keys names (ks ++ k ∷ []) ≡ more_keys names ks ++ (44 ∷ key_text names k)
 more_push names [] k = ap (λ r. 44 ∷ r) (nil_after (key_text names k))
   where
@@ -103,7 +103,7 @@ keys_written names n (more ks g b k) a h =
     ∙ ap (λ r. r ++ (44 ∷ key_text names (key_value names (key_at at k)))) (keys_written names n ks a.1 h.0)
     ∙ ap (λ r. written.keys_text (clean_keys ks) ++ (44 ∷ r)) (key_written names at k h.1)
 
--- the text of a group label, with a blank before it
+-- a group label in its canonical form has, after a blank, the canonical text of the keys that it has or that stand for it
 pub group_written :
     (names : List (List ℕ)) (n : ℕ) (w : Keys) (own : List ValueKey) (e : Group) → keys_text names own ≡ written.keys_text w → IsGroup e → KnownGroup names e
     → written.group_text (clean_group w e) ≡ 32 ∷ group_text names (own_keys names own (group_at n e))
@@ -117,7 +117,7 @@ then_items (items.literal l rest) after = items.literal l (then_items rest after
 then_items (items.variable s v own rest) after = items.variable s v own (then_items rest after)
 then_items (items.element l inside own rest) after = items.element l inside own (then_items rest after)
 
--- the value of items with one more
+-- the value of items with one more is theirs with that one's after it
 pub value_push : (names : List (List ℕ)) (is : List ItemText) (i : ItemText) → items_value names (contents_of (is ++ i ∷ [])) ≡ then_items (items_value names (contents_of is)) (items_value names (contents_of (i ∷ [])))
 value_push names [] i = refl
 value_push names (item.Element e ∷ is) i = ap (λ r. items.element e.name (items_value names e.contents) (own_keys names [] e.group) r) (value_push names is i)

@@ -59,11 +59,11 @@ clean_parts p = record { gap = 32 ∷ []; name = p.name; inside = clean_items p.
 abbrev pub inside_at : ℕ → Parts → ℕ
 inside_at n p = n + length {A = ℕ} [] + length p.gap + 1 + length p.name + 1
 
--- where its group label may begin
+-- where the group label of the outer element may begin
 abbrev pub group_place : ℕ → Parts → ℕ
 group_place n p = n + length (written.items_text (element nothing p.gap p.name p.inside p.blanks p.close absent))
 
--- the element of parts that begin at a place
+-- the outer element of parts that begin at a place
 abbrev pub element_at : ℕ → Parts → ElementForm
 element_at n p =
     let here = n + length {A = ℕ} [] + length p.gap in
@@ -73,7 +73,7 @@ element_at n p =
 abbrev pub tree_at : ℕ → ℕ → ℕ → Parts → Tree
 tree_at n m k p = record { template = element_at n p; conds = conds_at m p.conds; order = order_at k p.order }
 
--- no keys of the outer element
+-- where the outer element has no keys, it has none in the canonical form
 outer_none : (n m : ℕ) (e : Group) → outer_keys (group_at m e) ≡ [] → outer_keys (group_at n (clean_group none e)) ≡ []
 outer_none n m absent h = refl
 outer_none n m (braced g none b) h = refl
@@ -133,7 +133,7 @@ names_known sources n m k p u =
       order = u.sorted;
     }
 
--- all variables of three parts
+-- what holds of the names of three lists of variables, each, holds of those of all three
 all_names : (P : List ℕ → Type 0) (vs ws us : List VarText) → AllByRecursion P (var_names vs) → AllByRecursion P (var_names ws) → AllByRecursion P (var_names us) → AllByRecursion P (var_names (vs ++ ws ++ us))
 all_names P vs ws us h k l =
     subst (AllByRecursion P) (sym (names_both (vs ++ ws) us)) (all_both P (var_names (vs ++ ws)) (var_names us) (subst (AllByRecursion P) (sym (names_both vs ws)) (all_both P (var_names vs) (var_names ws) h k)) l)
@@ -166,7 +166,7 @@ shown_bound names n p h w =
     bound_both names (contents_vars (contents_of (items_at (inside_at n q) q.inside))) (group_vars (group_at (group_place n q) q.group))
     (items_bound names (inside_at n q) q.inside (clean_known names p.inside h)) (group_bound names (group_place n q) q.group (clean_group_known names none p.group tt w))
 
--- no more than what is few enough
+-- what is no more than something of at most 60 is at most 60
 still_few : (a b c : ℕ) → a ≤ b → b ≤ c → nat_lt 60 c ≡ false → nat_lt 60 a ≡ false
 still_few a b c h k e = grind (arith, nat_tests)
 

@@ -20,15 +20,15 @@ use Rattle.xmas_tokens.specs.Tokens.{quoted_text, op_text}
 use Rattle.xmas_read.proofs.CleanForm.{clean_key, clean_keys, clean_group, clean_items, clean_path, clean_operand, clean_cond, clean_conds, clean_order, clean_rule}
 use Rattle.xmas_read.proofs.CleanPaths.{PathKept, KeptCond, KeptConds, blank_low, after_blanks, gap_blanks, around_gap, rule_parts}
 
--- an ASCII byte before a text
+-- a UTF-8 text with an ASCII byte before it is UTF-8
 before : (b : ℕ) (x : List ℕ) → b < 128 → IsUtf8 x → IsUtf8 (b ∷ x)
 before b x h u = IsUtf8-append (b ∷ []) x (one_utf8 b h) u
 
--- two UTF-8 texts together are UTF-8
+-- two UTF-8 texts, one after the other, are UTF-8
 both : (x y : List ℕ) → IsUtf8 x → IsUtf8 y → IsUtf8 (x ++ y)
 both x y u v = IsUtf8-append x y u v
 
--- one byte's escape before others
+-- a UTF-8 text stays UTF-8 where a byte of it, and all bytes after that, are written with their escapes
 escaped_one : (u : List ℕ) (b : ℕ) (l : List ℕ) → IsUtf8 (u ++ b ∷ l) → IsUtf8 ((u ++ b ∷ []) ++ flat_map escaped l) → (IsUtf8 l → IsUtf8 (flat_map escaped l)) → IsUtf8 (u ++ (escaped b ++ flat_map escaped l))
 escaped_one u b l h next rest = by_cases (b == 34) (b == 92) (b == 10) (b == 9) refl refl refl refl
   where
@@ -54,7 +54,7 @@ escaped_all u (b ∷ l) h = escaped_one u b l h (escaped_all (u ++ b ∷ []) l (
 quoted_again : (l : List ℕ) → IsUtf8 l → IsUtf8 (quoted_text (pieces_of l))
 quoted_again l u = subst IsUtf8 (quoted_pieces l).2 (before 34 (flat_map escaped l ++ 34 ∷ []) (omega arith) (utf8_push (flat_map escaped l) 34 (omega arith) (escaped_all [] l u)))
 
--- the label of a text between quotes
+-- the label that a UTF-8 text between quotes means is UTF-8
 label_in : (ps : List Piece) → ArePieces ps → IsUtf8 (quoted_text ps) → IsUtf8 (meaning ps)
 label_in ps h u = label_utf8 [] ps h (utf8_split (inside_quotes ps) [] 34 (omega arith) (utf8_split [] (inside_quotes ps ++ 34 ∷ []) 34 (omega arith) u).1).0
 
@@ -86,7 +86,7 @@ after_var : (v y : List ℕ) → IsVar v → IsUtf8 (v ++ y) → IsUtf8 y
 after_var [] y h u = absurd h
 after_var (b ∷ x) y h u = after_word x y h.1 (utf8_split [] (x ++ y) b (letter_low b h.0) u).1
 
--- what stands on both sides of blanks and before an ASCII byte
+-- what stands before blanks in a UTF-8 text, and from the ASCII byte after them on, is UTF-8
 around_blanks : (x g y : List ℕ) (b : ℕ) → IsBlanks g → b < 128 → IsUtf8 (x ++ (g ++ b ∷ y)) → IsUtf8 x × IsUtf8 (b ∷ y)
 around_blanks x [] y b h l u = let p = utf8_split x y b l u in (p.0, before b y l p.1)
 around_blanks x (c ∷ g) y b h l u =
@@ -117,7 +117,7 @@ group_utf8 : (w : Keys) (e : Group) → IsUtf8 (keys_text w) → IsGroup e → I
 group_utf8 w absent u h = before 32 _ (omega arith) (before 123 _ (omega arith) (utf8_push (keys_text w) 125 (omega arith) u))
 group_utf8 w (braced g ks b) u h = before 32 _ (omega arith) (before 123 _ (omega arith) (utf8_push (keys_text (clean_keys ks)) 125 (omega arith) (keys_utf8 ks h.1)))
 
--- the items before one that shows a variable
+-- the items before one that shows a variable, in a UTF-8 text, are UTF-8
 shown_prefix : (xs : Items) (g y : List ℕ) (k : Key) → IsItemGap xs g → IsUtf8 (items_text xs ++ (g ++ (key_text k ++ y))) → IsUtf8 (items_text xs)
 shown_prefix xs g y (node v) h u = (around_blanks (items_text xs) g (v ++ y) 36 (item_blanks xs g h) (omega arith) u).0
 shown_prefix xs g y (label f v) h u = (around_blanks (items_text xs) g _ 108 (item_blanks xs g h) (omega arith) u).0
@@ -142,7 +142,7 @@ items_utf8 (element w g name inside b close e) h u =
     (before 32 _ (omega arith) (before 60 _ (omega arith) (both name _ tag (before 62 _ (omega arith) (both (items_text (clean_items inside)) _ (items_utf8 inside h.3 r.0)
     (before 32 _ (omega arith) (before 60 _ (omega arith) (before 47 _ (omega arith) (both name _ tag (before 62 _ (omega arith) group))))))))))
 
--- a template is of items
+-- a template of the grammar is items of the grammar
 pub template_items : (xs : Items) → IsTemplate xs → AreItems xs
 template_items nothing h = absurd h
 template_items (variable w g k e) h = absurd h
@@ -152,7 +152,7 @@ template_items (element (variable w f k d) g name inside b close e) h = absurd h
 template_items (element (literal w f ps) g name inside b close e) h = absurd h.0
 template_items (element (element w f n i c m d) g name inside b close e) h = absurd h.0
 
--- what stands after an operator
+-- what stands after an operator in a UTF-8 text is UTF-8
 after_op : (o : Comparison) (y : List ℕ) → IsUtf8 (op_text o ++ y) → IsUtf8 y
 after_op op.Eq y u = (utf8_split [] y 61 (omega arith) u).1
 after_op op.Ne y u = (utf8_split (33 ∷ []) y 61 (omega arith) u).1
@@ -161,7 +161,7 @@ after_op op.Le y u = (utf8_split (60 ∷ []) y 61 (omega arith) u).1
 after_op op.Gt y u = (utf8_split [] y 62 (omega arith) u).1
 after_op op.Ge y u = (utf8_split (62 ∷ []) y 61 (omega arith) u).1
 
--- an operator before a text
+-- a UTF-8 text with an operator before it is UTF-8
 op_before : (o : Comparison) (y : List ℕ) → IsUtf8 y → IsUtf8 (op_text o ++ y)
 op_before op.Eq y u = before 61 y (omega arith) u
 op_before op.Ne y u = before 33 _ (omega arith) (before 61 y (omega arith) u)
@@ -175,7 +175,7 @@ operand_utf8 : (a : Operand) → IsOperand a → IsUtf8 (operand_text a) → IsU
 operand_utf8 (a_variable v) h u = u
 operand_utf8 (a_text ps) h u = quoted_again (meaning ps) (label_in ps h u)
 
--- a path and a variable after a blank each
+-- a path of the canonical form and a variable, each after a blank, are UTF-8
 path_utf8 : (p : Spelled) (v : List ℕ) → PathKept p → IsVar v → IsUtf8 (32 ∷ (text_of (clean_path p) ++ (32 ∷ 36 ∷ v)))
 path_utf8 p v k h =
     before 32 _ (omega arith) (both (text_of (clean_path p)) (32 ∷ 36 ∷ v) (subst IsUtf8 (sym k.text) k.utf8) (before 32 _ (omega arith) (before 36 v (omega arith) (var_utf8 v h))))
@@ -214,11 +214,11 @@ order_utf8 (descending g b i v j) h =
     (both v (32 ∷ 68 ∷ 69 ∷ 83 ∷ 67 ∷ []) (var_utf8 v h.3)
     (before 32 _ (omega arith) (before 68 _ (omega arith) (before 69 _ (omega arith) (before 83 _ (omega arith) (before 67 [] (omega arith) IsUtf8-nil))))))
 
--- WHERE, and what stands after it
+-- a UTF-8 text with WHERE and a blank before it is UTF-8
 where_utf8 : (y : List ℕ) → IsUtf8 y → IsUtf8 (32 ∷ 87 ∷ 72 ∷ 69 ∷ 82 ∷ 69 ∷ y)
 where_utf8 y u = before 32 _ (omega arith) (before 87 _ (omega arith) (before 72 _ (omega arith) (before 69 _ (omega arith) (before 82 _ (omega arith) (before 69 y (omega arith) u)))))
 
--- CONSTRUCT, and what stands after it
+-- a UTF-8 text with CONSTRUCT before it is UTF-8
 construct_utf8 : (y : List ℕ) → IsUtf8 y → IsUtf8 (67 ∷ 79 ∷ 78 ∷ 83 ∷ 84 ∷ 82 ∷ 85 ∷ 67 ∷ 84 ∷ y)
 construct_utf8 y u =
     before 67 _ (omega arith) (before 79 _ (omega arith) (before 78 _ (omega arith) (before 83 _ (omega arith) (before 84 _ (omega arith) (before 82 _ (omega arith)

@@ -25,14 +25,14 @@ pub all_more : (is : List Item) (i : Item) (rest : Items) → all_before (is ++ 
 all_more [] i rest = refl
 all_more (j ∷ is) i rest = ap (made_before j) (all_more is i rest)
 
--- the value of an item before others
+-- the value of an item and those after it is the value of that item before those
 pub value_first : (names : List (List ℕ)) (i : ItemText) (is : List ItemText) → items_value names (contents_of (i ∷ is)) ≡ value_before names i (items_value names (contents_of is))
 value_first names (item.Element e) is = refl
 value_first names (item.Node s) is = refl
 value_first names (item.LabelOf s) is = refl
 value_first names (item.Text l) is = refl
 
--- the member at an index, and those after it
+-- a list from an index on is the member there and those after it
 shape : {X : Type 0} (xs : List X) (i : ℕ) (x : X) → i < length xs → x ≡ get_or xs i x → drop i xs ≡ x ∷ drop (i + 1) xs
 shape {X} xs i x l e = drop_more xs i x l ∙ ap (λ (y : X). y ∷ drop (i + 1) xs) (sym e)
 

@@ -13,7 +13,7 @@ pub neither : (a b : Bool) → (a || b) ≡ false → (a ≡ false) × (b ≡ fa
 neither true b h = cc
 neither false b h = (refl, h)
 
--- the place of a name that is among names
+-- the place of a name that is among names is below how many there are
 pub place_small : (names : List (List ℕ)) (n : List ℕ) → has_name names n ≡ true → place_in names n < length names
 place_small [] n h = cc
 place_small (m ∷ names) n h =
@@ -89,7 +89,7 @@ abbrev pub AreDifferent : List (List ℕ) → Type 0
 AreDifferent [] = Unit {0}
 AreDifferent (m ∷ names) = AllByRecursion (λ n. bytes_eq m n ≡ false) names × AreDifferent names
 
--- the places of names after one that is different from them
+-- the places of names that differ from a first one are one more with that one before the others
 places_after : (m : List ℕ) (names some : List (List ℕ)) → AllByRecursion (λ n. bytes_eq m n ≡ false) some → (v : ℕ) → has (map (place_in (m ∷ names)) some) (suc v) ≡ has (map (place_in names) some) v
 places_after m names [] h v = refl
 places_after m names (n ∷ some) h v =

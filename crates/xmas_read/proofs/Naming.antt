@@ -47,15 +47,15 @@ bytes_sym x y =
 lt_suc : (a b : ℕ) → nat_lt (suc a) (suc b) ≡ nat_lt a b
 lt_suc a b = grind (arith, nat_tests)
 
--- the first place is among some
+-- the first place lies within a list that has members
 first_small : (n : ℕ) → nat_lt 0 (suc n) ≡ true
 first_small n = grind (arith, nat_tests)
 
--- nothing and some are some
+-- none, and then as many as some, are as many as those
 pub none_more : (k n : ℕ) → k ≡ n → 0 + k ≡ n
 none_more k n e = omega (arith, e)
 
--- the place of the first that passes, where there is a first member
+-- the place of the first that passes is 0 where the first member does, and else one more than that in the others
 place_first : {X : Type 0} (p : X → Bool) (x : X) (xs : List X) → position_or_len p (x ∷ xs) ≡ cond (not (p x)) (suc (position_or_len p xs)) 0
 place_first p x xs = let e : 1 + position_or_len p xs ≡ suc (position_or_len p xs) = omega arith in ap (λ k. cond (not (p x)) k 0) e
 
@@ -114,7 +114,7 @@ pub none_left :
     → length seen + length (distinct bytes_eq seen (map (λ v. v.now.name) (drop i vars))) ≡ n → false ≡ nat_lt 60 n
 none_left vars i seen n l f h = few_noted (length seen) n f (rw (drop_all i vars l) at h)
 
--- the place of a name, where there is a first source
+-- the place of a source's name is 0 where the first source has it, and else one more than that in the others
 named_first :
     (s : SourceSpec) (sources : List SourceSpec) (name : List ℕ) (k n : ℕ) → k ≡ n
     → cond (bytes_eq s.name name) 0 (suc k) ≡ cond (not (bytes_eq name s.name)) (suc n) 0
@@ -129,7 +129,7 @@ place_is (s ∷ sources) name =
     named_first s sources name (place_in (map (λ (s : SourceSpec). s.name) sources) name) (position_or_len (λ (s : SourceSpec). bytes_eq name s.name) sources) (place_is sources name)
     ∙ sym (place_first (λ (s : SourceSpec). bytes_eq name s.name) s sources)
 
--- a place among some is one
+-- a number that is there under a condition is the number that is given
 some_is : (b : Bool) (k n : ℕ) → cond b (Some k) None ≡ Some n → n ≡ k
 some_is true k n h = cc
 some_is false k n h = cc
@@ -150,7 +150,7 @@ pub found_at : (sources : List SourceSpec) (name : List ℕ) (n : ℕ) → sourc
 found_at sources name n h =
     let k = position_or_len (λ (s : SourceSpec). bytes_eq name s.name) sources in some_is (nat_lt k (length sources)) k n h ∙ sym (place_is sources name)
 
--- the place of a name that no source has
+-- the place of a name that no source has is how many sources there are
 pub found_none : (sources : List SourceSpec) (name : List ℕ) → source_named sources name ≡ None → length sources ≡ place_in (map (λ (s : SourceSpec). s.name) sources) name
 found_none sources name h =
     let k = position_or_len (λ (s : SourceSpec). bytes_eq name s.name) sources in

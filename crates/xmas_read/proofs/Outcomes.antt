@@ -22,13 +22,13 @@ pub none_of : {o : Option XmasFault} → ((e : XmasFault) → o ≡ Some e → �
 none_of {o = None} h = refl
 none_of {o = Some e} h = absurd (h e refl)
 
--- the first refusal of some is that of more
+-- the first refusal of some is the first of those and of others after them
 first_more : (xs ys : List (Option XmasFault)) (e : XmasFault) → first_of xs ≡ Some e → first_of (xs ++ ys) ≡ Some e
 first_more [] ys e h = cc
 first_more (None ∷ xs) ys e h = first_more xs ys e h
 first_more (Some d ∷ xs) ys e h = h
 
--- where some give no refusal, the others decide
+-- where some refusals give none, the first of them and of others after them is that of the others
 first_else : (xs ys : List (Option XmasFault)) → first_of xs ≡ None → first_of (xs ++ ys) ≡ first_of ys
 first_else [] ys h = refl
 first_else (None ∷ xs) ys h = first_else xs ys h
@@ -56,28 +56,28 @@ refused sources t e h = outcome_is (checked sources t) e (ap (λ o. or_rule o (r
 pub size_refused : (sources : List (List ℕ)) (t : Tree) (e : XmasFault) → first_of (size_refusals t) ≡ Some e → IsOutcome (checked sources t) (Err e)
 size_refused sources t e h = refused sources t e (first_more (size_refusals t) (scope_refusals sources t ++ template_refusals t) e h)
 
--- a refusal for a scope, where none is for size
+-- where none is for size, the first refusal for a scope comes of the tree
 pub scope_refused : (sources : List (List ℕ)) (t : Tree) (e : XmasFault) → first_of (size_refusals t) ≡ None → first_of (scope_refusals sources t) ≡ Some e → IsOutcome (checked sources t) (Err e)
 scope_refused sources t e h k =
     refused sources t e (first_else (size_refusals t) (scope_refusals sources t ++ template_refusals t) h ∙ first_more (scope_refusals sources t) (template_refusals t) e k)
 
--- none is for size or a scope, so the template decides
+-- where no refusal is for size or a scope, the first of all is the first for the template
 last_decides : (sources : List (List ℕ)) (t : Tree) → first_of (size_refusals t) ≡ None → first_of (scope_refusals sources t) ≡ None → first_of (refusals sources t) ≡ first_of (template_refusals t)
 last_decides sources t h k = first_else (size_refusals t) (scope_refusals sources t ++ template_refusals t) h ∙ first_else (scope_refusals sources t) (template_refusals t) k
 
--- a refusal for the template, where none is for size or a scope
+-- where none is for size or a scope, the first refusal for the template comes of the tree
 pub template_refused :
     (sources : List (List ℕ)) (t : Tree) (e : XmasFault) → first_of (size_refusals t) ≡ None → first_of (scope_refusals sources t) ≡ None
     → first_of (template_refusals t) ≡ Some e → IsOutcome (checked sources t) (Err e)
 template_refused sources t e h k l = refused sources t e (last_decides sources t h k ∙ l)
 
--- no refusal, so the rule comes of the tree
+-- where no refusal is for size, a scope or the template, the rule comes of the tree
 pub rule_made :
     (sources : List (List ℕ)) (t : Tree) (v : RuleValue) → first_of (size_refusals t) ≡ None → first_of (scope_refusals sources t) ≡ None
     → first_of (template_refusals t) ≡ None → v ≡ rule_value sources t → checked sources t ≡ Ok v
 rule_made sources t v h k l e = ap (λ o. or_rule o (rule_value sources t)) (last_decides sources t h k ∙ l) ∙ ap (λ (w : RuleValue). Ok w) (sym e)
 
--- the third of the refusals for size
+-- where no refusal is for size, the third test of those for size fails
 third_none :
     (a b c d e : Bool)
     → first_of (too_large a large.Items ∷ too_large b large.Variables ∷ too_large c large.Conditions ∷ too_large d large.Nesting ∷ too_large e large.Positions ∷ []) ≡ None

@@ -12,6 +12,7 @@ pub first_append : (xs ys : List ℕ) (at : ℕ) → first_in xs ≡ Some at →
 first_append [] ys at h = cc
 first_append (x ∷ xs) ys at h = h
 
+-- where the first list has no first place, the first of two lists is that of the second
 pub first_after : (xs ys : List ℕ) → first_in xs ≡ None → first_in (xs ++ ys) ≡ first_in ys
 first_after [] ys h = refl
 first_after (x ∷ xs) ys h = cc

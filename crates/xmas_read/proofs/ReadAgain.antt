@@ -43,7 +43,7 @@ no_fault : (x : List ℕ) (sources : List (List ℕ)) (t : Tree) (v : RuleValue)
     → ((w : Tree) × SpellsWithin x (form_of_tree w) × (checked sources w ≡ Err e)) → ⊥
 no_fault x sources t v e h c (w, k, d) = let same = one_outcome x sources t w h k in cc
 
--- what is read of a text of which a rule comes
+-- what is read of a text of which a rule comes is that rule, unless memory ran out
 reads_rule :
     (x : List ℕ) (sources : List (List ℕ)) (t : Tree) (v : RuleValue) → IsUtf8 x → SpellsWithin x (form_of_tree t) → checked sources t ≡ Ok v → (answer : Result Rule XmasFault) → Answers x sources answer → IsReadAs v answer
 reads_rule x sources t v u h c (Ok r) (i, (w, k, d)) = let same = one_outcome x sources t w h k in cc

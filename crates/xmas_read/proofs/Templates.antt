@@ -15,7 +15,7 @@ use Rattle.xmas_read.specs.Value.{place_in, key_value, own_keys, leaf_value, ite
 use Rattle.xmas_read.specs.Refusals.{has_name, unless, unbound_vars, leaf_keys, loose_leaf, loose_items}
 use Rattle.xmas_read.proofs.NamePlaces.{place_small}
 
--- two lists that are nothing together
+-- two lists that together have no members have none each
 pub both_none : {X : Type 0} (xs ys : List X) → xs ++ ys ≡ [] → (xs ≡ []) × (ys ≡ [])
 both_none [] ys h = (refl, h)
 both_none (x ∷ xs) ys h = cc
@@ -25,7 +25,7 @@ pub unless_none : (b : Bool) (at : ℕ) → unless b at ≡ [] → b ≡ true
 unless_none true at h = refl
 unless_none false at h = cc
 
--- the variables of more are bound, so those of each part are
+-- where the variables of two lists together are bound, those of each are
 pub unbound_append : (names : List (List ℕ)) (vs ws : List VarText) → unbound_vars names (vs ++ ws) ≡ [] → (unbound_vars names vs ≡ []) × (unbound_vars names ws ≡ [])
 unbound_append names [] ws h = (refl, h)
 unbound_append names (v ∷ vs) ws h =

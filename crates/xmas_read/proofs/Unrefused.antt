@@ -28,12 +28,12 @@ pub record Unrefused (sources : List (List ℕ)) (t : Tree) : Type 0 where
   pub outer : outer_keys t.template.group ≡ []
   pub loose : loose_items (bound_names t.conds) [] t.template.contents ≡ []
 
--- a size that is refused by none
+-- where a test for size and other refusals give none, the test fails, and the others give none
 not_large : (b : Bool) (what : Large) (os : List (Option XmasFault)) → first_of (too_large b what ∷ os) ≡ None → (b ≡ false) × (first_of os ≡ None)
 not_large true what os h = cc
 not_large false what os h = (refl, h)
 
--- one that is refused by none before others
+-- where a test for size fails and other refusals give none, they give none with the test before them
 pass_size : (b : Bool) (what : Large) (os : List (Option XmasFault)) → b ≡ false → first_of os ≡ None → first_of (too_large b what ∷ os) ≡ None
 pass_size true what os e h = cc
 pass_size false what os e h = h
@@ -89,7 +89,7 @@ unrefused sources t h =
       loose = loose.0;
     }
 
--- fact by fact, so without a refusal
+-- a tree of which all facts of one without a refusal hold has no refusal
 pub none_refused : (sources : List (List ℕ)) (t : Tree) → Unrefused sources t → first_of (refusals sources t) ≡ None
 none_refused sources t u =
     let names = bound_names t.conds in

@@ -32,19 +32,19 @@ has_name names n = list_any (λ m. bytes_eq m n) names
 abbrev pub different_vars : Tree → ℕ
 different_vars t = length (firsts bytes_eq (map (λ v. v.name) (vars_of t)))
 
--- a path is nested too deep
+-- whether a path is nested too deep
 abbrev pub is_nested : Result Form PathLimit → Bool
 is_nested (Ok p) = false
 is_nested (Err too_nested) = true
 is_nested (Err too_many) = false
 
--- a path has too many label positions
+-- whether a path has too many label positions
 abbrev pub has_many : Result Form PathLimit → Bool
 has_many (Ok p) = false
 has_many (Err too_nested) = false
 has_many (Err too_many) = true
 
--- a condition has a path of this kind
+-- whether a condition has a path that passes a test
 abbrev pub has_path : (Result Form PathLimit → Bool) → CondText → Bool
 has_path test (condition.FromSource at source path var) = test path
 has_path test (condition.FromVar start path var) = test path
@@ -161,7 +161,7 @@ size_refusals t =
     ∷ too_large (list_any (has_path has_many) t.conds) Positions
     ∷ []
 
--- tags that differ, sources that there are not, and variables out of scope
+-- the refusals of a tree for tags that differ, sources that there are not, and variables out of scope
 abbrev pub scope_refusals : List (List ℕ) → Tree → List (Option XmasFault)
 scope_refusals sources t =
     first_place TagDiffers (differing_in t.template)
@@ -170,7 +170,7 @@ scope_refusals sources t =
     ∷ first_place Unbound (unbound t)
     ∷ []
 
--- keys of the outer element, and loose items
+-- the refusals of a tree for keys of the outer element, and for loose items
 abbrev pub template_refusals : Tree → List (Option XmasFault)
 template_refusals t =
     let names = bound_names t.conds in

@@ -50,14 +50,14 @@ leaf_value names (label_of s) rest =
     items.variable items.label_alone (place_in names s.var.name) (own_keys names (label_key (place_in names s.var.name) ∷ []) s.group) rest
 leaf_value names (text l) rest = items.literal l rest
 
--- items; an element without a group label has no keys
+-- the value of items; an element without a group label has no keys
 abbrev pub items_value : List (List ℕ) → Contents → items.Items
 items_value names nothing = items.done
 items_value names (element tags inside after) =
     items.element tags.name (items_value names inside) (own_keys names [] tags.group) (items_value names after)
 items_value names (leaf i after) = leaf_value names i (items_value names after)
 
--- a path; that of a path that passes a limit is no matter
+-- the value of a path; that of one that passes a limit is no matter
 abbrev pub path_value : Result paths.Form PathLimit → paths.Form
 path_value (Ok p) = p
 path_value (Err e) = record { head = paths.any; members = paths.none }

@@ -30,6 +30,7 @@ fn loose_shown(
     }
 }
 
+// The place of the first loose item inside an element, whose own keys are in force there with those around it.
 #[cycle(loose)]
 fn loose_in_element(
     alloc: Global,
@@ -45,6 +46,7 @@ fn loose_in_element(
     loose_item(alloc, names, &force, &element.items)
 }
 
+// The place of the first loose item among one and those inside it, where given keys are in force.
 #[cycle(loose)]
 fn loose_at(
     alloc: Global,

@@ -11,6 +11,7 @@ use mix_tree::Label;
 use std::alloc::{AllocError, Global};
 use xmas_text::{CondText, OperandText, OrderText, RuleText, VarText};
 
+// Whether a catalog has a source of the name.
 fn is_known(catalog: &Catalog, name: &Label) -> bool
     ensures { result ≡ has_name (map (λ (s : SourceSpec). s.name) catalog.now) name.now }
 {
@@ -59,7 +60,7 @@ fn unbound_among(names: &[Label], vars: &[&VarText]) -> Option<usize>
     None
 }
 
-// Where a variable stands, unless its name is one of these.
+// The place of a variable, unless its name is one of these.
 fn unless_bound(names: &[Label], var: &VarText) -> Option<usize>
     ensures { result ≡ first_in (unless (has_name names.now var.now.name) var.now.at) }
 {
@@ -70,6 +71,7 @@ fn unless_bound(names: &[Label], var: &VarText) -> Option<usize>
     }
 }
 
+// The place of the variable of an operand, where no condition binds it.
 fn unbound_operand(names: &[Label], operand: &OperandText) -> Option<usize>
     ensures { result ≡ first_in (unbound_vars names.now (operand_vars operand.now)) }
 {
@@ -113,6 +115,7 @@ fn unbound_cond(
     Ok(None)
 }
 
+// The place of the variable of an order, where no condition binds it.
 fn unbound_order(names: &[Label], order: &Option<OrderText>) -> Option<usize>
     ensures { result ≡ first_in (unbound_vars names.now (order_vars order.now)) }
 {

@@ -19,6 +19,7 @@ pub const ITEMS: usize = 1_000;
 /// How many different variables a rule has at most.
 pub const VARIABLES: usize = 60;
 
+// How much of the room an item leaves, those inside it included; `None` where there are more.
 #[cycle(items)]
 fn spend_one(room: usize, item: &ItemText) -> Option<usize>
     ensures { result ≡ cond (nat_lt room (items_in (contents_of (item.now ∷ [])))) None (Some (room - items_in (contents_of (item.now ∷ [])))) }
@@ -30,7 +31,7 @@ fn spend_one(room: usize, item: &ItemText) -> Option<usize>
     }
 }
 
-// How much of the room these items leave, those inside them included; `None` where there are more.
+// How much of the room some items leave, those inside them included; `None` where there are more.
 #[cycle(items)]
 fn spend_items(room: usize, items: &[ItemText]) -> Option<usize>
     ensures { result ≡ cond (nat_lt room (items_in (contents_of items.now))) None (Some (room - items_in (contents_of items.now))) }
@@ -81,18 +82,21 @@ pub fn has_many_vars(alloc: Global, rule: &RuleText) -> Result<bool, AllocError>
     have_many_names(alloc, &vars)
 }
 
+// Whether a path has a parenthesis open inside 100 others.
 fn is_nested_path(path: &PathText) -> bool
     ensures { result ≡ is_nested path.now }
 {
     matches!(path, Err(PathLimit::Nesting))
 }
 
+// Whether a path has more than 120 label positions.
 fn has_many_positions(path: &PathText) -> bool
     ensures { result ≡ has_many path.now }
 {
     matches!(path, Err(PathLimit::Positions))
 }
 
+// Whether a condition's path has a parenthesis open inside 100 others.
 fn nests(cond: &CondText) -> bool
     ensures { result ≡ has_path is_nested cond.now }
 {
@@ -102,6 +106,7 @@ fn nests(cond: &CondText) -> bool
     }
 }
 
+// Whether a condition's path has more than 120 label positions.
 fn is_long(cond: &CondText) -> bool
     ensures { result ≡ has_path has_many cond.now }
 {
@@ -113,14 +118,14 @@ fn is_long(cond: &CondText) -> bool
     }
 }
 
-/// Whether a path is nested too deep.
+/// Whether the path of a condition is nested too deep.
 pub fn has_nested_path(conds: &[CondText]) -> bool
     ensures { result ≡ list_any (has_path is_nested) conds.now }
 {
     conds.iter().any(|cond| nests(cond))
 }
 
-/// Whether a path has too many label positions.
+/// Whether the path of a condition has too many label positions.
 pub fn has_long_path(conds: &[CondText]) -> bool
     ensures { result ≡ list_any (has_path has_many) conds.now }
 {

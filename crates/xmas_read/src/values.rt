@@ -24,6 +24,7 @@ pub fn var_value(names: &[Label], var: &VarText) -> Var
     Var::new(place_in(names, &var.name) as u32)
 }
 
+// The key that a key of a rule's text stands for.
 fn key_value(names: &[Label], key: &KeyText) -> Key
     requires { length names.now < 2 ^ 32 }
     ensures { result ≡ key_value names.now key.now }
@@ -34,6 +35,7 @@ fn key_value(names: &[Label], key: &KeyText) -> Key
     }
 }
 
+// The keys that keys of a rule's text stand for, in order.
 fn keys_value(alloc: Global, names: &[Label], texts: &[KeyText]) -> Result<Vec<Key>, AllocError>
     requires { length names.now < 2 ^ 32 }
     ensures { IfOk result (λ keys. keys.items ≡ map (key_value names.now) texts.now) }
@@ -76,6 +78,7 @@ pub fn shown_keys(
     }
 }
 
+// The value of an item.
 #[cycle(value)]
 fn item_value(alloc: Global, names: &[Label], text: &ItemText) -> Result<Item, AllocError>
     requires { length names.now < 2 ^ 32 }
@@ -97,6 +100,7 @@ fn item_value(alloc: Global, names: &[Label], text: &ItemText) -> Result<Item, A
     }
 }
 
+// The values of items, in order.
 #[cycle(value)]
 fn items_value(alloc: Global, names: &[Label], texts: &[ItemText]) -> Result<Vec<Item>, AllocError>
     requires { length names.now < 2 ^ 32 }

@@ -59,7 +59,7 @@ fn push_items<'a>(vars: &mut Vec<&'a VarText>, items: &'a [ItemText]) -> Result<
     Ok(())
 }
 
-/// Adds the variables of an element.
+/// Adds the variables of an element, and of what stands inside it.
 #[cycle(vars)]
 pub fn push_element<'a>(
     vars: &mut Vec<&'a VarText>,

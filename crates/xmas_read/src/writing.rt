@@ -12,6 +12,7 @@ use path_expr::push_path;
 use std::alloc::{AllocError, Global};
 use xmas_rule::{Cond, Item, OrderBy, Rule, Template};
 
+// Writes the name of the variable of a number.
 fn push_name(out: &mut Vec<u8>, names: &[Label], number: u32) -> Result<(), AllocError>
     ensures { OnOk result (out.new.items ≡ out.old.items ++ get_or names.now number []) }
 {
@@ -21,6 +22,7 @@ fn push_name(out: &mut Vec<u8>, names: &[Label], number: u32) -> Result<(), Allo
     Ok(())
 }
 
+// Writes a variable: `$` and its name.
 fn push_var(out: &mut Vec<u8>, names: &[Label], var: Var) -> Result<(), AllocError>
     ensures { OnOk result (out.new.items ≡ out.old.items ++ var_text names.now var) }
 {
@@ -28,6 +30,7 @@ fn push_var(out: &mut Vec<u8>, names: &[Label], var: Var) -> Result<(), AllocErr
     push_name(out, names, var.number())
 }
 
+// Writes a key: a variable, or `label` and a variable.
 fn push_key(out: &mut Vec<u8>, names: &[Label], key: &Key) -> Result<(), AllocError>
     ensures { OnOk result (out.new.items ≡ out.old.items ++ key_text names.now key.now) }
 {
@@ -51,6 +54,7 @@ fn push_more_keys(out: &mut Vec<u8>, names: &[Label], keys: &[Key]) -> Result<()
     Ok(())
 }
 
+// Writes keys with commas between them.
 fn push_keys(out: &mut Vec<u8>, names: &[Label], keys: &[Key]) -> Result<(), AllocError>
     ensures { OnOk result (out.new.items ≡ out.old.items ++ keys_text names.now keys.now) }
 {
@@ -63,6 +67,7 @@ fn push_keys(out: &mut Vec<u8>, names: &[Label], keys: &[Key]) -> Result<(), All
     }
 }
 
+// Writes a group label: keys in braces.
 fn push_group(out: &mut Vec<u8>, names: &[Label], keys: &[Key]) -> Result<(), AllocError>
     ensures { OnOk result (out.new.items ≡ out.old.items ++ group_text names.now keys.now) }
 {
@@ -129,6 +134,7 @@ fn push_closing(out: &mut Vec<u8>, name: &Label) -> Result<(), AllocError>
     Ok(out.extend_from_slice(b"> ")?)
 }
 
+// Writes an element: its opening tag, its items, its closing tag and its group label.
 #[cycle(write)]
 fn push_element(out: &mut Vec<u8>, names: &[Label], element: &Template) -> Result<(), AllocError>
     ensures { OnOk result (out.new.items ≡ out.old.items ++ element_text names.now element.now.label (items_text names.now element.now.items) element.now.keys) }
@@ -139,6 +145,7 @@ fn push_element(out: &mut Vec<u8>, names: &[Label], element: &Template) -> Resul
     push_group(out, names, &element.keys)
 }
 
+// Writes an operand: a variable, or a quoted label.
 fn push_operand(out: &mut Vec<u8>, names: &[Label], operand: &Operand) -> Result<(), AllocError>
     ensures { OnOk result (out.new.items ≡ out.old.items ++ operand_text names.now operand.now) }
 {
@@ -148,6 +155,7 @@ fn push_operand(out: &mut Vec<u8>, names: &[Label], operand: &Operand) -> Result
     }
 }
 
+// Writes the name of the source of a number.
 fn push_source(out: &mut Vec<u8>, catalog: &Catalog, source: u32) -> Result<(), AllocError>
     ensures { OnOk result (out.new.items ≡ out.old.items ++ get_or (names_of_sources catalog.now) source []) }
 {
@@ -157,6 +165,7 @@ fn push_source(out: &mut Vec<u8>, catalog: &Catalog, source: u32) -> Result<(), 
     Ok(())
 }
 
+// Writes a condition.
 fn push_cond(
     out: &mut Vec<u8>,
     catalog: &Catalog,
@@ -206,6 +215,7 @@ fn push_more_conds(
     Ok(())
 }
 
+// Writes conditions with `AND` between them.
 fn push_conds(
     out: &mut Vec<u8>,
     catalog: &Catalog,
@@ -223,6 +233,7 @@ fn push_conds(
     }
 }
 
+// Writes a blank and `DESC` after an order's variable, where the order descends.
 fn push_desc(out: &mut Vec<u8>, desc: bool) -> Result<(), AllocError>
     ensures { OnOk result (out.new.items ≡ out.old.items ++ cond desc (codes " DESC") []) }
 {
@@ -232,6 +243,7 @@ fn push_desc(out: &mut Vec<u8>, desc: bool) -> Result<(), AllocError>
     Ok(())
 }
 
+// Writes a rule's order with a blank before it; nothing where it has none.
 fn push_order(out: &mut Vec<u8>, names: &[Label], order: &Option<OrderBy>) -> Result<(), AllocError>
     ensures { OnOk result (out.new.items ≡ out.old.items ++ order_text names.now order.now) }
 {

@@ -22,19 +22,19 @@ AreApart [] = Unit {0}
 AreApart (comp ∷ comps) =
     AllByRecursion (FromSource (source_of comp)) comp × AreScoped [] comp × ((v : ℕ) → has (binder_vars comp) v ≡ true → has (binder_vars (flat comps)) v ≡ false) × AreApart comps
 
--- a variable of two lists of conditions
+-- a variable is bound by one of two lists of conditions together where it is by either
 pub has_flat : (a b : List Binder) (v : ℕ) → has (binder_vars (a ++ b)) v ≡ (has (binder_vars a) v || has (binder_vars b) v)
 has_flat a b v = ap (λ (z : List ℕ). has z v) (binder_vars-append a b) ∙ has-append (binder_vars a) (binder_vars b) v
 
--- a variable of conditions and one more
+-- a variable is bound by conditions and one more where it is by them or by that one
 has_snoc : (a : List Binder) (c : Binder) (v : ℕ) → has (binder_vars (a ++ c ∷ [])) v ≡ (has (binder_vars a) v || (binder_var c == v))
 has_snoc a c v = has_flat a (c ∷ []) v ∙ ap (λ (x : Bool). has (binder_vars a) v || x) (or_false (binder_var c == v))
 
--- three truths in another order
+-- of three booleans in a disjunction the last two may change places
 or_last : (a b c : Bool) → ((a || c) || b) ≡ ((a || b) || c)
 or_last a b c = or_assoc a c b ∙ ap (λ (x : Bool). a || x) (or_comm c b) ∙ sym (or_assoc a b c)
 
--- the variables of all are those of before and this one
+-- with one more condition, the variables of the components are those before and the condition's own
 new_vars : (c : Binder) (comps : List (List Binder)) → Follows (binder_vars (flat comps)) c → (v : ℕ) → has (binder_vars (flat (with_binder c comps))) v ≡ (has (binder_vars (flat comps)) v || (binder_var c == v))
 unfolding Follows
 new_vars (from_source s path var) comps f v = snoc_vars (from_source s path var) comps v
@@ -57,7 +57,7 @@ new_vars (from_var x path var) comps f v = add_vars (from_var x path var) x comp
         ]
         (sym (has_flat comp (flat comps) x) ∙ h)
 
--- what holds of each condition
+-- what holds of the conditions of components and of one more holds of all of them with that one
 each_with : (P : Binder → Type 0) (c : Binder) (comps : List (List Binder)) → Follows (binder_vars (flat comps)) c → AllByRecursion P (flat comps) → P c → AllByRecursion P (flat (with_binder c comps))
 unfolding Follows
 each_with P (from_source s path var) comps f h p = snoc_each P (from_source s path var) comps h p
@@ -74,7 +74,7 @@ each_with P (from_var x path var) comps f h p = add_each P (from_var x path var)
         elim (has (binder_vars comp) x) as (λ w. AllByRecursion P (flat (cond w ((comp ++ c ∷ []) ∷ comps) (comp ∷ add_to c x comps))))
         [ true ↦ each_append P (comp ++ c ∷ []) (flat comps) (each_append P comp (c ∷ []) r.0 (p, tt)) r.1 | false ↦ each_append P comp (flat (add_to c x comps)) r.0 (add_each P c x comps r.1 p) ]
 
--- what holds of all conditions and one more holds of each
+-- what holds of all conditions of components with one more holds of those before and of that one
 with_each : (P : Binder → Type 0) (c : Binder) (comps : List (List Binder)) → Follows (binder_vars (flat comps)) c → AllByRecursion P (flat (with_binder c comps)) → AllByRecursion P (flat comps) × P c
 unfolding Follows
 with_each P (from_source s path var) comps f h = each_snoc P (from_source s path var) comps h
@@ -93,7 +93,7 @@ with_each P (from_var x path var) comps f h = each_add P (from_var x path var) x
         ]
         (sym (has_flat comp (flat comps) x) ∙ e) h
 
--- a condition after a component
+-- conditions that may follow one another, with one more that may follow them, may follow one another
 scoped_snoc : (vs : List ℕ) (a : List Binder) (c : Binder) → AreScoped vs a → Follows (vs ++ binder_vars a) c → AreScoped vs (a ++ c ∷ [])
 unfolding AreScoped
 scoped_snoc vs [] c h f = (subst (λ (z : List ℕ). Follows z c) (append_nil vs) f, tt)
@@ -112,7 +112,7 @@ or_left a b h = elim a as (λ w. (w || b) ≡ false → (w ≡ false) × (b ≡ 
 or_none : (a b : Bool) → a ≡ false → b ≡ false → (a || b) ≡ false
 or_none a b h k = rw h k
 
--- a variable that is in a list isn't one that is not
+-- a variable that is in a list is another than one that isn't
 differs : (vs : List ℕ) (u v : ℕ) → has vs v ≡ true → has vs u ≡ false → (u == v) ≡ false
 differs vs u v h k = ne_eqb u v (λ e. (let d : true ≡ false = sym h ∙ ap (has vs) (sym e) ∙ k in cc))
 

@@ -3,7 +3,7 @@ use Rattle.std.proofs.Common.{◌≡◌, ◌∙◌, ℕ, Bool, true, false, cond
 use Rattle.xmas_rule.specs.Conditions.{Binder, from_source, from_var, binder_var, binder_vars, has, add_to, with_binder, components_from, flat, AreBound}
 use Rattle.path_expr.specs.Form.{Form}
 
--- three truths in another order
+-- of three booleans in a disjunction the last two may change places
 or_turned : (a b c : Bool) → ((a || (b || false)) || c) ≡ ((a || c) || b)
 or_turned true b c = refl
 or_turned false true true = refl
@@ -26,7 +26,7 @@ pub has_append : (vs ws : List ℕ) (v : ℕ) → has (vs ++ ws) v ≡ (has vs v
 has_append [] ws v = refl
 has_append (w ∷ vs) ws v = ap (λ b. (w == v) || b) (has_append vs ws v) ∙ or_three (w == v) (has vs v) (has ws v)
 
--- the variables of two lists
+-- the variables of one list of conditions after another are those of the first and those of the second
 pub vars_append : (xs ys : List Binder) → binder_vars (xs ++ ys) ≡ binder_vars xs ++ binder_vars ys
 vars_append [] ys = refl
 vars_append (c ∷ xs) ys = ap (λ r. binder_var c ∷ r) (vars_append xs ys)
@@ -44,7 +44,7 @@ flat_append (comp ∷ xs) ys = ap (λ r. comp ++ r) (flat_append xs ys) ∙ sym 
     append_three [] b c = refl
     append_three (x ∷ a) b c = ap (λ r. x ∷ r) (append_three a b c)
 
--- the component of a start variable takes a condition
+-- where the component of its start variable takes a condition, the components bind its variable more
 add_has : (c : Binder) (start : ℕ) (comps : List (List Binder)) → has (binder_vars (flat comps)) start ≡ true → (v : ℕ)
     → has (binder_vars (flat (add_to c start comps))) v ≡ (has (binder_vars (flat comps)) v || (binder_var c == v))
 add_has c start [] h v = cc
@@ -65,7 +65,7 @@ add_has c start (comp ∷ comps) h v =
           ∙ ap (λ b. b || (binder_var c == v)) (sym (has_both comp (flat comps) v))
     ] refl
 
--- a source condition begins a component
+-- where a condition begins a component, the components bind its variable more
 begin_has : (c : Binder) (comps : List (List Binder)) (v : ℕ) → has (binder_vars (flat (comps ++ (c ∷ []) ∷ []))) v ≡ (has (binder_vars (flat comps)) v || (binder_var c == v))
 begin_has c comps v =
     ap (λ cs. has (binder_vars cs) v) (flat_append comps ((c ∷ []) ∷ []))

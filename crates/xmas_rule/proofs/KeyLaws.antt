@@ -74,12 +74,12 @@ same_by-among docs (f ∷ ks) k a b h e =
     let p = and_parts (same_key docs f a b) (same_by docs ks a b) e in
     elim (or_cases (key_eq k f) (list_any (key_eq k) ks) h) [ inl q ↦ rw (key_eq-true k f q) p.0 | inr q ↦ same_by-among docs ks k a b q p.1 ]
 
--- agreeing by keys and by others
+-- agreeing by the keys of two lists is agreeing by those of each
 same_by-append : (docs : Documents) (ks ls : List Key) (a b : ℕ → Node) → same_by docs (ks ++ ls) a b ≡ (same_by docs ks a b && same_by docs ls a b)
 same_by-append docs [] ls a b = refl
 same_by-append docs (k ∷ ks) ls a b = rw (same_by-append docs ks ls a b) (sym (and_assoc (same_key docs k a b) (same_by docs ks a b) (same_by docs ls a b)))
 
--- agreeing by keys and one more
+-- agreeing by keys and one more, which may be among them, is agreeing by them and by that one
 same_by-added : (docs : Documents) (ks : List Key) (k : Key) (a b : ℕ → Node) → same_by docs (cond (list_any (key_eq k) ks) ks (ks ++ k ∷ [])) a b ≡ (same_by docs ks a b && same_key docs k a b)
 same_by-added docs ks k a b =
     elim (list_any (key_eq k) ks) as (λ v. list_any (key_eq k) ks ≡ v → same_by docs (cond v ks (ks ++ k ∷ [])) a b ≡ (same_by docs ks a b && same_key docs k a b)) [
@@ -128,12 +128,12 @@ pub same_by-collects_not : (docs : Documents) (ks own : List Key) (a b : ℕ →
 same_by-collects_not docs ks own a b h =
     same_by-in_force docs ks own a b ∙ and_given (same_by docs ks a b) (same_by docs own a b) (same_by-all_stand docs ks own a b (all_stand ks own h))
 
--- a variable of keys or of others
+-- a variable is that of one of the keys of two lists where it is so of either
 has_var-append : (ks ls : List Key) (v : ℕ) → has_var (ks ++ ls) v ≡ (has_var ks v || has_var ls v)
 has_var-append [] ls v = refl
 has_var-append (k ∷ ks) ls v = rw (has_var-append ks ls v) (sym (or_assoc (key_var k == v) (has_var ks v) (has_var ls v)))
 
--- the variable of one of the keys
+-- where a key is found among keys, its variable is that of one of them
 has_var-among : (ks : List Key) (k : Key) (v : ℕ) → list_any (key_eq k) ks ≡ true → (key_var k == v) ≡ true → has_var ks v ≡ true
 has_var-among [] k v h e = cc
 has_var-among (f ∷ ks) k v h e =
@@ -142,7 +142,7 @@ has_var-among (f ∷ ks) k v h e =
       | inr q ↦ rw (has_var-among ks k v q e) (elim (key_var f == v) as (λ w. (w || true) ≡ true) [ true ↦ refl | false ↦ refl ])
     ]
 
--- a variable of keys and one more
+-- a variable is that of a key of a list with one more where it is so of the list or of that one
 has_var-added : (ks : List Key) (k : Key) (v : ℕ) → has_var (cond (list_any (key_eq k) ks) ks (ks ++ k ∷ [])) v ≡ (has_var ks v || (key_var k == v))
 has_var-added ks k v =
     elim (list_any (key_eq k) ks) as (λ w. list_any (key_eq k) ks ≡ w → has_var (cond w ks (ks ++ k ∷ [])) v ≡ (has_var ks v || (key_var k == v))) [
@@ -186,7 +186,7 @@ has_var-all_stand ks (k ∷ own) v h e =
 pub has_var-collects_not : (ks own : List Key) (v : ℕ) → collects ks own ≡ false → has_var (in_force ks own) v ≡ has_var ks v
 has_var-collects_not ks own v h = has_var-in_force ks own v ∙ or_given (has_var ks v) (has_var own v) (has_var-all_stand ks own v (all_stand ks own h))
 
--- there is a key
+-- a list has a key
 abbrev pub HasKey : List Key → Type 0
 HasKey [] = ⊥
 HasKey (k ∷ ks) = Unit {0}

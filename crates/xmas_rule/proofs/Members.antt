@@ -34,13 +34,13 @@ among_map f x [] h = absurd h
 among_map f x (y ∷ xs) (inl e) = inl (ap f e)
 among_map f x (y ∷ xs) (inr e) = inr (among_map f x xs e)
 
--- a member of a list of lists
+-- a member of the joined lists that f gives for members is one of the list for some member
 pub among-flat_map : {X Y : Type 0} (f : X → List Y) (y : Y) (xs : List X) → Among y (flat_map f xs) → (x : X) × Among x xs × Among y (f x)
 among-flat_map f y [] h = absurd h
 among-flat_map f y (x ∷ xs) h = elim (among-append y (f x) (flat_map f xs) h)
     [ inl a ↦ (x, inl refl, a) | inr a ↦ (let r = among-flat_map f y xs a in (r.0, inr r.1, r.2)) ]
 
--- a member of one of the lists
+-- a member of the list that f gives for a member is one of the joined lists
 pub among_flat_map : {X Y : Type 0} (f : X → List Y) (x : X) (y : Y) (xs : List X) → Among x xs → Among y (f x) → Among y (flat_map f xs)
 among_flat_map f x y [] h k = absurd h
 among_flat_map f x y (z ∷ xs) (inl e) k = among_left y (f z) (flat_map f xs) (rw e at k)
@@ -51,7 +51,7 @@ pub among_each : {X : Type 0} (P : X → Type 0) (xs : List X) → ((x : X) → 
 among_each P [] h = tt
 among_each P (y ∷ xs) h = (h y (inl refl), among_each P xs (λ x m. h x (inr m)))
 
--- two ascending lists, the first before the second
+-- one ascending list after another ascends, where all of the first stand before all of the second
 pub ascending-append : {X : Type 0} (R : X → X → Type 0) (xs ys : List X) → Ascending R xs → Ascending R ys → ((x y : X) → Among x xs → Among y ys → R x y) → Ascending R (xs ++ ys)
 ascending-append R [] ys h k c = k
 ascending-append R (x ∷ xs) ys h k c = (
@@ -59,12 +59,12 @@ ascending-append R (x ∷ xs) ys h k c = (
   ascending-append R xs ys h.1 k (λ a b m n. c a b (inr m) n),
 )
 
--- images that keep the order
+-- the images of an ascending list ascend, where they keep the order
 pub ascending-map : {X Y : Type 0} (R : X → X → Type 0) (S : Y → Y → Type 0) (f : X → Y) → ((x y : X) → R x y → S (f x) (f y)) → (xs : List X) → Ascending R xs → Ascending S (map f xs)
 ascending-map R S f g [] h = tt
 ascending-map R S f g (x ∷ xs) h = (each_map (S (f x)) f xs (each_weaker (R x) (λ y. S (f x) (f y)) (λ y r. g x y r) xs h.0), ascending-map R S f g xs h.1)
 
--- ascending lists of an ascending list
+-- the joined lists for the members of an ascending list ascend, where each does and they stand in the members' order
 pub ascending-flat_map : {X Y : Type 0} (R : X → X → Type 0) (S : Y → Y → Type 0) (f : X → List Y) → ((x : X) → Ascending S (f x)) → ((x y : X) → R x y → (a b : Y) → Among a (f x) → Among b (f y) → S a b) → (xs : List X) → Ascending R xs → Ascending S (flat_map f xs)
 ascending-flat_map R S f own cross [] h = tt
 ascending-flat_map R S f own cross (x ∷ xs) h =
@@ -81,7 +81,7 @@ pub each_append : {X : Type 0} (P : X → Type 0) (xs ys : List X) → AllByRecu
 each_append P [] ys h k = k
 each_append P (x ∷ xs) ys h k = (h.0, each_append P xs ys h.1 k)
 
--- a member between two lists
+-- a list with one member more, before another list, is the list before that member and the other list
 pub snoc-append : {X : Type 0} (xs : List X) (x : X) (ys : List X) → (xs ++ x ∷ []) ++ ys ≡ xs ++ x ∷ ys
 snoc-append [] x ys = refl
 snoc-append {X} (z ∷ xs) x ys = ap (λ (zs : List X). z ∷ zs) (snoc-append xs x ys)
@@ -96,7 +96,7 @@ pub map-append : {X Y : Type 0} (g : X → Y) (xs ys : List X) → map g (xs ++ 
 map-append g [] ys = refl
 map-append {X} {Y} g (x ∷ xs) ys = ap (λ (zs : List Y). g x ∷ zs) (map-append g xs ys)
 
--- the images of a list of lists
+-- the images of joined lists are the joined lists of images
 pub map-flat_map : {X Y Z : Type 0} (g : Y → Z) (f : X → List Y) (xs : List X) → map g (flat_map f xs) ≡ flat_map (λ x. map g (f x)) xs
 map-flat_map g f [] = refl
 map-flat_map {X} {Y} {Z} g f (x ∷ xs) = map-append g (f x) (flat_map f xs) ∙ ap (λ (zs : List Z). map g (f x) ++ zs) (map-flat_map g f xs)
@@ -106,7 +106,7 @@ flat_map-append : {X Y : Type 0} (f : X → List Y) (xs ys : List X) → flat_ma
 flat_map-append f [] ys = refl
 flat_map-append {X} {Y} f (x ∷ xs) ys = ap (λ (zs : List Y). f x ++ zs) (flat_map-append f xs ys) ∙ sym (append_assoc (f x) (flat_map f xs) (flat_map f ys))
 
--- the lists of lists of lists
+-- the joined lists of joined lists are the joined lists that both functions make of each member
 pub flat_map-flat_map : {X Y Z : Type 0} (f : Y → List Z) (g : X → List Y) (xs : List X) → flat_map f (flat_map g xs) ≡ flat_map (λ x. flat_map f (g x)) xs
 flat_map-flat_map f g [] = refl
 flat_map-flat_map {X} {Y} {Z} f g (x ∷ xs) = flat_map-append f (g x) (flat_map g xs) ∙ ap (λ (zs : List Z). flat_map f (g x) ++ zs) (flat_map-flat_map f g xs)

@@ -63,7 +63,7 @@ among_sorted less z (x ∷ xs) (inr e) = among_insert less z x (sorted_by less x
 unfoldable pub ByKey : {X K : Type 0} → (K → K → Bool) → (X → K) → (X → X → Type 0) → X → X → Type 0
 ByKey before key R a b = (before (key a) (key b) ≡ true) ⊎ ((key a ≡ key b) × R a b)
 
--- the order by a key goes on
+-- where one stands before another by a key, and that before a third, the first stands before the third
 by_key_on : {X K : Type 0} (before : K → K → Bool) (key : X → K) (R : X → X → Type 0) → ((a b c : K) → before a b ≡ true → before b c ≡ true → before a c ≡ true) →
     (x y z : X) → ByKey before key R x y → ByKey before key R y z → R x z → ByKey before key R x z
 unfolding ByKey
@@ -106,7 +106,7 @@ among-order docs None b bs = ((λ h. h), (λ h. h))
 among-order docs (Some o) b bs =
     ((λ h. among-sorted (λ a b. sorts_before o (label_of docs o.var a) (label_of docs o.var b)) b bs h), (λ h. among_sorted (λ a b. sorts_before o (label_of docs o.var a) (label_of docs o.var b)) b bs h))
 
--- an order of which one is less
+-- a comparison of which the test says less is Less
 less_of : (o : Ordering) → is_lt o ≡ true → o ≡ Less
 less_of Less h = refl
 less_of Equal h = cc

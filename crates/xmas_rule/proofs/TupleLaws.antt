@@ -21,7 +21,7 @@ unfolding next_nodes
 nodes-ascend docs lists (from_source source path var) b h = ascending-map PlaceBefore (λ (m n : Node). PlaceBefore m.place n.place) (λ q. record { source = source; place = q }) (λ x y r. r) (lists path (document_node source)) ((h path (document_node source)).ascending)
 nodes-ascend docs lists (from_var start path var) b h = ascending-map PlaceBefore (λ (m n : Node). PlaceBefore m.place n.place) (λ q. record { source = (node_of b start).source; place = q }) (λ x y r. r) (lists path (node_of b start)) ((h path (node_of b start)).ascending)
 
--- tuples in order, whatever stands after them
+-- two tuples of which the first stands before the second stay in order, whatever stands after them
 before-append : (a b c d : Binding) → TupleBefore a b → TupleBefore (a ++ c) (b ++ d)
 before-append [] b c d h = absurd h
 before-append (x ∷ a) [] c d h = absurd h
@@ -67,14 +67,14 @@ node_of-left [] b v h = cc
 node_of-left (p ∷ a) b v h =
     elim (p.0 == v) as (λ w. (w || has (vars_of a) v) ≡ true → cond w p.1 (node_of (a ++ b) v) ≡ cond w p.1 (node_of a v)) [ true ↦ λ e. refl | false ↦ λ e. node_of-left a b v e ] h
 
--- the node of a variable that the first tuple doesn't have
+-- where the first of two tuples doesn't have a variable, both together have it at the second's node
 pub node_of-right : (a b : Binding) (v : ℕ) → has (vars_of a) v ≡ false → node_of (a ++ b) v ≡ node_of b v
 unfolding vars_of
 node_of-right [] b v h = refl
 node_of-right (p ∷ a) b v h =
     elim (p.0 == v) as (λ w. (w || has (vars_of a) v) ≡ false → cond w p.1 (node_of (a ++ b) v) ≡ node_of b v) [ true ↦ λ e. (let c : true ≡ false = e in cc) | false ↦ λ e. node_of-right a b v e ] h
 
--- the node of the only variable
+-- a tuple of one variable has that variable at its node
 pub node_of-here : (v : ℕ) (m : Node) → node_of ((v, m) ∷ []) v ≡ m
 node_of-here v m = rw (eq-eqb v v refl) refl
 
@@ -139,7 +139,7 @@ among_nodes s qs m e h =
     let f : record { source = s; place = m.place } ≡ m = ap (λ (n : ℕ). record { source = n; place = m.place }) (sym e) in
     subst (λ (n : Node). Among n (map (λ q. record { source = s; place = q }) qs)) f r
 
--- the node of the last variable
+-- a tuple with a new variable as its last has that variable at its node
 pub last_node : (a : Binding) (v : ℕ) (m : Node) → has (vars_of a) v ≡ false → node_of (a ++ (v, m) ∷ []) v ≡ m
 last_node a v m h = node_of-right a ((v, m) ∷ []) v h ∙ node_of-here v m
 
@@ -160,7 +160,7 @@ binds-last docs lists are a (from_var start path var) m f h =
     let e = last_node a var m f.1 in let g = node_of-left a ((var, m) ∷ []) start f.0 in
     rw (e, g) (match_is docs lists are path (node_of a start) m (among-nodes (node_of a start).source (lists path (node_of a start)) m h))
 
--- a node that makes it hold is allowed
+-- a node of which a condition holds, as the last of a tuple, is one that the condition allows
 last_binds : (docs : Documents) (lists : MatchLists) → AreMatchLists docs lists → (a : Binding) (c : Binder) (m : Node) → Follows (vars_of a) c → Binds docs (a ++ (binder_var c, m) ∷ []) c → Among m (next_nodes lists c a)
 unfolding Follows next_nodes
 last_binds docs lists are a (from_source source path var) m f h =

@@ -52,6 +52,7 @@ sorts_itself o a h = by o.desc h
     by true h = label_itself a h
     by false h = label_itself a h
 
+-- no two labels stand before one another by the order of a rule
 sorts_both : (o : OrderBy) (a b : List ℕ) → sorts_before o a b ≡ true → sorts_before o b a ≡ true → ⊥
 sorts_both o a b h k = by o.desc h k
   where

@@ -59,22 +59,27 @@ abbrev pub items_from : List (ℕ × (List ℕ × (ℕ × List (ℕ × ℕ)))) �
 items_from [] = []
 items_from (t ∷ ts) = token_on t (items_from ts)
 
+-- of three lists of tokens, the first two or the last two may be joined first
 token_append : (a b c : List (ℕ × (List ℕ × (ℕ × List (ℕ × ℕ))))) → (a ++ b) ++ c ≡ a ++ (b ++ c)
 token_append [] b c = refl
 token_append (x ∷ a) b c = ap (λ r. x ∷ r) (token_append a b c)
 
+-- a text's token puts the text before the first items of the stack
 literal_on : (label : List ℕ) (a : Items) (xs : List Items) → token_on (1, (label, (0, []))) (a ∷ xs) ≡ literal label a ∷ xs
 literal_on label a [] = refl
 literal_on label a (x ∷ xs) = refl
 
+-- the token of a variable that is shown whole puts that item before the first items of the stack
 whole_on : (v : ℕ) (own : List Key) (a : Items) (xs : List Items) → token_on (2, ([], (v, keys_code own))) (a ∷ xs) ≡ variable whole v own a ∷ xs
 whole_on v own a [] = ap (λ (k : List Key). variable whole v k a ∷ []) (keys_from-code own)
 whole_on v own a (x ∷ xs) = ap (λ (k : List Key). variable whole v k a ∷ x ∷ xs) (keys_from-code own)
 
+-- the token of a variable whose label is shown puts that item before the first items of the stack
 alone_on : (v : ℕ) (own : List Key) (a : Items) (xs : List Items) → token_on (3, ([], (v, keys_code own))) (a ∷ xs) ≡ variable label_alone v own a ∷ xs
 alone_on v own a [] = ap (λ (k : List Key). variable label_alone v k a ∷ []) (keys_from-code own)
 alone_on v own a (x ∷ xs) = ap (λ (k : List Key). variable label_alone v k a ∷ x ∷ xs) (keys_from-code own)
 
+-- the token of the end puts an empty list of items onto the stack
 done_on : (xs : List Items) → token_on (0, ([], (0, []))) xs ≡ done ∷ xs
 done_on [] = refl
 done_on (x ∷ []) = refl
@@ -112,6 +117,7 @@ element_code e = (e.label, (items_code e.items, keys_code e.keys))
 abbrev pub element_from : List ℕ × (List (ℕ × (List ℕ × (ℕ × List (ℕ × ℕ)))) × List (ℕ × ℕ)) → Element
 element_from p = record { label = p.0; items = first_items (items_from p.1.0); keys = keys_from p.1.1 }
 
+-- the label, tokens and keys of an element stand for it
 pub element_from-code : (e : Element) → element_from (element_code e) ≡ e
 element_from-code e = ap (λ (i : Items). record { label = e.label; items = i; keys = keys_from (keys_code e.keys) }) (first_items-code e.items)
     ∙ ap (λ (k : List Key). record { label = e.label; items = e.items; keys = k }) (keys_from-code e.keys)

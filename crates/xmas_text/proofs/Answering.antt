@@ -22,7 +22,7 @@ one_written x r s h k = some_is r s (sym (writes_read x r h) ∙ writes_read x s
 pub one_tree : (x : List ℕ) (v w : RuleForm) → Spells x v → Spells x w → v ≡ w
 one_tree x v w (r, h, e) (s, k, d) = sym e ∙ ap parsed (one_written x r s h k) ∙ d
 
--- a tree that is spelled by a rule of so few levels
+-- a tree that a rule of at most 20 levels spells is spelled within the limit
 pub within : (x : List ℕ) (v : RuleForm) → (r : Rule) × Writes x r × (levels r.template ≤ 20) → Spells x v → SpellsWithin x v
 within x v (r, h, l) (s, k, d) = record { written = r; writes = h; tree = ap parsed (one_written x r s h k) ∙ d; levels = l }
 

@@ -60,7 +60,7 @@ stands_of text n b h = stood_at (take n text) (run start (take n text)) h.state 
 scans_of : (text : List ℕ) (n : ℕ) (b : BuildForm) → Standing text n b → ScansTo (take n text) b.scan
 scans_of text n b h = ap (option_map scan_of) h.runs ∙ ap Some h.scan
 
--- the token at hand ends at the place
+-- the token at hand ends at the place up to which the text was read, and is as long as what was read of it
 from_order : (text : List ℕ) (n : ℕ) (b : BuildForm) → n ≤ length text → (h : Standing text n b) → n ≡ b.from + length (lex_text h.state.lex)
 from_order text n b l h =
     let stands = stands_of text n b h in
@@ -70,7 +70,7 @@ from_order text n b l h =
     let long : length (take n text) ≡ n = length-take-le n text l in
     omega (arith, whole, parts, long, h.from)
 
--- the text of the token at hand
+-- the text from where the token at hand begins is what has been read of it
 token_is : (text : List ℕ) (n : ℕ) (b : BuildForm) → n ≤ length text → (h : Standing text n b) → slice_range text b.from n ≡ lex_text h.state.lex
 token_is text n b l h =
     let stands = stands_of text n b h in
@@ -170,7 +170,7 @@ rest_stands x s g (pathing p) u h r = rest_stands_by x s g (pathing p) _ u refl 
 rest_stands x s g (ready t) u h r = rest_stands_by x s g (ready t) _ u refl h r
 rest_stands x s g (comparing k) u h r = rest_stands_by x s g (comparing k) _ u refl h r
 
--- the draft after the token that ends, from an option
+-- where the token that ends is given as an option, the draft after it is that of the spot after it
 rest_draft_by : (x : List ℕ) (s : Spot) (g : List ℕ) (l : Lex) (o : Option Token) (u : State) (from : ℕ) (d : DraftForm) → token_in l ≡ o → Stands x (at s g l) → rest_by s g o ≡ Some u
     → from ≡ length (spot_text s) + length g → EndsTokenBy (option_map kind_of o) (lex_text l) from (draft_of s) d → d ≡ draft_of u.spot
 rest_draft_by x s g l None u from d e h r f w = none_some u r
@@ -185,7 +185,7 @@ rest_draft_in : (x : List ℕ) (s : Spot) (g : List ℕ) (l : Lex) (u : State) (
     → from ≡ length (spot_text s) + length g → EndsToken (part_of l) (lex_text l) from (draft_of s) d → d ≡ draft_of u.spot
 rest_draft_in x s g l u from d h r f w = rest_draft_by x s g l (token_in l) u from d refl h r f (subst (λ k. EndsTokenBy k (lex_text l) from (draft_of s) d) (sym (kind_part l h.lex)) w)
 
--- the draft after the token that ends
+-- the draft after the token that ends at a spot is that of the spot after it
 rest_draft : (x : List ℕ) (s : Spot) (g : List ℕ) (l : Lex) (u : State) (from : ℕ) (d : DraftForm) → Stands x (at s g l) → rest_in s g l ≡ Some u
     → from ≡ length (spot_text s) + length g → EndsToken (part_of l) (lex_text l) from (draft_of s) d → d ≡ draft_of u.spot
 rest_draft x s g between u from d h r f w = w ∙ ap (λ v. draft_of v.spot) (some_is _ _ r)
@@ -298,20 +298,20 @@ went_off text n b next' u l h (Some v) t e r runs s i w =
       part = w.part;
     }
 
--- one more byte, from an option
+-- what is kept after one more byte is that of the machine's state, by whether the token at hand goes on
 standing_by : (text : List ℕ) (n : ℕ) (b next' : BuildForm) → IsUtf8 text → n < length text → (h : Standing text n b) (o : Option Lex) (t : State) → lex_step h.state.lex (slice_index text n) ≡ o
     → run start (take (n + 1) text) ≡ Some t → step h.state (slice_index text n) ≡ Some t → scan_of t ≡ next'.scan → Builds text n b next' → Standing text (n + 1) next'
 standing_by text n b next' u l h None t e runs s i w =
     went_off text n b next' u l h (rest h.state) t e refl runs (sym (step_rest h.state.spot h.state.gap h.state.lex (slice_index text n) e) ∙ s) i w
 standing_by text n b next' u l h (Some k) t e runs s i w = went_on text n b next' h k t e runs s i w
 
--- the state after the next byte
+-- the state after a text with the next byte is the one to which that byte leads from the state before it
 stepped : (text : List ℕ) (n : ℕ) (b : BuildForm) → n < length text → (h : Standing text n b) → run start (take (n + 1) text) ≡ step h.state (slice_index text n)
 stepped text n b l h =
     ap (run start) (take_next text n l) ∙ run_append step (take n text) (slice_index text n ∷ []) start ∙ ap (option_and_then (λ t. run t (slice_index text n ∷ []))) h.runs
     ∙ run_one step (step h.state (slice_index text n))
 
--- one more byte, where the machine goes on
+-- what is kept after one more byte is that of the machine's state, where the machine goes on with the byte
 standing_at : (text : List ℕ) (n : ℕ) (b next' : BuildForm) → IsUtf8 text → n < length text → (h : Standing text n b) (o : Option State) → run start (take (n + 1) text) ≡ o
     → option_map scan_of o ≡ Some next'.scan → Builds text n b next' → Standing text (n + 1) next'
 standing_at text n b next' u l h None e i w = none_some next'.scan i
@@ -322,7 +322,7 @@ standing_at text n b next' u l h (Some t) e i w =
 pub standing_next : (text : List ℕ) (n : ℕ) (b next' : BuildForm) → IsUtf8 text → n < length text → Standing text n b → Builds text n b next' → Standing text (n + 1) next'
 standing_next text n b next' u l h w = standing_at text n b next' u l h (run start (take (n + 1) text)) refl (next_scanned text n b l h ∙ w.scan) w
 
--- the template is one element
+-- the items of a written template, as values, are one element
 template_one : (at : ℕ) (xs : Items) → IsTemplate xs → IsOneElement (items_at at xs)
 template_one at nothing h = absurd h
 template_one at (variable b g k e) h = absurd h
@@ -332,20 +332,20 @@ template_one at (element (variable b f k d) g n i j c e) h = absurd h.0
 template_one at (element (literal b f ps) g n i j c e) h = absurd h.0
 template_one at (element (element b f m l k d a) g n i j c e) h = absurd h.0
 
--- the draft of a rule is its tree
+-- where a rule may end at a spot, the draft of the spot has one element, and its tree is the rule's
 rule_draft : (s : Spot) (g : List ℕ) (r : Rule) → IsSpot s → rule_at s g ≡ Some r → IsOneElement (draft_of s).built.items × (tree_of (draft_of s) ≡ parsed r)
 rule_draft (cond_done h cs) g r i e = (template_one _ h.template i.0.1, ap parsed (some_is _ _ e))
 rule_draft (sorted h cs o) g r i e = (template_one _ h.template i.0.1, ap parsed (some_is _ _ e))
 rule_draft s g r i e = none_some r e
 
--- what is built of a whole text
+-- the draft of a whole text: its items are one element, and its tree is the one that the text spells
 pub record Finishes (text : List ℕ) (d : DraftForm) : Type 0 where
   pub one : IsOneElement d.built.items
   pub rule : Rule
   pub writes : Writes text rule
   pub tree : parsed rule ≡ tree_of d
 
--- a draft of the rule after a token, from an option
+-- where the state in which the last token ends is given as an option, the draft after that token is that of the rule
 finish_by : (text : List ℕ) (b : BuildForm) (d : DraftForm) (r : Rule) (h : Standing text (length text) b) (o : Option State) → Writes text r → rest h.state ≡ o
     → option_and_then (λ v. rule_at v.spot v.gap) o ≡ Some r → EndsToken b.scan.part (slice_range text b.from (length text)) b.from b.draft d → Finishes text d
 finish_by text b d r h None w e q k = none_some r q

@@ -42,12 +42,12 @@ token s h t b i k st a = reading s st h t a b (taken_reading s h t i k)
 as_text : (s s' : Spot) (x y : List ℕ) → x ≡ y → Reads s x s' → Reads s y s'
 as_text s s' x y e h = subst (λ z. Reads s z s') e h
 
--- a gap is blanks
+-- a gap consists of blanks
 blanks_of : (g : List ℕ) → IsGap g → IsBlanks g
 blanks_of [] h = absurd h
 blanks_of (b ∷ g) h = h
 
--- a gap has a blank
+-- a gap has at least one blank
 has_gap : (g : List ℕ) → IsGap g → IsTrue (has_blank g)
 has_gap [] h = absurd h
 has_gap (b ∷ g) h = refl
@@ -59,7 +59,7 @@ item_blanks (variable b f k e) g h = blanks_of g h
 item_blanks (literal b f ps) g h = blanks_of g h
 item_blanks (element b f n i j c e) g h = blanks_of g h
 
--- an item may come after them
+-- an item may come after items and the blanks that the grammar has before it
 item_gaps : (xs : Items) (g : List ℕ) → IsItemGap xs g → IsTrue (item_gap xs g)
 item_gaps nothing g h = refl
 item_gaps (variable b f k e) g h = has_gap g h
@@ -135,14 +135,14 @@ token_open : (lead : List ℕ) (o : List Frame) (xs : Items) (g n : List ℕ) �
 token_open lead [] xs g n b t i = token (items lead [] xs) g (open_tag n) b i t
 token_open lead (f ∷ o) xs g n b t i = token (items lead (f ∷ o) xs) g (open_tag n) b i t
 
--- the text of an element, part by part
+-- the text of an element, grouped as its opening tag, what stands inside and its closing tag
 element_text : (g n x h c e : List ℕ) → g ++ 60 ∷ (n ++ 62 ∷ (x ++ (h ++ 60 ∷ 47 ∷ (c ++ 62 ∷ e)))) ≡ (g ++ 60 ∷ (n ++ 62 ∷ [])) ++ (x ++ ((h ++ 60 ∷ 47 ∷ (c ++ 62 ∷ [])) ++ e))
 element_text g n x h c e = parts g (60 ∷ []) n (62 ∷ []) x h (60 ∷ 47 ∷ []) c (62 ∷ []) e
   where
     parts : (g a n b x h d c f e : List ℕ) → g ++ (a ++ (n ++ (b ++ (x ++ (h ++ (d ++ (c ++ (f ++ e)))))))) ≡ (g ++ (a ++ (n ++ b))) ++ (x ++ ((h ++ (d ++ (c ++ f))) ++ e))
     parts g a n b x h d c f e = simp append_assoc
 
--- an element, given that what stands inside is read
+-- where what stands inside an element is read, the text of the element leads to the spot after it
 element_reads : (lead : List ℕ) (o : List Frame) (xs : Items) (g n : List ℕ) (inside : Items) (h c : List ℕ) (e : Group) → IsBlanks g → IsTrue (takes (items lead o xs) g kind.OpenTag) → IsName n
     → ((f : Frame) → Reads (items lead (f ∷ o) nothing) (items_text inside) (items lead (f ∷ o) inside)) → IsBlanks h → IsName c → IsGroup e
     → Reads (items lead o xs) (g ++ 60 ∷ (n ++ 62 ∷ (items_text inside ++ (h ++ 60 ∷ 47 ∷ (c ++ 62 ∷ group_text e))))) (items lead o (element xs g n inside h c e))
@@ -155,7 +155,7 @@ element_reads lead o xs g n inside h c e b t i r bh ic ie =
     (then (items lead (f ∷ o) inside) (items lead o (element xs g n inside h c absent)) (items lead o (element xs g n inside h c e)) (h ++ 60 ∷ 47 ∷ (c ++ 62 ∷ [])) (group_text e)
     (token (items lead (f ∷ o) inside) h (close_tag c) bh ic refl) (group_reads lead o (element xs g n inside h c absent) e refl ie))))
 
--- the items inside an element
+-- the text of the items inside an element leads from the spot inside its tag to the spot after them
 pub items_reads : (xs : Items) (lead : List ℕ) (f : Frame) (o : List Frame) → AreItems xs → Reads (items lead (f ∷ o) nothing) (items_text xs) (items lead (f ∷ o) xs)
 items_reads nothing lead f o i = stays (items lead (f ∷ o) nothing)
 items_reads (variable before g k e) lead f o i =
@@ -177,7 +177,7 @@ path_part r b g s e p h v ie ip ih iv =
     then (cond_from r b g s) (cond_path r b g s e p) (cond_done r (push_cond b g (cond_of s e p h v))) (e ++ paths.text_of p) (h ++ 36 ∷ v)
     (token (cond_from r b g s) e (path p) (blanks_of e ie) ip (has_gap e ie)) (token (cond_path r b g s e p) h (var v) (blanks_of h ih) iv (has_gap h ih))
 
--- the text of a condition, part by part
+-- the text of a condition, grouped as its first word, its path and its variable
 cond_text_parts : (g n e p t : List ℕ) → (g ++ n) ++ ((e ++ p) ++ t) ≡ g ++ (n ++ (e ++ (p ++ t)))
 cond_text_parts g n e p t = simp append_assoc
 
@@ -235,7 +235,7 @@ where_takes (variable b f j e) lead g i k = absurd i
 where_takes (literal b f ps) lead g i k = absurd i
 where_takes (element b f n inside h c e) lead g i k = has_gap g k
 
--- what stands before the conditions
+-- what stands before the conditions of a rule, of its template
 abbrev rule_head : Rule → Head
 rule_head r = record { lead = r.lead; template = r.template; gap = r.gap }
 
@@ -253,7 +253,7 @@ order_bytes = codes "ORDER"
 abbrev by_bytes : List ℕ
 by_bytes = codes "BY"
 
--- the text of an order, part by part
+-- the text of an order, grouped as ORDER, BY and the variable
 ordered_parts : (g o h b i v : List ℕ) → (g ++ o) ++ ((h ++ b) ++ (i ++ v)) ≡ g ++ (o ++ (h ++ (b ++ (i ++ v))))
 ordered_parts g o h b i v = simp append_assoc
 
@@ -289,14 +289,14 @@ rule_reads r i =
     (token (items r.lead [] r.template) r.gap (fixed mark.Where) (blanks_of r.gap i.gap) tt (where_takes r.template r.lead r.gap i.template i.gap))
     (then (cond_start (rule_head r) first_cond) (cond_done (rule_head r) r.conds) e (conds_text r.conds) (order_text r.order) (conds_reads r.conds (rule_head r) i.conds) (order_reads (rule_head r) r.conds r.order i.order))))
 
--- blanks after the last token
+-- a rule that may end at a spot is read whole after blanks at that spot
 pub tail_whole : (s : Spot) (t : State) (g : List ℕ) → IsAt s t → IsBlanks g → option_and_then whole (run t g) ≡ rule_at s g
 tail_whole s t [] a b = a.ends
 tail_whole s t (c ∷ g) a b =
     let parts = and_parts (is_blank c) (list_all is_blank g) b in
     ap (option_and_then whole) (run_byte step c g t (at s (c ∷ []) between) (a.steps c (blank_follows s c parts.0) ∙ gap_step s [] c parts.0) ∙ gap_run s (c ∷ []) g parts.1)
 
--- the text of a rule, part by part
+-- the text of a rule, grouped from its first part to its last
 rule_parts : (l c x g w cs o t : List ℕ) → ((l ++ c) ++ (x ++ ((g ++ w) ++ (cs ++ o)))) ++ t ≡ l ++ (c ++ (x ++ (g ++ (w ++ (cs ++ (o ++ t))))))
 rule_parts l c x g w cs o t = simp append_assoc
 

@@ -56,7 +56,7 @@ high_by s b (Some p) l h k e = e
 high_step : (s : Scan) (b : ℕ) → 128 ≤ b → Gives (λ t. InQuotes t.part) (scan_step s b)
 high_step s b l = high_by s b (part_step s.part b) l (is_high b l) (is_higher b l) (high_part s.part b l (is_high b l) (is_higher b l))
 
--- what stands after such a byte
+-- what stands after a byte that is not ASCII stands inside quotes
 high_after : (o : Option State) (x : List ℕ) (b : ℕ) (s : Scan) → 128 ≤ b → Gives (Stands x) o → option_map scan_of (option_and_then (λ t. run t (b ∷ [])) o) ≡ Some s → InQuotes s.part
 high_after None x b s l h e = none_some s e
 high_after (Some t) x b s l h e = subst (Gives (λ u. InQuotes u.part)) (sym (scan_after step scan_of scan_step (Some t) (scan_of t) b (λ u r. alike x u b (subst (Stands x) (some_is _ _ r) h)) refl) ∙ e) (high_step (scan_of t) b l)

@@ -31,7 +31,7 @@ items_split at (literal b g ps) h = cc
 items_split at (element b g n i j c absent) h = refl
 items_split at (element b g n i j c (braced e ks f)) h = cc
 
--- the brace after the last of some items
+-- a brace after some items opens the group label of the last of them
 brace_after : (b : BuiltForm) (is prefix : List ItemText) (last : ItemText) (at : ℕ) → is ≡ prefix ++ last ∷ []
     → draft (with_items b b.open_elements prefix) (pending.Keys last (record { at = at; keys = [] })) ≡ grouped_in b (reverse is) at
 brace_after b is prefix last at e =
@@ -55,7 +55,7 @@ beginning_drafts : (g : List ℕ) (t : Token) → IsTrue (takes beginning g (kin
 beginning_drafts g (fixed mark.Construct) h = refl
 beginning_drafts g t h = cc
 
--- before the template and after it
+-- outside all elements, the draft after a token is that of the spot after it
 outer_drafts : (lead : List ℕ) (xs : Items) (g : List ℕ) (t : Token) → IsTrue (takes (items lead [] xs) g (kind_of t)) → Drafts (items lead [] xs) g t
 outer_drafts lead xs g (open_tag l) h = refl
 outer_drafts lead xs g (fixed mark.OpenBrace) h =
@@ -79,7 +79,7 @@ labelled_drafts : (lead : List ℕ) (o : List Frame) (xs : Items) (e g : List �
 labelled_drafts lead o xs e g (var v) h = refl
 labelled_drafts lead o xs e g t h = cc
 
--- a first key that is a variable
+-- inside a group label, the draft after a variable as its first key is that of the spot after it
 first_key : (lead : List ℕ) (o : List Frame) (xs : Items) (e : List ℕ) (ks : Keys) (g v : List ℕ) → IsTrue (takes (keys lead o xs e ks) g (kind_of (var v))) → Drafts (keys lead o xs e ks) g (var v)
 first_key lead o xs e none g v h =
     let n : brace_place lead o xs e + 1 + length g ≡ brace_place lead o xs e + 1 + length (keys_text none) + length g = omega arith in

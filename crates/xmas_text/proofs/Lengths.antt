@@ -7,12 +7,12 @@ use Rattle.xmas_text.specs.Spots.{Frame, Place, at_first, at_more, Before, first
 use Rattle.xmas_text.specs.Drafted.{level_place, brace_place, head_place, before_place}
 use Rattle.xmas_text.proofs.Texts.{outer_text, base, before_text, start_text, spot_text, IsPlace, IsSpot}
 
--- where a key stands after `label`
+-- where a key's variable begins after `label`, in a group label with these keys
 abbrev key_label_end : ℕ → Keys → Place → List ℕ → ℕ
 key_label_end at ks at_first f = at + length f + 5
 key_label_end at ks (at_more h) f = at + length (keys_text ks) + length h + 1 + length f + 5
 
--- the length of the first word of a condition
+-- where the first word of a condition ends that begins at a place
 abbrev pub start_end : ℕ → Start → ℕ
 start_end at (by_name n) = at + length n
 start_end at (by_var v) = at + 1 + length v
@@ -34,25 +34,25 @@ spot_end (ordering r cs g) = head_place r + length (conds_text cs) + length g + 
 spot_end (ordering_by r cs g h) = head_place r + length (conds_text cs) + length g + 5 + length h + 2
 spot_end (sorted r cs o) = length (spot_text (sorted r cs o))
 
--- the text up to the items of the innermost open element
+-- the text up to the items of the innermost open element is as long as their place says
 outer_length : (lead : List ℕ) (o : List Frame) → length lead + (length construct_text + length (outer_text o)) ≡ level_place lead o
 outer_length lead [] = omega arith
 outer_length lead (f ∷ o) =
     let here = outer_length lead o in
     simp length-append (omega (arith, here))
 
--- the text up to the items that have been read
+-- the text up to the end of the items that have been read is as long as their place and their own text
 base_length : (lead : List ℕ) (o : List Frame) (xs : Items) → length (base lead o xs) ≡ level_place lead o + length (items_text xs)
 base_length lead o xs =
     let here = outer_length lead o in
     simp length-append (omega (arith, here))
 
--- the conditions before the one at hand
+-- the text of the conditions before the one at hand is as long as the place of that one says
 before_length : (n : ℕ) (b : Before) → n + length (before_text b) ≡ before_place n b
 before_length n first_cond = omega arith
 before_length n (also_cond cs g) = simp length-append (omega arith)
 
--- the first word of a condition
+-- the first word of a condition ends where its place says
 start_length : (n : ℕ) (s : Start) → n + length (start_text s) ≡ start_end n s
 start_length n (by_name l) = refl
 start_length n (by_var v) = omega arith

@@ -6,7 +6,7 @@ use Rattle.xmas_text.specs.Levels.{levels}
 use Rattle.xmas_text.specs.Spots.{Frame, with_group}
 use Rattle.xmas_text.specs.Scans.{levels_around}
 
--- the greater of two numbers, among three
+-- the greater of three levels is the same however two of them are joined first
 max_inside : (l n k : ℕ) → max l (1 + max n k) ≡ max (max l (1 + n)) (1 + k)
 max_inside l n k = omega arith
 

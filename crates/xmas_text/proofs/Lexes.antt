@@ -32,7 +32,7 @@ lexes s g (pathing p) k b e = ap (or_after s g (pathing p) b) e
 lexes s g (comparing j) k b e = ap (or_after s g (comparing j) b) e
 lexes s g (ready t) k b e = ap (or_after s g (ready t) b) e
 
--- a token that grows by bytes of a kind
+-- where a kind of token goes on by each byte that passes a test, it goes on by any number of them
 grows : (C : List ℕ → Lex) (p : ℕ → Bool) → ((l : List ℕ) (b : ℕ) → IsTrue (p b) → lex_step (C l) b ≡ Some (C (l ++ b ∷ []))) → (s : Spot) (g l x : List ℕ) → IsTrue (list_all p x) → run (at s g (C l)) x ≡ Some (at s g (C (l ++ x)))
 grows C p h s g l [] a = ap (λ r. Some (at s g (C r))) (sym (append_nil l))
 grows C p h s g l (b ∷ x) a =
@@ -73,7 +73,7 @@ angle_opens q b h = rw (and_false q (b == 47) (name_not_slash b h), h) refl
 slash_closes : (b : ℕ) → IsTrue (is_name_byte b) → lex_step slash b ≡ Some (closing (b ∷ []))
 slash_closes b h = rw h refl
 
--- an opening tag after its bracket
+-- after its bracket, the machine reads an opening tag whole
 pub open_read : (q : Bool) (s : Spot) (g l : List ℕ) → IsName l → run (at s g (angle true q)) (l ++ 62 ∷ []) ≡ Some (at s g (ready (open_tag l)))
 open_read q s g [] h = absurd (omega arith)
 open_read q s g (b ∷ l) h =
@@ -81,7 +81,7 @@ open_read q s g (b ∷ l) h =
     run_byte step b (l ++ 62 ∷ []) (at s g (angle true q)) (at s g (opening (b ∷ []))) (lexes s g (angle true q) (opening (b ∷ [])) b (angle_opens q b parts.0))
     ∙ run_then step l (62 ∷ []) (at s g (opening (b ∷ []))) (at s g (opening (b ∷ l))) (grows opening is_name_byte opening_grows s g (b ∷ []) l parts.1)
 
--- a closing tag after its bracket
+-- after its bracket, the machine reads a closing tag whole
 pub close_read : (p : Bool) (s : Spot) (g l : List ℕ) → IsName l → run (at s g (angle p true)) (47 ∷ (l ++ 62 ∷ [])) ≡ Some (at s g (ready (close_tag l)))
 close_read p s g [] h = absurd (omega arith)
 close_read p s g (b ∷ l) h =
@@ -89,7 +89,7 @@ close_read p s g (b ∷ l) h =
     run_byte step b (l ++ 62 ∷ []) (at s g slash) (at s g (closing (b ∷ []))) (lexes s g slash (closing (b ∷ [])) b (slash_closes b parts.0))
     ∙ run_then step l (62 ∷ []) (at s g (closing (b ∷ []))) (at s g (closing (b ∷ l))) (grows closing is_name_byte closing_grows s g (b ∷ []) l parts.1)
 
--- a name after its first byte
+-- after its first byte, the machine reads the other bytes of a name
 pub name_read : (s : Spot) (g : List ℕ) (b : ℕ) (l : List ℕ) → IsTrue (list_all is_name_byte l) → run (at s g (naming (b ∷ []))) l ≡ Some (at s g (naming (b ∷ l)))
 name_read s g b l h = grows naming is_name_byte naming_grows s g (b ∷ []) l h
 
@@ -103,7 +103,7 @@ var_read s g [] h = absurd h
 var_read s g (b ∷ v) h =
     run_byte step b v (at s g dollar) (at s g (varying (b ∷ []))) (lexes s g dollar (varying (b ∷ [])) b (letter_step b h.0)) ∙ grows varying is_word_byte varying_grows s g (b ∷ []) v h.1
 
--- a byte that stands for itself
+-- inside quotes the machine reads a byte that stands for itself as a piece
 plain_step : (b : ℕ) (ps : List Piece) → IsTrue (is_plain b) → lex_step (quoting ps) b ≡ Some (quoting (ps ++ plain b ∷ []))
 plain_step b ps h = by_cases (b == 34) (b == 92) _ _ _ h
   where
@@ -116,7 +116,7 @@ plain_step b ps h = by_cases (b == 34) (b == 92) _ _ _ h
 escape_step : (b : ℕ) (ps : List Piece) → IsTrue (is_escape b) → lex_step (escaping ps) b ≡ Some (quoting (ps ++ escape b ∷ []))
 escape_step b ps h = rw h refl
 
--- the inside of a quoted label
+-- inside quotes the machine reads pieces one after another
 quote_goes_on : (s : Spot) (g : List ℕ) (ps qs : List Piece) → ArePieces qs → run (at s g (quoting ps)) (inside_quotes qs) ≡ Some (at s g (quoting (ps ++ qs)))
 quote_goes_on s g ps [] h = ap (λ r. Some (at s g (quoting r))) (sym (append_nil ps))
 quote_goes_on s g ps (plain b ∷ qs) h =
@@ -128,11 +128,11 @@ quote_goes_on s g ps (escape b ∷ qs) h =
     run_byte step b (inside_quotes qs) (at s g (escaping ps)) (at s g (quoting (ps ++ escape b ∷ []))) (lexes s g (escaping ps) (quoting (ps ++ escape b ∷ [])) b (escape_step b ps parts.0))
     ∙ quote_goes_on s g (ps ++ escape b ∷ []) qs parts.1 ∙ ap (λ r. Some (at s g (quoting r))) (append_assoc ps (escape b ∷ []) qs)
 
--- a quoted label after its quote
+-- after its opening quote, the machine reads a quoted label whole
 pub quote_read : (s : Spot) (g : List ℕ) (ps : List Piece) → ArePieces ps → run (at s g (quoting [])) (inside_quotes ps ++ 34 ∷ []) ≡ Some (at s g (ready (quoted ps)))
 quote_read s g ps h = run_then step (inside_quotes ps) (34 ∷ []) (at s g (quoting [])) (at s g (quoting ps)) (quote_goes_on s g [] ps h)
 
--- the next byte of a token that is always the same
+-- a token that is always the same goes on by the next of its bytes
 mark_step : (m : Mark) (done : List ℕ) (c : ℕ) (rest : List ℕ) → lex_step (marking m done (c ∷ rest)) c ≡ Some (marking m (done ++ c ∷ []) rest)
 mark_step m done c rest = let same : (c == c) ≡ true = grind (arith, nat_tests) in rw same refl
 

@@ -32,7 +32,7 @@ one_less n = omega arith
 opened : (o : List Frame) (n : ℕ) → nat_lt 20 (levels_around o (max n (1 + 0))) ≡ (nat_lt 20 (levels_around o n) || nat_lt 20 (length o + 1))
 opened o n = ap (λ m. nat_lt 20 m) (around_more o n 1) ∙ lt_max (levels_around o n) (length o + 1)
 
--- an item with its group label
+-- after items whose last one got a group label, no group label may come
 with_group_last : (xs : Items) (g : List ℕ) (ks : Keys) (h : List ℕ) → IsTrue (may_group xs) → last_of (with_group xs (braced g ks h)) ≡ last.Item false
 with_group_last nothing g ks h m = cc
 with_group_last (variable b f k e) g ks h m = refl
@@ -44,7 +44,7 @@ push_some : (ks : Keys) (p : Place) (g : List ℕ) (k : Key) → is_none (push_k
 push_some ks at_first g k = refl
 push_some ks (at_more h) g k = refl
 
--- before the template and after it
+-- outside all elements, a scan goes with a token as the spot does
 outer_moves : (lead : List ℕ) (xs : Items) (g : List ℕ) (t : Token) → IsTrue (takes (items lead [] xs) g (kind_of t)) → Moves (items lead [] xs) g t
 outer_moves lead xs g (open_tag l) h = record { stage = refl; depth = one_more 0; deep = opened [] (levels xs) }
 outer_moves lead xs g (fixed mark.OpenBrace) h = record { stage = refl; depth = refl; deep = refl }
@@ -161,7 +161,7 @@ moves (ordering r cs e) g t m h = ordering_moves r cs e g t h
 moves (ordering_by r cs e f) g t m h = by_moves r cs e f g t h
 moves (sorted r cs o) g t m h = sorted_moves r cs o g t h
 
--- a spot that is well formed is such
+-- a spot that is well formed has a group label only after an item that may have one
 pub may_group_of : (s : Spot) → IsSpot s → MayGroup s
 may_group_of beginning h = tt
 may_group_of (items lead o xs) h = tt

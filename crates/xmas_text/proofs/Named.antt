@@ -46,7 +46,7 @@ items_push (item.Node s ∷ is) i h k = (h.0, items_push is i h.1 k)
 items_push (item.LabelOf s ∷ is) i h k = (h.0, items_push is i h.1 k)
 items_push (item.Text l ∷ is) i h k = (h.0, items_push is i h.1 k)
 
--- an item that shows a variable
+-- a written item that shows a variable has names of the grammar
 shown_named : (n m : ℕ) (k : Key) (e : Group) → IsKey k → IsGroup e → AreNamed (contents_of (shown_at n k (group_at m e) ∷ []))
 shown_named n m (node v) e h i = ((h, group_named m e i), tt)
 shown_named n m (label g v) e h i = ((h.1, group_named m e i), tt)

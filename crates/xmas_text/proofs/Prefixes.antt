@@ -75,7 +75,7 @@ on_token s h t b i k l n = record {
 abbrev one_name : List ℕ
 one_name = 97 ∷ []
 
--- one blank
+-- the gap of one blank
 abbrev gap : List ℕ
 gap = 32 ∷ []
 
@@ -99,7 +99,7 @@ start_on r b = on_token (cond_start r b) gap (word one_name) refl name_is refl r
 element_on : (lead : List ℕ) (b : Items) (f n : List ℕ) (i : Items) (h c : List ℕ) (e : Group) → On (items lead [] (element b f n i h c e))
 element_on lead b f n i h c e = on_token (items lead [] (element b f n i h c e)) gap (fixed mark.Where) refl tt refl refl (start_on _ _)
 
--- before the template and after it
+-- some text leads from a spot outside all elements to a rule's end
 top_on : (lead : List ℕ) (xs : Items) → On (items lead [] xs)
 top_on lead nothing =
     on_token (items lead [] nothing) gap (open_tag one_name) refl name_is refl refl
@@ -145,7 +145,7 @@ pub record GoesOn (s : State) : Type 0 where
   pub rule : Rule
   pub read : option_and_then whole (run s bytes) ≡ Some rule
 
--- a state goes on where one after a text does
+-- a state goes on where the state after some text does
 text_on : (x : List ℕ) (s t : State) → IsUtf8 x → run s x ≡ Some t → GoesOn t → GoesOn s
 text_on x s t u e h = record {
   bytes = x ++ h.bytes;
@@ -256,7 +256,7 @@ path_end s g y p (Some t) q l h r w = text_on y (at s g (pathing p)) (at s g (pa
 path_goes : (s : Spot) (g : List ℕ) (p : pathing_.State) → IsTrue (takes s g kind.Path) → GoesOn (at s g (pathing p))
 path_goes s g p h = let on = path_prefixes.mode_on p.here p.outer p.mode in path_end s g on.bytes p (pathing_.run p on.bytes) on.spelled on.utf8 h refl on.read
 
--- what holds of two lists holds of the second
+-- what holds of all of two lists together holds of all of the second
 all_after : (x y : List ℕ) → IsTrue (list_all is_low (x ++ y)) → IsTrue (list_all is_low y)
 all_after [] y h = h
 all_after (b ∷ x) y h = all_after x y (and_parts (is_low b) (list_all is_low (x ++ y)) h).1
@@ -289,7 +289,7 @@ angle_on s g false false h = cc
 quoting_on : (s : Spot) (g : List ℕ) (ps : List Piece) → GoesOn (at s g (quoting ps))
 quoting_on s g ps = byte_on 34 (at s g (quoting ps)) (at s g (ready (quoted ps))) refl refl (ready_on s g (quoted ps))
 
--- blanks that have come, one more, and a token
+-- between tokens a state goes on to a whole rule by one more blank and a token that may come
 gap_on : (s : Spot) (g : List ℕ) (t : Token) → IsBlanks g → IsBlanks (g ++ gap) → IsToken t → IsTrue (takes s (g ++ gap) (kind_of t)) → IsTrue (list_all is_low (gap ++ token_text t)) → GoesOn (at s g between)
 gap_on s g t b c i k l =
     let n = token s (g ++ gap) t c i k (at s [] between) (at_start s) in

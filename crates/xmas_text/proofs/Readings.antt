@@ -21,7 +21,7 @@ pub no_gap : (h : List ℕ) (c : Bool) → IsTrue (has_blank h) → h ≡ [] →
 no_gap [] c k e = cc
 no_gap (b ∷ h) c k e = cc
 
--- a token that is always the same
+-- a token that is always the same is read, where its first byte may begin it
 pub mark_reading : (s : Spot) (h : List ℕ) (m : Mark) → begin (takes s h) (mark_first m) ≡ Some (marking m (mark_first m ∷ []) (mark_rest m)) → (h ≡ [] → IsTrue (follows s (mark_first m))) → Reading s h (fixed m)
 mark_reading s h m b f = record {
   first = mark_first m;
@@ -125,7 +125,7 @@ word_reading s h (c ∷ l) i n b f =
       quiet = λ d g. naming_quiet (c ∷ l) d (unfixed (is_fixed (shift s h (word (c ∷ l)))) (is_apart d) (no_equal (shift s h (word (c ∷ l))) d) n g);
     }
 
--- a path, by its first byte
+-- a path is read, where its first byte may begin one and a blank stands before it, by what its machine does with that byte
 path_reading_at : (s : Spot) (h : List ℕ) (p : paths.Spelled) (b : ℕ) (y : List ℕ) (o : Option pathing_.State) (g : pathing_.Frame) (m : pathing_.Mode) (q : paths.Spelled) → pathing_.step pathing_.first b ≡ o
     → paths.text_of p ≡ b ∷ y → option_and_then (λ u. pathing_.run u y) o ≡ Some (pathing_.at g [] m) → pathing_.repeat_in m ≡ Some q → pathing_.path_in g q ≡ p
     → is_fixed (shift s h (path p)) ≡ false → ((u : pathing_.State) → pathing_.step pathing_.first b ≡ Some u → begin (takes s h) b ≡ Some (pathing u)) → IsTrue (has_blank h) → Reading s h (path p)

@@ -2,7 +2,7 @@
 use Rattle.std.proofs.Common.{◌≡◌, ℕ, List, [], ◌++◌, append_assoc}
 use Rattle.mix_base.proofs.Lists.{append_nil}
 
--- a spot below one that is whole
+-- a text of four parts with a gap and a token after it, its first four parts joined first
 pub after_base : (lead c o x g t : List ℕ) → lead ++ (c ++ (o ++ (x ++ (g ++ t)))) ≡ (lead ++ (c ++ (o ++ x))) ++ (g ++ t)
 after_base lead c o x g t = simp append_assoc
 
@@ -50,7 +50,7 @@ place_after base h p k e m l g t = simp append_assoc
 pub two_after : (a b g t : List ℕ) → a ++ (b ++ (g ++ t)) ≡ (a ++ b) ++ (g ++ t)
 two_after a b g t = simp append_assoc
 
--- four parts before a token
+-- a text of four parts with a gap and a token after it, part by part
 pub four_after : (a b h s g t : List ℕ) → a ++ (b ++ (h ++ (s ++ (g ++ t)))) ≡ (a ++ (b ++ (h ++ s))) ++ (g ++ t)
 four_after a b h s g t = simp append_assoc
 

@@ -54,7 +54,7 @@ after_stands x s g l (Some t) b e h =
     let n = shifts s g t h.spot h.gap k.is k.taken in
     next_stands x (shift s g t) [] b n.is refl (append_nil _ ∙ n.text ∙ ap (λ r. spot_text s ++ (g ++ r)) k.text ∙ h.text)
 
--- a byte that goes on, or stands after a token
+-- the state after a byte that goes on with the token at hand, or else stands after it, is well formed, and writes that byte more
 lex_stands : (x : List ℕ) (s : Spot) (g : List ℕ) (l : Lex) (b : ℕ) (o : Option Lex) → Stands x (at s g l) → Gives (Goes (takes s g) (lex_text l ++ b ∷ [])) o → Gives (Stands (x ++ b ∷ [])) (or_after s g l b o)
 lex_stands x s g l b None h k = after_stands x s g l (token_in l) b refl h
 lex_stands x s g l b (Some m) h k = record {

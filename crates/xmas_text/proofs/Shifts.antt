@@ -19,12 +19,12 @@ pub record Shifts (s : Spot) (g : List ℕ) (t : Token) : Type 0 where
   pub is : IsSpot (shift s g t)
   pub text : spot_text (shift s g t) ≡ spot_text s ++ (g ++ token_text t)
 
--- blanks that have a blank are a gap
+-- blanks of which there is one at least are a gap
 gap_of : (g : List ℕ) → IsBlanks g → IsTrue (has_blank g) → IsGap g
 gap_of [] h k = cc
 gap_of (b ∷ g) h k = h
 
--- blanks that an item may stand after
+-- blanks after which an item may come are those that the grammar has before an item
 item_gap_of : (xs : Items) (g : List ℕ) → IsBlanks g → IsTrue (item_gap xs g) → IsItemGap xs g
 item_gap_of nothing g h k = h
 item_gap_of (variable before f e i) g h k = gap_of g h k
@@ -38,7 +38,7 @@ nothing_of (variable before f e i) h = cc
 nothing_of (literal before f ps) h = cc
 nothing_of (element before f n i e c j) h = cc
 
--- an element that stands alone is the template
+-- items that stand outside all elements, of which there are some, are the template
 template_of : (xs : Items) → IsTop xs → IsTrue (not (is_nothing xs)) → IsTemplate xs
 template_of nothing h k = cc
 template_of (variable before f e i) h k = absurd h
@@ -101,13 +101,13 @@ place_more none h k b = absurd k
 place_more (first g j) h k b = b
 place_more (more ks g e j) h k b = b
 
--- the text of a first key
+-- the text of a group label with a first key is that key's after its blanks
 first_text : (ks : Keys) (g : List ℕ) (k : Key) → IsTrue (is_none ks) → g ++ key_text k ≡ keys_text ks ++ (g ++ key_text k)
 first_text none g k h = refl
 first_text (first e j) g k h = cc
 first_text (more ks f e j) g k h = cc
 
--- the text of one more key
+-- the text of keys with one more is theirs, what stands before that key, and its own
 push_text : (ks : Keys) (p : Place) (g : List ℕ) (k : Key) → IsPlace ks p → keys_text (push_key ks p g k) ≡ keys_text ks ++ (place_text p ++ (g ++ key_text k))
 push_text none at_first g k h = refl
 push_text (first e j) at_first g k h = absurd h
@@ -125,7 +125,7 @@ push_is none (at_more l) g k a h b i = absurd h
 push_is (first e j) (at_more l) g k a h b i = (tt, a, h, b, i)
 push_is (more ks f e j) (at_more l) g k a h b i = (tt, a, h, b, i)
 
--- the text of one more condition
+-- the text of conditions with one more is theirs, what stands before that condition, and its own
 conds_push : (b : Before) (g : List ℕ) (c : Cond) → conds_text (push_cond b g c) ≡ before_text b ++ (g ++ cond_text c)
 conds_push first_cond g c = refl
 conds_push (also_cond cs h) g c = regrouped (conds_text cs) h (codes "AND") (g ++ cond_text c)
@@ -138,7 +138,7 @@ conds_are : (b : Before) (g : List ℕ) (c : Cond) → IsBefore b → IsGap g �
 conds_are first_cond g c h k i = (k, i)
 conds_are (also_cond cs h') g c h k i = (h.0, h.1, k, i)
 
--- the text of a condition with a path
+-- the text of a condition with a path is that of its first word, its path and its variable, with gaps between
 cond_of_text : (s : Start) (g : List ℕ) (p : paths.Spelled) (h v : List ℕ) → cond_text (cond_of s g p h v) ≡ start_text s ++ (g ++ (paths.text_of p ++ (h ++ 36 ∷ v)))
 cond_of_text (by_name n) g p h v = refl
 cond_of_text (by_var u) g p h v = refl
@@ -157,7 +157,7 @@ beginning_shifts : (g : List ℕ) (t : Token) → IsBlanks g → IsToken t → T
 beginning_shifts g (fixed mark.Construct) b i h = record { is = (b, tt); text = refl }
 beginning_shifts g t b i h = cc
 
--- before the template and after it
+-- outside all elements, a token that may come is written after its spot
 outer_shifts : (lead : List ℕ) (xs : Items) (g : List ℕ) (t : Token) → IsSpot (items lead [] xs) → IsBlanks g → IsToken t → Taken (items lead [] xs) g t → Shifts (items lead [] xs) g t
 outer_shifts lead xs g (open_tag l) s b i h =
     let parts = and_parts (is_nothing xs) (has_blank g) h in record {
@@ -172,7 +172,7 @@ outer_shifts lead xs g (fixed mark.Where) s b i h =
     }
 outer_shifts lead xs g t s b i h = cc
 
--- the spot after a closing tag
+-- the spot after a closing tag is well formed
 closed_is : (lead : List ℕ) (f : Frame) (o : List Frame) (xs : Items) (g l : List ℕ) → IsBlanks lead → Level (f ∷ o) xs → IsBlanks g → IsName l → IsSpot (items lead o (element f.before f.gap f.name xs g l absent))
 closed_is lead f [] xs g l a s b i = (a, (s.2.0, s.2.1, s.1, s.0, b, i, tt))
 closed_is lead f (e ∷ o) xs g l a s b i = (a, ((s.3.0, s.2, s.1, s.0, b, i, tt), s.3.1, s.3.2, s.3.3))
@@ -201,7 +201,7 @@ inner_shifts lead f o xs g (fixed mark.LabelWord) s b i h = record { is = (s.0, 
 inner_shifts lead f o xs g (fixed mark.OpenBrace) s b i h = record { is = (s.0, s.1, h, b, tt); text = refl }
 inner_shifts lead f o xs g t s b i h = cc
 
--- the spot after `label` and a variable
+-- the spot after `label` and a variable as an item is well formed
 labelled_is : (lead : List ℕ) (o : List Frame) (xs : Items) (e g v : List ℕ) → IsSpot (labelled lead o xs e) → IsGap g → IsVar v → IsSpot (items lead o (variable xs e (label g v) absent))
 labelled_is lead [] xs e g v s b i = absurd s.2
 labelled_is lead (f ∷ o) xs e g v s b i = (s.0, ((s.1.0, s.3, (b, i), tt), s.1.1, s.1.2, s.1.3))

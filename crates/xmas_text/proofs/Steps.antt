@@ -90,16 +90,16 @@ fresh_same p q m n c d h k l = ap (λ u. fresh u m c) h ∙ ap (λ u. fresh q u 
 shift_scan : (s : Spot) (g : List ℕ) (l : Lex) (t : Token) → Moves s g t → scan_of (at (shift s g t) [] between) ≡ scan_after (scan_of (at s g l)) (kind_of t)
 shift_scan s g l t m = fresh_same _ _ _ _ _ _ m.stage m.depth m.deep
 
--- where a token ends, from an option
+-- the state in which a token ends, where the token is given as an option, is scanned as the scan after its kind
 rest_scan_by : (x : List ℕ) (s : Spot) (g : List ℕ) (l : Lex) (o : Option Token) → token_in l ≡ o → Stands x (at s g l) → option_map scan_of (rest_by s g o) ≡ option_map (scan_after (scan_of (at s g l))) (option_map kind_of o)
 rest_scan_by x s g l None e h = refl
 rest_scan_by x s g l (Some t) e h = ap Some (shift_scan s g l t (moves s g t (may_group_of s h.spot) (token_ended (takes s g) l t h.lex h.offered e).taken))
 
--- where a token ends, as a scan
+-- the state in which the token at hand ends is scanned as the scan after the kind that the part at hand has
 rest_token : (x : List ℕ) (s : Spot) (g : List ℕ) (l : Lex) → Stands x (at s g l) → option_map scan_of (rest_by s g (token_in l)) ≡ option_map (scan_after (scan_of (at s g l))) (kind_in (part_of l))
 rest_token x s g l h = rest_scan_by x s g l (token_in l) refl h ∙ ap (option_map (scan_after (scan_of (at s g l)))) (kind_part l h.lex)
 
--- what a scan keeps where a token ends
+-- the state in which the token at hand ends is scanned as the scan after it
 pub rest_scan : (x : List ℕ) (s : Spot) (g : List ℕ) (l : Lex) → Stands x (at s g l) → option_map scan_of (rest_in s g l) ≡ settled (scan_of (at s g l))
 rest_scan x s g between h = refl
 rest_scan x s g (marking m done r) h = rest_token x s g (marking m done r) h
@@ -121,7 +121,7 @@ after_rest : (s : Spot) (g : List ℕ) (o : Option Token) (b : ℕ) → after s 
 after_rest s g None b = refl
 after_rest s g (Some t) b = refl
 
--- a byte that does not go on
+-- a byte that does not go on with the token at hand leads on from the state in which that token ends
 pub step_rest : (s : Spot) (g : List ℕ) (l : Lex) (b : ℕ) → lex_step l b ≡ None → step_in s g l b ≡ option_and_then (λ u. next u.spot u.gap b) (rest_in s g l)
 step_rest s g between b e = refl
 step_rest s g (marking m done r) b e = ap (or_after s g (marking m done r) b) e ∙ after_rest s g (token_in (marking m done r)) b
@@ -155,7 +155,7 @@ step_on s g (pathing p) k b e = ap (or_after s g (pathing p) b) e
 step_on s g (comparing j) k b e = ap (or_after s g (comparing j) b) e
 step_on s g (ready t) k b e = ap (or_after s g (ready t) b) e
 
--- the scan of a byte between tokens, from where a token ends
+-- a byte after a state between tokens is scanned as the byte after that state's scan
 next_begun : (o : Option State) (b : ℕ) → ((t : State) → o ≡ Some t → t.lex ≡ between) → option_map scan_of (option_and_then (λ u. next u.spot u.gap b) o) ≡ begun (option_map scan_of o) b
 next_begun None b h = refl
 next_begun (Some t) b h = next_scan t.spot t.gap b ∙ ap (λ l. between_step (scan_of (at t.spot t.gap l)) b) (sym (h t refl))
@@ -182,7 +182,7 @@ rest_between s g (pathing p) t e = rest_by_between s g (token_in (pathing p)) t 
 rest_between s g (ready u) t e = rest_by_between s g (token_in (ready u)) t e
 rest_between s g (comparing k) t e = rest_by_between s g (token_in (comparing k)) t e
 
--- one more byte, by what the token at hand does
+-- one more byte leads the scan as it leads the state, by whether the token at hand goes on
 step_scan_by : (x : List ℕ) (s : Spot) (g : List ℕ) (l : Lex) (b : ℕ) (o : Option Lex) → lex_step l b ≡ o → Stands x (at s g l) → option_map scan_of (step_in s g l b) ≡ or_begun (scan_of (at s g l)) b (option_map part_of o)
 step_scan_by x s g l b None e h =
     ap (option_map scan_of) (step_rest s g l b e) ∙ next_begun (rest_in s g l) b (rest_between s g l) ∙ ap (λ q. begun q b) (rest_scan x s g l h)

@@ -22,7 +22,7 @@ use Rattle.xmas_text.proofs.Readings.{no_gap, mark_reading, open_reading, close_
 abbrev Taken : Spot → List ℕ → Token → Type 0
 Taken s g t = IsTrue (takes s g (kind_of t))
 
--- one side of a disjunction holds
+-- a disjunction whose second part is true is true
 or_true : (q : Bool) → (q || true) ≡ true
 or_true true = refl
 or_true false = refl
@@ -39,7 +39,7 @@ item_gap_nil (variable b f i j) h c k e = no_gap h c k e
 item_gap_nil (literal b f ps) h c k e = no_gap h c k e
 item_gap_nil (element b f n i j l m) h c k e = no_gap h c k e
 
--- a choice that is never taken
+-- a choice by a conjunction with false takes its second side
 skip : (q : Bool) (x y : Option Lex) → cond (q && false) x y ≡ y
 skip true x y = refl
 skip false x y = refl
@@ -96,7 +96,7 @@ beginning_reading : (h : List ℕ) (t : Token) → IsToken t → Taken beginning
 beginning_reading h (fixed mark.Construct) i k = mark_reading beginning h mark.Construct refl (λ e. refl)
 beginning_reading h t i k = cc
 
--- before the template and after it
+-- outside all elements, each token that may come is read
 outer_reading : (lead : List ℕ) (xs : Items) (h : List ℕ) (t : Token) → IsToken t → Taken (items lead [] xs) h t → Reading (items lead [] xs) h t
 outer_reading lead xs h (open_tag l) i k = open_reading (items lead [] xs) h l false i (rw k refl) (no_gap h _ (and_parts (is_nothing xs) (has_blank h) k).1)
 outer_reading lead xs h (fixed mark.OpenBrace) i k = mark_reading (items lead [] xs) h mark.OpenBrace (rw k refl) (λ e. or_true (is_nothing xs))

@@ -29,7 +29,7 @@ is_fixed (ordering r cs g) = false
 is_fixed (ordering_by r cs g h) = false
 is_fixed (sorted r cs o) = false
 
--- the byte does not go on with an operator: after < and > it is no =
+-- the byte does not go on with an operator: = doesn't stand after < and >
 abbrev pub no_equal : Spot → ℕ → Bool
 no_equal (compared r e g v h o) b = not (b == 61)
 no_equal s b = true
@@ -78,7 +78,7 @@ last_step s h (pathing p) t b e n = ap (or_after s h (pathing p) b) n ∙ ap (λ
 last_step s h (comparing k) t b e n = ap (or_after s h (comparing k) b) n ∙ ap (λ o. after s h o b) e
 last_step s h (ready u) t b e n = ap (λ o. after s h o b) e
 
--- the end of the text after a token
+-- where a token may end, the rule that ends with it is the one at the spot after it
 pub last_whole : (s : Spot) (h : List ℕ) (l : Lex) (t : Token) → token_in l ≡ Some t → whole_in s h l ≡ rule_at (shift s h t) []
 last_whole s h between t e = none_some t e
 last_whole s h (marking m done rest) t e = ap (rule_after s h) e
@@ -107,7 +107,7 @@ gap_run s g (b ∷ x) h =
     run_byte step b x (at s g between) (at s (g ++ b ∷ []) between) (gap_step s g b parts.0) ∙ gap_run s (g ++ b ∷ []) x parts.1
     ∙ ap (λ r. Some (at s r between)) (append_assoc g (b ∷ []) x)
 
--- the first byte of a token
+-- between tokens, a byte that begins a token leads to the state with that token at hand
 pub token_step : (s : Spot) (g : List ℕ) (b : ℕ) (l : Lex) → is_blank b ≡ false → begin (takes s g) b ≡ Some l → next s g b ≡ Some (at s g l)
 token_step s g b l n e = rw n (ap (with_lex s g) e)
 
@@ -125,7 +125,7 @@ blank_follows s b h = let n : is_apart b ≡ true = rw h refl in or_both (is_fix
     or_both false true d h k = k
     or_both false false d h k = cc
 
--- a gap and the first byte of a token
+-- a gap and the first byte of a token lead from the state to the one with that token at hand
 first_read : (s : Spot) (st : State) (h : List ℕ) (b : ℕ) (y : List ℕ) (l : Lex) → IsAt s st → IsBlanks h → (h ≡ [] → IsTrue (follows s b)) → is_blank b ≡ false → begin (takes s h) b ≡ Some l
     → run st (h ++ b ∷ y) ≡ run (at s h l) y
 first_read s st [] b y l a g f n e = run_byte step b y st (at s [] l) (a.steps b (f refl) ∙ token_step s [] b l n e)
@@ -141,7 +141,7 @@ pub record After (s : Spot) (x : List ℕ) (t : State) : Type 0 where
   pub runs : run t x ≡ Some state
   pub is : IsAt s state
 
--- a token that is read so leads to the spot after it
+-- a token that is read from its first byte to its last leads, after its gap, to the spot after it
 pub reading : (s : Spot) (st : State) (h : List ℕ) (t : Token) → IsAt s st → IsBlanks h → Reading s h t → After (shift s h t) (h ++ token_text t) st
 reading s st h t a g r = record {
   state = at s h r.last;

@@ -15,7 +15,7 @@ pub record OpenForm : Type 0 where
   pub name : List ℕ
   pub before : List ItemText
 
--- what has been read whole: the open elements, the innermost first, the items inside it, the conditions, and the order
+-- what has been read whole: the open elements, the innermost first, the items inside that one, the conditions, and the order
 pub record BuiltForm : Type 0 where
   pub open_elements : List OpenForm
   pub items : List ItemText

@@ -80,13 +80,13 @@ content_codes nothing = None ∷ []
 content_codes (element tags inside after) = Some (inl tags) ∷ content_codes inside ++ content_codes after
 content_codes (leaf item after) = Some (inr item) ∷ content_codes after
 
--- the first two become one, under an element's tags
+-- the first two of a list of contents become one, under an element's tags
 abbrev pub with_tags : Tags → List Contents → List Contents
 with_tags tags [] = []
 with_tags tags (inside ∷ []) = []
 with_tags tags (inside ∷ after ∷ rest) = element tags inside after ∷ rest
 
--- the first gets a leaf before it
+-- the first of a list of contents gets a leaf before it
 abbrev pub with_leaf : Leaf → List Contents → List Contents
 with_leaf item [] = []
 with_leaf item (after ∷ rest) = leaf item after ∷ rest
@@ -103,7 +103,7 @@ abbrev pub first_contents : List Contents → Contents
 first_contents [] = nothing
 first_contents (c ∷ rest) = c
 
--- three lists one after another
+-- of three lists, the first two or the last two may be joined first
 assoc : (a b c : List (Option (Tags ⊎ Leaf))) → (a ++ b) ++ c ≡ a ++ (b ++ c)
 assoc [] b c = refl
 assoc (x ∷ a) b c = ap (λ r. x ∷ r) (assoc a b c)

@@ -141,7 +141,7 @@ abbrev pub AreConds : Conds → Type 0
 AreConds (one g c) = IsGap g × IsCond c
 AreConds (also cs g h c) = AreConds cs × IsGap g × IsGap h × IsCond c
 
--- there are no items
+-- a list of items is empty
 abbrev pub IsNothing : Items → Type 0
 IsNothing nothing = Unit {0}
 IsNothing (variable before g k group) = ⊥
@@ -161,7 +161,7 @@ pub data Order : Type 0 where
   ordered : List ℕ → List ℕ → List ℕ → List ℕ → Order
   descending : List ℕ → List ℕ → List ℕ → List ℕ → List ℕ → Order
 
--- the text up to the variable
+-- the text of an order up to its variable
 abbrev pub ordered_text : List ℕ → List ℕ → List ℕ → List ℕ → List ℕ
 ordered_text g h i v = g ++ (codes "ORDER" ++ (h ++ (codes "BY" ++ (i ++ 36 ∷ v))))
 

@@ -31,12 +31,12 @@ abbrev pub after : Spot → List ℕ → Option Token → ℕ → Option State
 after s g None b = None
 after s g (Some t) b = next (shift s g t) [] b
 
--- a byte that goes on, or stands after a token
+-- the state after a byte that goes on with the token at hand, or else stands after that token
 abbrev pub or_after : Spot → List ℕ → Lex → ℕ → Option Lex → Option State
 or_after s g l b None = after s g (token_in l) b
 or_after s g l b (Some k) = Some (at s g k)
 
--- the state after one more byte
+-- the state after one more byte, at a spot after a gap with a token at hand
 abbrev pub step_in : Spot → List ℕ → Lex → ℕ → Option State
 step_in s g between b = next s g b
 step_in s g (marking m done rest) b = or_after s g (marking m done rest) b (lex_step (marking m done rest) b)

@@ -32,13 +32,13 @@ abbrev pub IsNamedGroup : Option GroupForm → Type 0
 IsNamedGroup None = Unit {0}
 IsNamedGroup (Some g) = AreNamedKeys g.keys
 
--- a leaf's variable is one, and so are those of its group label
+-- the name of a leaf's variable is of the grammar, and so are those in its group label
 abbrev pub IsNamedLeaf : Leaf → Type 0
 IsNamedLeaf (node s) = IsVar s.var.name × IsNamedGroup s.group
 IsNamedLeaf (label_of s) = IsVar s.var.name × IsNamedGroup s.group
 IsNamedLeaf (text l) = Unit {0}
 
--- tags have names, and all variables are such
+-- the tags of all elements have names of the grammar, and all variables have such names
 abbrev pub AreNamed : Contents → Type 0
 AreNamed nothing = Unit {0}
 AreNamed (element tags inside after) = IsName tags.name × IsName tags.close_name × IsNamedGroup tags.group × AreNamed inside × AreNamed after
@@ -49,12 +49,12 @@ abbrev pub IsReadPath : Result Form PathLimit → Type 0
 IsReadPath (Ok v) = (x : List ℕ) × paths.SpellsWithin x v
 IsReadPath (Err l) = Unit {0}
 
--- an operand's variable is one
+-- the name of an operand's variable is of the grammar
 abbrev pub IsNamedOperand : OperandText → Type 0
 IsNamedOperand (operand.Var v) = IsVar v.name
 IsNamedOperand (operand.Text l) = Unit {0}
 
--- a condition's source has a name, its variables are such, and its path is one
+-- the names of a condition's source and variables are of the grammar, and its path is one that a text spells within the limits
 abbrev pub IsNamedCond : CondText → Type 0
 IsNamedCond (condition.FromSource at name p v) = IsName name × IsReadPath p × IsVar v.name
 IsNamedCond (condition.FromVar start p v) = IsVar start.name × IsReadPath p × IsVar v.name
@@ -65,7 +65,7 @@ abbrev pub AreNamedConds : List CondText → Type 0
 AreNamedConds [] = Unit {0}
 AreNamedConds (c ∷ cs) = IsNamedCond c × AreNamedConds cs
 
--- the variable that orders is one
+-- the name of the variable that orders is of the grammar
 abbrev pub IsNamedOrder : Option OrderText → Type 0
 IsNamedOrder None = Unit {0}
 IsNamedOrder (Some o) = IsVar o.var.name

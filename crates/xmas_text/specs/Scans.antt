@@ -85,7 +85,7 @@ abbrev pub begun : Option Scan → ℕ → Option Scan
 begun None b = None
 begun (Some s) b = between_step s b
 
--- a byte that goes on, or stands after a token
+-- the scan after a byte that goes on with the token at hand, or else stands after that token
 abbrev pub or_begun : Scan → ℕ → Option Part → Option Scan
 or_begun s b (Some p) = Some (with_part s p)
 or_begun s b None = begun (settled s) b

@@ -24,12 +24,12 @@ pub record Head : Type 0 where
   pub template : Items
   pub gap : List ℕ
 
--- a key comes first, or after blanks and a comma
+-- where a key may stand: first, or after blanks and a comma
 pub data Place : Type 0 where
   at_first : Place
   at_more : List ℕ → Place
 
--- a condition comes first, or after others, a gap and AND
+-- where a condition may stand: first, or after others, a gap and AND
 pub data Before : Type 0 where
   first_cond : Before
   also_cond : Conds → List ℕ → Before
@@ -73,11 +73,11 @@ last_of (variable before g k e) = last.Item (is_absent e)
 last_of (literal before g ps) = last.Item false
 last_of (element before g name inside h close e) = last.Item (is_absent e)
 
--- an item may come after these and a gap
+-- whether an item may come after these items and a gap
 abbrev pub item_gap : Items → List ℕ → Bool
 item_gap xs g = may_stand (last_of xs) (has_blank g)
 
--- a group label may come after these
+-- whether a group label may come after these items
 abbrev pub may_group : Items → Bool
 may_group xs = may_group_after (last_of xs)
 
@@ -91,7 +91,7 @@ is_none none = true
 is_none (first g k) = false
 is_none (more ks g h k) = false
 
--- a condition that begins so may compare
+-- whether a condition that begins with this may be a comparison
 abbrev pub may_compare : Start → Bool
 may_compare (by_name n) = false
 may_compare (by_var v) = true

@@ -20,7 +20,7 @@ pub struct Build {
     pub scan: Scan,
     /// Where the token at hand begins; between tokens the place itself.
     pub from: usize,
-    /// The rule before that token.
+    /// The rule before the token at hand.
     pub draft: Draft,
 }
 

@@ -26,7 +26,7 @@ pub struct Scan {
     pub deep: bool,
     /// Whether a blank stands before the token at hand.
     pub gap: bool,
-    /// What has been read of that token.
+    /// What has been read of the token at hand.
     pub part: Part,
 }
 
@@ -196,7 +196,7 @@ pub fn settle(scan: Scan) -> Option<Scan>
     Some(scan_after(scan, ended_kind(scan.part)?))
 }
 
-/// The scan after one more byte; `None` where no rule's text goes on so.
+/// The scan after one more byte; `None` where no rule's text goes on with it.
 pub fn scan_byte(scan: Scan, byte: u8) -> Option<Scan>
     requires depth { scan.depth + 1 < 2 ^ 64 }
     requires part { part_depth scan.part + 1 < 2 ^ 64 }
@@ -223,7 +223,7 @@ fn may_end_at(stage: Stage) -> bool
     matches!(stage, Stage::CondDone | Stage::Sorted(_))
 }
 
-// What is said of a text at whose end the scan stands so.
+// What is said of a text, by where the scan stands at its end.
 fn end_scan(scan: Scan) -> Result<(), TextFault>
     requires { scan.depth + 1 < 2 ^ 64 }
     ensures { EndsSo (scans.settled scan) result }

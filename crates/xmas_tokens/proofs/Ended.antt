@@ -14,13 +14,13 @@ use Rattle.path_expr.specs.Machine as pathing_
 use Rattle.path_expr.proofs.Sound as path_sound
 use Rattle.xmas_tokens.proofs.Texts.{lex_text, IsLex, Offered}
 
--- a token that may come has ended
+-- a token has ended: it may come, it is as the grammar has it, and the text is its own
 pub record Ended (may : Kind → Bool) (x : List ℕ) (t : Token) : Type 0 where
   pub is : IsToken t
   pub taken : IsTrue (may (kind_of t))
   pub text : token_text t ≡ x
 
--- a token that is always the same has ended
+-- a token that is always the same, of which nothing is to come, has ended
 mark_ended : (may : Kind → Bool) (m : Mark) (done rest : List ℕ) (t : Token) → IsLex (marking m done rest) → Offered may (marking m done rest) → as_mark m rest ≡ Some t → Ended may done t
 mark_ended may m done [] t h o e = subst (Ended may done) (some_is _ _ e) (record { is = tt; taken = o; text = sym h ∙ append_nil done })
 mark_ended may m done (c ∷ rest) t h o e = none_some t e
@@ -34,7 +34,7 @@ path_ended : (may : Kind → Bool) (x : List ℕ) (s : pathing_.State) (r : Opti
 path_ended may x s None t h o w e = none_some t e
 path_ended may x s (Some p) t h o w e = let k = path_writes x s p h w in subst (Ended may x) (some_is _ _ e) (record { is = k.0; taken = o; text = k.1 })
 
--- an operator of one byte has ended
+-- an operator of one sign that may come has ended after that sign
 sign_ended : (may : Kind → Bool) (k : Sign) (t : Token) → IsTrue (may kind.Operator) → by_sign k ≡ Some t → Ended may (sign_byte k ∷ []) t
 sign_ended may sign.Bang t o e = none_some t e
 sign_ended may sign.Less t o e = subst (Ended may (60 ∷ [])) (some_is _ _ e) (record { is = tt; taken = o; text = refl })

@@ -59,7 +59,7 @@ var_utf8 (b ∷ v) h = IsUtf8-from_ascii (b ∷ v) (ascii b v h)
     ascii b v h zero = letter_ascii b h.0
     ascii b v h (suc i) = words_ascii v h.1 i
 
--- the name in an opening tag
+-- the name in the text of an opening tag is UTF-8
 pub open_utf8 : (k : Kind) (x : List ℕ) → IsWritten k x → k ≡ kind.OpenTag → IsUtf8 (slice_range x 1 (length x - 1))
 open_utf8 k x (fixed m, i, e, t) f = cc
 open_utf8 k x (open_tag l, i, e, t) f =
@@ -73,7 +73,7 @@ open_utf8 k x (quoted ps, i, e, t) f = cc
 open_utf8 k x (path p, i, e, t) f = cc
 open_utf8 k x (comparison o, i, e, t) f = cc
 
--- the name in a closing tag
+-- the name in the text of a closing tag is UTF-8
 pub close_utf8 : (k : Kind) (x : List ℕ) → IsWritten k x → k ≡ kind.CloseTag → IsUtf8 (slice_range x 2 (length x - 1))
 close_utf8 k x (fixed m, i, e, t) f = cc
 close_utf8 k x (open_tag l, i, e, t) f = cc
@@ -167,7 +167,7 @@ path_within x v h =
     few : (n m : ℕ) → n ≤ m → nat_lt m n ≡ false
     few n m h = grind (arith, nat_tests)
 
--- a path that is nested too deep is spelled as one of too much nesting
+-- the text of a path that is nested too deep spells one that passes the limit of nesting
 pub path_nested : (x : List ℕ) (at : ℕ) → IsTooDeep x at → SpellsPath x (Err Nesting)
 path_nested x at (p, w, d) = by_case (nat_lt 100 (nesting p)) refl
   where
@@ -178,7 +178,7 @@ path_nested x at (p, w, d) = by_case (nat_lt 100 (nesting p)) refl
         let m : 0 + nesting p ≤ 100 = omega (arith, n) in
         none_some at (sym (nests_none p 0 0 m) ∙ d)
 
--- a path of too many label positions is spelled as one of too many
+-- the text of a path of too many label positions spells one that passes the limit of positions
 pub path_long : (x : List ℕ) (n : ℕ) → HasTooMany x n → SpellsPath x (Err Positions)
 path_long x n (p, w, d, e, m) =
     let k : nat_lt 100 (nesting p) ≡ false = grind (arith, nat_tests) in

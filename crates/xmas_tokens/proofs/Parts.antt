@@ -28,7 +28,7 @@ either : (b : Bool) (x y : Option Lex) (v w : Option Part) → option_map part_o
 either true x y v w h k = h
 either false x y v w h k = k
 
--- how much of a token that is always the same has been read, where more is to come
+-- where bytes of a token that is always the same are to come, fewer have been read than it has
 marking_inside : (m : Mark) (done : List ℕ) (c : ℕ) (rest : List ℕ) → done ++ c ∷ rest ≡ mark_text m → nat_lt (length done) (length (mark_text m)) ≡ true
 marking_inside m done c rest h =
     let e : length done < length (mark_text m) = omega (arith, length-append done (c ∷ rest), ap length h) in
@@ -95,7 +95,7 @@ sign_kind sign.Bang = refl
 sign_kind sign.Less = refl
 sign_kind sign.Greater = refl
 
--- the kind of the token that ends
+-- a token may end where the scan's part has a kind, and is of that kind
 pub kind_part : (l : Lex) → IsLex l → option_map kind_of (token_in l) ≡ kind_in (part_of l)
 kind_part between h = refl
 kind_part (marking m done rest) h = mark_kind m done rest h
@@ -117,7 +117,7 @@ before_others : (b : Bool) (l : Lex) (p : Part) (other : Option Lex) (x y : Opti
 before_others true l p other x y h k = ap Some h
 before_others false l p other x y h k = k
 
--- the first byte of a token that is always the same, before others
+-- where others are kept rightly, the first byte of a token that is always the same is kept rightly before them
 mark_before : (m : Mark) (may : Kind → Bool) (b : ℕ) (other : Option Lex) (x y : Option Part) → option_map part_of other ≡ or_else x y → option_map part_of (begin_mark m may b other) ≡ or_else (first_mark m may b x) y
 mark_before m may b other x y k = before_others (b == mark_first m && may (kind.Fixed m)) _ _ other x y refl k
 
@@ -125,7 +125,7 @@ mark_before m may b other x y k = before_others (b == mark_first m && may (kind.
 path_begun : (q : Bool) (b : ℕ) → option_map part_of (cond q (map_path (pathing_.step pathing_.first b)) None) ≡ first_path q b
 path_begun q b = either q _ _ _ _ (path_part (pathing_.step pathing_.first b) ∙ ap (option_map part.Pathing) (path_shapes.step_shape pathing_.empty [] pathing_.start b)) refl
 
--- the first byte of an operator, a name or a path
+-- what is kept after the first byte of an operator, a name or a path is what the scan begins with
 word_begun : (may : Kind → Bool) (b : ℕ) → option_map part_of (begin_word may b) ≡ first_word may b
 word_begun may b =
     either (b == 61 && may kind.Operator) _ _ _ _ refl
@@ -134,7 +134,7 @@ word_begun may b =
     (either (b == 62 && may kind.Operator) _ _ _ _ refl
     (either (is_name_byte b && may kind.Name) _ _ _ _ refl (path_begun (may kind.Path) b)))))
 
--- the first byte of a tag, of an item or of a part of a group label, before an operator, a name or a path
+-- what is kept after the first byte of a tag, an item or a group label's part, or of a word, is what the scan begins with
 item_begun : (may : Kind → Bool) (b : ℕ) →
     option_map part_of (begin_mark mark.LabelWord may b (begin_mark mark.OpenBrace may b (begin_mark mark.CloseBrace may b (begin_mark mark.Comma may b
     (cond (b == 60 && (may kind.OpenTag || may kind.CloseTag)) (Some (angle (may kind.OpenTag) (may kind.CloseTag)))
@@ -148,7 +148,7 @@ item_begun may b =
     (before_others (b == 60 && (may kind.OpenTag || may kind.CloseTag)) _ _ _ _ _ refl
     (before_others (b == 36 && may kind.Var) _ _ _ _ _ refl (before_others (b == 34 && may kind.Quoted) _ _ _ None _ refl (word_begun may b)))))))
 
--- the first byte of any token
+-- what is kept after the first byte of any token is what the scan begins with
 pub begin_part : (may : Kind → Bool) (b : ℕ) → option_map part_of (begin may b) ≡ first_part may b
 begin_part may b =
     mark_before mark.Construct may b _ _ _

@@ -45,7 +45,7 @@ InQuotes part.Quoting = Unit {0}
 InQuotes (part.Pathing s) = s.stage ≡ path_stage.Quoting
 InQuotes p = ⊥
 
--- what else a byte that is not ASCII is not
+-- a byte is no blank, no letter, no byte of a word, and none of / = > < ! $
 pub record IsHigher (b : ℕ) : Type 0 where
   pub blank : is_blank b ≡ false
   pub letter : is_letter b ≡ false
@@ -57,7 +57,7 @@ pub record IsHigher (b : ℕ) : Type 0 where
   pub bang : (b == 33) ≡ false
   pub dollar : (b == 36) ≡ false
 
--- each byte from 128 on is such
+-- each byte from 128 on is no blank, no letter, no byte of a word, and none of / = > < ! $
 pub is_higher : (b : ℕ) → 128 ≤ b → IsHigher b
 is_higher b h = record {
   blank = grind (arith, nat_tests);
@@ -77,7 +77,7 @@ low_index [] i b h k = grind (arith, nat_tests)
 low_index (c ∷ x) zero b h k = let low : c < 128 = low_byte c (and_parts (is_low c) (list_all is_low x) k).0 in grind (arith, nat_tests)
 low_index (c ∷ x) (suc i) b h k = low_index x i b h (and_parts (is_low c) (list_all is_low x) k).1
 
--- nothing comes of a choice that is not taken
+-- where the second of two tests fails, both together fail
 not_and : (p q : Bool) → q ≡ false → (p && q) ≡ false
 not_and true q h = h
 not_and false q h = refl
@@ -103,13 +103,13 @@ high_part (part.Pathing s) b l h k = high_path (scanned.shape_step s b) (high_st
 high_part (part.Ready r) b l h k = tt
 high_part (part.Comparing r) b l h k = rw k.equal tt
 
--- no token that is always the same begins so
+-- no token that is always the same begins with a byte that is not ASCII
 no_mark : (m : Mark) (may : Kind → Bool) (b : ℕ) (x : Option Part) → 128 ≤ b → x ≡ None → first_mark m may b x ≡ None
 no_mark m may b x l h =
     let e : (b == mark_first m) ≡ false = low_index (mark_text m) 0 b l (mark_low m) in
     rw e h
 
--- nothing comes of a choice of nothing
+-- a choice between None and None is None
 none_both : (q : Bool) → cond {A = Option Part} q None None ≡ None
 none_both true = refl
 none_both false = refl

@@ -17,7 +17,7 @@ use Rattle.path_expr.specs.Machine as pathing_
 use Rattle.path_expr.proofs.Sound as path_sound
 use Rattle.xmas_tokens.proofs.Texts.{lex_text, IsLex, Offered}
 
--- a token goes on by a byte
+-- the token at hand is well formed, may come, and has the text
 pub record Goes (may : Kind → Bool) (x : List ℕ) (k : Lex) : Type 0 where
   pub is : IsLex k
   pub offered : Offered may k
@@ -27,13 +27,13 @@ pub record Goes (may : Kind → Bool) (x : List ℕ) (k : Lex) : Type 0 where
 goes : (may : Kind → Bool) (x : List ℕ) (k : Lex) → IsLex k → Offered may k → lex_text k ≡ x → Goes may x k
 goes may x k h o e = record { is = h; offered = o; text = e }
 
--- one byte more of a token that is always the same
+-- a byte that goes on with a token that is always the same leaves it well formed, with that byte in its text
 mark_goes : (may : Kind → Bool) (m : Mark) (done rest : List ℕ) (b : ℕ) → IsLex (marking m done rest) → Offered may (marking m done rest) → Gives (Goes may (done ++ b ∷ [])) (on_mark m done rest b)
 mark_goes may m done [] b h o = tt
 mark_goes may m done (c ∷ rest) b h o =
     either _ (b == c) _ _ (λ e. goes may (done ++ b ∷ []) (marking m (done ++ c ∷ []) rest) (append_assoc done (c ∷ []) rest ∙ h) o (ap (λ d. done ++ d ∷ []) (number_is b c e))) (λ n. tt)
 
--- one byte more of a variable
+-- a variable's name with one more letter, digit or _ is a variable's name
 var_push : (l : List ℕ) (b : ℕ) → IsVar l → IsTrue (is_word_byte b) → IsVar (l ++ b ∷ [])
 var_push [] b h k = absurd h
 var_push (c ∷ l) b h k = (h.0, list_all-push is_word_byte l b h.1 k)
@@ -51,13 +51,13 @@ path_goes_at : (may : Kind → Bool) (x : List ℕ) (o : Option pathing_.State) 
 path_goes_at may x None h k = tt
 path_goes_at may x (Some t) h k = record { is = subst (λ y. path_sound.StandsAt y t) (sym h.text) h; offered = k; text = h.text }
 
--- the text of an operator of two bytes
+-- an operator of a sign and = is written as the sign and that byte
 sign_text : (k : Sign) (b : ℕ) → 61 ≡ b → op_text (with_equal k) ≡ sign_byte k ∷ b ∷ []
 sign_text sign.Bang b e = ap (λ c. 33 ∷ c ∷ []) e
 sign_text sign.Less b e = ap (λ c. 60 ∷ c ∷ []) e
 sign_text sign.Greater b e = ap (λ c. 62 ∷ c ∷ []) e
 
--- one byte more of each token
+-- a byte that goes on with the token at hand leaves it well formed, with that byte in its text
 pub lex_goes : (may : Kind → Bool) (l : Lex) (b : ℕ) → IsLex l → Offered may l → Gives (Goes may (lex_text l ++ b ∷ [])) (lex_step l b)
 lex_goes may between b h o = tt
 lex_goes may (marking m done rest) b h o = mark_goes may m done rest b h o
@@ -87,14 +87,14 @@ lex_goes may (pathing s) b h o = path_goes_at may (lex_text (pathing s) ++ b ∷
 lex_goes may (ready t) b h o = tt
 lex_goes may (comparing k) b h o = either _ (b == 61) _ _ (λ e. goes may (sign_byte k ∷ b ∷ []) (ready (comparison (with_equal k))) tt o (sign_text k b (number_is b 61 e))) (λ m. tt)
 
--- the first byte of a token that is always the same
+-- the first byte of a token that is always the same, or of another one, begins one that is well formed
 begin_mark_goes : (may : Kind → Bool) (m : Mark) (b : ℕ) (other : Option Lex) → Gives (Goes may (b ∷ [])) other → Gives (Goes may (b ∷ [])) (begin_mark m may b other)
 begin_mark_goes may m b other h =
     either _ (b == mark_first m && may (kind.Fixed m)) _ _
     (λ e. let parts = and_parts (b == mark_first m) (may (kind.Fixed m)) e in goes may (b ∷ []) (marking m (mark_first m ∷ []) (mark_rest m)) refl parts.1 (ap (λ d. d ∷ []) (number_is b (mark_first m) parts.0)))
     (λ n. h)
 
--- the first byte of each token
+-- a byte that begins a token begins one that is well formed, may come, and has that byte as its text
 pub begin_goes : (may : Kind → Bool) (b : ℕ) → Gives (Goes may (b ∷ [])) (begin may b)
 begin_goes may b =
     begin_mark_goes may mark.Construct b _ (begin_mark_goes may mark.Where b _ (begin_mark_goes may mark.And b _ (begin_mark_goes may mark.Order b _ (begin_mark_goes may mark.By b _ (begin_mark_goes may mark.Desc b _ (begin_mark_goes may mark.LabelWord b _ (begin_mark_goes may mark.OpenBrace b _ (begin_mark_goes may mark.CloseBrace b _ (begin_mark_goes may mark.Comma b _

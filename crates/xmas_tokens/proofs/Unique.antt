@@ -12,7 +12,7 @@ use Rattle.xmas_tokens.specs.declared.lexeme.Lexeme.TheVariants as lexeme
 use Rattle.xmas_tokens.specs.Tokens.{op_text, quoted_text, Token, fixed, open_tag, close_tag, word, var, quoted, path, comparison, kind_of, token_text, IsToken}
 use Rattle.xmas_tokens.specs.Lexemes.{path_form, lexeme_of, IsLexeme, op_by}
 
--- an operator's text stands for it
+-- an operator is the one that begins by its text's first byte, and has another byte or not as its text has
 op_again : (o : Comparison) → op_by (slice_index (op_text o) 0) (nat_lt 1 (length (op_text o))) ≡ o
 op_again op.Eq = refl
 op_again op.Ne = refl
@@ -21,7 +21,7 @@ op_again op.Le = refl
 op_again op.Gt = refl
 op_again op.Ge = refl
 
--- two operators of one text
+-- operators of one text are the same
 same_op : (o p : Comparison) → op_text o ≡ op_text p → o ≡ p
 same_op o p h = sym (op_again o) ∙ ap (λ x. op_by (slice_index x 0) (nat_lt 1 (length x))) h ∙ op_again p
 
@@ -29,19 +29,19 @@ same_op o p h = sym (op_again o) ∙ ap (λ x. op_by (slice_index x 0) (nat_lt 1
 same_mark : (m n : Mark) → kind_of (fixed m) ≡ kind_of (fixed n) → m ≡ n
 same_mark m n h = cc
 
--- two quoted labels of one text
+-- quoted labels of one text have the same pieces
 same_quoted : (ps qs : List Piece) → ArePieces ps → ArePieces qs → quoted_text ps ≡ quoted_text qs → ps ≡ qs
 same_quoted ps qs a b h = let same : paths.quote ps ≡ paths.quote qs = one_spelled (quoted_text ps) (paths.quote ps) (paths.quote qs) (a, refl) (b, sym h) in cc
 
--- what two tags say, whose names stand before the same bracket
+-- names that stand before the same bracket in the same text are the same
 same_tag : (l k : List ℕ) → l ++ 62 ∷ [] ≡ k ++ 62 ∷ [] → l ≡ k
 same_tag l k h = append_cancel_right l k (62 ∷ []) h
 
--- two lists that are the same have the same members after the first
+-- lists that are the same have the same members after the first
 rest_same : (a b : ℕ) (x y : List ℕ) → a ∷ x ≡ b ∷ y → x ≡ y
 rest_same a b x y h = cc
 
--- what two tokens of one kind and one text say
+-- two tokens of one kind and one text say the same
 pub same_lexeme : (t u : Token) → IsToken t → IsToken u → kind_of t ≡ kind_of u → token_text t ≡ token_text u → lexeme_of t ≡ lexeme_of u
 same_lexeme (fixed m) (fixed n) i j k h = ap lexeme.Fixed (same_mark m n k)
 same_lexeme (open_tag l) (open_tag m) i j k h = ap lexeme.OpenTag (same_tag l m (rest_same 60 60 _ _ h))

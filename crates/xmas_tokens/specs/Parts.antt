@@ -94,7 +94,7 @@ part_depth (part.Pathing s) = s.depth
 part_depth (part.Ready k) = 0
 part_depth (part.Comparing k) = 0
 
--- the first, or else the second
+-- the first of two options, or else the second where the first is None
 abbrev pub or_else : Option Part → Option Part → Option Part
 or_else (Some p) other = Some p
 or_else None other = other

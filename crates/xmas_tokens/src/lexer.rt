@@ -99,7 +99,7 @@ fn next_of_path(scan: PathScan, byte: u8) -> Option<Part>
     Some(Part::Pathing(scan_path_byte(scan, byte)?))
 }
 
-/// The token after one more byte; `None` where it does not go on so.
+/// The token after one more byte; `None` where it does not go on with that.
 pub fn next_part(part: Part, byte: u8) -> Option<Part>
     requires { part_depth part + 1 < 2 ^ 64 }
     ensures step { result ≡ part_step part byte }

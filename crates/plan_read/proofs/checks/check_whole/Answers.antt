@@ -9,6 +9,7 @@ use Rattle.plan_read.proofs.Ended.{ends_sound, ends_test}
 use Rattle.plan_read.proofs.Stopping.{many_numbered}
 use Rattle.plan_read.proofs.checks.check_whole.Goals as goal
 
+-- true is not false
 true_false : ◌≡◌ {A = Bool} true false → ⊥
 true_false h = cc
 

@@ -28,23 +28,29 @@ returns-in_err-replace_top-clause-refined g c =
     rw c.in_err-replace_top.ensures.err (stays _ _ _ _ (g.met.S.Sources.keeps _ _ c.fill.ensures.came) c.requires.known c.requires.apart)
 
 module _ (g : _) (c : goal.In_ok-replace_top g) where
+  -- what stands after the hole at the top of the stack
   tail : Open
   tail = stacked c.requires.top.0 nil
 
+  -- before the fill the stack stands for the hole and what is after it
   was : stacked c.args.stack.now.items nil ≡ hole c.args.hole tail
   unfolding tail
   was = ap (λ xs. stacked xs nil) c.requires.top.1 ∙ stacked-hole c.requires.top.0 c.args.hole
 
+  -- after the fill the stack stands for the list that came and what is after the hole
   is : stacked c.replace_top.new.stack.items nil ≡ open_followed (plain c.in-Ok.list.items) tail
   unfolding tail
   is = c.in_ok-replace_top.ensures.ok c.requires.top.0 (Hole c.args.hole) c.requires.top.1
 
+  -- the source knows the hole and those after it
   known : AllHoles ((g.S.Sources.view c.args.s.now).knows c.args.number) (hole c.args.hole tail)
   known = subst (AllHoles ((g.S.Sources.view c.args.s.now).knows c.args.number)) was c.requires.known
 
+  -- no two holes are adjacent in the hole and what is after it
   apart : IsApart (hole c.args.hole tail)
   apart = subst IsApart was c.requires.apart
 
+  -- what every call keeps of the sources was kept by the fill
   keeps : Keeps (g.S.Sources.view c.args.s.now) (g.S.Sources.view c.fill.new.self)
   keeps = g.met.S.Sources.keeps _ _ c.fill.ensures.came
 

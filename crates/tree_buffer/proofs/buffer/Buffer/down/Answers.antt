@@ -12,6 +12,7 @@ use Rattle.tree_buffer.proofs.Laws.{ran_same}
 use Rattle.tree_buffer.proofs.buffer.Buffer.down.Goals.{Then-entry-gt0, Else-entry-gt0, In_ok-hand_out}
 use Rattle.tree_buffer.proofs.buffer.Buffer.down.Goals as goal
 
+-- where a child was handed out, the number noted as the first is that of the child at index 0
 first : (g : _) (c : Then-entry-gt0 g) → IsChild (nodes_of c.args.self.now).links c.args.p.now.number 0 c.index-entry.result.now.first
 first g c = first_child c.args.self.now.entries.items c.args.p.now.number c.index-entry.result.now c.args.self.now.linked c.requires.spot c.index-entry.ensures c.if-entry-gt0.true
 
@@ -48,17 +49,21 @@ pub returns-in_err-settle_at-clause-ran : goal.returns-in_err-settle_at-clause-r
 returns-in_err-settle_at-clause-ran g c = ran_from g.met.S.Sources.keeps c.requires.sources c.settle_at.ensures.advanced
 
 module _ (g : _) (c : In_ok-hand_out g) where
+  -- what every call keeps of the sources was kept by the fills
   came : Keeps (g.S.Sources.view c.args.s.now) (g.S.Sources.view c.settle_at.new.s)
   came = g.met.S.Sources.keeps _ _ c.settle_at.ensures.advanced.came
 
+  -- the node, of which no child was handed out, has none after the fills either
   none_yet : get_or (nodes_of c.settle_at.new.self).counts c.args.p.now.number 0 ≡ 0
   none_yet =
       ap (λ cs. get_or cs c.args.p.now.number 0) c.settle_at.ensures.counts
       ∙ omega (arith, count_read c.args.self.now.entries.items c.args.p.now.number c.index-entry.result.now c.requires.spot c.index-entry.ensures, c.if-entry-gt0.false)
 
+  -- after a child was handed out, the sources are still those of the buffer
   after : IsSourcesOf (g.S.Sources.view c.settle_at.new.s) c.hand_out.new.self
   after = c.hand_out.ensures.sources _ c.settle_at.ensures.advanced.sources
 
+  -- from before the fills to after the handing out the buffer goes on
   both : Advances (g.S.Sources.view c.args.s.now) c.args.self.now (g.S.Sources.view c.settle_at.new.s) c.hand_out.new.self
   both = advances_twice c.settle_at.ensures.advanced.advances (c.hand_out.ensures.advances _ c.settle_at.ensures.advanced.sources)
 

@@ -17,6 +17,7 @@ use Rattle.tree_buffer.proofs.Refine.{moved_same}
 use Rattle.tree_buffer.proofs.buffer.Buffer.hand_out.Goals.{After-index_mut-last}
 use Rattle.tree_buffer.proofs.buffer.Buffer.hand_out.Goals as goal
 
+-- the number of a node is the index of an entry
 within : (es : _) (q : _) → q < length (nodes es).links → q < length es
 within es q h = omega (arith, h, length-links es)
 
@@ -30,27 +31,34 @@ pub returns-then-new-ge-MOST-clause-advances : goal.returns-then-new-ge-MOST-cla
 returns-then-new-ge-MOST-clause-advances c = λ v s. record { number = refl; moved = moved_same (weight_of (v.weight c.args.self.now.number)) (nodes c.args.self.now.entries.items) }
 
 module _ (c : After-index_mut-last) where
+  -- the node whose child is handed out has an entry
   in_es : c.args.q < length c.make_room.new.entries.items
   in_es = rw c.make_room.ensures.items (within c.args.self.now.entries.items c.args.q c.requires.spot)
 
+  -- the new node gets the first number that no entry has
   new_is : c.len-new.result ≡ length c.make_room.new.entries.items
   new_is = omega (arith, c.len-new.ensures, c.args.self.now.entries.ok.0, ap (λ (xs : List Entry). length xs) c.make_room.ensures.items)
 
+  -- the number of the node's children so far is read from its entry
   count_is : get_or (nodes c.make_room.new.entries.items).counts c.args.q 0 ≡ c.index_mut-entry.result.now.count
   count_is = column (λ (e : Entry). e.count) c.make_room.new.entries.items c.args.q c.index_mut-entry.result.now 0 in_es c.index_mut-entry.ensures.value
 
+  -- the node's first child is read from its entry
   first_is : get_or (nodes c.make_room.new.entries.items).firsts c.args.q 0 ≡ c.index_mut-entry.result.now.first
   first_is = column (λ (e : Entry). e.first) c.make_room.new.entries.items c.args.q c.index_mut-entry.result.now 0 in_es c.index_mut-entry.ensures.value
 
+  -- the node's list begins with the tree that is handed out, and the others are left
   list : get_or (nodes c.make_room.new.entries.items).rests c.args.q nil ≡ node c.pop_tree-label.result.0 (stacked c.pop_tree-label.result.1.items nil) (stacked c.pop_tree-label.new.stack.items nil)
   list =
       column list_of c.make_room.new.entries.items c.args.q c.index_mut-entry.result.now nil in_es c.index_mut-entry.ensures.value ∙ c.pop_tree-label.ensures
 
+  -- where children of the node were handed out, the node before the new one is the last of them
   last_is : 0 < c.index_mut-entry.result.now.count → IsLast (nodes c.make_room.new.entries.items) c.args.q c.new_or-before.result
   last_is some =
       let asked = rw (← c.make_room.ensures.items) at c.requires.before in
       subst (IsLast (nodes c.make_room.new.entries.items) c.args.q) (sym (c.new_or-before.ensures.later some)) (asked (omega (arith, count_is, some)))
 
+  -- the node before the new one has an entry, or is the new one itself
   before_in : c.new_or-before.result < length c.make_room.new.entries.items + 1
   before_in = cases (cases_eq c.index_mut-entry.result.now.count 0)
     where
@@ -58,15 +66,19 @@ module _ (c : After-index_mut-last) where
       cases (inl z) = omega (arith, c.new_or-before.ensures.first z, new_is)
       cases (inr nz) = omega (arith, (last_is (omega arith)).child.known, length-links c.make_room.new.entries.items)
 
+  -- the node whose child is handed out is among the nodes
   in_nodes : c.args.q < length (nodes c.make_room.new.entries.items).links
   in_nodes = omega (arith, in_es, length-links c.make_room.new.entries.items)
 
+  -- the nodes agree with one another before the new one is put in
   linked : IsLinked (nodes c.make_room.new.entries.items).links (nodes c.make_room.new.entries.items).counts (nodes c.make_room.new.entries.items).firsts (nodes c.make_room.new.entries.items).nexts
   linked = subst (λ (xs : List Entry). IsLinked (nodes xs).links (nodes xs).counts (nodes xs).firsts (nodes xs).nexts) (sym c.make_room.ensures.items) c.args.self.now.linked
 
+  -- the nodes after the tree at the front of the list was handed out
   after : Nodes
   after = handed (nodes c.make_room.new.entries.items) c.args.q c.new_or-first.result c.new_or-before.result c.pop_tree-label.result.0 (stacked c.pop_tree-label.result.1.items nil) (stacked c.pop_tree-label.new.stack.items nil)
 
+  -- the entries that were written are those of the nodes after the handing out
   made : nodes (set c.push_reserved.new.self.items c.new_or-before.result (record c.index_mut-last.result.now { next = c.len-new.result })) ≡ after
   unfolding after
   made =
@@ -76,6 +88,7 @@ module _ (c : After-index_mut-last) where
       ∙ nodes-handed c.make_room.new.entries.items c.args.q c.index_mut-entry.result.now _ _ c.new_or-before.result c.index_mut-last.result.now _ in_es c.index_mut-entry.ensures.value
       refl refl refl refl refl refl refl refl refl refl before_in read refl refl refl refl refl refl new_is
 
+  -- the nodes agree with one another after the handing out
   linked_after : IsLinked after.links after.counts after.firsts after.nexts
   unfolding after
   linked_after =
@@ -85,12 +98,14 @@ module _ (c : After-index_mut-last) where
       (λ z. omega (arith, c.new_or-before.ensures.first (sym count_is ∙ z), new_is, length-links c.make_room.new.entries.items))
       (λ some. let l = last_is (omega (arith, some, count_is)) in (l.child, l.last))
 
+  -- nodes that are those of a source are still so after the handing out
   sourced_after : (v : View) → Sourced v c.args.self.now.number (nodes c.args.self.now.entries.items) → Sourced v c.args.self.now.number after
   unfolding after
   sourced_after v s =
       sourced_handed (nodes c.make_room.new.entries.items) linked c.args.q c.new_or-first.result c.new_or-before.result c.pop_tree-label.result.0 (stacked c.pop_tree-label.result.1.items nil) (stacked c.pop_tree-label.new.stack.items nil) in_nodes
       v c.args.self.now.number (subst (λ (xs : List Entry). Sourced v c.args.self.now.number (nodes xs)) (sym c.make_room.ensures.items) s) list
 
+  -- after the handing out each earlier node has its place and its label, and weighs no more
   moved_after : (v : View) → Sourced v c.args.self.now.number (nodes c.args.self.now.entries.items)
       → Moved (weight_of (v.weight c.args.self.now.number)) (nodes c.args.self.now.entries.items) (weight_of (v.weight c.args.self.now.number)) after
   unfolding after
@@ -100,6 +115,7 @@ module _ (c : After-index_mut-last) where
       (moved_handed (nodes c.make_room.new.entries.items) linked c.args.q c.new_or-first.result c.new_or-before.result c.pop_tree-label.result.0 (stacked c.pop_tree-label.result.1.items nil) (stacked c.pop_tree-label.new.stack.items nil) in_nodes
       (v.weight c.args.self.now.number) s'.rests s'.labels list)
 
+  -- the document node has no label after the handing out
   bare_after : get_or after.labels 0 [] ≡ []
   unfolding after
   bare_after =
@@ -107,6 +123,7 @@ module _ (c : After-index_mut-last) where
       (omega (arith, length-map c.make_room.new.entries.items entry_label, in_es))
       (subst (λ (xs : List Entry). get_or (nodes xs).labels 0 [] ≡ []) (sym c.make_room.ensures.items) c.args.self.now.bare)
 
+  -- the new node is the child of its parent at the index after the children so far
   child_after : IsChild after.links c.args.q (get_or (nodes c.args.self.now.entries.items).counts c.args.q 0) c.len-new.result
   unfolding after
   child_after =
@@ -114,6 +131,7 @@ module _ (c : After-index_mut-last) where
       rw (new, ← c.make_room.ensures.items)
       (child_new (nodes c.make_room.new.entries.items) linked c.args.q c.new_or-first.result c.new_or-before.result c.pop_tree-label.result.0 (stacked c.pop_tree-label.result.1.items nil) (stacked c.pop_tree-label.new.stack.items nil) in_nodes)
 
+  -- the lists of all other nodes are as they were after the handing out
   others_after : KeepsLists c.args.q (nodes c.args.self.now.entries.items) after
   unfolding after
   others_after = λ i known other.

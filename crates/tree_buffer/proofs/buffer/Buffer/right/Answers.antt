@@ -16,6 +16,7 @@ use Rattle.tree_buffer.proofs.Laws.{ran_same}
 use Rattle.tree_buffer.proofs.buffer.Buffer.right.Goals.{Else-p-eq0, Then-entry-index, Else-entry-index, In_ok-hand_out}
 use Rattle.tree_buffer.proofs.buffer.Buffer.right.Goals as goal
 
+-- a number other than 0 is greater
 some : (p : ℕ) → (p ≡ 0 → ⊥) → 0 < p
 some p h = omega arith
 
@@ -28,6 +29,7 @@ index-requires g c =
       up c.args.self.now.entries.items c.args.p.now.number c.index-entry.result.now c.args.self.now.linked (some _ c.if-p-eq0.false) c.requires.spot c.index-entry.ensures,
     )
 
+-- where a next sibling was handed out, the number noted as the next is that of the parent's child at the next index
 next : (g : _) (c : Then-entry-index g) → IsChild (nodes_of c.args.self.now).links c.index-entry.result.now.parent (c.index-entry.result.now.index + 1) c.index-entry.result.now.next
 next g c =
     next_child c.args.self.now.entries.items c.args.p.now.number c.index-entry.result.now c.index.result.now c.args.self.now.linked (some _ c.if-p-eq0.false) c.requires.spot c.index-entry.ensures c.index.ensures c.if-entry-index.true
@@ -89,21 +91,26 @@ pub returns-in_err-settle_at-clause-ran : goal.returns-in_err-settle_at-clause-r
 returns-in_err-settle_at-clause-ran g c = ran_from g.met.S.Sources.keeps c.requires.sources c.settle_at.ensures.advanced
 
 module _ (g : _) (c : In_ok-hand_out g) where
+  -- what every call keeps of the sources was kept by the fills
   came : Keeps (g.S.Sources.view c.args.s.now) (g.S.Sources.view c.settle_at.new.s)
   came = g.met.S.Sources.keeps _ _ c.settle_at.ensures.advanced.came
 
+  -- the parent of the node is among the nodes
   parent_in : c.index-entry.result.now.parent < length (nodes_of c.args.self.now).links
   parent_in = up c.args.self.now.entries.items c.args.p.now.number c.index-entry.result.now c.args.self.now.linked (some _ c.if-p-eq0.false) c.requires.spot c.index-entry.ensures
 
+  -- after the fills as many children of the parent are handed out as the index of the node and one
   so_far : get_or (nodes_of c.settle_at.new.self).counts c.index-entry.result.now.parent 0 ≡ c.index-entry.result.now.index + 1
   so_far =
       let last = is_last c.args.self.now.entries.items c.args.p.now.number c.index-entry.result.now c.args.self.now.linked (some _ c.if-p-eq0.false) c.requires.spot c.index-entry.ensures c.index.result.now c.index.ensures c.if-entry-index.false in
       ap (λ cs. get_or cs c.index-entry.result.now.parent 0) c.settle_at.ensures.counts
       ∙ omega (arith, last.last, (link_read c.args.self.now.entries.items c.args.p.now.number c.index-entry.result.now c.requires.spot c.index-entry.ensures).1)
 
+  -- after a sibling was handed out, the sources are still those of the buffer
   after : IsSourcesOf (g.S.Sources.view c.settle_at.new.s) c.hand_out.new.self
   after = c.hand_out.ensures.sources _ c.settle_at.ensures.advanced.sources
 
+  -- from before the fills to after the handing out the buffer goes on
   both : Advances (g.S.Sources.view c.args.s.now) c.args.self.now (g.S.Sources.view c.settle_at.new.s) c.hand_out.new.self
   both = advances_twice c.settle_at.ensures.advanced.advances (c.hand_out.ensures.advances _ c.settle_at.ensures.advanced.sources)
 

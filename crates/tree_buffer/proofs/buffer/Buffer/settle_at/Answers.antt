@@ -11,6 +11,7 @@ use Rattle.tree_buffer.proofs.Calls.{sources_from}
 use Rattle.tree_buffer.proofs.Refine.{moved_again, sourced_again, one_refined}
 use Rattle.tree_buffer.proofs.buffer.Buffer.settle_at.Goals as goal
 
+-- the number of a node is the index of an entry
 within : (es : _) (q : _) → q < length (nodes es).links → q < length es
 within es q h = omega (arith, h, length-links es)
 
