@@ -1,4 +1,4 @@
-//! Tests of labels, trees, paths, catalogs and rules that only a call of a library shows, and calls of their laws.
+//! Tests of labels, trees, identifiers, paths, catalogs and rules that only a call of a library shows, and calls of their laws.
 #![tactic(auto)]
 
 #[cfg(test)]
@@ -9,6 +9,8 @@ mod catalogs;
 mod labels;
 #[cfg(test)]
 mod made;
+#[cfg(test)]
+mod nodes;
 #[cfg(test)]
 mod paths;
 #[cfg(test)]
