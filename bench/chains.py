@@ -1,13 +1,14 @@
 """Plan texts of many operators one over another, of one kind each: for bench/plans and bench/stack."""
 SOURCES = "source s bracket doc chunk 10\n"
 DOCUMENT = "s[r[a[x]],r[a[y]]]"
-KINDS = ("select", "project", "orderBy", "groupBy", "getDescendants", "join", "concatenate", "createElement")
+KINDS = ("select", "project", "orderBy", "groupBy", "getDescendants", "join", "rightJoin", "concatenate", "createElement")
 
 
 def one(kind, at, below):
-    """The lines of one more operator of a kind, the first of number at, over another: two of them for a join, whose right side is a source."""
-    if kind == "join":
-        return [f"{at} source s -> ${at + 10}", f"{at + 1} join {below} {at}"]
+    """The lines of one more operator of a kind, the first of number at, over another: two of them for a join, of which one side is a source."""
+    if kind in ("join", "rightJoin"):
+        sides = f"{below} {at}" if kind == "join" else f"{at} {below}"
+        return [f"{at} source s -> ${at + 10}", f"{at + 1} join {sides}"]
     words = {
         "select": 'select {0} $2 < "b"',
         "project": "project {0} {{$2,label $2}}",

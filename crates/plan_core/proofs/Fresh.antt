@@ -71,7 +71,7 @@ count_among i (x ∷ xs) (inr a) =
     subst (λ (n : ℕ). 1 ≤ n) (sym (count-append i (x ∷ []) xs)) (omega (arith, t))
 
 -- an operator reads another at most as often as all do
-count_flat : (i : ℕ) (ops : List Operator) (n : ℕ) → n < length ops → count_by (λ m. m == i) (inputs_of (op_at ops n)) ≤ count_by (λ m. m == i) (flat_map inputs_of ops)
+pub count_flat : (i : ℕ) (ops : List Operator) (n : ℕ) → n < length ops → count_by (λ m. m == i) (inputs_of (op_at ops n)) ≤ count_by (λ m. m == i) (flat_map inputs_of ops)
 count_flat i [] n b = absurd (omega (arith, b))
 count_flat i (op ∷ ops) zero b = (let e = count-append i (inputs_of op) (flat_map inputs_of ops) in omega (arith, e))
 count_flat i (op ∷ ops) (suc n) b =

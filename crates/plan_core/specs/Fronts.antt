@@ -93,8 +93,3 @@ op_apart ops op = shape_apart ops (shape_of op)
 -- the front of a number among fronts; elsewhere that of no bindings
 abbrev pub front_at : List Front → ℕ → Front
 front_at fronts n = slice_index_or fronts n (no_front true)
-
--- these are the fronts of the operators
-pub record AreFronts (ops : List Operator) (fronts : List Front) : Type 0 where
-  pub count : length fronts ≡ length ops
-  pub each : (n : ℕ) → n < length ops → front_at fronts n ≡ front ops n
