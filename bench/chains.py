@@ -5,10 +5,12 @@ KINDS = ("select", "project", "orderBy", "groupBy", "getDescendants", "join", "r
 
 
 def one(kind, at, below):
-    """The lines of one more operator of a kind, the first of number at, over another: two of them for a join, of which one side is a source."""
-    if kind in ("join", "rightJoin"):
-        sides = f"{below} {at}" if kind == "join" else f"{at} {below}"
-        return [f"{at} source s -> ${at + 10}", f"{at + 1} join {sides}"]
+    """The lines of one more operator of a kind, the first of number at, over another: for a join with what stands on its other side, on its right a source, on the
+    left of a rightJoin a visit of one."""
+    if kind == "join":
+        return [f"{at} source s -> ${at + 10}", f"{at + 1} join {below} {at}"]
+    if kind == "rightJoin":
+        return [f"{at} source s -> ${at + 10}", f"{at + 1} getDescendants {at} ${at + 10} s.r -> ${at + 11}", f"{at + 2} join {at + 1} {below}"]
     words = {
         "select": 'select {0} $2 < "b"',
         "project": "project {0} {{$2,label $2}}",

@@ -5,12 +5,14 @@ use Rattle.std.proofs.lemmas.Bool.{eq-eqb, ne_eqb, cases_eq, cases_lt}
 use Rattle.std.proofs.lemmas.List.{get_or_append_left, get_or_at, length-set, length_push}
 use Rattle.mix_base.proofs.Firsts.{each_weaker}
 use Rattle.plan_core.specs.ByNumber.{op_at}
-use Rattle.plan_core.specs.Fronts.{Front, front, front_at, AreFronts}
+use Rattle.plan_core.specs.Fronts.{front}
+use Rattle.plan_core.specs.FrontsKept.{Fronts, front_in, AreKept}
 use Rattle.plan_core.specs.Plans.{Operator, source, PlanValue}
 use Rattle.plan_core.specs.Shapes.{Shape, one_source, visits_below, pairs_up, passes_on, no_events, shape_of}
 use Rattle.plan_core.specs.Typed.{IsTyped}
 use Rattle.plan_core.specs.Valid.{AreDistinct, shape_inputs, inputs_of, uses_of, IsValid}
 use Rattle.plan_core.proofs.Chained.{count-append}
+use Rattle.plan_core.proofs.KeptFronts.{inputs_kept}
 use Rattle.browse_visit.specs.declared.shape.Shape.{Shape as SourceShape}
 use Rattle.plan_class.specs.Agree.{AreKnown, known_below}
 use Rattle.plan_class.specs.Known.{Known, no_known, known_at, domain_of, shape_known, op_known}
@@ -149,7 +151,7 @@ module _ (shapes : List SourceShape) (p : PlanValue) (valid : IsValid p) (typed 
       apart (shape_of op)
       (each_weaker (λ i. i < n) (λ i. times (inputs_of op) i ≤ 1) (λ i l. (let once = used_once i l in omega (arith, once))) (inputs_of op) (typed.inputs n b))
 
-  module _ (fronts : List Front) (frs : AreFronts p.ops fronts) (old new : SoFar) (h : IsSoFar shapes p.ops n old) (more : IsPushed shapes (front_at fronts) old op new) where
+  module _ (fronts : Fronts) (frs : AreKept p.ops n fronts) (old new : SoFar) (h : IsSoFar shapes p.ops n old) (more : IsPushed shapes (front_in fronts) old op new) where
     -- what is kept of its inputs is what is known of them
     kept : AllByRecursion (λ i. kept_at old.slots.items i ≡ known_at known i) (inputs_of op)
     kept =
@@ -157,11 +159,11 @@ module _ (shapes : List SourceShape) (p : PlanValue) (valid : IsValid p) (typed 
         (λ i l c. ap slot_known (h.waiting i l (let from = used_from i in omega (arith, from, c))))
 
     -- what is pushed is what is known of it
-    one_is : shape_known shapes (front_at fronts) (domain_in old.domains) (kept_at old.slots.items) (shape_of op) ≡ one
+    one_is : shape_known shapes (front_in fronts) (domain_in old.domains) (kept_at old.slots.items) (shape_of op) ≡ one
     one_is =
-        ap (λ (of : ℕ → Domain). shape_known shapes (front_at fronts) of (kept_at old.slots.items) (shape_of op)) (domains_are old.domains known h.domains)
-        ∙ shape_known-reads shapes (front_at fronts) (front p.ops) (domain_of known) (kept_at old.slots.items) (known_at known) (shape_of op)
-        (each_weaker (λ i. i < n) (λ i. front_at fronts i ≡ front p.ops i) (λ i l. frs.each i (omega (arith, l, b))) (inputs_of op) (typed.inputs n b))
+        ap (λ (of : ℕ → Domain). shape_known shapes (front_in fronts) of (kept_at old.slots.items) (shape_of op)) (domains_are old.domains known h.domains)
+        ∙ shape_known-reads shapes (front_in fronts) (front p.ops) (domain_of known) (kept_at old.slots.items) (known_at known) (shape_of op)
+        (inputs_kept p.ops n fronts b frs (typed.inputs n b))
         kept
 
     -- the slots after it

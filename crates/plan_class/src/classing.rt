@@ -1,7 +1,9 @@
 // The class of a plan.
-ghost use Rattle.std.specs.Prelude.{◌≡◌, IfOk, OnOk, length, map};
-ghost use Rattle.plan_core.specs.Fronts.{front_at};
+ghost use Rattle.std.specs.Prelude.{◌≡◌, ◌<◌, ℕ, suc, List, IfOk, OnOk, length, map};
+ghost use Rattle.plan_core.specs.ByNumber.{op_at};
+ghost use Rattle.plan_core.specs.FrontsKept.{front_in, AreKept};
 ghost use Rattle.plan_core.specs.PlanMade.{op_of, plan_value};
+ghost use Rattle.plan_core.specs.Plans.{Operator};
 ghost use Rattle.plan_core.specs.Valid.{AreDistinct, inputs_of, IsValid};
 ghost use Rattle.browse_class.specs.Classes.{op_bound, all_bounds, op_sorts, sorts_any, class_by, class_in};
 ghost use Rattle.browse_visit.specs.Shapes.{shapes_of};
@@ -16,7 +18,7 @@ use crate::so_far::SoFar;
 use browse_class::Class;
 use browse_profile::larger;
 use browse_visit::Shape;
-use plan_core::fronts::{Front, fronts_of};
+use plan_core::fronts::Fronts;
 use plan_core::{Op, Plan, valid_plans_are_typed};
 use std::alloc::{AllocError, Global};
 
@@ -81,17 +83,18 @@ fn class_by(constant: Option<u64>) -> Class
 fn push_known(
     alloc: Global,
     shapes: &[Shape],
-    fronts: &[Front],
+    fronts: &mut Fronts,
     so_far: &mut SoFar,
     op: &Op,
 ) -> Result<(), AllocError>
     requires short { IsShort (op_of op.now) }
     requires apart { AreDistinct (inputs_of (op_of op.now)) }
-    ensures { OnOk result (IsPushed shapes.now (front_at fronts.now) so_far.old (op_of op.now) so_far.new) }
+    ensures known { OnOk result (IsPushed shapes.now (front_in fronts.old) so_far.old (op_of op.now) so_far.new) }
+    ensures fronts { (ops : List Operator) (n : ℕ) → n < length ops → op_at ops n ≡ op_of op.now → AreKept ops n fronts.old → OnOk result (AreKept ops (suc n) fronts.new) }
 {
     let one = op_known(alloc, shapes, fronts, so_far, op)?;
     so_far.push(one)?;
-    Ok(())
+    fronts.push(alloc, op)
 }
 
 // What the values of all variables can be.
@@ -100,10 +103,10 @@ fn all_domains(alloc: Global, plan: &Plan, shapes: &[Shape]) -> Result<Domains, 
     ensures { IfOk result (λ ds. AreDomains ds (known_below shapes.now (plan_value plan.now).ops (length (plan_value plan.now).ops))) }
 {
     valid_plans_are_typed();
-    let fronts = fronts_of(alloc, &plan.ops)?;
+    let mut fronts = Fronts::new(alloc, &plan.ops)?;
     let mut so_far = SoFar::new(alloc);
     'ops: for op in &plan.ops {
-        push_known(alloc, shapes, &fronts, &mut so_far, op)?;
+        push_known(alloc, shapes, &mut fronts, &mut so_far, op)?;
     }
     Ok(so_far.domains)
 }

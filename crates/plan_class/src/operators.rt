@@ -1,6 +1,6 @@
 // What is known of an operator, from what is known of those before it.
 ghost use Rattle.std.specs.Prelude.{◌≡◌, IfOk, length};
-ghost use Rattle.plan_core.specs.Fronts.{front_at};
+ghost use Rattle.plan_core.specs.FrontsKept.{front_in};
 ghost use Rattle.plan_core.specs.PlanMade.{op_of};
 ghost use Rattle.plan_core.specs.Shapes.{shape_of};
 ghost use Rattle.browse_class.specs.Facts.{tested};
@@ -23,7 +23,7 @@ use browse_profile::Profile;
 use browse_visit::{Shape, Sorts, first_sort};
 use mix_tree::{Key, Test, Var};
 use plan_core::Op;
-use plan_core::fronts::{Front, is_whole, vars_at};
+use plan_core::fronts::Fronts;
 use std::alloc::{AllocError, Global};
 
 // What is known of a source.
@@ -37,13 +37,13 @@ fn source_known(alloc: Global, shapes: &[Shape], source: u32, out: Var) -> Known
 }
 
 // The size of the front of a number.
-fn front_size(fronts: &[Front], n: u32) -> FrontSize
-    ensures vars { result.vars ≡ length (front_at fronts.now n).vars }
-    ensures whole { result.whole ≡ (front_at fronts.now n).whole }
+fn front_size(fronts: &Fronts, n: u32) -> FrontSize
+    ensures vars { result.vars ≡ length (front_in fronts.now n).vars }
+    ensures whole { result.whole ≡ (front_in fronts.now n).whole }
 {
     FrontSize {
-        vars: vars_at(fronts, n).len(),
-        whole: is_whole(fronts, n),
+        vars: fronts.vars(n).len(),
+        whole: fronts.is_whole(n),
     }
 }
 
@@ -133,14 +133,14 @@ fn over_known(
 pub fn op_known(
     alloc: Global,
     shapes: &[Shape],
-    fronts: &[Front],
+    fronts: &Fronts,
     so_far: &mut SoFar,
     op: &Op,
 ) -> Result<Known, AllocError>
     requires short { IsShort (op_of op.now) }
     requires apart { AreDistinct (inputs_of (op_of op.now)) }
     ensures known { IfOk result (λ k. k ≡
-        shape_known shapes.now (front_at fronts.now) (domain_in so_far.old.domains) (kept_at so_far.old.slots.items) (shape_of (op_of op.now))) }
+        shape_known shapes.now (front_in fronts.now) (domain_in so_far.old.domains) (kept_at so_far.old.slots.items) (shape_of (op_of op.now))) }
     ensures slots { so_far.new.slots.items ≡ emptied so_far.old.slots.items (inputs_of (op_of op.now)) }
     ensures domains { so_far.new.domains ≡ so_far.old.domains }
 {
@@ -170,7 +170,7 @@ pub fn op_known(
         | Op::CreateElement { input, .. }
         | Op::TupleDestroy { input, .. } => {
             let below = so_far.take(alloc, *input);
-            over_known(alloc, &so_far.domains, vars_at(fronts, *input), below, op)
+            over_known(alloc, &so_far.domains, fronts.vars(*input), below, op)
         }
     }
 }

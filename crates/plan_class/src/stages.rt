@@ -12,7 +12,8 @@ use crate::known::Known;
 use crate::levels::{Levels, own_level};
 use browse_profile::{Most, Profile, larger};
 use mix_tree::{Key, Var, key_stands};
-use plan_core::{Piece, fronts};
+use plan_core::Piece;
+use plan_core::front::{are_contiguous, shared};
 use std::alloc::{AllocError, Global};
 
 /// What is known after a comparison.
@@ -48,21 +49,15 @@ fn covers(keys: &[Key], others: &[Key]) -> bool
 }
 
 // The profile where bindings whose keys were seen are passed over, over an input with a front of these variables.
-fn distinct_profile(
-    alloc: Global,
-    keys: &[Key],
-    vars: &[Var],
-    input: &Known,
-) -> Result<Profile, AllocError>
-    ensures { IfOk result (λ p. p ≡ distinct_known keys.now vars.now input.now) }
+fn distinct_profile(keys: &[Key], vars: &[Var], input: &Known) -> Profile
+    ensures { result ≡ distinct_known keys.now vars.now input.now }
 {
-    let shared = fronts::shared(alloc, keys, vars)?;
     if !input.profile.most.many() || covers(keys, &input.keys) {
-        Ok(input.profile)
-    } else if fronts::covers(&shared, keys) {
-        Ok(input.levels.at(shared.len()))
+        input.profile
+    } else if are_contiguous(keys, vars) {
+        input.levels.at(shared(keys, vars).len())
     } else {
-        Ok(input.profile.first_kept())
+        input.profile.first_kept()
     }
 }
 
@@ -75,7 +70,7 @@ pub fn kept_known(
 ) -> Result<Known, AllocError>
     ensures { IfOk result (λ k. k ≡ kept_known keys.now vars.now input) }
 {
-    let profile = distinct_profile(alloc, keys, vars, &input)?;
+    let profile = distinct_profile(keys, vars, &input);
     let own = Vec::from_slice(alloc, keys)?;
     Ok(Known::new(profile, own, input.levels))
 }
@@ -113,8 +108,7 @@ pub fn grouped_known(
 ) -> Result<Known, AllocError>
     ensures { IfOk result (λ k. k ≡ grouped_known keys.now vars.now out input) }
 {
-    let shared = fronts::shared(alloc, keys, vars)?;
-    let list = group_profile(fronts::covers(&shared, keys), input.profile);
+    let list = group_profile(are_contiguous(keys, vars), input.profile);
     let kept = kept_known(alloc, keys, vars, input)?;
     Ok(kept.binding(out, Domain::of_values(list)))
 }

@@ -12,7 +12,7 @@ use Rattle.plan_core.proofs.Bindings.{binding_append, binding_weaker, binding_on
 use Rattle.plan_core.proofs.KeyValues.{all_itself, same_after, map_more}
 
 module _ (docs : Documents) where
-  -- where all after it differ
+  -- a binding from which all events after it differ by the keys stands first: none that agree with it come late
   pub stands_apart : (keys : List Key) (row : TolledRow) (es : RowEvents) → EachBinding (Differ docs keys row) es → StandsFirst docs keys row es
   stands_apart keys row [] h = tt
   stands_apart keys row (skip ∷ es) h = stands_apart keys row es h
@@ -61,13 +61,13 @@ module _ (docs : Documents) where
     both_same : (a b : TolledRow) (x : Bool) → P a → P b → same_values (key_values docs keys a) (key_values docs keys b) ≡ x → same_values (key_values docs keys (f a)) (key_values docs keys (f b)) ≡ x
     both_same a b x p q h = ap (λ (z : List KeyValue). same_values z (key_values docs keys (f b))) (same a p) ∙ ap (same_values (key_values docs keys a)) (same b q) ∙ h
 
-    -- a made binding and others that differ
+    -- a binding made anew differs by keys from others made anew that differed from it before
     others_differ : (row : TolledRow) → P row → (es : RowEvents) → EachBinding P es → EachBinding (Differ docs keys row) es → EachBinding (Differ docs keys (f row)) (each_row f es)
     others_differ row p [] q h = tt
     others_differ row p (skip ∷ es) q h = others_differ row p es q h
     others_differ row p (bind b ∷ es) q h = (both_same row b false p q.0 h.0, others_differ row p es q.1 h.1)
 
-    -- a made binding and those after it
+    -- after a binding made anew those that agree with it by keys come first where they did before
     stands_each : (row : TolledRow) → P row → (es : RowEvents) → EachBinding P es → StandsFirst docs keys row es → StandsFirst docs keys (f row) (each_row f es)
     stands_each row p [] q h = tt
     stands_each row p (skip ∷ es) q h = stands_each row p es q h
@@ -86,7 +86,7 @@ module _ (docs : Documents) where
     made_same : (a b : TolledRow) (xs ys : RowEvents) (x : Bool) → same_values (key_values docs keys a) (key_values docs keys b) ≡ x → same_values (key_values docs keys (make a xs)) (key_values docs keys (make b ys)) ≡ x
     made_same a b xs ys x h = ap (λ (z : List KeyValue). same_values z (key_values docs keys (make b ys))) (same a xs) ∙ ap (same_values (key_values docs keys a)) (same b ys) ∙ h
 
-    -- a kept binding and others that differ
+    -- a first binding by some keys differs by other keys from all first bindings of events that differ from it by these
     kept_differ : (row : TolledRow) (xs : RowEvents) (seen : List (List KeyValue)) (es : RowEvents) → EachBinding (Differ docs keys row) es → EachBinding (Differ docs keys (make row xs)) (distinct docs by make seen es)
     kept_differ row xs seen [] h = tt
     kept_differ row xs seen (skip ∷ es) h = kept_differ row xs seen es h
@@ -97,7 +97,7 @@ module _ (docs : Documents) where
         elim (is_seen (key_values docs by b) seen)
         as (λ w. EachBinding (Differ docs keys (make row xs)) (cond w (skip ∷ distinct docs by make seen es) (bind (make b es) ∷ distinct docs by make (seen ++ key_values docs by b ∷ []) es))) [ true ↦ old | false ↦ (d, new) ]
 
-    -- a kept binding and those after it
+    -- after a first binding by some keys those first bindings come first that agree with it by other keys, where they did among all bindings
     kept_stands : (row : TolledRow) (xs : RowEvents) (seen : List (List KeyValue)) (es : RowEvents) → StandsFirst docs keys row es → StandsFirst docs keys (make row xs) (distinct docs by make seen es)
     kept_stands row xs seen [] h = tt
     kept_stands row xs seen (skip ∷ es) h = kept_stands row xs seen es h
@@ -138,7 +138,7 @@ module _ (docs : Documents) where
         → same_values (key_values docs keys a) (key_values docs keys b) ≡ x
     pair_is row other a b x e g h = ap (λ (z : List KeyValue). same_values z (key_values docs keys b)) e ∙ ap (same_values (key_values docs keys row)) g ∙ h
 
-    -- a binding and what is given by others that differ
+    -- a binding differs by keys from all that is given by bindings that differ by them from the one that gave it
     all_differ : (row a : TolledRow) → key_values docs keys a ≡ key_values docs keys row → (es : RowEvents) → EachBinding P es → EachBinding (Differ docs keys row) es → EachBinding (Differ docs keys a) (expand f es)
     all_differ row a e [] p h = tt
     all_differ row a e (skip ∷ es) p h = all_differ row a e es p h
@@ -146,13 +146,13 @@ module _ (docs : Documents) where
         binding_append (Differ docs keys a) (f other) (expand f es)
         (binding_weaker (λ b. key_values docs keys b ≡ key_values docs keys other) (Differ docs keys a) (λ b g. pair_is row other a b false e g h.0) (f other) (extends other p.0)) (all_differ row a e es p.1 h.1)
 
-    -- a binding, and after it some that agree, and then events in which it stands first
+    -- where a binding stands first before events, it does before bindings that agree with it, and then those events
     stands_append : (a : TolledRow) (xs ys : RowEvents) → EachBinding (Agree docs keys a) xs → StandsFirst docs keys a ys → StandsFirst docs keys a (xs ++ ys)
     stands_append a [] ys h k = k
     stands_append a (skip ∷ xs) ys h k = stands_append a xs ys h k
     stands_append a (bind b ∷ xs) ys h k = inl (h.0, stands_append a xs ys h.1 k)
 
-    -- a binding and what is given by those after the one that gave it
+    -- after a given binding, those given by later ones come first that agree with it, where the later ones did after the one that gave it
     stands_expand : (row a : TolledRow) → key_values docs keys a ≡ key_values docs keys row → (es : RowEvents) → EachBinding P es → StandsFirst docs keys row es → StandsFirst docs keys a (expand f es)
     stands_expand row a e [] p h = tt
     stands_expand row a e (skip ∷ es) p h = stands_expand row a e es p h
@@ -164,7 +164,7 @@ module _ (docs : Documents) where
         (binding_append (Differ docs keys a) (f other) (expand f es)
         (binding_weaker (λ b. key_values docs keys b ≡ key_values docs keys other) (Differ docs keys a) (λ b g. pair_is row other a b false e g h.0) (f other) (extends other p.0)) (all_differ row a e es p.1 h.1))
 
-    -- what one binding gives, and what is after
+    -- bindings with equal values of keys stand side by side, also with the events after them where each of them stands first before these
     beside_append : (row : TolledRow) (xs ys : RowEvents) → EachBinding (λ a. key_values docs keys a ≡ key_values docs keys row) xs → ((a : TolledRow) → key_values docs keys a ≡ key_values docs keys row → StandsFirst docs keys a ys) → AreBeside docs keys ys
         → AreBeside docs keys (xs ++ ys)
     beside_append row [] ys h s k = k
@@ -192,14 +192,14 @@ module _ (docs : Documents) (keys more_keys : List Key) where
       ∙ ap (same_values (k ++ key_values docs more_keys a)) y
       ∙ same_after k (key_values docs more_keys a) (key_values docs more_keys b)
 
-  -- a binding and others that differ by the further keys, or by all
+  -- a binding that differs by the further keys from some with its values of the first keys differs by all keys from these, and from others that do
   rest_differ : (k : List KeyValue) (a : TolledRow) → key_values docs keys a ≡ k → (xs ys : RowEvents) → EachBinding (λ b. key_values docs keys b ≡ k) xs → EachBinding (Differ docs more_keys a) xs
       → EachBinding (Differ docs (keys ++ more_keys) a) ys → EachBinding (Differ docs (keys ++ more_keys) a) (xs ++ ys)
   rest_differ k a e [] ys h d r = r
   rest_differ k a e (skip ∷ xs) ys h d r = rest_differ k a e xs ys h d r
   rest_differ k a e (bind b ∷ xs) ys h d r = (pair_more k a b e h.0 ∙ d.0, rest_differ k a e xs ys h.1 d.1 r)
 
-  -- a binding and those after it that were given together with it, and then others that differ
+  -- among bindings with its values of the first keys those that agree with a binding by all keys come first, also before events that differ from it
   stands_more : (k : List KeyValue) (a : TolledRow) → key_values docs keys a ≡ k → (xs ys : RowEvents) → EachBinding (λ b. key_values docs keys b ≡ k) xs → StandsFirst docs more_keys a xs
       → EachBinding (Differ docs (keys ++ more_keys) a) ys → StandsFirst docs (keys ++ more_keys) a (xs ++ ys)
   stands_more k a e [] ys h s r = stands_apart docs (keys ++ more_keys) a ys r
@@ -209,7 +209,7 @@ module _ (docs : Documents) (keys more_keys : List Key) where
 
   module _ (P : TolledRow → Type 0) (f : TolledRow → RowEvents) (extends : (row : TolledRow) → P row → EachBinding (λ a. key_values docs keys a ≡ key_values docs keys row) (f row))
       (inner : (row : TolledRow) → P row → AreBeside docs more_keys (f row)) where
-    -- a binding and what is given by others
+    -- a given binding differs by all keys from what is given by bindings that differ by the first keys from the one that gave it
     far_differ : (row a : TolledRow) → key_values docs keys a ≡ key_values docs keys row → (es : RowEvents) → EachBinding P es → EachBinding (Differ docs keys row) es → EachBinding (Differ docs (keys ++ more_keys) a) (expand f es)
     far_differ row a e [] p d = tt
     far_differ row a e (skip ∷ es) p d = far_differ row a e es p d
@@ -218,7 +218,7 @@ module _ (docs : Documents) (keys more_keys : List Key) where
         (binding_weaker (λ b. key_values docs keys b ≡ key_values docs keys other) (Differ docs (keys ++ more_keys) a)
         (λ b g. differ_left docs keys more_keys (row_node a) (row_node b) (ap (λ (z : List KeyValue). same_values z (key_values docs keys b)) e ∙ ap (same_values (key_values docs keys row)) g ∙ d.0)) (f other) (extends other p.0)) (far_differ row a e es p.1 d.1)
 
-    -- what one binding gives, and what is after
+    -- bindings with equal values of the first keys stand side by side by all keys where they do by the further ones, also with events that differ from them
     near : (row : TolledRow) (xs ys : RowEvents) → EachBinding (λ a. key_values docs keys a ≡ key_values docs keys row) xs → AreBeside docs more_keys xs
         → ((a : TolledRow) → key_values docs keys a ≡ key_values docs keys row → EachBinding (Differ docs (keys ++ more_keys) a) ys) → AreBeside docs (keys ++ more_keys) ys → AreBeside docs (keys ++ more_keys) (xs ++ ys)
     near row [] ys h b d k = k

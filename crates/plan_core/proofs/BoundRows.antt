@@ -43,7 +43,7 @@ bound_with kinds out k x row b v =
       | false ↦ b v
     ]
 
--- the variables of keys alone
+-- a binding cut to the variables of keys has values of exactly those of them that had a kind
 pub bound_restrict : (kinds : Kinds) (keys : List Key) (row : TolledRow) → AreNodes keys kinds → IsBound (kept keys kinds) (tolled_restrict keys row)
 bound_restrict kinds [] row n v = λ more. refl
 bound_restrict kinds (k ∷ keys) row n v =
@@ -60,7 +60,7 @@ bound_restrict kinds (k ∷ keys) row n v =
     later : (u : ℕ) → has_var keys u ≡ true → has_var (k ∷ keys) u ≡ true
     later u t = elim (key_var k == u) as (λ w. (w || has_var keys u) ≡ true) [ true ↦ refl | false ↦ t ]
 
--- a variable of one side of a pair
+-- a pair of bindings has the value of a variable that one of its sides has, the left side first
 value_both : (a b : TolledRow) (v : ℕ) (j k : Option Kind) → HasValue j a v → HasValue k b v → HasValue (either_kind j k) (a ++ b) v
 value_both a b v (Some j) k x y = λ more. ap (λ (z : TolledRow). tolled_value z v) (append_assoc a b more) ∙ x (b ++ more) ∙ sym (x b)
 value_both a b v None (Some k) x y = λ more. ap (λ (z : TolledRow). tolled_value z v) (append_assoc a b more) ∙ x (b ++ more) ∙ y more ∙ sym (x b)
@@ -106,7 +106,7 @@ keys_restrict docs keys row = values_alike docs keys (tolled_restrict keys row) 
 pub nodes_kept : (kinds : Kinds) (keys : List Key) → AreNodes keys kinds → AreNodes keys (kept keys kinds)
 nodes_kept kinds keys n v t = rw t (n v t)
 
--- keys of the left side of a pair
+-- keys of variables of the left binding compare in a pair what they compare in the left binding
 pub keys_left : (docs : Documents) (kinds : Kinds) (keys : List Key) (a b : TolledRow) → AreNodes keys kinds → IsBound kinds a → key_values docs keys (a ++ b) ≡ key_values docs keys a
 keys_left docs kinds keys a b n h = values_alike docs keys (a ++ b) a (λ v t. value_own kinds a h v a_node (n v t) b)
 

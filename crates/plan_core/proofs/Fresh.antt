@@ -17,7 +17,7 @@ use Rattle.plan_core.specs.Valid.{Kind, a_node, a_list, Kinds, no_kinds, with_ki
 use Rattle.plan_core.proofs.Chained.{count-append}
 use Rattle.plan_core.proofs.Numbers.{by_number-is, op_kinds-reads}
 
--- a number that is in a list is found there
+-- whether a number stands in a list is true of each member
 any_among : (v : ℕ) (vs : List ℕ) → Among v vs → list_any (λ w. w == v) vs ≡ true
 any_among v [] a = absurd a
 any_among v (w ∷ vs) (inl e) = (let t : (w == v) ≡ true = grind (arith, nat_tests, e) in rw t refl)
@@ -37,18 +37,18 @@ distinct_apart (x ∷ xs) ys v d (inl e) b =
     or_true false q h k = (let z : true ≡ false = sym h ∙ k in cc)
 distinct_apart (x ∷ xs) ys v d (inr a) b = distinct_apart xs ys v d.1 a b
 
--- a part of them has none twice
+-- where no number stands twice in two lists together, none does in the second
 pub distinct_after : (xs ys : List ℕ) → AreDistinct (xs ++ ys) → AreDistinct ys
 distinct_after [] ys d = d
 distinct_after (x ∷ xs) ys d = distinct_after xs ys d.1
 
--- what an operator binds is among what all bind
+-- what one operator binds anew is among what all of them do
 among_flat : (f : Operator → List ℕ) (ops : List Operator) (n v : ℕ) → n < length ops → Among v (f (op_at ops n)) → Among v (flat_map f ops)
 among_flat f [] n v b a = absurd (omega (arith, b))
 among_flat f (op ∷ ops) zero v b a = among_left (f op) (flat_map f ops) v a
 among_flat f (op ∷ ops) (suc n) v b a = (let c : n < length ops = omega (arith, b) in among_right (f op) (flat_map f ops) v (among_flat f ops n v c a))
 
--- a variable is bound anew once
+-- where no two operators bind the same variable anew, each variable is bound anew by one operator
 pub bound_once : (ops : List Operator) → AreDistinct (flat_map outs_of ops) → (a b v : ℕ) → a < length ops → b < length ops → Among v (outs_of (op_at ops a)) → Among v (outs_of (op_at ops b)) → a ≡ b
 bound_once [] d a b v p q x y = absurd (omega (arith, p))
 bound_once (op ∷ ops) d zero zero v p q x y = refl
@@ -59,7 +59,7 @@ bound_once (op ∷ ops) d (suc a) (suc b) v p q x y =
     let e : b < length ops = omega (arith, q) in
     ap suc (bound_once ops (distinct_after (outs_of op) (flat_map outs_of ops) d) a b v c e x y)
 
--- how many times a number stands in lists
+-- a member of a list stands in it once at least
 count_among : (i : ℕ) (xs : List ℕ) → Among i xs → 1 ≤ count_by (λ m. m == i) xs
 count_among i [] a = absurd a
 count_among i (x ∷ xs) (inl e) =
@@ -178,7 +178,7 @@ module _ (p : PlanValue) (valid : IsValid p) (typed : IsTyped p.ops) where
       let same : u.0 ≡ w.0 = reader_once ops m (once m u.0 u.1 u.2) u.0 w.0 u.1 w.1 u.2 w.2 in
       one_way u.0 d e a b u.3 (subst (λ (z : ℕ). Up z e b) (sym same) w.3)
 
-  -- where a variable is bound anew
+  -- operator n, or one that it reads through others, binds a variable anew
   abbrev Origin : ℕ → ℕ → Type 0
   Origin n v = (m : ℕ) × (d : ℕ) × (m < length ops) × Among v (outs_of (op_at ops m)) × Up m d n
 

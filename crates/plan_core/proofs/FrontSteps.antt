@@ -80,7 +80,7 @@ eq_var u (node_key v ∷ keys) h =
     ]) refl h
 eq_var u (label_key v ∷ keys) h = (let r = eq_var u keys h in elim (v == u) as (λ w. (w || has_var keys u) ≡ true) [ true ↦ refl | false ↦ r ])
 
--- the variables that keys share with a front are theirs
+-- a variable that keys share with a front is one of the keys' variables
 shared_has : (keys : List Key) (vars : List ℕ) (j v : ℕ) → has_var (node_keys (take j (shared keys vars))) v ≡ true → has_var keys v ≡ true
 shared_has keys vars zero v h = cc
 shared_has keys [] (suc j) v h = cc
@@ -254,7 +254,7 @@ module _ (docs : Documents) (kinds : Kinds) (f : Front) (es : RowEvents) (known 
         let h : has_var keys v ≡ true = shared_has keys f.vars (length (shared keys f.vars)) v (all_shared v t) in
         let d = fresh_differs kinds group.1 v a_node fresh (nodes v h) in rw d (nodes_kept kinds keys nodes v h)
 
-    -- the first bindings by keys
+    -- the first bindings by keys have the variables that the keys share with the input's front as their front
     pub kept_fronted : (stops : Bool) (group : Option (Piece × ℕ)) → IsFreshGroup group
         → AreFronted docs (stage_kinds (first_by_keys keys group) kinds) (stage_front (first_by_keys keys group) f) (distinct docs keys (kept_row docs keys stops group) [] es)
     kept_fronted stops group fresh = record {
@@ -280,20 +280,20 @@ module _ (docs : Documents) (kinds : Kinds) (f : Front) (es : RowEvents) (known 
 
 -- PAIRS
 
--- a test of two lists of events, one after the other, tests each of them
+-- what passes a test of one list of events after another is what passes it of the one, and then of the other
 only-append : (test : TolledRow → Bool) (xs ys : RowEvents) → only test (xs ++ ys) ≡ only test xs ++ only test ys
 only-append test [] ys = refl
 only-append test (skip ∷ xs) ys = ap (λ (z : RowEvents). skip ∷ z) (only-append test xs ys)
 only-append test (bind row ∷ xs) ys = ap (λ (z : RowEvents). cond (test row) (bind row) skip ∷ z) (only-append test xs ys)
 
--- are those of what it gives
+-- what passes a test of all that each binding gives is what passes it of the whole expansion
 expand-only : (test : TolledRow → Bool) (g : TolledRow → RowEvents) (es : RowEvents) → expand (λ row. only test (g row)) es ≡ only test (expand g es)
 expand-only test g [] = refl
 expand-only test g (skip ∷ es) = ap (λ (z : RowEvents). skip ∷ z) (expand-only test g es)
 expand-only test g (bind row ∷ es) =
     ap (λ (z : RowEvents). skip ∷ (only test (g row) ++ z)) (expand-only test g es) ∙ ap (λ (z : RowEvents). skip ∷ z) (sym (only-append test (g row) (expand g es)))
 
--- the first of two lists: all of the one, and the first of the other
+-- the first members of one list after another, more than the one has, are all of the one and the first of the other
 take_both : (xs ys : List ℕ) (k : ℕ) → take (length xs + k) (xs ++ ys) ≡ xs ++ take k ys
 take_both [] ys k = (let e : 0 + k ≡ k = omega arith in ap (λ (m : ℕ). take m ys) e)
 take_both (x ∷ xs) ys k = (let e : suc (length xs) + k ≡ suc (length xs + k) = omega arith in ap (λ (m : ℕ). take m (x ∷ (xs ++ ys))) e ∙ ap (λ (z : List ℕ). x ∷ z) (take_both xs ys k))

@@ -37,7 +37,7 @@ module _ (p : PlanValue) (valid : IsValid p) (docs : Documents) where
   typed : IsTyped p.ops
   typed = valid_is_typed p valid
 
-  -- what is known of an operator
+  -- the bindings of operator n have the variables that have kinds, and its events have its front
   abbrev Known : ℕ → Type 0
   Known n = AreFronted docs (kinds p.ops n) (front p.ops n) (events docs p.ops n)
 
@@ -46,7 +46,7 @@ module _ (p : PlanValue) (valid : IsValid p) (docs : Documents) where
   anew n b f e i v x y =
       out_fresh p valid typed n i v b (subst (λ (g : Shape). Among i (shape_inputs g)) (sym e) x) (subst (λ (g : Shape). Among v (shape_outs g)) (sym e) y)
 
-  -- what is known after a stage
+  -- the events of an operator that puts a stage over its input have its variables and its front where those of the input have theirs
   stage_known : (n : ℕ) → n < length p.ops → (i : ℕ) (stage : Stage) → shape_at p.ops n ≡ passes_on i stage → IsStageFit (kinds p.ops i) stage → Known i
       → AreFronted docs (shape_kinds (passes_on i stage) (kinds p.ops)) (shape_front (passes_on i stage) (front p.ops)) (shape_events docs (front p.ops) (passes_on i stage) (events docs p.ops))
   stage_known n b i (filters test) e fit h = filtered_fronted docs (kinds p.ops i) (front p.ops i) (events docs p.ops i) h (λ row. passes docs test (row_node row))
@@ -59,7 +59,7 @@ module _ (p : PlanValue) (valid : IsValid p) (docs : Documents) where
   stage_known n b i (one_group piece out) e fit h = grouped_fronted docs (kinds p.ops i) (front p.ops i) (events docs p.ops i) h piece out
   stage_known n b i (in_order v desc) e fit h = ordered_fronted docs (kinds p.ops i) (front p.ops i) (events docs p.ops i) h v desc
 
-  -- what is known of a shape, from what is known of its inputs
+  -- the events of an operator of any shape have its variables and its front where those of its inputs have theirs
   shape_known : (n : ℕ) → n < length p.ops → (f : Shape) → shape_at p.ops n ≡ f → IsShapeFit f (kinds p.ops) → ((i : ℕ) → Among i (shape_inputs f) → Known i)
       → AreFronted docs (shape_kinds f (kinds p.ops)) (shape_front f (front p.ops)) (shape_events docs (front p.ops) f (events docs p.ops))
   shape_known n b (one_source s out) e fit h = source_fronted docs s out
@@ -74,7 +74,7 @@ module _ (p : PlanValue) (valid : IsValid p) (docs : Documents) where
       none : (j : ℕ) → j ≤ 0 → AreBeside docs (node_keys (take j [])) []
       none j l = tt
 
-  -- what is known of the operators below a number
+  -- the events of each operator below a number have its variables and its front
   known_below : (k n : ℕ) → n < k → n < length p.ops → Known n
   known_below zero n h b = absurd (omega (arith, h))
   known_below (suc k) n h b =

@@ -14,11 +14,11 @@ pub record IsTree (ops : List Operator) : Type 0 where
 abbrev pub times : List ℕ → ℕ → ℕ
 times is n = count_by (λ m. m == n) is
 
--- the numbers with a mark stand in a list once each, and no others
+-- a list has each number with a mark once, and no other
 abbrev pub HaveMarks : List Bool → List ℕ → Type 0
 HaveMarks marks is = (n : ℕ) → times is n ≡ cond (slice_index_or marks n false) 1 0
 
--- some more numbers got marks
+-- some numbers, which are among those of the marks and had none, got one each
 pub record IsMarked (old : List Bool) (is : List ℕ) (new : List Bool) : Type 0 where
   pub count : length new ≡ length old
   pub within : AllByRecursion (λ n. n < length old) is

@@ -53,7 +53,7 @@ pub struct KeyFacts {
 }
 
 impl KeyFacts {
-    // Of no operators.
+    // What is known of no operators.
     fn none(alloc: Global) -> KeyFacts
         ensures stops { result.stops.items ≡ [] }
         ensures apart { result.apart.items ≡ [] }
@@ -120,7 +120,7 @@ fn facts_after(alloc: Global, ops: &[Op], fronts: &Fronts) -> Result<KeyFacts, A
     Ok(facts)
 }
 
-/// What is known of the keys of the operators of a plan. `Err`: memory.
+/// What the fronts of a plan tell of the keys of its operators. `Err`: memory.
 pub fn key_facts(alloc: Global, ops: &[Op]) -> Result<KeyFacts, AllocError>
     ensures stops { IfOk result (λ facts. facts.stops.items ≡ map (op_stops (map op_of ops.now)) (map op_of ops.now)) }
     ensures apart { IfOk result (λ facts. facts.apart.items ≡ map (op_apart (map op_of ops.now)) (map op_of ops.now)) }

@@ -98,7 +98,7 @@ impl Front {
         }
     }
 
-    /// Its variables.
+    /// Its variables, in order.
     pub fn vars(&self) -> &[Var]
         ensures { result.now ≡ self.now.vars }
     {
@@ -123,7 +123,7 @@ impl Front {
         })
     }
 
-    /// With the nodes of a visit from each binding in one variable more. `Err`: memory.
+    /// The front after a visit from each binding, whose nodes are the values of `out`. `Err`: memory.
     pub fn extended(self, out: Var) -> Result<Front, AllocError>
         ensures { IfOk result (λ f. f ≡ record { vars = self.vars ++ cond self.whole (out ∷ []) []; whole = self.whole }) }
     {
@@ -135,7 +135,7 @@ impl Front {
         Ok(Front { vars, whole })
     }
 
-    /// With the bindings of a right side beside each binding. `Err`: memory.
+    /// The front of pairs: each of its bindings with those of a right side. `Err`: memory.
     pub fn beside(self, right: Front) -> Result<Front, AllocError>
         ensures { IfOk result (λ f. f ≡ record { vars = self.vars ++ cond self.whole right.vars []; whole = self.whole && right.whole }) }
     {
@@ -150,7 +150,7 @@ impl Front {
         })
     }
 
-    /// Where of bindings that agree by keys the first alone is kept.
+    /// The front where of bindings that agree by keys the first alone is kept.
     pub fn kept_by(self, keys: &[Key]) -> Front
         ensures { result ≡ record { vars = shared keys.now self.vars; whole = are_contiguous keys.now self.vars } }
     {

@@ -47,7 +47,7 @@ fn front_over(alloc: Global, op: &Op, below: Front) -> Result<Front, AllocError>
 }
 
 impl Fronts {
-    /// Before the first operator of a plan. `Err`: memory.
+    /// The fronts before the first operator of a plan. `Err`: memory.
     pub fn new(alloc: Global, ops: &[Op]) -> Result<Fronts, AllocError>
         ensures kept { IfOk result (λ fronts. AreKept (map op_of ops.now) 0 fronts) }
         ensures moving { IfOk result (λ fronts. IsTree (map op_of ops.now) → fronts.moving ≡ true) }

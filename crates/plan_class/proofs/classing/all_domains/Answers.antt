@@ -1,4 +1,5 @@
 use Rattle.std.proofs.Common.{◌≡◌, ◌+◌, ℕ, suc, arith, subst}
+use Rattle.plan_core.specs.FrontsKept.{AreKept}
 use Rattle.plan_core.specs.PlanMade.{op_of, plan_value}
 use Rattle.plan_core.specs.Plans.{Operator}
 use Rattle.plan_core.specs.Valid.{kinds, inputs_of, AreDistinct, IsFit}
@@ -27,8 +28,11 @@ ops-preserved c =
     let shapes = c.args.shapes.now in
     let typed = c.valid_plans_are_typed.ensures plan c.requires in
     let op = op_walked c.args.plan.now.ops.items c.deref-op-items.result.now c.ops.op-index c.op-item.result c.deref-op-items.ensures.value c.ops-test.true c.op-item.is in
-    let fronts = rw c.deref.ensures.value at c.in_ok-fronts.ensures in
-    let pushed = rw (c.deref-in-ops.ensures.value, ← op.0) at c.in_ok-push_known.ensures in
+    let pushed = rw (← op.0) at c.in_ok-push_known.ensures.known in
     let next : suc c.ops.op-index ≡ c.ops.op-index + 1 = omega arith in
-    subst (λ (n : ℕ). IsSoFar shapes plan.ops n c.push_known.new.so_far) next
-    (so_far_more shapes plan c.requires typed c.ops.op-index op.1 c.in_ok-fronts.fronts.items fronts c.ops.so_far c.push_known.new.so_far c.ops.invariant pushed)
+    record {
+      known =
+          subst (λ (n : ℕ). IsSoFar shapes plan.ops n c.push_known.new.so_far) next
+          (so_far_more shapes plan c.requires typed c.ops.op-index op.1 c.ops.fronts c.ops.invariant.fronts c.ops.so_far c.push_known.new.so_far c.ops.invariant.known pushed);
+      fronts = subst (λ (n : ℕ). AreKept plan.ops n c.push_known.new.fronts) next (c.in_ok-push_known.ensures.fronts plan.ops c.ops.op-index op.1 op.0 c.ops.invariant.fronts);
+    }

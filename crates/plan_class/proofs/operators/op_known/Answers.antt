@@ -2,7 +2,7 @@ use Rattle.std.proofs.Common.{◌≡◌, ◌∙◌, [], ◌∷◌, ap, subst, sy
 use Rattle.std.specs.Prelude.{IfOk, Option}
 use Rattle.mix_tree.specs.declared.comparing.Test.{Test}
 use Rattle.plan_core.specs.declared.plan.Op.{Op}
-use Rattle.plan_core.specs.Fronts.{front_at}
+use Rattle.plan_core.specs.FrontsKept.{front_in}
 use Rattle.plan_core.specs.PlanMade.{op_of}
 use Rattle.plan_core.specs.Shapes.{shape_of}
 use Rattle.plan_core.specs.Valid.{AreDistinct, inputs_of}
@@ -19,10 +19,10 @@ returns-in_ok-visit-in-GetDescendants-clause-known c =
     let op = c.in-GetDescendants in
     let old = c.args.so_far.now in
     subst (λ (k : Known). IfOk c.visits_known.result (λ x. x ≡ k))
-    (visits_are c.args.shapes.now (front_at c.args.fronts.now) (domain_in old.domains) (kept_at old.slots.items) op.input op.start op.path op.out c.in_ok-visit-in-GetDescendants.visit
+    (visits_are c.args.shapes.now (front_in c.args.fronts.now) (domain_in old.domains) (kept_at old.slots.items) op.input op.start op.path op.out c.in_ok-visit-in-GetDescendants.visit
     c.front_size.result.vars c.front_size.result.whole c.take-below.result c.of.result c.in_ok-visit-in-GetDescendants.ensures c.front_size.ensures.vars c.front_size.ensures.whole
     (c.of.ensures ∙ ap (λ (ds : Domains). domain_in ds op.start) c.take-below.ensures.domains) c.take-below.ensures.known
-    ∙ ap (λ (o : Op). shape_known c.args.shapes.now (front_at c.args.fronts.now) (domain_in old.domains) (kept_at old.slots.items) (shape_of (op_of o))) (sym op.is))
+    ∙ ap (λ (o : Op). shape_known c.args.shapes.now (front_in c.args.fronts.now) (domain_in old.domains) (kept_at old.slots.items) (shape_of (op_of o))) (sym op.is))
     c.visits_known.ensures
 
 pub returns-in-Join-clause-known : goal.returns-in-Join-clause-known
@@ -35,7 +35,7 @@ returns-in-Join-clause-known c =
     in
     subst (λ (k : Known). IfOk c.pairs_known.result (λ x. x ≡ k))
     (ap (λ (ts : List Test). pairs_known ts c.front_size-front.result.vars c.front_size-front.result.whole c.take-left.result c.take-right.result) c.deref.ensures.value
-    ∙ pairs_are c.args.shapes.now (front_at c.args.fronts.now) (domain_in old.domains) (kept_at old.slots.items) op.left op.right op.tests.items c.front_size-front.result.vars
+    ∙ pairs_are c.args.shapes.now (front_in c.args.fronts.now) (domain_in old.domains) (kept_at old.slots.items) op.left op.right op.tests.items c.front_size-front.result.vars
     c.front_size-front.result.whole c.take-left.result c.take-right.result c.front_size-front.ensures.vars c.front_size-front.ensures.whole c.take-left.ensures.known right
-    ∙ ap (λ (o : Op). shape_known c.args.shapes.now (front_at c.args.fronts.now) (domain_in old.domains) (kept_at old.slots.items) (shape_of (op_of o))) (sym op.is))
+    ∙ ap (λ (o : Op). shape_known c.args.shapes.now (front_in c.args.fronts.now) (domain_in old.domains) (kept_at old.slots.items) (shape_of (op_of o))) (sym op.is))
     c.pairs_known.ensures
