@@ -47,7 +47,7 @@ bounds_are a b [] h = refl
 bounds_are a b (op ∷ ops) h =
     ap (λ (x : Option ℕ). larger x (all_bounds ops a)) (h 0 (omega arith)) ∙ ap (larger (op_bound op b)) (bounds_are a b ops (λ n l. h (suc n) (omega (arith, l))))
 
--- the bound of one operator more in front
+-- the greatest bound from number i on is the greater of that of operator i and of the greatest one after it
 pub bounds_at : (fs : ℕ → Facts) (ops : List Op) (i at : ℕ) (op : Op) (x found : Option ℕ) → at ≡ suc i → i < length ops → op ≡ get_or ops i op → x ≡ op_bound (op_of op) fs
     → found ≡ all_bounds (map op_of (drop at ops)) fs → larger x found ≡ all_bounds (map op_of (drop i ops)) fs
 bounds_at fs ops i at op x found q b e ex ef =
@@ -57,7 +57,7 @@ bounds_at fs ops i at op x found q b e ex ef =
     (ap (λ (xs : List Op). all_bounds (map op_of xs) fs) (drop-cons ops i op b)
     ∙ ap (λ (o : Op). larger (op_bound (op_of o) fs) (all_bounds (map op_of (drop (suc i) ops)) fs)) (sym e))
 
--- a visit below each binding, from its parts
+-- what is known of a visit below each binding is made of what was computed of its path, its front and its input
 pub visits_are : (shapes : List SourceShape) (fronts : ℕ → Front) (domains : ℕ → Domain) (at : ℕ → Known) (input start : ℕ) (path : Form) (out : ℕ) (visit : Visit) (m : ℕ) (whole : Bool) (below : Known) (from : Domain)
     → visit ≡ visit_along shapes path from → m ≡ length (fronts input).vars → whole ≡ (fronts input).whole → from ≡ domains start → below ≡ at input
     → visits_known out visit m whole below ≡ shape_known shapes fronts domains at (visits_below input start path out)
@@ -67,7 +67,7 @@ visits_are shapes fronts domains at input start path out visit m whole below fro
     ∙ ap (λ (n : ℕ). visits_known out (visit_along shapes path (domains start)) n whole (at input)) em
     ∙ ap (λ (w : Bool). visits_known out (visit_along shapes path (domains start)) (length (fronts input).vars) w (at input)) ew
 
--- pairs, from their parts
+-- what is known of pairs is made of what was computed of the left front and of both sides
 pub pairs_are : (shapes : List SourceShape) (fronts : ℕ → Front) (domains : ℕ → Domain) (at : ℕ → Known) (l r : ℕ) (tests : List Test) (m : ℕ) (whole : Bool) (left right : Known)
     → m ≡ length (fronts l).vars → whole ≡ (fronts l).whole → left ≡ at l → right ≡ at r → pairs_known tests m whole left right ≡ shape_known shapes fronts domains at (pairs_up l r tests)
 pairs_are shapes fronts domains at l r tests m whole left right em ew el er =
@@ -76,7 +76,7 @@ pairs_are shapes fronts domains at l r tests m whole left right em ew el er =
     ∙ ap (λ (k : Known). pairs_known tests (length (fronts l).vars) (fronts l).whole k right) el
     ∙ ap (λ (k : Known). pairs_known tests (length (fronts l).vars) (fronts l).whole (at l) k) er
 
--- the operator of a walk over a plan's operators, and its number
+-- the i-th operator of a walk over a plan's operators is the plan's operator i
 pub op_walked : (ops xs : List Op) (i : ℕ) (o : Op) → xs ≡ ops → i < length xs → o ≡ get_or xs i o → (op_at (map op_of ops) i ≡ op_of o) × (i < length (map op_of ops))
 op_walked ops xs i o e b is =
     let count = length-map xs op_of in (
@@ -85,7 +85,7 @@ op_walked ops xs i o e b is =
     )
 
 module _ (shapes : List SourceShape) (p : PlanValue) (valid : IsValid p) (typed : IsTyped p.ops) where
-  -- one operator more is known
+  -- where the first n operators are known, the first n + 1 are
   known_more : (known : List Known) (n : ℕ) (k : Known) → n < length p.ops → AreKnown shapes p.ops known n → k ≡ op_known shapes (front p.ops) known (op_at p.ops n) → AreKnown shapes p.ops (known ++ k ∷ []) (suc n)
   known_more known n k b are e = record {
     count = (let a = length-append known (k ∷ []) in let count = are.count in omega (arith, a, count));
@@ -99,7 +99,7 @@ module _ (shapes : List SourceShape) (p : PlanValue) (valid : IsValid p) (typed 
         ];
   }
 
-  -- each operator is known
+  -- the first n operators are known, for each n
   pub are_known : (n : ℕ) → n ≤ length p.ops → AreKnown shapes p.ops (known_below shapes p.ops n) n
   are_known zero h = record { count = refl; each = λ i c. absurd (omega (arith, c)) }
   are_known (suc n) h =
@@ -110,11 +110,11 @@ module _ (shapes : List SourceShape) (p : PlanValue) (valid : IsValid p) (typed 
     abbrev fs : ℕ → Facts
     fs = facts (shapes_of shapes) p.ops
 
-    -- the first operators are known
+    -- each operator before another is known
     first_known : (n : ℕ) → n < length p.ops → (i : ℕ) → i < n → Agrees shapes p.ops i (known_at known i)
     first_known n b i l = are.each i (omega (arith, l, b))
 
-    -- the bound of the list of a new element
+    -- the bound of the list of a new element is the same by the program and by the facts
     bound_is : (n : ℕ) → n < length p.ops → (f : Shape) → AllByRecursion (λ i. i < n) (shape_inputs f) → IsShapeFit f (kinds p.ops) → shape_bound f (λ i. lists_in known) ≡ shape_bound f fs
     bound_is n b (one_source s out) small fit = refl
     bound_is n b (visits_below i start path out) small fit = refl
@@ -127,7 +127,7 @@ module _ (shapes : List SourceShape) (p : PlanValue) (valid : IsValid p) (typed 
     bound_is n b (passes_on i (in_order v desc)) small fit = refl
     bound_is n b (no_events i made) small fit = refl
 
-    -- the class where no operator sorts
+    -- where no operator sorts, the class by what the program knows is the plan's
     pub class_is : sorts_any p.ops ≡ false → class_by (all_bounds p.ops (λ i. lists_in known)) ≡ class_in (shapes_of shapes) p.ops
     class_is h =
         let same : all_bounds p.ops (λ i. lists_in known) ≡ constant (shapes_of shapes) p.ops =

@@ -65,7 +65,7 @@ made_differs : (made : Made) → made_kind made ≡ a_node → ⊥
 made_differs (a_list_of pieces) e = cc
 made_differs (an_element_of label list) e = cc
 
--- the set of a variable that is bound anew
+-- the set of sorts that a variable is bound to anew is that of its layouts
 own_set : (w : Bool) (shape : SourceShape) (k : Sorts) (gs hs : List Layout) → w ≡ true → IsSet shape k gs → IsSet shape k (cond w gs hs)
 own_set true shape k gs hs h s = s
 own_set false shape k gs hs h s = cc
@@ -99,7 +99,7 @@ shape_known-reads shapes a b domains at to (passes_on input stage) h g =
 shape_known-reads shapes a b domains at to (no_events input made) h g = refl
 
 module _ (shapes : List SourceShape) (p : PlanValue) (valid : IsValid p) (typed : IsTyped p.ops) (known : List Known) (n : ℕ) (b : n < length p.ops) (are : AreKnown shapes p.ops known n) where
-  -- what is known of each operator
+  -- the facts of each operator
   abbrev fs : ℕ → Facts
   fs = facts (shapes_of shapes) p.ops
 
@@ -107,18 +107,18 @@ module _ (shapes : List SourceShape) (p : PlanValue) (valid : IsValid p) (typed 
   within : n ≤ length p.ops
   within = omega (arith, b)
 
-  -- what the program knows of it
+  -- what the program knows of each operator
   abbrev at : ℕ → Known
   at i = known_at known i
 
-  -- the trees of what is made
+  -- the trees of what is made are known as the facts say
   made_trees : (i : ℕ) → i < n → (made : Made) → IsMadeFit (kinds p.ops i) made → (w : Bool) (v : ℕ) (j : Kind) → w ≡ true → cond w (Some (made_kind made)) (kinds p.ops i v) ≡ Some j
       → made_known (domain_of known) made ≡ kind_profile (Some j) (cond w (made_profile (kinds p.ops i) (fs i).lists made) ((fs i).lists v))
   made_trees i s (a_list_of pieces) fit w v j t e =
       pieces_are shapes p valid typed known n within are i costless pieces s fit ∙ list_trees w j (kinds p.ops i v) (pieces_from costless (kinds p.ops i) (fs i).lists pieces) ((fs i).lists v) t e
   made_trees i s (an_element_of label list) fit w v j t e = element_item w j (kinds p.ops i v) (cond w costless ((fs i).lists v)) t e
 
-  -- the first bindings by keys
+  -- the profile of the first bindings by keys is known as the facts say
   kept_same : (keys : List Key) (vars : List ℕ) (i : ℕ) → i < n → distinct_known keys vars (at i) ≡ distinct_profile keys vars (fs i)
   kept_same keys vars i s = distinct_same keys vars (at i) (fs i) (are.each i s).profile (are.each i s).keys (are.each i s).levels
 
@@ -258,7 +258,7 @@ module _ (shapes : List SourceShape) (p : PlanValue) (valid : IsValid p) (typed 
     levels = levels_agree costless costless (same_levels unbounded) (λ j. unbounded) refl (λ j. refl);
   }
 
-  -- the operator after those that are known
+  -- what is made of the operators that are known agrees with the facts of the next one
   pub known_step : Agrees shapes p.ops n (op_known shapes (front p.ops) known (op_at p.ops n))
   known_step =
       let at_n : Shape = shape_at p.ops n in

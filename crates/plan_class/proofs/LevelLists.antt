@@ -7,7 +7,7 @@ use Rattle.browse_profile.specs.Profiles.{unbounded, replaced, once}
 use Rattle.browse_class.specs.Levels.{with_zero, visits_level, pairs_level}
 use Rattle.plan_class.specs.LevelLists.{Levels, level_in, with_first, opens, beside, visit_levels, pair_levels}
 
--- level 0 by itself, and the others as they agree
+-- levels that agree with others still do where both get the first stop of a list alone as level 0
 pub levels_agree : (p q : Profile) (l : Levels) (f : ℕ → Profile) → p ≡ q → ((j : ℕ) → level_in l j ≡ f j) → (j : ℕ) → level_in (with_first p l) j ≡ with_zero q f j
 levels_agree p q l f e h zero = ap once e
 levels_agree p q l f e h (suc j) = after l.first ∙ h (suc j)
@@ -16,7 +16,7 @@ levels_agree p q l f e h (suc j) = after l.first ∙ h (suc j)
     after [] = refl
     after (x ∷ ps) = refl
 
--- two levels after those of which nothing is known
+-- of two levels after m of which nothing is known, level m is the first and level m + 1 the second
 two_after : (m j : ℕ) (a b : Profile) → slice_index_or (opens m ++ a ∷ b ∷ []) j unbounded ≡ cond (j == suc m) b (cond (j == m) a unbounded)
 two_after zero zero a b = refl
 two_after zero (suc zero) a b = refl
@@ -35,7 +35,7 @@ two_after (suc m) (suc j) a b =
     ∙ ap (λ (w : Bool). cond w b (cond (j == m) a unbounded)) (sym e)
     ∙ ap (λ (w : Bool). cond (suc j == suc (suc m)) b (cond w a unbounded)) (sym f)
 
--- a member of a list each member of which was changed
+-- a member of a changed list is the member of the list, changed
 mapped_at : (f : Profile → Profile) (rest : Profile) (j : ℕ) (ps : List Profile) → slice_index_or (map f ps) j (f rest) ≡ f (slice_index_or ps j rest)
 mapped_at f rest j [] = refl
 mapped_at f rest zero (p ∷ ps) = refl

@@ -27,7 +27,7 @@ use Rattle.browse_class.proofs.Sound.{facts-of}
 use Rattle.plan_class.specs.Agree.{out_of, AreKnown}
 use Rattle.plan_class.specs.Known.{Known, known_at, binds, domain_of, pieces_known}
 
--- a variable that is bound anew is among those that are
+-- a variable that is the one bound anew is among those that are bound anew
 out_among : (outs : List ℕ) (v : ℕ) → binds (out_of outs) v ≡ true → Among v outs
 out_among [] v h = cc
 out_among (w ∷ ws) v h = inl (sym (eqb-true w v h))
@@ -91,16 +91,16 @@ shape_from shapes (passes_on i stage) ks frs of v j e =
 shape_from shapes (no_events i made) ks frs of v j e = cc
 
 module _ (shapes : List SourceShape) (p : PlanValue) (valid : IsValid p) (typed : IsTyped p.ops) where
-  -- what is known of each operator
+  -- the facts of each operator
   abbrev fs : ℕ → Facts
   fs = facts (shapes_of shapes) p.ops
 
-  -- where a variable is bound anew, which is what it is there
+  -- operator n, or one before it, binds a variable anew, whose values are at operator n what they are there
   abbrev Origin : ℕ → ℕ → Kind → Type 0
   Origin n v j =
       (m : ℕ) × (m ≤ n) × (binds (out_of (outs_of (op_at p.ops m))) v ≡ true) × (kinds p.ops m v ≡ Some j) × ((fs n).layouts v ≡ (fs m).layouts v) × ((fs n).lists v ≡ (fs m).lists v)
 
-  -- each variable that is bound has one
+  -- each variable that an operator binds is bound anew by it or by an operator below it
   origin : (k n v : ℕ) (j : Kind) → n < k → n < length p.ops → kinds p.ops n v ≡ Some j → Origin n v j
   origin zero n v j h b e = absurd (omega (arith, h))
   origin (suc k) n v j h b e =
@@ -119,13 +119,13 @@ module _ (shapes : List SourceShape) (p : PlanValue) (valid : IsValid p) (typed 
       ]
 
   module _ (known : List Known) (n : ℕ) (b : n ≤ length p.ops) (are : AreKnown shapes p.ops known n) where
-    -- a variable that is bound below n is what the program knows where it is bound anew
+    -- an operator below n binds a variable anew, whose values are at operator i what they are there, and the program knows those
     abbrev Kept : ℕ → ℕ → Kind → Type 0
     Kept i v j =
         (m : ℕ) × (m < n) × (domain_of known v ≡ (known_at known m).domain) × (binds (out_of (outs_of (op_at p.ops m))) v ≡ true) × (kinds p.ops m v ≡ Some j)
         × ((fs i).layouts v ≡ (fs m).layouts v) × ((fs i).lists v ≡ (fs m).lists v)
 
-    -- each variable that is bound below n is so
+    -- the program knows the values of each variable that an operator below n binds, by the one that binds it anew
     kept_at : (i v : ℕ) (j : Kind) → i < n → kinds p.ops i v ≡ Some j → Kept i v j
     kept_at i v j s e =
         let d : i < length p.ops = omega (arith, s, b) in

@@ -1,18 +1,19 @@
 -- One operator more is kept.
-use Rattle.std.proofs.Common.{◌≡◌, ◌<◌, ◌≤◌, ◌+◌, ◌∙◌, ◌==◌, ◌++◌, inl, inr, ℕ, zero, suc, true, false, List, [], ◌∷◌, Option, Some, None, refl, sym, ap, subst, arith, length, drop, drop-cons, slice_get, slice_set}
-use Rattle.std.specs.List.{AllByRecursion, count_by, flat_map}
-use Rattle.std.proofs.lemmas.Bool.{eq-eqb, ne_eqb, cases_eq, cases_lt}
+use Rattle.std.proofs.Common.{◌≡◌, ◌<◌, ◌≤◌, ◌+◌, ◌∙◌, ◌==◌, ◌++◌, inl, inr, ℕ, zero, suc, true, List, [], ◌∷◌, Option, Some, None, refl, sym, ap, subst, arith, length, drop, drop-cons, slice_get, slice_set}
+use Rattle.std.specs.List.{AllByRecursion, flat_map}
+use Rattle.std.proofs.lemmas.Bool.{eq-eqb, cases_lt}
 use Rattle.std.proofs.lemmas.List.{get_or_append_left, get_or_at, length-set, length_push}
-use Rattle.mix_base.proofs.Firsts.{each_weaker}
 use Rattle.plan_core.specs.ByNumber.{op_at}
 use Rattle.plan_core.specs.Fronts.{front}
 use Rattle.plan_core.specs.FrontsKept.{Fronts, front_in, AreKept}
 use Rattle.plan_core.specs.Plans.{Operator, source, PlanValue}
-use Rattle.plan_core.specs.Shapes.{Shape, one_source, visits_below, pairs_up, passes_on, no_events, shape_of}
+use Rattle.plan_core.specs.Shapes.{shape_of}
+use Rattle.plan_core.specs.Trees.{times}
 use Rattle.plan_core.specs.Typed.{IsTyped}
-use Rattle.plan_core.specs.Valid.{AreDistinct, shape_inputs, inputs_of, uses_of, IsValid}
+use Rattle.plan_core.specs.Valid.{AreDistinct, inputs_of, uses_of, IsValid}
 use Rattle.plan_core.proofs.Chained.{count-append}
-use Rattle.plan_core.proofs.KeptFronts.{inputs_kept}
+use Rattle.plan_core.proofs.KeptFronts.{inputs_kept, tree_distinct}
+use Rattle.plan_core.proofs.ValidTrees.{valid_tree}
 use Rattle.browse_visit.specs.declared.shape.Shape.{Shape as SourceShape}
 use Rattle.plan_class.specs.Agree.{AreKnown, known_below}
 use Rattle.plan_class.specs.Known.{Known, no_known, known_at, domain_of, shape_known, op_known}
@@ -36,34 +37,30 @@ emptied_other (s ∷ slots) zero (suc j) n = refl
 emptied_other (s ∷ slots) (suc i) zero n = refl
 emptied_other (s ∷ slots) (suc i) (suc j) n = emptied_other slots i j (λ e. n (ap suc e))
 
--- the slot of the right side of a join is not the left side's
+-- the slot of the right side of a join stays where the left side's is emptied
 pub right_kept : (slots : Slots) (l r : ℕ) → AreDistinct (l ∷ r ∷ []) → kept_at (slice_set slots l None) r ≡ kept_at slots r
 right_kept slots l r h = ap slot_known (emptied_other slots l r differs)
   where
     differs : r ≡ l → ⊥
     differs e = let t = eq-eqb r l e in let f = rw t at h.0 in cc
 
--- a slot before one that was added
+-- a slot stays where another is added after it
 added_before : (slots : Slots) (s : Option Known) (i : ℕ) → i < length slots → slice_get (slots ++ s ∷ []) i ≡ slice_get slots i
 added_before [] s i h = absurd (omega arith)
 added_before (t ∷ slots) s zero h = refl
 added_before (t ∷ slots) s (suc i) h = added_before slots s i (omega arith)
 
--- the slot that was added
+-- the slot that was added stands after the others
 added_here : (slots : Slots) (s : Option Known) (i : ℕ) → i ≡ length slots → slice_get (slots ++ s ∷ []) i ≡ Some s
 added_here [] s zero e = refl
 added_here [] s (suc i) e = absurd (omega arith)
 added_here (t ∷ slots) s zero e = absurd (omega arith)
 added_here (t ∷ slots) s (suc i) e = added_here slots s i (omega arith)
 
--- as many slots are there where some are emptied
+-- emptying slots leaves as many of them
 length_emptied : (slots : Slots) (is : List ℕ) → length (emptied slots is) ≡ length slots
 length_emptied slots [] = refl
 length_emptied slots (i ∷ is) = length_emptied (slice_set slots i None) is ∙ length-set slots i None
-
--- how often a number stands in a list
-abbrev times : List ℕ → ℕ → ℕ
-times is n = count_by (λ m. m == n) is
 
 -- a number is counted as itself
 times_here : (i : ℕ) → times (i ∷ []) i ≡ 1
@@ -90,23 +87,6 @@ each_counted P n (i ∷ is) s f = (
   each_counted P n is s.1 (λ j l c. f j l (let both = count-append j (i ∷ []) is in omega (arith, both, c))),
 )
 
--- the inputs of a shape are distinct where each is counted once
-apart : (f : Shape) → AllByRecursion (λ i. times (shape_inputs f) i ≤ 1) (shape_inputs f) → AreDistinct (shape_inputs f)
-apart (one_source s out) h = tt
-apart (visits_below i start path out) h = (refl, tt)
-apart (pairs_up l r tests) h = elim (cases_eq r l) [
-  | inl e ↦
-      absurd
-      (let both = count-append l (l ∷ []) (r ∷ []) in
-      let one = times_here l in
-      let two : times (r ∷ []) l ≡ 1 = ap (λ (m : ℕ). times (m ∷ []) l) e ∙ times_here l in
-      let most : times (l ∷ r ∷ []) l ≤ 1 = h.0 in
-      omega (arith, both, one, two, most))
-  | inr n ↦ (let differs : (r == l) ≡ false = ne_eqb r l n in (rw differs refl, (refl, tt)))
-]
-apart (passes_on i stage) h = (refl, tt)
-apart (no_events i made) h = (refl, tt)
-
 -- later operators use an operator at most as often as all
 later_fewer : (ops : List Operator) (n i : ℕ) → uses_of (drop n ops) i ≤ uses_of ops i
 later_fewer [] zero i = omega arith
@@ -115,29 +95,29 @@ later_fewer (op ∷ ops) zero i = omega arith
 later_fewer (op ∷ ops) (suc n) i = let fewer = later_fewer ops n i in let both = count-append i (inputs_of op) (flat_map inputs_of ops) in omega (arith, fewer, both)
 
 module _ (shapes : List SourceShape) (p : PlanValue) (valid : IsValid p) (typed : IsTyped p.ops) (n : ℕ) (b : n < length p.ops) where
-  -- the operator of the number
+  -- the operator of number n
   abbrev op : Operator
   op = op_at p.ops n
 
-  -- what is known of those before it
+  -- what is known of the operators before number n
   abbrev known : List Known
   known = known_below shapes p.ops n
 
-  -- what is known of it
+  -- what is known of operator n
   abbrev one : Known
   one = op_known shapes (front p.ops) known op
 
-  -- those before it are known
+  -- the operators before number n are known
   are : AreKnown shapes p.ops known n
   are = are_known shapes p valid typed n (omega (arith, b))
 
-  -- from it on an operator is used by it and by later ones
+  -- operators from number n on use another as often as operator n and the later ones do
   used_from : (i : ℕ) → uses_of (drop n p.ops) i ≡ times (inputs_of op) i + uses_of (drop (suc n) p.ops) i
   used_from i =
       let here : drop n p.ops ≡ op ∷ drop (suc n) p.ops = drop-cons p.ops n (source 0 0) b in
       ap (λ (os : List Operator). uses_of os i) here ∙ count-append i (inputs_of op) (flat_map inputs_of (drop (suc n) p.ops))
 
-  -- it and later ones use an operator before it once at most
+  -- operator n and the later ones use an operator before them once at most
   used_once : (i : ℕ) → i < n → times (inputs_of op) i + uses_of (drop (suc n) p.ops) i ≤ 1
   used_once i l =
       let all = valid.used_once i (omega (arith, l, b)) in
@@ -145,20 +125,18 @@ module _ (shapes : List SourceShape) (p : PlanValue) (valid : IsValid p) (typed 
       let from = used_from i in
       omega (arith, all, fewer, from)
 
-  -- its inputs are distinct
+  -- the inputs of operator n are distinct
   pub inputs_apart : AreDistinct (inputs_of op)
-  inputs_apart =
-      apart (shape_of op)
-      (each_weaker (λ i. i < n) (λ i. times (inputs_of op) i ≤ 1) (λ i l. (let once = used_once i l in omega (arith, once))) (inputs_of op) (typed.inputs n b))
+  inputs_apart = tree_distinct p.ops (valid_tree p valid typed) n b
 
   module _ (fronts : Fronts) (frs : AreKept p.ops n fronts) (old new : SoFar) (h : IsSoFar shapes p.ops n old) (more : IsPushed shapes (front_in fronts) old op new) where
-    -- what is kept of its inputs is what is known of them
+    -- what is kept of the inputs of operator n is what is known of them
     kept : AllByRecursion (λ i. kept_at old.slots.items i ≡ known_at known i) (inputs_of op)
     kept =
         each_counted (λ i. kept_at old.slots.items i ≡ known_at known i) n (inputs_of op) (typed.inputs n b)
         (λ i l c. ap slot_known (h.waiting i l (let from = used_from i in omega (arith, from, c))))
 
-    -- what is pushed is what is known of it
+    -- what is pushed is what is known of operator n
     one_is : shape_known shapes (front_in fronts) (domain_in old.domains) (kept_at old.slots.items) (shape_of op) ≡ one
     one_is =
         ap (λ (of : ℕ → Domain). shape_known shapes (front_in fronts) of (kept_at old.slots.items) (shape_of op)) (domains_are old.domains known h.domains)
@@ -166,15 +144,15 @@ module _ (shapes : List SourceShape) (p : PlanValue) (valid : IsValid p) (typed 
         (inputs_kept p.ops n fronts b frs (typed.inputs n b))
         kept
 
-    -- the slots after it
+    -- the slots after operator n are those before it without its inputs, and its own
     slots_are : new.slots.items ≡ emptied old.slots.items (inputs_of op) ++ Some one ∷ []
     slots_are = more.slots ∙ ap (λ (k : Known). emptied old.slots.items (inputs_of op) ++ Some k ∷ []) one_is
 
-    -- as many slots as before
+    -- as many slots are left as operators stand before number n
     left_many : length (emptied old.slots.items (inputs_of op)) ≡ n
     left_many = length_emptied old.slots.items (inputs_of op) ∙ h.count
 
-    -- an operator before it that is still to be an input
+    -- an operator before number n that is still to be an input keeps its slot
     waits_before : (i : ℕ) → i < n → 1 ≤ uses_of (drop (suc n) p.ops) i → slice_get new.slots.items i ≡ Some (Some (known_at (known ++ one ∷ []) i))
     waits_before i l u =
         let once = used_once i l in
@@ -188,14 +166,14 @@ module _ (shapes : List SourceShape) (p : PlanValue) (valid : IsValid p) (typed 
         ∙ h.waiting i l (omega (arith, from, u))
         ∙ ap (λ (k : Known). Some (Some k)) (sym (get_or_append_left known (one ∷ []) no_known i (omega (arith, count, l))))
 
-    -- it itself
+    -- operator n has its slot
     waits_here : slice_get new.slots.items n ≡ Some (Some (known_at (known ++ one ∷ []) n))
     waits_here =
         ap (λ (ss : Slots). slice_get ss n) slots_are
         ∙ added_here (emptied old.slots.items (inputs_of op)) (Some one) n (sym left_many)
         ∙ ap (λ (k : Known). Some (Some k)) (sym (get_or_at known one [] no_known n are.count))
 
-    -- what is kept of one operator more
+    -- after operator n what is kept is that of the first n + 1 operators
     pub so_far_more : IsSoFar shapes p.ops (suc n) new
     so_far_more = record {
       domains = subst (λ (k : Known). AreDomains new.domains (known ++ k ∷ [])) one_is (more.domains known h.domains);

@@ -20,11 +20,11 @@ found_is (k ∷ known) v =
 pub domains_are : (ds : Domains) (known : List Known) → AreDomains ds known → domain_in ds ≡ domain_of known
 domains_are ds known h = fun_ext (λ v. ap found_or_value (h v) ∙ found_is known v)
 
--- the domain that one operator more gives a variable
+-- the domain that an operator gives a variable: its own where it binds the variable anew, else none
 abbrev own_domain : Known → ℕ → Option Domain
 own_domain k v = cond (binds k.out v) (Some k.domain) None
 
--- a variable that no operator before binds is the last one's
+-- with one operator more a variable has the domain that it had, or that of the last operator
 found_more : (known : List Known) (k : Known) (v : ℕ) → found_in (known ++ k ∷ []) v ≡ option_or (found_in known v) (own_domain k v)
 found_more [] k v = refl
 found_more (x ∷ known) k v =
@@ -33,7 +33,7 @@ found_more (x ∷ known) k v =
       | false ↦ found_more known k v
     ]
 
--- an operator more that binds a variable anew
+-- with an operator more that binds a variable anew, the map has what it binds where it had none
 pub bound_more : (old new : Domains) (known : List Known) (k : Known) (out : ℕ) → k.out ≡ Some out
     → ((v : ℕ) → get nat_cmp new.vars v ≡ option_or (get nat_cmp old.vars v) (cond (out == v) (Some k.domain) None)) → AreDomains old known → AreDomains new (known ++ k ∷ [])
 bound_more old new known k out e h are v =
@@ -42,12 +42,12 @@ bound_more old new known k out e h are v =
     ∙ ap (λ (d : Option Domain). option_or d (own_domain k v)) (are v)
     ∙ sym (found_more known k v)
 
--- nothing more is found where nothing is put after it
+-- a choice between an option and none is the option
 or_none : (d : Option Domain) → d ≡ option_or d None
 or_none None = refl
 or_none (Some d) = refl
 
--- an operator more that binds no variable anew
+-- with an operator more that binds no variable anew, the map stays
 pub unbound_more : (ds : Domains) (known : List Known) (k : Known) → k.out ≡ None → AreDomains ds known → AreDomains ds (known ++ k ∷ [])
 unbound_more ds known k e are v =
     are v
@@ -55,7 +55,7 @@ unbound_more ds known k e are v =
     ∙ ap (λ (o : Option ℕ). option_or (found_in known v) (cond (binds o v) (Some k.domain) None)) (sym e)
     ∙ sym (found_more known k v)
 
--- what follows holds where all went well too
+-- what follows from what holds on success holds on success
 pub on_ok : {A E P Q : Type 0} (r : Result A E) → (P → Q) → OnOk r P → OnOk r Q
 on_ok (Ok x) f h = f h
 on_ok (Err e) f h = tt

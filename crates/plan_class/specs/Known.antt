@@ -115,15 +115,15 @@ distinct_known keys vars input =
     cond (not (many input.profile.most) || covers keys input.keys) input.profile
     (cond (are_contiguous keys vars) (level_in input.levels (length (shared keys vars))) (first_kept input.profile))
 
--- the first bindings by keys
+-- what is known of the first bindings by keys
 abbrev pub kept_known : List Key → List ℕ → Known → Known
 kept_known keys vars input = known_with (distinct_known keys vars input) keys input.levels
 
--- the groups by keys, each with its list
+-- what is known of the groups by keys, each with its list
 abbrev pub grouped_known : List Key → List ℕ → ℕ → Known → Known
 grouped_known keys vars out input = binding out (value_domain (group_profile (are_contiguous keys vars) input.profile)) (kept_known keys vars input)
 
--- one group of all, with its list
+-- what is known of one group of all, with its list
 abbrev pub group_known : ℕ → Known → Known
 group_known out input = binding out (value_domain input.profile) (known_with one_binding [] (same_levels unbounded))
 

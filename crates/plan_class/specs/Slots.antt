@@ -20,7 +20,7 @@ slot_known (Some (Some k)) = k
 abbrev pub kept_at : List (Option Known) → ℕ → Known
 kept_at slots i = slot_known (slice_get slots i)
 
--- the slots, with those of some numbers emptied
+-- slots, with those of some numbers emptied
 abbrev pub emptied : List (Option Known) → List ℕ → List (Option Known)
 emptied slots [] = slots
 emptied slots (i ∷ is) = emptied (slice_set slots i None) is

@@ -1,5 +1,5 @@
 -- Fronts: variables by whose first ones the bindings of an operator that agree stand side by side.
-use Rattle.std.specs.Prelude.{◌≡◌, ◌<◌, ℕ, Bool, true, false, cond, ◌&&◌, None, List, [], ◌∷◌, ◌++◌, map, length, slice_index_or}
+use Rattle.std.specs.Prelude.{ℕ, Bool, true, false, cond, ◌&&◌, None, List, [], ◌∷◌, ◌++◌, map, slice_index_or}
 use Rattle.std.specs.List.{list_all, list_any}
 use Rattle.mix_tree.specs.Keys.{key_eq, stands}
 use Rattle.mix_tree.specs.declared.var.Key.{Key}

@@ -1,4 +1,4 @@
-use Rattle.std.proofs.Common.{◌≡◌, ◌∙◌, inl, inr, sym, ap}
+use Rattle.std.proofs.Common.{◌∙◌, inl, inr, sym, ap}
 use Rattle.plan_core.specs.declared.plan.Op.{Op}
 use Rattle.plan_core.specs.FrontsKept.{over_front}
 use Rattle.plan_core.specs.PlanMade.{op_of}
