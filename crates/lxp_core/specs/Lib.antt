@@ -1,4 +1,5 @@
 pub mod Causes
 pub mod Open
 pub mod Plain
+pub mod Small
 pub mod View

@@ -19,6 +19,8 @@ pub record View : Type 0 where
   pub weight : ℕ → HoleId → ℕ
   -- whether no list that a fill of a source answers begins with a hole
   pub forward : ℕ → Bool
+  -- whether each list that a fill of a source answers is small enough for a wire
+  pub small : ℕ → Bool
   -- how many fills were answered or failed
   pub fills : ℕ
   -- how often a source failed
@@ -34,6 +36,7 @@ pub record Keeps (old new : View) : Type 0 where
   pub root : (s : ℕ) → new.root s ≡ old.root s
   pub told : (s : ℕ) → new.told s ≡ old.told s
   pub forward : (s : ℕ) → new.forward s ≡ old.forward s
+  pub small : (s : ℕ) → new.small s ≡ old.small s
   pub knows : (s : ℕ) (h : HoleId) → old.knows s h ≡ true → new.knows s h ≡ true
   pub forest : (s : ℕ) (h : HoleId) → old.knows s h ≡ true → new.forest s h ≡ old.forest s h
   pub weight : (s : ℕ) (h : HoleId) → old.knows s h ≡ true → new.weight s h ≡ old.weight s h

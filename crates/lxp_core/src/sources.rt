@@ -3,6 +3,7 @@ ghost use Rattle.std.specs.Prelude.{◌≡◌, ◌+◌, ◌<◌, ◌≤◌, ◌�
 ghost use Rattle.mix_base.specs.Counts.{HasRisen};
 ghost use Rattle.lxp_core.specs.Open.{closed, weight_of, AllHoles, IsProgress, begins_with_hole};
 ghost use Rattle.lxp_core.specs.Plain.{plain};
+ghost use Rattle.lxp_core.specs.Small.{IsSmall};
 ghost use Rattle.lxp_core.specs.View.{View, Keeps};
 
 use crate::{HoleId, OpenTree, SourceFault};
@@ -41,6 +42,7 @@ pub trait Sources {
             weight_of ((view self.new).weight s) (plain list.items) ≤ (view self.old).weight s hole) }
         ensures forward { IfOk result (λ list.
             (view self.old).forward s ≡ true → begins_with_hole (plain list.items) ≡ false) }
+        ensures small { IfOk result (λ list. (view self.old).small s ≡ true → IsSmall (plain list.items)) }
         // How a fill changes the counts.
         ensures at_most_one { (view self.new).fills ≤ (view self.old).fills + 1 }
         ensures counted { OnOk result (HasRisen (view self.old).fills (view self.new).fills) }

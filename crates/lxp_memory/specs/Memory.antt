@@ -21,6 +21,7 @@ memory_view m = record {
   forest = λ s h. span_trees (nodes_at m.docs.items s) (hole_span h);
   weight = λ s h. nodes_of (span_trees (nodes_at m.docs.items s) (hole_span h));
   forward = λ s. m.forward;
+  small = λ s. false;
   fills = m.fills;
   faults = slice_index m.faults.items;
 }

@@ -44,6 +44,7 @@ came_keeps a b x = record {
   root = λ s. refl;
   told = λ s. refl;
   forward = λ s. x.forward;
+  small = λ s. refl;
   knows = λ s h k. ap (λ docs. has_span (nodes_at docs s) (hole_span h)) x.docs ∙ k;
   forest = λ s h k. ap (λ docs. span_trees (nodes_at docs s) (hole_span h)) x.docs;
   weight = λ s h k. ap (λ docs. nodes_of (span_trees (nodes_at docs s) (hole_span h))) x.docs;

@@ -114,6 +114,7 @@ impl Sources for MemSources {
     ghost use Rattle.mix_base.specs.Counts.{HasRisen};
     ghost use Rattle.lxp_core.specs.Open.{closed, weight_of, AllHoles, IsProgress, begins_with_hole};
     ghost use Rattle.lxp_core.specs.Plain.{plain};
+    ghost use Rattle.lxp_core.specs.Small.{IsSmall};
     ghost use Rattle.lxp_memory.specs.Choice.{turn_after};
     ghost use Rattle.lxp_memory.specs.Memory.{memory_view, CameFrom, fails_next, choices_of, turn_of, next_list};
     ghost use Rattle.lxp_memory.specs.MemoryLaws.{came_same, came_after, came_keeps, root_is_known};
@@ -142,6 +143,7 @@ impl Sources for MemSources {
             weight_of ((memory_view self.new).weight s) (plain list.items) ≤ (memory_view self.old).weight s hole) }
         ensures forward { IfOk result (λ list.
             (memory_view self.old).forward s ≡ true → begins_with_hole (plain list.items) ≡ false) }
+        ensures small { IfOk result (λ list. (memory_view self.old).small s ≡ true → IsSmall (plain list.items)) }
         ensures list { IfOk result (λ list. plain list.items ≡ next_list self.old s hole) }
         // How a fill changes the counts.
         ensures at_most_one { (memory_view self.new).fills ≤ (memory_view self.old).fills + 1 }
