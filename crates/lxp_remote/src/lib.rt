@@ -1,0 +1,16 @@
+//! What is kept of sources behind a link: the holes that came and their weights, and the rules that a list must keep.
+#![tactic(auto)]
+
+mod fault;
+mod known;
+mod learning;
+mod opening;
+mod peer;
+mod rules;
+
+pub use fault::{Broken, RemoteFault, RemoteRefused, WireFault};
+pub use known::KnownHoles;
+pub use learning::{Unlearned, learn};
+pub use opening::open_list;
+pub use peer::Peer;
+pub use rules::{broken_rule, told_lists_keep_rules};

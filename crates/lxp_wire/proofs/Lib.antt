@@ -1,0 +1,4 @@
+pub mod Carried
+pub mod Replied
+pub mod Served
+pub mod Streams

@@ -1,0 +1,12 @@
+pub mod Answered
+pub mod Asked
+pub mod Built
+pub mod Ended
+pub mod Judged
+pub mod Letters
+pub mod Scans
+pub mod Shallow
+pub mod Tags
+pub mod Told
+pub mod Trees
+pub mod Widths

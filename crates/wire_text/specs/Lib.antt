@@ -1,0 +1,11 @@
+pub mod Building
+pub mod Bytes
+pub mod Characters
+pub mod Heads
+pub mod Plain
+pub mod Reading
+pub mod Replies
+pub mod Reply
+pub mod Request
+pub mod Sized
+pub mod Wired
