@@ -1,2 +1,3 @@
 pub mod Learnt
 pub mod Ruled
+pub mod Unread

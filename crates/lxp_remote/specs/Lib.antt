@@ -1,4 +1,5 @@
 pub mod Causes
+pub mod Faults
 pub mod Known
 pub mod Learned
 pub mod Rules

@@ -1,6 +1,7 @@
 //! What is kept of sources behind a link: the holes that came and their weights, and the rules that a list must keep.
 #![tactic(auto)]
 
+mod asking;
 mod fault;
 mod known;
 mod learning;
@@ -8,6 +9,7 @@ mod opening;
 mod peer;
 mod rules;
 
+pub use asking::{ask_list, ask_reply};
 pub use fault::{Broken, RemoteFault, RemoteRefused, WireFault};
 pub use known::KnownHoles;
 pub use learning::{Unlearned, learn};

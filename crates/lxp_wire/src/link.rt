@@ -37,10 +37,10 @@ pub trait Link {
         ensures last { IfOk result (λ reply. (view self.new).last ≡ reply.items) }
         ensures failed { IsErrOf result LinkFault.Failed → HasRisen (view self.old).faults (view self.new).faults }
         // Over a link that tells its sources.
-        ensures answers { (r : Asked) → SpellsRequest request.now r → (view self.old).told ≡ true
-            → IfOk result (λ reply. IsReplyOf (view self.old).peer (view self.new).peer r reply.items) }
-        ensures fills { (r : Asked) → SpellsRequest request.now r → (view self.old).told ≡ true
-            → (view self.new).peer.fills ≤ (view self.old).peer.fills + fills_of r };
+        ensures answers { let old = view self.old in (r : Asked) → SpellsRequest request.now r → old.told ≡ true
+            → IfOk result (λ reply. IsReplyOf old.peer (view self.new).peer r reply.items) }
+        ensures fills { let old = view self.old in (r : Asked) → SpellsRequest request.now r → old.told ≡ true
+            → (view self.new).peer.fills ≤ old.peer.fills + fills_of r };
 
     /// A state came from itself.
     ghost same: { (a : Self) → came_from a a };

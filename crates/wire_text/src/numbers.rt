@@ -33,7 +33,8 @@ pub fn push_u128(out: &mut Vec<u8>, n: u128) -> Result<(), AllocError>
 
 /// Writes a hole's words behind what `out` holds.
 pub fn push_words(out: &mut Vec<u8>, hole: HoleId) -> Result<(), AllocError>
-    ensures { OnOk result (out.new.items ≡ out.old.items ++ words_bytes hole) }
+    ensures words { OnOk result (out.new.items ≡ out.old.items ++ words_bytes hole) }
+    ensures hole { OnOk result (IsHole hole) }
 {
     let [first, second, third] = hole.words;
     push_u64(out, first)?;

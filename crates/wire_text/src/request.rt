@@ -1,6 +1,6 @@
 // What is asked over a wire.
 ghost use Rattle.std.specs.Prelude.{◌≡◌, ◌∷◌, IfOk};
-ghost use Rattle.wire_text.specs.Request.{request_bytes, ReadsRequest, RequestsAreApart};
+ghost use Rattle.wire_text.specs.Request.{SpellsRequest, ReadsRequest, RequestsAreApart};
 
 use crate::numbers::{push_u32, push_words, u32_at, words_at};
 use lxp_core::HoleId;
@@ -30,7 +30,7 @@ pub enum RequestRead {
 
 /// The bytes of a request.
 pub fn write_request(alloc: Global, r: &Request) -> Result<Vec<u8>, AllocError>
-    ensures { IfOk result (λ text. text.items ≡ request_bytes r.now) }
+    ensures { IfOk result (λ text. SpellsRequest text.items r.now) }
 {
     let mut text = Vec::new(alloc);
     match r {
