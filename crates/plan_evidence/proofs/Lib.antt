@@ -1,0 +1,12 @@
+pub mod Aparts
+pub mod Evidences
+pub mod Evident
+pub mod Found
+pub mod HeldApart
+pub mod HeldSteps
+pub mod NamedOnce
+pub mod NodeValues
+pub mod Once
+pub mod Rights
+pub mod Somes
+pub mod Ways
