@@ -1,3 +1,4 @@
 pub mod Learnt
 pub mod Ruled
+pub mod Taken
 pub mod Unread

@@ -42,6 +42,10 @@ pub record Asked : Type 0 where
   pub weight : ℕ
   pub known : HoleId → Option ℕ
 
+-- this was asked, of a hole that weighs so much, where these holes are known
+abbrev pub asking : Request → ℕ → (HoleId → Option ℕ) → Asked
+asking r weight known = record { request = r; weight = weight; known = known }
+
 -- the list keeps progress and is no heavier than the hole
 abbrev pub IsLightEnough : Asked → Wired → Type 0
 IsLightEnough a o = IsProgress (without_weights o) × (total_of o ≤ a.weight)

@@ -3,3 +3,4 @@ pub mod Faults
 pub mod Known
 pub mod Learned
 pub mod Rules
+pub mod Taken

@@ -83,6 +83,7 @@ fn learn_list(root: &Hole, known: &mut KnownHoles, trees: &[WireTree]) -> Result
 pub fn learn(root: &Hole, known: &mut KnownHoles, trees: &[WireTree]) -> Result<(), Unlearned>
     ensures learned { OnOk result (Learns (weights root.now known.old) (weights root.now known.new) (holes_of (plain trees.now))) }
     ensures changed { IsErrOf result Unlearned.Changed → IsChanged (weights root.now known.old) (holes_of (plain trees.now)) }
+    ensures front { take (length known.old) known.new ≡ known.old }
     ensures kept { OnErr result (known.new ≡ known.old) }
 {
     let count = known.len();

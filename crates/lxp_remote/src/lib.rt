@@ -8,6 +8,7 @@ mod learning;
 mod opening;
 mod peer;
 mod rules;
+mod taking;
 
 pub use asking::{ask_list, ask_reply};
 pub use fault::{Broken, RemoteFault, RemoteRefused, WireFault};
@@ -16,3 +17,4 @@ pub use learning::{Unlearned, learn};
 pub use opening::open_list;
 pub use peer::Peer;
 pub use rules::{broken_rule, told_lists_keep_rules};
+pub use taking::take_list;

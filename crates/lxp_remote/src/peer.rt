@@ -1,11 +1,23 @@
 // What is kept of one source behind a link.
-ghost use Rattle.std.specs.Prelude.{◌≡◌};
+ghost use Rattle.std.specs.Prelude.{◌≡◌, ◌⊎◌, ◌+◌, ◌≤◌, true, IfOk, IfErr, OnErr};
+ghost use Rattle.mix_base.specs.Counts.{HasRisen};
+ghost use Rattle.lxp_core.specs.Plain.{plain as open_plain};
+ghost use Rattle.wire_text.specs.declared.request.Request.TheVariants.{Fill};
+ghost use Rattle.lxp_remote.specs.declared.fault.RemoteFault.TheVariants.{Wire};
+ghost use Rattle.lxp_remote.specs.declared.fault.WireFault.{WireFault as Cause};
+ghost use Rattle.lxp_remote.specs.declared.fault.WireFault.TheVariants.{Link as OfLink, PeerFailed};
+ghost use Rattle.lxp_remote.specs.Causes.{HasCome, asking};
 ghost use Rattle.lxp_remote.specs.Learned.{weights};
+ghost use Rattle.lxp_remote.specs.Taken.{IsTaken, AreKnownThere};
 
-use crate::WireFault;
+use crate::asking::ask_list;
+use crate::fault::{RemoteFault, WireFault};
 use crate::known::KnownHoles;
 use crate::learning::known_weight;
-use lxp_core::HoleId;
+use crate::taking::take_list;
+use lxp_core::{HoleId, OpenTree};
+use lxp_wire::Link;
+use std::alloc::Global;
 use wire_text::Hole;
 
 /// What is kept of one source behind a link: its root, the other holes that came, and how often and why it failed.
@@ -23,5 +35,34 @@ impl Peer {
         ensures { result ≡ weights self.now.root self.now.known hole }
     {
         known_weight(&self.root, &self.known, hole)
+    }
+
+    /// Asks the link for the list of a hole of this weight, and learns its holes. After an error all is as before but the link. Where the
+    /// link tells its sources, and the holes are known by their weights there, only the link or the source fails.
+    pub fn take<L: Link>(
+        &mut self,
+        alloc: Global,
+        link: &mut L,
+        source: u32,
+        hole: Hole,
+    ) -> Result<Vec<OpenTree>, RemoteFault>
+        ensures came { L.came_from link.old link.new }
+        ensures fills { let old = L.view link.old in old.told ≡ true → (L.view link.new).peer.fills ≤ old.peer.fills + 1 }
+        ensures taken { let known = weights self.old.root self.old.known in let known' = weights self.new.root self.new.known in IfOk result
+            (λ list. IsTaken source hole.id hole.weight (L.view link.old) (L.view link.new) known known' (open_plain list.items)) }
+        ensures cause { let asked = asking (Fill source hole.id) hole.weight (weights self.old.root self.old.known) in
+            IfErr result (λ e. (fault : Cause) → e ≡ Wire fault → HasCome asked (L.view link.old) (L.view link.new) fault) }
+        ensures told { let old = L.view link.old in let known = weights self.old.root self.old.known in
+            IfErr result (λ e. (fault : Cause) → e ≡ Wire fault → old.told ≡ true → AreKnownThere old source hole.id hole.weight known
+            → (fault ≡ OfLink) ⊎ ((fault ≡ PeerFailed) × HasRisen (old.peer.faults source) ((L.view link.new).peer.faults source))) }
+        ensures root { self.new.root ≡ self.old.root }
+        ensures faults { (self.new.faults ≡ self.old.faults) × (self.new.last ≡ self.old.last) }
+        ensures kept { OnErr result (self.new ≡ self.old) }
+    {
+        let trees = match ask_list(alloc, link, source, hole.id) {
+            Ok(trees) => trees,
+            Err(fault) => return Err(fault),
+        };
+        take_list(alloc, &self.root, &mut self.known, trees, hole.weight)
     }
 }
