@@ -30,12 +30,6 @@ IsOfAnother (Fill s h) (count n) = Unit {0}
 IsOfAnother (Fill s h) (root id weight) = Unit {0}
 IsOfAnother (Fill s h) (list o) = ⊥
 
--- the request asks for no list
-abbrev pub IsNoFill : Request → Type 0
-IsNoFill Count = Unit {0}
-IsNoFill (Root s) = Unit {0}
-IsNoFill (Fill s h) = ⊥
-
 -- what was asked, what the asked hole weighs, and what the holes are known to weigh
 pub record Asked : Type 0 where
   pub request : Request
@@ -79,11 +73,3 @@ HasCome a old new (BadFragment b) = HasRisen old.replies new.replies × Shows a 
 HasCome a old new PeerFailed = HasRisen old.replies new.replies × Shows a PeerFailed new.last
 HasCome a old new PeerUnknown = HasRisen old.replies new.replies × Shows a PeerUnknown new.last
 HasCome a old new PeerNoSource = HasRisen old.replies new.replies × Shows a PeerNoSource new.last
-
--- the cause is the link's
-abbrev pub IsOfLink : WireFault → Type 0
-IsOfLink fault = fault ≡ Link
-
--- what is asked for when remote sources are opened: how many they are, and roots; no hole is known before
-abbrev pub IsOpening : (Asked → Type 0) → Type 0
-IsOpening Has = (r : Request) × IsNoFill r × Has (record { request = r; weight = 0; known = λ h. None })

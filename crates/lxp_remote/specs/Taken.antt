@@ -9,6 +9,9 @@ use Rattle.wire_text.specs.Reply.{list}
 use Rattle.wire_text.specs.Wired.{Wired, holes_of, without_weights}
 use Rattle.lxp_wire.specs.Answer.{IsAnswer}
 use Rattle.lxp_wire.specs.Links.{LinkView}
+use Rattle.lxp_remote.specs.declared.fault.WireFault.{WireFault}
+use Rattle.lxp_remote.specs.declared.fault.WireFault.TheVariants.{Link, PeerFailed}
+use Rattle.lxp_remote.specs.Causes.{HasCome, asking}
 use Rattle.lxp_remote.specs.Learned.{Learns}
 use Rattle.lxp_remote.specs.Rules.{KeepsRules}
 
@@ -27,3 +30,8 @@ pub record AreKnownThere (v : LinkView) (s : ℕ) (h : HoleId) (weight : ℕ) (k
   pub there : v.peer.knows s h ≡ true
   pub same : weight ≡ v.peer.weight s h
   pub weights : (i : HoleId) (n : ℕ) → known i ≡ Some n → (v.peer.knows s i ≡ true) × (n ≡ v.peer.weight s i)
+
+-- a fill failed for the cause that is named, which has come; over a link that tells its sources it is the link, or the source failed
+abbrev pub HasFailed : ℕ → HoleId → LinkView → LinkView → (HoleId → Option ℕ) → Option WireFault → Type 0
+HasFailed s h old new known last = (fault : WireFault) × (n : ℕ) × (last ≡ Some fault) × (known h ≡ Some n) × HasCome (asking (Fill s h) n known) old new fault
+    × (old.told ≡ true → AreKnownThere old s h n known → (fault ≡ Link) ⊎ ((fault ≡ PeerFailed) × HasRisen (old.peer.faults s) (new.peer.faults s)))

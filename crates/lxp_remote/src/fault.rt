@@ -47,18 +47,13 @@ pub enum WireFault {
     PeerNoSource,
 }
 
-/// Why remote sources were not opened.
+/// Why a link gave no list.
 #[derive(Clone, Copy, Debug, PartialEq, Eq, Error)]
 pub enum RemoteFault {
+    /// The link failed, or its reply shows the cause.
     #[error("{0}")]
     Wire(WireFault),
+    /// Memory ran out.
     #[error("memory ran out")]
     OutOfMemory,
-}
-
-/// Remote sources were not opened; the link comes back.
-#[derive(Drop)]
-pub struct RemoteRefused<L> {
-    pub fault: RemoteFault,
-    pub link: L,
 }

@@ -1,4 +1,4 @@
-//! What is kept of sources behind a link: the holes that came and their weights, and the rules that a list must keep.
+//! A source behind a link: what is kept of it, and its fills.
 #![tactic(auto)]
 
 mod asking;
@@ -10,11 +10,9 @@ mod peer;
 mod rules;
 mod taking;
 
-pub use asking::{ask_list, ask_reply};
-pub use fault::{Broken, RemoteFault, RemoteRefused, WireFault};
+pub use fault::{Broken, WireFault};
 pub use known::KnownHoles;
 pub use learning::{Unlearned, learn};
 pub use opening::open_list;
 pub use peer::Peer;
 pub use rules::{broken_rule, told_lists_keep_rules};
-pub use taking::take_list;
