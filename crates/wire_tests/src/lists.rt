@@ -94,7 +94,8 @@ fn hole_text(text: &mut Vec<u8>, word: u8, weight: u8) -> Result<(), AllocError>
     text.extend_from_slice(&[0; 23])?;
     text.push(word)?;
     text.extend_from_slice(&[0; 15])?;
-    text.push(weight)
+    text.push(weight)?;
+    Ok(())
 }
 
 #[test]
