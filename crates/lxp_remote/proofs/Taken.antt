@@ -1,5 +1,5 @@
 -- What taking a list comes to, and that one of told sources is taken unless memory runs out.
-use Rattle.std.proofs.Common.{◌≡◌, ◌⊎◌, ℕ, List, true, sym, subst, ◌∙◌}
+use Rattle.std.proofs.Common.{◌≡◌, ℕ, List, true, sym, subst, ◌∙◌}
 use Rattle.std.specs.Prelude.{Option, Result, Ok, Err, IfOk, IfErr, OnOk}
 use Rattle.mix_base.specs.Counts.{HasRisen}
 use Rattle.lxp_core.specs.declared.open_tree.HoleId.{HoleId}

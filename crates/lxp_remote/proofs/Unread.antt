@@ -1,5 +1,5 @@
 -- What the reply of a link shows, and what it is where the link tells its sources.
-use Rattle.std.proofs.Common.{◌≡◌, ℕ, ◌+◌, List, ◌++◌, take, drop, sym, subst}
+use Rattle.std.proofs.Common.{◌≡◌, ℕ, ◌+◌, List, drop, sym, subst}
 use Rattle.std.specs.Prelude.{Ok, Err}
 use Rattle.std.proofs.lemmas.List.{take-append-drop}
 use Rattle.mix_base.specs.Counts.{HasRisen}
