@@ -1,6 +1,8 @@
 -- How far a call has come: what is still ahead, and what it has cost.
 use Rattle.std.proofs.Common.{◌≡◌, ◌<◌, ◌≤◌, ◌+◌, ◌*◌, ℕ, suc, List, Option, Some, None, refl, ◌∙◌, sym, subst, arith}
-use Rattle.std.specs.Prelude.{IsTrue, Result, IfOk}
+use Rattle.std.specs.Prelude.{IsTrue, Result, IfOk, option_map}
+use Rattle.std.specs.declared.alloc.Global.{Global}
+use Rattle.std.specs.declared.rc.Rc.{Rc}
 use Rattle.std.proofs.lemmas.Nat.{mul-le}
 use Rattle.std.proofs.lemmas.Result.{IfOk-weaker}
 use Rattle.mix_base.specs.Events.{nothing, found, cost}
@@ -21,7 +23,7 @@ use Rattle.lazy_binding.specs.Cursors.{ahead, stands, weighs, IsIn, IsOf}
 use Rattle.lazy_binding.specs.Reading.{below}
 use Rattle.lazy_binding.specs.Keeping.{Keeps}
 use Rattle.lazy_binding.specs.Parts.{operators, world_of}
-use Rattle.lazy_steps.specs.Steps.{single, telling, IsUntouched, KeepsAbove, positions, outcome, Asks, Moves, Steps, Ran, CanStep, StepsIn, StepsFrom}
+use Rattle.lazy_steps.specs.Steps.{single, telling, IsUntouched, KeepsAbove, positions, outcome, Asks, Moves, Steps, Ran, CanStep, StepsIn, StepsFrom, Gives, Led, Advanced}
 use Rattle.lazy_binding.proofs.Keep.{told-kept, forward-kept, keeps_same, keeps_then}
 
 -- a number is at most itself
@@ -90,6 +92,11 @@ pub goes_given : {a b : World} (c : World) {ops : List Operator} {n : ℕ} {whol
 goes_given c g f None h = comes_none g.comes h
 goes_given c g f (Some d) h = comes_at g.comes h
 
+-- what a walk over the events ahead came to
+pub goes_gives : {a b : World} (c : World) {ops : List Operator} {n : ℕ} {whole now : RowEvents} {top num : ℕ} → Goes a b ops n whole now top num → (f : Shape) (r : Result (Option (Rc Position Global)) WalkFault)
+    → IfOk r (Gives b c ops n f now num) → IfOk r (Gives a c ops n f whole top)
+goes_gives c g f r h = IfOk-weaker r _ _ (λ x m. goes_given c g f (option_map (λ d. d.value) x) m) h
+
 -- the bound of a product by its first factor
 pub less_times : (x y r s : ℕ) → x < y → r ≤ s → x * suc s + r < y * suc s
 less_times x y r s h k = omega (arith, mul-le (suc x) (suc s) y (suc s) h (le_same (suc s)))
@@ -149,6 +156,25 @@ pub placed : {S : Type 0} {view : S → View} {came_from : S → S → Type 0} {
     (c d : Position) → c ≡ d → (f : Shape) → shape_at (operators p) n ≡ f → StepsIn view came_from p n f d s g s' g' result → StepsFrom view came_from p n c s g s' g' result
 placed {view} {came_from} {p} {n} {s} {g} {s'} {g'} {result} c d e f is h =
     shaped c f is (subst (λ (z : Position). StepsIn view came_from p n f z s g s' g' result) (sym e) h)
+
+-- a walk in the shape of its operator is one of the operator
+pub led : {S : Type 0} {view : S → View} {came_from : S → S → Type 0} {p : Fixed} {n : ℕ} {s : S} {g : Growing} {s' : S} {g' : Growing} {result : Result (Option (Rc Position Global)) WalkFault}
+    (c : Position) (f : Shape) → shape_at (operators p) n ≡ f
+    → Led view came_from p n f (stands (world_of (view s) g) (operators p) n f c).ahead (weighs (world_of (view s) g) (operators p) n f c) s g s' g' result
+    → Advanced view came_from p n c s g s' g' result
+led {S} {view} {came_from} {p} {n} {s} {g} {s'} {g'} {result} c f is h =
+    let w = world_of (view s) g in
+    let k = subst (λ (z : Shape). Led view came_from p n z (stands w (operators p) n z c).ahead (weighs w (operators p) n z c) s g s' g' result) (sym is) h in
+    record { ran = k.ran; cause = k.cause; answer = k.answer }
+
+-- a walk from a position in its own words
+pub led_at : {S : Type 0} {view : S → View} {came_from : S → S → Type 0} {p : Fixed} {n : ℕ} {s : S} {g : Growing} {s' : S} {g' : Growing} {result : Result (Option (Rc Position Global)) WalkFault}
+    (c d : Position) → c ≡ d → (f : Shape) → shape_at (operators p) n ≡ f
+    → Led view came_from p n f (stands (world_of (view s) g) (operators p) n f d).ahead (weighs (world_of (view s) g) (operators p) n f d) s g s' g' result
+    → Advanced view came_from p n c s g s' g' result
+led_at {S} {view} {came_from} {p} {n} {s} {g} {s'} {g'} {result} c d e f is h =
+    let w = world_of (view s) g in
+    led c f is (subst (λ (z : Position). Led view came_from p n f (stands w (operators p) n f z).ahead (weighs w (operators p) n f z) s g s' g' result) (sym e) h)
 
 -- a position that is given in other words is the same position
 pub in_place : {v : View} {g : Growing} {p : Fixed} {n : ℕ} {c : Position} → CanStep v g p n c → (f : Shape) → shape_at (operators p) n ≡ f → (d : Position) → c ≡ d → IsIn (world_of v g) (operators p) n f d

@@ -2,6 +2,8 @@
 use Rattle.std.proofs.Common.{◌≡◌, ◌<◌, ℕ, true, false, List, [], Some, None, length, get_or, ◌∙◌, sym, ap, subst}
 use Rattle.std.specs.Prelude.{IsTrue, slice_index_or}
 use Rattle.std.specs.List.{AllByRecursion}
+use Rattle.std.specs.declared.alloc.Global.{Global}
+use Rattle.std.specs.declared.rc.Rc.{Rc}
 use Rattle.lazy_descend.specs.Searches.{FindsNone}
 use Rattle.lxp_core.specs.View.{View}
 use Rattle.plan_core.specs.Plans.{Operator}
@@ -138,8 +140,8 @@ module _ {v : View} {g : Growing} (k : Gather) (c : Position) (can : CanWalk v g
     whole = whole_ahead (operators k.walk.fixed.now) k.walk.op k.input k.keys.now is.0 old c
 
     -- where the next group is there, the step finds it
-    pub step_found : (d : Position) → IsNextGroup (gathered_at b k.walk.op) (count_of c) (Some d)
-        → Finds old b (operators k.walk.fixed.now) k.walk.op (group_shape k is) whole (weighs old (operators k.walk.fixed.now) k.walk.op (group_shape k is) c) d
+    pub step_found : (d : Rc Position Global) → IsNextGroup (gathered_at b k.walk.op) (count_of c) (Some d)
+        → Finds old b (operators k.walk.fixed.now) k.walk.op (group_shape k is) whole (weighs old (operators k.walk.fixed.now) k.walk.op (group_shape k is) c) d.value
     step_found d next =
         subst (Finds old b (operators k.walk.fixed.now) k.walk.op (group_shape k is) whole (weighs old (operators k.walk.fixed.now) k.walk.op (group_shape k is) c)) (sym next.3)
         (group_found (operators k.walk.fixed.now) k.walk.op k.input k.keys.now is.0 can.fixed.typed can.op is.1 is.2 old can.bench c at b late come.1 next.0 next.2 next.1)

@@ -23,3 +23,4 @@ pub mod SeenPlaces
 pub mod Shapes
 pub mod Singles
 pub mod VisitSteps
+pub mod Ways

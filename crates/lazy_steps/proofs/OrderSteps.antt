@@ -1,5 +1,5 @@
--- A step of an orderBy.
-use Rattle.std.proofs.Common.{◌≡◌, ◌<◌, ◌≤◌, ◌+◌, ℕ, suc, Bool, true, false, cond, List, [], ◌∷◌, ◌++◌, append_assoc, map, length, length-append, drop, refl, Some, ◌∙◌, sym, ap, subst, arith}
+-- The bindings of an orderBy.
+use Rattle.std.proofs.Common.{◌≡◌, ◌<◌, ◌≤◌, ◌+◌, ℕ, suc, Bool, true, false, cond, List, [], ◌∷◌, ◌++◌, append_assoc, map, length, length-append, drop, refl, Option, Some, None, ◌∙◌, sym, ap, subst, arith}
 use Rattle.std.specs.Prelude.{IsTrue}
 use Rattle.std.specs.List.{AllByRecursion}
 use Rattle.std.specs.Cmp.{IsStrictWeakOrder}
@@ -27,8 +27,6 @@ use Rattle.lazy_binding.specs.declared.labelled.Labelled.{Labelled}
 use Rattle.lazy_binding.specs.declared.parts.Growing.{Growing}
 use Rattle.lazy_binding.specs.declared.position.Position.{Position, Start, Sorted'}
 use Rattle.lazy_binding.specs.declared.position.Position.TheVariants.{Sorted}
-use Rattle.lazy_steps.specs.declared.step.Step.{Step}
-use Rattle.lazy_steps.specs.declared.step.Step.TheVariants.{Done, At, On}
 use Rattle.lazy_binding.specs.Bench.{IsBench}
 use Rattle.lazy_binding.specs.World.{World, docs_of, is_told, is_forward}
 use Rattle.lazy_binding.specs.Cursors.{stands, weighs, binding, ahead, number, size, has_row, IsIn, IsOf}
@@ -36,7 +34,7 @@ use Rattle.lazy_binding.specs.Keeping.{Keeps}
 use Rattle.lazy_steps.specs.Orders.{IsGiven, AreGiven, rows_of, IsSortedAt, AreAll, RanThrough}
 use Rattle.lazy_binding.specs.SortedLists.{sorts, ArePositions, bindings_at, by_label}
 use Rattle.lazy_binding.specs.Parts.{world_of}
-use Rattle.lazy_steps.specs.Steps.{single, Asks, Finds, Steps, Ran, telling, KeepsAbove}
+use Rattle.lazy_steps.specs.Steps.{single, Asks, Finds, Gives, Ran, telling, KeepsAbove}
 use Rattle.lazy_steps.proofs.Goes.{tells_on, untouched_then}
 use Rattle.lazy_binding.proofs.Keep.{told-kept, docs_kept, keeps_same, keeps_then}
 use Rattle.lazy_steps.proofs.Shapes.{events_at, size_at, single_at}
@@ -211,7 +209,7 @@ places_rows w ops i [] = refl
 places_rows w ops i (x ∷ rows) = ap (λ (rs : List TolledRow). binding w ops i x.place.value ∷ rs) (places_rows w ops i rows)
 
 module _ (a b : World) (ops : List Operator) (n i v : ℕ) (desc : Bool) where
-  -- the position at an index of a sorted list, as a step comes to it
+  -- the position at an index of a sorted list stands at the binding there
   sorted_finds : (list : Rc (Vec (Rc Position Global) Global) Global) (k : ℕ) → k < length list.value.items → ArePositions b ops i list.value.items → length list.value.items ≤ size b ops n
       → (es : RowEvents) (top : ℕ) → (IsTrue (is_told a ops) → found es ≡ found (map bind (drop k (bindings_at b ops i list.value.items)))) → length list.value.items ≤ top + k
       → Finds a b ops n (sorts i v desc) es top (Sorted list k)
@@ -226,11 +224,11 @@ module _ (a b : World) (ops : List Operator) (n i v : ℕ) (desc : Bool) where
       }
 
   module _ (list : Vec (Rc Position Global) Global) (given : ArePositions b ops i list.items) (few : length list.items ≤ size b ops n) where
-    -- what stands at an index of a sorted list, as a step comes to it
-    pub sorted_steps : (es : RowEvents) (top k : ℕ) (r : Step) → IsSortedAt list k r → (IsTrue (is_told a ops) → found es ≡ found (map bind (drop k (bindings_at b ops i list.items))))
-        → length list.items ≤ top + k → Steps a b ops n (sorts i v desc) es top r
-    sorted_steps es top k Done h same l = λ t. same t ∙ found_past (bindings_at b ops i list.items) k (let m = length-map list.items (λ (x : Rc Position Global). binding b ops i x.value) in omega (arith, m, h))
-    sorted_steps es top k (At d) h same l =
+    -- what stands at an index of a sorted list is the first binding from there on
+    pub sorted_steps : (es : RowEvents) (top k : ℕ) (r : Option (Rc Position Global)) → IsSortedAt list k r → (IsTrue (is_told a ops) → found es ≡ found (map bind (drop k (bindings_at b ops i list.items))))
+        → length list.items ≤ top + k → Gives a b ops n (sorts i v desc) es top r
+    sorted_steps es top k None h same l = λ t. same t ∙ found_past (bindings_at b ops i list.items) k (let m = length-map list.items (λ (x : Rc Position Global). binding b ops i x.value) in omega (arith, m, h))
+    sorted_steps es top k (Some d) h same l =
         let e : h.1.0.value ≡ list = h.1.1 in
         subst (λ (p : Position). Finds a b ops n (sorts i v desc) es top p) (sym h.1.2) (
         sorted_finds h.1.0 k (subst (λ (z : Vec (Rc Position Global) Global). k < length z.items) (sym e) h.0) (subst (λ (z : Vec (Rc Position Global) Global). ArePositions b ops i z.items) (sym e) given)
@@ -238,11 +236,10 @@ module _ (a b : World) (ops : List Operator) (n i v : ℕ) (desc : Bool) where
         (λ t. same t ∙ ap (λ (z : Vec (Rc Position Global) Global). found (map bind (drop k (bindings_at b ops i z.items)))) (sym e))
         (subst (λ (z : Vec (Rc Position Global) Global). length z.items ≤ top + k) (sym e) l)
         )
-    sorted_steps es top k (On d) h same l = absurd h
 
--- the position after one of a sorted list, as a step comes to it
-pub order_next : (w : World) (ops : List Operator) (n i v : ℕ) (desc : Bool) (list : Rc (Vec (Rc Position Global) Global) Global) (k : ℕ) → IsIn w ops n (sorts i v desc) (Sorted list k) → (r : Step)
-    → IsSortedAt list.value (k + 1) r → Steps w w ops n (sorts i v desc) (stands w ops n (sorts i v desc) (Sorted list k)).ahead (weighs w ops n (sorts i v desc) (Sorted list k)) r
+-- the position after one of a sorted list stands at the next binding
+pub order_next : (w : World) (ops : List Operator) (n i v : ℕ) (desc : Bool) (list : Rc (Vec (Rc Position Global) Global) Global) (k : ℕ) → IsIn w ops n (sorts i v desc) (Sorted list k) → (r : Option (Rc Position Global))
+    → IsSortedAt list.value (k + 1) r → Gives w w ops n (sorts i v desc) (stands w ops n (sorts i v desc) (Sorted list k)).ahead (weighs w ops n (sorts i v desc) (Sorted list k)) r
 order_next w ops n i v desc list k of r h =
     let c = list_count list k in
     let one : k + 1 ≡ suc k = omega arith in
@@ -324,8 +321,8 @@ module _ (ops : List Operator) (typed : IsTyped ops) (n : ℕ) (within : n < len
       list_rows_are : bindings_at b ops i list.items ≡ rows_of b ops i sorted
       list_rows_are = ap (bindings_at b ops i) places ∙ places_rows b ops i sorted
 
-      -- the first step of an orderBy comes to the first position of the sorted list, or to the end
-      pub order_first : (r : Step) → IsSortedAt list 0 r → Steps a b ops n (sorts i v desc) (events (docs_of a) ops n) (size a ops n) r
+      -- the first binding of an orderBy is that of the first position of the sorted list
+      pub order_first : (r : Option (Rc Position Global)) → IsSortedAt list 0 r → Gives a b ops n (sorts i v desc) (events (docs_of a) ops n) (size a ops n) r
       order_first r h =
           let given = subst (ArePositions b ops i) (sym places) (places_given b ops i v sorted sorted_given) in
           let m = ap length places ∙ length-map sorted (λ (x : Labelled). x.place) in

@@ -1,6 +1,8 @@
--- A step of a getDescendants: the next match of the visit at hand, or the visit of the next binding of the input.
+-- The bindings of a getDescendants: the next match of the visit at hand, or the visit of the next binding of the input.
 use Rattle.std.proofs.Common.{◌≡◌, ◌<◌, ◌≤◌, ◌+◌, ◌*◌, ℕ, suc, true, false, List, [], ◌++◌, Option, Some, None, length, refl, ◌∙◌, sym, ap, subst, arith}
-use Rattle.std.specs.Prelude.{IsTrue, Result, IfOk}
+use Rattle.std.specs.Prelude.{IsTrue, Result}
+use Rattle.std.specs.declared.alloc.Global.{Global}
+use Rattle.std.specs.declared.rc.Rc.{Rc}
 use Rattle.std.proofs.lemmas.Nat.{mul-le}
 use Rattle.mix_base.specs.Events.{Event, finds, found, cost}
 use Rattle.lazy_descend.specs.Searches as Searches
@@ -31,8 +33,8 @@ use Rattle.plan_core.specs.Valid.{kinds, a_node}
 use Rattle.lazy_binding.specs.declared.parts.Fixed.{Fixed}
 use Rattle.lazy_binding.specs.Parts.{operators, world_of}
 use Rattle.lazy_binding.proofs.Bound.{inputs_at, fit_at}
-use Rattle.lazy_steps.specs.Steps.{single, CanStep, IsUntouched, Asks, Finds, Ran, Asked, telling, matches, GivesMatch, visit_events, visit_number}
-use Rattle.lazy_steps.specs.Visits.{Sought}
+use Rattle.lazy_steps.specs.Steps.{single, CanStep, IsUntouched, Asks, Finds, Ran, Asked, telling, matches, visit_events, visit_number}
+use Rattle.lazy_steps.specs.Visits.{SoughtBeside}
 use Rattle.lazy_binding.proofs.Keep.{keeps_same, docs_kept, bound_kept}
 use Rattle.lazy_binding.proofs.Stay.{cursors_kept}
 use Rattle.lazy_steps.proofs.Shapes.{events_at, size_at, single_at}
@@ -48,31 +50,22 @@ pub first_places : (w : World) (path : Form) (m : Machine) → m ≡ machine_of 
     → visit_below m (tree [] (docs_of w s) none) (place_in w s x) ≡ visits (docs_of w) path node
 first_places w path m e node s x h = ap (λ (z : Machine). visit_below z (tree [] (docs_of w s) none) (place_in w s x)) e ∙ ap (visits (docs_of w) path) (sym h)
 
--- what the first call answers
-pub first_gives : (a b : World) (ops : List Operator) (path : Form) (m : Machine) → m ≡ machine_of (table_of path) → (node : Node) (s : ℕ) (x : Spot) → node ≡ spot_node a s x → (top : ℕ)
-    → {E : Type 0} (r : Result (Option DescCursor) E) → IfOk r (GivesMatch a b ops m s (visit_below m (tree [] (docs_of a s) none) (place_in a s x)) top)
-    → IfOk r (GivesMatch a b ops (machine_of (table_of path)) s (visits (docs_of a) path node) top)
-first_gives a b ops path m e node s x h top r k =
-    subst (λ (z : Machine). IfOk r (GivesMatch a b ops z s (visits (docs_of a) path node) top)) e
-    (subst (λ (es : List (Event (List ℕ))). IfOk r (GivesMatch a b ops m s es top)) (first_places a path m e node s x h) k)
-
 -- what the first call leaves and answers, over the places of the visit from its node
 pub first_sought : {S : Type 0} {view : S → View} {came_from : S → S → Type 0} {ops : List Operator} {s t : S} {g h : Growing} (path : Form) (m : Machine) → m ≡ machine_of (table_of path)
-    → (node : Node) (src : ℕ) (x : Spot) → node ≡ spot_node (world_of (view s) g) src x → (r : Result (Option DescCursor) WalkFault)
-    → Sought view came_from ops m src (visit_below m (tree [] (docs_of (world_of (view s) g) src) none) (place_in (world_of (view s) g) src x)) (suc (bound_of (world_of (view s) g))) s g t h r
-    → Sought view came_from ops (machine_of (table_of path)) src (visits (docs_of (world_of (view s) g)) path node) (suc (bound_of (world_of (view s) g))) s g t h r
-first_sought {S} {view} {came_from} {ops} {s} {t} {g} {h} path m e node src x here r sought = record {
-  asked = subst (λ (es : List (Event (List ℕ))). Asked view came_from ops es s g t h) (first_places (world_of (view s) g) path m e node src x here) sought.asked;
-  cause = sought.cause;
-  answer = first_gives (world_of (view s) g) (world_of (view t) h) ops path m e node src x here (suc (bound_of (world_of (view s) g))) r sought.answer;
-}
+    → (node : Node) (src : ℕ) (x : Spot) → node ≡ spot_node (world_of (view s) g) src x → (c : Position) (r : Result (Option (Rc Position Global)) WalkFault)
+    → SoughtBeside view came_from ops m src (visit_below m (tree [] (docs_of (world_of (view s) g) src) none) (place_in (world_of (view s) g) src x)) (suc (bound_of (world_of (view s) g))) c s g t h r
+    → SoughtBeside view came_from ops (machine_of (table_of path)) src (visits (docs_of (world_of (view s) g)) path node) (suc (bound_of (world_of (view s) g))) c s g t h r
+first_sought {S} {view} {came_from} {ops} {s} {t} {g} {h} path m e node src x here c r sought =
+    let w = world_of (view s) g in
+    subst (λ (z : Machine). SoughtBeside view came_from ops z src (visits (docs_of w) path node) (suc (bound_of w)) c s g t h r) e
+    (subst (λ (es : List (Event (List ℕ))). SoughtBeside view came_from ops m src es (suc (bound_of w)) c s g t h r) (first_places w path m e node src x here) sought)
 
 -- what a later call leaves and answers, by the machine of the path
 pub next_sought : {S : Type 0} {view : S → View} {came_from : S → S → Type 0} {ops : List Operator} {s t : S} {g h : Growing} (m k : Machine) → m ≡ k → (src : ℕ) (d : DescCursor) (top : ℕ)
-    → (r : Result (Option DescCursor) WalkFault) → Sought view came_from ops m src (match_ahead (world_of (view s) g) src m d) top s g t h r
-    → Sought view came_from ops k src (match_ahead (world_of (view s) g) src k d) top s g t h r
-next_sought {S} {view} {came_from} {ops} {s} {t} {g} {h} m k e src d top r sought =
-    subst (λ (z : Machine). Sought view came_from ops z src (match_ahead (world_of (view s) g) src z d) top s g t h r) e sought
+    (c : Position) (r : Result (Option (Rc Position Global)) WalkFault) → SoughtBeside view came_from ops m src (match_ahead (world_of (view s) g) src m d) top c s g t h r
+    → SoughtBeside view came_from ops k src (match_ahead (world_of (view s) g) src k d) top c s g t h r
+next_sought {S} {view} {came_from} {ops} {s} {t} {g} {h} m k e src d top c r sought =
+    subst (λ (z : Machine). SoughtBeside view came_from ops z src (match_ahead (world_of (view s) g) src z d) top c s g t h r) e sought
 
 module _ (ops : List Operator) (n i start : ℕ) (path : Form) (out : ℕ) where
   -- the shape of the getDescendants

@@ -53,6 +53,6 @@ abbrev pub members_after : World → List Operator → ℕ → List Key → Posi
 members_after w ops i keys first at = same_group (docs_of w) keys (binding w ops i first) (ahead w ops i at)
 
 -- the group with number k, counted from 0, has no member, or a position stands at its first one
-abbrev pub IsNextGroup : Gathered → ℕ → Option Position → Type 0
+abbrev pub IsNextGroup : Gathered → ℕ → Option (Rc Position Global) → Type 0
 IsNextGroup g k None = slice_get (slice_index_or g.groups k []) 0 ≡ None
-IsNextGroup g k (Some d) = (m : Rc Position Global) × (q : Rc (Unit {0}) Global) × (slice_get (slice_index_or g.groups k []) 0 ≡ Some m) × (d ≡ First' q m.value (suc k))
+IsNextGroup g k (Some d) = (m : Rc Position Global) × (q : Rc (Unit {0}) Global) × (slice_get (slice_index_or g.groups k []) 0 ≡ Some m) × (d.value ≡ First' q m.value (suc k))

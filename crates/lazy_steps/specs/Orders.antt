@@ -1,5 +1,5 @@
 -- The sorted list of an orderBy, and the positions of its input from which it is made.
-use Rattle.std.specs.Prelude.{◌≡◌, ◌<◌, ◌≤◌, ℕ, IsTrue, List, map, length}
+use Rattle.std.specs.Prelude.{◌≡◌, ◌<◌, ◌≤◌, ℕ, Bool, IsTrue, List, Option, None, Some, map, length}
 use Rattle.std.specs.declared.alloc.Global.{Global}
 use Rattle.std.specs.declared.rc.Rc.{Rc}
 use Rattle.std.specs.declared.vec.Vec.{Vec}
@@ -15,11 +15,10 @@ use Rattle.lazy_binding.specs.declared.parts.Growing.{Growing}
 use Rattle.lazy_binding.specs.Keeping.{Keeps}
 use Rattle.lazy_binding.specs.declared.parts.Walk.{Walk}
 use Rattle.lazy_binding.specs.Parts.{operators, world_of}
+use Rattle.lazy_binding.specs.SortedLists.{by_label}
 use Rattle.lazy_binding.specs.declared.labelled.Labelled.{Labelled}
 use Rattle.lazy_binding.specs.declared.position.Position.{Position}
 use Rattle.lazy_binding.specs.declared.position.Position.TheVariants.{Sorted}
-use Rattle.lazy_steps.specs.declared.step.Step.{Step}
-use Rattle.lazy_steps.specs.declared.step.Step.TheVariants.{Done, At, On}
 use Rattle.lazy_binding.specs.Bench.{IsBench}
 use Rattle.lazy_binding.specs.World.{World, docs_of, is_told}
 use Rattle.lazy_binding.specs.Cursors.{binding, size, has_row, IsOf}
@@ -39,11 +38,14 @@ AreGiven w ops i v rows = AllByRecursion (IsGiven w ops i v) rows
 abbrev pub rows_of : World → List Operator → ℕ → List Labelled → List TolledRow
 rows_of w ops i rows = map (λ x. binding w ops i x.place.value) rows
 
--- a step comes to the position at index k of a sorted list, or the list ends before it
-abbrev pub IsSortedAt : Vec (Rc Position Global) Global → ℕ → Step → Type 0
-IsSortedAt list k Done = length list.items ≤ k
-IsSortedAt list k (At d) = (k < length list.items) × ((r : Rc (Vec (Rc Position Global) Global) Global) × (r.value ≡ list) × (d ≡ Sorted r k))
-IsSortedAt list k (On d) = ⊥
+-- a position stands at index k of a sorted list, or the list ends before it
+abbrev pub IsSortedAt : Vec (Rc Position Global) Global → ℕ → Option (Rc Position Global) → Type 0
+IsSortedAt list k None = length list.items ≤ k
+IsSortedAt list k (Some d) = (k < length list.items) × ((r : Rc (Vec (Rc Position Global) Global) Global) × (r.value ≡ list) × (d.value ≡ Sorted r k))
+
+-- a position stands at the first of these positions, once they are sorted by their labels; there is none where there are none
+abbrev pub IsFirstSorted : Bool → List Labelled → Option (Rc Position Global) → Type 0
+IsFirstSorted desc rows r = (list : Vec (Rc Position Global) Global) × (list.items ≡ map (λ x. x.place) (by_label desc rows)) × IsSortedAt list 0 r
 
 -- these positions with labels stand at all bindings of operator i, in their order
 pub record AreAll (old new : World) (ops : List Operator) (i v : ℕ) (rows : List Labelled) : Type 0 where

@@ -197,12 +197,23 @@ visit_events w ops i start path out c = expand (descendants (docs_of w) start pa
 abbrev pub visit_number : World → List Operator → ℕ → Position → ℕ
 visit_number w ops i c = number w ops i c * suc (suc (bound_of w))
 
--- what a step of a getDescendants from a position of its input leaves and answers
-abbrev pub StepsVisits : {S : Type 0} → (S → View) → (S → S → Type 0) → Walk → ℕ → ℕ → Form → ℕ → Position → S → Growing → S → Growing → Result Step WalkFault → Type 0
-StepsVisits view came_from k i start path out c s g s' g' result =
+-- a walk over these events of operator n in this shape gives the position at its first binding, or that there is none
+abbrev pub Gives : World → World → List Operator → ℕ → Shape → RowEvents → ℕ → Option (Rc Position Global) → Type 0
+Gives old new ops n f es top r = GivesFirst (telling old ops) (positions new ops n f) es top (option_map (λ d. d.value) r)
+
+-- what a walk over these events of operator n, in this shape, to its first binding leaves and answers
+pub record Led {S : Type 0} (view : S → View) (came_from : S → S → Type 0) (p : Fixed) (n : ℕ) (f : Shape) (es : RowEvents) (top : ℕ) (s : S) (g : Growing) (s' : S) (g' : Growing)
+    (result : Result (Option (Rc Position Global)) WalkFault) : Type 0 where
+  pub ran : Ran view came_from (operators p) n es s g s' g'
+  pub cause : HasCause (operators p) (view s) (view s') result
+  pub answer : IfOk result (Gives (world_of (view s) g) (world_of (view s') g') (operators p) n f es top)
+
+-- what a walk of a getDescendants from a position of its input to its first match leaves and answers
+abbrev pub FindsVisit : {S : Type 0} → (S → View) → (S → S → Type 0) → Walk → ℕ → ℕ → Form → ℕ → Position → S → Growing → S → Growing → Result (Option (Rc Position Global)) WalkFault → Type 0
+FindsVisit view came_from k i start path out c s g s' g' result =
     let w = world_of (view s) g in
     let ops = operators k.fixed.now in
-    Stepped view came_from k.fixed.now k.op (visits_below i start path out) (visit_events w ops i start path out c) (visit_number w ops i c) s g s' g' result
+    Led view came_from k.fixed.now k.op (visits_below i start path out) (visit_events w ops i start path out c) (visit_number w ops i c) s g s' g' result
 
 -- what the walk of operator n from position c to its next binding leaves and answers
 pub record Advanced {S : Type 0} (view : S → View) (came_from : S → S → Type 0) (p : Fixed) (n : ℕ) (c : Position) (s : S) (g : Growing) (s' : S) (g' : Growing)

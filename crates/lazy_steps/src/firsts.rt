@@ -19,6 +19,7 @@ pub(crate) struct KeyEvent {
 }
 
 /// The event at a binding of the input with this key: a binding where the key is new after the first few that were seen.
+#[inline(never)]
 pub(crate) fn first_of_key(
     seen: &mut Vec<SeenKeys>,
     op: usize,

@@ -1,4 +1,4 @@
-// One step over the groups of a groupBy whose members don't stand side by side, and one more of their members.
+// The next group of a groupBy whose members don't stand side by side, and one more of their members.
 ghost use Rattle.std.specs.Prelude.{◌≡◌, ◌<◌, [], IfErr, IfOk, OnOk, OnErr, length, slice_index_or};
 ghost use Rattle.lxp_core.specs.declared.fault.WalkFault.TheVariants.{OutOfMemory};
 ghost use Rattle.lazy_binding.specs.Bench.{IsBench};
@@ -6,16 +6,16 @@ ghost use Rattle.lazy_binding.specs.Gathered.{IsGatheredBy};
 ghost use Rattle.lazy_binding.specs.Growth.{groups_in, OthersGathered};
 ghost use Rattle.lazy_binding.specs.Parts.{operators, world_of, IsFixed};
 ghost use Rattle.lazy_steps.specs.Gathers.{GathersGroups, GrewGroups, IsNextGroup};
-ghost use Rattle.lazy_steps.specs.Steps.{CanWalk, StepsOn, GrowsAt};
+ghost use Rattle.lazy_steps.specs.Steps.{CanWalk, AdvancedOn, GrowsAt};
 
 use crate::firsts::KeyEvent;
-use crate::step::Step;
 use crate::steps::advance;
 use lazy_binding::growth::end_groups;
-use lazy_binding::{Growing, Position, SeenKeys, Walk, Walked, seen_up_to, share};
+use lazy_binding::{Growing, Position, SeenKeys, Walk, Walked, put, seen_up_to, share};
 use lxp_core::{Sources, WalkFault};
 use mix_tree::Key;
 use std::alloc::Global;
+use std::rc::Rc;
 use tree_buffer::spots_are_one;
 
 /// A groupBy whose groups end with its input: its input, and its keys.
@@ -66,24 +66,24 @@ impl<'a> Gather<'a> {
     /// The next group: one whose first member was found already, or the first to which the walk of the input comes.
     #[cycle(walk)]
     #[inline(never)]
-    pub(crate) fn step<S: Sources>(
+    pub(crate) fn next<S: Sources>(
         &self,
         alloc: Global,
         growing: &mut Growing,
         s: &mut S,
         at: &Position,
-    ) -> Result<Step, WalkFault>
+    ) -> Result<Option<Rc<Position>>, WalkFault>
         requires can { CanWalk (S.view s.old) growing.old self.now.walk at.now }
         requires is { GathersGroups self.now }
-        ensures { StepsOn S.view S.came_from self.now.walk at.now s.old growing.old s.new growing.new result }
+        ensures { AdvancedOn S.view S.came_from self.now.walk at.now s.old growing.old s.new growing.new result }
     {
         let count = seen_up_to(at);
         'bindings: loop {
-            match self.next_known(growing, count)? {
-                Some(group) => return Ok(Step::At(group)),
+            match self.next_known(alloc, growing, count)? {
+                Some(group) => return Ok(Some(group)),
                 None => {
                     if !self.grow(alloc, growing, s)? {
-                        return Ok(Step::Done);
+                        return Ok(None);
                     }
                     spots_are_one();
                 }
@@ -92,7 +92,13 @@ impl<'a> Gather<'a> {
     }
 
     /// The position at the group after so many, where its first member was found; `None` exactly where it wasn't yet.
-    fn next_known(&self, growing: &Growing, count: usize) -> Result<Option<Position>, WalkFault>
+    #[inline(never)]
+    fn next_known(
+        &self,
+        alloc: Global,
+        growing: &Growing,
+        count: usize,
+    ) -> Result<Option<Rc<Position>>, WalkFault>
         requires { self.now.walk.op < length growing.now.walked.gathered.items }
         ensures err { IfErr result (λ e. e ≡ OutOfMemory) }
         ensures group { IfOk result (IsNextGroup (groups_in growing.now.walked self.now.walk.op) count) }
@@ -103,7 +109,8 @@ impl<'a> Gather<'a> {
             Some(first) => {
                 let within = count < gathered.len();
                 prove!(within);
-                Ok(Some(Position::First(share(first)?, count + 1)))
+                let group = Position::First(share(first)?, count + 1);
+                Ok(Some(put(alloc, group)?))
             }
         }
     }

@@ -1,12 +1,12 @@
-// One step over the events of a join.
+// The next binding of a join, step by step over its events.
 ghost use Rattle.std.specs.Prelude.{◌≡◌, ◌<◌, IsTrue, length};
 ghost use Rattle.plan_core.specs.Shapes.{pairs_up};
-ghost use Rattle.lazy_steps.specs.Steps.{CanStep, CanWalk, StepsOn, StepsLeft};
+ghost use Rattle.lazy_steps.specs.Steps.{CanStep, CanWalk, StepsOn, StepsLeft, AdvancedOn};
 ghost use Rattle.lazy_steps.specs.Beside.{StepsBeside};
 ghost use Rattle.lazy_binding.specs.Cursors.{has_row};
 ghost use Rattle.lazy_binding.specs.Parts.{operators, shape_walked};
 
-use crate::step::Step;
+use crate::step::{Step, here};
 use crate::steps::advance;
 use lazy_binding::{Growing, Position, Walk, put};
 use lxp_core::{Sources, WalkFault};
@@ -36,10 +36,33 @@ impl<'a> Join<'a> {
         }
     }
 
-    /// The next member of the right side beside the binding of the left, or the next binding of the left.
+    /// The next pair of which all comparisons hold.
     #[cycle(walk)]
     #[inline(never)]
-    pub(crate) fn step<S: Sources>(
+    pub(crate) fn next<S: Sources>(
+        &self,
+        alloc: Global,
+        growing: &mut Growing,
+        s: &mut S,
+        at: &Position,
+    ) -> Result<Option<Rc<Position>>, WalkFault>
+        requires can { CanWalk (S.view s.old) growing.old self.now.walk at.now }
+        requires is { shape_walked self.now.walk ≡ pairs_up self.now.left self.now.right self.now.tests.now }
+        ensures { AdvancedOn S.view S.came_from self.now.walk at.now s.old growing.old s.new growing.new result }
+    {
+        let mut later: Option<Position> = None;
+        'events: loop {
+            match self.step(alloc, growing, s, here(&later, at))? {
+                Step::Done => return Ok(None),
+                Step::At(found) => return Ok(Some(put(alloc, found)?)),
+                Step::On(event) => later = Some(event),
+            }
+        }
+    }
+
+    /// The next member of the right side beside the binding of the left, or the next binding of the left.
+    #[cycle(walk)]
+    fn step<S: Sources>(
         &self,
         alloc: Global,
         growing: &mut Growing,

@@ -1,4 +1,4 @@
-//! Steps over the events of a plan's operators: from a position of an operator to its next binding, or to a later event.
+//! Walks over the events of a plan's operators: from a position of an operator to its next binding.
 #![tactic(auto)]
 
 mod chain;

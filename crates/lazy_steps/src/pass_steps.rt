@@ -1,17 +1,18 @@
-// One step over the events of an operator that passes on bindings of its input.
+// The next binding of an operator that passes on bindings of its input, step by step over its events.
 ghost use Rattle.std.specs.Prelude.{◌≡◌};
 ghost use Rattle.plan_core.specs.Shapes.{filters, passes_on};
 ghost use Rattle.lazy_binding.specs.Parts.{shape_walked};
-ghost use Rattle.lazy_steps.specs.Steps.{CanWalk, StepsOn, KeepsFirsts};
+ghost use Rattle.lazy_steps.specs.Steps.{CanWalk, StepsOn, AdvancedOn, KeepsFirsts};
 
 use crate::firsts::{KeyEvent, first_of_key};
-use crate::step::Step;
+use crate::step::{Step, here};
 use crate::steps::advance;
 use lazy_binding::growth::resume;
-use lazy_binding::{Growing, Position, Walk, inside, seen_up_to};
+use lazy_binding::{Growing, Position, Walk, inside, put, seen_up_to};
 use lxp_core::{Sources, WalkFault};
 use mix_tree::{Key, Test};
 use std::alloc::Global;
+use std::rc::Rc;
 use tree_buffer::spots_are_one;
 
 /// A select: its input, and the comparison that its bindings meet.
@@ -34,10 +35,33 @@ impl<'a> Filter<'a> {
         }
     }
 
-    /// The input's next binding, where the comparison holds of it.
+    /// The next binding of the input of which the comparison holds.
     #[cycle(walk)]
     #[inline(never)]
-    pub(crate) fn step<S: Sources>(
+    pub(crate) fn next<S: Sources>(
+        &self,
+        alloc: Global,
+        growing: &mut Growing,
+        s: &mut S,
+        at: &Position,
+    ) -> Result<Option<Rc<Position>>, WalkFault>
+        requires can { CanWalk (S.view s.old) growing.old self.now.walk at.now }
+        requires is { shape_walked self.now.walk ≡ passes_on self.now.input (filters self.now.test.now) }
+        ensures { AdvancedOn S.view S.came_from self.now.walk at.now s.old growing.old s.new growing.new result }
+    {
+        let mut later: Option<Position> = None;
+        'events: loop {
+            match self.step(alloc, growing, s, here(&later, at))? {
+                Step::Done => return Ok(None),
+                Step::At(found) => return Ok(Some(put(alloc, found)?)),
+                Step::On(event) => later = Some(event),
+            }
+        }
+    }
+
+    /// The input's next binding, where the comparison holds of it.
+    #[cycle(walk)]
+    fn step<S: Sources>(
         &self,
         alloc: Global,
         growing: &mut Growing,
@@ -88,29 +112,33 @@ impl<'a> Distinct<'a> {
         }
     }
 
-    /// The input's next binding, a binding where its keys were not seen up to here. The members of a group that was walked aren't gone through again.
+    /// The next binding of the input whose keys were not seen up to here. The members of a group that was walked aren't gone through again.
     #[cycle(walk)]
     #[inline(never)]
-    pub(crate) fn step<S: Sources>(
+    pub(crate) fn next<S: Sources>(
         &self,
         alloc: Global,
         growing: &mut Growing,
         s: &mut S,
         at: &Position,
-    ) -> Result<Step, WalkFault>
+    ) -> Result<Option<Rc<Position>>, WalkFault>
         requires can { CanWalk (S.view s.old) growing.old self.now.walk at.now }
         requires is { KeepsFirsts self.now.walk self.now.input self.now.keys.now }
-        ensures { StepsOn S.view S.came_from self.now.walk at.now s.old growing.old s.new growing.new result }
+        ensures { AdvancedOn S.view S.came_from self.now.walk at.now s.old growing.old s.new growing.new result }
     {
-        match resume(growing, self.walk.op, at)? {
-            Some(later) => Ok(Step::On(later)),
-            None => self.next_key(alloc, growing, s, at),
+        let mut later = resume(growing, self.walk.op, at)?;
+        'events: loop {
+            match self.step(alloc, growing, s, here(&later, at))? {
+                Step::Done => return Ok(None),
+                Step::At(found) => return Ok(Some(put(alloc, found)?)),
+                Step::On(event) => later = Some(event),
+            }
         }
     }
 
     /// The input's next binding, a binding where its keys were not seen up to here.
     #[cycle(walk)]
-    fn next_key<S: Sources>(
+    fn step<S: Sources>(
         &self,
         alloc: Global,
         growing: &mut Growing,

@@ -1,11 +1,10 @@
-// One step over the events of a getDescendants.
+// The next binding of a getDescendants.
 ghost use Rattle.std.specs.Prelude.{◌≡◌, ◌<◌, length};
 ghost use Rattle.plan_core.specs.Shapes.{visits_below};
 ghost use Rattle.path_auto.specs.Automaton.{machine_of, table_of};
-ghost use Rattle.lazy_steps.specs.Steps.{CanStep, CanWalk, StepsOn, StepsVisits};
+ghost use Rattle.lazy_steps.specs.Steps.{CanStep, CanWalk, AdvancedOn, FindsVisit};
 ghost use Rattle.lazy_binding.specs.Parts.{operators, shape_walked, IsFixed};
 
-use crate::step::Step;
 use crate::steps::advance;
 use crate::visits::Visit;
 use lazy_binding::{Growing, Position, Walk, put, share};
@@ -63,25 +62,28 @@ impl<'a> PathScan<'a> {
         }
     }
 
-    /// The next match of the visit at hand, or the next binding of the input.
+    /// The next match of the visit at hand, or the first below a later binding of the input.
     #[cycle(walk)]
     #[inline(never)]
-    pub(crate) fn step<S: Sources>(
+    pub(crate) fn next<S: Sources>(
         &self,
         alloc: Global,
         growing: &mut Growing,
         s: &mut S,
         at: &Position,
-    ) -> Result<Step, WalkFault>
+    ) -> Result<Option<Rc<Position>>, WalkFault>
         requires can { CanWalk (S.view s.old) growing.old self.now.walk at.now }
         requires is { shape_walked self.now.walk ≡ visits_below self.now.input self.now.start self.now.path.now self.now.out }
-        ensures { StepsOn S.view S.came_from self.now.walk at.now s.old growing.old s.new growing.new result }
+        ensures { AdvancedOn S.view S.came_from self.now.walk at.now s.old growing.old s.new growing.new result }
     {
         match at {
             Position::Found(source, below, found) => {
-                match self.visit(*source).next(alloc, growing, s, found)? {
+                match self
+                    .visit(*source)
+                    .next_at(alloc, growing, s, found, below)?
+                {
                     None => self.next_start(alloc, growing, s, below),
-                    Some(found) => Ok(Step::At(Position::Found(*source, share(below)?, found))),
+                    Some(next) => Ok(Some(next)),
                 }
             }
             _ => {
@@ -93,18 +95,19 @@ impl<'a> PathScan<'a> {
 
     /// From binding to binding of the input, up to the first match of a visit.
     #[cycle(walk)]
+    #[inline(never)]
     fn next_start<S: Sources>(
         &self,
         alloc: Global,
         growing: &mut Growing,
         s: &mut S,
         below: &Rc<Position>,
-    ) -> Result<Step, WalkFault>
+    ) -> Result<Option<Rc<Position>>, WalkFault>
         requires can { CanStep (S.view s.old) growing.old self.now.walk.fixed.now self.now.input below.now.value }
         requires op { self.now.walk.op < length (operators self.now.walk.fixed.now) }
         requires is { shape_walked self.now.walk ≡ visits_below self.now.input self.now.start self.now.path.now self.now.out }
         ensures { let k = self.now in
-            StepsVisits S.view S.came_from k.walk k.input k.start k.path.now k.out below.now.value s.old growing.old s.new growing.new result }
+            FindsVisit S.view S.came_from k.walk k.input k.start k.path.now k.out below.now.value s.old growing.old s.new growing.new result }
     {
         let input = Walk {
             fixed: self.walk.fixed,
@@ -113,11 +116,14 @@ impl<'a> PathScan<'a> {
         let mut at = share(below)?;
         'starts: loop {
             let Some(next) = advance(alloc, input, growing, s, &at)? else {
-                return Ok(Step::Done);
+                return Ok(None);
             };
             let (source, node) = input.node_of(&next, self.start);
-            if let Some(found) = self.visit(source).first(alloc, growing, s, &node)? {
-                return Ok(Step::At(Position::Found(source, next, found)));
+            if let Some(found) = self
+                .visit(source)
+                .first_at(alloc, growing, s, &node, &next)?
+            {
+                return Ok(Some(found));
             }
             at = next;
         }

@@ -1,18 +1,17 @@
-// One step over the events of each operator.
+// The next binding of each operator.
 ghost use Rattle.std.specs.Prelude.{◌≡◌};
 ghost use Rattle.lazy_binding.specs.Parts.{operators};
 ghost use Rattle.lazy_steps.specs.Chains.{PassesNone};
-ghost use Rattle.lazy_steps.specs.Steps.{at_of, CanWalk, StepsOn, AdvancedOn};
+ghost use Rattle.lazy_steps.specs.Steps.{CanWalk, AdvancedOn};
 
 use crate::chain::{descend, lift};
 use crate::gather_steps::Gather;
 use crate::join_steps::Join;
 use crate::pass_steps::{Distinct, Filter};
 use crate::path_scan::PathScan;
-use crate::single_steps::{DocumentScan, step_whole};
+use crate::single_steps::{DocumentScan, next_whole};
 use crate::sort_steps::Sort;
-use crate::step::Step;
-use lazy_binding::{Growing, Position, Walk, put};
+use lazy_binding::{Growing, Position, Walk};
 use lxp_core::{Sources, WalkFault};
 use plan_core::Op;
 use std::alloc::Global;
@@ -41,79 +40,48 @@ pub fn advance<S: Sources>(
     }
 }
 
-/// The position from which a walk goes on: the event to which it came, or, before any, that from which it began.
-fn here<'a>(later: &'a Option<Position>, from: &'a Rc<Position>) -> &'a Position
-    ensures { result.now ≡ at_of later.now from.now.value }
-{
-    match later {
-        Some(at) => at,
-        None => from,
-    }
-}
-
-/// The first binding after a position of an operator that does more than pass on bindings, step by step.
+/// The first binding after a position of an operator that does more than pass on bindings.
 #[cycle(walk)]
 fn advance_below<S: Sources>(
     alloc: Global,
     walk: Walk<'_>,
     growing: &mut Growing,
     s: &mut S,
-    from: &Rc<Position>,
-) -> Result<Option<Rc<Position>>, WalkFault>
-    requires can { CanWalk (S.view s.old) growing.old walk from.now.value }
-    requires more { PassesNone (operators walk.fixed.now) walk.op }
-    ensures { AdvancedOn S.view S.came_from walk.entry from.now.value s.old growing.old s.new growing.new result }
-{
-    let mut later: Option<Position> = None;
-    'events: loop {
-        match next_event(alloc, walk, growing, s, here(&later, from))? {
-            Step::Done => return Ok(None),
-            Step::At(found) => return Ok(Some(put(alloc, found)?)),
-            Step::On(event) => later = Some(event),
-        }
-    }
-}
-
-/// The next event after a position, or a later one with no binding between.
-#[cycle(walk)]
-fn next_event<S: Sources>(
-    alloc: Global,
-    walk: Walk<'_>,
-    growing: &mut Growing,
-    s: &mut S,
     at: &Position,
-) -> Result<Step, WalkFault>
+) -> Result<Option<Rc<Position>>, WalkFault>
     requires can { CanWalk (S.view s.old) growing.old walk at.now }
     requires more { PassesNone (operators walk.fixed.now) walk.op }
-    ensures { StepsOn S.view S.came_from walk.entry at.now s.old growing.old s.new growing.new result }
+    ensures { AdvancedOn S.view S.came_from walk.entry at.now s.old growing.old s.new growing.new result }
 {
     match walk.fixed.operator(walk.op) {
-        Op::Source { source, .. } => DocumentScan::new(walk, *source).step(growing, s, at),
+        Op::Source { source, .. } => DocumentScan::new(walk, *source).next(alloc, growing, s, at),
         Op::GetDescendants {
             input,
             start,
             path,
             out,
-        } => PathScan::new(walk, *input, *start, path, *out).step(alloc, growing, s, at),
-        Op::Select { input, test } => Filter::new(walk, *input, test).step(alloc, growing, s, at),
-        Op::Join { left, right, tests } => {
-            Join::new(walk, *left, *right, tests).step(alloc, growing, s, at)
+        } => PathScan::new(walk, *input, *start, path, *out).next(alloc, growing, s, at),
+        Op::Select { input, test } => {
+            Filter::new(walk, *input, test).next(alloc, growing, s, at)
         }
-        Op::GroupBy { keys, .. } if keys.is_empty() => step_whole(walk, growing, s, at),
-        Op::Project { input, keys } => Distinct::new(walk, *input, keys).step(
-            alloc, growing, s, at,
-        ),
+        Op::Join { left, right, tests } => {
+            Join::new(walk, *left, *right, tests).next(alloc, growing, s, at)
+        }
+        Op::GroupBy { keys, .. } if keys.is_empty() => next_whole(alloc, walk, growing, s, at),
+        Op::Project { input, keys } => {
+            Distinct::new(walk, *input, keys).next(alloc, growing, s, at)
+        }
         Op::GroupBy { input, keys, .. } if !walk.fixed.stops_at(walk.op) => {
-            Gather::new(walk, *input, keys).step(alloc, growing, s, at)
+            Gather::new(walk, *input, keys).next(alloc, growing, s, at)
         }
         Op::GroupBy { input, keys, .. } => {
-            Distinct::new(walk, *input, keys).step(alloc, growing, s, at)
+            Distinct::new(walk, *input, keys).next(alloc, growing, s, at)
         }
         Op::OrderBy { input, var, desc } => {
-            Sort::new(walk, *input, *var, *desc).step(alloc, growing, s, at)
+            Sort::new(walk, *input, *var, *desc).next(alloc, growing, s, at)
         }
         Op::Concatenate { .. } => unreachable!(),
         Op::CreateElement { .. } => unreachable!(),
-        Op::TupleDestroy { .. } => Ok(Step::Done),
+        Op::TupleDestroy { .. } => Ok(None),
     }
 }

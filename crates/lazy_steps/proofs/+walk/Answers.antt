@@ -8,7 +8,7 @@ use Rattle.plan_core.specs.Fronts.{op_stops}
 use Rattle.lazy_steps.specs.Gathers.{GathersGroups}
 use Rattle.plan_core.specs.PlanMade.{op_of}
 use Rattle.plan_core.specs.Shapes.{visits_below, shape_at, shape_of, filters, first_by_keys, pairs_up, passes_on}
-use Rattle.lazy_binding.specs.declared.position.Position.{Position, Start, Found'}
+use Rattle.lazy_binding.specs.declared.position.Position.{Position, Start}
 use Rattle.lazy_binding.specs.Cursors.{ahead, gathers_by, IsRead}
 use Rattle.plan_core.specs.declared.plan.Piece.{Piece}
 use Rattle.lazy_binding.specs.Parts.{operators, shape_walked, world_of}
@@ -16,7 +16,8 @@ use Rattle.lazy_binding.proofs.Keep.{keeps_same}
 use Rattle.lazy_binding.proofs.Stay.{cursors_kept}
 use Rattle.lazy_binding.proofs.KeyParts.{keys_fit}
 use Rattle.lazy_descend.proofs.Searches.{comes_none, comes_at}
-use Rattle.lazy_steps.proofs.Goes.{goes_same, goes_on, goes_then, goes_result, ran_then, ran_over, ran_nothing, shaped, in_shape, placed, in_place}
+use Rattle.lazy_steps.proofs.Goes.{goes_same, goes_then, goes_result, goes_gives, ran_then, ran_over, ran_nothing, shaped, in_shape, placed, in_place, led, led_at}
+use Rattle.lazy_steps.proofs.Ways.{way_start, way_ran, way_on, way_resumed}
 use Rattle.lazy_steps.proofs.Singles.{end_over}
 use Rattle.std.proofs.Common.{length}
 use Rattle.join_memo.specs.Kept.{Kept}
@@ -34,7 +35,6 @@ use Rattle.lazy_steps.proofs.GatherSteps.{gathers_ran}
 use Rattle.lazy_steps.proofs.GroupWalks.{further_falls}
 use Rattle.lazy_steps.proofs.GroupCalls.{group_shape, read_last, groups_can, input_less, none_unwalked, as_many, grow_ended, grow_refused, grow_more, step_begins, step_found, step_asks, step_none, step_goes_on}
 use Rattle.lazy_steps.proofs.Inputs.{over_can}
-use Rattle.lazy_steps.proofs.Resuming.{firsts_resume}
 use Rattle.lazy_steps.proofs.PassSteps.{filter_over, filter_at, filter_on}
 use Rattle.lazy_steps.proofs.Chains.{none_apart, under_ran, descends_under}
 use Rattle.mix_tree.specs.Nodes.{Node}
@@ -54,84 +54,38 @@ use Rattle.lazy_steps.proofs.+walk.Goals as goal
 pub steps::advance-advance_below-requires : goal.steps::advance-advance_below-requires
 steps::advance-advance_below-requires g t c κs within =
     let under = descends_under c.descend-foot.result.levels c.args.walk.op c.descend-foot.result.op c.args.from.now.value c.descend-foot.result.at.now.value c.requires c.descend-foot.ensures.way in
-    let can = under.can in
+    let can : CanStep (g.S.Sources.view c.args.s.now) c.args.growing.now c.args.walk.fixed.now c.descend-foot.result.op c.deref.result.now = rw c.deref.ensures under.can in
     let small = under.less in
     search rules
 
 pub steps::advance-returns-in_err-advance_below : goal.steps::advance-returns-in_err-advance_below
 steps::advance-returns-in_err-advance_below g t c =
     let under = descends_under c.descend-foot.result.levels c.args.walk.op c.descend-foot.result.op c.args.from.now.value c.descend-foot.result.at.now.value c.requires c.descend-foot.ensures.way in
-    record { ran = under_ran under c.advance_below.ensures.ran; cause = search rules; answer = search rules }
+    record { ran = under_ran under (rw c.deref.ensures at c.advance_below.ensures).ran; cause = search rules; answer = search rules }
 
 pub steps::advance-returns-in-None : goal.steps::advance-returns-in-None
 steps::advance-returns-in-None g t c =
     let under = descends_under c.descend-foot.result.levels c.args.walk.op c.descend-foot.result.op c.args.from.now.value c.descend-foot.result.at.now.value c.requires c.descend-foot.ensures.way in
-    record { ran = under_ran under c.advance_below.ensures.ran; cause = tt; answer = under.over (rw c.in-None.is at c.in_ok-advance_below.ensures.answer) }
+    record { ran = under_ran under (rw c.deref.ensures at c.advance_below.ensures).ran; cause = tt; answer = under.over (rw (c.in-None.is, c.deref.ensures) at c.in_ok-advance_below.ensures.answer) }
 
 pub steps::advance-returns-in_err-lift-in-Some : goal.steps::advance-returns-in_err-lift-in-Some
 steps::advance-returns-in_err-lift-in-Some g t c =
     let under = descends_under c.descend-foot.result.levels c.args.walk.op c.descend-foot.result.op c.args.from.now.value c.descend-foot.result.at.now.value c.requires c.descend-foot.ensures.way in
-    record { ran = under_ran under c.advance_below.ensures.ran; cause = search rules; answer = search rules }
+    record { ran = under_ran under (rw c.deref.ensures at c.advance_below.ensures).ran; cause = search rules; answer = search rules }
 
 pub steps::advance-returns-in_ok-lift-in-Some : goal.steps::advance-returns-in_ok-lift-in-Some
 steps::advance-returns-in_ok-lift-in-Some g t c =
     let under = descends_under c.descend-foot.result.levels c.args.walk.op c.descend-foot.result.op c.args.from.now.value c.descend-foot.result.at.now.value c.requires c.descend-foot.ensures.way in
     record {
-      ran = under_ran under c.advance_below.ensures.ran;
+      ran = under_ran under (rw c.deref.ensures at c.advance_below.ensures).ran;
       cause = tt;
-      answer = under.at _ _ _ c.advance_below.ensures.ran.asks (rw c.in-Some.is at c.in_ok-advance_below.ensures.answer) c.in_ok-lift-in-Some.ensures.ok;
+      answer = under.at _ _ _ (rw c.deref.ensures at c.advance_below.ensures).ran.asks (rw (c.in-Some.is, c.deref.ensures) at c.in_ok-advance_below.ensures.answer) c.in_ok-lift-in-Some.ensures.ok;
     }
 
-pub steps::advance_below-events-init : goal.steps::advance_below-events-init
-steps::advance_below-events-init g t c = record { came = g.met.S.Sources.same c.args.s.now; goes = goes_same (keeps_same (world_of (g.S.Sources.view c.args.s.now) c.args.growing.now) (operators c.args.walk.fixed.now) c.requires.can.bench) refl refl; can = c.requires.can }
-
-pub steps::advance_below-next_event-requires : goal.steps::advance_below-next_event-requires
-steps::advance_below-next_event-requires g t c κs within =
-    let can : CanStep (g.S.Sources.view c.events.s) c.events.growing c.args.walk.fixed.now c.args.walk.op c.here.result.now = rw c.here.ensures c.events.invariant.can in
-    search rules
-
-pub steps::advance_below-events-preserved : goal.steps::advance_below-events-preserved
-steps::advance_below-events-preserved g t c =
-    let step = rw c.here.ensures at c.next_event.ensures in
-    let move = rw (c.in-On.is, c.here.ensures) at c.in_ok-next_event.ensures.answer in
-    let can = c.events.invariant.can in
-    record {
-      came = g.met.S.Sources.after _ _ _ c.events.invariant.came step.ran.came;
-      goes = goes_on c.events.invariant.goes (shape_at (operators c.args.walk.fixed.now) c.args.walk.op) c.in-On.event step.ran.asks move;
-      can = record { fixed = can.fixed; op = can.op; bench = step.ran.bench; cursor = move.cursor };
-    }
-
-pub steps::advance_below-events-smaller : goal.steps::advance_below-events-smaller
-steps::advance_below-events-smaller g t c = (rw (c.in-On.is, c.here.ensures) at c.in_ok-next_event.ensures.answer).falls
-
-pub steps::advance_below-returns-in-At : goal.steps::advance_below-returns-in-At
-steps::advance_below-returns-in-At g t c =
-    let step = rw c.here.ensures at c.next_event.ensures in
-    record {
-      ran = ran_then g.met.S.Sources.after c.events.invariant.came c.events.invariant.goes step.ran;
-      cause = tt;
-      answer = rw c.in_ok-put-in-At.ensures.ok (comes_at c.events.invariant.goes.comes (rw (c.in-At.is, c.here.ensures) at c.in_ok-next_event.ensures.answer));
-    }
-
-pub steps::advance_below-returns-in_err-put-in-At : goal.steps::advance_below-returns-in_err-put-in-At
-steps::advance_below-returns-in_err-put-in-At g t c =
-    let step = rw c.here.ensures at c.next_event.ensures in
-    record { ran = ran_then g.met.S.Sources.after c.events.invariant.came c.events.invariant.goes step.ran; cause = search rules; answer = search rules }
-
-pub steps::advance_below-returns-in-Done : goal.steps::advance_below-returns-in-Done
-steps::advance_below-returns-in-Done g t c =
-    let step = rw c.here.ensures at c.next_event.ensures in
-    record { ran = ran_then g.met.S.Sources.after c.events.invariant.came c.events.invariant.goes step.ran; cause = tt; answer = comes_none c.events.invariant.goes.comes (rw (c.in-Done.is, c.here.ensures) at c.in_ok-next_event.ensures.answer) }
-
-pub steps::advance_below-returns-in_err-next_event : goal.steps::advance_below-returns-in_err-next_event
-steps::advance_below-returns-in_err-next_event g t c =
-    let step = rw c.here.ensures at c.next_event.ensures in
-    record { ran = ran_then g.met.S.Sources.after c.events.invariant.came c.events.invariant.goes step.ran; cause = search rules; answer = search rules }
-
-pub steps::next_event-returns-in-TupleDestroy : goal.steps::next_event-returns-in-TupleDestroy
-steps::next_event-returns-in-TupleDestroy g t c =
+pub steps::advance_below-returns-in-TupleDestroy : goal.steps::advance_below-returns-in-TupleDestroy
+steps::advance_below-returns-in-TupleDestroy g t c =
     let is = ap shape_of (sym c.operator.ensures ∙ ap op_of c.in-TupleDestroy.is) in
-    shaped c.args.at.now _ is (record {
+    led c.args.at.now _ is (record {
       ran = ran_nothing g.met.S.Sources.same c.args.walk.op _ c.args.s.now c.args.growing.now c.requires.can.bench;
       cause = tt;
       answer = λ u. end_over (operators c.args.walk.fixed.now) c.requires.can.fixed.typed c.args.walk.op c.requires.can.op _ _ is (world_of (g.S.Sources.view c.args.s.now) c.args.growing.now) c.args.at.now (in_shape c.requires.can _ is);
@@ -185,59 +139,83 @@ pass_steps::Filter::step-returns g t c =
           (in_shape c.requires.can (passes_on c.args.self.now.input (filters c.args.self.now.test.now)) c.requires.is) c.requires.can.bench adv.ran.asks _ f _ (λ u. sym (holds u) ∙ c.if-holds.false));
     })
 
-pub pass_steps::Distinct::step-returns-in_err-later : goal.pass_steps::Distinct::step-returns-in_err-later
-pass_steps::Distinct::step-returns-in_err-later g t c = record { ran = ran_nothing g.met.S.Sources.same c.args.self.now.walk.op (ahead (world_of (g.S.Sources.view c.args.s.now) c.args.growing.now) (operators c.args.self.now.walk.fixed.now) c.args.self.now.walk.op c.args.at.now) c.args.s.now c.args.growing.now c.requires.can.bench; cause = search rules; answer = search rules }
+pub pass_steps::Filter::next-events-init : goal.pass_steps::Filter::next-events-init
+pass_steps::Filter::next-events-init g t c = way_start g.met.S.Sources.same c.requires.can
 
-pub pass_steps::Distinct::step-returns-in-Some : goal.pass_steps::Distinct::step-returns-in-Some
-pass_steps::Distinct::step-returns-in-Some g t c =
-    let later = rw c.in-Some.is at c.in_ok-later.ensures.later in
-    shaped c.args.at.now (passes_on c.args.self.now.input (first_by_keys c.args.self.now.keys.now c.requires.is.0)) c.requires.is.1 (record {
-      ran = ran_nothing g.met.S.Sources.same c.args.self.now.walk.op _ c.args.s.now c.args.growing.now c.requires.can.bench;
-      cause = tt;
-      answer = firsts_resume (operators c.args.self.now.walk.fixed.now) c.args.self.now.walk.op c.args.self.now.input c.args.self.now.keys.now c.requires.is.0 c.requires.is.1 (world_of (g.S.Sources.view c.args.s.now) c.args.growing.now) c.requires.can.bench c.args.at.now (in_shape c.requires.can (passes_on c.args.self.now.input (first_by_keys c.args.self.now.keys.now c.requires.is.0)) c.requires.is.1) c.in-Some.later later;
-    })
+pub pass_steps::Filter::next-step-requires : goal.pass_steps::Filter::next-step-requires
+pass_steps::Filter::next-step-requires g t c κs within =
+    let can : CanStep (g.S.Sources.view c.events.s) c.events.growing c.args.self.now.walk.fixed.now c.args.self.now.walk.op c.here.result.now = rw c.here.ensures c.events.invariant.can in
+    search rules
 
-pub pass_steps::Distinct::next_key-returns-in_err-before : goal.pass_steps::Distinct::next_key-returns-in_err-before
-pass_steps::Distinct::next_key-returns-in_err-before g t c = record { ran = ran_nothing g.met.S.Sources.same c.args.self.now.walk.op (ahead (world_of (g.S.Sources.view c.args.s.now) c.args.growing.now) (operators c.args.self.now.walk.fixed.now) c.args.self.now.walk.op c.args.at.now) c.args.s.now c.args.growing.now c.requires.can.bench; cause = search rules; answer = search rules }
+pub pass_steps::Filter::next-events-preserved : goal.pass_steps::Filter::next-events-preserved
+pass_steps::Filter::next-events-preserved g t c = way_on g.met.S.Sources.after c.events.invariant (rw c.here.ensures at c.step.ensures) c.in-On.event (rw (c.in-On.is, c.here.ensures) at c.in_ok-step.ensures.answer)
 
-pub pass_steps::Distinct::next_key-advance-requires : goal.pass_steps::Distinct::next_key-advance-requires
-pass_steps::Distinct::next_key-advance-requires g t c κs within =
+pub pass_steps::Filter::next-events-smaller : goal.pass_steps::Filter::next-events-smaller
+pass_steps::Filter::next-events-smaller g t c = (rw (c.in-On.is, c.here.ensures) at c.in_ok-step.ensures.answer).falls
+
+pub pass_steps::Filter::next-returns-in-At : goal.pass_steps::Filter::next-returns-in-At
+pass_steps::Filter::next-returns-in-At g t c = record {
+  ran = way_ran g.met.S.Sources.after c.events.invariant (rw c.here.ensures at c.step.ensures);
+  cause = tt;
+  answer = rw c.in_ok-put-in-At.ensures.ok (comes_at c.events.invariant.goes.comes (rw (c.in-At.is, c.here.ensures) at c.in_ok-step.ensures.answer));
+}
+
+pub pass_steps::Filter::next-returns-in_err-put-in-At : goal.pass_steps::Filter::next-returns-in_err-put-in-At
+pass_steps::Filter::next-returns-in_err-put-in-At g t c = record { ran = way_ran g.met.S.Sources.after c.events.invariant (rw c.here.ensures at c.step.ensures); cause = search rules; answer = search rules }
+
+pub pass_steps::Filter::next-returns-in-Done : goal.pass_steps::Filter::next-returns-in-Done
+pass_steps::Filter::next-returns-in-Done g t c = record {
+  ran = way_ran g.met.S.Sources.after c.events.invariant (rw c.here.ensures at c.step.ensures);
+  cause = tt;
+  answer = comes_none c.events.invariant.goes.comes (rw (c.in-Done.is, c.here.ensures) at c.in_ok-step.ensures.answer);
+}
+
+pub pass_steps::Filter::next-returns-in_err-step : goal.pass_steps::Filter::next-returns-in_err-step
+pass_steps::Filter::next-returns-in_err-step g t c =
+    let step = rw c.here.ensures at c.step.ensures in
+    record { ran = way_ran g.met.S.Sources.after c.events.invariant step; cause = search rules; answer = search rules }
+
+pub pass_steps::Distinct::step-returns-in_err-before : goal.pass_steps::Distinct::step-returns-in_err-before
+pass_steps::Distinct::step-returns-in_err-before g t c = record { ran = ran_nothing g.met.S.Sources.same c.args.self.now.walk.op (ahead (world_of (g.S.Sources.view c.args.s.now) c.args.growing.now) (operators c.args.self.now.walk.fixed.now) c.args.self.now.walk.op c.args.at.now) c.args.s.now c.args.growing.now c.requires.can.bench; cause = search rules; answer = search rules }
+
+pub pass_steps::Distinct::step-advance-requires : goal.pass_steps::Distinct::step-advance-requires
+pass_steps::Distinct::step-advance-requires g t c κs within =
     let over = firsts_over c.requires.can c.args.self.now.input c.args.self.now.keys.now c.requires.is.0 c.requires.is.1 c.requires.is.2 in
     let can = over_can c.requires.can over c.in_ok-before.before.value c.in_ok-before.ensures.ok in
     let small = over.less in
     search rules
 
-pub pass_steps::Distinct::next_key-returns-in_err-advance : goal.pass_steps::Distinct::next_key-returns-in_err-advance
-pass_steps::Distinct::next_key-returns-in_err-advance g t c =
+pub pass_steps::Distinct::step-returns-in_err-advance : goal.pass_steps::Distinct::step-returns-in_err-advance
+pass_steps::Distinct::step-returns-in_err-advance g t c =
     let over = firsts_over c.requires.can c.args.self.now.input c.args.self.now.keys.now c.requires.is.0 c.requires.is.1 c.requires.is.2 in
     let adv = rw c.in_ok-before.ensures.ok at c.advance.ensures in
     shaped c.args.at.now (passes_on c.args.self.now.input (first_by_keys c.args.self.now.keys.now c.requires.is.0)) c.requires.is.1 (record { ran = ran_over adv.ran over.costs over.less over.alone; cause = search rules; answer = search rules })
 
-pub pass_steps::Distinct::next_key-returns-in-None : goal.pass_steps::Distinct::next_key-returns-in-None
-pass_steps::Distinct::next_key-returns-in-None g t c =
+pub pass_steps::Distinct::step-returns-in-None : goal.pass_steps::Distinct::step-returns-in-None
+pass_steps::Distinct::step-returns-in-None g t c =
     let over = firsts_over c.requires.can c.args.self.now.input c.args.self.now.keys.now c.requires.is.0 c.requires.is.1 c.requires.is.2 in
     let adv = rw c.in_ok-before.ensures.ok at c.advance.ensures in
     shaped c.args.at.now (passes_on c.args.self.now.input (first_by_keys c.args.self.now.keys.now c.requires.is.0)) c.requires.is.1 (record { ran = ran_over adv.ran over.costs over.less over.alone; cause = tt; answer = over.over (rw (c.in-None.is, c.in_ok-before.ensures.ok) at c.in_ok-advance.ensures.answer) })
 
-pub pass_steps::Distinct::next_key-returns-in_err-key-in-Some : goal.pass_steps::Distinct::next_key-returns-in_err-key-in-Some
-pass_steps::Distinct::next_key-returns-in_err-key-in-Some g t c =
+pub pass_steps::Distinct::step-returns-in_err-key-in-Some : goal.pass_steps::Distinct::step-returns-in_err-key-in-Some
+pass_steps::Distinct::step-returns-in_err-key-in-Some g t c =
     let over = firsts_over c.requires.can c.args.self.now.input c.args.self.now.keys.now c.requires.is.0 c.requires.is.1 c.requires.is.2 in
     let adv = rw c.in_ok-before.ensures.ok at c.advance.ensures in
     shaped c.args.at.now (passes_on c.args.self.now.input (first_by_keys c.args.self.now.keys.now c.requires.is.0)) c.requires.is.1 (record { ran = ran_over adv.ran over.costs over.less over.alone; cause = search rules; answer = search rules })
 
-pub pass_steps::Distinct::next_key-key_of-requires-clause-keys : goal.pass_steps::Distinct::next_key-key_of-requires-clause-keys
-pass_steps::Distinct::next_key-key_of-requires-clause-keys g t c = keys_fit (operators c.args.self.now.walk.fixed.now) c.requires.can.fixed.typed c.args.self.now.walk.op c.requires.can.op c.args.self.now.input c.args.self.now.keys.now c.requires.is.0 c.requires.is.1
+pub pass_steps::Distinct::step-key_of-requires-clause-keys : goal.pass_steps::Distinct::step-key_of-requires-clause-keys
+pass_steps::Distinct::step-key_of-requires-clause-keys g t c = keys_fit (operators c.args.self.now.walk.fixed.now) c.requires.can.fixed.typed c.args.self.now.walk.op c.requires.can.op c.args.self.now.input c.args.self.now.keys.now c.requires.is.0 c.requires.is.1
 
-pub pass_steps::Distinct::next_key-first_of_key-requires-clause-count : goal.pass_steps::Distinct::next_key-first_of_key-requires-clause-count
-pass_steps::Distinct::next_key-first_of_key-requires-clause-count g t c =
+pub pass_steps::Distinct::step-first_of_key-requires-clause-count : goal.pass_steps::Distinct::step-first_of_key-requires-clause-count
+pass_steps::Distinct::step-first_of_key-requires-clause-count g t c =
     let adv = rw c.in_ok-before.ensures.ok at c.advance.ensures in
     let within = in_shape c.requires.can (passes_on c.args.self.now.input (first_by_keys c.args.self.now.keys.now c.requires.is.0)) c.requires.is.1 in
     let few = firsts_count (operators c.args.self.now.walk.fixed.now) c.args.self.now.walk.op c.args.self.now.input c.args.self.now.keys.now c.requires.is.0 c.requires.is.2 (world_of (g.S.Sources.view c.args.s.now) c.args.growing.now) c.args.at.now within in
     let more = adv.ran.asks.kept.longer c.args.self.now.walk.op in
     omega (arith, few, more, c.seen_up_to-count.ensures)
 
-pub pass_steps::Distinct::next_key-returns : goal.pass_steps::Distinct::next_key-returns
-pass_steps::Distinct::next_key-returns g t c =
+pub pass_steps::Distinct::step-returns : goal.pass_steps::Distinct::step-returns
+pass_steps::Distinct::step-returns g t c =
     let adv = rw c.in_ok-before.ensures.ok at c.advance.ensures in
     let h = rw c.in-Some.is at c.in_ok-advance.ensures.answer in
     let f = rw (c.in-Some.is, c.in_ok-before.ensures.ok) at c.in_ok-advance.ensures.answer in
@@ -248,6 +226,45 @@ pass_steps::Distinct::next_key-returns g t c =
       cause = search rules;
       answer = firsts_result (operators c.args.self.now.walk.fixed.now) c.args.self.now.walk.op c.args.self.now.input c.args.self.now.keys.now c.requires.is.0 c.requires.is.2 c.requires.is.3 c.requires.can.fixed.typed c.requires.can.op c.requires.is.1 (world_of (g.S.Sources.view c.args.s.now) c.args.growing.now) c.args.at.now (in_shape c.requires.can (passes_on c.args.self.now.input (first_by_keys c.args.self.now.keys.now c.requires.is.0)) c.requires.is.1) _ c.requires.can.bench adv.ran.asks _ f adv.ran.bench c.in_ok-key-in-Some.key.items parts value c.spots_are_one.ensures c.first_of_key.new.seen.items c.first_of_key.ensures.grows (rw c.seen_up_to-count.ensures at c.first_of_key.ensures.pushed) c.first_of_key.result (rw c.seen_up_to-count.ensures at c.first_of_key.ensures.answer);
     })
+
+pub pass_steps::Distinct::next-returns-in_err-later : goal.pass_steps::Distinct::next-returns-in_err-later
+pass_steps::Distinct::next-returns-in_err-later g t c = record { ran = ran_nothing g.met.S.Sources.same c.args.self.now.walk.op _ c.args.s.now c.args.growing.now c.requires.can.bench; cause = search rules; answer = search rules }
+
+pub pass_steps::Distinct::next-events-init : goal.pass_steps::Distinct::next-events-init
+pass_steps::Distinct::next-events-init g t c = way_resumed g.met.S.Sources.same c.requires.can c.args.self.now.input c.args.self.now.keys.now c.requires.is.0 c.requires.is.1 c.in_ok-later.later c.in_ok-later.ensures.later
+
+pub pass_steps::Distinct::next-step-requires : goal.pass_steps::Distinct::next-step-requires
+pass_steps::Distinct::next-step-requires g t c κs within =
+    let can : CanStep (g.S.Sources.view c.events.s) c.events.growing c.args.self.now.walk.fixed.now c.args.self.now.walk.op c.here.result.now = rw c.here.ensures c.events.invariant.can in
+    search rules
+
+pub pass_steps::Distinct::next-events-preserved : goal.pass_steps::Distinct::next-events-preserved
+pass_steps::Distinct::next-events-preserved g t c = way_on g.met.S.Sources.after c.events.invariant (rw c.here.ensures at c.step.ensures) c.in-On.event (rw (c.in-On.is, c.here.ensures) at c.in_ok-step.ensures.answer)
+
+pub pass_steps::Distinct::next-events-smaller : goal.pass_steps::Distinct::next-events-smaller
+pass_steps::Distinct::next-events-smaller g t c = (rw (c.in-On.is, c.here.ensures) at c.in_ok-step.ensures.answer).falls
+
+pub pass_steps::Distinct::next-returns-in-At : goal.pass_steps::Distinct::next-returns-in-At
+pass_steps::Distinct::next-returns-in-At g t c = record {
+  ran = way_ran g.met.S.Sources.after c.events.invariant (rw c.here.ensures at c.step.ensures);
+  cause = tt;
+  answer = rw c.in_ok-put-in-At.ensures.ok (comes_at c.events.invariant.goes.comes (rw (c.in-At.is, c.here.ensures) at c.in_ok-step.ensures.answer));
+}
+
+pub pass_steps::Distinct::next-returns-in_err-put-in-At : goal.pass_steps::Distinct::next-returns-in_err-put-in-At
+pass_steps::Distinct::next-returns-in_err-put-in-At g t c = record { ran = way_ran g.met.S.Sources.after c.events.invariant (rw c.here.ensures at c.step.ensures); cause = search rules; answer = search rules }
+
+pub pass_steps::Distinct::next-returns-in-Done : goal.pass_steps::Distinct::next-returns-in-Done
+pass_steps::Distinct::next-returns-in-Done g t c = record {
+  ran = way_ran g.met.S.Sources.after c.events.invariant (rw c.here.ensures at c.step.ensures);
+  cause = tt;
+  answer = comes_none c.events.invariant.goes.comes (rw (c.in-Done.is, c.here.ensures) at c.in_ok-step.ensures.answer);
+}
+
+pub pass_steps::Distinct::next-returns-in_err-step : goal.pass_steps::Distinct::next-returns-in_err-step
+pass_steps::Distinct::next-returns-in_err-step g t c =
+    let step = rw c.here.ensures at c.step.ensures in
+    record { ran = way_ran g.met.S.Sources.after c.events.invariant step; cause = search rules; answer = search rules }
 
 pub join_steps::Join::next_left-returns-in_err-advance : goal.join_steps::Join::next_left-returns-in_err-advance
 join_steps::Join::next_left-returns-in_err-advance g t c = record { ran = left_ran c.args.self.now.left c.args.self.now.right c.args.self.now.walk.op c.args.self.now.tests.now c.requires.can c.requires.op c.requires.is c.advance.ensures.ran; cause = search rules; answer = search rules }
@@ -292,74 +309,68 @@ join_steps::Join::step-returns-in_ok-start-in_default g t c =
       answer = goes_result _ goes (pairs_up c.args.self.now.left c.args.self.now.right c.args.self.now.tests.now) c.next_left.result left.answer;
     })
 
-pub path_scan::PathScan::step-next-requires-clause-bench : goal.path_scan::PathScan::step-next-requires-clause-bench
-path_scan::PathScan::step-next-requires-clause-bench g t c = rw c.visit.ensures.is c.requires.can.bench
+pub path_scan::PathScan::next-next_at-requires-clause-bench : goal.path_scan::PathScan::next-next_at-requires-clause-bench
+path_scan::PathScan::next-next_at-requires-clause-bench g t c = rw c.visit.ensures.is c.requires.can.bench
 
-pub path_scan::PathScan::step-next-requires-clause-read : goal.path_scan::PathScan::step-next-requires-clause-read
-path_scan::PathScan::step-next-requires-clause-read g t c = rw c.visit.ensures.is (in_visit c.requires.can c.args.self.now.input c.args.self.now.start c.args.self.now.path.now c.args.self.now.out c.requires.is (record { ptr = c.in-Found.below.ptr; value = tt }) _ _ _ c.in-Found.is).3
+pub path_scan::PathScan::next-next_at-requires-clause-read : goal.path_scan::PathScan::next-next_at-requires-clause-read
+path_scan::PathScan::next-next_at-requires-clause-read g t c = rw c.visit.ensures.is (in_visit c.requires.can c.args.self.now.input c.args.self.now.start c.args.self.now.path.now c.args.self.now.out c.requires.is (record { ptr = c.in-Found.below.ptr; value = tt }) _ _ _ c.in-Found.is).3
 
-pub path_scan::PathScan::step-next-requires-clause-at : goal.path_scan::PathScan::step-next-requires-clause-at
-path_scan::PathScan::step-next-requires-clause-at g t c = rw c.visit.ensures.is (in_visit c.requires.can c.args.self.now.input c.args.self.now.start c.args.self.now.path.now c.args.self.now.out c.requires.is (record { ptr = c.in-Found.below.ptr; value = tt }) _ _ _ c.in-Found.is).4
+pub path_scan::PathScan::next-next_at-requires-clause-at : goal.path_scan::PathScan::next-next_at-requires-clause-at
+path_scan::PathScan::next-next_at-requires-clause-at g t c = rw c.visit.ensures.is (in_visit c.requires.can c.args.self.now.input c.args.self.now.start c.args.self.now.path.now c.args.self.now.out c.requires.is (record { ptr = c.in-Found.below.ptr; value = tt }) _ _ _ c.in-Found.is).4
 
-pub path_scan::PathScan::step-returns-in_err-next-in-Found : goal.path_scan::PathScan::step-returns-in_err-next-in-Found
-path_scan::PathScan::step-returns-in_err-next-in-Found g t c =
-    let asked = (next_sought (machine_of c.visit.result.auto.now) (machine_of (table_of c.args.self.now.path.now)) c.visit.ensures.auto c.in-Found.source c.in-Found.found _ _ (rw c.visit.ensures.is at c.next.ensures)).asked in
-    placed c.args.at.now _ c.in-Found.is (visits_below c.args.self.now.input c.args.self.now.start c.args.self.now.path.now c.args.self.now.out) c.requires.is (record { ran = match_ran c.requires.can c.args.self.now.input c.args.self.now.start c.args.self.now.path.now c.args.self.now.out c.requires.is (record { ptr = c.in-Found.below.ptr; value = tt }) _ _ _ c.in-Found.is asked; cause = search rules; answer = search rules })
+pub path_scan::PathScan::next-returns-in_err-next_at-in-Found : goal.path_scan::PathScan::next-returns-in_err-next_at-in-Found
+path_scan::PathScan::next-returns-in_err-next_at-in-Found g t c =
+    let asked = (next_sought (machine_of c.visit.result.auto.now) (machine_of (table_of c.args.self.now.path.now)) c.visit.ensures.auto c.in-Found.source c.in-Found.found _ _ _ (rw c.visit.ensures.is at c.next_at.ensures)).asked in
+    led_at c.args.at.now _ c.in-Found.is (visits_below c.args.self.now.input c.args.self.now.start c.args.self.now.path.now c.args.self.now.out) c.requires.is (record { ran = match_ran c.requires.can c.args.self.now.input c.args.self.now.start c.args.self.now.path.now c.args.self.now.out c.requires.is (record { ptr = c.in-Found.below.ptr; value = tt }) _ _ _ c.in-Found.is asked; cause = search rules; answer = search rules })
 
-pub path_scan::PathScan::step-returns-in_err-share-in-Some : goal.path_scan::PathScan::step-returns-in_err-share-in-Some
-path_scan::PathScan::step-returns-in_err-share-in-Some g t c =
-    let asked = (next_sought (machine_of c.visit.result.auto.now) (machine_of (table_of c.args.self.now.path.now)) c.visit.ensures.auto c.in-Found.source c.in-Found.found _ _ (rw c.visit.ensures.is at c.next.ensures)).asked in
-    placed c.args.at.now _ c.in-Found.is (visits_below c.args.self.now.input c.args.self.now.start c.args.self.now.path.now c.args.self.now.out) c.requires.is (record { ran = match_ran c.requires.can c.args.self.now.input c.args.self.now.start c.args.self.now.path.now c.args.self.now.out c.requires.is (record { ptr = c.in-Found.below.ptr; value = tt }) _ _ _ c.in-Found.is asked; cause = search rules; answer = search rules })
-
-pub path_scan::PathScan::step-next_start-requires : goal.path_scan::PathScan::step-next_start-requires
-path_scan::PathScan::step-next_start-requires g t c κs within =
-    let can = can_then (input_can c.requires.can c.args.self.now.input c.args.self.now.start c.args.self.now.path.now c.args.self.now.out c.requires.is (record { ptr = c.in-Found.below.ptr; value = tt }) _ _ _ c.in-Found.is) (g.S.Sources.view c.next.new.s) c.next.new.growing (rw c.visit.ensures.is at c.next.ensures).asked.bench (rw c.visit.ensures.is at c.next.ensures).asked.kept in
+pub path_scan::PathScan::next-next_start-requires : goal.path_scan::PathScan::next-next_start-requires
+path_scan::PathScan::next-next_start-requires g t c κs within =
+    let can = can_then (input_can c.requires.can c.args.self.now.input c.args.self.now.start c.args.self.now.path.now c.args.self.now.out c.requires.is (record { ptr = c.in-Found.below.ptr; value = tt }) _ _ _ c.in-Found.is) (g.S.Sources.view c.next_at.new.s) c.next_at.new.growing (rw c.visit.ensures.is at c.next_at.ensures).asked.bench (rw c.visit.ensures.is at c.next_at.ensures).asked.kept in
     let small = input_below c.requires.can c.args.self.now.input c.args.self.now.start c.args.self.now.path.now c.args.self.now.out c.requires.is in
     search rules
 
-pub path_scan::PathScan::step-returns-in-None : goal.path_scan::PathScan::step-returns-in-None
-path_scan::PathScan::step-returns-in-None g t c =
-    let asked = (next_sought (machine_of c.visit.result.auto.now) (machine_of (table_of c.args.self.now.path.now)) c.visit.ensures.auto c.in-Found.source c.in-Found.found _ _ (rw c.visit.ensures.is at c.next.ensures)).asked in
-    let none = (next_sought (machine_of c.visit.result.auto.now) (machine_of (table_of c.args.self.now.path.now)) c.visit.ensures.auto c.in-Found.source c.in-Found.found _ _ (rw c.visit.ensures.is at c.in_ok-next-in-Found.ensures)).answer in
+pub path_scan::PathScan::next-returns-in-None : goal.path_scan::PathScan::next-returns-in-None
+path_scan::PathScan::next-returns-in-None g t c =
+    let asked = (next_sought (machine_of c.visit.result.auto.now) (machine_of (table_of c.args.self.now.path.now)) c.visit.ensures.auto c.in-Found.source c.in-Found.found _ _ _ (rw c.visit.ensures.is at c.next_at.ensures)).asked in
+    let none = (next_sought (machine_of c.visit.result.auto.now) (machine_of (table_of c.args.self.now.path.now)) c.visit.ensures.auto c.in-Found.source c.in-Found.found _ _ _ (rw c.visit.ensures.is at c.in_ok-next_at-in-Found.ensures)).answer in
     let goes = match_then c.requires.can c.args.self.now.input c.args.self.now.start c.args.self.now.path.now c.args.self.now.out c.requires.is (record { ptr = c.in-Found.below.ptr; value = tt }) _ _ _ c.in-Found.is asked (rw c.in-None.is at none) in
-    placed c.args.at.now _ c.in-Found.is (visits_below c.args.self.now.input c.args.self.now.start c.args.self.now.path.now c.args.self.now.out) c.requires.is (record {
+    led_at c.args.at.now _ c.in-Found.is (visits_below c.args.self.now.input c.args.self.now.start c.args.self.now.path.now c.args.self.now.out) c.requires.is (record {
       ran = ran_then g.met.S.Sources.after asked.came goes c.next_start.ensures.ran;
       cause = search rules;
-      answer = goes_result _ goes (visits_below c.args.self.now.input c.args.self.now.start c.args.self.now.path.now c.args.self.now.out) c.next_start.result c.next_start.ensures.answer;
+      answer = goes_gives _ goes (visits_below c.args.self.now.input c.args.self.now.start c.args.self.now.path.now c.args.self.now.out) c.next_start.result c.next_start.ensures.answer;
     })
 
-pub path_scan::PathScan::step-returns-in_ok-share-in-Some : goal.path_scan::PathScan::step-returns-in_ok-share-in-Some
-path_scan::PathScan::step-returns-in_ok-share-in-Some g t c =
-    let asked = (next_sought (machine_of c.visit.result.auto.now) (machine_of (table_of c.args.self.now.path.now)) c.visit.ensures.auto c.in-Found.source c.in-Found.found _ _ (rw c.visit.ensures.is at c.next.ensures)).asked in
-    let found = (next_sought (machine_of c.visit.result.auto.now) (machine_of (table_of c.args.self.now.path.now)) c.visit.ensures.auto c.in-Found.source c.in-Found.found _ _ (rw c.visit.ensures.is at c.in_ok-next-in-Found.ensures)).answer in
-    placed c.args.at.now _ c.in-Found.is (visits_below c.args.self.now.input c.args.self.now.start c.args.self.now.path.now c.args.self.now.out) c.requires.is (record {
+pub path_scan::PathScan::next-returns-in-Some : goal.path_scan::PathScan::next-returns-in-Some
+path_scan::PathScan::next-returns-in-Some g t c =
+    let asked = (next_sought (machine_of c.visit.result.auto.now) (machine_of (table_of c.args.self.now.path.now)) c.visit.ensures.auto c.in-Found.source c.in-Found.found _ _ _ (rw c.visit.ensures.is at c.next_at.ensures)).asked in
+    let hit = rw c.in-Some.is at (next_sought (machine_of c.visit.result.auto.now) (machine_of (table_of c.args.self.now.path.now)) c.visit.ensures.auto c.in-Found.source c.in-Found.found _ _ _ (rw c.visit.ensures.is at c.in_ok-next_at-in-Found.ensures)).answer in
+    led_at c.args.at.now _ c.in-Found.is (visits_below c.args.self.now.input c.args.self.now.start c.args.self.now.path.now c.args.self.now.out) c.requires.is (record {
       ran = match_ran c.requires.can c.args.self.now.input c.args.self.now.start c.args.self.now.path.now c.args.self.now.out c.requires.is (record { ptr = c.in-Found.below.ptr; value = tt }) _ _ _ c.in-Found.is asked;
       cause = tt;
-      answer = match_found c.requires.can c.args.self.now.input c.args.self.now.start c.args.self.now.path.now c.args.self.now.out c.requires.is (record { ptr = c.in-Found.below.ptr; value = tt }) _ _ _ c.in-Found.is asked _ (rw c.in-Some.is at found) _
-          (ap (λ (y : Position). Found' c.in-Found.source (record { ptr = c.in_ok-share-in-Some.field-0.ptr; value = tt }) y c.in-Some.found) c.in_ok-share-in-Some.ensures.ok);
+      answer = match_found c.requires.can c.args.self.now.input c.args.self.now.start c.args.self.now.path.now c.args.self.now.out c.requires.is (record { ptr = c.in-Found.below.ptr; value = tt }) _ _ _ c.in-Found.is asked hit.0 hit.1 c.in-Some.next.value {u = hit.2.0} hit.2.1;
     })
 
-pub path_scan::PathScan::step-next_start-requires-in_default : goal.path_scan::PathScan::step-next_start-requires-in_default
-path_scan::PathScan::step-next_start-requires-in_default g t c κs within =
+pub path_scan::PathScan::next-next_start-requires-in_default : goal.path_scan::PathScan::next-next_start-requires-in_default
+path_scan::PathScan::next-next_start-requires-in_default g t c κs within =
     let begins = found_or_start (operators c.args.self.now.walk.fixed.now) c.args.self.now.walk.op c.args.self.now.input c.args.self.now.start c.args.self.now.path.now c.args.self.now.out (world_of (g.S.Sources.view c.args.s.now) c.args.growing.now) c.args.at.now (in_shape c.requires.can (visits_below c.args.self.now.input c.args.self.now.start c.args.self.now.path.now c.args.self.now.out) c.requires.is) (λ q x s d e. c.in_default.not-Found s (record { ptr = q.ptr; value = x }) d e) in
     let same : c.in_ok-start-in_default.start.value ≡ c.args.at.now = c.in_ok-start-in_default.ensures.ok ∙ sym begins in
     let can : CanStep (g.S.Sources.view c.args.s.now) c.args.growing.now c.args.self.now.walk.fixed.now c.args.self.now.input c.in_ok-start-in_default.start.value = rw same (start_can c.requires.can c.args.self.now.input c.args.self.now.start c.args.self.now.path.now c.args.self.now.out c.requires.is begins) in
     let small = input_below c.requires.can c.args.self.now.input c.args.self.now.start c.args.self.now.path.now c.args.self.now.out c.requires.is in
     search rules
 
-pub path_scan::PathScan::step-returns-in_err-start-in_default : goal.path_scan::PathScan::step-returns-in_err-start-in_default
-path_scan::PathScan::step-returns-in_err-start-in_default g t c = shaped c.args.at.now (visits_below c.args.self.now.input c.args.self.now.start c.args.self.now.path.now c.args.self.now.out) c.requires.is (record { ran = ran_nothing g.met.S.Sources.same c.args.self.now.walk.op _ c.args.s.now c.args.growing.now c.requires.can.bench; cause = search rules; answer = search rules })
+pub path_scan::PathScan::next-returns-in_err-start-in_default : goal.path_scan::PathScan::next-returns-in_err-start-in_default
+path_scan::PathScan::next-returns-in_err-start-in_default g t c = led c.args.at.now (visits_below c.args.self.now.input c.args.self.now.start c.args.self.now.path.now c.args.self.now.out) c.requires.is (record { ran = ran_nothing g.met.S.Sources.same c.args.self.now.walk.op _ c.args.s.now c.args.growing.now c.requires.can.bench; cause = search rules; answer = search rules })
 
-pub path_scan::PathScan::step-returns-in_ok-start-in_default : goal.path_scan::PathScan::step-returns-in_ok-start-in_default
-path_scan::PathScan::step-returns-in_ok-start-in_default g t c =
+pub path_scan::PathScan::next-returns-in_ok-start-in_default : goal.path_scan::PathScan::next-returns-in_ok-start-in_default
+path_scan::PathScan::next-returns-in_ok-start-in_default g t c =
     let begins = found_or_start (operators c.args.self.now.walk.fixed.now) c.args.self.now.walk.op c.args.self.now.input c.args.self.now.start c.args.self.now.path.now c.args.self.now.out (world_of (g.S.Sources.view c.args.s.now) c.args.growing.now) c.args.at.now (in_shape c.requires.can (visits_below c.args.self.now.input c.args.self.now.start c.args.self.now.path.now c.args.self.now.out) c.requires.is) (λ q x s d e. c.in_default.not-Found s (record { ptr = q.ptr; value = x }) d e) in
     let goes = visits_begin (operators c.args.self.now.walk.fixed.now) c.args.self.now.walk.op c.args.self.now.input c.args.self.now.start c.args.self.now.path.now c.args.self.now.out c.requires.can.fixed.typed c.requires.can.op c.requires.is (world_of (g.S.Sources.view c.args.s.now) c.args.growing.now) c.requires.can.bench c.args.at.now begins in
     let same : c.in_ok-start-in_default.start.value ≡ c.args.at.now = c.in_ok-start-in_default.ensures.ok ∙ sym begins in
     let next = rw same at c.next_start-in_default.ensures in
-    shaped c.args.at.now (visits_below c.args.self.now.input c.args.self.now.start c.args.self.now.path.now c.args.self.now.out) c.requires.is (record {
+    led c.args.at.now (visits_below c.args.self.now.input c.args.self.now.start c.args.self.now.path.now c.args.self.now.out) c.requires.is (record {
       ran = ran_then g.met.S.Sources.after (g.met.S.Sources.same c.args.s.now) goes next.ran;
       cause = next.cause;
-      answer = goes_result _ goes (visits_below c.args.self.now.input c.args.self.now.start c.args.self.now.path.now c.args.self.now.out) c.next_start-in_default.result next.answer;
+      answer = goes_gives _ goes (visits_below c.args.self.now.input c.args.self.now.start c.args.self.now.path.now c.args.self.now.out) c.next_start-in_default.result next.answer;
     })
 
 pub path_scan::PathScan::next_start-starts-init : goal.path_scan::PathScan::next_start-starts-init
@@ -401,17 +412,17 @@ path_scan::PathScan::next_start-node_of-source-requires-clause-cursor g t c =
 pub path_scan::PathScan::next_start-node_of-source-requires-clause-node : goal.path_scan::PathScan::next_start-node_of-source-requires-clause-node
 path_scan::PathScan::next_start-node_of-source-requires-clause-node g t c = (fit_at (operators c.args.self.now.walk.fixed.now) c.requires.can.fixed.typed c.args.self.now.walk.op c.requires.op (visits_below c.args.self.now.input c.args.self.now.start c.args.self.now.path.now c.args.self.now.out) c.requires.is).0
 
-pub path_scan::PathScan::next_start-first-requires-clause-bench : goal.path_scan::PathScan::next_start-first-requires-clause-bench
-path_scan::PathScan::next_start-first-requires-clause-bench g t c = rw c.visit.ensures.is c.advance.ensures.ran.bench
+pub path_scan::PathScan::next_start-first_at-requires-clause-bench : goal.path_scan::PathScan::next_start-first_at-requires-clause-bench
+path_scan::PathScan::next_start-first_at-requires-clause-bench g t c = rw c.visit.ensures.is c.advance.ensures.ran.bench
 
-pub path_scan::PathScan::next_start-first-requires-clause-read : goal.path_scan::PathScan::next_start-first-requires-clause-read
-path_scan::PathScan::next_start-first-requires-clause-read g t c =
+pub path_scan::PathScan::next_start-first_at-requires-clause-read : goal.path_scan::PathScan::next_start-first_at-requires-clause-read
+path_scan::PathScan::next_start-first_at-requires-clause-read g t c =
     let f = rw c.in-Some.is at c.in_ok-next.ensures.answer in
     let node = (rw c.deref.ensures at c.node_of-source.ensures) _ f.cursor in
     rw c.visit.ensures.is node.read
 
-pub path_scan::PathScan::next_start-first-requires-clause-start : goal.path_scan::PathScan::next_start-first-requires-clause-start
-path_scan::PathScan::next_start-first-requires-clause-start g t c =
+pub path_scan::PathScan::next_start-first_at-requires-clause-start : goal.path_scan::PathScan::next_start-first_at-requires-clause-start
+path_scan::PathScan::next_start-first_at-requires-clause-start g t c =
     let f = rw c.in-Some.is at c.in_ok-next.ensures.answer in
     let node = (rw c.deref.ensures at c.node_of-source.ensures) _ f.cursor in
     rw c.visit.ensures.is node.known
@@ -419,10 +430,10 @@ path_scan::PathScan::next_start-first-requires-clause-start g t c =
 pub path_scan::PathScan::next_start-returns-in_err-found : goal.path_scan::PathScan::next_start-returns-in_err-found
 path_scan::PathScan::next_start-returns-in_err-found g t c =
     record {
-      ran = (let i = c.starts.invariant in let f = rw c.in-Some.is at c.in_ok-next.ensures.answer in let node = (rw c.deref.ensures at c.node_of-source.ensures) _ f.cursor in let at = start_at c.args.self.now.input c.args.self.now.start c.args.self.now.path.now c.args.self.now.out c.requires.op c.requires.is c.starts.at.value i.can c.advance.ensures.ran _ f in let goes = start_goes c.args.self.now.input c.args.self.now.start c.args.self.now.path.now c.args.self.now.out c.requires.op c.requires.is c.starts.at.value i.can c.advance.ensures.ran _ f i.goes in let visit = rw c.visit.ensures.is at c.first.ensures in let sought = first_sought c.args.self.now.path.now (machine_of c.visit.result.auto.now) c.visit.ensures.auto _ c.node_of-source.result.0 c.node_of-source.result.1 node.node c.first.result visit in let came = g.met.S.Sources.after _ _ _ i.came c.advance.ensures.ran.came in ran_then g.met.S.Sources.after came goes (visit_ran c.args.self.now.input c.args.self.now.start c.args.self.now.path.now c.args.self.now.out c.requires.op c.requires.is c.in-Some.next.value at f.row c.node_of-source.result.0 (ap (λ (z : Node). z.source) node.node) node.read _ sought.asked));
+      ran = (let i = c.starts.invariant in let f = rw c.in-Some.is at c.in_ok-next.ensures.answer in let node = (rw c.deref.ensures at c.node_of-source.ensures) _ f.cursor in let at = start_at c.args.self.now.input c.args.self.now.start c.args.self.now.path.now c.args.self.now.out c.requires.op c.requires.is c.starts.at.value i.can c.advance.ensures.ran _ f in let goes = start_goes c.args.self.now.input c.args.self.now.start c.args.self.now.path.now c.args.self.now.out c.requires.op c.requires.is c.starts.at.value i.can c.advance.ensures.ran _ f i.goes in let visit = rw c.visit.ensures.is at c.first_at.ensures in let sought = first_sought c.args.self.now.path.now (machine_of c.visit.result.auto.now) c.visit.ensures.auto _ c.node_of-source.result.0 c.node_of-source.result.1 node.node _ c.first_at.result visit in let came = g.met.S.Sources.after _ _ _ i.came c.advance.ensures.ran.came in ran_then g.met.S.Sources.after came goes (visit_ran c.args.self.now.input c.args.self.now.start c.args.self.now.path.now c.args.self.now.out c.requires.op c.requires.is c.in-Some.next.value at f.row c.node_of-source.result.0 (ap (λ (z : Node). z.source) node.node) node.read _ sought.asked));
       cause =
           (let keeps : Keeps (g.S.Sources.view c.args.s.now) (g.S.Sources.view c.advance.new.s) = g.met.S.Sources.keeps _ _ (g.met.S.Sources.after _ _ _ c.starts.invariant.came c.advance.ensures.ran.came) in
-          let since = rose_since (IsRead (operators c.args.self.now.walk.fixed.now)) (IsRead (operators c.args.self.now.walk.fixed.now)) (g.S.Sources.view c.args.s.now) (g.S.Sources.view c.advance.new.s) (g.S.Sources.view c.first.new.s) (λ n r. r) keeps.faults _ (rw c.visit.ensures.is at c.in_err-found.ensures.cause) in
+          let since = rose_since (IsRead (operators c.args.self.now.walk.fixed.now)) (IsRead (operators c.args.self.now.walk.fixed.now)) (g.S.Sources.view c.args.s.now) (g.S.Sources.view c.advance.new.s) (g.S.Sources.view c.first_at.new.s) (λ n r. r) keeps.faults _ (rw c.visit.ensures.is at c.in_err-found.ensures.cause) in
           search rules);
       answer = search rules;
     }
@@ -435,11 +446,12 @@ path_scan::PathScan::next_start-returns-in-Some-2 g t c =
     let at = start_at c.args.self.now.input c.args.self.now.start c.args.self.now.path.now c.args.self.now.out c.requires.op c.requires.is c.starts.at.value i.can c.advance.ensures.ran _ f in
     let goes = start_goes c.args.self.now.input c.args.self.now.start c.args.self.now.path.now c.args.self.now.out c.requires.op c.requires.is c.starts.at.value i.can c.advance.ensures.ran _ f i.goes in
     let visit = rw c.visit.ensures.is at c.in_ok-found.ensures in
-    let sought = first_sought c.args.self.now.path.now (machine_of c.visit.result.auto.now) c.visit.ensures.auto _ c.node_of-source.result.0 c.node_of-source.result.1 node.node _ visit in
+    let sought = first_sought c.args.self.now.path.now (machine_of c.visit.result.auto.now) c.visit.ensures.auto _ c.node_of-source.result.0 c.node_of-source.result.1 node.node _ _ visit in
+    let hit = rw c.in-Some-2.is at sought.answer in
     record {
       ran = ran_then g.met.S.Sources.after (g.met.S.Sources.after _ _ _ i.came c.advance.ensures.ran.came) goes (visit_ran c.args.self.now.input c.args.self.now.start c.args.self.now.path.now c.args.self.now.out c.requires.op c.requires.is c.in-Some.next.value at f.row c.node_of-source.result.0 (ap (λ (z : Node). z.source) node.node) node.read _ sought.asked);
       cause = tt;
-      answer = comes_at goes.comes (visit_found c.args.self.now.input c.args.self.now.start c.args.self.now.path.now c.args.self.now.out c.requires.op c.requires.is c.in-Some.next.value at f.row c.node_of-source.result.0 (ap (λ (z : Node). z.source) node.node) node.read _ sought.asked _ _ (rw c.in-Some-2.is at sought.answer) _ refl);
+      answer = comes_at goes.comes (visit_found c.args.self.now.input c.args.self.now.start c.args.self.now.path.now c.args.self.now.out c.requires.op c.requires.is c.in-Some.next.value at f.row c.node_of-source.result.0 (ap (λ (z : Node). z.source) node.node) node.read _ sought.asked _ hit.0 hit.1 c.in-Some-2.found.value {u = hit.2.0} hit.2.1);
     }
 
 pub path_scan::PathScan::next_start-starts-preserved : goal.path_scan::PathScan::next_start-starts-preserved
@@ -450,27 +462,24 @@ path_scan::PathScan::next_start-starts-preserved g t c =
     let at = start_at c.args.self.now.input c.args.self.now.start c.args.self.now.path.now c.args.self.now.out c.requires.op c.requires.is c.starts.at.value i.can c.advance.ensures.ran _ f in
     let goes = start_goes c.args.self.now.input c.args.self.now.start c.args.self.now.path.now c.args.self.now.out c.requires.op c.requires.is c.starts.at.value i.can c.advance.ensures.ran _ f i.goes in
     let visit = rw c.visit.ensures.is at c.in_ok-found.ensures in
-    let sought = first_sought c.args.self.now.path.now (machine_of c.visit.result.auto.now) c.visit.ensures.auto _ c.node_of-source.result.0 c.node_of-source.result.1 node.node _ visit in
+    let sought = first_sought c.args.self.now.path.now (machine_of c.visit.result.auto.now) c.visit.ensures.auto _ c.node_of-source.result.0 c.node_of-source.result.1 node.node _ _ visit in
     record {
       came = g.met.S.Sources.after _ _ _ (g.met.S.Sources.after _ _ _ i.came c.advance.ensures.ran.came) sought.asked.came;
       goes = goes_then goes (visit_then c.args.self.now.input c.args.self.now.start c.args.self.now.path.now c.args.self.now.out c.requires.op c.requires.is c.in-Some.next.value at f.row c.node_of-source.result.0 (ap (λ (z : Node). z.source) node.node) node.read _ sought.asked (suc (bound_of (world_of (g.S.Sources.view c.advance.new.s) c.advance.new.growing))) (rw (none_of _ c.in_default-2.not-Some) at sought.answer));
-      can = can_then at (g.S.Sources.view c.first.new.s) c.first.new.growing sought.asked.bench sought.asked.kept;
+      can = can_then at (g.S.Sources.view c.first_at.new.s) c.first_at.new.growing sought.asked.bench sought.asked.kept;
     }
 
 pub path_scan::PathScan::next_start-starts-smaller : goal.path_scan::PathScan::next_start-starts-smaller
 path_scan::PathScan::next_start-starts-smaller g t c =
     let f = rw c.in-Some.is at c.in_ok-next.ensures.answer in
     let node = (rw c.deref.ensures at c.node_of-source.ensures) _ f.cursor in
-    let visit = rw c.visit.ensures.is at c.first.ensures in
-    let sought = first_sought c.args.self.now.path.now (machine_of c.visit.result.auto.now) c.visit.ensures.auto _ c.node_of-source.result.0 c.node_of-source.result.1 node.node c.first.result visit in
+    let visit = rw c.visit.ensures.is at c.first_at.ensures in
+    let sought = first_sought c.args.self.now.path.now (machine_of c.visit.result.auto.now) c.visit.ensures.auto _ c.node_of-source.result.0 c.node_of-source.result.1 node.node _ c.first_at.result visit in
     let stays = cursors_kept _ _ sought.asked.kept (operators c.args.self.now.walk.fixed.now) c.advance.ensures.ran.bench c.args.self.now.input c.in-Some.next.value f.cursor in
     omega (arith, f.falls, stays.number_is)
 
 pub sort_steps::Sort::first-returns-in_err-rows : goal.sort_steps::Sort::first-returns-in_err-rows
-sort_steps::Sort::first-returns-in_err-rows g t c = shaped Start (sorts c.args.self.now.input c.args.self.now.var c.args.self.now.desc) c.requires.is (record { ran = order_ran (operators c.args.self.now.walk.fixed.now) c.requires.can.fixed.typed c.args.self.now.walk.op c.requires.can.op c.args.self.now.input c.args.self.now.var c.args.self.now.desc c.requires.is c.labelled.ensures.ran; cause = search rules; answer = search rules })
-
-pub sort_steps::Sort::first-returns-in_err-sort_labelled : goal.sort_steps::Sort::first-returns-in_err-sort_labelled
-sort_steps::Sort::first-returns-in_err-sort_labelled g t c = shaped Start (sorts c.args.self.now.input c.args.self.now.var c.args.self.now.desc) c.requires.is (record { ran = order_ran (operators c.args.self.now.walk.fixed.now) c.requires.can.fixed.typed c.args.self.now.walk.op c.requires.can.op c.args.self.now.input c.args.self.now.var c.args.self.now.desc c.requires.is c.labelled.ensures.ran; cause = search rules; answer = search rules })
+sort_steps::Sort::first-returns-in_err-rows g t c = led Start (sorts c.args.self.now.input c.args.self.now.var c.args.self.now.desc) c.requires.is (record { ran = order_ran (operators c.args.self.now.walk.fixed.now) c.requires.can.fixed.typed c.args.self.now.walk.op c.requires.can.op c.args.self.now.input c.args.self.now.var c.args.self.now.desc c.requires.is c.labelled.ensures.ran; cause = search rules; answer = search rules })
 
 pub sort_steps::labelled-returns-in_err-at-clause-ran : goal.sort_steps::labelled-returns-in_err-at-clause-ran
 sort_steps::labelled-returns-in_err-at-clause-ran g t c = through_nothing g.met.S.Sources.same c.args.walk.op c.args.s.now c.args.growing.now c.requires.can.bench
@@ -486,11 +495,10 @@ sort_steps::labelled-events-init g t c =
 pub sort_steps::labelled-events-preserved : goal.sort_steps::labelled-events-preserved
 sort_steps::labelled-events-preserved g t c =
     let finds = rw c.in-Some.is at c.in_ok-advance.ensures.answer in
-    let place_is = c.in_ok-share-in-Some.ensures.ok in
     record {
       came = g.met.S.Sources.after _ _ _ c.events.invariant.came c.advance.ensures.ran.came;
       gathered = subst (λ (rows : List Labelled). Gathered (world_of (g.S.Sources.view c.args.s.now) c.args.growing.now) (world_of (g.S.Sources.view c.advance.new.s) c.advance.new.growing) (operators c.args.walk.fixed.now) c.args.walk.op c.args.v rows c.in-Some.found.value) (sym c.in_ok-push-in-Some.ensures.items)
-          (gathered_more (world_of (g.S.Sources.view c.advance.new.s) c.advance.new.growing) c.events.invariant.gathered c.events.invariant.can.bench c.advance.ensures.ran.asks c.in-Some.found.value finds (record { label = c.in_ok-label-in-Some.label; place = c.in_ok-share-in-Some.field-0 }) place_is (λ u. c.in_ok-label-in-Some.ensures ∙ (rw c.deref.ensures at c.label_of.ensures) (g.S.Sources.view c.advance.new.s) c.advance.ensures.ran.bench finds.cursor u));
+          (gathered_more (world_of (g.S.Sources.view c.advance.new.s) c.advance.new.growing) c.events.invariant.gathered c.events.invariant.can.bench c.advance.ensures.ran.asks c.in-Some.found.value finds c.in_ok-row-in-Some.row c.in_ok-row-in-Some.ensures.place (c.in_ok-row-in-Some.ensures.label (g.S.Sources.view c.advance.new.s) c.advance.ensures.ran.bench finds.cursor));
       can = record { fixed = c.requires.can.fixed; op = c.requires.can.op; bench = c.advance.ensures.ran.bench; cursor = finds.cursor };
     }
 
@@ -500,11 +508,8 @@ sort_steps::labelled-returns-in_err-advance-clause-ran g t c = through g.met.S.S
 pub sort_steps::labelled-returns-in-None-clause-ran : goal.sort_steps::labelled-returns-in-None-clause-ran
 sort_steps::labelled-returns-in-None-clause-ran g t c = through g.met.S.Sources.after c.events.invariant.came c.events.invariant.gathered c.events.invariant.can.bench c.advance.ensures.ran
 
-pub sort_steps::labelled-returns-in_err-label-in-Some-clause-ran : goal.sort_steps::labelled-returns-in_err-label-in-Some-clause-ran
-sort_steps::labelled-returns-in_err-label-in-Some-clause-ran g t c = through g.met.S.Sources.after c.events.invariant.came c.events.invariant.gathered c.events.invariant.can.bench c.advance.ensures.ran
-
-pub sort_steps::labelled-returns-in_err-share-in-Some-clause-ran : goal.sort_steps::labelled-returns-in_err-share-in-Some-clause-ran
-sort_steps::labelled-returns-in_err-share-in-Some-clause-ran g t c = through g.met.S.Sources.after c.events.invariant.came c.events.invariant.gathered c.events.invariant.can.bench c.advance.ensures.ran
+pub sort_steps::labelled-returns-in_err-row-in-Some-clause-ran : goal.sort_steps::labelled-returns-in_err-row-in-Some-clause-ran
+sort_steps::labelled-returns-in_err-row-in-Some-clause-ran g t c = through g.met.S.Sources.after c.events.invariant.came c.events.invariant.gathered c.events.invariant.can.bench c.advance.ensures.ran
 
 pub sort_steps::labelled-returns-in_err-push-in-Some-clause-ran : goal.sort_steps::labelled-returns-in_err-push-in-Some-clause-ran
 sort_steps::labelled-returns-in_err-push-in-Some-clause-ran g t c = through g.met.S.Sources.after c.events.invariant.came c.events.invariant.gathered c.events.invariant.can.bench c.advance.ensures.ran
@@ -513,50 +518,44 @@ pub sort_steps::labelled-returns-in-None-clause-rows : goal.sort_steps::labelled
 sort_steps::labelled-returns-in-None-clause-rows g t c =
     gathered_all (world_of (g.S.Sources.view c.advance.new.s) c.advance.new.growing) c.events.invariant.gathered c.events.invariant.can.bench c.advance.ensures.ran.asks c.requires.can.bench (rw c.in-None.is at c.in_ok-advance.ensures.answer)
 
-pub sort_steps::Sort::first-returns-in_err-places : goal.sort_steps::Sort::first-returns-in_err-places
-sort_steps::Sort::first-returns-in_err-places g t c = shaped Start (sorts c.args.self.now.input c.args.self.now.var c.args.self.now.desc) c.requires.is (record { ran = order_ran (operators c.args.self.now.walk.fixed.now) c.requires.can.fixed.typed c.args.self.now.walk.op c.requires.can.op c.args.self.now.input c.args.self.now.var c.args.self.now.desc c.requires.is c.labelled.ensures.ran; cause = search rules; answer = search rules })
-
-pub sort_steps::Sort::first-returns-in_err-list : goal.sort_steps::Sort::first-returns-in_err-list
-sort_steps::Sort::first-returns-in_err-list g t c = shaped Start (sorts c.args.self.now.input c.args.self.now.var c.args.self.now.desc) c.requires.is (record { ran = order_ran (operators c.args.self.now.walk.fixed.now) c.requires.can.fixed.typed c.args.self.now.walk.op c.requires.can.op c.args.self.now.input c.args.self.now.var c.args.self.now.desc c.requires.is c.labelled.ensures.ran; cause = search rules; answer = search rules })
-
 pub sort_steps::Sort::first-returns : goal.sort_steps::Sort::first-returns
 sort_steps::Sort::first-returns g t c =
-    shaped Start (sorts c.args.self.now.input c.args.self.now.var c.args.self.now.desc) c.requires.is (record {
+    led Start (sorts c.args.self.now.input c.args.self.now.var c.args.self.now.desc) c.requires.is (record {
       ran = order_ran (operators c.args.self.now.walk.fixed.now) c.requires.can.fixed.typed c.args.self.now.walk.op c.requires.can.op c.args.self.now.input c.args.self.now.var c.args.self.now.desc c.requires.is c.labelled.ensures.ran;
       cause = search rules;
-      answer = IfOk-weaker c.sorted_at.result _ _ (λ r ok. order_first (operators c.args.self.now.walk.fixed.now) c.requires.can.fixed.typed c.args.self.now.walk.op c.requires.can.op c.args.self.now.input c.args.self.now.var c.args.self.now.desc c.requires.is (world_of (g.S.Sources.view c.args.s.now) c.args.growing.now) (world_of (g.S.Sources.view c.labelled.new.s) c.labelled.new.growing) c.labelled.ensures.ran.kept c.requires.can.bench c.in_ok-rows.rows.items c.sort_labelled.new.rows.items c.in_ok-rows.ensures.rows c.in_ok-sort_labelled.ensures c.in_ok-list.list.value (ap (λ (v : Vec (Rc Position Global) Global). v.items) c.in_ok-list.ensures.ok ∙ c.in_ok-places.ensures) r ok) c.sorted_at.ensures.ok;
+      answer = IfOk-weaker c.first_sorted.result _ _ (λ r ok. order_first (operators c.args.self.now.walk.fixed.now) c.requires.can.fixed.typed c.args.self.now.walk.op c.requires.can.op c.args.self.now.input c.args.self.now.var c.args.self.now.desc c.requires.is (world_of (g.S.Sources.view c.args.s.now) c.args.growing.now) (world_of (g.S.Sources.view c.labelled.new.s) c.labelled.new.growing) c.labelled.ensures.ran.kept c.requires.can.bench c.in_ok-rows.rows.items _ c.in_ok-rows.ensures.rows refl ok.0 ok.1 r ok.2) c.first_sorted.ensures.ok;
     })
 
-pub sort_steps::Sort::step-overflow_add-index : goal.sort_steps::Sort::step-overflow_add-index
-sort_steps::Sort::step-overflow_add-index g t c =
+pub sort_steps::Sort::next-overflow_add-index : goal.sort_steps::Sort::next-overflow_add-index
+sort_steps::Sort::next-overflow_add-index g t c =
     let of = in_place c.requires.can (sorts c.args.self.now.input c.args.self.now.var c.args.self.now.desc) c.requires.is _ c.in-Sorted.is in
     let count = list_count c.in-Sorted.list c.in-Sorted.index in
     omega (arith, count, of.1, c.in-Sorted.list.value.ok, c.in-Sorted.list.value.small)
 
-pub sort_steps::Sort::step-returns-in-Sorted : goal.sort_steps::Sort::step-returns-in-Sorted
-sort_steps::Sort::step-returns-in-Sorted g t c =
-    placed c.args.at.now _ c.in-Sorted.is (sorts c.args.self.now.input c.args.self.now.var c.args.self.now.desc) c.requires.is (record {
+pub sort_steps::Sort::next-returns-in-Sorted : goal.sort_steps::Sort::next-returns-in-Sorted
+sort_steps::Sort::next-returns-in-Sorted g t c =
+    led_at c.args.at.now _ c.in-Sorted.is (sorts c.args.self.now.input c.args.self.now.var c.args.self.now.desc) c.requires.is (record {
       ran = ran_nothing g.met.S.Sources.same c.args.self.now.walk.op _ c.args.s.now c.args.growing.now c.requires.can.bench;
       cause = search rules;
       answer = IfOk-weaker c.sorted_at.result _ _ (λ r ok. order_next (world_of (g.S.Sources.view c.args.s.now) c.args.growing.now) (operators c.args.self.now.walk.fixed.now) c.args.self.now.walk.op c.args.self.now.input c.args.self.now.var c.args.self.now.desc c.in-Sorted.list c.in-Sorted.index (in_place c.requires.can (sorts c.args.self.now.input c.args.self.now.var c.args.self.now.desc) c.requires.is _ c.in-Sorted.is) r ok) c.sorted_at.ensures.ok;
     })
 
-pub sort_steps::Sort::step-returns-in_default : goal.sort_steps::Sort::step-returns-in_default
-sort_steps::Sort::step-returns-in_default g t c =
-    shaped c.args.at.now (sorts c.args.self.now.input c.args.self.now.var c.args.self.now.desc) c.requires.is (record {
+pub sort_steps::Sort::next-returns-in_default : goal.sort_steps::Sort::next-returns-in_default
+sort_steps::Sort::next-returns-in_default g t c =
+    led c.args.at.now (sorts c.args.self.now.input c.args.self.now.var c.args.self.now.desc) c.requires.is (record {
       ran = ran_nothing g.met.S.Sources.same c.args.self.now.walk.op _ c.args.s.now c.args.growing.now c.requires.can.bench;
       cause = tt;
       answer = λ u. order_over (operators c.args.self.now.walk.fixed.now) c.requires.can.fixed.typed c.args.self.now.walk.op c.requires.can.op c.args.self.now.input c.args.self.now.var c.args.self.now.desc c.requires.is (world_of (g.S.Sources.view c.args.s.now) c.args.growing.now) c.args.at.now (in_shape c.requires.can (sorts c.args.self.now.input c.args.self.now.var c.args.self.now.desc) c.requires.is) (λ e. c.in_default.not-Start e) (λ list k e. c.in_default.not-Sorted list k e);
     })
 
-pub steps::next_event-unreachable-requires : goal.steps::next_event-unreachable-requires
-steps::next_event-unreachable-requires g t c = c.requires.more _ (_, ap shape_of (sym c.operator.ensures ∙ ap op_of c.in-Concatenate.is), tt)
+pub steps::advance_below-unreachable-requires : goal.steps::advance_below-unreachable-requires
+steps::advance_below-unreachable-requires g t c = c.requires.more _ (_, ap shape_of (sym c.operator.ensures ∙ ap op_of c.in-Concatenate.is), tt)
 
-pub steps::next_event-unreachable-requires-in-CreateElement : goal.steps::next_event-unreachable-requires-in-CreateElement
-steps::next_event-unreachable-requires-in-CreateElement g t c = c.requires.more _ (_, ap shape_of (sym c.operator.ensures ∙ ap op_of c.in-CreateElement.is), tt)
+pub steps::advance_below-unreachable-requires-in-CreateElement : goal.steps::advance_below-unreachable-requires-in-CreateElement
+steps::advance_below-unreachable-requires-in-CreateElement g t c = c.requires.more _ (_, ap shape_of (sym c.operator.ensures ∙ ap op_of c.in-CreateElement.is), tt)
 
-pub steps::next_event-step-requires-in-Project : goal.steps::next_event-step-requires-in-Project
-steps::next_event-step-requires-in-Project g t c κs within =
+pub steps::advance_below-next-requires-in-Project : goal.steps::advance_below-next-requires-in-Project
+steps::advance_below-next-requires-in-Project g t c κs within =
     let one = c.new-in-Project.result in
     let shape = ap shape_of (sym c.operator.ensures ∙ ap op_of c.in-Project.is) in
     let given : KeepsFirsts c.args.walk c.in-Project.input c.in-Project.keys.items = (None, shape, none_apart (operators c.args.walk.fixed.now) c.args.walk.op c.in-Project.input c.in-Project.keys.items shape c.requires.more, refl) in
@@ -564,8 +563,8 @@ steps::next_event-step-requires-in-Project g t c κs within =
     subst (λ (z : Distinct). KeepsFirsts z.walk z.input z.keys.now) (sym c.new-in-Project.ensures) (subst (KeepsFirsts c.args.walk c.in-Project.input) (sym c.deref-in-Project.ensures.value) given) in
     search rules
 
-pub steps::next_event-step-requires-in-GroupBy-2 : goal.steps::next_event-step-requires-in-GroupBy-2
-steps::next_event-step-requires-in-GroupBy-2 g t c κs within =
+pub steps::advance_below-next-requires-in-GroupBy-2 : goal.steps::advance_below-next-requires-in-GroupBy-2
+steps::advance_below-next-requires-in-GroupBy-2 g t c κs within =
     let one = c.new-in-GroupBy-2.result in
     let op = sym c.operator.ensures ∙ ap op_of c.in-GroupBy-2.is in
     let given : (group : Option (Piece × ℕ)) × (shape_walked c.args.walk ≡ passes_on c.in-GroupBy-2.input (first_by_keys c.deref-in-GroupBy-2.result.now group)) = search rules in
@@ -580,8 +579,8 @@ steps::next_event-step-requires-in-GroupBy-2 g t c κs within =
     ) in
     search rules
 
-pub steps::next_event-step-requires-in-GroupBy-3 : goal.steps::next_event-step-requires-in-GroupBy-3
-steps::next_event-step-requires-in-GroupBy-3 g t c κs within =
+pub steps::advance_below-next-requires-in-GroupBy-3 : goal.steps::advance_below-next-requires-in-GroupBy-3
+steps::advance_below-next-requires-in-GroupBy-3 g t c κs within =
     let one = c.new-in-GroupBy-3.result in
     let op = sym c.operator.ensures ∙ ap op_of c.in-GroupBy-3.is in
     let given : (group : Option (Piece × ℕ)) × (shape_walked c.args.walk ≡ passes_on c.in-GroupBy-3.input (first_by_keys c.deref-in-GroupBy-3.result.now group)) = search rules in
@@ -744,6 +743,42 @@ join_steps::Join::step-returns-in-None g t c =
       answer = goes_result _ goes (pairs_up c.args.self.now.left c.args.self.now.right c.args.self.now.tests.now) c.next_new.result c.next_new.ensures.answer;
     })
 
+pub join_steps::Join::next-events-init : goal.join_steps::Join::next-events-init
+join_steps::Join::next-events-init g t c = way_start g.met.S.Sources.same c.requires.can
+
+pub join_steps::Join::next-step-requires : goal.join_steps::Join::next-step-requires
+join_steps::Join::next-step-requires g t c κs within =
+    let can : CanStep (g.S.Sources.view c.events.s) c.events.growing c.args.self.now.walk.fixed.now c.args.self.now.walk.op c.here.result.now = rw c.here.ensures c.events.invariant.can in
+    search rules
+
+pub join_steps::Join::next-events-preserved : goal.join_steps::Join::next-events-preserved
+join_steps::Join::next-events-preserved g t c = way_on g.met.S.Sources.after c.events.invariant (rw c.here.ensures at c.step.ensures) c.in-On.event (rw (c.in-On.is, c.here.ensures) at c.in_ok-step.ensures.answer)
+
+pub join_steps::Join::next-events-smaller : goal.join_steps::Join::next-events-smaller
+join_steps::Join::next-events-smaller g t c = (rw (c.in-On.is, c.here.ensures) at c.in_ok-step.ensures.answer).falls
+
+pub join_steps::Join::next-returns-in-At : goal.join_steps::Join::next-returns-in-At
+join_steps::Join::next-returns-in-At g t c = record {
+  ran = way_ran g.met.S.Sources.after c.events.invariant (rw c.here.ensures at c.step.ensures);
+  cause = tt;
+  answer = rw c.in_ok-put-in-At.ensures.ok (comes_at c.events.invariant.goes.comes (rw (c.in-At.is, c.here.ensures) at c.in_ok-step.ensures.answer));
+}
+
+pub join_steps::Join::next-returns-in_err-put-in-At : goal.join_steps::Join::next-returns-in_err-put-in-At
+join_steps::Join::next-returns-in_err-put-in-At g t c = record { ran = way_ran g.met.S.Sources.after c.events.invariant (rw c.here.ensures at c.step.ensures); cause = search rules; answer = search rules }
+
+pub join_steps::Join::next-returns-in-Done : goal.join_steps::Join::next-returns-in-Done
+join_steps::Join::next-returns-in-Done g t c = record {
+  ran = way_ran g.met.S.Sources.after c.events.invariant (rw c.here.ensures at c.step.ensures);
+  cause = tt;
+  answer = comes_none c.events.invariant.goes.comes (rw (c.in-Done.is, c.here.ensures) at c.in_ok-step.ensures.answer);
+}
+
+pub join_steps::Join::next-returns-in_err-step : goal.join_steps::Join::next-returns-in_err-step
+join_steps::Join::next-returns-in_err-step g t c =
+    let step = rw c.here.ensures at c.step.ensures in
+    record { ran = way_ran g.met.S.Sources.after c.events.invariant step; cause = search rules; answer = search rules }
+
 pub gather_steps::Gather::grow-returns-then-ended : goal.gather_steps::Gather::grow-returns-then-ended
 gather_steps::Gather::grow-returns-then-ended g t c = record { ran = ran_nothing g.met.S.Sources.same c.args.self.now.walk.op _ c.args.s.now c.args.growing.now c.requires.bench; cause = tt; answer = none_unwalked (g.S.Sources.view c.args.s.now) c.args.growing.now c.args.self.now c.requires.is c.requires.fixed c.requires.op c.requires.bench c.index-gathered.result.now c.index-gathered.ensures (sym c.ended.ensures ∙ c.if-ended.true) }
 
@@ -807,39 +842,39 @@ gather_steps::Gather::grow-returns g t c =
     let more = grow_more (g.S.Sources.view c.args.s.now) c.args.growing.now c.args.self.now c.requires.is c.requires.fixed c.requires.op c.requires.bench (world_of (g.S.Sources.view c.advance.new.s) c.advance.new.growing) adv.ran.asks adv.ran.bench _ f c.in_ok-key-in-Some.key.items parts value c.spots_are_one.ensures c.add_member.new.seen.items c.add_member.new.walked c.add_member.ensures.grows c.add_member.ensures.others c.in_ok-add_member-in-Some.ensures.ok c.index-gathered.result.now c.index-gathered.ensures (sym c.ended.ensures ∙ c.if-ended.false) in
     record { ran = record { came = adv.ran.came; bench = more.0.0; asks = more.0.1 }; cause = tt; answer = more.1 }
 
-pub gather_steps::Gather::step-bindings-init : goal.gather_steps::Gather::step-bindings-init
-gather_steps::Gather::step-bindings-init g t c = record {
+pub gather_steps::Gather::next-bindings-init : goal.gather_steps::Gather::next-bindings-init
+gather_steps::Gather::next-bindings-init g t c = record {
   came = g.met.S.Sources.same c.args.s.now;
   bench = c.requires.can.bench;
   comes = step_begins c.args.self.now c.args.at.now c.requires.can c.requires.is;
 }
 
-pub gather_steps::Gather::step-returns-in_err-group : goal.gather_steps::Gather::step-returns-in_err-group
-gather_steps::Gather::step-returns-in_err-group g t c =
+pub gather_steps::Gather::next-returns-in_err-group : goal.gather_steps::Gather::next-returns-in_err-group
+gather_steps::Gather::next-returns-in_err-group g t c =
     let i = c.bindings.invariant in
-    shaped c.args.at.now (group_shape c.args.self.now i.comes.0) i.comes.0.1 (record { ran = record { came = i.came; bench = i.bench; asks = i.comes.1.asks }; cause = search rules; answer = search rules })
+    led c.args.at.now (group_shape c.args.self.now i.comes.0) i.comes.0.1 (record { ran = record { came = i.came; bench = i.bench; asks = i.comes.1.asks }; cause = search rules; answer = search rules })
 
-pub gather_steps::Gather::step-returns-in-Some : goal.gather_steps::Gather::step-returns-in-Some
-gather_steps::Gather::step-returns-in-Some g t c =
+pub gather_steps::Gather::next-returns-in-Some : goal.gather_steps::Gather::next-returns-in-Some
+gather_steps::Gather::next-returns-in-Some g t c =
     let i = c.bindings.invariant in
     let next = rw (c.in-Some.is, c.seen_up_to-count.ensures) at c.in_ok-group.ensures.group in
-    shaped c.args.at.now (group_shape c.args.self.now i.comes.0) i.comes.0.1 (record { ran = record { came = i.came; bench = i.bench; asks = i.comes.1.asks }; cause = tt; answer = step_found c.args.self.now c.args.at.now c.requires.can (world_of (g.S.Sources.view c.bindings.s) c.bindings.growing) i.bench i.comes c.in-Some.group next })
+    led c.args.at.now (group_shape c.args.self.now i.comes.0) i.comes.0.1 (record { ran = record { came = i.came; bench = i.bench; asks = i.comes.1.asks }; cause = tt; answer = step_found c.args.self.now c.args.at.now c.requires.can (world_of (g.S.Sources.view c.bindings.s) c.bindings.growing) i.bench i.comes c.in-Some.group next })
 
-pub gather_steps::Gather::step-returns-in_err-grow-in-None : goal.gather_steps::Gather::step-returns-in_err-grow-in-None
-gather_steps::Gather::step-returns-in_err-grow-in-None g t c =
+pub gather_steps::Gather::next-returns-in_err-grow-in-None : goal.gather_steps::Gather::next-returns-in_err-grow-in-None
+gather_steps::Gather::next-returns-in_err-grow-in-None g t c =
     let i = c.bindings.invariant in
     let none = rw (c.in-None.is, c.seen_up_to-count.ensures) at c.in_ok-group.ensures.group in
-    shaped c.args.at.now (group_shape c.args.self.now i.comes.0) i.comes.0.1 (record { ran = record { came = g.met.S.Sources.after _ _ _ i.came c.grow.ensures.ran.came; bench = c.grow.ensures.ran.bench; asks = step_asks c.args.self.now c.args.at.now c.requires.can (world_of (g.S.Sources.view c.bindings.s) c.bindings.growing) i.bench i.comes none (world_of (g.S.Sources.view c.grow.new.s) c.grow.new.growing) c.grow.ensures.ran.asks }; cause = search rules; answer = search rules })
+    led c.args.at.now (group_shape c.args.self.now i.comes.0) i.comes.0.1 (record { ran = record { came = g.met.S.Sources.after _ _ _ i.came c.grow.ensures.ran.came; bench = c.grow.ensures.ran.bench; asks = step_asks c.args.self.now c.args.at.now c.requires.can (world_of (g.S.Sources.view c.bindings.s) c.bindings.growing) i.bench i.comes none (world_of (g.S.Sources.view c.grow.new.s) c.grow.new.growing) c.grow.ensures.ran.asks }; cause = search rules; answer = search rules })
 
-pub gather_steps::Gather::step-returns-then-not-branch : goal.gather_steps::Gather::step-returns-then-not-branch
-gather_steps::Gather::step-returns-then-not-branch g t c =
+pub gather_steps::Gather::next-returns-then-not-branch : goal.gather_steps::Gather::next-returns-then-not-branch
+gather_steps::Gather::next-returns-then-not-branch g t c =
     let i = c.bindings.invariant in
     let none = rw (c.in-None.is, c.seen_up_to-count.ensures) at c.in_ok-group.ensures.group in
     let over = rw c.if-not-branch.true at c.in_ok-grow-in-None.ensures.answer in
-    shaped c.args.at.now (group_shape c.args.self.now i.comes.0) i.comes.0.1 (record { ran = record { came = g.met.S.Sources.after _ _ _ i.came c.grow.ensures.ran.came; bench = c.grow.ensures.ran.bench; asks = step_asks c.args.self.now c.args.at.now c.requires.can (world_of (g.S.Sources.view c.bindings.s) c.bindings.growing) i.bench i.comes none (world_of (g.S.Sources.view c.grow.new.s) c.grow.new.growing) c.grow.ensures.ran.asks }; cause = tt; answer = step_none c.args.self.now c.args.at.now c.requires.can (world_of (g.S.Sources.view c.bindings.s) c.bindings.growing) i.bench i.comes none (world_of (g.S.Sources.view c.grow.new.s) c.grow.new.growing) c.grow.ensures.ran.asks over })
+    led c.args.at.now (group_shape c.args.self.now i.comes.0) i.comes.0.1 (record { ran = record { came = g.met.S.Sources.after _ _ _ i.came c.grow.ensures.ran.came; bench = c.grow.ensures.ran.bench; asks = step_asks c.args.self.now c.args.at.now c.requires.can (world_of (g.S.Sources.view c.bindings.s) c.bindings.growing) i.bench i.comes none (world_of (g.S.Sources.view c.grow.new.s) c.grow.new.growing) c.grow.ensures.ran.asks }; cause = tt; answer = step_none c.args.self.now c.args.at.now c.requires.can (world_of (g.S.Sources.view c.bindings.s) c.bindings.growing) i.bench i.comes none (world_of (g.S.Sources.view c.grow.new.s) c.grow.new.growing) c.grow.ensures.ran.asks over })
 
-pub gather_steps::Gather::step-bindings-preserved : goal.gather_steps::Gather::step-bindings-preserved
-gather_steps::Gather::step-bindings-preserved g t c =
+pub gather_steps::Gather::next-bindings-preserved : goal.gather_steps::Gather::next-bindings-preserved
+gather_steps::Gather::next-bindings-preserved g t c =
     let i = c.bindings.invariant in
     let none = rw (c.in-None.is, c.seen_up_to-count.ensures) at c.in_ok-group.ensures.group in
     let further = rw c.if-not-branch.false at c.in_ok-grow-in-None.ensures.answer in
@@ -849,7 +884,7 @@ gather_steps::Gather::step-bindings-preserved g t c =
       comes = step_goes_on c.args.self.now c.args.at.now c.requires.can (world_of (g.S.Sources.view c.bindings.s) c.bindings.growing) i.bench i.comes none (world_of (g.S.Sources.view c.grow.new.s) c.grow.new.growing) c.grow.ensures.ran.asks c.grow.ensures.ran.bench further c.spots_are_one.ensures;
     }
 
-pub gather_steps::Gather::step-bindings-smaller : goal.gather_steps::Gather::step-bindings-smaller
-gather_steps::Gather::step-bindings-smaller g t c =
+pub gather_steps::Gather::next-bindings-smaller : goal.gather_steps::Gather::next-bindings-smaller
+gather_steps::Gather::next-bindings-smaller g t c =
     let further = rw c.if-not-branch.false at c.in_ok-grow-in-None.ensures.answer in
     further_falls (world_of (g.S.Sources.view c.bindings.s) c.bindings.growing) (world_of (g.S.Sources.view c.grow.new.s) c.grow.new.growing) (operators c.args.self.now.walk.fixed.now) c.args.self.now.walk.op c.args.self.now.input c.args.self.now.keys.now further

@@ -1,12 +1,13 @@
 use Rattle.std.proofs.Common.{◌+◌, ◌-◌, ◌*◌, length}
 use Rattle.lazy_binding.specs.Bench.{IsBench}
 use Rattle.lazy_steps.proofs.GroupCalls.{StepCame}
-use Rattle.lazy_binding.specs.Cursors.{ahead, number, size}
+use Rattle.lazy_binding.specs.Cursors.{number, size}
 use Rattle.lazy_binding.specs.Parts.{operators, world_of}
 use Rattle.lazy_binding.specs.World.{memo_at, gathered_at}
 use Rattle.lazy_steps.specs.Beside.{beside_events, beside_number, last_at}
 use Rattle.lazy_steps.specs.Steps.{at_of, CanStep, visit_events, visit_number}
 use Rattle.lazy_steps.proofs.Goes.{Goes}
+use Rattle.lazy_steps.proofs.Ways.{Way}
 use Rattle.lazy_steps.proofs.OrderSteps.{Gathered}
 use Rattle.lazy_steps.proofs.+walk.Given as goal
 
@@ -16,17 +17,11 @@ decreases-steps::advance g l = 8 * l.walk.op + 6
 abbrev pub decreases-steps::advance_below : goal.decreases-steps::advance_below
 decreases-steps::advance_below g l = 8 * l.walk.op + 5
 
-abbrev pub decreases-steps::next_event : goal.decreases-steps::next_event
-decreases-steps::next_event g l = 8 * l.walk.op + 2
-
 abbrev pub decreases-pass_steps::Filter::step : goal.decreases-pass_steps::Filter::step
 decreases-pass_steps::Filter::step g l = 8 * l.self.now.walk.op
 
 abbrev pub decreases-pass_steps::Distinct::step : goal.decreases-pass_steps::Distinct::step
-decreases-pass_steps::Distinct::step g l = 8 * l.self.now.walk.op + 1
-
-abbrev pub decreases-pass_steps::Distinct::next_key : goal.decreases-pass_steps::Distinct::next_key
-decreases-pass_steps::Distinct::next_key g l = 8 * l.self.now.walk.op
+decreases-pass_steps::Distinct::step g l = 8 * l.self.now.walk.op
 
 abbrev pub decreases-join_steps::Join::step : goal.decreases-join_steps::Join::step
 decreases-join_steps::Join::step g l = 8 * l.self.now.walk.op + 1
@@ -57,8 +52,8 @@ decreases-join_steps::Join::grow g l = 8 * l.self.now.right + 7
 abbrev pub decreases-join_steps::Join::next_left : goal.decreases-join_steps::Join::next_left
 decreases-join_steps::Join::next_left g l = 8 * l.self.now.left + 7
 
-abbrev pub decreases-path_scan::PathScan::step : goal.decreases-path_scan::PathScan::step
-decreases-path_scan::PathScan::step g l = 8 * l.self.now.walk.op
+abbrev pub decreases-path_scan::PathScan::next : goal.decreases-path_scan::PathScan::next
+decreases-path_scan::PathScan::next g l = 8 * l.self.now.walk.op
 
 abbrev pub decreases-path_scan::PathScan::next_start : goal.decreases-path_scan::PathScan::next_start
 decreases-path_scan::PathScan::next_start g l = 8 * l.self.now.input + 7
@@ -76,21 +71,38 @@ invariant-path_scan::PathScan::next_start-starts g l = record {
 abbrev pub decreases-path_scan::PathScan::next_start-starts : goal.decreases-path_scan::PathScan::next_start-starts
 decreases-path_scan::PathScan::next_start-starts g l = number (world_of (g.S.Sources.view l.s) l.growing) (operators l.self.walk.fixed.now) l.self.input l.at.value
 
--- what is still ahead, and what it has cost
-abbrev pub invariant-steps::advance_below-events : goal.invariant-steps::advance_below-events
-invariant-steps::advance_below-events g l = record {
-  came : g.S.Sources.came_from l.initial.s l.s;
-  goes : Goes (world_of (g.S.Sources.view l.initial.s) l.initial.growing) (world_of (g.S.Sources.view l.s) l.growing) (operators l.walk.fixed.now) l.walk.op
-      (ahead (world_of (g.S.Sources.view l.initial.s) l.initial.growing) (operators l.walk.fixed.now) l.walk.op l.fn.from.value) (ahead (world_of (g.S.Sources.view l.s) l.growing) (operators l.walk.fixed.now) l.walk.op (at_of l.later l.fn.from.value))
-      (number (world_of (g.S.Sources.view l.initial.s) l.initial.growing) (operators l.walk.fixed.now) l.walk.op l.fn.from.value) (number (world_of (g.S.Sources.view l.s) l.growing) (operators l.walk.fixed.now) l.walk.op (at_of l.later l.fn.from.value));
-  can : CanStep (g.S.Sources.view l.s) l.growing l.walk.fixed.now l.walk.op (at_of l.later l.fn.from.value);
-}
+abbrev pub decreases-pass_steps::Filter::next : goal.decreases-pass_steps::Filter::next
+decreases-pass_steps::Filter::next g l = 8 * l.self.now.walk.op + 3
 
-abbrev pub decreases-steps::advance_below-events : goal.decreases-steps::advance_below-events
-decreases-steps::advance_below-events g l = number (world_of (g.S.Sources.view l.s) l.growing) (operators l.walk.fixed.now) l.walk.op (at_of l.later l.fn.from.value)
+-- the bindings of the input so far failed
+abbrev pub invariant-pass_steps::Filter::next-events : goal.invariant-pass_steps::Filter::next-events
+invariant-pass_steps::Filter::next-events g l = Way g.S.Sources.view g.S.Sources.came_from l.self.walk.fixed.now l.self.walk.op l.fn.at l.initial.s l.initial.growing l.s l.growing (at_of l.later l.fn.at)
 
-abbrev pub decreases-sort_steps::Sort::step : goal.decreases-sort_steps::Sort::step
-decreases-sort_steps::Sort::step g l = 8 * l.self.now.walk.op + 1
+abbrev pub decreases-pass_steps::Filter::next-events : goal.decreases-pass_steps::Filter::next-events
+decreases-pass_steps::Filter::next-events g l = number (world_of (g.S.Sources.view l.s) l.growing) (operators l.self.walk.fixed.now) l.self.walk.op (at_of l.later l.fn.at)
+
+abbrev pub decreases-pass_steps::Distinct::next : goal.decreases-pass_steps::Distinct::next
+decreases-pass_steps::Distinct::next g l = 8 * l.self.now.walk.op + 3
+
+-- the keys of the bindings of the input so far were seen
+abbrev pub invariant-pass_steps::Distinct::next-events : goal.invariant-pass_steps::Distinct::next-events
+invariant-pass_steps::Distinct::next-events g l = Way g.S.Sources.view g.S.Sources.came_from l.self.walk.fixed.now l.self.walk.op l.fn.at l.initial.s l.initial.growing l.s l.growing (at_of l.later l.fn.at)
+
+abbrev pub decreases-pass_steps::Distinct::next-events : goal.decreases-pass_steps::Distinct::next-events
+decreases-pass_steps::Distinct::next-events g l = number (world_of (g.S.Sources.view l.s) l.growing) (operators l.self.walk.fixed.now) l.self.walk.op (at_of l.later l.fn.at)
+
+abbrev pub decreases-join_steps::Join::next : goal.decreases-join_steps::Join::next
+decreases-join_steps::Join::next g l = 8 * l.self.now.walk.op + 3
+
+-- the pairs so far failed
+abbrev pub invariant-join_steps::Join::next-events : goal.invariant-join_steps::Join::next-events
+invariant-join_steps::Join::next-events g l = Way g.S.Sources.view g.S.Sources.came_from l.self.walk.fixed.now l.self.walk.op l.fn.at l.initial.s l.initial.growing l.s l.growing (at_of l.later l.fn.at)
+
+abbrev pub decreases-join_steps::Join::next-events : goal.decreases-join_steps::Join::next-events
+decreases-join_steps::Join::next-events g l = number (world_of (g.S.Sources.view l.s) l.growing) (operators l.self.walk.fixed.now) l.self.walk.op (at_of l.later l.fn.at)
+
+abbrev pub decreases-sort_steps::Sort::next : goal.decreases-sort_steps::Sort::next
+decreases-sort_steps::Sort::next g l = 8 * l.self.now.walk.op + 1
 
 abbrev pub decreases-sort_steps::Sort::first : goal.decreases-sort_steps::Sort::first
 decreases-sort_steps::Sort::first g l = 8 * l.self.now.walk.op
@@ -109,20 +121,20 @@ invariant-sort_steps::labelled-events g l = record {
 abbrev pub decreases-sort_steps::labelled-events : goal.decreases-sort_steps::labelled-events
 decreases-sort_steps::labelled-events g l = number (world_of (g.S.Sources.view l.s) l.growing) (operators l.walk.fixed.now) l.walk.op l.at.value
 
-abbrev pub decreases-gather_steps::Gather::step : goal.decreases-gather_steps::Gather::step
-decreases-gather_steps::Gather::step g l = 8 * l.self.now.walk.op + 1
+abbrev pub decreases-gather_steps::Gather::next : goal.decreases-gather_steps::Gather::next
+decreases-gather_steps::Gather::next g l = 8 * l.self.now.walk.op + 1
 
 abbrev pub decreases-gather_steps::Gather::grow : goal.decreases-gather_steps::Gather::grow
 decreases-gather_steps::Gather::grow g l = 8 * l.self.now.input + 7
 
 -- how far the walk has come
-abbrev pub invariant-gather_steps::Gather::step-bindings : goal.invariant-gather_steps::Gather::step-bindings
-invariant-gather_steps::Gather::step-bindings g l = record {
+abbrev pub invariant-gather_steps::Gather::next-bindings : goal.invariant-gather_steps::Gather::next-bindings
+invariant-gather_steps::Gather::next-bindings g l = record {
   came : g.S.Sources.came_from l.initial.s l.s;
   bench : IsBench (world_of (g.S.Sources.view l.s) l.growing) (operators l.self.walk.fixed.now);
   comes : StepCame l.self (world_of (g.S.Sources.view l.initial.s) l.initial.growing) (world_of (g.S.Sources.view l.s) l.growing) l.fn.at;
 }
 
-abbrev pub decreases-gather_steps::Gather::step-bindings : goal.decreases-gather_steps::Gather::step-bindings
-decreases-gather_steps::Gather::step-bindings g l =
+abbrev pub decreases-gather_steps::Gather::next-bindings : goal.decreases-gather_steps::Gather::next-bindings
+decreases-gather_steps::Gather::next-bindings g l =
     number (world_of (g.S.Sources.view l.s) l.growing) (operators l.self.walk.fixed.now) l.self.input (gathered_at (world_of (g.S.Sources.view l.s) l.growing) l.self.walk.op).last

@@ -1,0 +1,22 @@
+use Rattle.std.proofs.Common.{rules, ap, ◌∙◌}
+use Rattle.lazy_binding.specs.declared.position.Position.{Position, Found'}
+use Rattle.lazy_steps.proofs.visits.Visit.first_at.Goals as goal
+
+pub returns-in-None : goal.returns-in-None
+returns-in-None g c = record { asked = c.first.ensures.asked; cause = tt; answer = rw c.in-None.is at c.in_ok-first.ensures.answer }
+
+pub returns-in_err-first : goal.returns-in_err-first
+returns-in_err-first g c = record { asked = c.first.ensures.asked; cause = search rules; answer = search rules }
+
+pub returns-in_err-share-in-Some : goal.returns-in_err-share-in-Some
+returns-in_err-share-in-Some g c = record { asked = c.first.ensures.asked; cause = search rules; answer = search rules }
+
+pub returns-in_err-put-in-Some : goal.returns-in_err-put-in-Some
+returns-in_err-put-in-Some g c = record { asked = c.first.ensures.asked; cause = search rules; answer = search rules }
+
+pub returns-in_ok-put-in-Some : goal.returns-in_ok-put-in-Some
+returns-in_ok-put-in-Some g c = record {
+  asked = c.first.ensures.asked;
+  cause = tt;
+  answer = (c.in-Some.found, (rw c.in-Some.is at c.in_ok-first.ensures.answer), (record { ptr = c.in_ok-share-in-Some.field-0.ptr; value = tt }, c.in_ok-put-in-Some.ensures.ok ∙ ap (λ (x : Position). Found' c.args.self.now.source (record { ptr = c.in_ok-share-in-Some.field-0.ptr; value = tt }) x c.in-Some.found) c.in_ok-share-in-Some.ensures.ok));
+}
