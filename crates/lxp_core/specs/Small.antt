@@ -1,5 +1,5 @@
 -- Lists with holes that are small enough for a wire.
-use Rattle.std.specs.Prelude.{ℕ, zero, suc, ◌+◌, ◌<◌, ◌^◌, List, length}
+use Rattle.std.specs.Prelude.{ℕ, zero, suc, ◌+◌, ◌<◌, ◌^◌, length}
 use Rattle.lxp_core.specs.Open.{Open, nil, node, hole}
 
 -- how many trees stand side by side, a hole being one
