@@ -1,5 +1,5 @@
 -- What a source of one leaf means.
-use Rattle.std.specs.Prelude.{◌≡◌, ℕ, ◌≤◌, ◌<◌, Bool, true, false, List, [], ◌∷◌, refl}
+use Rattle.std.specs.Prelude.{◌≡◌, ℕ, ◌≤◌, ◌<◌, true, List, [], ◌∷◌, refl}
 use Rattle.std.specs.Str.{bytes_eq}
 use Rattle.std.proofs.Common.{arith}
 use Rattle.mix_tree.specs.Forest.{none, tree}
@@ -29,12 +29,15 @@ leaf_view l = record {
 abbrev pub CameFrom : Leaf → Leaf → Type 0
 CameFrom old new = old.fills ≤ new.fills
 
+-- a state came from itself
 pub came_same : (a : Leaf) → CameFrom a a
 came_same a = omega arith
 
+-- a state that came from one which came from a third came from that third
 pub came_after : (a b c : Leaf) → CameFrom a b → CameFrom b c → CameFrom a c
 came_after a b c x y = omega (arith, x, y)
 
+-- what came from a state keeps it
 pub came_keeps : (a b : Leaf) → CameFrom a b → Keeps (leaf_view a) (leaf_view b)
 came_keeps a b x = record {
   count = refl;
@@ -49,8 +52,10 @@ came_keeps a b x = record {
   faults = λ s. omega arith;
 }
 
+-- the hole of the document is known
 pub root_is_known : (a : Leaf) (s : ℕ) → s < 1 → bytes_eq root_words root_words ≡ true
 root_is_known a s h = refl
 
+-- its lists are small
 pub is_small : (a : Leaf) (s : ℕ) → s < 1 → true ≡ true
 is_small a s h = refl

@@ -1,8 +1,10 @@
-//! Tests of what goes over a wire, by its bytes; no code.
+//! Tests of what goes over a wire, by its bytes, and a source of one leaf for them.
 #![tactic(auto)]
 
-#[cfg(test)]
 mod leaf;
+
+pub use leaf::{Leaf, ROOT};
+
 #[cfg(test)]
 mod lists;
 #[cfg(test)]
