@@ -2,12 +2,11 @@ use Rattle.std.proofs.lemmas.Result.{IfOk-weaker}
 use Rattle.std.proofs.Common.{◌≡◌, ℕ, suc, Option, arith, rules, refl, ap, sym, subst, ◌∙◌}
 use Rattle.std.specs.declared.alloc.Global.{Global}
 use Rattle.std.specs.declared.rc.Rc.{Rc}
-use Rattle.std.specs.declared.vec.Vec.{Vec}
 use Rattle.std.specs.Prelude.{not, true}
 use Rattle.plan_core.specs.Fronts.{op_stops}
 use Rattle.lazy_steps.specs.Gathers.{GathersGroups}
 use Rattle.plan_core.specs.PlanMade.{op_of}
-use Rattle.plan_core.specs.Shapes.{visits_below, shape_at, shape_of, filters, first_by_keys, pairs_up, passes_on}
+use Rattle.plan_core.specs.Shapes.{visits_below, shape_of, filters, first_by_keys, pairs_up, passes_on}
 use Rattle.lazy_binding.specs.declared.position.Position.{Position, Start}
 use Rattle.lazy_binding.specs.Cursors.{ahead, gathers_by, IsRead}
 use Rattle.plan_core.specs.declared.plan.Piece.{Piece}
