@@ -88,7 +88,7 @@ learns_known k id n e = record {
     one h m zero lt f = ap k (sym (ap (λ p. p.0) f)) ∙ e ∙ ap (λ p. Some p.1) f
     one h m (suc i) lt f = absurd (omega arith)
 
--- one with another weight changed
+-- a hole that is known with another weight changed
 pub changed_one : (k : HoleId → Option ℕ) (id : HoleId) (n other : ℕ) → k id ≡ Some other → (other ≡ n → ⊥) → IsChanged k ((id, n) ∷ [])
 changed_one k id n other e no' = ([], [], id, n, other, refl, λ q. no' (sym q), inl e)
 
@@ -118,7 +118,7 @@ same_pair i h n m p q = ap (λ j. (j, n)) p ∙ ap (λ k. (h, k)) q
 some_same : (x y : ℕ) → some x ≡ some y → x ≡ y
 some_same x y e = cc
 
--- a hole put behind those that are known
+-- a hole put after those that are known
 pub learns_new : (root : Hole) (es : List (List ℕ × ℕ)) (id : HoleId) (n : ℕ) → weights root es id ≡ None → Learns (weights root es) (weights root (es ++ (id.words, n) ∷ [])) ((id, n) ∷ [])
 learns_new root es id n none = record {
   kept = λ h m e. keep h m (bytes_eq h.words root.id.words) e;
@@ -153,15 +153,15 @@ pub record Learning (root : Hole) (old now : List (List ℕ × ℕ)) (all rest :
   pub done : List (HoleId × ℕ)
   pub parts : all ≡ done ++ rest
   pub learns : Learns (weights root old) (weights root now) done
-  pub front : take (length old) now ≡ old
+  pub prefix : take (length old) now ≡ old
 
 -- none is learned yet
 pub learning_starts : (root : Hole) (old : List (List ℕ × ℕ)) (all : List (HoleId × ℕ)) → Learning root old old all all
-learning_starts root old all = record { done = []; parts = refl; learns = learns_nothing (weights root old); front = ap (take (length old)) (sym (append_nil old)) ∙ take_whole old [] (length old) refl }
+learning_starts root old all = record { done = []; parts = refl; learns = learns_nothing (weights root old); prefix = ap (take (length old)) (sym (append_nil old)) ∙ take_whole old [] (length old) refl }
 
 -- a list that begins with one which begins with a third begins with that third
-front_twice : (old now new : List (List ℕ × ℕ)) → take (length old) now ≡ old → take (length now) new ≡ now → take (length old) new ≡ old
-front_twice old now new p q =
+prefix_twice : (old now new : List (List ℕ × ℕ)) → take (length old) now ≡ old → take (length now) new ≡ now → take (length old) new ≡ old
+prefix_twice old now new p q =
     let short : length old ≤ length now = omega (arith, ap length p, length-take (length old) now) in
     sym (take-take (length old) (length now) new short) ∙ ap (take (length old)) q ∙ p
 
@@ -172,7 +172,7 @@ learning_more root old now new all x rest l p f = record {
   done = l.done ++ x;
   parts = l.parts ∙ sym (append_assoc l.done x rest);
   learns = learns_both (weights root old) (weights root now) (weights root new) l.done x l.learns p;
-  front = front_twice old now new l.front f;
+  prefix = prefix_twice old now new l.prefix f;
 }
 
 -- what changed among the next ones changed in the list

@@ -18,7 +18,7 @@ total-followed nil b = omega arith
 total-followed (node l k r) b = omega (arith, total-followed r b)
 total-followed (hole i w r) b = omega (arith, total-followed r b)
 
--- those of the trees from an index on
+-- the total of the trees from an index on is that of the first of them and of the others
 pub total-step : (ts : List WireTree) (i : ℕ) (t : WireTree) → i < length ts → t ≡ get_or ts i t → total_of (plain (drop i ts)) ≡ total_of (put t nil) + total_of (plain (drop (i + 1) ts))
 total-step ts i t h e =
     ap (λ us. total_of (plain us)) (drop-cons ts i t h ∙ ap (λ n. get_or ts i t ∷ drop n ts) (let k : suc i ≡ i + 1 = omega arith in k))
@@ -56,7 +56,7 @@ member_weight w es i n p c = at_index w es c.0 i n p c.1 c.2
     at_index w (x ∷ es) zero i n p h e = sym (ap (λ y. y.1) e) ∙ p.0 ∙ ap (λ y. w y.0) e
     at_index w (x ∷ es) (suc k) i n p h e = at_index w es k i n p.1 (omega arith) e
 
--- so none changed
+-- where all known holes and those of a list have the weights that w gives, no weight changed
 unchanged : (w : HoleId → ℕ) (holes : List (HoleId × ℕ)) (known : HoleId → Option ℕ) → AreWeights w holes → ((i : HoleId) (n : ℕ) → known i ≡ Some n → n ≡ w i) → IsChanged known holes → ⊥
 unchanged w holes known are agree (before, after, id, weight, other, parts, differs, cause) =
     let split = first_weights w before ((id, weight) ∷ after) (subst (AreWeights w) parts are) in
@@ -96,17 +96,17 @@ pub sums_if : (r : Option ℕ) (n t : ℕ) → SomeIff r (n < 2 ^ 128) n → n �
 sums_if (Some x) n t h e = h.1 ∙ e
 sums_if None n t h e = omega (arith, no_sum n h, e)
 
--- no two holes stand side by side, behind a hole or not
-pub record ApartBehind (behind : Bool) (o : plain_open.Open) : Type 0 where
-  pub first : behind ≡ true → plain_open.begins_with_hole o ≡ false
+-- no two holes stand side by side, after a hole or not
+pub record ApartAfter (after : Bool) (o : plain_open.Open) : Type 0 where
+  pub first : after ≡ true → plain_open.begins_with_hole o ≡ false
   pub apart : plain_open.IsApart o
 
--- so from an index on, behind what stands before it, exactly where so in the whole list
-pub record SameApart (ts : List WireTree) (i : ℕ) (behind : Bool) : Type 0 where
-  pub there : plain_open.IsApart (without_weights (plain ts)) → ApartBehind behind (without_weights (plain (drop i ts)))
-  pub back : ApartBehind behind (without_weights (plain (drop i ts))) → plain_open.IsApart (without_weights (plain ts))
+-- no two holes stand side by side in the whole list exactly where none do from an index on, after a hole or not
+pub record SameApart (ts : List WireTree) (i : ℕ) (after : Bool) : Type 0 where
+  pub there : plain_open.IsApart (without_weights (plain ts)) → ApartAfter after (without_weights (plain (drop i ts)))
+  pub back : ApartAfter after (without_weights (plain (drop i ts))) → plain_open.IsApart (without_weights (plain ts))
 
--- so at the beginning
+-- from the beginning on, after no hole, the trees are the whole list
 pub same_start : (ts : List WireTree) → SameApart ts 0 false
 same_start ts = record { there = λ a. record { first = λ e. absurd cc; apart = a }; back = λ a. a.apart }
 
@@ -125,33 +125,33 @@ hole_at_index ts i t id w h e is =
     ∙ ap (λ u. without_weights (put u (plain (drop (i + 1) ts)))) (sym e) ∙ ap without_weights (is (plain (drop (i + 1) ts)))
 
 -- a node is passed
-pub pass_node : (ts : List WireTree) (i : ℕ) (behind : Bool) (l : List ℕ) (kids : Wired) → without_weights (plain (drop i ts)) ≡ plain_open.node l (without_weights kids) (without_weights (plain (drop (i + 1) ts)))
-    → plain_open.IsApart (without_weights kids) → SameApart ts i behind → SameApart ts (i + 1) false
-pass_node ts i behind l kids e inside s = record {
-  there = λ a. (let x = subst (ApartBehind behind) e (s.there a) in record { first = λ f. absurd cc; apart = x.apart.1 });
-  back = λ x. s.back (subst (ApartBehind behind) (sym e) (record { first = λ f. refl; apart = (inside, x.apart) }));
+pub pass_node : (ts : List WireTree) (i : ℕ) (after : Bool) (l : List ℕ) (kids : Wired) → without_weights (plain (drop i ts)) ≡ plain_open.node l (without_weights kids) (without_weights (plain (drop (i + 1) ts)))
+    → plain_open.IsApart (without_weights kids) → SameApart ts i after → SameApart ts (i + 1) false
+pass_node ts i after l kids e inside s = record {
+  there = λ a. (let x = subst (ApartAfter after) e (s.there a) in record { first = λ f. absurd cc; apart = x.apart.1 });
+  back = λ x. s.back (subst (ApartAfter after) (sym e) (record { first = λ f. refl; apart = (inside, x.apart) }));
 }
 
--- a hole behind no hole is passed
+-- a hole after no hole is passed
 pub pass_hole : (ts : List WireTree) (i : ℕ) (id : HoleId) → without_weights (plain (drop i ts)) ≡ plain_open.hole id (without_weights (plain (drop (i + 1) ts))) → SameApart ts i false → SameApart ts (i + 1) true
 pass_hole ts i id e s = record {
-  there = λ a. (let x = subst (ApartBehind false) e (s.there a) in record { first = λ f. x.apart.0; apart = x.apart.1 });
-  back = λ x. s.back (subst (ApartBehind false) (sym e) (record { first = λ f. absurd cc; apart = (x.first refl, x.apart) }));
+  there = λ a. (let x = subst (ApartAfter false) e (s.there a) in record { first = λ f. x.apart.0; apart = x.apart.1 });
+  back = λ x. s.back (subst (ApartAfter false) (sym e) (record { first = λ f. absurd cc; apart = (x.first refl, x.apart) }));
 }
 
 -- two holes stand side by side
 pub two_holes : (ts : List WireTree) (i : ℕ) (id : HoleId) → without_weights (plain (drop i ts)) ≡ plain_open.hole id (without_weights (plain (drop (i + 1) ts))) → SameApart ts i true
     → plain_open.IsApart (without_weights (plain ts)) → ⊥
-two_holes ts i id e s a = let x = subst (ApartBehind true) e (s.there a) in let f = x.first refl in cc
+two_holes ts i id e s a = let x = subst (ApartAfter true) e (s.there a) in let f = x.first refl in cc
 
 -- two do below a node
-pub holes_below : (ts : List WireTree) (i : ℕ) (behind : Bool) (l : List ℕ) (kids : Wired) → without_weights (plain (drop i ts)) ≡ plain_open.node l (without_weights kids) (without_weights (plain (drop (i + 1) ts)))
-    → (plain_open.IsApart (without_weights kids) → ⊥) → SameApart ts i behind → plain_open.IsApart (without_weights (plain ts)) → ⊥
-holes_below ts i behind l kids e inside s a = let x = subst (ApartBehind behind) e (s.there a) in inside x.apart.0
+pub holes_below : (ts : List WireTree) (i : ℕ) (after : Bool) (l : List ℕ) (kids : Wired) → without_weights (plain (drop i ts)) ≡ plain_open.node l (without_weights kids) (without_weights (plain (drop (i + 1) ts)))
+    → (plain_open.IsApart (without_weights kids) → ⊥) → SameApart ts i after → plain_open.IsApart (without_weights (plain ts)) → ⊥
+holes_below ts i after l kids e inside s a = let x = subst (ApartAfter after) e (s.there a) in inside x.apart.0
 
 -- at the end none do
-pub all_apart : (ts : List WireTree) (i : ℕ) (behind : Bool) → length ts ≤ i → SameApart ts i behind → plain_open.IsApart (without_weights (plain ts))
-all_apart ts i behind h s = s.back (subst (λ us. ApartBehind behind (without_weights (plain us))) (sym (drop_end ts i h)) (record { first = λ f. refl; apart = tt }))
+pub all_apart : (ts : List WireTree) (i : ℕ) (after : Bool) → length ts ≤ i → SameApart ts i after → plain_open.IsApart (without_weights (plain ts))
+all_apart ts i after h s = s.back (subst (λ us. ApartAfter after (without_weights (plain us))) (sym (drop_end ts i h)) (record { first = λ f. refl; apart = tt }))
   where
     drop_end : (ts : List WireTree) (i : ℕ) → length ts ≤ i → drop i ts ≡ []
     drop_end [] zero h = refl

@@ -58,7 +58,7 @@ told_sound old new s h weight known o are is =
     let told = told_keep old.peer new.peer s h o known is.answers.2 (λ i n e. (are.weights i n e).1 ∙ sym (is.keeps.weight s i (are.weights i n e).0)) in
     (subst (KeepsRules o) (sym are.same) told.0, told.1)
 
--- so no cause of the wire is named for it
+-- where a list is refused only for a rule that it breaks, that of told sources is refused for want of memory alone
 pub told_taken : {A : Type 0} (Goal : WireFault → Type 0) (old new : LinkView) (s : ℕ) (h : HoleId) (weight : ℕ) (known : HoleId → Option ℕ) (o : Wired) (r : Result A RemoteFault)
     → (old.told ≡ true → IsAnswer old.peer new.peer (Fill s h) (list o)) → (KeepsRules o weight → (IsChanged known (holes_of o) → ⊥) → IfErr r (λ e. e ≡ OutOfMemory))
     → IfErr r (λ e. (fault : WireFault) → e ≡ Wire fault → old.told ≡ true → AreKnownThere old s h weight known → Goal fault)

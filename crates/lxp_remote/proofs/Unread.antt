@@ -27,7 +27,7 @@ not_a_reply x at u t = u.wrong (drop (at + 1) x, subst IsReplyText (sym (take-ap
 pub told_answer : (old new : View) (r : Request) (x : List ℕ) (u : Reply) → IsReplyOf old new r x → ((q : Said) → SpellsShallow x q → IsThisReply (Ok u) q) → IsAnswer old new r (said u)
 told_answer old new r x u p only = let t = told_read old new r x p in subst (IsAnswer old new r) (sym (only t.0 t.2)) t.1
 
--- it is not refused but for want of memory
+-- a reply of told sources is not read only for want of memory
 pub told_memory : (old new : View) (r : Request) (x : List ℕ) (e : ReplyFault) → IsReplyOf old new r x → ((q : Said) → SpellsShallow x q → IsThisReply (Err e) q) → e ≡ faults.OutOfMemory
 told_memory old new r x e p only = let t = told_read old new r x p in only t.0 t.2
 

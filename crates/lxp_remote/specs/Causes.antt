@@ -36,7 +36,7 @@ pub record Asked : Type 0 where
   pub weight : ℕ
   pub known : HoleId → Option ℕ
 
--- this was asked, of a hole that weighs so much, where these holes are known
+-- a request, the weight of the hole that it asks for, and the holes that are known
 abbrev pub asking : Request → ℕ → (HoleId → Option ℕ) → Asked
 asking r weight known = record { request = r; weight = weight; known = known }
 

@@ -1,4 +1,4 @@
--- What a source behind a link is known to have, before and after a list came.
+-- What a source after a link is known to have, before and after a list came.
 use Rattle.std.specs.Prelude.{◌≡◌, ◌⊎◌, ℕ, if◌then◌else◌, List, Option, Some, Contains}
 use Rattle.std.specs.Str.{bytes_eq}
 use Rattle.wire_text.specs.declared.reply.Hole.{Hole}

@@ -1,4 +1,4 @@
--- What a fill of a source behind a link comes to.
+-- What a fill of a source after a link comes to.
 use Rattle.std.specs.Prelude.{◌≡◌, ◌⊎◌, ℕ, ◌<◌, true, Option, Some}
 use Rattle.mix_base.specs.Counts.{HasRisen}
 use Rattle.lxp_core.specs.declared.open_tree.HoleId.{HoleId}

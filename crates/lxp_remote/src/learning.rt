@@ -41,7 +41,7 @@ pub fn known_weight(root: &Hole, known: &KnownHoles, hole: HoleId) -> Option<u12
 fn learn_hole(root: &Hole, known: &mut KnownHoles, hole: Hole) -> Result<(), Unlearned>
     ensures learned { OnOk result (Learns (weights root.now known.old) (weights root.now known.new) ((hole.id, hole.weight) ∷ [])) }
     ensures changed { IsErrOf result Unlearned.Changed → IsChanged (weights root.now known.old) ((hole.id, hole.weight) ∷ []) }
-    ensures front { take (length known.old) known.new ≡ known.old }
+    ensures prefix { take (length known.old) known.new ≡ known.old }
 {
     match known_weight(root, known, hole.id) {
         Some(weight) if weight == hole.weight => Ok(()),
@@ -58,7 +58,7 @@ fn learn_hole(root: &Hole, known: &mut KnownHoles, hole: Hole) -> Result<(), Unl
 fn learn_tree(root: &Hole, known: &mut KnownHoles, tree: &WireTree) -> Result<(), Unlearned>
     ensures learned { OnOk result (Learns (weights root.now known.old) (weights root.now known.new) (holes_of (put tree.now nil))) }
     ensures changed { IsErrOf result Unlearned.Changed → IsChanged (weights root.now known.old) (holes_of (put tree.now nil)) }
-    ensures front { take (length known.old) known.new ≡ known.old }
+    ensures prefix { take (length known.old) known.new ≡ known.old }
 {
     match tree {
         WireTree::Node { kids, .. } => learn_list(root, known, kids),
@@ -71,7 +71,7 @@ fn learn_tree(root: &Hole, known: &mut KnownHoles, tree: &WireTree) -> Result<()
 fn learn_list(root: &Hole, known: &mut KnownHoles, trees: &[WireTree]) -> Result<(), Unlearned>
     ensures learned { OnOk result (Learns (weights root.now known.old) (weights root.now known.new) (holes_of (plain trees.now))) }
     ensures changed { IsErrOf result Unlearned.Changed → IsChanged (weights root.now known.old) (holes_of (plain trees.now)) }
-    ensures front { take (length known.old) known.new ≡ known.old }
+    ensures prefix { take (length known.old) known.new ≡ known.old }
 {
     for tree in trees {
         learn_tree(root, known, tree)?;
@@ -83,7 +83,7 @@ fn learn_list(root: &Hole, known: &mut KnownHoles, trees: &[WireTree]) -> Result
 pub fn learn(root: &Hole, known: &mut KnownHoles, trees: &[WireTree]) -> Result<(), Unlearned>
     ensures learned { OnOk result (Learns (weights root.now known.old) (weights root.now known.new) (holes_of (plain trees.now))) }
     ensures changed { IsErrOf result Unlearned.Changed → IsChanged (weights root.now known.old) (holes_of (plain trees.now)) }
-    ensures front { take (length known.old) known.new ≡ known.old }
+    ensures prefix { take (length known.old) known.new ≡ known.old }
     ensures kept { OnErr result (known.new ≡ known.old) }
 {
     let count = known.len();

@@ -1,4 +1,4 @@
-//! A source behind a link: what is kept of it, and its fills.
+//! A source after a link: what is kept of it, and its fills.
 #![tactic(auto)]
 
 mod asking;

@@ -1,4 +1,4 @@
-// What is kept of one source behind a link.
+// What is kept of one source after a link.
 ghost use Rattle.std.specs.Prelude.{◌≡◌, ◌⊎◌, ◌+◌, ◌≤◌, ℕ, true, Some, None, IfOk, IfErr, IsErrOf, OnErr};
 ghost use Rattle.mix_base.specs.Counts.{HasRisen};
 ghost use Rattle.lxp_core.specs.Plain.{plain as open_plain};
@@ -20,7 +20,7 @@ use lxp_wire::Link;
 use std::alloc::Global;
 use wire_text::Hole;
 
-/// What is kept of one source behind a link: its root, the other holes that came, and how often and why it failed.
+/// What is kept of one source after a link: its root, the other holes that came, and how often and why it failed.
 #[derive(Drop)]
 pub struct Peer {
     pub root: Hole,
@@ -65,7 +65,7 @@ impl Peer {
         };
         take_list(alloc, &self.root, &mut self.known, trees, hole.weight)
     }
-    /// The list of a hole of the source, of this number behind the link, without weights. `UnknownHole` comes exactly where the hole isn't known, and then
+    /// The list of a hole of the source, of this number after the link, without weights. `UnknownHole` comes exactly where the hole isn't known, and then
     /// the link is not asked. `Failed` counts a fault, and its cause is the last one from then on. After an error no hole is known that wasn't.
     pub fn fill<L: Link>(
         &mut self,

@@ -54,20 +54,20 @@ fn list_total(trees: &[WireTree]) -> Option<u128>
 fn is_apart(trees: &[WireTree]) -> bool
     ensures { MatchBool result (IsApart (without_weights (plain trees.now))) (¬ IsApart (without_weights (plain trees.now))) }
 {
-    let mut behind_hole = false;
+    let mut after_hole = false;
     for tree in trees {
         match tree {
             WireTree::Node { kids, .. } => {
                 if !is_apart(kids) {
                     return false;
                 }
-                behind_hole = false;
+                after_hole = false;
             }
             WireTree::Hole(_) => {
-                if behind_hole {
+                if after_hole {
                     return false;
                 }
-                behind_hole = true;
+                after_hole = true;
             }
         }
     }

@@ -30,7 +30,7 @@ module _ (weight : HoleId → ℕ) where
   pub with_weights-put : (t : OpenTree) (o : plain.Open) → with_weights weight (put t o) ≡ wired_followed (with_weights weight (put t plain.nil)) (with_weights weight o)
   with_weights-put t o = ap (with_weights weight) (put-open_followed t o) ∙ with_weights-followed (put t plain.nil) o
 
-  -- the bytes of the trees from an index on, and those behind the first of them
+  -- the bytes of the trees from an index on, and those after the first of them
   pub served-step : (ts : List OpenTree) (i : ℕ) (t : OpenTree) → i < length ts → t ≡ get_or ts i t
       → trees_bytes (with_weights weight (plain_of (drop i ts))) ≡ trees_bytes (with_weights weight (put t plain.nil)) ++ trees_bytes (with_weights weight (plain_of (drop (i + 1) ts)))
   served-step ts i t h e =
@@ -61,7 +61,7 @@ open_size_at [] i t h e = absurd (omega arith)
 open_size_at (u ∷ ts) zero t h e = omega (arith, ap (λ v. size_in (put v plain.nil)) e, size-put u (plain_of ts))
 open_size_at (u ∷ ts) (suc i) t h e = omega (arith, open_size_at ts i t (omega arith) e, size-put u (plain_of ts))
 
--- how many trees a list has
+-- a tree before no others is one
 one_put : (x : OpenTree-F (plain.Open → plain.Open)) → tops_of (put_step x plain.nil) ≡ 1
 one_put (Node label kids) = refl
 one_put (Hole h) = refl
@@ -71,7 +71,7 @@ tops-followed plain.nil b = omega arith
 tops-followed (plain.node l k r) b = omega (arith, tops-followed r b)
 tops-followed (plain.hole i r) b = omega (arith, tops-followed r b)
 
--- they are as many as the list has members
+-- the plain form of a list has as many trees at its top as the list has members
 pub tops_of-plain : (ts : List OpenTree) → tops_of (plain_of ts) ≡ length ts
 tops_of-plain [] = refl
 tops_of-plain (t ∷ ts) =

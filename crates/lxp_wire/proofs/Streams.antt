@@ -99,25 +99,25 @@ pub asked_once : (old new : View) (before : Stream) (x : List ℕ) (after : Stre
 asked_once old new before x after replies r none good is fed =
     let cut = fed.going good in
     let one = splits_one ([] ++ x) fed.requests (r ∷ []) cut.0 [] (subst (λ b. Splits (b ++ x) fed.requests cut.0) none cut.1) (one_request x r is) in
-    let behind = cut.2.goes_on (subst IsPrefixOfRequest (sym one.1) nothing_more) in
+    let after = cut.2.goes_on (subst IsPrefixOfRequest (sym one.1) nothing_more) in
     record {
       reply = subst (IsReplyOf old new r) (sym fed.written) (answered_once old new r fed.said (subst (λ rs. AreAnswers old new rs fed.said) one.0 fed.answers));
-      begun = behind.0 ∙ one.1;
-      bad = behind.1;
+      begun = after.0 ∙ one.1;
+      bad = after.1;
     }
 
 -- requests at the beginning of a text are no more than those that it is cut into
-pub fills_front : (ds qs : List Request) (more rest : List ℕ) → AllByRecursion IsRequest ds → AllByRecursion IsRequest qs → flat_map request_bytes ds ++ more ≡ flat_map request_bytes qs ++ rest
+pub fills_prefix : (ds qs : List Request) (more rest : List ℕ) → AllByRecursion IsRequest ds → AllByRecursion IsRequest qs → flat_map request_bytes ds ++ more ≡ flat_map request_bytes qs ++ rest
     → IsPrefixOfRequest rest ⊎ IsBadTag rest → fills_in ds ≤ fills_in qs
-fills_front [] qs more rest h k e p = omega arith
-fills_front (d ∷ ds) [] more rest h k e p =
+fills_prefix [] qs more rest h k e p = omega arith
+fills_prefix (d ∷ ds) [] more rest h k e p =
     absurd (not_begun rest d (flat_map request_bytes ds ++ more) h.0
     (sym e ∙ ap (λ z. z ++ more) (flat_map-cons request_bytes d ds) ∙ append_assoc (request_bytes d) (flat_map request_bytes ds) more) p)
-fills_front (d ∷ ds) (q ∷ qs) more rest h k e p =
+fills_prefix (d ∷ ds) (q ∷ qs) more rest h k e p =
     let both = apart d q (flat_map request_bytes ds ++ more) (flat_map request_bytes qs ++ rest) h.0 k.0
     (sym (append_assoc (request_bytes d) (flat_map request_bytes ds) more) ∙ ap (λ z. z ++ more) (sym (flat_map-cons request_bytes d ds)) ∙ e
     ∙ ap (λ z. z ++ rest) (flat_map-cons request_bytes q qs) ∙ append_assoc (request_bytes q) (flat_map request_bytes qs) rest) in
-    omega (arith, ap fills_of both.0, fills_front ds qs more rest h.1 k.1 both.1 p)
+    omega (arith, ap fills_of both.0, fills_prefix ds qs more rest h.1 k.1 both.1 p)
 
 -- requests that were answered so far, up to a place of the text
 pub record Serving (old now : View) (text before out : List ℕ) (at : ℕ) : Type 0 where
@@ -158,9 +158,9 @@ fills_push : (rs : List Request) (r : Request) → fills_in (rs ++ r ∷ []) ≡
 fills_push [] r = omega arith
 fills_push (q ∷ rs) r = omega (arith, fills_push rs r)
 
--- the text behind one request more
-behind_one : (text : List ℕ) (at len : ℕ) (r : Request) → len ≤ length (drop at text) → take len (drop at text) ≡ request_bytes r → drop at text ≡ request_bytes r ++ drop (at + len) text
-behind_one text at len r h e =
+-- the text after one request more
+after_one : (text : List ℕ) (at len : ℕ) (r : Request) → len ≤ length (drop at text) → take len (drop at text) ≡ request_bytes r → drop at text ≡ request_bytes r ++ drop (at + len) text
+after_one text at len r h e =
     sym (take-append-drop len (drop at text)) ∙ ap (λ z. z ++ drop len (drop at text)) e ∙ ap (λ z. request_bytes r ++ z) (drop-drop len at text)
 
 some_bytes : (r : Request) → 0 < length (request_bytes r)
@@ -176,10 +176,10 @@ some_len x len r h e = omega (arith, some_bytes r, ap length e, length-take len 
 asked_more : (old now : View) (text before out : List ℕ) (at len : ℕ) (r : Request) (s : Serving old now text before out at) → len ≤ length (drop at text) → take len (drop at text) ≡ request_bytes r
     → text ≡ flat_map request_bytes (s.done ++ r ∷ []) ++ drop (at + len) text
 asked_more old now text before out at len r s h e =
-    s.whole ∙ ap (λ z. flat_map request_bytes s.done ++ z) (behind_one text at len r h e) ∙ sym (append_assoc (flat_map request_bytes s.done) (request_bytes r) (drop (at + len) text))
+    s.whole ∙ ap (λ z. flat_map request_bytes s.done ++ z) (after_one text at len r h e) ∙ sym (append_assoc (flat_map request_bytes s.done) (request_bytes r) (drop (at + len) text))
     ∙ ap (λ z. z ++ drop (at + len) text) (sym (flat_push request_bytes s.done r))
 
--- one request more was answered
+-- with one request more a text is served up to its end
 pub serving_more : (old now new : View) (text before out later : List ℕ) (at len : ℕ) (r : Request) → Serving old now text before out at → len ≤ length (drop at text) → SpellsRequest (take len (drop at text)) r
     → HasAnswered now new r out later → Serving old new text before later (at + len)
 serving_more old now new text before out later at len r s h is a = record {
@@ -196,9 +196,9 @@ serving_more old now new text before out later at len r s h is a = record {
 -- however far it came, no more fills were asked than the text has requests for
 pub serving_fills : (old now : View) (text before out : List ℕ) (at : ℕ) → Serving old now text before out at → (rs : List Request) (rest : List ℕ) → Splits text rs rest → now.fills ≤ old.fills + fills_in rs
 serving_fills old now text before out at s rs rest cut =
-    omega (arith, s.fills, fills_front s.done rs (drop at text) rest s.each cut.each (sym s.whole ∙ cut.whole) cut.partial)
+    omega (arith, s.fills, fills_prefix s.done rs (drop at text) rest s.each cut.each (sym s.whole ∙ cut.whole) cut.partial)
 
--- nor where the next request failed
+-- where the next request is not answered either, no more fills were asked than the text has requests for
 pub serving_stops : (old now new : View) (text before out : List ℕ) (at len : ℕ) (r : Request) → Serving old now text before out at → len ≤ length (drop at text) → SpellsRequest (take len (drop at text)) r
     → new.fills ≤ now.fills + fills_of r → (rs : List Request) (rest : List ℕ) → Splits text rs rest → new.fills ≤ old.fills + fills_in rs
 serving_stops old now new text before out at len r s h is more rs rest cut =
@@ -207,7 +207,7 @@ serving_stops old now new text before out at len r s h is more rs rest cut =
       s.fills,
       more,
       fills_push s.done r,
-      fills_front (s.done ++ r ∷ []) rs (drop (at + len) text) rest (both_each s.done (r ∷ []) s.each (is.0, tt)) cut.each (sym (asked_more old now text before out at len r s h is.1) ∙ cut.whole) cut.partial,
+      fills_prefix (s.done ++ r ∷ []) rs (drop (at + len) text) rest (both_each s.done (r ∷ []) s.each (is.0, tt)) cut.each (sym (asked_more old now text before out at len r s h is.1) ∙ cut.whole) cut.partial,
     )
 
 -- the text was served
@@ -231,16 +231,16 @@ request_length (Root s) = omega (arith, wide32.len s)
 request_length (Fill s h) = omega (arith, length-append (u32_bytes s) (words_bytes h), wide32.len s, length-words h)
 
 -- a proper prefix of a request is shorter than one
-pub short_front : (x : List ℕ) → IsPrefixOfRequest x → length x < 29
-short_front x f = omega (arith, f.2, request_length f.1, ap length f.3.1, length-append x f.0)
+pub short_prefix : (x : List ℕ) → IsPrefixOfRequest x → length x < 29
+short_prefix x f = omega (arith, f.2, request_length f.1, ap length f.3.1, length-append x f.0)
 
 same_first : (x y : List ℕ) → 0 < length x → get_or (x ++ y) 0 0 ≡ get_or x 0 0
 same_first [] y h = absurd (omega arith)
 same_first (b ∷ x) y h = refl
 
--- it doesn't begin with a bad tag
-front_not_bad : (x : List ℕ) → IsPrefixOfRequest x → IsBadTag x → ⊥
-front_not_bad x f b = omega (arith, b.1, same_first x f.0 b.0, ap (λ l. get_or l 0 0) f.3.1, low_tag f.1 [], ap (λ l. get_or l 0 0) (append_nil (request_bytes f.1)))
+-- a proper prefix of a request does not begin with a bad tag
+prefix_not_bad : (x : List ℕ) → IsPrefixOfRequest x → IsBadTag x → ⊥
+prefix_not_bad x f b = omega (arith, b.1, same_first x f.0 b.0, ap (λ l. get_or l 0 0) f.3.1, low_tag f.1 [], ap (λ l. get_or l 0 0) (append_nil (request_bytes f.1)))
 
 module _ (old new : View) (before after : Stream) (piece text replies : List ℕ) (at : ℕ) (good : before.bad ≡ None) (text_is : text ≡ before.begun ++ piece) (place : after.at ≡ min (before.at + at) (2 ^ 64 - 1)) where
   none_bad : (n : ℕ) → before.bad ≡ Some n → ⊥
@@ -258,7 +258,7 @@ module _ (old new : View) (before after : Stream) (piece text replies : List ℕ
       record { whole = sym text_is ∙ s.whole; each = s.each; partial = inr (s.stops refl) },
       record {
         place = place ∙ ap (λ n. min (before.at + n) (2 ^ 64 - 1)) (sym s.place);
-        goes_on = λ f. absurd (front_not_bad (drop at text) f (s.stops refl));
+        goes_on = λ f. absurd (prefix_not_bad (drop at text) f (s.stops refl));
         stops = λ b. stop;
       },
     );
@@ -278,7 +278,7 @@ module _ (old new : View) (before after : Stream) (piece text replies : List ℕ
       record {
         place = place ∙ ap (λ n. min (before.at + n) (2 ^ 64 - 1)) (sym s.place);
         goes_on = λ f. (begun, none);
-        stops = λ b. absurd (front_not_bad (drop at text) (s.goes_on refl) b);
+        stops = λ b. absurd (prefix_not_bad (drop at text) (s.goes_on refl) b);
       },
     );
     stopped = λ n e. absurd (none_bad n e);
@@ -288,7 +288,7 @@ some_bad : (b : Option ℕ) → is_some b ≡ true → b ≡ None → ⊥
 some_bad None e f = cc
 some_bad (Some n) e f = cc
 
--- behind a bad tag nothing is answered
+-- after a bad tag nothing is answered
 pub fed_nothing : (v : View) (before : Stream) (piece replies : List ℕ) → is_some before.bad ≡ true → replies ≡ [] → IsFed v v before piece before replies
 fed_nothing v before piece replies bad none = record {
   requests = [];

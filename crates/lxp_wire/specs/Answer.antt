@@ -74,13 +74,13 @@ pub record IsAnswer (old new : View) (r : Request) (said : Said) : Type 0 where
   pub answers : Answers old new r said
   pub reply : IsReply said
 
--- they answered requests one after another
+-- sources answered requests one after another
 abbrev pub AreAnswers : View → View → List Request → List Said → Type 0
 AreAnswers old new [] [] = new ≡ old
 AreAnswers old new [] (said ∷ others) = ⊥
 AreAnswers old new (r ∷ rs) [] = ⊥
 AreAnswers old new (r ∷ rs) (said ∷ others) = (v : View) × IsAnswer old v r said × AreAnswers v new rs others
 
--- the answer to a request was written behind what was written before
+-- the answer to a request was written after what was written before
 abbrev pub HasAnswered : View → View → Request → List ℕ → List ℕ → Type 0
 HasAnswered old new r before after = (said : Said) × (after ≡ before ++ reply_bytes said) × IsAnswer old new r said

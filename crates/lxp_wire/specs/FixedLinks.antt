@@ -7,15 +7,15 @@ use Rattle.lxp_core.specs.View.{View}
 use Rattle.lxp_wire.specs.declared.fixed_link.FixedLink.{FixedLink}
 use Rattle.lxp_wire.specs.Links.{LinkView, KeepsLink}
 
--- the replies
+-- the replies of a link with fixed ones
 abbrev pub replies_of : FixedLink → List (Vec ℕ)
 replies_of l = l.replies.items
 
--- how many were given
+-- how many replies a link with fixed ones gave
 abbrev pub given_of : FixedLink → ℕ
 given_of l = l.given
 
--- how often it was asked for more
+-- how often a link with fixed replies was asked for more
 abbrev pub faults_of : FixedLink → ℕ
 faults_of l = l.faults
 
@@ -39,7 +39,7 @@ abbrev pub reply_before : List (List ℕ) → ℕ → List ℕ
 reply_before replies zero = []
 reply_before replies (suc i) = get_or replies i []
 
--- it tells no sources
+-- what a link with fixed replies means: it tells no sources
 abbrev pub fixed_view : FixedLink → LinkView
 fixed_view l = record { faults = l.faults; replies = l.given; last = reply_before (map (λ v. v.items) l.replies.items) l.next; told = false; peer = no_sources }
 

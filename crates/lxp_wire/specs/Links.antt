@@ -16,7 +16,7 @@ pub record LinkView : Type 0 where
   pub last : List ℕ
   -- whether it tells the sources that reply
   pub told : Bool
-  -- these sources, where they are told
+  -- the sources that reply, where they are told
   pub peer : View
 
 -- what every call keeps: whether the sources are told, what they are, and counts that don't fall

@@ -10,7 +10,7 @@ abbrev pub last_bytes : Option (Vec ℕ) → List ℕ
 last_bytes None = []
 last_bytes (Some reply) = reply.items
 
--- it tells its sources, and never fails
+-- what a link to sources in memory means: it tells them, and never fails
 abbrev pub memory_view : View → ℕ → Option (Vec ℕ) → LinkView
 memory_view peer replies last = record { faults = 0; replies = replies; last = last_bytes last; told = true; peer = peer }
 
@@ -18,7 +18,7 @@ memory_view peer replies last = record { faults = 0; replies = replies; last = l
 pub same_count : (a : ℕ) → a ≤ a
 same_count a = omega arith
 
--- nor less than one that an earlier one was no less than
+-- a count that is no less than another is no less than one below that
 pub later_count : (a b c : ℕ) → a ≤ b → b ≤ c → a ≤ c
 later_count a b c x y = omega arith
 

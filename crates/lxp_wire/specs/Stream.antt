@@ -25,25 +25,25 @@ pub record Splits (x : List ℕ) (requests : List Request) (rest : List ℕ) : T
   pub partial : IsPrefixOfRequest rest ⊎ IsBadTag rest
 
 -- a place in a stream, which is counted up to the end of 64 bits
-abbrev pub place_behind : ℕ → List Request → ℕ
-place_behind at requests = min (at + length (flat_map request_bytes requests)) (2 ^ 64 - 1)
+abbrev pub place_after : ℕ → List Request → ℕ
+place_after at requests = min (at + length (flat_map request_bytes requests)) (2 ^ 64 - 1)
 
--- what is kept of a stream behind whole requests
-pub record IsBehind (at : ℕ) (requests : List Request) (rest : List ℕ) (new : Stream) : Type 0 where
-  pub place : new.at ≡ place_behind at requests
+-- what is kept of a stream after whole requests
+pub record IsAfter (at : ℕ) (requests : List Request) (rest : List ℕ) (new : Stream) : Type 0 where
+  pub place : new.at ≡ place_after at requests
   pub goes_on : IsPrefixOfRequest rest → (new.begun ≡ rest) × (new.bad ≡ None)
   pub stops : IsBadTag rest → new.bad ≡ Some new.at
 
--- a piece of a stream was answered: each request that it completes, in order; nothing behind a bad tag
+-- a piece of a stream was answered: each request that it completes, in order; nothing after a bad tag
 pub record IsFed (old new : View) (before : Stream) (piece : List ℕ) (after : Stream) (replies : List ℕ) : Type 0 where
   pub requests : List Request
   pub said : List Said
   pub answers : AreAnswers old new requests said
   pub written : replies ≡ flat_map reply_bytes said
-  pub going : before.bad ≡ None → (rest : List ℕ) × Splits (before.begun ++ piece) requests rest × IsBehind before.at requests rest after
+  pub going : before.bad ≡ None → (rest : List ℕ) × Splits (before.begun ++ piece) requests rest × IsAfter before.at requests rest after
   pub stopped : (at : ℕ) → before.bad ≡ Some at → (requests ≡ []) × (after ≡ before)
 
--- a text was served: the requests that it is cut into, in order, up to a place; behind it stands a bad tag or a proper prefix of a request
+-- a text was served: the requests that it is cut into, in order, up to a place; after it stands a bad tag or a proper prefix of a request
 pub record IsServed (old new : View) (text before after : List ℕ) (at : ℕ) (bad : Bool) : Type 0 where
   pub requests : List Request
   pub said : List Said
@@ -71,6 +71,6 @@ sources_of server = server.sources
 abbrev pub PiecesAreOne : Type 0
 PiecesAreOne = (x y : List ℕ) (requests later : List Request) (rest end : List ℕ) → Splits x requests rest → Splits (rest ++ y) later end → Splits (x ++ y) (requests ++ later) end
 
--- and no text is cut in two ways
+-- no text is cut into requests and a rest in two ways
 abbrev pub SplitsAreOne : Type 0
 SplitsAreOne = (x : List ℕ) (requests others : List Request) (rest end : List ℕ) → Splits x requests rest → Splits x others end → (requests ≡ others) × (rest ≡ end)

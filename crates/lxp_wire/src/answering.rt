@@ -8,7 +8,7 @@ use lxp_core::{HoleId, SourceFault, Weighed};
 use std::alloc::{AllocError, Global};
 use wire_text::{Request, push_hole, push_u32};
 
-// Writes the reply to a request for a root behind what `out` holds.
+// Writes the reply to a request for a root after what `out` holds.
 fn answer_root<S: Weighed>(out: &mut Vec<u8>, sources: &S, s: u32) -> Result<(), AllocError>
     ensures { OnOk result (HasAnswered (S.view sources.now) (S.view sources.now) (Root s) out.old.items out.new.items) }
 {
@@ -27,7 +27,7 @@ fn answer_root<S: Weighed>(out: &mut Vec<u8>, sources: &S, s: u32) -> Result<(),
     Ok(())
 }
 
-// Writes the reply to a request for a list behind what `out` holds.
+// Writes the reply to a request for a list after what `out` holds.
 fn answer_fill<S: Weighed>(
     alloc: Global,
     out: &mut Vec<u8>,
@@ -55,7 +55,7 @@ fn answer_fill<S: Weighed>(
     Ok(())
 }
 
-/// Writes the reply to a request behind what `out` holds.
+/// Writes the reply to a request after what `out` holds.
 pub fn answer<S: Weighed>(
     alloc: Global,
     out: &mut Vec<u8>,

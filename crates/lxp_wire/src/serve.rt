@@ -16,7 +16,7 @@ pub struct Served {
     pub bad: bool,
 }
 
-/// Writes the replies to the requests of a text behind what `out` holds, up to one that is not whole or to a bad tag.
+/// Writes the replies to the requests of a text after what `out` holds, up to one that is not whole or to a bad tag.
 pub fn serve<S: Weighed>(
     alloc: Global,
     sources: &mut S,

@@ -18,12 +18,12 @@ pub struct Fed {
     pub bad: Option<u64>,
 }
 
-// Two texts, one behind the other.
-fn joined(alloc: Global, front: &[u8], back: &[u8]) -> Result<Vec<u8>, AllocError>
-    ensures { IfOk result (λ text. text.items ≡ front.now ++ back.now) }
+// Two texts, one after the other.
+fn joined(alloc: Global, prefix: &[u8], back: &[u8]) -> Result<Vec<u8>, AllocError>
+    ensures { IfOk result (λ text. text.items ≡ prefix.now ++ back.now) }
 {
     let mut text = Vec::new(alloc);
-    text.extend_from_slice(front)?;
+    text.extend_from_slice(prefix)?;
     text.extend_from_slice(back)?;
     Ok(text)
 }
@@ -76,7 +76,7 @@ impl<S: Weighed> Server<S> {
         ensures came { S.came_from (sources_of self.old) (sources_of self.new) }
         ensures fills { (requests : List Asked) (rest : List ℕ) → Splits ((stream_of self.old).begun ++ piece.now) requests rest
             → (S.view (sources_of self.new)).fills ≤ (S.view (sources_of self.old)).fills + fills_in requests }
-        // The replies are what the sources answer to these requests, in order; nothing is replied behind a bad tag.
+        // The replies are what the sources answer to these requests, in order; nothing is replied after a bad tag.
         ensures fed { let old = S.view (sources_of self.old) in let new = S.view (sources_of self.new) in
             IfOk result (λ fed. IsFed old new (stream_of self.old) piece.now (stream_of self.new) fed.replies.items) }
         ensures bad { IfOk result (λ fed. fed.bad ≡ (stream_of self.new).bad) }

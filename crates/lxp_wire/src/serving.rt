@@ -10,7 +10,7 @@ use lxp_core::{HoleId, OpenTree, Weighed};
 use std::alloc::AllocError;
 use wire_text::{Hole, push_hole, push_label, push_u32};
 
-// Writes a tree behind what `out` holds, each hole with its weight. All its holes are known.
+// Writes a tree after what `out` holds, each hole with its weight. All its holes are known.
 #[cycle(serve)]
 fn push_open<S: Weighed>(
     out: &mut Vec<u8>,
@@ -52,7 +52,7 @@ pub fn whole_hole(id: HoleId, weight: u128) -> Hole
     Hole { id, weight }
 }
 
-/// Writes the number of trees and the trees behind what `out` holds, each hole with its weight.
+/// Writes the number of trees and the trees after what `out` holds, each hole with its weight.
 #[cycle(serve)]
 pub fn push_open_list<S: Weighed>(
     out: &mut Vec<u8>,

@@ -56,6 +56,6 @@ came_keeps a b x = record {
 pub root_is_known : (a : Leaf) (s : ℕ) → s < 1 → bytes_eq root_words root_words ≡ true
 root_is_known a s h = refl
 
--- its lists are small
+-- the lists of a leaf are small
 pub is_small : (a : Leaf) (s : ℕ) → s < 1 → true ≡ true
 is_small a s h = refl

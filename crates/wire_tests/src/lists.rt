@@ -126,11 +126,11 @@ fn a_reply_that_breaks_a_rule_is_named(rt: HostRuntime) -> Result<(), Fail> {
         failing(alloc, &holes)?,
         Some(WireFault::BadFragment(Broken::HolesOnly))
     );
-    let mut behind = vec![in alloc; 0x82, 0, 0, 0, 3, 0, 0, 0, 0, 1, b'c', 0, 0, 0, 0]?;
-    hole_text(&mut behind, 1, 1)?;
-    hole_text(&mut behind, 2, 2)?;
+    let mut after = vec![in alloc; 0x82, 0, 0, 0, 3, 0, 0, 0, 0, 1, b'c', 0, 0, 0, 0]?;
+    hole_text(&mut after, 1, 1)?;
+    hole_text(&mut after, 2, 2)?;
     assert_eq!(rt;
-        failing(alloc, &behind)?,
+        failing(alloc, &after)?,
         Some(WireFault::BadFragment(Broken::AdjacentHoles))
     );
     let mut changed = vec![in alloc; 0x82, 0, 0, 0, 2, 0, 0, 0, 0, 1, b'c', 0, 0, 0, 0]?;

@@ -49,7 +49,7 @@ fn a_stream_is_answered_the_same_in_any_two_pieces(rt: HostRuntime) -> Result<()
 }
 
 #[test]
-fn nothing_is_answered_behind_a_bad_tag(rt: HostRuntime) -> Result<(), Fail> {
+fn nothing_is_answered_after_a_bad_tag(rt: HostRuntime) -> Result<(), Fail> {
     let alloc = rt.alloc();
     let mut server = Server::new(Leaf { fills: 0 });
     let fed = server.feed(alloc, &[0, 7, 0])?;

@@ -16,7 +16,7 @@ use Rattle.wire_text.proofs.Widths.{wide32, wide128, length-words}
 use Rattle.wire_text.proofs.Trees.{wired_followed_assoc, trees_bytes-followed, put-followed}
 use Rattle.wire_text.proofs.Judged.{Parted}
 
--- a tree that lies too deep behind others
+-- a tree that lies too deep after others
 shifted : (m n : ℕ) (o : Option ℕ) → option_map (λ i. m + n + i) o ≡ option_map (λ i. m + i) (option_map (λ i. n + i) o)
 shifted m n None = refl
 shifted m n (Some i) = ap Some (omega arith)
@@ -63,7 +63,7 @@ deep-followed (suc m) (hole i w r) b =
     ∙ first_shifted 41 (length (trees_bytes r)) (deep_place (suc m) r) (deep_place (suc m) b)
     ∙ ap (λ n. first_place (option_map (λ j. 41 + j) (deep_place (suc m) r)) n (deep_place (suc m) b)) long
 
--- a tree pushed behind others
+-- a tree pushed after others
 pub plain-push : (ts : List WireTree) (t : WireTree) → plain (ts ++ t ∷ []) ≡ wired_followed (plain ts) (put t nil)
 plain-push [] t = refl
 plain-push (u ∷ ts) t =
@@ -121,7 +121,7 @@ pub record IsHoleHere (o : Wired) (y rest : List ℕ) : Type 0 where
   pub low : weight < 2 ^ 128
   pub text : rest ≡ hole_bytes id weight ++ y
 
--- one that begins with 1 is a hole
+-- a tree whose bytes begin with 1 is a hole
 pub hole_here : (o : Wired) (y rest : List ℕ) (tag : ℕ) → tag ≡ 1 → AreTrees o → count_of o ≡ 1 → tag ∷ rest ≡ trees_bytes o ++ y → IsHoleHere o y rest
 hole_here nil y rest tag one are e f = absurd (omega arith)
 hole_here (node l k r) y rest tag one are e f = absurd (omega (arith, one, ap (λ l. get_or l 0 0) f))
@@ -158,10 +158,10 @@ pub deep_hole : (levels : ℕ) (id : HoleId) (w : ℕ) → 0 < levels → deep_p
 deep_hole zero id w h = absurd (omega arith)
 deep_hole (suc m) id w h = refl
 
--- one tree more
-pub builds_more : (levels : ℕ) (o : Wired) (y rest behind : List ℕ) (trees : List WireTree) (tree : WireTree) (still : ℕ) (b : BuildsOn levels o y rest trees (still + 1))
-    (p : Parted 1 still b.later) → put tree nil ≡ p.first → behind ≡ trees_bytes p.others ++ y → deep_place levels p.first ≡ None → BuildsOn levels o y behind (trees ++ tree ∷ []) still
-builds_more levels o y rest behind trees tree still b p is text shallow = record {
+-- with one tree more the trees that were made are those at the beginning, one more of them
+pub builds_more : (levels : ℕ) (o : Wired) (y rest after : List ℕ) (trees : List WireTree) (tree : WireTree) (still : ℕ) (b : BuildsOn levels o y rest trees (still + 1))
+    (p : Parted 1 still b.later) → put tree nil ≡ p.first → after ≡ trees_bytes p.others ++ y → deep_place levels p.first ≡ None → BuildsOn levels o y after (trees ++ tree ∷ []) still
+builds_more levels o y rest after trees tree still b p is text shallow = record {
   later = p.others;
   are = p.are_others;
   left = p.count_others;

@@ -9,33 +9,33 @@ use Rattle.wire_text.specs.Wired.{Wired, nil, node, hole, count_of, wired_follow
 use Rattle.wire_text.specs.Bytes.{u32_bytes, u128_bytes, words_bytes, hole_bytes, label_bytes, trees_bytes, IsHole, AreTrees}
 use Rattle.wire_text.specs.Reading.{Begins, IsCutOff, Verdict, whole, unexpected, ends, Judges, Leads}
 use Rattle.wire_text.specs.Heads.{IsTreesText, IsLabelText}
-use Rattle.wire_text.proofs.Widths.{IsBytes, bytes_behind, zeros, length-zeros, filled, wide32, wide128, number_one, number_in, words_in, length-words}
+use Rattle.wire_text.proofs.Widths.{IsBytes, bytes_after, zeros, length-zeros, filled, wide32, wide128, number_one, number_in, words_in, length-words}
 use Rattle.wire_text.proofs.Told.{hole_one, label_one, trees_one}
 use Rattle.wire_text.proofs.Trees.{trees_bytes-followed, count_of-followed}
 
 -- what is said of the rest is said of the whole text
-pub judged : (Is IsRest : List ℕ → Type 0) (front rest : List ℕ) (v : Verdict) → Leads Is front IsRest → Judges IsRest rest v → Judges Is (front ++ rest) v
-judged Is IsRest front rest whole leads j = leads.there rest j
-judged Is IsRest front rest ends leads j = record {
-  prefix = (j.prefix.0, subst Is (sym (append_assoc front rest j.prefix.0)) (leads.there (rest ++ j.prefix.0) j.prefix.1));
+pub judged : (Is IsRest : List ℕ → Type 0) (prefix rest : List ℕ) (v : Verdict) → Leads Is prefix IsRest → Judges IsRest rest v → Judges Is (prefix ++ rest) v
+judged Is IsRest prefix rest whole leads j = leads.there rest j
+judged Is IsRest prefix rest ends leads j = record {
+  prefix = (j.prefix.0, subst Is (sym (append_assoc prefix rest j.prefix.0)) (leads.there (rest ++ j.prefix.0) j.prefix.1));
   none = λ is. j.none (leads.back rest is);
 }
-judged Is IsRest front rest (unexpected left) leads j =
+judged Is IsRest prefix rest (unexpected left) leads j =
     let at = j.0 in
-    let more : length front + at + 1 ≡ length front + (at + 1) = omega arith in (
-      length front + at,
-      omega (arith, j.1, length-append front rest),
+    let more : length prefix + at + 1 ≡ length prefix + (at + 1) = omega arith in (
+      length prefix + at,
+      omega (arith, j.1, length-append prefix rest),
       record {
-        inside = omega (arith, j.2.inside, length-append front rest);
+        inside = omega (arith, j.2.inside, length-append prefix rest);
         prefix = (
           j.2.prefix.0,
-          subst Is (ap (λ x. x ++ j.2.prefix.0) (sym (take_append front rest at)))
-              (subst Is (sym (append_assoc front (take at rest) j.2.prefix.0)) (leads.there (take at rest ++ j.2.prefix.0) j.2.prefix.1)),
+          subst Is (ap (λ x. x ++ j.2.prefix.0) (sym (take_append prefix rest at)))
+              (subst Is (sym (append_assoc prefix (take at rest) j.2.prefix.0)) (leads.there (take at rest ++ j.2.prefix.0) j.2.prefix.1)),
         );
         wrong = λ b. j.2.wrong (
           b.0,
           leads.back (take (at + 1) rest ++ b.0)
-              (subst Is (append_assoc front (take (at + 1) rest) b.0) (subst Is (ap (λ x. x ++ b.0) (ap (λ n. take n (front ++ rest)) more ∙ take_append front rest (at + 1))) b.1)),
+              (subst Is (append_assoc prefix (take (at + 1) rest) b.0) (subst Is (ap (λ x. x ++ b.0) (ap (λ n. take n (prefix ++ rest)) more ∙ take_append prefix rest (at + 1))) b.1)),
         );
       },
     )
@@ -45,7 +45,7 @@ abbrev pub leaves : ℕ → Wired
 leaves zero = nil
 leaves (suc n) = node [] nil (leaves n)
 
--- they are trees, and so many
+-- leaves with empty labels are trees, and as many as were asked for
 pub leaves_are : (n : ℕ) → AreTrees (leaves n) × (count_of (leaves n) ≡ n)
 leaves_are zero = (tt, refl)
 leaves_are (suc n) = ((IsUtf8-nil, omega arith, omega arith, tt, (leaves_are n).0), omega (arith, (leaves_are n).1))
@@ -97,7 +97,7 @@ parted (suc k) n (hole id w rest) are e =
       parts = ap (hole id w) p.parts;
     }
 
--- two lists of trees one behind the other are trees
+-- two lists of trees one after the other are trees
 pub are_followed : (a b : Wired) → AreTrees a → AreTrees b → AreTrees (wired_followed a b)
 are_followed nil b p q = q
 are_followed (node label kids rest) b p q = (p.0, p.1, p.2, p.3, are_followed rest b p.4 q)
@@ -106,7 +106,7 @@ are_followed (hole id w rest) b p q = (p.0, p.1, are_followed rest b p.2 q)
 node_text : (l k t r : List ℕ) → 0 ∷ (l ++ k) ++ (t ++ r) ≡ 0 ∷ (l ++ ((k ++ t) ++ r))
 node_text l k t r = ap (λ x. 0 ∷ x) (append_assoc l k (t ++ r) ∙ ap (λ x. l ++ x) (sym (append_assoc k t r)))
 
--- behind a node's head its children and the other trees come
+-- after a node's head its children and the other trees come
 pub node_leads : (l : List ℕ) (k n : ℕ) → IsUtf8 l → length l < 2 ^ 32 → k < 2 ^ 32 → Leads (IsTreesText (n + 1)) (0 ∷ (label_bytes l ++ u32_bytes k)) (IsTreesText (k + n))
 node_leads l k n utf8 short few = record {
   there = λ x t.
@@ -135,7 +135,7 @@ node_leads l k n utf8 short few = record {
           number.1 ∙ sym (trees_bytes-followed kids rest),
         )
 
--- behind a hole the other trees come
+-- after a hole the other trees come
 pub hole_leads : (id : HoleId) (w n : ℕ) → IsHole id → w < 2 ^ 128 → Leads (IsTreesText (n + 1)) (1 ∷ hole_bytes id w) (IsTreesText (0 + n))
 hole_leads id w n is low = record {
   there = λ x t. (hole id w t.0, (is, low, t.1), omega (arith, t.2), ap (λ y. 1 ∷ (hole_bytes id w ++ y)) t.3);
@@ -178,13 +178,13 @@ pub hole_in : (x : List ℕ) → IsBytes x → 40 ≤ length x → (id : HoleId)
 hole_in x fits long =
     let id = words_in x fits (omega arith) in
     let r = drop 24 x in
-    let w = number_in u128_bytes 16 (2 ^ 128) wide128 r (bytes_behind 24 x fits) (omega (arith, length-drop 24 x)) in
+    let w = number_in u128_bytes 16 (2 ^ 128) wide128 r (bytes_after 24 x fits) (omega (arith, length-drop 24 x)) in
     let text : x ≡ hole_bytes id.0 w.0 ++ drop 16 r =
     id.2 ∙ ap (λ y. words_bytes id.0 ++ y) w.2 ∙ sym (append_assoc (words_bytes id.0) (u128_bytes w.0) (drop 16 r)) in
     let len : length (hole_bytes id.0 w.0) ≡ 40 = omega (arith, length-append (words_bytes id.0) (u128_bytes w.0), length-words id.0, wide128.len w.0) in
     (id.0, w.0, id.1, w.1, text ∙ ap (λ y. hole_bytes id.0 w.0 ++ y) (sym (drop_at (hole_bytes id.0 w.0) (drop 16 r) 40 len) ∙ ap (drop 40) (sym text)))
 
--- fewer than forty bytes behind a 1 are cut off
+-- fewer than forty bytes after a 1 are cut off
 pub stuck_hole : (rest : List ℕ) (n : ℕ) → IsBytes rest → length rest < 40 → IsCutOff (IsTreesText (n + 1)) (1 ∷ rest)
 stuck_hole rest n fits short =
     let y = zeros (40 - length rest) in
@@ -216,7 +216,7 @@ leaf_text l n utf8 short =
       ap (λ z. 0 ∷ (label_bytes l ++ (z ++ trees_bytes (leaves n)))) (sym (append_nil (u32_bytes 0))),
     )
 
--- fewer than four bytes behind a 0 are cut off
+-- fewer than four bytes after a 0 are cut off
 pub stuck_len : (rest : List ℕ) (n : ℕ) → IsBytes rest → length rest < 4 → IsCutOff (IsTreesText (n + 1)) (0 ∷ rest)
 stuck_len rest n fits short =
     let y = zeros (4 - length rest) in
@@ -230,7 +230,7 @@ stuck_len rest n fits short =
     cut_trees (n + 1) (0 ∷ rest) (y ++ tail) (omega (arith, length-append y tail, length-zeros (4 - length rest)))
     (subst (IsTreesText (n + 1)) (ap (λ z. 0 ∷ z) (sym text)) (leaf_text l n (label_zeros m.0) (omega (arith, m.1, length-zeros m.0))))
 
--- fewer than four bytes behind a label are cut off
+-- fewer than four bytes after a label are cut off
 pub stuck_kids : (l rest : List ℕ) (n : ℕ) → IsUtf8 l → length l < 2 ^ 32 → IsBytes rest → length rest < 4 → IsCutOff (IsTreesText (n + 1)) (0 ∷ (label_bytes l ++ rest))
 stuck_kids l rest n utf8 small fits short =
     let y = zeros (4 - length rest) in
@@ -265,16 +265,16 @@ by_tree : (len at : ℕ) (x z : List ℕ) → len < 2 ^ 32 → at < length x →
 by_tree len at x z few inside within none nil are e some = omega arith
 by_tree len at x z few inside within none (hole id w rest) are e some = omega (arith, ap (λ b. get_or b 0 0) e)
 by_tree len at x z few inside within none (node m kids rest) are e some =
-    let front = take (at + 1) x in
-    let behind = (u32_bytes (count_of kids) ++ trees_bytes kids) ++ trees_bytes rest in
-    let inner : u32_bytes len ++ (front ++ z) ≡ u32_bytes (length m) ++ (m ++ behind) =
-    sym (append_assoc (u32_bytes len) front z) ∙ ap (drop 1) e ∙ append_assoc (u32_bytes (length m)) m behind in
-    let number = number_one u32_bytes 4 (2 ^ 32) wide32 len (length m) (front ++ z) (m ++ behind) few are.1 inner in
-    let long : length front ≡ at + 1 = omega (arith, length-take (at + 1) x) in
+    let prefix = take (at + 1) x in
+    let after = (u32_bytes (count_of kids) ++ trees_bytes kids) ++ trees_bytes rest in
+    let inner : u32_bytes len ++ (prefix ++ z) ≡ u32_bytes (length m) ++ (m ++ after) =
+    sym (append_assoc (u32_bytes len) prefix z) ∙ ap (drop 1) e ∙ append_assoc (u32_bytes (length m)) m after in
+    let number = number_one u32_bytes 4 (2 ^ 32) wide32 len (length m) (prefix ++ z) (m ++ after) few are.1 inner in
+    let long : length prefix ≡ at + 1 = omega (arith, length-take (at + 1) x) in
     let within_m : at + 1 ≤ length m = omega (arith, number.0) in
-    let same : take (at + 1) m ≡ front =
-    sym (take-append-le (at + 1) m behind within_m) ∙ ap (take (at + 1)) (sym number.1) ∙ take_at front z (at + 1) long in
-    let parts : front ++ drop (at + 1) m ≡ m = ap (λ t. t ++ drop (at + 1) m) (sym same) ∙ take-append-drop (at + 1) m in
+    let same : take (at + 1) m ≡ prefix =
+    sym (take-append-le (at + 1) m after within_m) ∙ ap (take (at + 1)) (sym number.1) ∙ take_at prefix z (at + 1) long in
+    let parts : prefix ++ drop (at + 1) m ≡ m = ap (λ t. t ++ drop (at + 1) m) (sym same) ∙ take-append-drop (at + 1) m in
     none (drop (at + 1) m) (subst IsUtf8 (sym parts) are.0, ap length parts ∙ sym number.0)
 
 -- a byte with which no label goes on

@@ -47,7 +47,7 @@ char4 x y z u w s f g =
     ] in
     of_four (x ∷ y ∷ z ∷ u ∷ []) 0 (omega arith) r.0 (s.low, s.high) f g (low, high)
 
--- one byte that may stand second behind a first one
+-- one byte that may stand second after a first one
 pub some_second : (x : ℕ) → (y : ℕ) × IsSecond x y
 some_second x = elim (cases_lt x 225) [
   | inl p ↦ (160, record { low = omega arith; high = omega arith; least_of_three = λ e. omega arith; most_of_three = λ e. absurd (omega arith); least_of_four = λ e. omega arith; most_of_four = λ e. absurd (omega arith) })
@@ -138,7 +138,7 @@ wrong_second x y w t h p none = none_begins (x ∷ y ∷ t) (omega arith) (λ r.
           most_of_four = λ e. (let t4 = r.fourth (omega (arith, e)) in omega (arith, e, t4.2.1, s.2.0));
         }
 
--- nor another third one
+-- a text whose first character has three bytes or more is not UTF-8 where its third byte may not stand there
 pub wrong_third : (x y z w : ℕ) (t : List ℕ) → IsWidth x w → 2 < w → (Follows z → ⊥) → IsUtf8 (x ∷ y ∷ z ∷ t) → ⊥
 wrong_third x y z w t h p none = none_begins (x ∷ y ∷ z ∷ t) (omega arith) (λ r. none (r.third (high x w h p)).1)
   where
@@ -150,7 +150,7 @@ wrong_third x y z w t h p none = none_begins (x ∷ y ∷ z ∷ t) (omega arith)
     high x (suc (suc (suc (suc zero)))) h p = let l = h.four refl in omega (arith, l.0)
     high x (suc (suc (suc (suc (suc m))))) h p = absurd (let q = h.most in omega arith)
 
--- nor another fourth one
+-- a text whose first character has four bytes is not UTF-8 where its fourth byte may not stand there
 pub wrong_fourth : (x y z u w : ℕ) (t : List ℕ) → IsWidth x w → 3 < w → (Follows u → ⊥) → IsUtf8 (x ∷ y ∷ z ∷ u ∷ t) → ⊥
 wrong_fourth x y z u w t h p none = none_begins (x ∷ y ∷ z ∷ u ∷ t) (omega arith) (λ r. none (r.fourth (high x w h p)).1)
   where
@@ -163,22 +163,22 @@ wrong_fourth x y z u w t h p none = none_begins (x ∷ y ∷ z ∷ u ∷ t) (ome
     high x (suc (suc (suc (suc (suc m))))) h p = absurd (let q = h.most in omega arith)
 
 -- no prefix of the text is UTF-8
-abbrev pub NoFront : List ℕ → Type 0
-NoFront x = (n : ℕ) → 0 < n → IsUtf8 (take n x) → ⊥
+abbrev pub NoPrefix : List ℕ → Type 0
+NoPrefix x = (n : ℕ) → 0 < n → IsUtf8 (take n x) → ⊥
 
--- so its first character has more bytes than were read of it
-wide1 : (x w : ℕ) (t : List ℕ) → IsWidth x w → 0 < w → NoFront (x ∷ t) → 1 < w
+-- a text of which no prefix is UTF-8 has a first character of more than one byte
+wide1 : (x w : ℕ) (t : List ℕ) → IsWidth x w → 0 < w → NoPrefix (x ∷ t) → 1 < w
 wide1 x zero t h p none = absurd (omega arith)
 wide1 x (suc zero) t h p none = absurd (none 1 (omega arith) (char1 x (h.one refl)))
 wide1 x (suc (suc w)) t h p none = omega arith
 
-wide2 : (x y w : ℕ) (t : List ℕ) → IsWidth x w → 1 < w → IsSecond x y → NoFront (x ∷ y ∷ t) → 2 < w
+wide2 : (x y w : ℕ) (t : List ℕ) → IsWidth x w → 1 < w → IsSecond x y → NoPrefix (x ∷ y ∷ t) → 2 < w
 wide2 x y zero t h p s none = absurd (omega arith)
 wide2 x y (suc zero) t h p s none = absurd (omega arith)
 wide2 x y (suc (suc zero)) t h p s none = absurd (none 2 (omega arith) (char2 x y h s))
 wide2 x y (suc (suc (suc w))) t h p s none = omega arith
 
-wide3 : (x y z w : ℕ) (t : List ℕ) → IsWidth x w → 2 < w → IsSecond x y → Follows z → NoFront (x ∷ y ∷ z ∷ t) → 3 < w
+wide3 : (x y z w : ℕ) (t : List ℕ) → IsWidth x w → 2 < w → IsSecond x y → Follows z → NoPrefix (x ∷ y ∷ z ∷ t) → 3 < w
 wide3 x y z zero t h p s f none = absurd (omega arith)
 wide3 x y z (suc zero) t h p s f none = absurd (omega arith)
 wide3 x y z (suc (suc zero)) t h p s f none = absurd (omega arith)
@@ -195,7 +195,7 @@ fault0 (a ∷ t) w left some h p = record {
 }
 
 -- the second one doesn't go on
-pub fault1 : (x : List ℕ) (w left : ℕ) → 1 < length x → IsWidth (get_or x 0 0) w → 0 < w → w ≤ left → NoFront x → (IsSecond (get_or x 0 0) (get_or x 1 0) → ⊥) → IsNoCharacterAt x left 1
+pub fault1 : (x : List ℕ) (w left : ℕ) → 1 < length x → IsWidth (get_or x 0 0) w → 0 < w → w ≤ left → NoPrefix x → (IsSecond (get_or x 0 0) (get_or x 1 0) → ⊥) → IsNoCharacterAt x left 1
 fault1 [] w left some h p q none bad = absurd (omega arith)
 fault1 (a ∷ []) w left some h p q none bad = absurd (omega arith)
 fault1 (a ∷ b ∷ t) w left some h p q none bad =
@@ -206,8 +206,8 @@ fault1 (a ∷ b ∷ t) w left some h p q none bad =
       wrong = λ y e u. wrong_second a b w y h (wide1 a w (b ∷ t) h p none) bad u;
     }
 
--- nor the third one
-pub fault2 : (x : List ℕ) (w left : ℕ) → 2 < length x → IsWidth (get_or x 0 0) w → 0 < w → w ≤ left → NoFront x → IsSecond (get_or x 0 0) (get_or x 1 0) → (Follows (get_or x 2 0) → ⊥) → IsNoCharacterAt x left 2
+-- where the third byte may not stand in the first character, none of so many bytes goes on with it
+pub fault2 : (x : List ℕ) (w left : ℕ) → 2 < length x → IsWidth (get_or x 0 0) w → 0 < w → w ≤ left → NoPrefix x → IsSecond (get_or x 0 0) (get_or x 1 0) → (Follows (get_or x 2 0) → ⊥) → IsNoCharacterAt x left 2
 fault2 [] w left some h p q none s bad = absurd (omega arith)
 fault2 (a ∷ []) w left some h p q none s bad = absurd (omega arith)
 fault2 (a ∷ b ∷ []) w left some h p q none s bad = absurd (omega arith)
@@ -220,8 +220,8 @@ fault2 (a ∷ b ∷ d ∷ t) w left some h p q none s bad =
       wrong = λ y e u. wrong_third a b d w y h (wide2 a b w (d ∷ t) h one s none) bad u;
     }
 
--- nor the fourth one
-pub fault3 : (x : List ℕ) (w left : ℕ) → 3 < length x → IsWidth (get_or x 0 0) w → 0 < w → w ≤ left → NoFront x → IsSecond (get_or x 0 0) (get_or x 1 0) → Follows (get_or x 2 0) → (Follows (get_or x 3 0) → ⊥)
+-- where the fourth byte may not stand in the first character, none of so many bytes goes on with it
+pub fault3 : (x : List ℕ) (w left : ℕ) → 3 < length x → IsWidth (get_or x 0 0) w → 0 < w → w ≤ left → NoPrefix x → IsSecond (get_or x 0 0) (get_or x 1 0) → Follows (get_or x 2 0) → (Follows (get_or x 3 0) → ⊥)
     → IsNoCharacterAt x left 3
 fault3 [] w left some h p q none s f bad = absurd (omega arith)
 fault3 (a ∷ []) w left some h p q none s f bad = absurd (omega arith)
@@ -240,7 +240,7 @@ more_left : (x : List ℕ) (w left : ℕ) → Completes x w → length x < w →
 more_left x w left c short q = (c.more, c.utf8, omega (arith, c.long, q), omega (arith, c.long, short, length-append x c.more))
 
 -- where no byte is wrong the text is a proper prefix of a character
-pub no_fault : (x : List ℕ) (w left : ℕ) → 0 < length x → IsWidth (get_or x 0 0) w → 0 < w → w ≤ left → NoFront x → (1 < length x → IsSecond (get_or x 0 0) (get_or x 1 0)) → (2 < length x → Follows (get_or x 2 0))
+pub no_fault : (x : List ℕ) (w left : ℕ) → 0 < length x → IsWidth (get_or x 0 0) w → 0 < w → w ≤ left → NoPrefix x → (1 < length x → IsSecond (get_or x 0 0) (get_or x 1 0)) → (2 < length x → Follows (get_or x 2 0))
     → (3 < length x → Follows (get_or x 3 0)) → IsPrefixOfCharacter x left
 no_fault [] w left some h p q none s f g = absurd (omega arith)
 no_fault (a ∷ []) w left some h p q none s f g = more_left (a ∷ []) w left (from_one a w h p) (wide1 a w [] h p none) q

@@ -11,20 +11,20 @@ use Rattle.wire_text.specs.Bytes.{u32_bytes, hole_bytes, label_bytes, trees_byte
 use Rattle.wire_text.specs.Reading.{IsCutOff, Verdict, whole, Judges, Leads}
 use Rattle.wire_text.specs.Heads.{IsTreesText, IsHead, ReadsHead, ReadsKids, JudgesText, verdict_of}
 use Rattle.wire_text.specs.Sized.{IsListText, IsSized, Measures}
-use Rattle.wire_text.proofs.Widths.{IsBytes, bytes_behind, bytes_before, zeros, filled, wide32, number_one}
+use Rattle.wire_text.proofs.Widths.{IsBytes, bytes_after, bytes_before, zeros, filled, wide32, number_one}
 use Rattle.wire_text.proofs.Judged.{judged, node_leads, hole_leads, hole_in, leaves, leaves_are}
 
--- the bytes behind a front
-pub bytes_part : (front rest text : List ℕ) → text ≡ front ++ rest → IsBytes text → IsBytes rest
-bytes_part front rest text e fits = subst IsBytes (ap (drop (length front)) e ∙ drop_at front rest (length front) refl) (bytes_behind (length front) text fits)
+-- the bytes after a prefix
+pub bytes_part : (prefix rest text : List ℕ) → text ≡ prefix ++ rest → IsBytes text → IsBytes rest
+bytes_part prefix rest text e fits = subst IsBytes (ap (drop (length prefix)) e ∙ drop_at prefix rest (length prefix) refl) (bytes_after (length prefix) text fits)
 
--- a head of a node, by what stands behind its label's length
-pub head_from_kids : (text rest behind : List ℕ) (len : ℕ) (r : Result (ℕ × Bor (List ℕ)) Stop) → text ≡ 0 ∷ rest → rest ≡ u32_bytes len ++ behind → len < 2 ^ 32
-    → ReadsKids behind len r → ReadsHead text r
-head_from_kids text rest behind len (Ok found) e f few k =
+-- a head of a node, by what stands after its label's length
+pub head_from_kids : (text rest after : List ℕ) (len : ℕ) (r : Result (ℕ × Bor (List ℕ)) Stop) → text ≡ 0 ∷ rest → rest ≡ u32_bytes len ++ after → len < 2 ^ 32
+    → ReadsKids after len r → ReadsHead text r
+head_from_kids text rest after len (Ok found) e f few k =
     let label = k.0 in
     record {
-      front = 0 ∷ (label_bytes label ++ u32_bytes found.0);
+      prefix = 0 ∷ (label_bytes label ++ u32_bytes found.0);
       parts = e ∙ ap (λ x. 0 ∷ x) (f ∙ ap (λ x. u32_bytes len ++ x) k.3 ∙ ap (λ m. u32_bytes m ++ (label ++ (u32_bytes found.0 ++ found.1.now))) (sym k.1.1) ∙ regrouped (u32_bytes (length label)) label (u32_bytes found.0) found.1.now);
       some = omega arith;
       few = k.2;
@@ -33,7 +33,7 @@ head_from_kids text rest behind len (Ok found) e f few k =
   where
     regrouped : (a b c d : List ℕ) → a ++ (b ++ (c ++ d)) ≡ ((a ++ b) ++ c) ++ d
     regrouped a b c d = simp append_assoc
-head_from_kids text rest behind len (Err stop) e f few k = λ n.
+head_from_kids text rest after len (Err stop) e f few k = λ n.
     subst (λ t. Judges (IsTreesText (n + 1)) t (verdict_of stop)) (sym (e ∙ ap (λ x. 0 ∷ x) f)) (k n)
 
 -- a head of a hole
@@ -41,7 +41,7 @@ pub head_of_hole : (text rest : List ℕ) → text ≡ 1 ∷ rest → IsBytes re
 head_of_hole text rest e fits long =
     let h = hole_in rest fits long in
     record {
-      front = 1 ∷ hole_bytes h.0 h.1;
+      prefix = 1 ∷ hole_bytes h.0 h.1;
       parts = e ∙ ap (λ x. 1 ∷ x) h.4;
       some = omega arith;
       few = omega arith;
@@ -52,19 +52,19 @@ head_of_hole text rest e fits long =
 pub sized : {T : Type 0} (Is : List ℕ → Type 0) (size : ℕ) (x : List ℕ) (r : Result T Stop) → IsSized Is size → IsBytes x → Measures x size r → JudgesText Is x r
 sized Is size x (Ok u) is fits m = is.all x fits m
 sized Is size x (Err (Unexpected left)) is fits m =
-    let front = take size x in
-    let long : length front ≡ size = omega (arith, m.0, m.1, length-take size x) in (
+    let prefix = take size x in
+    let long : length prefix ≡ size = omega (arith, m.0, m.1, length-take size x) in (
       size,
       m.1,
       record {
         inside = omega (arith, m.0, m.1);
-        prefix = ([], subst Is (sym (append_nil front)) (is.all front (bytes_front size x fits) long));
+        prefix = ([], subst Is (sym (append_nil prefix)) (is.all prefix (bytes_prefix size x fits) long));
         wrong = λ b. omega (arith, m.0, m.1, is.len (take (size + 1) x ++ b.0) b.1, length-append (take (size + 1) x) b.0, length-take (size + 1) x);
       },
     )
   where
-    bytes_front : (n : ℕ) (x : List ℕ) → IsBytes x → IsBytes (take n x)
-    bytes_front = bytes_before
+    bytes_prefix : (n : ℕ) (x : List ℕ) → IsBytes x → IsBytes (take n x)
+    bytes_prefix = bytes_before
 sized Is size x (Err Ends) is fits m =
     let all = filled x size fits (omega (arith, m)) in
     record {
@@ -72,10 +72,10 @@ sized Is size x (Err Ends) is fits m =
       none = λ t. omega (arith, m, is.len x t);
     }
 
--- behind a front the same is said
-pub led : {T : Type 0} (Is IsRest : List ℕ → Type 0) (front rest : List ℕ) (r : Result T Stop) → Leads Is front IsRest → JudgesText IsRest rest r → JudgesText Is (front ++ rest) r
-led Is IsRest front rest (Ok u) leads j = leads.there rest j
-led Is IsRest front rest (Err stop) leads j = judged Is IsRest front rest (verdict_of stop) leads j
+-- after a prefix the same is said
+pub led : {T : Type 0} (Is IsRest : List ℕ → Type 0) (prefix rest : List ℕ) (r : Result T Stop) → Leads Is prefix IsRest → JudgesText IsRest rest r → JudgesText Is (prefix ++ rest) r
+led Is IsRest prefix rest (Ok u) leads j = leads.there rest j
+led Is IsRest prefix rest (Err stop) leads j = judged Is IsRest prefix rest (verdict_of stop) leads j
 
 -- no trees are no bytes
 pub no_trees : IsSized (IsTreesText 0) 0
@@ -86,16 +86,16 @@ no_trees = record { len = λ x t. by_tree t.0 x t.2 t.3; all = λ x fits e. (nil
     by_tree (node l k r) x c e = absurd (omega arith)
     by_tree (hole i w r) x c e = absurd (omega arith)
 
--- one head more
-pub one_head : (text rest behind : List ℕ) (total pending kids : ℕ) → IsHead rest kids behind → 0 < pending
-    → ((v : Verdict) → Judges (IsTreesText pending) rest v → Judges (IsTreesText total) text v) → (v : Verdict) → Judges (IsTreesText (pending - 1 + kids)) behind v → Judges (IsTreesText total) text v
-one_head text rest behind total pending kids h some goes_on v j =
+-- where a head is read of trees that are still to come, what is said of the rest is said of the text
+pub one_head : (text rest after : List ℕ) (total pending kids : ℕ) → IsHead rest kids after → 0 < pending
+    → ((v : Verdict) → Judges (IsTreesText pending) rest v → Judges (IsTreesText total) text v) → (v : Verdict) → Judges (IsTreesText (pending - 1 + kids)) after v → Judges (IsTreesText total) text v
+one_head text rest after total pending kids h some goes_on v j =
     let n = pending - 1 in
     let whole_n : n + 1 ≡ pending = omega (arith, some) in
     let turned : n + kids ≡ kids + n = omega arith in
     goes_on v (subst (λ m. Judges (IsTreesText m) rest v) whole_n
     (subst (λ x. Judges (IsTreesText (n + 1)) x v) (sym h.parts)
-    (judged (IsTreesText (n + 1)) (IsTreesText (kids + n)) h.front behind v (h.leads n) (subst (λ m. Judges (IsTreesText m) behind v) turned j))))
+    (judged (IsTreesText (n + 1)) (IsTreesText (kids + n)) h.prefix after v (h.leads n) (subst (λ m. Judges (IsTreesText m) after v) turned j))))
 
 -- a head that is none
 pub no_head : (text rest : List ℕ) (total pending : ℕ) (stop : Stop) → ((n : ℕ) → Judges (IsTreesText (n + 1)) rest (verdict_of stop)) → 0 < pending
@@ -116,7 +116,7 @@ last_head text rest total pending r none fits m goes_on =
     go text rest total pending (Ok u) goes_on j = goes_on whole j
     go text rest total pending (Err stop) goes_on j = goes_on (verdict_of stop) j
 
--- behind the number of a list its trees come
+-- after the number of a list its trees come
 pub list_leads : (n : ℕ) → n < 2 ^ 32 → Leads IsListText (u32_bytes n) (IsTreesText n)
 list_leads n few = record {
   there = λ x t. (t.0, omega (arith, t.2, few), t.1, ap (λ y. u32_bytes n ++ y) t.3 ∙ ap (λ m. u32_bytes m ++ trees_bytes t.0) (sym t.2));

@@ -1,4 +1,4 @@
--- What stands behind the first byte of a reply.
+-- What stands after the first byte of a reply.
 use Rattle.std.proofs.Common.{◌≡◌, ◌⊎◌, inl, inr, ℕ, ◌<◌, ◌≤◌, List, [], ◌∷◌, ◌++◌, length, get_or, drop, refl, sym, ap, subst, ◌∙◌, arith}
 use Rattle.std.proofs.lemmas.Bool.{cases_lt}
 use Rattle.std.proofs.lemmas.List.{length-append, length-drop, nil_from_length}
@@ -37,15 +37,15 @@ list_back x unknown_hole h e = absurd (omega (arith, ap (λ b. get_or b 0 0) e))
 list_back x no_memory h e = absurd (omega (arith, ap (λ b. get_or b 0 0) e))
 list_back x no_source h e = absurd (omega (arith, ap (λ b. get_or b 0 0) e))
 
--- behind 80 a number comes
+-- after 80 a number comes
 pub count_leads : Leads IsReplyText (0x80 ∷ []) IsNumberText
 count_leads = record { there = λ x t. (count t.0, (t.1, ap (λ y. 0x80 ∷ y) t.2)); back = λ x t. count_back x t.0 t.1.0 t.1.1 }
 
--- behind 81 a hole comes
+-- after 81 a hole comes
 pub root_leads : Leads IsReplyText (0x81 ∷ []) IsHoleText
 root_leads = record { there = λ x t. (root t.0 t.1, ((t.2, t.3), ap (λ y. 0x81 ∷ y) t.4)); back = λ x t. root_back x t.0 t.1.0 t.1.1 }
 
--- behind 82 a list comes
+-- after 82 a list comes
 pub list_follows : Leads IsReplyText (0x82 ∷ []) IsListText
 list_follows = record { there = λ x t. (list t.0, ((t.1, t.2), ap (λ y. 0x82 ∷ y) t.3)); back = λ x t. list_back x t.0 t.1.0 t.1.1 }
 
@@ -70,7 +70,7 @@ bare b low high = elim (cases_lt b 0x84) [
   ]
 ]
 
--- behind 83 to 86 nothing comes
+-- after 83 to 86 nothing comes
 pub bare_leads : (b : ℕ) → 0x83 ≤ b → b ≤ 0x86 → Leads IsReplyText (b ∷ []) IsNothing
 bare_leads b low high = record {
   there = λ x t. subst (λ y. IsReplyText (b ∷ y)) (sym t) (bare b low high);

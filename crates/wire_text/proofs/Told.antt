@@ -4,7 +4,7 @@ use Rattle.lxp_core.specs.declared.open_tree.HoleId.{HoleId}
 use Rattle.wire_text.specs.Wired.{Wired, nil, node, hole, count_of}
 use Rattle.wire_text.specs.Bytes.{u32_bytes, u128_bytes, words_bytes, hole_bytes, label_bytes, trees_bytes, IsHole, AreTrees}
 use Rattle.wire_text.specs.Reply.{count, root, list, failed, unknown_hole, no_memory, no_source, RepliesAreApart}
-use Rattle.wire_text.proofs.Widths.{wide32, wide128, number_one, words_one, fronts}
+use Rattle.wire_text.proofs.Widths.{wide32, wide128, number_one, words_one, prefixes}
 
 -- two holes with their weights at the beginning of one text are one
 pub hole_one : (i j : HoleId) (v w : ℕ) (x y : List ℕ) → IsHole i → IsHole j → v < 2 ^ 128 → w < 2 ^ 128 → hole_bytes i v ++ x ≡ hole_bytes j w ++ y
@@ -21,7 +21,7 @@ label_one l m x y h k e =
     let regrouped : u32_bytes (length l) ++ (l ++ x) ≡ u32_bytes (length m) ++ (m ++ y) =
     sym (append_assoc (u32_bytes (length l)) l x) ∙ e ∙ append_assoc (u32_bytes (length m)) m y in
     let first = number_one u32_bytes 4 (2 ^ 32) wide32 (length l) (length m) (l ++ x) (m ++ y) h k regrouped in
-    fronts l m x y (length l) refl (sym first.0) first.1
+    prefixes l m x y (length l) refl (sym first.0) first.1
 
 node_parts : (a k t r x : List ℕ) → (a ++ ((k ++ t) ++ r)) ++ x ≡ a ++ (k ++ (t ++ (r ++ x)))
 node_parts a k t r x = simp append_assoc

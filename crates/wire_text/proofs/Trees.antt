@@ -89,7 +89,7 @@ put_step-followed : (x : WireTree-F (Wired → Wired)) (rest : Wired) → put_st
 put_step-followed (Node label kids) rest = refl
 put_step-followed (Hole h) rest = refl
 
--- a tree before a list is that tree alone and the list behind it
+-- a tree before a list is that tree alone and the list after it
 pub put-followed : (t : WireTree) (rest : Wired) → put t rest ≡ wired_followed (put t nil) rest
 put-followed t rest =
     subst (λ f. f rest ≡ wired_followed (f nil) rest) (sym (fold_out-WireTree (Wired → Wired) put_step t)) (put_step-followed _ rest)
@@ -113,7 +113,7 @@ count_of-plain (t ∷ ts) =
 pub trees_bytes-put : (t : WireTree) (rest : Wired) → trees_bytes (put t rest) ≡ trees_bytes (put t nil) ++ trees_bytes rest
 trees_bytes-put t rest = ap trees_bytes (put-followed t rest) ∙ trees_bytes-followed (put t nil) rest
 
--- the trees from an index on, and those behind the first of them
+-- the trees from an index on, and those after the first of them
 pub trees_bytes-step : (ts : List WireTree) (i : ℕ) (t : WireTree) → i < length ts → t ≡ get_or ts i t → trees_bytes (plain (drop i ts)) ≡ trees_bytes (put t nil) ++ trees_bytes (plain (drop (i + 1) ts))
 trees_bytes-step ts i t h e =
     ap (λ us. trees_bytes (plain us)) (drop-cons ts i t h ∙ ap (λ n. get_or ts i t ∷ drop n ts) (let k : suc i ≡ i + 1 = omega arith in k))

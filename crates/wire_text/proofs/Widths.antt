@@ -12,10 +12,10 @@ abbrev pub IsBytes : List ℕ → Type 0
 IsBytes bytes = (i : ℕ) → get_or bytes i 0 < 256
 
 -- the members from an index on are bytes
-pub bytes_behind : (n : ℕ) (bytes : List ℕ) → IsBytes bytes → IsBytes (drop n bytes)
-bytes_behind n bytes h i = rw get_or-drop (h (n + i))
+pub bytes_after : (n : ℕ) (bytes : List ℕ) → IsBytes bytes → IsBytes (drop n bytes)
+bytes_after n bytes h i = rw get_or-drop (h (n + i))
 
--- those before an index are
+-- the first of bytes are bytes
 pub bytes_before : (n : ℕ) (bytes : List ℕ) → IsBytes bytes → IsBytes (take n bytes)
 bytes_before n bytes h i =
     elim (cases_lt i n) [
@@ -28,18 +28,18 @@ abbrev pub zeros : ℕ → List ℕ
 zeros zero = []
 zeros (suc n) = 0 ∷ zeros n
 
--- they are so many
+-- zeros are as many as were asked for
 pub length-zeros : (n : ℕ) → length (zeros n) ≡ n
 length-zeros zero = refl
 length-zeros (suc n) = ap suc (length-zeros n)
 
--- they are bytes
+-- zeros are bytes
 pub bytes_zeros : (n : ℕ) → IsBytes (zeros n)
 bytes_zeros zero i = omega arith
 bytes_zeros (suc n) zero = omega arith
 bytes_zeros (suc n) (suc i) = bytes_zeros n i
 
--- two lists of bytes one behind the other are one
+-- two lists of bytes one after the other are one
 pub bytes_both : (x y : List ℕ) → IsBytes x → IsBytes y → IsBytes (x ++ y)
 bytes_both [] y p q i = q i
 bytes_both (b ∷ x) y p q zero = p 0
@@ -88,46 +88,46 @@ wide64 = record {
 }
 
 -- the number that four bytes are
-pub u32_front : (bytes rest : List ℕ) (n : ℕ) → IsBytes bytes → 4 ≤ length bytes → rest ≡ drop 4 bytes → n ≡ from_be_bytes w32 (take 4 bytes) → bytes ≡ u32_bytes n ++ rest
+pub u32_prefix : (bytes rest : List ℕ) (n : ℕ) → IsBytes bytes → 4 ≤ length bytes → rest ≡ drop 4 bytes → n ≡ from_be_bytes w32 (take 4 bytes) → bytes ≡ u32_bytes n ++ rest
 unfolding u32_bytes
-u32_front bytes rest n fits long rest_is n_is =
+u32_prefix bytes rest n fits long rest_is n_is =
     sym (take-append-drop 4 bytes)
-    ∙ ap (λ front. front ++ drop 4 bytes) (sym (back32 (take 4 bytes) (omega (arith, length-take 4 bytes)) (bytes_before 4 bytes fits)))
+    ∙ ap (λ prefix. prefix ++ drop 4 bytes) (sym (back32 (take 4 bytes) (omega (arith, length-take 4 bytes)) (bytes_before 4 bytes fits)))
     ∙ ap (λ m. to_be_bytes w32 m ++ drop 4 bytes) (sym n_is)
     ∙ ap (λ r. to_be_bytes w32 n ++ r) (sym rest_is)
 
 -- the number that eight bytes are
-pub u64_front : (bytes rest : List ℕ) (n : ℕ) → IsBytes bytes → 8 ≤ length bytes → rest ≡ drop 8 bytes → n ≡ from_be_bytes w64 (take 8 bytes) → bytes ≡ u64_bytes n ++ rest
+pub u64_prefix : (bytes rest : List ℕ) (n : ℕ) → IsBytes bytes → 8 ≤ length bytes → rest ≡ drop 8 bytes → n ≡ from_be_bytes w64 (take 8 bytes) → bytes ≡ u64_bytes n ++ rest
 unfolding u64_bytes
-u64_front bytes rest n fits long rest_is n_is =
+u64_prefix bytes rest n fits long rest_is n_is =
     sym (take-append-drop 8 bytes)
-    ∙ ap (λ front. front ++ drop 8 bytes) (sym (back64 (take 8 bytes) (omega (arith, length-take 8 bytes)) (bytes_before 8 bytes fits)))
+    ∙ ap (λ prefix. prefix ++ drop 8 bytes) (sym (back64 (take 8 bytes) (omega (arith, length-take 8 bytes)) (bytes_before 8 bytes fits)))
     ∙ ap (λ m. to_be_bytes w64 m ++ drop 8 bytes) (sym n_is)
     ∙ ap (λ r. to_be_bytes w64 n ++ r) (sym rest_is)
 
 -- two texts that begin with so many bytes each and are one have these and the rest in common
-pub fronts : (a b x y : List ℕ) (size : ℕ) → length a ≡ size → length b ≡ size → a ++ x ≡ b ++ y → (a ≡ b) × (x ≡ y)
-fronts a b x y size p q e = (sym (take_at a x size p) ∙ ap (take size) e ∙ take_at b y size q, sym (drop_at a x size p) ∙ ap (drop size) e ∙ drop_at b y size q)
+pub prefixes : (a b x y : List ℕ) (size : ℕ) → length a ≡ size → length b ≡ size → a ++ x ≡ b ++ y → (a ≡ b) × (x ≡ y)
+prefixes a b x y size p q e = (sym (take_at a x size p) ∙ ap (take size) e ∙ take_at b y size q, sym (drop_at a x size p) ∙ ap (drop size) e ∙ drop_at b y size q)
 
 module _ (bytes_of : ℕ → List ℕ) (size limit : ℕ) (wide : IsWide bytes_of size limit) where
   -- two numbers at the beginning of one text are one
   pub number_one : (m n : ℕ) (x y : List ℕ) → m < limit → n < limit → bytes_of m ++ x ≡ bytes_of n ++ y → (m ≡ n) × (x ≡ y)
-  number_one m n x y h k e = let both = fronts (bytes_of m) (bytes_of n) x y size (wide.len m) (wide.len n) e in (wide.same m n h k both.0, both.1)
+  number_one m n x y h k e = let both = prefixes (bytes_of m) (bytes_of n) x y size (wide.len m) (wide.len n) e in (wide.same m n h k both.0, both.1)
 
   -- enough bytes begin with a number
   pub number_in : (bytes : List ℕ) → IsBytes bytes → size ≤ length bytes → (n : ℕ) × (n < limit) × (bytes ≡ bytes_of n ++ drop size bytes)
   number_in bytes fits long =
       let found = wide.in' (take size bytes) (omega (arith, length-take size bytes)) (bytes_before size bytes fits) in
-      (found.0, found.1, sym (take-append-drop size bytes) ∙ ap (λ front. front ++ drop size bytes) found.2)
+      (found.0, found.1, sym (take-append-drop size bytes) ∙ ap (λ prefix. prefix ++ drop size bytes) found.2)
 
--- they take sixteen bytes
+-- a number of 128 bits takes sixteen bytes
 pub length-u128 : (n : ℕ) → length (u128_bytes n) ≡ 16
 length-u128 n = omega (arith, length-append (u64_bytes (n / 2 ^ 64)) (u64_bytes (n % 2 ^ 64)), wide64.len (n / 2 ^ 64), wide64.len (n % 2 ^ 64))
 
 u128_in : (bytes : List ℕ) → length bytes ≡ 16 → IsBytes bytes → (n : ℕ) × (n < 2 ^ 128) × (bytes ≡ u128_bytes n)
 u128_in bytes len fits =
     let high = number_in u64_bytes 8 (2 ^ 64) wide64 bytes fits (omega arith) in
-    let low = wide64.in' (drop 8 bytes) (omega (arith, length-drop 8 bytes)) (bytes_behind 8 bytes fits) in
+    let low = wide64.in' (drop 8 bytes) (omega (arith, length-drop 8 bytes)) (bytes_after 8 bytes fits) in
     let n : ℕ = high.0 * 2 ^ 64 + low.0 in
     let upper : n / 2 ^ 64 ≡ high.0 = omega (arith, low.1) in
     let lower : n % 2 ^ 64 ≡ low.0 = omega (arith, low.1) in (
@@ -166,9 +166,9 @@ pub words_in : (bytes : List ℕ) → IsBytes bytes → 24 ≤ length bytes → 
 words_in bytes fits long =
     let first = number_in u64_bytes 8 (2 ^ 64) wide64 bytes fits (omega arith) in
     let r1 = drop 8 bytes in
-    let second = number_in u64_bytes 8 (2 ^ 64) wide64 r1 (bytes_behind 8 bytes fits) (omega (arith, length-drop 8 bytes)) in
+    let second = number_in u64_bytes 8 (2 ^ 64) wide64 r1 (bytes_after 8 bytes fits) (omega (arith, length-drop 8 bytes)) in
     let r2 = drop 8 r1 in
-    let third = number_in u64_bytes 8 (2 ^ 64) wide64 r2 (bytes_behind 8 r1 (bytes_behind 8 bytes fits)) (omega (arith, length-drop 8 bytes, length-drop 8 r1)) in
+    let third = number_in u64_bytes 8 (2 ^ 64) wide64 r2 (bytes_after 8 r1 (bytes_after 8 bytes fits)) (omega (arith, length-drop 8 bytes, length-drop 8 r1)) in
     let id : HoleId = record { words = first.0 ∷ second.0 ∷ third.0 ∷ [] } in
     let a = u64_bytes first.0 in
     let b = u64_bytes second.0 in

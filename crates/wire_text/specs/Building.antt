@@ -22,12 +22,12 @@ abbrev pub BuildsTree : ℕ → Wired → List ℕ → List ℕ → Result (Wire
 BuildsTree levels o y x (Ok p) = (put p.0 nil ≡ o) × (p.1.now ≡ y) × (deep_place levels o ≡ None)
 BuildsTree levels o y x (Err e) = StopsAt levels o x e
 
--- these trees were
+-- these trees were made of a text, and that was left; or one of them lies too deep
 abbrev pub BuildsTrees : ℕ → Wired → List ℕ → List ℕ → Result (Vec WireTree × Bor (List ℕ)) Unbuilt → Type 0
 BuildsTrees levels o y x (Ok p) = (plain p.0.items ≡ o) × (p.1.now ≡ y) × (deep_place levels o ≡ None)
 BuildsTrees levels o y x (Err e) = StopsAt levels o x e
 
--- this list was made of all of a text
+-- this list was made of all of a text; or one of its trees lies too deep
 abbrev pub BuildsList : Wired → List ℕ → Result (Vec WireTree) Unbuilt → Type 0
 BuildsList o x (Ok v) = (plain v.items ≡ o) × (deep_place 200 o ≡ None)
 BuildsList o x (Err (TooDeep left)) = (at : ℕ) × (deep_place 200 o ≡ Some at) × (4 + at + left ≡ length x)

@@ -29,7 +29,7 @@ hole_bytes id weight = words_bytes id ++ u128_bytes weight
 abbrev pub label_bytes : List ℕ → List ℕ
 label_bytes label = u32_bytes (length label) ++ label
 
--- trees, one behind another: 0, the label, the number of children and these, or 1 and a hole
+-- trees, one after another: 0, the label, the number of children and these, or 1 and a hole
 abbrev pub trees_bytes : Wired → List ℕ
 trees_bytes nil = []
 trees_bytes (node label kids rest) = 0 ∷ (label_bytes label ++ ((u32_bytes (count_of kids) ++ trees_bytes kids) ++ trees_bytes rest))

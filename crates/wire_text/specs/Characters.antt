@@ -2,11 +2,11 @@
 use Rattle.std.specs.Prelude.{◌≡◌, ◌⊎◌, ℕ, ◌+◌, ◌<◌, ◌≤◌, List, ◌++◌, length, take}
 use Rattle.std.specs.Str.{IsUtf8}
 
--- the byte may stand behind the first byte of a character
+-- the byte may stand after the first byte of a character
 abbrev pub Follows : ℕ → Type 0
 Follows b = (128 ≤ b) × (b < 192)
 
--- the byte may stand second: behind four first bytes its range is smaller
+-- the byte may stand second: after four first bytes its range is smaller
 pub record IsSecond (first second : ℕ) : Type 0 where
   pub low : 128 ≤ second
   pub high : second < 192

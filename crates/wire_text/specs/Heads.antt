@@ -30,11 +30,11 @@ JudgesText Is x (Err stop) = Judges Is x (verdict_of stop)
 
 -- a tree up to its children, or a hole, stands before the rest, and so many children come
 pub record IsHead (x : List ℕ) (kids : ℕ) (rest : List ℕ) : Type 0 where
-  pub front : List ℕ
-  pub parts : x ≡ front ++ rest
-  pub some : 0 < length front
+  pub prefix : List ℕ
+  pub parts : x ≡ prefix ++ rest
+  pub some : 0 < length prefix
   pub few : kids < 2 ^ 32
-  pub leads : (n : ℕ) → Leads (IsTreesText (n + 1)) front (IsTreesText (kids + n))
+  pub leads : (n : ℕ) → Leads (IsTreesText (n + 1)) prefix (IsTreesText (kids + n))
 
 -- the head that the text begins with, or why it begins with none
 abbrev pub ReadsHead : List ℕ → Result (ℕ × Bor (List ℕ)) Stop → Type 0

@@ -28,7 +28,7 @@ Judges Is x whole = Is x
 Judges Is x (unexpected left) = (at : ℕ) × (at + left ≡ length x) × IsUnexpectedAt Is x at
 Judges Is x ends = IsCutOff Is x
 
--- behind these bytes the texts of one grammar are those of another
-pub record Leads (Is : List ℕ → Type 0) (front : List ℕ) (IsRest : List ℕ → Type 0) : Type 0 where
-  pub there : (x : List ℕ) → IsRest x → Is (front ++ x)
-  pub back : (x : List ℕ) → Is (front ++ x) → IsRest x
+-- after these bytes the texts of one grammar are those of another
+pub record Leads (Is : List ℕ → Type 0) (prefix : List ℕ) (IsRest : List ℕ → Type 0) : Type 0 where
+  pub there : (x : List ℕ) → IsRest x → Is (prefix ++ x)
+  pub back : (x : List ℕ) → Is (prefix ++ x) → IsRest x

@@ -24,7 +24,7 @@ reply_bytes unknown_hole = 0x84 ∷ []
 reply_bytes no_memory = 0x85 ∷ []
 reply_bytes no_source = 0x86 ∷ []
 
--- its numbers fit, and its labels are UTF-8
+-- the numbers of a reply fit, and its labels are UTF-8
 abbrev pub IsReply : Said → Type 0
 IsReply (count n) = n < 2 ^ 32
 IsReply (root id weight) = IsHole id × (weight < 2 ^ 128)
@@ -38,7 +38,7 @@ IsReply no_source = Unit {0}
 abbrev pub SpellsReply : List ℕ → Said → Type 0
 SpellsReply x r = IsReply r × (x ≡ reply_bytes r)
 
--- the first place, or else one so many bytes behind the second
+-- the first place, or else one so many bytes after the second
 abbrev pub first_place : Option ℕ → ℕ → Option ℕ → Option ℕ
 first_place (Some i) len later = Some i
 first_place None len later = option_map (λ i. len + i) later

@@ -12,7 +12,7 @@ request_bytes Count = 0 ∷ []
 request_bytes (Root s) = 1 ∷ u32_bytes s
 request_bytes (Fill source id) = 2 ∷ (u32_bytes source ++ words_bytes id)
 
--- its numbers have 32 bits, and a hole's words 64
+-- the numbers of a request have 32 bits, and a hole's words 64
 abbrev pub IsRequest : Request → Type 0
 IsRequest Count = Unit {0}
 IsRequest (Root s) = s < 2 ^ 32

@@ -81,7 +81,7 @@ fn build_tree(alloc: Global, levels: u32, bytes: &[u8]) -> Result<(WireTree, &[u
     };
     if *tag == 1 {
         return match hole_at(rest) {
-            Some((hole, behind)) => Ok((WireTree::Hole(hole), behind)),
+            Some((hole, after)) => Ok((WireTree::Hole(hole), after)),
             None => Err(Unbuilt::OutOfMemory),
         };
     }
@@ -107,9 +107,9 @@ fn build_trees(
     let mut trees = Vec::new(alloc);
     let mut rest = bytes;
     for i in 0..count {
-        let (tree, behind) = build_tree(alloc, levels, rest)?;
+        let (tree, after) = build_tree(alloc, levels, rest)?;
         trees.push(tree)?;
-        rest = behind;
+        rest = after;
     }
     Ok((trees, rest))
 }

@@ -5,7 +5,7 @@ ghost use Rattle.wire_text.specs.Bytes.{IsHole, hole_bytes, u32_bytes, u64_bytes
 use lxp_core::HoleId;
 use std::alloc::AllocError;
 
-/// Writes a number of 32 bits behind what `out` holds.
+/// Writes a number of 32 bits after what `out` holds.
 #[tactic(auto, unfolding(crate::specs::Bytes::u32_bytes))]
 pub fn push_u32(out: &mut Vec<u8>, n: u32) -> Result<(), AllocError>
     ensures { OnOk result (out.new.items ≡ out.old.items ++ u32_bytes n) }
@@ -14,7 +14,7 @@ pub fn push_u32(out: &mut Vec<u8>, n: u32) -> Result<(), AllocError>
     Ok(())
 }
 
-/// Writes a number of 64 bits behind what `out` holds.
+/// Writes a number of 64 bits after what `out` holds.
 #[tactic(auto, unfolding(crate::specs::Bytes::u64_bytes))]
 pub fn push_u64(out: &mut Vec<u8>, n: u64) -> Result<(), AllocError>
     ensures { OnOk result (out.new.items ≡ out.old.items ++ u64_bytes n) }
@@ -23,7 +23,7 @@ pub fn push_u64(out: &mut Vec<u8>, n: u64) -> Result<(), AllocError>
     Ok(())
 }
 
-/// Writes a number of 128 bits behind what `out` holds.
+/// Writes a number of 128 bits after what `out` holds.
 pub fn push_u128(out: &mut Vec<u8>, n: u128) -> Result<(), AllocError>
     ensures { OnOk result (out.new.items ≡ out.old.items ++ u128_bytes n) }
 {
@@ -31,7 +31,7 @@ pub fn push_u128(out: &mut Vec<u8>, n: u128) -> Result<(), AllocError>
     push_u64(out, (n % (1 << 64)) as u64)
 }
 
-/// Writes a hole's words behind what `out` holds.
+/// Writes a hole's words after what `out` holds.
 pub fn push_words(out: &mut Vec<u8>, hole: HoleId) -> Result<(), AllocError>
     ensures words { OnOk result (out.new.items ≡ out.old.items ++ words_bytes hole) }
     ensures hole { OnOk result (IsHole hole) }
@@ -47,16 +47,16 @@ pub fn u32_at(bytes: &[u8]) -> Option<(u32, &[u8])>
     ensures number { MatchOption result (length bytes.now < 4) (λ p. bytes.now ≡ u32_bytes p.0 ++ p.1.now) }
     ensures fits { IfSome result (λ p. p.0 < 2 ^ 32) }
 {
-    let (front, rest) = bytes.split_first_chunk()?;
-    Some((u32::from_be_bytes(*front), rest))
+    let (prefix, rest) = bytes.split_first_chunk()?;
+    Some((u32::from_be_bytes(*prefix), rest))
 }
 
 /// The number of eight bytes, and what follows it; `None` where there are fewer.
 pub fn u64_at(bytes: &[u8]) -> Option<(u64, &[u8])>
     ensures { MatchOption result (length bytes.now < 8) (λ p. bytes.now ≡ u64_bytes p.0 ++ p.1.now) }
 {
-    let (front, rest) = bytes.split_first_chunk()?;
-    Some((u64::from_be_bytes(*front), rest))
+    let (prefix, rest) = bytes.split_first_chunk()?;
+    Some((u64::from_be_bytes(*prefix), rest))
 }
 
 /// The number of sixteen bytes, and what follows it; `None` where there are fewer.

@@ -48,7 +48,7 @@ pub fn write_request(alloc: Global, r: &Request) -> Result<Vec<u8>, AllocError>
     Ok(text)
 }
 
-// What stands behind a first byte of 1: the number of the source whose root is asked for.
+// What stands after a first byte of 1: the number of the source whose root is asked for.
 fn read_root(rest: &[u8]) -> RequestRead
     ensures { ReadsRequest (1 ∷ rest.now) result }
 {
@@ -61,7 +61,7 @@ fn read_root(rest: &[u8]) -> RequestRead
     }
 }
 
-// What stands behind a first byte of 2: the number of a source, and the words of the hole whose list is asked for.
+// What stands after a first byte of 2: the number of a source, and the words of the hole whose list is asked for.
 fn read_fill(rest: &[u8]) -> RequestRead
     ensures { ReadsRequest (2 ∷ rest.now) result }
 {

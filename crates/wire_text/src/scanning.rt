@@ -29,8 +29,8 @@ fn scan_sized(text: &[u8], size: usize) -> Result<(), Stop>
     Ok(())
 }
 
-// What stands behind the length of a label: the label, the number of children, and what follows that.
-fn kids_behind(text: &[u8], len: u32) -> Result<(u32, &[u8]), Stop>
+// What stands after the length of a label: the label, the number of children, and what follows that.
+fn kids_after(text: &[u8], len: u32) -> Result<(u32, &[u8]), Stop>
     ensures { ReadsKids text.now len result }
 {
     let len = len as usize;
@@ -53,7 +53,7 @@ fn head(text: &[u8]) -> Result<(u32, &[u8]), Stop>
     };
     match *tag {
         0 => match u32_at(rest) {
-            Some((len, behind)) => kids_behind(behind, len),
+            Some((len, after)) => kids_after(after, len),
             None => Err(Stop::Ends),
         },
         1 if rest.len() < 40 => Err(Stop::Ends),
@@ -69,9 +69,9 @@ fn scan_trees(text: &[u8], count: u32) -> Result<(), Stop>
     let mut pending = count as u128;
     let mut rest = text;
     while pending > 0 {
-        let (kids, behind) = head(rest)?;
+        let (kids, after) = head(rest)?;
         pending = pending - 1 + kids as u128;
-        rest = behind;
+        rest = after;
     }
     scan_sized(rest, 0)
 }

@@ -30,7 +30,7 @@ fn width_of(first: u8) -> usize
     }
 }
 
-// Whether a byte may stand in a character behind its first one.
+// Whether a byte may stand in a character after its first one.
 fn follows(byte: u8) -> bool
     ensures { MatchBool result (Follows byte) (¬ Follows byte) }
 {
@@ -82,14 +82,14 @@ fn character_fault(text: &[u8], left: usize) -> Option<usize>
 pub fn label_end(text: &[u8], len: usize) -> LabelEnd
     ensures { ReadsLabelEnd text.now len result }
 {
-    let front = text.split_at(len.min(text.len())).0;
-    let error = match str::from_utf8(front) {
-        Ok(_) if front.len() == len => return LabelEnd::Whole,
+    let prefix = text.split_at(len.min(text.len())).0;
+    let error = match str::from_utf8(prefix) {
+        Ok(_) if prefix.len() == len => return LabelEnd::Whole,
         Ok(_) => return LabelEnd::Cut,
         Err(error) => error,
     };
     let at = error.valid_up_to();
-    match character_fault(front.split_at(at).1, len - at) {
+    match character_fault(prefix.split_at(at).1, len - at) {
         Some(fault) => LabelEnd::Wrong(at + fault),
         None => LabelEnd::Cut,
     }

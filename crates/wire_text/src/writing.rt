@@ -11,7 +11,7 @@ use crate::reply::{Hole, WireTree};
 use mix_tree::Label;
 use std::alloc::AllocError;
 
-/// Writes a hole and its weight behind what `out` holds.
+/// Writes a hole and its weight after what `out` holds.
 pub fn push_hole(out: &mut Vec<u8>, hole: Hole) -> Result<(), AllocError>
     ensures { OnOk result (out.new.items ≡ out.old.items ++ hole_bytes hole.id hole.weight) }
 {
@@ -19,7 +19,7 @@ pub fn push_hole(out: &mut Vec<u8>, hole: Hole) -> Result<(), AllocError>
     push_u128(out, hole.weight)
 }
 
-/// Writes a label behind what `out` holds.
+/// Writes a label after what `out` holds.
 pub fn push_label(out: &mut Vec<u8>, label: &Label) -> Result<(), AllocError>
     requires { length label.now < 2 ^ 32 }
     ensures bytes { OnOk result (out.new.items ≡ out.old.items ++ label_bytes label.now) }
@@ -31,7 +31,7 @@ pub fn push_label(out: &mut Vec<u8>, label: &Label) -> Result<(), AllocError>
     Ok(())
 }
 
-// Writes a tree behind what `out` holds.
+// Writes a tree after what `out` holds.
 #[cycle(write)]
 fn push_tree(out: &mut Vec<u8>, tree: &WireTree) -> Result<(), AllocError>
     requires { (levels : ℕ) × IsSmallWithin levels (without_weights (put tree.now nil)) }
@@ -50,7 +50,7 @@ fn push_tree(out: &mut Vec<u8>, tree: &WireTree) -> Result<(), AllocError>
     }
 }
 
-/// Writes the number of trees and the trees behind what `out` holds. An error leaves a prefix of them there.
+/// Writes the number of trees and the trees after what `out` holds. An error leaves a prefix of them there.
 #[cycle(write)]
 pub fn push_list(out: &mut Vec<u8>, trees: &[WireTree]) -> Result<(), AllocError>
     requires few { length trees.now < 2 ^ 32 }

@@ -60,4 +60,4 @@ learn_list-loop-tree-preserved t c =
     let rest = holes_of (plain (drop (i + 1) ts)) in
     let all = holes_of (plain ts) in
     let so_far = subst (Learning root c.args.known.now c.loop-tree.known all) (holes-step ts i c.tree-item.result (omega arith) c.tree-item.is) c.loop-tree.invariant in
-    learning_more root c.args.known.now c.loop-tree.known c.learn_tree.new.known all (holes_of (put c.tree-item.result nil)) rest so_far c.in_ok-learn_tree.ensures.learned c.in_ok-learn_tree.ensures.front
+    learning_more root c.args.known.now c.loop-tree.known c.learn_tree.new.known all (holes_of (put c.tree-item.result nil)) rest so_far c.in_ok-learn_tree.ensures.learned c.in_ok-learn_tree.ensures.prefix

@@ -5,7 +5,7 @@ use Rattle.wire_text.specs.Plain.{plain, put}
 use Rattle.wire_text.proofs.Trees.{put-node, put-hole, size_at}
 use Rattle.lxp_remote.proofs.Ruled.{SameApart, node_at, hole_at_index, pass_node, pass_hole, two_holes, holes_below}
 use Rattle.lxp_remote.proofs.rules.+is_apart.Goals as goal
-use Rattle.lxp_remote.proofs.rules.+is_apart.Goals.{in-Node+else-not-is_apart, in-Hole+else-behind_hole}
+use Rattle.lxp_remote.proofs.rules.+is_apart.Goals.{in-Node+else-not-is_apart, in-Hole+else-after_hole}
 
 pub is_apart-requires : goal.is_apart-requires
 is_apart-requires t c =
@@ -20,16 +20,16 @@ returns-then-not-is_apart t c =
     let i = c.loop-tree.tree-index in
     let n = c.in-Node in
     let read = node_at ts i c.tree-item.result n.label (plain n.kids.items) (omega arith) c.tree-item.is (λ r. ap (λ u. put u r) n.is ∙ put-node n.label n.kids r) in
-    holes_below ts i c.loop-tree.behind_hole n.label (plain n.kids.items) read
+    holes_below ts i c.loop-tree.after_hole n.label (plain n.kids.items) read
     (λ a. c.if-not-is_apart.ensures (subst (λ us. IsApart (without_weights (plain us))) (sym c.deref.ensures.value) a)) c.loop-tree.invariant
 
-pub returns-then-behind_hole : goal.returns-then-behind_hole
-returns-then-behind_hole t c =
+pub returns-then-after_hole : goal.returns-then-after_hole
+returns-then-after_hole t c =
     let ts = c.args.trees.now in
     let i = c.loop-tree.tree-index in
     let h = c.in-Hole.field-0 in
     let read = hole_at_index ts i c.tree-item.result h.id h.weight (omega arith) c.tree-item.is (λ r. ap (λ u. put u r) c.in-Hole.is ∙ put-hole h r) in
-    two_holes ts i h.id read (subst (SameApart ts i) c.if-behind_hole.true c.loop-tree.invariant)
+    two_holes ts i h.id read (subst (SameApart ts i) c.if-after_hole.true c.loop-tree.invariant)
 
 pub loop-tree-preserved : goal.loop-tree-preserved
 loop-tree-preserved t c =
@@ -39,10 +39,10 @@ loop-tree-preserved t c =
       | in-Node+else-not-is_apart w ↦ (
           let n = w.in-Node in
           let read = node_at ts i c.tree-item.result n.label (plain n.kids.items) (omega arith) c.tree-item.is (λ r. ap (λ u. put u r) n.is ∙ put-node n.label n.kids r) in
-          subst (SameApart ts (i + 1)) (sym w.behind_hole-is)
-          (pass_node ts i c.loop-tree.behind_hole n.label (plain n.kids.items) read (subst (λ us. IsApart (without_weights (plain us))) w.deref.ensures.value w.if-not-is_apart.ensures) c.loop-tree.invariant))
-      | in-Hole+else-behind_hole w ↦ (
+          subst (SameApart ts (i + 1)) (sym w.after_hole-is)
+          (pass_node ts i c.loop-tree.after_hole n.label (plain n.kids.items) read (subst (λ us. IsApart (without_weights (plain us))) w.deref.ensures.value w.if-not-is_apart.ensures) c.loop-tree.invariant))
+      | in-Hole+else-after_hole w ↦ (
           let h = w.in-Hole.field-0 in
           let read = hole_at_index ts i c.tree-item.result h.id h.weight (omega arith) c.tree-item.is (λ r. ap (λ u. put u r) w.in-Hole.is ∙ put-hole h r) in
-          subst (SameApart ts (i + 1)) (sym w.behind_hole-is) (pass_hole ts i h.id read (subst (SameApart ts i) w.if-behind_hole.false c.loop-tree.invariant)))
+          subst (SameApart ts (i + 1)) (sym w.after_hole-is) (pass_hole ts i h.id read (subst (SameApart ts i) w.if-after_hole.false c.loop-tree.invariant)))
     ]

@@ -7,4 +7,4 @@ abbrev pub decreases-is_apart : goal.decreases-is_apart
 decreases-is_apart l = size_of (plain l.trees.now)
 
 abbrev pub invariant-loop-tree : goal.invariant-loop-tree
-invariant-loop-tree l = SameApart l.trees l.tree-index l.behind_hole
+invariant-loop-tree l = SameApart l.trees l.tree-index l.after_hole

@@ -22,7 +22,7 @@ build_tree-returns-in-Some-hole_at t c = λ o y are one text.
     let some : 0 < c.args.levels = omega arith in
     let h = hole_here o y rest c.in-Some.tag.now c.if-tag-eq1.true are one (sym c.in-Some.ensures.cases.0 ∙ text) in
     let read = c.in-Some-hole_at.ensures.hole in
-    let same = hole_one made.id h.id made.weight h.weight c.in-Some-hole_at.behind.now y read.0 h.good c.in-Some-hole_at.ensures.fits h.low (sym read.1 ∙ h.text) in (
+    let same = hole_one made.id h.id made.weight h.weight c.in-Some-hole_at.after.now y read.0 h.good c.in-Some-hole_at.ensures.fits h.low (sym read.1 ∙ h.text) in (
       put-hole made nil ∙ ap (λ i. hole i made.weight nil) same.0 ∙ ap (λ w. hole h.id w nil) same.1.0 ∙ sym h.is,
       same.1.1,
       ap (deep_place c.args.levels) h.is ∙ deep_hole c.args.levels h.id h.weight some,
@@ -83,8 +83,8 @@ build_trees-loop-i-preserved t c = λ o y are cnt text.
     let b = subst (BuildsOn c.args.levels o y c.loop-i.rest.now c.loop-i.trees.items) left (c.loop-i.invariant o y are cnt text) in
     let p = parted 1 still b.later b.are (omega (arith, b.left)) in
     let made = c.in_ok-tree.ensures p.first (trees_bytes p.others ++ y) p.are_first p.count_first (first_text b.later y c.loop-i.rest.now still p b.text) in
-    subst (λ ts. BuildsOn c.args.levels o y c.in_ok-tree.behind.now ts still) (sym c.in_ok-push.ensures.items)
-    (builds_more c.args.levels o y c.loop-i.rest.now c.in_ok-tree.behind.now c.loop-i.trees.items c.in_ok-tree.tree still b p made.0 made.1 made.2)
+    subst (λ ts. BuildsOn c.args.levels o y c.in_ok-tree.after.now ts still) (sym c.in_ok-push.ensures.items)
+    (builds_more c.args.levels o y c.loop-i.rest.now c.in_ok-tree.after.now c.loop-i.trees.items c.in_ok-tree.tree still b p made.0 made.1 made.2)
 
 pub build_trees-returns : goal.build_trees-returns
 build_trees-returns t c = λ o y are cnt text.

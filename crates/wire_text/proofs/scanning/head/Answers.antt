@@ -13,7 +13,7 @@ pub returns-in-Some-u32_at : goal.returns-in-Some-u32_at
 returns-in-Some-u32_at c =
     let rest = c.in-Some.rest.now in
     let text : c.args.text.now ≡ 0 ∷ rest = c.in-Some.ensures.cases.0 ∙ ap (λ b. b ∷ rest) c.in-0.is in
-    head_from_kids c.args.text.now rest c.in-Some-u32_at.behind.now c.in-Some-u32_at.len c.kids_behind.result text c.in-Some-u32_at.ensures.number c.in-Some-u32_at.ensures.fits c.kids_behind.ensures
+    head_from_kids c.args.text.now rest c.in-Some-u32_at.after.now c.in-Some-u32_at.len c.kids_after.result text c.in-Some-u32_at.ensures.number c.in-Some-u32_at.ensures.fits c.kids_after.ensures
 
 pub returns-in-None : goal.returns-in-None
 returns-in-None c = λ n.

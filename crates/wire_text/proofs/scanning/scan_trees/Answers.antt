@@ -9,9 +9,9 @@ loop-pending-preserved c =
     let h = c.in_ok-kids.ensures in
     let long = ap length h.parts in
     record {
-      goes_on = one_head c.args.text.now c.loop-pending.rest.now c.in_ok-kids.behind.now c.args.count c.loop-pending.pending c.in_ok-kids.kids h c.loop-pending-test.true c.loop-pending.invariant.goes_on;
-      fits = bytes_part h.front c.in_ok-kids.behind.now c.loop-pending.rest.now h.parts c.loop-pending.invariant.fits;
-      bound = omega (arith, long, length-append h.front c.in_ok-kids.behind.now, h.some, h.few, c.loop-pending.invariant.bound);
+      goes_on = one_head c.args.text.now c.loop-pending.rest.now c.in_ok-kids.after.now c.args.count c.loop-pending.pending c.in_ok-kids.kids h c.loop-pending-test.true c.loop-pending.invariant.goes_on;
+      fits = bytes_part h.prefix c.in_ok-kids.after.now c.loop-pending.rest.now h.parts c.loop-pending.invariant.fits;
+      bound = omega (arith, long, length-append h.prefix c.in_ok-kids.after.now, h.some, h.few, c.loop-pending.invariant.bound);
     }
 
 pub returns : goal.returns

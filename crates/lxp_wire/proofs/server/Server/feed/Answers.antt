@@ -2,7 +2,7 @@ use Rattle.std.proofs.Common.{◌≡◌, ◌++◌, ◌∙◌, [], ap, subst, sym
 use Rattle.std.specs.Prelude.{None, refl}
 use Rattle.wire_text.specs.Request.{IsPrefixOfRequest}
 use Rattle.lxp_wire.specs.Stream.{stream_of, IsServed}
-use Rattle.lxp_wire.proofs.Streams.{short_front, fed_bad, fed_more, fed_nothing, no_bad}
+use Rattle.lxp_wire.proofs.Streams.{short_prefix, fed_bad, fed_more, fed_nothing, no_bad}
 use Rattle.lxp_wire.proofs.server.Server.feed.Goals as goal
 
 pub returns-then-is_some-clause-fed : goal.returns-then-is_some-clause-fed
@@ -12,10 +12,10 @@ returns-then-is_some-clause-fed g c =
 
 pub of-self-requires : goal.of-self-requires
 of-self-requires g c =
-    let front : IsPrefixOfRequest (drop c.in_ok-served.served.at c.deref.result.now) = c.in_ok-served.ensures.served.goes_on c.if-served.false in
+    let prefix : IsPrefixOfRequest (drop c.in_ok-served.served.at c.deref.result.now) = c.in_ok-served.ensures.served.goes_on c.if-served.false in
     let same : c.split_at.result.1.now ≡ drop c.in_ok-served.served.at c.deref.result.now =
     c.split_at.ensures.back ∙ ap (drop c.in_ok-served.served.at) (c.deref-2.ensures.value ∙ sym c.deref.ensures.value) in
-    omega (arith, short_front (drop c.in_ok-served.served.at c.deref.result.now) front, ap length same)
+    omega (arith, short_prefix (drop c.in_ok-served.served.at c.deref.result.now) prefix, ap length same)
 
 pub returns-then-served-clause-fed : goal.returns-then-served-clause-fed
 returns-then-served-clause-fed g c =

@@ -3,9 +3,9 @@ use Rattle.std.proofs.lemmas.List.{take-append-drop, length-take}
 use Rattle.wire_text.specs.Bytes.{u32_bytes, label_bytes}
 use Rattle.wire_text.specs.Reading.{IsCutOff}
 use Rattle.wire_text.specs.Heads.{IsTreesText}
-use Rattle.wire_text.proofs.Widths.{bytes_behind}
+use Rattle.wire_text.proofs.Widths.{bytes_after}
 use Rattle.wire_text.proofs.Judged.{stuck_kids, stuck_label, stuck_byte}
-use Rattle.wire_text.proofs.scanning.kids_behind.Goals as goal
+use Rattle.wire_text.proofs.scanning.kids_after.Goals as goal
 
 pub returns-in-Some : goal.returns-in-Some
 returns-in-Some c =
@@ -27,7 +27,7 @@ returns-in-None c = λ m.
     let text : label_bytes (take n x) ++ drop n x ≡ u32_bytes n ++ x =
     append_assoc (u32_bytes (length (take n x))) (take n x) (drop n x) ∙ ap (λ r. u32_bytes (length (take n x)) ++ r) (take-append-drop n x) ∙ ap (λ k. u32_bytes k ++ x) len in
     subst (λ y. IsCutOff (IsTreesText (m + 1)) (0 ∷ y)) text
-    (stuck_kids (take n x) (drop n x) m c.in-Whole.ensures.1 few (bytes_behind n x (λ i. omega (arith, c.type_inv.text i))) short)
+    (stuck_kids (take n x) (drop n x) m c.in-Whole.ensures.1 few (bytes_after n x (λ i. omega (arith, c.type_inv.text i))) short)
 
 pub returns-in-Wrong : goal.returns-in-Wrong
 returns-in-Wrong c = λ m.
