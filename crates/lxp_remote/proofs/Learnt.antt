@@ -17,12 +17,12 @@ use Rattle.lxp_remote.specs.Known.{weight_in, IsChanged}
 use Rattle.lxp_remote.specs.Learned.{Learns, weights}
 
 -- a member of two lists
-first_in : {X : Type 0} (a b : List X) (x : X) → Contains a x → Contains (a ++ b) x
+pub first_in : {X : Type 0} (a b : List X) (x : X) → Contains a x → Contains (a ++ b) x
 first_in [] b x (k, h, e) = absurd (omega arith)
 first_in (y ∷ a) b x (zero, h, e) = (0, omega arith, e)
 first_in (y ∷ a) b x (suc k, h, e) = let c = first_in a b x (k, omega arith, e) in (suc c.0, omega (arith, c.1), c.2)
 
-second_in : {X : Type 0} (a b : List X) (x : X) → Contains b x → Contains (a ++ b) x
+pub second_in : {X : Type 0} (a b : List X) (x : X) → Contains b x → Contains (a ++ b) x
 second_in [] b x c = c
 second_in (y ∷ a) b x c = let d = second_in a b x c in (suc d.0, omega (arith, d.1), d.2)
 
@@ -100,7 +100,8 @@ abbrev or_else : Option ℕ → Option ℕ → Option ℕ
 or_else (Some n) o = Some n
 or_else None o = o
 
-same_words : (a b : HoleId) → bytes_eq a.words b.words ≡ true → a ≡ b
+-- holes of the same words are one
+pub same_words : (a b : HoleId) → bytes_eq a.words b.words ≡ true → a ≡ b
 same_words a b e = let make : List ℕ → HoleId = λ w. record { words = w } in ap make ((bytes_eq-Decides a.words b.words).0 e)
 
 lookup_push : (es : List (List ℕ × ℕ)) (h : HoleId) (w : List ℕ) (n : ℕ) → weight_in (es ++ (w, n) ∷ []) h ≡ or_else (weight_in es h) (if bytes_eq h.words w then Some n else None)

@@ -4,10 +4,12 @@ use Rattle.std.specs.Prelude.{Contains, Some, None, Option, ◌||◌, ◌==◌, 
 use Rattle.std.specs.Option.{SomeIff}
 use Rattle.std.proofs.lemmas.Bool.{cases_lt}
 use Rattle.lxp_core.specs.declared.open_tree.HoleId.{HoleId}
+use Rattle.lxp_core.specs.View.{View}
 use Rattle.lxp_core.specs.Open as plain_open
 use Rattle.wire_text.specs.declared.reply.WireTree.{WireTree}
 use Rattle.wire_text.specs.Wired.{Wired, nil, node, hole, without_weights, with_weights, total_of, holes_of, wired_followed, count_of}
 use Rattle.wire_text.specs.Plain.{put, plain}
+use Rattle.lxp_wire.specs.Answer.{IsListOf}
 use Rattle.lxp_remote.specs.Known.{IsChanged}
 use Rattle.lxp_remote.specs.Rules.{SumsTo, ToldListsKeepRules}
 use Rattle.wire_text.proofs.Trees.{put-followed, count_of-plain}
@@ -55,6 +57,12 @@ member_weight w es i n p c = at_index w es c.0 i n p c.1 c.2
     at_index w [] k i n p h e = absurd (omega arith)
     at_index w (x ∷ es) zero i n p h e = sym (ap (λ y. y.1) e) ∙ p.0 ∙ ap (λ y. w y.0) e
     at_index w (x ∷ es) (suc k) i n p h e = at_index w es k i n p.1 (omega arith) e
+
+-- each hole of a list that sources answered comes with the weight that it has there
+pub hole_weight : (old new : View) (s : ℕ) (h : HoleId) (o : Wired) → IsListOf old new s h o → (i : HoleId) (n : ℕ) → Contains (holes_of o) (i, n) → n ≡ new.weight s i
+hole_weight old new s h o is i n c =
+    let w = new.weight s in
+    member_weight w (holes_of o) i n (subst (λ q. AreWeights w (holes_of q)) (sym is.weighed) (are_weights w (without_weights o))) c
 
 -- where all known holes and those of a list have the weights that w gives, no weight changed
 unchanged : (w : HoleId → ℕ) (holes : List (HoleId × ℕ)) (known : HoleId → Option ℕ) → AreWeights w holes → ((i : HoleId) (n : ℕ) → known i ≡ Some n → n ≡ w i) → IsChanged known holes → ⊥

@@ -1,6 +1,10 @@
 pub mod Causes
 pub mod Faults
+pub mod Filled
 pub mod Known
 pub mod Learned
+pub mod Opened
+pub mod RemoteLaws
+pub mod Remotes
 pub mod Rules
 pub mod Taken

@@ -57,3 +57,10 @@ pub enum RemoteFault {
     #[error("memory ran out")]
     OutOfMemory,
 }
+
+/// Sources after a link were not opened. The link comes back.
+#[derive(Drop)]
+pub struct RemoteRefused<L> {
+    pub fault: RemoteFault,
+    pub link: L,
+}

@@ -8,6 +8,7 @@ ghost use Rattle.lxp_remote.specs.declared.fault.WireFault.{WireFault as Cause};
 ghost use Rattle.lxp_remote.specs.declared.fault.WireFault.TheVariants.{Link as OfLink, PeerFailed};
 ghost use Rattle.lxp_remote.specs.Causes.{HasCome, asking};
 ghost use Rattle.lxp_remote.specs.Learned.{weights};
+ghost use Rattle.lxp_remote.specs.Opened.{IsUnfilled};
 ghost use Rattle.lxp_remote.specs.Taken.{IsTaken, AreKnownThere, HasFailed};
 
 use crate::asking::ask_list;
@@ -30,6 +31,19 @@ pub struct Peer {
 }
 
 impl Peer {
+    /// A source of which nothing is known but its root.
+    pub fn new(alloc: Global, root: Hole) -> Peer
+        ensures root { result.root ≡ root }
+        ensures unfilled { IsUnfilled result }
+    {
+        Peer {
+            root,
+            known: KnownHoles::new(alloc),
+            faults: 0,
+            last: None,
+        }
+    }
+
     /// The weight of a hole; `None` where it isn't known.
     pub fn weight(&self, hole: HoleId) -> Option<u128>
         ensures { result ≡ weights self.now.root self.now.known hole }
@@ -65,6 +79,7 @@ impl Peer {
         };
         take_list(alloc, &self.root, &mut self.known, trees, hole.weight)
     }
+
     /// The list of a hole of the source, of this number after the link, without weights. `UnknownHole` comes exactly where the hole isn't known, and then
     /// the link is not asked. `Failed` counts a fault, and its cause is the last one from then on. After an error no hole is known that wasn't.
     pub fn fill<L: Link>(
@@ -86,6 +101,7 @@ impl Peer {
         ensures only_unknown { weights self.old.root self.old.known hole ≡ None → IsErrOf result SourceFault.UnknownHole }
         ensures root { self.new.root ≡ self.old.root }
         ensures faults { ¬ IsErrOf result SourceFault.Failed → (self.new.faults ≡ self.old.faults) × (self.new.last ≡ self.old.last) }
+        ensures rises { (self.old.faults ≤ self.new.faults) × (self.new.faults ≤ self.old.faults + 1) }
         ensures kept { OnErr result (self.new.known ≡ self.old.known) }
     {
         let Some(weight) = self.weight(hole) else {

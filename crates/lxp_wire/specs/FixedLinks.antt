@@ -1,5 +1,5 @@
 -- What a link with fixed replies means.
-use Rattle.std.specs.Prelude.{ℕ, zero, suc, ◌≤◌, false, List, [], ◌∷◌, get_or, map, refl}
+use Rattle.std.specs.Prelude.{◌≡◌, ℕ, zero, suc, ◌<◌, ◌≤◌, true, false, List, [], ◌∷◌, get_or, map, refl}
 use Rattle.std.proofs.Common.{arith}
 use Rattle.std.specs.Global.{Vec}
 use Rattle.mix_tree.specs.Forest.{none}
@@ -59,3 +59,7 @@ came_after a b c x y = record { replies = omega (arith, x.replies, y.replies); f
 -- what came from a state keeps it
 pub came_keeps : (a b : FixedLink) → CameFrom a b → KeepsLink (fixed_view a) (fixed_view b)
 came_keeps a b x = record { told = refl; faults = x.faults; replies = x.replies; peer = λ told. absurd cc }
+
+-- no sources are told
+pub none_told : (a : FixedLink) (s : ℕ) → (fixed_view a).told ≡ true → s < (fixed_view a).peer.count → (fixed_view a).peer.knows s ((fixed_view a).peer.root s) ≡ true
+none_told a s told h = absurd cc

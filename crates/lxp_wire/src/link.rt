@@ -1,5 +1,5 @@
 // What carries requests to sources and their replies back.
-ghost use Rattle.std.specs.Prelude.{◌≡◌, ◌≤◌, ◌+◌, true, IfOk, OnOk, OnErr, IsErrOf};
+ghost use Rattle.std.specs.Prelude.{◌≡◌, ◌≤◌, ◌<◌, ◌+◌, ℕ, true, IfOk, OnOk, OnErr, IsErrOf};
 ghost use Rattle.mix_base.specs.Counts.{HasRisen};
 ghost use Rattle.wire_text.specs.declared.request.Request.{Request as Asked};
 ghost use Rattle.wire_text.specs.Request.{SpellsRequest};
@@ -50,6 +50,10 @@ pub trait Link {
 
     /// A state keeps what every call keeps of each state that it came from.
     ghost keeps: { (a b : Self) → came_from a b → KeepsLink (view a) (view b) };
+
+    /// Sources that are told know the holes of their whole documents.
+    ghost root_known: { (a : Self) (s : ℕ) → (view a).told ≡ true → s < (view a).peer.count
+        → (view a).peer.knows s ((view a).peer.root s) ≡ true };
 }
 
 /// A text that told sources reply is read as what they answered.

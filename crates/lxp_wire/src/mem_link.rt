@@ -71,4 +71,6 @@ impl<S: Weighed> Link for MemLink<S> {
 
     ghost keeps = { λ a b x. came_keeps (S.view (sources_of a.server)) (S.view (sources_of b.server)) a.replies b.replies a.last b.last
         (S.keeps (sources_of a.server) (sources_of b.server) x.0) x.1 };
+
+    ghost root_known = { λ a s told h. S.root_known (sources_of a.server) s h };
 }

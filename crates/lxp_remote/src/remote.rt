@@ -1,0 +1,149 @@
+// Sources after a link.
+ghost use Rattle.std.specs.Prelude.{◌≡◌, ◌<◌, ◌^◌, true, length};
+ghost use Rattle.lxp_remote.specs.Remotes.{Agrees};
+
+use crate::fault::{RemoteRefused, WireFault};
+use crate::filling::fill_peer;
+use crate::peer::Peer;
+use crate::roots::ask_peers;
+use lxp_core::{HoleId, OpenTree, SourceFault, Sources};
+use lxp_wire::Link;
+use std::alloc::Global;
+
+/// The sources after a link, as sources. A hole of one is known where it is its root or came in a list that a fill of it answered.
+#[derive(Drop)]
+pub struct Remote<L: Link> {
+    link: L,
+    peers: Vec<Peer>,
+    fills: u64,
+    ghost few: { length peers.items < 2 ^ 32 },
+    ghost agrees: { (L.view link).told ≡ true → Agrees (L.view link) peers.items },
+}
+
+impl<L: Link> Remote<L> {
+    ghost use Rattle.std.specs.Prelude.{◌≡◌, ◌<◌, ◌≤◌, ℕ, true, slice_get, MatchResult, IfOk, IfErr};
+    ghost use Rattle.lxp_remote.specs.declared.fault.RemoteFault.TheVariants.{Wire};
+    ghost use Rattle.lxp_remote.specs.declared.fault.WireFault.{WireFault as Cause};
+    ghost use Rattle.lxp_remote.specs.declared.fault.WireFault.TheVariants.{Link as OfLink};
+    ghost use Rattle.lxp_remote.specs.Opened.{AreUnfilled, IsRefusedFor};
+    ghost use Rattle.lxp_remote.specs.Remotes.{remoting, view_of, last_in, Tells};
+
+    /// The sources after a link, which is asked how many they are, and for the root of each. A refusal names its cause, and the link comes
+    /// back. No fill is asked.
+    pub fn open(alloc: Global, mut link: L) -> Result<Remote<L>, RemoteRefused<L>>
+        ensures came { MatchResult result (λ r. L.came_from link r.link) (λ e. L.came_from link e.link) }
+        // Over a link that tells its sources, these are they.
+        ensures unasked { let old = L.view link in old.told ≡ true → MatchResult result
+            (λ r. (L.view r.link).peer.fills ≡ old.peer.fills) (λ e. (L.view e.link).peer.fills ≡ old.peer.fills) }
+        ensures tells { IfOk result (λ r. (L.view link).told ≡ true
+            → Tells (view_of (remoting (L.view r.link) r.peers.items r.fills)) (L.view link).peer) }
+        // No fill was asked, no hole is known but the roots, and no source failed.
+        ensures fills { IfOk result (λ r. r.fills ≡ 0) }
+        ensures unfilled { IfOk result (λ r. AreUnfilled r.peers.items) }
+        // The causes of a refusal.
+        ensures cause { IfErr result (λ e. (fault : Cause) → e.fault ≡ Wire fault → IsRefusedFor (L.view link) (L.view e.link) fault) }
+        ensures told { IfErr result (λ e. (fault : Cause) → e.fault ≡ Wire fault → (L.view link).told ≡ true → fault ≡ OfLink) }
+    {
+        match ask_peers(alloc, &mut link) {
+            Ok(peers) => Ok(Remote {
+                link,
+                peers,
+                fills: 0,
+            }),
+            Err(fault) => Err(RemoteRefused { fault, link }),
+        }
+    }
+
+    /// Why a source failed last; `None` exactly where it never failed.
+    pub fn last(&self, s: u32) -> Option<WireFault>
+        requires { s < (view_of (remoting (L.view self.now.link) self.now.peers.items self.now.fills)).count }
+        ensures { result ≡ last_in (slice_get self.now.peers.items s) }
+    {
+        self.peers[s as usize].last
+    }
+
+    /// The link, as it is now.
+    pub fn into_link(self) -> L
+        ensures { result ≡ self.link }
+    {
+        self.link
+    }
+}
+
+impl<L: Link> Sources for Remote<L> {
+    ghost use Rattle.std.specs.Prelude.{◌≡◌, ◌≢◌, ◌<◌, ◌+◌, ◌≤◌, ◌⊎◌, ℕ, true, false, slice_get, IfOk, OnOk, IsErrOf};
+    ghost use Rattle.mix_base.specs.Counts.{HasRisen};
+    ghost use Rattle.lxp_core.specs.Open.{closed, weight_of, AllHoles, IsProgress, begins_with_hole};
+    ghost use Rattle.lxp_core.specs.Plain.{plain};
+    ghost use Rattle.lxp_core.specs.Small.{IsSmall};
+    ghost use Rattle.lxp_remote.specs.Filled.{IsFilled, NamesCause};
+    ghost use Rattle.lxp_remote.specs.Remotes.{remoting, view_of, CameFrom};
+    ghost use Rattle.lxp_remote.specs.RemoteLaws.{came_same, came_after, root_is_known};
+
+    ghost view = { λ r. view_of (remoting (L.view r.link) r.peers.items r.fills) };
+
+    ghost came_from = { λ old new. L.came_from old.link new.link
+        × CameFrom (remoting (L.view old.link) old.peers.items old.fills) (remoting (L.view new.link) new.peers.items new.fills) };
+
+    fn count(&self) -> u32 {
+        self.peers.len() as u32
+    }
+
+    fn get_root(&self, s: u32) -> HoleId {
+        self.peers[s as usize].root.id
+    }
+
+    fn fill(&mut self, alloc: Global, s: u32, hole: HoleId) -> Result<Vec<OpenTree>, SourceFault>
+        requires { s < (view_of (remoting (L.view self.old.link) self.old.peers.items self.old.fills)).count }
+        ensures came { L.came_from self.old.link self.new.link
+            × CameFrom (remoting (L.view self.old.link) self.old.peers.items self.old.fills)
+            (remoting (L.view self.new.link) self.new.peers.items self.new.fills) }
+        // What the answer promises.
+        ensures filled { IsFilled (L.view self.old.link) (L.view self.new.link)
+            (slice_get self.old.peers.items s) (slice_get self.new.peers.items s) s hole result }
+        ensures closes { let old = view_of (remoting (L.view self.old.link) self.old.peers.items self.old.fills) in
+            let new = view_of (remoting (L.view self.new.link) self.new.peers.items self.new.fills) in
+            IfOk result (λ list. old.told s ≡ true → closed (new.forest s) (plain list.items) ≡ old.forest s hole) }
+        ensures progress { IfOk result (λ list. IsProgress (plain list.items)) }
+        ensures known { let new = view_of (remoting (L.view self.new.link) self.new.peers.items self.new.fills) in
+            IfOk result (λ list. AllHoles (new.knows s) (plain list.items)) }
+        ensures lighter { let old = view_of (remoting (L.view self.old.link) self.old.peers.items self.old.fills) in
+            let new = view_of (remoting (L.view self.new.link) self.new.peers.items self.new.fills) in
+            IfOk result (λ list. weight_of (new.weight s) (plain list.items) ≤ old.weight s hole) }
+        ensures forward { let old = view_of (remoting (L.view self.old.link) self.old.peers.items self.old.fills) in
+            IfOk result (λ list. old.forward s ≡ true → begins_with_hole (plain list.items) ≡ false) }
+        ensures small { IfOk result (λ list. IsSmall (plain list.items)) }
+        // How a fill changes the counts.
+        ensures at_most_one { self.new.fills ≤ self.old.fills + 1 }
+        ensures counted { OnOk result (HasRisen self.old.fills self.new.fills) }
+        ensures counted_failed { IsErrOf result SourceFault.Failed → HasRisen self.old.fills self.new.fills }
+        // For which causes a fill fails.
+        ensures failed { let old = view_of (remoting (L.view self.old.link) self.old.peers.items self.old.fills) in
+            let new = view_of (remoting (L.view self.new.link) self.new.peers.items self.new.fills) in
+            IsErrOf result SourceFault.Failed → HasRisen (old.faults s) (new.faults s) }
+        ensures named { let old = remoting (L.view self.old.link) self.old.peers.items self.old.fills in
+            let new = remoting (L.view self.new.link) self.new.peers.items self.new.fills in
+            IsErrOf result SourceFault.Failed → NamesCause old new s hole }
+        ensures others { (r : ℕ) → r ≢ s → slice_get self.new.peers.items r ≡ slice_get self.old.peers.items r }
+        ensures unknown { let old = view_of (remoting (L.view self.old.link) self.old.peers.items self.old.fills) in
+            IsErrOf result SourceFault.UnknownHole → old.knows s hole ≡ false }
+        ensures only_unknown { let old = view_of (remoting (L.view self.old.link) self.old.peers.items self.old.fills) in
+            old.knows s hole ≡ false → IsErrOf result SourceFault.UnknownHole ⊎ IsErrOf result SourceFault.OutOfMemory }
+    {
+        let answer = fill_peer(alloc, &mut self.link, &mut self.peers, s, hole);
+        self.fills = self.fills.saturating_add(1);
+        answer
+    }
+
+    ghost same = { λ a. (L.same a.link, came_same (remoting (L.view a.link) a.peers.items a.fills)) };
+
+    ghost after = { λ a b c x y. (
+      L.after a.link b.link c.link x.0 y.0,
+      came_after (remoting (L.view a.link) a.peers.items a.fills) (remoting (L.view b.link) b.peers.items b.fills)
+          (remoting (L.view c.link) c.peers.items c.fills) (L.keeps a.link b.link x.0) (L.keeps b.link c.link y.0) x.1 y.1,
+    ) };
+
+    ghost keeps = { λ a b x. x.1.keeps };
+
+    ghost root_known = { λ a s h. root_is_known (remoting (L.view a.link) a.peers.items a.fills) s h };
+}
