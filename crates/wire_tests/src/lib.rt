@@ -8,6 +8,8 @@ pub use leaf::{Leaf, ROOT};
 #[cfg(test)]
 mod lists;
 #[cfg(test)]
+mod remotes;
+#[cfg(test)]
 mod replies;
 #[cfg(test)]
 mod requests;
