@@ -10,7 +10,7 @@ def one(kind, at, below):
     if kind == "join":
         return [f"{at} source s -> ${at + 10}", f"{at + 1} join {below} {at}"]
     if kind == "rightJoin":
-        return [f"{at} source s -> ${at + 10}", f"{at + 1} getDescendants {at} ${at + 10} s.r -> ${at + 11}", f"{at + 2} join {at + 1} {below}"]
+        return [f"{at} source s -> ${at + 10}", f"{at + 1} getDescendants {at} ${at + 10} s -> ${at + 11}", f"{at + 2} join {at + 1} {below}"]
     words = {
         "select": 'select {0} $2 < "b"',
         "project": "project {0} {{$2,label $2}}",
