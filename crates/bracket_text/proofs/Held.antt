@@ -1,9 +1,10 @@
 -- What the reader's calls do to what it holds.
-use Rattle.std.proofs.Common.{◌≡◌, ◌∙◌, ◌==◌, ◌||◌, ◌&&◌, nat_le, drop, slice_index, IsUtf8, ◌<◌, ◌≤◌, ◌+◌, ℕ, Bool, true, false, cond, IsTrue, List, [], ◌∷◌, ◌++◌, length, length-append, Some, None, Result, Ok, Err, refl, sym, ap, subst, arith}
+use Rattle.std.proofs.Common.{◌≡◌, ◌∙◌, ◌==◌, ◌||◌, ◌&&◌, nat_le, drop, slice_index, IsUtf8, IfOk, ◌<◌, ◌≤◌, ◌+◌, ℕ, Bool, true, false, cond, IsTrue, List, [], ◌∷◌, ◌++◌, length, length-append, Some, None, Result, Ok, Err, refl, sym, ap, subst, arith}
 use Rattle.std.proofs.lemmas.List.{same_from_push, drop_more}
 use Rattle.std.proofs.lemmas.Bool.Decides.{nat_tests}
 use Rattle.mix_tree.specs.Forest.{Forest, LabelledTree, forest_of, alone}
 use Rattle.document_store.specs.Laid.{LaidNode, bare_node, laid, Closes, IsDocument}
+use Rattle.document_store.specs.Shallow.{IsShallow}
 use Rattle.document_store.proofs.Laying.{length-laid, closes_tree, laid_more}
 use Rattle.mix_tree.specs.Spelling.{is_bare}
 use Rattle.mix_tree.specs.LabelMachine as spelled
@@ -319,6 +320,11 @@ seen_fault o m text i OutOfMemory h few inside k s = tt
 pub answers : (x : List ℕ) (r : Result (List LaidNode) BracketFault) → IsUtf8 x → GivesDocument r (machine.verdict machine.empty 0 x) → AnswersDocument x r
 answers x (Ok d) u (t, s, k) = let a = trees.answers x (Ok t) u s in (t, k, a.0, a.1)
 answers x (Err e) u g = trees.answers x (Err e) u g
+
+-- the document of what the machine says has at most 200 levels
+pub shallow : (x : List ℕ) (r : Result (List LaidNode) BracketFault) → IsUtf8 x → GivesDocument r (machine.verdict machine.empty 0 x) → IfOk r IsShallow
+shallow x (Ok d) u g = let a = answers x (Ok d) u g in (a.0, a.1, a.3.1)
+shallow x (Err e) u g = tt
 
 -- the document is that of the one tree that the text spells
 pub only_tree : (x : List ℕ) (r : Result (List LaidNode) BracketFault) (t : LabelledTree) → IsUtf8 x → GivesDocument r (machine.verdict machine.empty 0 x) → SpellsShallow x t → IsDocumentOf r t

@@ -4,7 +4,8 @@ use Rattle.std.proofs.lemmas.Bool.Decides.{nat_tests}
 use Rattle.mix_base.proofs.Choices.{some_is, none_some, Gives, either}
 use Rattle.mix_tree.specs.Forest.{LabelledTree, forest_of}
 use Rattle.mix_tree.specs.LabelMachine as spelled
-use Rattle.bracket_text.specs.Grammar.{is_blank, levels_of, levels}
+use Rattle.document_store.specs.Shallow.{levels_of, levels}
+use Rattle.bracket_text.specs.Grammar.{is_blank}
 use Rattle.bracket_text.specs.Machine.{Frame, Mode, start, first, spelling, named, closed, State, at, leaf, after_tree, after_tree_in, after_label, or_other, begin, after, close_empty, begins, is_deep_in, step_in, step, run, tree_in, whole_in, whole}
 use Rattle.bracket_text.proofs.Runs.{spelling_begins}
 

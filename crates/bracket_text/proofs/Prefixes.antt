@@ -9,7 +9,8 @@ use Rattle.mix_base.proofs.Choices.{none_some}
 use Rattle.mix_tree.specs.Forest.{LabelledTree, forest_of}
 use Rattle.mix_tree.specs.LabelMachine as spelled
 use Rattle.mix_tree.proofs.LabelAnswers as labels
-use Rattle.bracket_text.specs.Grammar.{Spells, SpellsShallow, levels}
+use Rattle.document_store.specs.Shallow.{levels}
+use Rattle.bracket_text.specs.Grammar.{Spells, SpellsShallow}
 use Rattle.bracket_text.specs.Machine.{Frame, Mode, start, first, spelling, named, closed, State, at, leaf, step, run, tree_in, whole, empty}
 use Rattle.bracket_text.proofs.Runs.{label_run, named_hand, tree_close}
 use Rattle.bracket_text.proofs.Sound.{read_spelled}

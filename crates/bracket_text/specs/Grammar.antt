@@ -1,8 +1,9 @@
 -- Bracket text: which text spells which tree.
-use Rattle.std.specs.Prelude.{◌≡◌, ◌⊎◌, ℕ, ◌+◌, ◌≤◌, max, Bool, ◌||◌, ◌==◌, IsTrue, List, [], ◌∷◌, ◌++◌}
+use Rattle.std.specs.Prelude.{◌≡◌, ◌⊎◌, ℕ, ◌≤◌, Bool, ◌||◌, ◌==◌, IsTrue, List, [], ◌∷◌, ◌++◌}
 use Rattle.std.specs.List.{list_all}
 use Rattle.mix_tree.specs.Forest.{Forest, none, tree, LabelledTree, alone}
 use Rattle.mix_tree.specs.LabelGrammar.{SpellsLabel}
+use Rattle.document_store.specs.Shallow.{levels}
 
 -- whether a byte is a blank: a space, a tab, LF or CR
 abbrev pub is_blank : ℕ → Bool
@@ -38,15 +39,6 @@ Spells x t = (a one b : List ℕ) × IsBlanks a × IsBlanks b × SpellsTrees (al
 -- no text spells two trees
 abbrev pub SpellsAtMostOne : Type 0
 SpellsAtMostOne = (x : List ℕ) (t u : LabelledTree) → Spells x t → Spells x u → t ≡ u
-
--- how many levels a list of trees has
-abbrev pub levels_of : Forest → ℕ
-levels_of none = 0
-levels_of (tree label kids rest) = max (1 + levels_of kids) (levels_of rest)
-
--- how many levels a tree has; a leaf has one
-abbrev pub levels : LabelledTree → ℕ
-levels t = 1 + levels_of t.kids
 
 -- the text x spells the tree t, which has at most 200 levels
 abbrev pub SpellsShallow : List ℕ → LabelledTree → Type 0

@@ -1,7 +1,8 @@
 // Reading the tree that a text spells.
-ghost use Rattle.std.specs.Prelude.{◌≡◌};
+ghost use Rattle.std.specs.Prelude.{◌≡◌, IfOk};
 ghost use Rattle.std.specs.Str.{IsUtf8};
 ghost use Rattle.mix_tree.specs.Forest.{LabelledTree};
+ghost use Rattle.document_store.specs.Shallow.{IsShallow};
 ghost use Rattle.bracket_text.specs.Grammar.{SpellsShallow};
 ghost use Rattle.bracket_text.specs.Machine.{empty, verdict};
 ghost use Rattle.bracket_text.specs.ReaderState.{GivesDocument};
@@ -33,6 +34,9 @@ fn read(alloc: Global, text: &[u8]) -> Result<Store, BracketFault>
 pub fn read_document(alloc: Global, text: &[u8]) -> Result<Store, BracketFault>
     // The answer is that of the text: the tree that it spells, or why there is none.
     ensures answers { AnswersDocument text.now result }
+
+    // Its document can be given piece by piece.
+    ensures shallow { IfOk result IsShallow }
 
     // What is spelled is read, unless memory runs out.
     ensures only { (t : LabelledTree) → IsUtf8 text.now → SpellsShallow text.now t → IsDocumentOf result t }

@@ -15,7 +15,7 @@ use Rattle.bracket_wrap.specs.Holes.{rest_hole, all_of, is_known, hole_trees, re
 use Rattle.document_store.proofs.Between.{fits_some, between_none, between_some}
 
 -- what holds of both sides of a choice by a test holds of the choice
-by_test : (P : Open → Type 0) (b : Bool) (x y : Open) → (b ≡ true → P x) → (b ≡ false → P y) → P (cond b x y)
+pub by_test : (P : Open → Type 0) (b : Bool) (x y : Open) → (b ≡ true → P x) → (b ≡ false → P y) → P (cond b x y)
 by_test P true x y h k = h refl
 by_test P false x y h k = k refl
 

@@ -1,5 +1,6 @@
 // Bracket documents, given so many children at a time.
 ghost use Rattle.std.specs.Prelude.{◌≤◌, ◌<◌, length};
+ghost use Rattle.document_store.specs.Shallow.{IsBounded, IsLow, IsNested};
 
 use crate::holes::Rest;
 use document_store::Store;
@@ -19,25 +20,31 @@ pub struct BracketDoc {
     deep: bool,
     ghost some: { 1 ≤ chunk },
     ghost rooted: { 0 < length nodes },
+    ghost nested: { IsNested nodes },
+    ghost low: { IsLow nodes },
+    ghost bounded: { IsBounded nodes },
 }
 
 impl BracketDoc {
-    ghost use Rattle.std.specs.Prelude.{◌≡◌, false, IfOk, IsErrOf};
+    ghost use Rattle.std.specs.Prelude.{◌≡◌, true, false, IfOk, IsErrOf, MatchOption};
     ghost use Rattle.mix_tree.specs.Forest.{LabelledTree, alone};
     ghost use Rattle.document_store.specs.Laid.{IsDocument};
+    ghost use Rattle.document_store.specs.Shallow.{IsShallow};
     ghost use Rattle.lxp_core.specs.Open.{closed, weight_of, AllHoles, IsProgress, begins_with_hole};
     ghost use Rattle.lxp_core.specs.Plain.{plain};
+    ghost use Rattle.lxp_core.specs.Small.{IsSmall};
     ghost use Rattle.bracket_wrap.specs.Bracket.{chunk_of, deep_of, root_hole, knows, forest, weight, document, given};
 
-    /// A document, to be given `chunk` children at a time, `deep` or not. A chunk is 1 to 1,000.
+    /// A document of at most 200 levels, to be given `chunk` children at a time, `deep` or not. A chunk is 1 to 1,000.
     pub fn open(nodes: Store, chunk: u32, deep: bool) -> BracketDoc
-        requires rooted { 0 < length nodes }
+        requires shallow { IsShallow nodes }
         requires some { 1 ≤ chunk }
         requires few { chunk ≤ 1000 }
         ensures document { (root : LabelledTree) → IsDocument nodes root → document result ≡ alone root }
         ensures chunk { chunk_of result ≡ chunk }
         ensures deep { deep_of result ≡ deep }
     {
+        nodes.bounds();
         BracketDoc { nodes, chunk, deep }
     }
 
@@ -58,6 +65,7 @@ impl BracketDoc {
         ensures known { IfOk result (λ list. AllHoles (knows self.now) (plain list.items)) }
         ensures lighter { IfOk result (λ list. weight_of (weight self.now) (plain list.items) ≤ weight self.now hole) }
         ensures forward { IfOk result (λ list. begins_with_hole (plain list.items) ≡ false) }
+        ensures small { IfOk result (λ list. IsSmall (plain list.items)) }
         // For which causes a fill fails.
         ensures never_failed { ¬ IsErrOf result SourceFault.Failed }
         ensures unknown { IsErrOf result SourceFault.UnknownHole → knows self.now hole ≡ false }
@@ -67,5 +75,17 @@ impl BracketDoc {
             return Err(SourceFault::UnknownHole);
         };
         Ok(self.give(alloc, self.chunk, self.deep, rest)?)
+    }
+
+    /// How many nodes a hole stands for; `None` exactly where the document doesn't know the hole. It takes no memory, and no
+    /// time that grows with the document.
+    pub fn weight(&self, hole: HoleId) -> Option<u128>
+        ensures { MatchOption result (knows self.now hole ≡ false)
+            (λ count. (knows self.now hole ≡ true) × (count ≡ weight self.now hole)) }
+    {
+        let Some(rest) = self.rest(hole) else {
+            return None;
+        };
+        Some((rest.to - self.nodes.before(rest.node)) as u128)
     }
 }

@@ -20,8 +20,10 @@ fn file<'p>(parts: &'p [Part<'_>], path: &Label) -> Option<&'p [u8]> {
 
 // A bracket document of a text.
 fn bracket(alloc: Global, text: &[u8], chunk: u32, deep: bool) -> Result<Mount, Fault> {
-    let nodes = read_document(alloc, text).ok().ok_or(Fault::Form)?;
-    if nodes.len() == 0 || chunk == 0 || chunk > 1000 {
+    let Ok(nodes) = read_document(alloc, text) else {
+        return Err(Fault::Form);
+    };
+    if chunk == 0 || chunk > 1000 {
         return Err(Fault::Form);
     }
     Ok(Mount::Bracket(BracketDoc::open(nodes, chunk, deep)))

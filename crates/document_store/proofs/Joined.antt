@@ -5,7 +5,7 @@ use Rattle.std.proofs.lemmas.List.Elements.{All-append, All-cons, All-nil}
 use Rattle.std.proofs.lemmas.List.Folds.{concat-append}
 use Rattle.std.proofs.Math.Logic.{∥∥₁_map}
 use Rattle.mix_base.proofs.Lists.{append_nil}
-use Rattle.document_store.specs.Texts.{texts_from, ends_from, begin_at, KeepsTexts, AreKept}
+use Rattle.document_store.specs.Texts.{texts_from, ends_from, begin_at, KeepsTexts, AreKept, AreShort}
 use Rattle.document_store.proofs.Kept.{piece}
 
 -- texts after some bytes are shown from there on
@@ -40,14 +40,15 @@ ends_more start (x ∷ ts) t =
 
 -- what keeps texts, with the bytes and the end of one more, keeps that text after them
 pub text_added : (bytes ends bytes' ends' text : List ℕ) (ts : List (List ℕ)) → KeepsTexts bytes ends ts → IsUtf8 text → bytes' ≡ bytes ++ text
-    → ends' ≡ ends ++ (length bytes + length text) ∷ [] → KeepsTexts bytes' ends' (ts ++ text ∷ [])
-text_added bytes ends bytes' ends' text ts k u b e =
+    → ends' ≡ ends ++ (length bytes + length text) ∷ [] → length bytes' ≤ 4294967295 → KeepsTexts bytes' ends' (ts ++ text ∷ [])
+text_added bytes ends bytes' ends' text ts k u b e short =
     let end : length bytes + length text ≡ 0 + length (concat ts) + length text = omega (arith, ap length k.bytes_are) in
     let one : text ≡ concat (text ∷ []) = sym (append_nil text) in
     record {
       bytes_are = b ∙ ap (λ r. r ++ text) k.bytes_are ∙ ap (λ r. concat ts ++ r) one ∙ sym (concat-append ts (text ∷ []));
       ends_are = e ∙ ap (λ r. r ++ (length bytes + length text) ∷ []) k.ends_are ∙ ap (λ n. ends_from 0 ts ++ n ∷ []) end ∙ sym (ends_more 0 ts text);
       utf8 = ∥∥₁_map k.utf8 (λ a. All-append IsUtf8 ts (text ∷ []) a (All-cons IsUtf8 text [] u (All-nil IsUtf8)));
+      short = short;
     }
 
 -- as many texts are shown as ends are kept
@@ -98,3 +99,13 @@ text_part bytes ends i from to k h f t =
       bytes_are = text;
       utf8 = subst (λ l. ∥ IsUtf8 l ∥₁) (sym text) (∥∥₁_map k.utf8 (λ a. a i [] some));
     }
+
+-- each text is at most as long as all of them together
+text-short : (ts : List (List ℕ)) (i : ℕ) → length (get_or ts i []) ≤ length (concat ts)
+text-short [] i = omega arith
+text-short (t ∷ ts) zero = omega (arith, length-append t (concat ts))
+text-short (t ∷ ts) (suc i) = omega (arith, text-short ts i, length-append t (concat ts))
+
+-- each of the texts that are kept is shorter than 2^32
+pub kept_short : (bytes ends : List ℕ) → AreKept bytes ends → AreShort (texts_from bytes 0 ends)
+kept_short bytes ends k = λ i. omega (arith, k.short, ap length k.bytes_are, text-short (texts_from bytes 0 ends) i)

@@ -7,6 +7,7 @@ use Rattle.document_store.specs.declared.spots.Spot.{Spot}
 use Rattle.std.proofs.Math.Logic.{∥∥₁_map}
 use Rattle.std.proofs.Math.Seq.{get_or-append_seam}
 use Rattle.document_store.specs.Laid.{LaidNode, node_at, longer}
+use Rattle.document_store.specs.Shallow.{IsBounded}
 use Rattle.document_store.specs.Spots.{end_of, spot_of, end_at, nodes_in, bytes_of, spots_of, AreTexts, Keeps, IsKept}
 
 -- a list with more after it has the list as its prefix
@@ -71,8 +72,9 @@ length-shown bytes spots = omega (arith, length-reverse spots, count (reverse sp
 
 -- what keeps nodes, with the bytes and the spot of one more, keeps that node after them
 pub pushed : (bytes bytes' label : List ℕ) (spots spots' : List Spot) (v : List LaidNode) → Keeps bytes spots v → IsUtf8 label → bytes' ≡ bytes ++ label
-    → spots' ≡ spots ++ record { end = length bytes + length label; below = 0 } ∷ [] → length spots' ≤ 4294967295 → Keeps bytes' spots' (node_of 0 label ∷ v)
-pushed bytes bytes' label spots spots' v k u b s few =
+    → spots' ≡ spots ++ record { end = length bytes + length label; below = 0 } ∷ [] → length spots' ≤ 4294967295 → length bytes' ≤ 4294967295
+    → Keeps bytes' spots' (node_of 0 label ∷ v)
+pushed bytes bytes' label spots spots' v k u b s few short =
     let end : length bytes + length label ≡ length (bytes_of v ++ label) = omega (arith, ap length k.bytes_are, length-append (bytes_of v) label) in
     let last : List Spot → ℕ → List Spot = λ r e. record { end = e; below = 0 } ∷ r in
     record {
@@ -80,6 +82,7 @@ pushed bytes bytes' label spots spots' v k u b s few =
       spots_are = ap reverse s ∙ reverse-append spots (record { end = length bytes + length label; below = 0 } ∷ []) ∙ ap (last (reverse spots)) end ∙ ap (λ r. last r (length (bytes_of v ++ label))) k.spots_are;
       texts = ∥∥₁_map k.texts (λ t. (u, t));
       few = few;
+      short = short;
     }
 
 -- where the labels of some spots end is where the label at the first position ends
@@ -199,12 +202,13 @@ renumbered bytes spots v xs ys n w place k e l d same =
       spots_are = set-turned spots (tops xs (bytes_of ys ++ n.label)) (spots_of ys) old w place kept_as count ∙ ap one end ∙ sym (spots-split xs ys (node_of w.below n.label));
       texts = ∥∥₁_map k.texts (λ t. texts-split xs ys n w.below (subst AreTexts e t));
       few = omega (arith, k.few, length-set spots place w);
+      short = k.short;
     }
 
 -- where the last node's label gets some bytes more, what is kept with those bytes and the new end is kept of it
 pub lengthened : (bytes bytes' piece : List ℕ) (spots : List Spot) (n : LaidNode) (v : List LaidNode) (w : Spot) (place : ℕ) → Keeps bytes spots (n ∷ v) → IsUtf8 piece → bytes' ≡ bytes ++ piece
-    → length v ≡ place → w.end ≡ length bytes + length piece → w.below ≡ n.below → Keeps bytes' (set spots place w) (longer piece (n ∷ v))
-lengthened bytes bytes' piece spots n v w place k u b l end below =
+    → length v ≡ place → w.end ≡ length bytes + length piece → w.end ≤ 4294967295 → w.below ≡ n.below → Keeps bytes' (set spots place w) (longer piece (n ∷ v))
+lengthened bytes bytes' piece spots n v w place k u b l end most below =
     let old : Spot = record { end = length (bytes_of v ++ n.label); below = n.below } in
     let last : ℕ → ℕ → List Spot = λ e c. record { end = e; below = c } ∷ spots_of v in
     let longer_end : w.end ≡ length (bytes_of v ++ (n.label ++ piece)) =
@@ -216,6 +220,7 @@ lengthened bytes bytes' piece spots n v w place k u b l end below =
           ∙ ap (λ e. last e w.below) longer_end ∙ ap (last (length (bytes_of v ++ (n.label ++ piece)))) below;
       texts = ∥∥₁_map k.texts (λ t. (IsUtf8-append n.label piece t.0 u, t.1));
       few = omega (arith, k.few, length-set spots place w);
+      short = omega (arith, end, most, ap length b, length-append bytes piece);
     }
 
 -- the bytes between the ends of two nodes are the label of the second
@@ -250,10 +255,23 @@ label-range bytes spots i before here k h a b =
 
 -- where the label of the last of some nodes gets some bytes more, what is kept with those bytes and the new end is kept of it
 pub lengthened_by : (bytes bytes' piece : List ℕ) (spots : List Spot) (v : List LaidNode) (here w : Spot) (place : ℕ) → Keeps bytes spots v → IsUtf8 piece → bytes' ≡ bytes ++ piece → place + 1 ≡ length v
-    → here ≡ get_or spots place here → w.end ≡ length bytes + length piece → w.below ≡ here.below → Keeps bytes' (set spots place w) (longer piece v)
-lengthened_by bytes bytes' piece spots [] here w place k u b l at end below = absurd (omega (arith, l))
-lengthened_by bytes bytes' piece spots (n ∷ v) here w place k u b l at end below =
+    → here ≡ get_or spots place here → w.end ≡ length bytes + length piece → w.end ≤ 4294967295 → w.below ≡ here.below → Keeps bytes' (set spots place w) (longer piece v)
+lengthened_by bytes bytes' piece spots [] here w place k u b l at end most below = absurd (omega (arith, l))
+lengthened_by bytes bytes' piece spots (n ∷ v) here w place k u b l at end most below =
     let long : length v ≡ place = omega (arith, l) in
     let old : Spot = record { end = length (bytes_of v ++ n.label); below = n.below } in
     let found : here ≡ old = at ∙ get-turned spots [] (spots_of v) old here place k.spots_are (length-spots_of v ∙ long) in
-    lengthened bytes bytes' piece spots n v w place k u b long end (below ∙ ap (λ (s : Spot). s.below) found)
+    lengthened bytes bytes' piece spots n v w place k u b long end most (below ∙ ap (λ (s : Spot). s.below) found)
+
+-- each label is at most as long as all of them together
+label-short : (v : List LaidNode) (i : ℕ) → length (node_at v i).label ≤ length (bytes_of v)
+label-short [] i = omega arith
+label-short (n ∷ v) zero = omega (arith, length-append (bytes_of v) n.label)
+label-short (n ∷ v) (suc i) = omega (arith, label-short v i, length-append (bytes_of v) n.label)
+
+-- the nodes that are kept are fewer than 2^32, and each of their labels is shorter than that
+pub kept_bounded : (bytes : List ℕ) (spots : List Spot) → IsKept bytes spots → IsBounded (nodes_in bytes (reverse spots))
+kept_bounded bytes spots k = record {
+  nodes = omega (arith, k.few, length-shown bytes spots);
+  labels = λ i. omega (arith, k.short, ap length k.bytes_are, label-short (nodes_in bytes (reverse spots)) i);
+}

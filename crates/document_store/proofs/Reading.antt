@@ -14,30 +14,48 @@ use Rattle.document_store.proofs.Between.{fits_none, between_none, between_first
 fit : (b d : ℕ) → b < d → nat_lt b d ≡ true
 fit b d h = grind (arith, nat_tests)
 
--- trees are read where they were laid
-pub read : (f : Forest) (xs ys ns : List LaidNode) (from to : ℕ) → ns ≡ xs ++ (laid f ++ ys) → from ≡ length xs → to ≡ length xs + nodes_of f → between ns from to ≡ f
-read none xs ys ns from to e a b = between_none ns from to (fits_none ns from to (omega arith))
-read (tree label kids rest) xs ys ns from to e a b =
+-- where the nodes of a first tree and of those after it lie among others: its root, its children, and the trees after it
+pub record Parted (xs ys ns : List LaidNode) (label : List ℕ) (kids rest : Forest) : Type 0 where
+  pub root : node_at ns (length xs + nodes_of rest + nodes_of kids) ≡ record { label = label; below = nodes_of kids }
+  pub kids_lie : ns ≡ (xs ++ laid rest) ++ (laid kids ++ (record { label = label; below = nodes_of kids } ∷ ys))
+  pub kids_from : length (xs ++ laid rest) ≡ length xs + nodes_of rest
+  pub rest_lie : ns ≡ xs ++ (laid rest ++ (laid kids ++ (record { label = label; below = nodes_of kids } ∷ ys)))
+
+-- the nodes of trees that lie among others are those of the trees after the first, then of its children, then its root
+pub parted : (label : List ℕ) (kids rest : Forest) (xs ys ns : List LaidNode) → ns ≡ xs ++ (laid (tree label kids rest) ++ ys) → Parted xs ys ns label kids rest
+parted label kids rest xs ys ns e =
     let n : LaidNode = record { label = label; below = nodes_of kids } in
-    let i = length xs + nodes_of rest + nodes_of kids in
     let middle : ns ≡ xs ++ (laid rest ++ (laid kids ++ (n ∷ ys))) =
     e ∙ ap (λ r. xs ++ r) (append_assoc (laid rest) (laid kids ++ n ∷ []) ys ∙ ap (λ r. laid rest ++ r) (append_assoc (laid kids) (n ∷ []) ys)) in
     let last : ns ≡ (xs ++ (laid rest ++ laid kids)) ++ (n ∷ ys) =
     middle ∙ ap (λ r. xs ++ r) (sym (append_assoc (laid rest) (laid kids) (n ∷ ys))) ∙ sym (append_assoc xs (laid rest ++ laid kids) (n ∷ ys)) in
     let long : length (xs ++ (laid rest ++ laid kids)) ≡ length xs + nodes_of rest + nodes_of kids =
     omega (arith, length-append xs (laid rest ++ laid kids), length-append (laid rest) (laid kids), length-laid rest, length-laid kids) in
-    let here : node_at ns (length xs + nodes_of rest + nodes_of kids) ≡ n =
-    ap (λ j. node_at ns j) (sym long) ∙ ap (λ ms. node_at ms (length (xs ++ (laid rest ++ laid kids)))) last
-    ∙ get_or-append_seam (xs ++ (laid rest ++ laid kids)) n ys (record { label = []; below = 0 }) in
+    record {
+      root =
+          ap (λ j. node_at ns j) (sym long) ∙ ap (λ ms. node_at ms (length (xs ++ (laid rest ++ laid kids)))) last
+          ∙ get_or-append_seam (xs ++ (laid rest ++ laid kids)) n ys (record { label = []; below = 0 });
+      kids_lie = middle ∙ sym (append_assoc xs (laid rest) (laid kids ++ (n ∷ ys)));
+      kids_from = omega (arith, length-append xs (laid rest), length-laid rest);
+      rest_lie = middle;
+    }
+
+-- trees are read where they were laid
+pub read : (f : Forest) (xs ys ns : List LaidNode) (from to : ℕ) → ns ≡ xs ++ (laid f ++ ys) → from ≡ length xs → to ≡ length xs + nodes_of f → between ns from to ≡ f
+read none xs ys ns from to e a b = between_none ns from to (fits_none ns from to (omega arith))
+read (tree label kids rest) xs ys ns from to e a b =
+    let n : LaidNode = record { label = label; below = nodes_of kids } in
+    let i = length xs + nodes_of rest + nodes_of kids in
+    let parts = parted label kids rest xs ys ns e in
+    let here : node_at ns (length xs + nodes_of rest + nodes_of kids) ≡ n = parts.root in
     let size : below ns (length xs + nodes_of rest + nodes_of kids) ≡ nodes_of kids = ap (λ (m : LaidNode). m.below) here in
     let next : i + 1 ≡ to = omega arith in
     let at : to - 1 ≡ length xs + nodes_of rest + nodes_of kids = omega arith in
     let last_size : below ns (to - 1) ≡ nodes_of kids = ap (below ns) at ∙ size in
     let fits_here : fits ns from to ≡ true = fit (below ns (to - 1)) (to - from) (omega (arith, last_size)) in
     let start : before ns (length xs + nodes_of rest + nodes_of kids) ≡ length xs + nodes_of rest = omega (arith, size) in
-    let kids_are = read kids (xs ++ laid rest) (n ∷ ys) ns (before ns i) i (middle ∙ sym (append_assoc xs (laid rest) (laid kids ++ (n ∷ ys))))
-    (omega (arith, start, length-append xs (laid rest), length-laid rest)) (omega (arith, length-append xs (laid rest), length-laid rest)) in
-    let rest_is = read rest xs (laid kids ++ (n ∷ ys)) ns from (before ns i) middle a start in
+    let kids_are = read kids (xs ++ laid rest) (n ∷ ys) ns (before ns i) i parts.kids_lie (omega (arith, start, parts.kids_from)) (omega (arith, parts.kids_from)) in
+    let rest_is = read rest xs (laid kids ++ (n ∷ ys)) ns from (before ns i) parts.rest_lie a start in
     between_first ns from to i fits_here next
     ∙ ap (λ (m : LaidNode). tree m.label (between ns (before ns i) i) (between ns from (before ns i))) here
     ∙ ap (λ f. tree label f (between ns from (before ns i))) kids_are

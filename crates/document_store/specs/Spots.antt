@@ -44,6 +44,7 @@ pub record Keeps (bytes : List ℕ) (spots : List Spot) (v : List LaidNode) : Ty
   pub spots_are : reverse spots ≡ spots_of v
   pub texts : ∥ AreTexts v ∥₁
   pub few : length spots ≤ 4294967295
+  pub short : length bytes ≤ 4294967295
 
 -- what is kept is that of the nodes that it shows
 abbrev pub IsKept : List ℕ → List Spot → Type 0

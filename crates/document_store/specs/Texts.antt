@@ -1,5 +1,5 @@
 -- How texts are kept: their bytes one after another, and for each where it ends.
-use Rattle.std.specs.Prelude.{◌≡◌, ℕ, zero, suc, ◌+◌, List, [], ◌∷◌, length, get_or, slice_range}
+use Rattle.std.specs.Prelude.{◌≡◌, ℕ, zero, suc, ◌+◌, ◌<◌, ◌≤◌, ◌^◌, List, [], ◌∷◌, length, get_or, slice_range}
 use Rattle.std.specs.List.{All, concat}
 use Rattle.std.specs.Str.{IsUtf8}
 
@@ -23,7 +23,12 @@ pub record KeepsTexts (bytes ends : List ℕ) (ts : List (List ℕ)) : Type 0 wh
   pub bytes_are : bytes ≡ concat ts
   pub ends_are : ends ≡ ends_from 0 ts
   pub utf8 : ∥ All IsUtf8 ts ∥₁
+  pub short : length bytes ≤ 4294967295
 
 -- what is kept is that of the texts that it shows
 abbrev pub AreKept : List ℕ → List ℕ → Type 0
 AreKept bytes ends = KeepsTexts bytes ends (texts_from bytes 0 ends)
+
+-- each text is shorter than 2^32
+abbrev pub AreShort : List (List ℕ) → Type 0
+AreShort ts = (i : ℕ) → length (get_or ts i []) < 2 ^ 32

@@ -23,6 +23,7 @@ pub fn add(bytes: &mut Vec<u8>, spots: &mut Vec<Spot>, label: &[u8]) -> Result<(
     ensures bytes { OnOk result (bytes.new.items ≡ bytes.old.items ++ label.now) }
     ensures spots { OnOk result (spots.new.items ≡ spots.old.items ++ record { end = length bytes.old.items + length label.now; below = 0 } ∷ []) }
     ensures few { OnOk result (length spots.new.items ≤ 4294967295) }
+    ensures short { OnOk result (length bytes.new.items ≤ 4294967295) }
     ensures same_bytes { OnErr result (bytes.new.items ≡ bytes.old.items) }
     ensures same_spots { OnErr result (spots.new.items ≡ spots.old.items) }
 {

@@ -2,6 +2,7 @@
 ghost use Rattle.std.specs.Prelude.{◌≡◌, ◌<◌, ◌∷◌, [], length, OnOk, OnErr};
 ghost use Rattle.std.specs.Str.{IsUtf8};
 ghost use Rattle.document_store.specs.Laid.{node_at, below, longer, Closes};
+ghost use Rattle.document_store.specs.Shallow.{IsBounded};
 
 use crate::room::make_room;
 use crate::spots::{Spot, add, label_at, spot_at};
@@ -101,6 +102,14 @@ impl Store {
         ensures { result ≡ below self.now i }
     {
         spot_at(&self.spots, i).below as usize
+    }
+
+    /// The law that there are fewer than 2^32 nodes, and that each label is shorter than 2^32.
+    #[inline]
+    pub fn bounds(&self)
+        ensures { IsBounded self.now }
+    {
+        let _nodes = self.spots.len();
     }
 
     /// The label of the node after which so many stand.

@@ -1,7 +1,7 @@
 // Texts as they lie in memory.
-ghost use Rattle.std.specs.Prelude.{◌≡◌, ◌<◌, ◌+◌, ◌++◌, ◌∷◌, [], length, get_or, OnOk, OnErr};
+ghost use Rattle.std.specs.Prelude.{◌≡◌, ◌<◌, ◌≤◌, ◌+◌, ◌++◌, ◌∷◌, [], length, get_or, OnOk, OnErr};
 ghost use Rattle.std.specs.Str.{IsUtf8};
-ghost use Rattle.document_store.specs.Texts.{texts_from, begin_at, AreKept};
+ghost use Rattle.document_store.specs.Texts.{texts_from, begin_at, AreKept, AreShort};
 
 use crate::room::make_room;
 use crate::spots::part;
@@ -32,6 +32,7 @@ impl Model for Texts {
 fn add(bytes: &mut Vec<u8>, ends: &mut Vec<u32>, text: &[u8]) -> Result<(), AllocError>
     ensures bytes { OnOk result (bytes.new.items ≡ bytes.old.items ++ text.now) }
     ensures ends { OnOk result (ends.new.items ≡ ends.old.items ++ (length bytes.old.items + length text.now) ∷ []) }
+    ensures short { OnOk result (length bytes.new.items ≤ 4294967295) }
     ensures same_bytes { OnErr result (bytes.new.items ≡ bytes.old.items) }
     ensures same_ends { OnErr result (ends.new.items ≡ ends.old.items) }
 {
@@ -109,6 +110,14 @@ impl Texts {
         ensures utf8 { ∥ IsUtf8 result.now ∥₁ }
     {
         text_at(&self.bytes, &self.ends, i)
+    }
+
+    /// The law that each text is shorter than 2^32.
+    #[inline]
+    pub fn bounds(&self)
+        ensures { AreShort self.now }
+    {
+        let _texts = self.ends.len();
     }
 
     /// Gives back the room that is not used.

@@ -1,7 +1,7 @@
 use Rattle.std.proofs.Common.{rules, ◌∙◌, sym}
 use Rattle.std.specs.Str.{IsUtf8}
 use Rattle.bracket_text.proofs.AsciiTexts.{ascii_utf8}
-use Rattle.bracket_text.proofs.Held.{answers, only_tree}
+use Rattle.bracket_text.proofs.Held.{answers, shallow, only_tree}
 use Rattle.bracket_text.proofs.reading.read_document.Goals as goal
 
 pub read-requires : goal.read-requires
@@ -18,3 +18,9 @@ returns-in-Ok-clause-answers c = let u : IsUtf8 c.args.text.now = search rules i
 
 pub returns-in-Ok-clause-only : goal.returns-in-Ok-clause-only
 returns-in-Ok-clause-only c = λ t v s. only_tree c.args.text.now c.read-in-Ok.result t v c.read-in-Ok.ensures s
+
+pub returns-then-is_ascii_text-clause-shallow : goal.returns-then-is_ascii_text-clause-shallow
+returns-then-is_ascii_text-clause-shallow c = shallow c.args.text.now c.read.result (ascii_utf8 c.args.text.now (sym c.is_ascii_text.ensures ∙ c.if-is_ascii_text.true)) c.read.ensures
+
+pub returns-in-Ok-clause-shallow : goal.returns-in-Ok-clause-shallow
+returns-in-Ok-clause-shallow c = let u : IsUtf8 c.args.text.now = search rules in shallow c.args.text.now c.read-in-Ok.result u c.read-in-Ok.ensures

@@ -1,7 +1,6 @@
-use Rattle.std.proofs.Common.{◌-◌, List, ℕ, length, refl, subst, arith}
+use Rattle.std.proofs.Common.{List, ℕ, refl, subst}
 use Rattle.std.proofs.lemmas.Result.{err_from_is_err_and}
 use Rattle.bracket_text.specs.Results.{Refuses}
-use Rattle.document_store.proofs.Reading.{root_at}
 use Rattle.mix_top.specs.Causes.{IsNoTree}
 use Rattle.mix_top.specs.Documents.{SpellsTree}
 use Rattle.mix_top.specs.declared.refusal.FileFault.TheVariants.{Document}
@@ -13,11 +12,8 @@ returns-in_err-bytes-clause-err g c =
     let p = err_from_is_err_and c.from_residual.result c.from_residual.ensures.1 in
     rw (p.1, p.2) (load_stop_unread IsNoTree (g.F.Files.view c.args.files.now) (g.F.Files.view c.load.new.files) c.args.path.now _ c.in_err-bytes.ensures.err)
 
-pub open-requires-clause-rooted : goal.open-requires-clause-rooted
-open-requires-clause-rooted g c =
-    let a = c.in-Ok.ensures.answers in
-    let root = root_at c.in-Ok.nodes a.0 (length c.in-Ok.nodes - 2) a.1 refl in
-    omega (arith, root.inside)
+pub open-requires-clause-shallow : goal.open-requires-clause-shallow
+open-requires-clause-shallow g c = c.in-Ok.ensures.shallow
 
 pub returns-in-Ok-clause-ok : goal.returns-in-Ok-clause-ok
 returns-in-Ok-clause-ok g c =

@@ -3,7 +3,7 @@ use Rattle.lxp_core.specs.Open.{node, without_holes}
 use Rattle.lxp_core.specs.Plain.{put_all}
 use Rattle.document_store.specs.Laid.{node_at}
 use Rattle.document_store.specs.Between.{before, between}
-use Rattle.document_store.proofs.Between.{between_first}
+use Rattle.document_store.proofs.Between.{between_first, between_none}
 use Rattle.bracket_wrap.proofs.bracket.BracketDoc.+whole.Goals as goal
 
 pub loop-i-preserved : goal.loop-i-preserved
@@ -22,3 +22,8 @@ loop-i-preserved t c =
           ∙ ap (λ f. put_all list (without_holes f)) (sym here)
           ∙ c.loop-i.invariant.list;
     }
+
+pub returns : goal.returns
+returns t c =
+    let list = c.loop-i.list.items in
+    ap (λ f. put_all list (without_holes f)) (sym (between_none c.args.self.now.nodes c.args.from c.loop-i.to c.in_default.ensures)) ∙ c.loop-i.invariant.list

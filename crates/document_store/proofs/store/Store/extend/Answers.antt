@@ -14,7 +14,7 @@ invariant_of-self-2 c =
     kept c.extend_from_slice.new.self.items _ _
     (lengthened_by i.bytes.items c.extend_from_slice.new.self.items c.args.piece.now i.spots.items _ c.index_mut.result.now
     (record { end = c.in-Ok.end; below = c.index_mut.result.now.below }) (c.len-last.result - 1) c.self.invariant c.requires.utf8 bytes
-    last c.index_mut.ensures.value end refl)
+    last c.index_mut.ensures.value end (omega arith) refl)
 
 pub returns-clause-ok : goal.returns-clause-ok
 returns-clause-ok c =
@@ -26,5 +26,5 @@ returns-clause-ok c =
     shows c.extend_from_slice.new.self.items _ _
     (lengthened_by i.bytes.items c.extend_from_slice.new.self.items c.args.piece.now i.spots.items _ c.index_mut.result.now
     (record { end = c.in-Ok.end; below = c.index_mut.result.now.below }) (c.len-last.result - 1) c.self.invariant c.requires.utf8 bytes
-    last c.index_mut.ensures.value end refl)
+    last c.index_mut.ensures.value end (omega arith) refl)
     ∙ ap (longer c.args.piece.now) c.self.view_is

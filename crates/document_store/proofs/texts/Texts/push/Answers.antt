@@ -6,13 +6,13 @@ pub invariant_of-self-2 : goal.invariant_of-self-2
 invariant_of-self-2 c =
     let i = c.self.inside in
     let made = c.in_ok-add.ensures in
-    texts_kept c.add.new.bytes.items c.add.new.ends.items _ (text_added i.bytes.items i.ends.items c.add.new.bytes.items c.add.new.ends.items c.args.text.now _ c.self.invariant c.requires made.bytes made.ends)
+    texts_kept c.add.new.bytes.items c.add.new.ends.items _ (text_added i.bytes.items i.ends.items c.add.new.bytes.items c.add.new.ends.items c.args.text.now _ c.self.invariant c.requires made.bytes made.ends made.short)
 
 pub returns-clause-ok : goal.returns-clause-ok
 returns-clause-ok c =
     let i = c.self.inside in
     let made = c.in_ok-add.ensures in
-    shows_texts c.add.new.bytes.items c.add.new.ends.items _ (text_added i.bytes.items i.ends.items c.add.new.bytes.items c.add.new.ends.items c.args.text.now _ c.self.invariant c.requires made.bytes made.ends)
+    shows_texts c.add.new.bytes.items c.add.new.ends.items _ (text_added i.bytes.items i.ends.items c.add.new.bytes.items c.add.new.ends.items c.args.text.now _ c.self.invariant c.requires made.bytes made.ends made.short)
     ∙ ap (λ v. v ++ c.args.text.now ∷ []) c.self.view_is
 
 pub invariant_of-self : goal.invariant_of-self
