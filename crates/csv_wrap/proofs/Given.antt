@@ -15,7 +15,7 @@ use Rattle.csv_wrap.specs.Rows.{row_tree, row_forest}
 use Rattle.csv_wrap.specs.Document.{columns_of, rows_of, part_forest, rest_given, part_given, knows, forest, weight}
 
 -- what holds of both sides of a choice by a test holds of the choice
-by_test : (P : Open → Type 0) (b : Bool) (x y : Open) → (b ≡ true → P x) → (b ≡ false → P y) → P (cond b x y)
+pub by_test : (P : Open → Type 0) (b : Bool) (x y : Open) → (b ≡ true → P x) → (b ≡ false → P y) → P (cond b x y)
 by_test P true x y h k = h refl
 by_test P false x y h k = k refl
 

@@ -4,3 +4,5 @@ pub mod Given
 pub mod ReachFacts
 pub mod RowFacts
 pub mod Shown
+pub mod SmallLists
+pub mod Weights

@@ -13,11 +13,11 @@ use Rattle.csv_wrap.specs.Csv.{IsAt, IsRow, without_marks}
 use Rattle.csv_wrap.specs.Table.{cut_rows, rows_in, IsFull}
 
 -- a number taken once more than i times is the number, and i times the number
-suc_mul : (i w : ℕ) → suc i * w ≡ w + i * w
+pub suc_mul : (i w : ℕ) → suc i * w ≡ w + i * w
 suc_mul i w = grind arith
 
 -- a number taken no times is 0
-zero_mul : (w : ℕ) → 0 ≡ 0 * w
+pub zero_mul : (w : ℕ) → 0 ≡ 0 * w
 zero_mul w = omega arith
 
 -- the fields of rows, one after another

@@ -1,11 +1,11 @@
 // CSV documents, given so many rows at a time.
 ghost use Rattle.std.specs.Prelude.{◌≡◌, ◌≤◌, length};
-ghost use Rattle.csv_wrap.specs.Table.{IsFull};
+ghost use Rattle.csv_wrap.specs.Table.{IsFull, IsShortTable};
 
 use crate::CsvFault;
 use crate::parts::Part;
 use crate::reading::read_rows;
-use crate::table::{Table, copy_columns};
+use crate::table::{Table, copy_columns, copy_short};
 use lxp_core::{HoleId, OpenTree, SourceFault};
 use mix_tree::Label;
 use std::alloc::Global;
@@ -23,20 +23,24 @@ pub struct CsvDoc {
     pub(crate) table: Table,
     pub(crate) chunk: u32,
     ghost some: { 1 ≤ chunk },
+    ghost few: { chunk ≤ 1000 },
     ghost full: { IsFull (length columns.items) table },
+    ghost small: { IsShortTable name columns.items table },
 }
 
 impl CsvDoc {
-    ghost use Rattle.std.specs.Prelude.{ℕ, List, false, IfOk, IfErr, IsErrOf};
+    ghost use Rattle.std.specs.Prelude.{ℕ, List, true, false, IfOk, IfErr, IsErrOf, MatchOption};
     ghost use Rattle.mix_tree.specs.Forest.{alone};
     ghost use Rattle.lxp_core.specs.Open.{closed, weight_of, AllHoles, IsProgress, begins_with_hole};
     ghost use Rattle.lxp_core.specs.Plain.{plain};
+    ghost use Rattle.lxp_core.specs.Small.{IsSmall};
     ghost use Rattle.csv_wrap.specs.Csv.{Explains, IsFile};
     ghost use Rattle.csv_wrap.specs.Rows.{file_tree};
     ghost use Rattle.csv_wrap.specs.Document.{chunk_of, root_hole, knows, forest, weight, document, given};
 
     /// The document of a file with these columns, as a source of this name, to be given `chunk` rows at a time
-    /// (docs/FORMATS.md, "CSV files"). A chunk is 1 to 1,000. An error says why the file is none, or that memory ran out.
+    /// (docs/FORMATS.md, "CSV files"). A chunk is 1 to 1,000. An error says why the file is none, or that memory ran out, as
+    /// it also does where the name or a column has 4 GB or more, the fields have more in all, or there are 2^32 columns.
     pub fn open(
         alloc: Global,
         bytes: &[u8],
@@ -54,8 +58,9 @@ impl CsvDoc {
         ensures refused { IfErr result (Explains bytes.now columns.now) }
     {
         let table = read_rows(alloc, bytes, columns)?;
+        table.fields.bounds();
         Ok(CsvDoc {
-            name: name.copy(alloc)?,
+            name: copy_short(alloc, name)?,
             columns: copy_columns(alloc, columns)?,
             table,
             chunk,
@@ -78,6 +83,7 @@ impl CsvDoc {
         ensures known { IfOk result (λ list. AllHoles (knows self.now) (plain list.items)) }
         ensures lighter { IfOk result (λ list. weight_of (weight self.now) (plain list.items) ≤ weight self.now hole) }
         ensures forward { IfOk result (λ list. begins_with_hole (plain list.items) ≡ false) }
+        ensures small { IfOk result (λ list. IsSmall (plain list.items)) }
         // For which causes a fill fails.
         ensures never_failed { ¬ IsErrOf result SourceFault.Failed }
         ensures unknown { IsErrOf result SourceFault.UnknownHole → knows self.now hole ≡ false }
@@ -87,5 +93,17 @@ impl CsvDoc {
             return Err(SourceFault::UnknownHole);
         };
         Ok(self.give(alloc, part)?)
+    }
+
+    /// How many nodes a hole stands for; `None` exactly where the document doesn't know the hole. It takes no memory, and no
+    /// time that grows with the document.
+    pub fn weight(&self, hole: HoleId) -> Option<u128>
+        ensures { MatchOption result (knows self.now hole ≡ false)
+            (λ count. (knows self.now hole ≡ true) × (count ≡ weight self.now hole)) }
+    {
+        let Some(part) = self.part(hole) else {
+            return None;
+        };
+        Some(self.part_weight(part))
     }
 }

@@ -9,6 +9,7 @@ mod parts;
 mod reading;
 mod records;
 mod table;
+mod weighing;
 
 pub use document::CsvDoc;
 pub use fault::CsvFault;

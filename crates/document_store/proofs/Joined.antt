@@ -1,11 +1,11 @@
 -- What is kept of texts shows them.
 use Rattle.std.proofs.Common.{◌≡◌, ◌∙◌, ℕ, zero, suc, ◌+◌, ◌<◌, ◌≤◌, List, [], ◌∷◌, ◌++◌, length, slice_range, get_or, IsUtf8, append_assoc, length-append, refl, sym, ap, subst, arith}
-use Rattle.std.specs.List.{concat}
+use Rattle.std.specs.List.{All, concat}
 use Rattle.std.proofs.lemmas.List.Elements.{All-append, All-cons, All-nil}
 use Rattle.std.proofs.lemmas.List.Folds.{concat-append}
 use Rattle.std.proofs.Math.Logic.{∥∥₁_map}
 use Rattle.mix_base.proofs.Lists.{append_nil}
-use Rattle.document_store.specs.Texts.{texts_from, ends_from, begin_at, KeepsTexts, AreKept, AreShort}
+use Rattle.document_store.specs.Texts.{texts_from, ends_from, begin_at, KeepsTexts, AreKept, IsShort}
 use Rattle.document_store.proofs.Kept.{piece}
 
 -- texts after some bytes are shown from there on
@@ -101,11 +101,11 @@ text_part bytes ends i from to k h f t =
     }
 
 -- each text is at most as long as all of them together
-text-short : (ts : List (List ℕ)) (i : ℕ) → length (get_or ts i []) ≤ length (concat ts)
-text-short [] i = omega arith
-text-short (t ∷ ts) zero = omega (arith, length-append t (concat ts))
-text-short (t ∷ ts) (suc i) = omega (arith, text-short ts i, length-append t (concat ts))
+text-short : (ts : List (List ℕ)) (i : ℕ) (d : List ℕ) → i < length ts → length (get_or ts i d) ≤ length (concat ts)
+text-short [] i d h = absurd (omega arith)
+text-short (t ∷ ts) zero d h = omega (arith, length-append t (concat ts))
+text-short (t ∷ ts) (suc i) d h = omega (arith, text-short ts i d (omega arith), length-append t (concat ts))
 
 -- each of the texts that are kept is shorter than 2^32
-pub kept_short : (bytes ends : List ℕ) → AreKept bytes ends → AreShort (texts_from bytes 0 ends)
-kept_short bytes ends k = λ i. omega (arith, k.short, ap length k.bytes_are, text-short (texts_from bytes 0 ends) i)
+pub kept_short : (bytes ends : List ℕ) → AreKept bytes ends → All IsShort (texts_from bytes 0 ends)
+kept_short bytes ends k = λ i d h. omega (arith, k.short, ap length k.bytes_are, text-short (texts_from bytes 0 ends) i d h)

@@ -29,6 +29,6 @@ pub record KeepsTexts (bytes ends : List ℕ) (ts : List (List ℕ)) : Type 0 wh
 abbrev pub AreKept : List ℕ → List ℕ → Type 0
 AreKept bytes ends = KeepsTexts bytes ends (texts_from bytes 0 ends)
 
--- each text is shorter than 2^32
-abbrev pub AreShort : List (List ℕ) → Type 0
-AreShort ts = (i : ℕ) → length (get_or ts i []) < 2 ^ 32
+-- the text is shorter than 2^32
+abbrev pub IsShort : List ℕ → Type 0
+IsShort text = length text < 2 ^ 32

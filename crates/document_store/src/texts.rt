@@ -1,7 +1,8 @@
 // Texts as they lie in memory.
 ghost use Rattle.std.specs.Prelude.{◌≡◌, ◌<◌, ◌≤◌, ◌+◌, ◌++◌, ◌∷◌, [], length, get_or, OnOk, OnErr};
+ghost use Rattle.std.specs.List.{All};
 ghost use Rattle.std.specs.Str.{IsUtf8};
-ghost use Rattle.document_store.specs.Texts.{texts_from, begin_at, AreKept, AreShort};
+ghost use Rattle.document_store.specs.Texts.{texts_from, begin_at, AreKept, IsShort};
 
 use crate::room::make_room;
 use crate::spots::part;
@@ -115,7 +116,7 @@ impl Texts {
     /// The law that each text is shorter than 2^32.
     #[inline]
     pub fn bounds(&self)
-        ensures { AreShort self.now }
+        ensures { All IsShort self.now }
     {
         let _texts = self.ends.len();
     }

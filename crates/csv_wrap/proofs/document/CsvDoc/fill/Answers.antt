@@ -1,9 +1,11 @@
 use Rattle.std.proofs.Common.{◌≡◌, ◌∙◌, ◌≤◌, ap, sym, subst}
 use Rattle.lxp_core.specs.Open.{Open, closed, weight_of, AllHoles, IsProgress, begins_with_hole}
 use Rattle.lxp_core.specs.Plain.{plain}
+use Rattle.lxp_core.specs.Small.{IsSmall}
 use Rattle.csv_wrap.specs.Document.{forest, given, knows, part_given, weight}
 use Rattle.csv_wrap.specs.Parts.{part_of}
 use Rattle.csv_wrap.proofs.Given.{closed-given, progress-given, known-given, lighter-given, forward-given}
+use Rattle.csv_wrap.proofs.SmallLists.{small-given}
 use Rattle.csv_wrap.proofs.document.CsvDoc.fill.Goals as goal
 
 pub returns-clause-list : goal.returns-clause-list
@@ -39,3 +41,9 @@ returns-clause-forward c =
     let d = c.args.self.now in
     let list : plain c.in_ok-give.field-0.items ≡ given c.args.self.now c.args.hole = c.in_ok-give.ensures ∙ ap (part_given d) (sym c.in-Some.ensures.0) in
     ap begins_with_hole list ∙ forward-given d (part_of c.args.hole)
+
+pub returns-clause-small : goal.returns-clause-small
+returns-clause-small c =
+    let d = c.args.self.now in
+    let list : plain c.in_ok-give.field-0.items ≡ given c.args.self.now c.args.hole = c.in_ok-give.ensures ∙ ap (part_given d) (sym c.in-Some.ensures.0) in
+    subst IsSmall (sym list) (small-given d (part_of c.args.hole))
