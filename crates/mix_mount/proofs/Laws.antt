@@ -1,13 +1,12 @@
 -- Laws on what is mounted: which sources never fail, and a source that is alone.
-use Rattle.std.proofs.Common.{◌≡◌, ◌∙◌, ℕ, zero, suc, true, List, [], ◌∷◌, Option, Some, None, refl, ap, subst, sym}
-use Rattle.std.specs.Prelude.{get_or}
+use Rattle.std.proofs.Common.{◌≡◌, ◌∙◌, ℕ, zero, suc, true, List, Option, Some, None, refl, ap}
 use Rattle.lxp_core.specs.declared.open_tree.HoleId.{HoleId}
 use Rattle.lxp_core.specs.View.{document as document_of}
 use Rattle.mix_tree.specs.Forest.{Forest, LabelledTree, alone}
 use Rattle.table_keep.specs.Views.{TablesView, Declared}
 use Rattle.mix_mount.specs.declared.mount.Mount.{Mount}
 use Rattle.mix_mount.specs.declared.mount.Mount.TheVariants.{Absent, Bracket, Csv, Table}
-use Rattle.mix_mount.specs.Mounts.{CameFrom, IsAlone, Mounting, document, faults, forest, forest_kept, is_told, mount_at, root_hole, table_of, told_kept, view_of}
+use Rattle.mix_mount.specs.Mounts.{CameFrom, IsAlone, Mounting, document, faults, forest_kept, is_told, mount_at, root_hole, table_of, told_kept, view_of}
 
 -- a document in memory never failed
 pub in_memory_unfailed : (v : TablesView) (m : Mount) → table_of m ≡ None → faults v m ≡ 0

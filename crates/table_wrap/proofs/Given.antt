@@ -23,6 +23,8 @@ use Rattle.table_wrap.specs.declared.document.TableDoc.{TableDoc}
 use Rattle.table_wrap.specs.declared.parts.Part.TheVariants.{Name, Rows}
 use Rattle.table_wrap.specs.Parts.{hole_of, part_of}
 use Rattle.table_wrap.specs.Rows.{cells, label_of, leaf, row_forest, row_tree}
+use Rattle.table_wrap.specs.Wire.{AreInRange}
+use Rattle.table_wrap.proofs.Small.{small_name, small_rows}
 use Rattle.table_wrap.specs.Document.{AreFirst, IsAnswer, chunk_of, columns_of, declared_of, forest, knows, last_key, name_of, part_forest, part_weight, rest_given, room, row_weight, rows_given, rows_of, weight}
 
 -- each key is one of 64 bits
@@ -259,14 +261,16 @@ closed-rows v d after rows all told rise first fits =
 
 -- the list of a page is an answer
 pub answer_rows : (v : TablesView) (d : TableDoc) (after : Option ℤ) (rows : List Row) → ((all : List Row) → v.told (declared_of d) ≡ Some all → keys_rise None all ≡ true)
-    → IsPageOf after (chunk_of d) (columns_of d) rows → AreFirst v d after rows → KeysFit rows → IsAnswer v d (Some (Rows after)) (rows_given d after rows)
-answer_rows v d after rows rising page first fits = record {
+    → IsPageOf after (chunk_of d) (columns_of d) rows → AreFirst v d after rows → KeysFit rows
+    → AllByRecursion (λ r. AreInRange (columns_of d) r.values) rows → IsAnswer v d (Some (Rows after)) (rows_given d after rows)
+answer_rows v d after rows rising page first fits range = record {
   list = (rows, page, first, refl);
   closes = λ told. closes (v.told (declared_of d)) refl told first;
   progress = progress-rows d after rows;
   known = known-rows d after rows;
   lighter = lighter-rows d after rows page.rise fits;
   forward = forward-rows d after rows;
+  small = small_rows d after rows page range;
 }
   where
     closes : (found : Option (List Row)) → v.told (declared_of d) ≡ found → is_some found ≡ true → IfSome found (λ all. rows ≡ first_above after (chunk_of d) all)
@@ -288,4 +292,5 @@ answer_name v d = record {
   known = ((refl, tt), tt);
   lighter = omega arith;
   forward = refl;
+  small = small_name d;
 }

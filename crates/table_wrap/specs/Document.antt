@@ -4,6 +4,7 @@ use Rattle.std.specs.List.{filter}
 use Rattle.mix_tree.specs.Forest.{Forest, none, alone}
 use Rattle.lxp_core.specs.declared.open_tree.HoleId.{HoleId}
 use Rattle.lxp_core.specs.Open.{Open, nil, node, hole, closed, weight_of, AllHoles, IsProgress, begins_with_hole, open_followed, without_holes}
+use Rattle.lxp_core.specs.Small.{IsSmall}
 use Rattle.mix_catalog.specs.declared.column.Column.{Column}
 use Rattle.table_keep.specs.Page.{IsPageOf, first_above, is_above}
 use Rattle.table_keep.specs.Rows.{Row}
@@ -119,7 +120,7 @@ root_known d = refl
 pub document_is_table : (v : TablesView) (d : TableDoc) → document v d ≡ alone (table_tree (name_of d) (columns_of d) (rows_of v d))
 document_is_table v d = refl
 
--- what a list promises that answers a fill of a part: it closes to the part, keeps progress, has known holes, and weighs no more
+-- what a list promises that answers a fill of a part: it closes to the part, keeps progress, has known holes, weighs no more, and is small
 pub record IsAnswer (v : TablesView) (d : TableDoc) (p : Option Part) (o : Open) : Type 0 where
   pub list : IsGiven v d p o
   pub closes : told v d ≡ true → closed (forest v d) o ≡ part_forest (rows_of v d) d p
@@ -127,6 +128,7 @@ pub record IsAnswer (v : TablesView) (d : TableDoc) (p : Option Part) (o : Open)
   pub known : AllHoles (knows d) o
   pub lighter : weight_of (weight d) o ≤ part_weight d p
   pub forward : begins_with_hole o ≡ false
+  pub small : IsSmall o
 
 -- whether a source is a table
 abbrev pub is_table_of : SourceKind → Bool

@@ -6,6 +6,7 @@ ghost use Rattle.lxp_core.specs.Open.{Open, node, without_holes};
 ghost use Rattle.lxp_core.specs.Plain.{plain, put_all};
 ghost use Rattle.table_keep.specs.Rows.{value_of};
 ghost use Rattle.table_wrap.specs.Rows.{label_of, leaf};
+ghost use Rattle.table_wrap.specs.Wire.{IsInRange};
 
 use lxp_core::OpenTree;
 use mix_catalog::Column;
@@ -31,7 +32,9 @@ fn hex_label(alloc: Global, bytes: Vec<u8>) -> Result<Label, AllocError>
 
 // The label of a cell, where it has one.
 fn label_of(alloc: Global, cell: Cell) -> Result<Option<Label>, AllocError>
-    ensures { IfOk result (λ label. label ≡ label_of (value_of cell)) }
+    ensures label { IfOk result (λ label. label ≡ label_of (value_of cell)) }
+    // A number is one of 64 bits.
+    ensures range { IfOk result (λ _. IsInRange (value_of cell)) }
 {
     match cell {
         Cell::Null => Ok(None),
@@ -56,7 +59,8 @@ pub fn push_node(
 
 // The list of a leaf with the label of a cell, where it has one.
 fn leaf(alloc: Global, cell: Cell) -> Result<Vec<OpenTree>, AllocError>
-    ensures { IfOk result (λ list. plain list.items ≡ without_holes (leaf (label_of (value_of cell)))) }
+    ensures list { IfOk result (λ list. plain list.items ≡ without_holes (leaf (label_of (value_of cell)))) }
+    ensures range { IfOk result (λ _. IsInRange (value_of cell)) }
 {
     match label_of(alloc, cell)? {
         Some(label) => Ok(vec![in alloc;
@@ -76,8 +80,10 @@ pub fn push_cell(
     column: &Column,
     cell: Cell,
 ) -> Result<(), AllocError>
-    ensures { OnOk result ((rest : Open) → put_all list.new.items rest
+    ensures put { OnOk result ((rest : Open) → put_all list.new.items rest
         ≡ put_all list.old.items (node column.now.name (without_holes (leaf (label_of (value_of cell)))) rest)) }
+    // A number is one of 64 bits.
+    ensures range { OnOk result (IsInRange (value_of cell)) }
 {
     let below = leaf(alloc, cell)?;
     push_node(list, column.name.copy(alloc)?, below)

@@ -1,9 +1,11 @@
 // Documents of tables, given a page at a time.
-ghost use Rattle.std.specs.Prelude.{◌≡◌, ◌≤◌};
+ghost use Rattle.std.specs.Prelude.{◌≡◌, ◌≤◌, true};
 ghost use Rattle.table_wrap.specs.Faults.{fault_of};
+ghost use Rattle.table_wrap.specs.Wire.{fits_wire};
 
 use crate::cells::copy_columns;
 use crate::parts::Part;
+use crate::wire::fits_wire;
 use lxp_core::{HoleId, OpenTree, SourceFault};
 use mix_catalog::{Column, SourceKind, SourceSpec};
 use mix_tree::Label;
@@ -14,7 +16,7 @@ use table_keep::{PageAsk, PageFault, TableRow, Tables};
 ///
 /// The root's hole stands for the source's name. Its list is the name, with one hole below it, and asks for no page. A hole for rows
 /// asks for one page of them; its list has these rows, each whole, and after them one hole exactly where they are as many as a page
-/// may have. No list begins with a hole. Nothing of the rows is kept.
+/// may have. No list begins with a hole, and each is small enough for a wire. Nothing of the rows is kept.
 #[derive(Drop)]
 pub struct TableDoc {
     pub(crate) name: Label,
@@ -24,6 +26,8 @@ pub struct TableDoc {
     pub(crate) columns: Vec<Column>,
     pub(crate) chunk: u32,
     ghost some: { 1 ≤ chunk },
+    ghost few: { chunk ≤ 1000 },
+    ghost small: { fits_wire name columns.items ≡ true },
 }
 
 // The fault of a source that a page that is not given becomes.
@@ -41,6 +45,7 @@ impl TableDoc {
     ghost use Rattle.mix_base.specs.Counts.{HasRisen};
     ghost use Rattle.lxp_core.specs.Open.{closed, weight_of, AllHoles, IsProgress, begins_with_hole};
     ghost use Rattle.lxp_core.specs.Plain.{plain};
+    ghost use Rattle.lxp_core.specs.Small.{IsSmall};
     ghost use Rattle.table_keep.specs.Page.{IsPageOf, first_above};
     ghost use Rattle.table_keep.specs.Rows.{rows_of as plain_rows};
     ghost use Rattle.table_keep.specs.Views.{KeepsTables};
@@ -49,6 +54,8 @@ impl TableDoc {
     ghost use Rattle.table_wrap.specs.declared.parts.Part.TheVariants.{Rows};
 
     /// The document of a table that a catalog declares, which is to be given `chunk` rows at a time. A chunk is 1 to 1,000.
+    /// `AllocError`: memory ran out; it comes too where the source's name or a column's has 2^32 bytes or more, and where there are 2^32
+    /// columns or more, since lists of such a document could be too large for a wire (docs/FORMATS.md, "Requests and replies").
     pub fn open(alloc: Global, spec: &SourceSpec) -> Result<TableDoc, AllocError>
         requires table { is_table_of spec.now.kind ≡ true }
         requires some { 1 ≤ spec.now.chunk }
@@ -66,6 +73,9 @@ impl TableDoc {
         else {
             return Err(AllocError);
         };
+        if !fits_wire(&spec.name, columns.as_slice()) {
+            return Err(AllocError);
+        }
         Ok(TableDoc {
             name: spec.name.copy(alloc)?,
             file: file.copy(alloc)?,
@@ -174,6 +184,7 @@ impl TableDoc {
         ensures known { IfOk result (λ list. AllHoles (knows self.now) (plain list.items)) }
         ensures lighter { IfOk result (λ list. weight_of (weight self.now) (plain list.items) ≤ weight self.now hole) }
         ensures forward { IfOk result (λ list. begins_with_hole (plain list.items) ≡ false) }
+        ensures small { IfOk result (λ list. IsSmall (plain list.items)) }
         // The pages: a hole of rows asks for one, and no other hole touches the tables.
         ensures untouched { asks (part_of hole) ≡ false → t.new ≡ t.old }
         ensures at_most_one { (T.view t.new).pages ≤ (T.view t.old).pages + 1 }

@@ -10,6 +10,7 @@ ghost use Rattle.table_wrap.specs.Document.{columns_of, name_of, rows_given};
 ghost use Rattle.table_wrap.specs.declared.parts.Part.TheVariants.{Rows};
 ghost use Rattle.table_wrap.specs.Parts.{hole_of};
 ghost use Rattle.table_wrap.specs.Rows.{cells};
+ghost use Rattle.table_wrap.specs.Wire.{AreInRange};
 
 use crate::TableDoc;
 use crate::cells::{push_cell, push_node};
@@ -33,8 +34,10 @@ fn push_rest(list: &mut Vec<OpenTree>, wanted: bool, last: Option<i64>) -> Resul
 impl TableDoc {
     // The columns of a row, each with the label of its cell below it.
     fn cells(&self, alloc: Global, found: Vec<Cell>) -> Result<Vec<OpenTree>, AllocError>
-        ensures { IfOk result (λ list. plain list.items
+        ensures list { IfOk result (λ list. plain list.items
             ≡ without_holes (forest_of (cells (columns_of self.now) (map value_of found.items)))) }
+        // Each number is one of 64 bits.
+        ensures range { IfOk result (λ _. AreInRange (columns_of self.now) (map value_of found.items)) }
     {
         let mut list = Vec::with_capacity(alloc, self.columns.len())?;
         let mut rest = found.into_iter();
@@ -54,8 +57,10 @@ impl TableDoc {
         list: &mut Vec<OpenTree>,
         found: Vec<Cell>,
     ) -> Result<(), AllocError>
-        ensures { OnOk result ((rest : Open) → put_all list.new.items rest
+        ensures put { OnOk result ((rest : Open) → put_all list.new.items rest
             ≡ put_all list.old.items (node (114 ∷ 111 ∷ 119 ∷ []) (without_holes (forest_of (cells (columns_of self.now) (map value_of found.items)))) rest)) }
+        // Each number is one of 64 bits.
+        ensures range { OnOk result (AreInRange (columns_of self.now) (map value_of found.items)) }
     {
         let label = Label::of_text(alloc, b"row")?;
         let kids = self.cells(alloc, found)?;
@@ -83,6 +88,8 @@ impl TableDoc {
         ensures given { IfOk result (λ list. plain list.items ≡ rows_given self.now after (rows_of rows.items)) }
         // Each key is one of 64 bits.
         ensures keys { IfOk result (λ _. AllByRecursion (λ r. FitsSigned w64 r.key) (rows_of rows.items)) }
+        // Each number is one of 64 bits.
+        ensures range { IfOk result (λ _. AllByRecursion (λ r. AreInRange (columns_of self.now) r.values) (rows_of rows.items)) }
     {
         let full = rows.len() == self.chunk as usize;
         let mut last = after;

@@ -5,5 +5,6 @@ mod cells;
 mod document;
 mod giving;
 mod parts;
+mod wire;
 
 pub use document::TableDoc;

@@ -3,11 +3,10 @@ use Rattle.std.proofs.lemmas.List.{get_or_default}
 use Rattle.std.proofs.lemmas.Result.{IfOk-weaker}
 use Rattle.mix_tree.specs.Forest.{Forest}
 use Rattle.lxp_core.specs.declared.open_tree.HoleId.{HoleId}
-use Rattle.lxp_core.specs.declared.open_tree.OpenTree.{OpenTree}
 use Rattle.lxp_core.specs.Open.{closed}
 use Rattle.lxp_core.specs.Plain.{plain}
 use Rattle.mix_mount.specs.declared.mount.Mount.TheVariants.{Absent}
-use Rattle.mix_mount.specs.Mounts.{docs_of, tables_of, mount_at, is_told, forest, forest_kept}
+use Rattle.mix_mount.specs.Mounts.{docs_of, tables_of, mount_at, forest_kept}
 use Rattle.mix_mount.proofs.mounted.MountedSources.fill.Goals as goal
 
 pub returns-clause-closes : goal.returns-clause-closes

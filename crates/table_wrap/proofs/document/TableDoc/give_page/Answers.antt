@@ -13,6 +13,7 @@ use Rattle.table_wrap.specs.Document.{last_key, rest_given}
 use Rattle.table_wrap.specs.declared.parts.Part.TheVariants.{Rows}
 use Rattle.table_wrap.specs.Parts.{hole_of}
 use Rattle.table_wrap.specs.Rows.{row_forest, row_tree}
+use Rattle.table_wrap.specs.Wire.{AreInRange}
 use Rattle.table_wrap.proofs.Shown.{last_more, rows_more, rows_of_more}
 use Rattle.table_wrap.proofs.document.TableDoc.give_page.Goals as goal
 
@@ -25,12 +26,14 @@ rows-preserved c =
     let fits : SFits w64 c.in-Some.row.key = search rules in
     record {
       given = λ rest.
-          c.in_ok-push_row.ensures rest
+          c.in_ok-push_row.ensures.put rest
           ∙ c.rows.invariant.given (node (row_tree columns row).label (without_holes (row_tree columns row).kids) rest)
           ∙ sym (rows_more columns rows row rest)
           ∙ ap (λ (rs : List Row). open_followed (without_holes (row_forest columns rs)) rest) (sym more);
       last = ap Some (to_z-of_z w64 c.in-Some.row.key fits) ∙ sym (last_more c.args.after rows row) ∙ ap (last_key c.args.after) (sym more);
       keys = subst (AllByRecursion (λ (r : Row). SFits w64 r.key)) (sym more) (each_snoc (λ (r : Row). SFits w64 r.key) rows row c.rows.invariant.keys fits);
+      range = subst (AllByRecursion (λ (r : Row). AreInRange columns r.values)) (sym more)
+          (each_snoc (λ (r : Row). AreInRange columns r.values) rows row c.rows.invariant.range c.in_ok-push_row.ensures.range);
     }
 
 pub returns-clause-given : goal.returns-clause-given

@@ -12,4 +12,4 @@ returns-clause-answer g c =
     let page = c.in_ok-rows.ensures in
     let given = c.in_ok-give_page.ensures in
     subst (IsAnswer v d (Some (Rows c.args.after))) (sym given.given)
-    (answer_rows v d c.args.after (rows_of c.in_ok-rows.rows.items) (g.met.T.Tables.rising c.args.t.now (declared_of d)) page.page page.first given.keys)
+    (answer_rows v d c.args.after (rows_of c.in_ok-rows.rows.items) (g.met.T.Tables.rising c.args.t.now (declared_of d)) page.page page.first given.keys given.range)
