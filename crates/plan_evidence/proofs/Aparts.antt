@@ -19,9 +19,15 @@ abbrev Apart : Documents → List Key → List TolledRow → Type 0
 Apart docs keys [] = Unit {0}
 Apart docs keys (row ∷ rows) = AllByRecursion (Differ docs keys row) rows × Apart docs keys rows
 
+-- what holds of each member of a list holds of the one at an index
+pub at_index : {X : Type 0} (P : X → Type 0) (xs : List X) (i : ℕ) (x : X) → AllByRecursion P xs → slice_get xs i ≡ Some x → P x
+at_index P [] i x h e = none_some x e
+at_index P (y ∷ xs) zero x h e = subst P (some_is y x e) h.0
+at_index P (y ∷ xs) (suc i) x h e = at_index P xs i x h.1 e
+
 module _ (P : TolledRow → Type 0) where
   -- what holds of each binding of events holds of each of the bindings alone
-  each_without : (es : RowEvents) → EachBinding P es → AllByRecursion P (without_skips es)
+  pub each_without : (es : RowEvents) → EachBinding P es → AllByRecursion P (without_skips es)
   each_without [] h = tt
   each_without (skip ∷ es) h = each_without es h
   each_without (bind row ∷ es) h = (h.0, each_without es h.1)
@@ -41,12 +47,6 @@ module _ (docs : Documents) (keys : List Key) where
       let d = each_filter (Differ docs keys row) test rows h.0 in
       elim (test row) as (λ t. Apart docs keys (cond t (row ∷ filter test rows) (filter test rows))) [ true ↦ (d, r) | false ↦ r ]
 
-  -- what holds of each of some bindings holds of the one at an index
-  at_all : (P : TolledRow → Type 0) (rows : List TolledRow) (i : ℕ) (x : TolledRow) → AllByRecursion P rows → slice_get rows i ≡ Some x → P x
-  at_all P [] i x h e = none_some x e
-  at_all P (row ∷ rows) zero x h e = subst P (some_is row x e) h.0
-  at_all P (row ∷ rows) (suc i) x h e = at_all P rows i x h.1 e
-
   -- bindings with the same values of keys don't differ by them
   differs : (x y : TolledRow) → key_values docs keys x ≡ key_values docs keys y → Differ docs keys x y → ⊥
   differs x y e d = let t : true ≡ false = sym (all_itself (key_values docs keys x)) ∙ ap (same_values (key_values docs keys x)) e ∙ d in let f : ⊥ = cc in f
@@ -56,9 +56,9 @@ module _ (docs : Documents) (keys : List Key) where
   one_index [] h i j x y e f k = none_some x e
   one_index (row ∷ rows) h zero zero x y e f k = refl
   one_index (row ∷ rows) h zero (suc j) x y e f k =
-      absurd (differs x y k (subst (λ z. Differ docs keys z y) (some_is row x e) (at_all (Differ docs keys row) rows j y h.0 f)))
+      absurd (differs x y k (subst (λ z. Differ docs keys z y) (some_is row x e) (at_index (Differ docs keys row) rows j y h.0 f)))
   one_index (row ∷ rows) h (suc i) zero x y e f k =
-      absurd (differs y x (sym k) (subst (λ z. Differ docs keys z x) (some_is row y f) (at_all (Differ docs keys row) rows i x h.0 e)))
+      absurd (differs y x (sym k) (subst (λ z. Differ docs keys z x) (some_is row y f) (at_index (Differ docs keys row) rows i x h.0 e)))
   one_index (row ∷ rows) h (suc i) (suc j) x y e f k = ap suc (one_index rows h.1 i j x y e f k)
 
   -- where no two bindings of an operator agree, no two members of a group of them do

@@ -18,13 +18,13 @@ use Rattle.plan_core.specs.ByNumber.{op_at}
 use Rattle.plan_core.specs.Events.{with_node, passes_all, descendants, pairs, each_row, extended, made_value, kept_row, shape_events, events}
 use Rattle.plan_core.specs.Plans.{PlanValue}
 use Rattle.plan_core.specs.Shapes.{Stage, filters, extends, first_by_keys, one_group, in_order, Shape, one_source, visits_below, pairs_up, passes_on, no_events, shape_at}
-use Rattle.plan_core.specs.TolledRows.{TolledRow, same_values, row_node, TolledValue, of_source, tolled_value, source_node, tolled_restrict}
+use Rattle.plan_core.specs.TolledRows.{TolledRow, key_values, same_values, row_node, TolledValue, of_source, tolled_value, source_node, tolled_restrict}
 use Rattle.plan_core.specs.Typed.{IsTyped}
-use Rattle.plan_core.specs.Valid.{Kind, a_node, a_list, Kinds, no_kinds, with_kind, kept, either_kind, made_kind, shape_kinds, shape_inputs, shape_outs, inputs_of, outs_of, kinds, IsTest, IsStageFit, IsShapeFit, IsValid}
+use Rattle.plan_core.specs.Valid.{Kind, a_node, a_list, Kinds, AreNodes, no_kinds, with_kind, kept, either_kind, made_kind, shape_kinds, shape_inputs, shape_outs, inputs_of, outs_of, kinds, IsTest, IsStageFit, IsShapeFit, IsValid}
 use Rattle.plan_core.proofs.Fresh.{kept_bound, smaller, kinds-is}
 use Rattle.plan_core.proofs.KeyValues.{all_itself}
 use Rattle.plan_evidence.specs.Evidence.{shape_way, ShapeHolds, AreRight}
-use Rattle.plan_evidence.specs.Held.{node_values, held}
+use Rattle.plan_evidence.specs.Held.{node_values, held, AreOf}
 use Rattle.plan_core.specs.Fronts.{are_contiguous, front}
 use Rattle.plan_core.proofs.Bindings.{binding_expand, binding_each_row, binding_distinct, binding_sorted, binding_weaker}
 use Rattle.plan_core.proofs.BoundRows.{IsBound, value_own, value_after, fresh_differs, restrict_value}
@@ -279,17 +279,23 @@ module _ (p : PlanValue) (valid : IsValid p) (typed : IsTyped p.ops) (docs : Doc
       subst (λ (ks : Kinds). EachBinding (Evident n ks) (events docs p.ops n)) (sym (kinds-is p valid typed n b))
       (subst (EachBinding (Evident n (shape_kinds at (kinds p.ops)))) (sym (events-of docs p.ops n (op_at p.ops n) refl inputs)) is)
 
+  -- each binding of an operator has exact evidence, whatever the operator
+  pub all_evident : (n : ℕ) → n < length p.ops → Known n
+  all_evident n b = known_under (suc n) n (omega arith) b
+
+  -- exact evidence of a binding has its values of keys of nodes
+  pub evident_keys : (n : ℕ) (row : TolledRow) (x : Evident n (kinds p.ops n) row) (keys : List Key) → AreNodes keys (kinds p.ops n) → node_values docs keys x.nodes ≡ key_values docs keys row
+  evident_keys n row x keys nodes = keys_alike docs keys x.nodes (row_node row) (λ v t. x.exact v (nodes v t))
+
+  -- exact evidence of a binding is of it
+  pub evident_of : (n : ℕ) → n < length p.ops → (row : TolledRow) (x : Evident n (kinds p.ops n) row) → AreOf docs p.ops n x.nodes row
+  evident_of n b row x =
+      let keys : List Key = held p.ops n in
+      subst (λ z. same_values (node_values docs keys x.nodes) z ≡ true) (evident_keys n row x keys (held_at n b).nodes) (all_itself (node_values docs keys x.nodes))
+
   -- each binding of an operator has right evidence
   pub each_evident : (n : ℕ) → n < length p.ops → EachBinding (HasEvidence docs p.ops n) (events docs p.ops n)
-  each_evident n b =
-      binding_weaker (Evident n (kinds p.ops n)) (HasEvidence docs p.ops n)
-      (λ row x. (
-        x.nodes,
-        x.right,
-        (let k = held p.ops n in
-            subst (λ z. same_values (node_values docs k x.nodes) z ≡ true) (keys_alike docs k x.nodes (row_node row) (λ v t. x.exact v ((held_at n b).nodes v t))) (all_itself (node_values docs k x.nodes))),
-      ))
-      (events docs p.ops n) (known_under (suc n) n (omega arith) b)
+  each_evident n b = binding_weaker (Evident n (kinds p.ops n)) (HasEvidence docs p.ops n) (λ row x. (x.nodes, x.right, evident_of n b row x)) (events docs p.ops n) (all_evident n b)
 
 -- each binding of an operator of a valid plan has right evidence
 pub bindings_have_evidence : BindingsHaveEvidence

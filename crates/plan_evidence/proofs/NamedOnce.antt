@@ -184,7 +184,7 @@ module _ (p : PlanValue) (valid : IsValid p) (docs : Documents) where
           let f : ⊥ = cc in f
 
   -- without a level nothing leads anywhere
-  no_levels : {h : Reached} {list : Listing} {q r : List ℕ} → Leads docs p.ops h list [] q r → ⊥
+  pub no_levels : {h : Reached} {list : Listing} {q r : List ℕ} → Leads docs p.ops h list [] q r → ⊥
   no_levels x = elim x [ ]
 
   -- a place in a list, with so many trees more before it

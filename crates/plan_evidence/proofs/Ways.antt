@@ -67,13 +67,13 @@ module _ (ops : List Operator) where
   right_here docs nodes n b r = (let e : (n == n) ≡ true = grind (arith, nat_tests) in r n b (rw e refl))
 
 -- a number that is among others is found there
-among_yes : (vs : List ℕ) (v : ℕ) → Among v vs → list_any (λ w. w == v) vs ≡ true
+pub among_yes : (vs : List ℕ) (v : ℕ) → Among v vs → list_any (λ w. w == v) vs ≡ true
 among_yes [] v a = absurd a
 among_yes (w ∷ vs) v (inl e) = (let t : (w == v) ≡ true = grind (arith, nat_tests, e) in rw t refl)
 among_yes (w ∷ vs) v (inr a) = (let r = among_yes vs v a in elim (w == v) as (λ t. (t || list_any (λ w. w == v) vs) ≡ true) [ true ↦ refl | false ↦ r ])
 
 -- a number that is found among others is among them
-among_is : (vs : List ℕ) (v : ℕ) → list_any (λ w. w == v) vs ≡ true → Among v vs
+pub among_is : (vs : List ℕ) (v : ℕ) → list_any (λ w. w == v) vs ≡ true → Among v vs
 among_is [] v h = cc
 among_is (w ∷ vs) v h =
     (elim (w == v) as (λ t. (w == v) ≡ t → (t || list_any (λ w. w == v) vs) ≡ true → Among v (w ∷ vs)) [

@@ -16,7 +16,7 @@ use Rattle.plan_core.specs.Tolled.{Tolled, ends, item}
 use Rattle.plan_core.specs.TolledRows.{TolledRow, TolledValue, of_source, element, trees, tolled_value, key_values, same_values, all_items}
 use Rattle.plan_core.specs.Valid.{outs_of, IsValid}
 use Rattle.plan_evidence.specs.Evidence.{AreRight, IsEvidence}
-use Rattle.plan_evidence.specs.Held.{node_values, AreOf, UsesHeld}
+use Rattle.plan_evidence.specs.Held.{node_values, AreOf}
 
 -- LISTS AND WHERE THEY ARE MADE
 
@@ -168,10 +168,10 @@ NamesAtMostOne =
 -- what a text names is a node of the plan's document
 abbrev pub NamesNodes : Type 0
 NamesNodes =
-    (p : PlanValue) → IsValid p → UsesHeld p.ops → (docs : Documents) (d : NodeValue) (a : List ℕ) → Names docs p.ops d a → HasPlaceIn docs p.ops a
+    (p : PlanValue) → IsValid p → (docs : Documents) (d : NodeValue) (a : List ℕ) → Names docs p.ops d a → HasPlaceIn docs p.ops a
 
 -- each node of the plan's document is named by a text
 abbrev pub EachIsNamed : Type 0
 EachIsNamed =
-    (p : PlanValue) → IsValid p → UsesHeld p.ops → (docs : Documents) (a : List ℕ) → HasPlaceIn docs p.ops a
+    (p : PlanValue) → IsValid p → (docs : Documents) (a : List ℕ) → HasPlaceIn docs p.ops a
     → (d : NodeValue) × IsFormed d × Names docs p.ops d a
