@@ -1,0 +1,4 @@
+mod Apart
+mod Going
+mod Joined
+mod Taken

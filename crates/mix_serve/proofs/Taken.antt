@@ -1,0 +1,46 @@
+-- Bytes that are taken of an input, and pieces that are written to a sink, one after another.
+use Rattle.std.proofs.Common.{◌+◌, ◌∙◌, ℕ, List, [], ◌++◌, Option, Some, None, refl, ap, sym, subst, arith, append_assoc, length, take, length-append}
+use Rattle.std.proofs.lemmas.List.{take_all}
+use Rattle.mix_base.proofs.Lists.{append_nil, take_append}
+use Rattle.mix_io.specs.Contents.{Appends, AppendsPrefix}
+use Rattle.mix_io.specs.Input.{InputView, Gone, Took}
+
+-- where nothing was taken of an input, no bytes are gone
+gone_none : (left : Option (List ℕ)) → Gone left left []
+gone_none None = refl
+gone_none (Some left) = (left, refl, refl)
+
+-- where nothing was taken of an input, no bytes are counted
+pub took_none : (input : InputView) → Took input input []
+took_none input = record { gone = gone_none input.left; counted = omega arith }
+
+-- bytes that are gone and then more of them are gone together
+gone_more : (old between new : Option (List ℕ)) (bytes more : List ℕ) → Gone old between bytes → Gone between new more → Gone old new (bytes ++ more)
+gone_more None between new bytes more first second = subst (λ (o : Option (List ℕ)). Gone o new more) first second
+gone_more (Some left) between new bytes more first second =
+    let then : Gone (Some first.0) new more = subst (λ (o : Option (List ℕ)). Gone o new more) first.2 second in
+    (then.0, first.1 ∙ ap (λ r. bytes ++ r) then.1 ∙ sym (append_assoc bytes more then.0), then.2)
+
+-- bytes that were taken and then more of them were taken together
+pub took_more : (old between new : InputView) (bytes more : List ℕ) → Took old between bytes → Took between new more → Took old new (bytes ++ more)
+took_more old between new bytes more first second = record {
+  gone = gone_more old.left between.left new.left bytes more first.gone second.gone;
+  counted = omega (arith, first.counted, second.counted, length-append bytes more);
+}
+
+-- where nothing was written, nothing was appended
+pub appends_none : (before : Option (List ℕ)) → Appends before before []
+appends_none None = refl
+appends_none (Some w) = ap Some (sym (append_nil w))
+
+-- what was appended is a prefix of itself
+pub appends_whole : (before after : Option (List ℕ)) (piece : List ℕ) → Appends before after piece → AppendsPrefix before after piece
+appends_whole None after piece h = h
+appends_whole (Some w) after piece h = (length piece, h ∙ ap (λ p. Some (w ++ p)) (sym (take_all (length piece) piece (omega arith))))
+
+-- a piece that was appended and then a prefix of another are a prefix of both
+pub appends_prefix : (before now after : Option (List ℕ)) (piece more : List ℕ) → Appends before now piece → AppendsPrefix now after more → AppendsPrefix before after (piece ++ more)
+appends_prefix None now after piece more h k = subst (λ (o : Option (List ℕ)). AppendsPrefix o after more) h k
+appends_prefix (Some w) now after piece more h k =
+    let cut : AppendsPrefix (Some (w ++ piece)) after more = subst (λ (o : Option (List ℕ)). AppendsPrefix o after more) h k in
+    (length piece + cut.0, cut.1 ∙ ap Some (append_assoc w piece (take cut.0 more) ∙ ap (λ p. w ++ p) (sym (take_append piece more cut.0))))
