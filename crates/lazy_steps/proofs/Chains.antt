@@ -61,7 +61,7 @@ pub under_ran : {S : Type 0} {view : S → View} {came_from : S → S → Type 0
     → Ran view came_from (operators p) n (stands (world_of (view s) g) (operators p) n f c).ahead s g t h
 under_ran u ran = record { came = ran.came; bench = ran.bench; asks = under_asks u ran.asks }
 
--- one operator that passes on each binding
+-- a walk below one operator that passes on each binding is a walk of that operator
 step_under : {p : Fixed} {v : View} {g : Growing} {n : ℕ} {c : Position} → CanStep v g p n c → (i : ℕ) → PassesAt (operators p) n i
     → IsUnder p v g n (shape_at (operators p) n) c 1 i (part_below c)
 step_under {p} {v} {g} {n} {c} can i passes =
@@ -81,7 +81,7 @@ step_under {p} {v} {g} {n} {c} can i passes =
           (each_at (plan_value p.plan) can.fixed.valid n can.op i (world_of v g) b can.bench c asks x finds stage passes.1 passes.2 h lifted.1);
     }))
 
--- an operator over others that pass on each binding
+-- a walk below operators that pass on each binding, with one more of them on top
 then_under : {p : Fixed} {v : View} {g : Growing} {n : ℕ} {f : Shape} {c : Position} {i : ℕ} {x : Position} {k m : ℕ} {d : Position} → IsUnder p v g n f c 1 i x
     → IsUnder p v g i (shape_at (operators p) i) x k m d → IsUnder p v g n f c (suc k) m d
 then_under u w = record {

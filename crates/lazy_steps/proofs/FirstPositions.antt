@@ -51,7 +51,7 @@ passed_start w ops typed n i keys group is = record {
 }
 
 module _ (ops : List Operator) (n i : ℕ) (keys : List Key) (group : Option (Piece × ℕ)) (some : shape_apart ops (passes_on i (first_by_keys keys group)) ≡ false) where
-  -- the shape of the operator
+  -- the shape of an operator that keeps the first bindings of its input by keys
   abbrev F : Shape
   F = passes_on i (first_by_keys keys group)
 
@@ -63,7 +63,7 @@ module _ (ops : List Operator) (n i : ℕ) (keys : List Key) (group : Option (Pi
       by_group None e k = (let z : true ≡ false = sym k.2 ∙ e in cc)
       by_group (Some g) e k = k
 
-  -- the input's position in a position
+  -- the part of a position of first bindings that is a position of the input
   pub firsts_below : (w : World) (c : Position) → IsIn w ops n F c → IsOf w ops i (below c)
   firsts_below w Start h = tt
   firsts_below w (First' q c k) h = h.0
@@ -80,7 +80,7 @@ module _ (ops : List Operator) (n i : ℕ) (keys : List Key) (group : Option (Pi
   firsts_count w c h = absurd h
 
   module _ (typed : IsTyped ops) (within : n < length ops) (is : shape_at ops n ≡ F) where
-    -- the events after it are those of the input whose keys were not seen up to it
+    -- the events after a position of first bindings are those of the input whose keys were not seen up to it
     pub firsts_ahead_is : (w : World) (c : Position) → IsIn w ops n F c → (stands w ops n F c).ahead ≡ distinct (docs_of w) keys (kept_row (docs_of w) keys (stops_over ops i keys) group) (up_to w n (count_of c)) (ahead w ops i (below c))
     firsts_ahead_is w Start h = events_at ops typed n within F is (docs_of w)
     firsts_ahead_is w (First' q c k) h = refl
@@ -88,7 +88,7 @@ module _ (ops : List Operator) (n i : ℕ) (keys : List Key) (group : Option (Pi
     firsts_ahead_is w (Pass' q c) h = absurd (not_passed w q c h)
     firsts_ahead_is w c h = absurd h
 
-    -- the walk over the input has passed what is up to it
+    -- the walk over the input has passed all that is up to a position of first bindings
     pub firsts_passed : (w : World) (c : Position) → IsIn w ops n F c → IsPassed w ops n i keys group (below c) (count_of c)
     firsts_passed w Start h = passed_start w ops typed n i keys group is
     firsts_passed w (First' q c k) h = passed_first w ops n i keys group c k q h
@@ -123,7 +123,7 @@ module _ (ops : List Operator) (n i : ℕ) (keys : List Key) (group : Option (Pi
     firsts_over_next w (Pass' q c) h l = absurd (not_passed w q c h)
     firsts_over_next w c h l = absurd h
 
-    -- a single one is over a single one
+    -- first bindings of which there is a single one are of an input that has a single one
     pub firsts_single : IsTrue (single ops n) → IsTrue (single ops i)
     firsts_single s = alone group (sym (single_at ops typed n within F is) ∙ s)
       where
@@ -132,7 +132,7 @@ module _ (ops : List Operator) (n i : ℕ) (keys : List Key) (group : Option (Pi
         alone (Some g) e = cc
 
     module _ (a : World) (c : Position) (h : IsIn a ops n F c) where
-      -- what a call below may cost, it may cost here
+      -- what a call of the input may cost, a call for first bindings may cost
       pub firsts_costs : cost (ahead a ops i (below c)) ≤ cost (stands a ops n F c).ahead
       firsts_costs =
           let p = cost-distinct_le (docs_of a) keys (kept_row (docs_of a) keys (stops_over ops i keys) group) (up_to a n (count_of c)) (ahead a ops i (below c)) in

@@ -1,8 +1,7 @@
 -- A step of an operator that drops bindings by keys that it has seen.
 use Rattle.std.proofs.Common.{◌≡◌, ◌<◌, ◌≤◌, ◌+◌, ◌-◌, ◌*◌, ℕ, suc, true, false, List, [], Option, length, take, map, refl, ◌∙◌, sym, ap, subst, arith}
-use Rattle.std.specs.Prelude.{IsTrue, Result, IfOk, slice_index_or}
+use Rattle.std.specs.Prelude.{IsTrue, slice_index_or}
 use Rattle.std.specs.List.{AllByRecursion}
-use Rattle.std.proofs.lemmas.Result.{IfOk-weaker}
 use Rattle.mix_base.specs.Events.{found, cost}
 use Rattle.mix_tree.specs.declared.var.Key.{Key}
 use Rattle.plan_core.specs.declared.plan.Piece.{Piece}
@@ -14,11 +13,8 @@ use Rattle.plan_core.specs.Typed.{IsTyped}
 use Rattle.plan_core.specs.TolledRows.{key_values}
 use Rattle.plan_core.proofs.Distinct.{IsOld}
 use Rattle.tree_buffer.specs.Law.{SpotsAreOne}
-use Rattle.lxp_core.specs.declared.fault.WalkFault.{WalkFault}
 use Rattle.lazy_binding.specs.declared.key.KeyPart.{KeyPart}
 use Rattle.lazy_binding.specs.declared.position.Position.{Position, First', Seen'}
-use Rattle.lazy_steps.specs.declared.step.Step.{Step}
-use Rattle.lazy_steps.specs.declared.step.Step.TheVariants.{Done, At, On}
 use Rattle.lazy_binding.specs.Bench.{IsBench}
 use Rattle.lazy_binding.specs.World.{World, world, docs_of, is_told, seen_at, part_value, IsPart}
 use Rattle.lazy_binding.specs.Cursors.{gathers_by, up_to, binding, ahead, number, size as size_of, stands, weighs, IsIn}
@@ -26,7 +22,7 @@ use Rattle.lazy_binding.specs.Gathering.{IsPassed}
 use Rattle.lazy_binding.specs.Reading.{below, count_of}
 use Rattle.lazy_binding.specs.Keys.{was_seen}
 use Rattle.lazy_binding.specs.Keeping.{Keeps}
-use Rattle.lazy_steps.specs.Steps.{Asks, Finds, Moves, Steps, GrowsAt, IsKeyEvent}
+use Rattle.lazy_steps.specs.Steps.{Asks, Finds, Moves, GrowsAt}
 use Rattle.lazy_binding.proofs.Bound.{inputs_at}
 use Rattle.lazy_binding.proofs.Buffers.{gathered_there}
 use Rattle.lazy_binding.proofs.Keep.{keeps_then}
@@ -36,13 +32,13 @@ use Rattle.lazy_steps.proofs.PassedSteps.{first_events, later_same, old, same_si
 
 module _ (ops : List Operator) (n i : ℕ) (keys : List Key) (group : Option (Piece × ℕ)) (some : shape_apart ops (passes_on i (first_by_keys keys group)) ≡ false)
     (no : gathers_by ops (passes_on i (first_by_keys keys group)) ≡ false) where
-  -- the shape of the operator
+  -- the shape of an operator that keeps the first bindings of its input by keys
   abbrev F : Shape
   F = passes_on i (first_by_keys keys group)
 
   module _ (typed : IsTyped ops) (within : n < length ops) (is : shape_at ops n ≡ F) where
     module _ (a : World) (c : Position) (h : IsIn a ops n F c) where
-      -- the walk over the input has passed what is up to it
+      -- the walk over the input has passed all that is up to a position of first bindings
       passed : IsPassed a ops n i keys group (below c) (count_of c)
       passed = firsts_passed ops n i keys group some typed within is a c h
 
@@ -50,7 +46,7 @@ module _ (ops : List Operator) (n i : ℕ) (keys : List Key) (group : Option (Pi
           (d : Position) (f : Finds a b ops i (shape_at ops i) (ahead a ops i (below c)) (number a ops i (below c)) d)
           (late : IsBench b ops) (key : List KeyPart) (parts : AllByRecursion (IsPart b) key)
           (val : IsTrue (is_told b ops) → map (part_value b) key ≡ key_values (docs_of b) keys (binding b ops i d)) (ones : SpotsAreOne) where
-        -- the binding below is passed where its key was seen
+        -- a binding of the input whose key was seen before the call is passed
         pub goes_past : was_seen key (take (count_of c) (seen_at b n)) ≡ true → (q : _) → Moves a b ops n F (stands a ops n F c).ahead (weighs a ops n F c) (Seen' q d (count_of c))
         goes_past m q = record {
           cursor = (p.cursor, f.row, p.within, p.seen, p.before, p.few, p.past, some, no);
@@ -77,12 +73,12 @@ module _ (ops : List Operator) (n i : ℕ) (keys : List Key) (group : Option (Pi
 
         module _ (seen : List (List (List KeyPart))) (g : GrowsAt b.seen seen n key)
             (pushed : length (slice_index_or seen n []) ≡ length (seen_at b n) + 1 → (count_of c ≡ length (seen_at b n)) × (was_seen key (take (count_of c) (seen_at b n)) ≡ false)) where
-          -- what is left where the keys that were seen may have grown
+          -- the world in which the keys that were seen may have grown
           abbrev here : World
           here = world b.view b.buffers seen b.memos b.walked
 
           -- a key that is noted leaves what every call keeps
-          kept : Keeps b here
+          pub kept : Keeps b here
           kept = kept_here ops n i keys group is a (below c) (count_of c) passed b bench k.kept d f late key parts val ones seen b.walked g pushed refl (λ m number place x y. y)
 
           -- a key that is noted leaves a sound bench
@@ -104,8 +100,8 @@ module _ (ops : List Operator) (n i : ℕ) (keys : List Key) (group : Option (Pi
             none = λ s. k.none (firsts_single ops n i keys group some typed within is s);
           }
 
-          -- a binding of a new key is one
-          firsts_at : was_seen key (take (count_of c) (seen_at b n)) ≡ false → count_of c < length (slice_index_or seen n []) → (q : _)
+          -- a binding of the input whose key is new is one of the operator
+          pub firsts_at : was_seen key (take (count_of c) (seen_at b n)) ≡ false → count_of c < length (slice_index_or seen n []) → (q : _)
               → Finds a here ops n F (stands a ops n F c).ahead (weighs a ops n F c) (First' q d (suc (count_of c)))
           firsts_at m l q = record {
             cursor = first_new ops n i keys group is a (below c) (count_of c) passed b bench k.kept d f late key parts val ones seen b.walked g pushed refl (λ m number place x y. y) m l some (λ z. (let x : true ≡ false = sym z ∙ no in cc)) q;
@@ -123,7 +119,7 @@ module _ (ops : List Operator) (n i : ℕ) (keys : List Key) (group : Option (Pi
               few = few_here ops n i keys group is a (below c) (count_of c) passed b bench k.kept d f late key parts val ones seen b.walked g pushed refl (λ m number place x y. y) m l
 
           -- a binding of the input whose key was seen is passed
-          firsts_on : was_seen key (take (count_of c) (seen_at b n)) ≡ true → (q : _) → Moves a here ops n F (stands a ops n F c).ahead (weighs a ops n F c) (Seen' q d (count_of c))
+          pub firsts_on : was_seen key (take (count_of c) (seen_at b n)) ≡ true → (q : _) → Moves a here ops n F (stands a ops n F c).ahead (weighs a ops n F c) (Seen' q d (count_of c))
           firsts_on m q =
               let moves = goes_past m q in
               let stay = stays_in_shape b here kept ops late n F (Seen' q d (count_of c)) moves.cursor in
@@ -133,19 +129,3 @@ module _ (ops : List Operator) (n i : ℕ) (keys : List Key) (group : Option (Pi
                 found = λ t. moves.found t ∙ sym (ap found stay.ahead_is);
                 lazy = λ t w. (let i = moves.lazy t w in let j = ap cost stay.ahead_is in omega (arith, i, j));
               }
-
-          -- the step of first bindings after the input's next binding is one of the operator
-          pub firsts_steps : (r : Step) → IsKeyEvent (seen_at b n) (slice_index_or seen n []) key d (count_of c) r
-              → Steps a here ops n F (stands a ops n F c).ahead (weighs a ops n F c) r
-          firsts_steps Done y = absurd y
-          firsts_steps (At z) y =
-              subst (Finds a here ops n F (stands a ops n F c).ahead (weighs a ops n F c)) (sym (y.0.1 ∙ ap (First' y.0.0 d) (one_more (count_of c)))) (firsts_at y.1 y.2 y.0.0)
-            where
-              one_more : (m : ℕ) → m + 1 ≡ suc m
-              one_more m = omega arith
-          firsts_steps (On z) y = subst (Moves a here ops n F (stands a ops n F c).ahead (weighs a ops n F c)) (sym y.0.1) (firsts_on y.1 y.0.0)
-
-          -- what a call of it comes to
-          pub firsts_result : (r : Result Step WalkFault) → IfOk r (IsKeyEvent (seen_at b n) (slice_index_or seen n []) key d (count_of c))
-              → IfOk r (Steps a here ops n F (stands a ops n F c).ahead (weighs a ops n F c))
-          firsts_result r y = IfOk-weaker r _ _ (λ s z. firsts_steps s z) y

@@ -61,28 +61,28 @@ groups_read v g ops bench n within m e = e ∙ get_or_default g.walked.gathered.
 
 module _ (a c : World) (ops : List Operator) (n i : ℕ) (keys : List Key) (made : Piece × ℕ) (typed : IsTyped ops) (within : n < length ops)
     (is : shape_at ops n ≡ passes_on i (first_by_keys keys (Some made))) (by : gathers_by ops (passes_on i (first_by_keys keys (Some made))) ≡ true) (bench : IsBench a ops) where
-  -- what the operator makes of a group
+  -- what an operator makes of each of its groups
   abbrev group : Option (Piece × ℕ)
   group = Some made
 
-  -- what was gathered for the operator so far
+  -- what was gathered of the groups of an operator so far
   abbrev g : Gathered
   g = gathered_at a n
 
-  -- how many groups were found
+  -- how many groups of an operator were found
   abbrev few : ℕ
   few = length g.groups
 
-  -- the members that were found are those of groups
+  -- the members that were found of an operator are those of its groups
   pub gathered_good : AreGathered a ops n i keys group g
   gathered_good = bench.gathered n i keys group is by
 
-  -- the input has a smaller number than the operator
+  -- the input of an operator that gathers has a smaller number than the operator
   pub gathers_less : i < n
   gathers_less = (inputs_at ops typed n within (passes_on i (first_by_keys keys group)) is).0
 
   module _ (k : Asks a c ops i (ahead a ops i g.last)) (late : IsBench c ops) where
-    -- the call touched nothing of the operator itself
+    -- a call of the input touches nothing of what was gathered
     untouched : IsUntouched a c n
     untouched = k.above n gathers_less
 
@@ -90,11 +90,11 @@ module _ (a c : World) (ops : List Operator) (n i : ℕ) (keys : List Key) (made
     pub few_is : few ≡ length (seen_at c n)
     few_is = gathered_good.count ∙ ap length (sym untouched.1)
 
-    -- what is left of the world where keys and groups may have grown
+    -- the world in which the keys that were seen and the groups that were found may have grown
     abbrev here : List (List (List KeyPart)) → Walked → World
     here seen walked = world c.view c.buffers seen c.memos walked
 
-    -- what was asked is the operator's
+    -- what a call of the input asked, the operator's events allow
     pub gather_asks : (seen : List (List (List KeyPart))) (walked : Walked) (key : List KeyPart) → GrowsAt c.seen seen n key → OthersGathered c.walked walked n → Keeps c (here seen walked)
         → Asks a (here seen walked) ops n (ahead a ops i g.last)
     gather_asks seen walked key grows others kept = record {
@@ -107,7 +107,7 @@ module _ (a c : World) (ops : List Operator) (n i : ℕ) (keys : List Key) (made
       none = λ s. k.none (firsts_single ops n i keys group refl typed within is s);
     }
 
-    -- where no key was seen anew, and this is so of the operator's groups, it is so of all
+    -- where no key was seen anew, and an operator's members are those of its groups, this is so of all operators
     all_gathered : (seen : List (List (List KeyPart))) (walked : Walked) (key : List KeyPart) → GrowsAt c.seen seen n key → OthersGathered c.walked walked n → Keeps c (here seen walked)
         → AreGathered (here seen walked) ops n i keys group (groups_in walked n) → HasGathered (here seen walked) ops
     all_gathered seen walked key grows others kept good j x ks gr at of = at_one (cases_eq j n)
@@ -127,7 +127,7 @@ module _ (a c : World) (ops : List Operator) (n i : ℕ) (keys : List Key) (made
     module _ (d : Position) (f : Finds a c ops i (shape_at ops i) (ahead a ops i g.last) (number a ops i g.last) d) (key : List KeyPart) (parts : AllByRecursion (IsPart c) key)
         (val : IsTrue (is_told c ops) → map (part_value c) key ≡ key_values (docs_of c) keys (binding c ops i d)) (ones : SpotsAreOne)
         (seen : List (List (List KeyPart))) (walked : Walked) (grows : GrowsAt c.seen seen n key) (others : OthersGathered c.walked walked n) where
-      -- the world that is left after the call
+      -- the world that is left after a call for one more member
       abbrev now : World
       now = here seen walked
 
@@ -156,11 +156,11 @@ module _ (a c : World) (ops : List Operator) (n i : ℕ) (keys : List Key) (made
 
       -- where the next binding of the input is put into its group as one more member
       module _ (goes : IsGatheredBy g (groups_in walked n) (seen_at c n) (slice_index_or seen n []) key d) (ongoing : g.ended ≡ false) where
-        -- the binding, as it is shared
+        -- the binding that is one more member, as a position that is shared
         abbrev r : Rc Position Global
         r = goes.0
 
-        -- where the keys grew, they did so by a new one
+        -- keys that grew did so by a new one
         pushed : length (slice_index_or seen n []) ≡ length (seen_at c n) + 1 → (few ≡ length (seen_at c n)) × (was_seen key (take few (seen_at c n)) ≡ false)
         pushed e = elim goes.2.member [
           | inl x ↦ absurd (omega (arith, e, ap length x.1))
@@ -189,7 +189,7 @@ module _ (a c : World) (ops : List Operator) (n i : ℕ) (keys : List Key) (made
         further : Finds a now ops i (shape_at ops i) (ahead a ops i g.last) (number a ops i g.last) r.value
         further = subst (Finds a now ops i (shape_at ops i) (ahead a ops i g.last) (number a ops i g.last)) (sym goes.1) (finds_then a c now gathered_keeps late f)
 
-        -- some position that is shared
+        -- a position that stands in a list is shared
         abbrev some : Rc (Unit {0}) Global
         some = record { ptr = r.ptr; value = tt }
 
@@ -204,7 +204,7 @@ module _ (a c : World) (ops : List Operator) (n i : ℕ) (keys : List Key) (made
             ∙ ap (last_or None) (seen_kept a c k.kept ops bench n (suc j) begun.2)
             ∙ begun.8 (subst IsTrue (told-kept k.kept ops) t))
 
-        -- the key of the binding is compared with it
+        -- the key of the new member is compared with a group's
         compares : (j : ℕ) (m : Rc Position Global) (ms : List (Rc Position Global)) → j < few → slice_index_or g.groups j [] ≡ m ∷ ms → IsTrue (is_told a ops)
             → same_values (key_values (docs_of a) keys (binding a ops i m.value)) (key_values (docs_of a) keys (binding now ops i r.value)) ≡ same_parts (slice_index_or (seen_at c n) j []) key
         compares j m ms l e t =
@@ -216,7 +216,7 @@ module _ (a c : World) (ops : List Operator) (n i : ℕ) (keys : List Key) (made
             ∙ ap (same_values (key_values (docs_of a) keys (binding a ops i m.value))) (val u ∙ ap (λ (z : Documents). key_values z keys (binding c ops i d)) (docs_kept k.kept ops bench)
             ∙ ap (key_values (docs_of a) keys) (sym at)))
 
-        -- the binding has the keys of a group, or others
+        -- a new member has the keys of a group, or other keys than all groups
         keyed : (v : Bool) (j : ℕ) → j < few → same_parts (slice_index_or (seen_at c n) j []) key ≡ v → HasKeys a now ops i keys r.value v (slice_index_or g.groups j [])
         keyed v j l e = by_list (slice_index_or g.groups j []) refl
           where
@@ -224,13 +224,13 @@ module _ (a c : World) (ops : List Operator) (n i : ℕ) (keys : List Key) (made
             by_list [] z = tt
             by_list (m ∷ ms) z = λ t. compares j m ms l z t ∙ e
 
-        -- what is gathered now, by its parts
+        -- what is gathered with one more member, by its parts
         now_is : record { groups = (groups_in walked n).groups; last = r.value; ended = false } ≡ groups_in walked n
         now_is =
             ap (λ (z : Position). record { groups = (groups_in walked n).groups; last = z; ended = false }) (sym goes.2.last)
             ∙ ap (λ (z : Bool). record { groups = (groups_in walked n).groups; last = (groups_in walked n).last; ended = z }) (sym (goes.2.goes_on ∙ ongoing))
 
-        -- a known group has one more
+        -- a known group has one more member
         with_one_more : (x : (m : ℕ) × (slice_index_or seen n [] ≡ seen_at c n) × Joins g.groups (groups_in walked n).groups (seen_at c n) key r m) → AreGathered now ops n i keys group (record { groups = (groups_in walked n).groups; last = r.value; ended = false })
         with_one_more x =
             let j = x.2 in
@@ -243,7 +243,7 @@ module _ (a c : World) (ops : List Operator) (n i : ℕ) (keys : List Key) (made
             (keyed true x.0 j.within (stands_there key (seen_at c n) x.0 low j.known))
             (λ y l ne. keyed false y l (stands_alone key (seen_at c n) x.0 low j.known j.alone y (omega (arith, l, few_is)) ne))
 
-        -- where the new binding begins a group, what is gathered now is good
+        -- where a new member begins a group, what is gathered with it holds members of groups
         with_a_new_one : (y : Begins g.groups (groups_in walked n).groups (seen_at c n) (slice_index_or seen n []) key r) → AreGathered now ops n i keys group (record { groups = (groups_in walked n).groups; last = r.value; ended = false })
         with_a_new_one y =
             let more : length (slice_index_or seen n []) ≡ suc (length (seen_at c n)) = (let e = ap length y.pushed in let l = length-append (seen_at c n) (key ∷ []) in omega (arith, e, l)) in
@@ -264,7 +264,7 @@ module _ (a c : World) (ops : List Operator) (n i : ℕ) (keys : List Key) (made
             ∙ (gathered_good.walked.past u).found
             ∙ first_next ops n i keys group is a g.last few gathered_good.walked c bench k.kept d f late key parts val ones seen walked grows pushed others.reached gathered_found fresh low q u)))
 
-        -- the members that are found now are those of groups
+        -- the members that are found with one more member are those of groups
         now_good : AreGathered now ops n i keys group (groups_in walked n)
         now_good = subst (AreGathered now ops n i keys group) now_is (elim goes.2.member [ inl x ↦ with_one_more x | inr y ↦ with_a_new_one y ])
 
@@ -297,11 +297,11 @@ module _ (a c : World) (ops : List Operator) (n i : ℕ) (keys : List Key) (made
     -- where nothing is after the last binding, the walk has ended
     module _ (walked : Walked) (others : OthersGathered c.walked walked n) (ended : groups_in walked n ≡ record { groups = (groups_in c.walked n).groups; last = (groups_in c.walked n).last; ended = true })
         (none : FindsNone (telling a ops) (ahead a ops i g.last)) where
-      -- the world that is left where the walk has ended
+      -- the world in which the walk over groups has ended
       abbrev left : World
       left = world c.view c.buffers c.seen c.memos walked
 
-      -- members that were found stay at their places
+      -- where the walk has ended, members that were found stay at their places
       ended_keeps : Keeps c left
       ended_keeps = keeps_walked c walked (found_others c c.seen walked n others (λ j place m e. ap (λ (z : Gathered). slice_get (slice_index_or z.groups j []) place) ended ∙ e))
 
@@ -309,7 +309,7 @@ module _ (a c : World) (ops : List Operator) (n i : ℕ) (keys : List Key) (made
       same_seen : GrowsAt c.seen c.seen n []
       same_seen = record { lists = refl; others = λ j ne. refl; here = inl refl }
 
-      -- the members that were found are those of groups
+      -- where the walk has ended, the members that were found are those of groups
       left_good : AreGathered left ops n i keys group (groups_in walked n)
       left_good =
           subst (AreGathered left ops n i keys group) (ap (λ (z : Gathered). record { groups = z.groups; last = z.last; ended = true }) (sym untouched.2) ∙ sym ended)
@@ -337,7 +337,7 @@ module _ (a c : World) (ops : List Operator) (n i : ℕ) (keys : List Key) (made
       pub ended_asks : Asks a left ops n (ahead a ops i g.last)
       ended_asks = gather_asks c.seen walked [] same_seen others ended_keeps
 
--- the input can step from the binding that was walked to
+-- the input can step from the binding to which the walk over groups has come
 pub gathers_can : {v : View} {g : Growing} {p : Fixed} (n i : ℕ) (keys : List Key) (made : Piece × ℕ) → IsFixed p → (within : n < length (operators p))
     → shape_at (operators p) n ≡ passes_on i (first_by_keys keys (Some made)) → gathers_by (operators p) (passes_on i (first_by_keys keys (Some made))) ≡ true
     → IsBench (world_of v g) (operators p) → (c : Position) → c ≡ (gathered_at (world_of v g) n).last → CanStep v g p i c
@@ -348,7 +348,7 @@ gathers_can {v} {g} {p} n i keys made fixed within is by bench c e = record {
   cursor = subst (IsOf (world_of v g) (operators p) i) (sym e) (bench.gathered n i keys (Some made) is by).walked.cursor;
 }
 
--- a call on the input, as one on the operator
+-- a call of the input, as one of the operator that gathers
 pub gathers_ran : {S : Type 0} {view : S → View} {came_from : S → S → Type 0} {p : Fixed} {s t : S} {g h : Growing} {es : RowEvents} (n i : ℕ) (keys : List Key) (made : Piece × ℕ) → IsFixed p
     → (within : n < length (operators p)) → shape_at (operators p) n ≡ passes_on i (first_by_keys keys (Some made)) → Ran view came_from (operators p) i es s g t h
     → Ran view came_from (operators p) n es s g t h

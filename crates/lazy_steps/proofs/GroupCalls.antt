@@ -30,7 +30,7 @@ use Rattle.lazy_steps.proofs.Goes.{in_shape}
 use Rattle.lazy_steps.proofs.GatherSteps.{groups_read, gathers_can, gathers_less, ended_bench, ended_asks, refused_bench, refused_asks, gathered_bench, gathered_asks, gathered_further}
 use Rattle.lazy_steps.proofs.GroupWalks.{ComesTo, whole_ahead, comes_first, none_there, group_found, group_none, comes_asks, comes_on}
 
--- the shape of such an operator
+-- the shape of an operator whose groups end with its input
 abbrev pub group_shape : (k : Gather) → GathersGroups k → Shape
 group_shape k is = passes_on k.input (first_by_keys k.keys.now (Some is.0))
 
@@ -48,7 +48,7 @@ StepCame k a b c = (is : GathersGroups k) × ComesTo (operators k.walk.fixed.now
 
 module _ (v : View) (g : Growing) (k : Gather) (is : GathersGroups k) (fixed : IsFixed k.walk.fixed.now) (within : k.walk.op < length (operators k.walk.fixed.now))
     (bench : IsBench (world_of v g) (operators k.walk.fixed.now)) where
-  -- the operators of the plan
+  -- the operators of a plan whose groups are walked
   abbrev ops : List Operator
   ops = operators k.walk.fixed.now
 
@@ -56,7 +56,7 @@ module _ (v : View) (g : Growing) (k : Gather) (is : GathersGroups k) (fixed : I
   abbrev n : ℕ
   n = k.walk.op
 
-  -- the world before the call
+  -- the world before a call for one more member
   abbrev a : World
   a = world_of v g
 
@@ -64,15 +64,15 @@ module _ (v : View) (g : Growing) (k : Gather) (is : GathersGroups k) (fixed : I
   pub read_groups : (m : Gathered) → m ≡ get_or g.walked.gathered.items n m → m ≡ gathered_at a n
   read_groups m e = groups_read v g ops bench n within m e
 
-  -- the binding of the input that was walked to
+  -- the binding of the input to which the walk over groups has come
   pub read_last : (m : Gathered) → m ≡ get_or g.walked.gathered.items n m → (c : Position) → c ≡ m.last → c ≡ (gathered_at a n).last
   read_last m e c f = f ∙ ap (λ (z : Gathered). z.last) (read_groups m e)
 
-  -- the input can step from there
+  -- the input can step from the binding to which the walk over groups has come
   pub groups_can : (c : Position) → c ≡ (gathered_at a n).last → CanStep v g k.walk.fixed.now k.input c
   groups_can c e = gathers_can n k.input k.keys.now is.0 fixed within is.1 is.2 bench c e
 
-  -- the input has a smaller number than the operator
+  -- the input of an operator that makes groups has a smaller number than the operator
   pub input_less : k.input < n
   input_less = gathers_less a a ops n k.input k.keys.now is.0 fixed.typed within is.1 is.2 bench
 
@@ -118,7 +118,7 @@ module _ (v : View) (g : Growing) (k : Gather) (is : GathersGroups k) (fixed : I
           )
 
 module _ {v : View} {g : Growing} (k : Gather) (c : Position) (can : CanWalk v g k.walk c) where
-  -- the world before the step
+  -- the world before a step over groups
   abbrev old : World
   old = world_of v g
 
@@ -127,11 +127,11 @@ module _ {v : View} {g : Growing} (k : Gather) (c : Position) (can : CanWalk v g
   step_begins is = (is, comes_first (operators k.walk.fixed.now) k.walk.op k.input k.keys.now is.0 can.fixed.typed can.op is.1 is.2 old can.bench c (in_shape can (group_shape k is) is.1))
 
   module _ (b : World) (late : IsBench b (operators k.walk.fixed.now)) (come : StepCame k old b c) where
-    -- the operator makes groups of its input
+    -- the operator of a step over groups makes groups of its input
     abbrev is : GathersGroups k
     is = come.0
 
-    -- the position, in the shape of the operator
+    -- the position of a step over groups, in the shape of its operator
     at : IsIn old (operators k.walk.fixed.now) k.walk.op (group_shape k is) c
     at = in_shape can (group_shape k is) is.1
 
@@ -146,7 +146,7 @@ module _ {v : View} {g : Growing} (k : Gather) (c : Position) (can : CanWalk v g
         subst (Finds old b (operators k.walk.fixed.now) k.walk.op (group_shape k is) whole (weighs old (operators k.walk.fixed.now) k.walk.op (group_shape k is) c)) (sym next.3)
         (group_found (operators k.walk.fixed.now) k.walk.op k.input k.keys.now is.0 can.fixed.typed can.op is.1 is.2 old can.bench c at b late come.1 next.0 next.2 next.1)
 
-    -- where it isn't, no more were found than were counted
+    -- where a step over groups finds no group, no more were found than were counted
     pub step_count : IsNextGroup (gathered_at b k.walk.op) (count_of c) None → length (gathered_at b k.walk.op).groups ≡ count_of c
     step_count none = none_there (operators k.walk.fixed.now) k.walk.op k.input k.keys.now is.0 can.fixed.typed can.op is.1 is.2 old can.bench c at b late come.1 none
 

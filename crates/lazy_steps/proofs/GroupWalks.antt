@@ -59,11 +59,11 @@ pub record ComesTo (ops : List Operator) (n i : ℕ) (keys : List Key) (made : P
 
 module _ (ops : List Operator) (n i : ℕ) (keys : List Key) (made : Piece × ℕ) (typed : IsTyped ops) (within : n < length ops)
     (is : shape_at ops n ≡ passes_on i (first_by_keys keys (Some made))) (by : gathers_by ops (passes_on i (first_by_keys keys (Some made))) ≡ true) where
-  -- what the operator makes of a group
+  -- what an operator makes of each of its groups
   abbrev group : Option (Piece × ℕ)
   group = Some made
 
-  -- the shape of the operator
+  -- the shape of an operator whose groups end with its input
   abbrev F : Shape
   F = passes_on i (first_by_keys keys group)
 
@@ -75,7 +75,7 @@ module _ (ops : List Operator) (n i : ℕ) (keys : List Key) (made : Piece × �
   good : (w : World) → IsBench w ops → AreGathered w ops n i keys group (gathered_at w n)
   good w bench = bench.gathered n i keys group is by
 
-  -- what costs the input costs the operator
+  -- what the input's events cost, the operator's events cost
   left_costs : (w : World) (few : ℕ) → cost (ahead w ops i (gathered_at w n).last) ≤ cost (left w few)
   left_costs w few = cost-distinct_le (docs_of w) keys (kept_row (docs_of w) keys (stops_over ops i keys) group) (up_to w n few) (ahead w ops i (gathered_at w n).last)
 
@@ -88,7 +88,7 @@ module _ (ops : List Operator) (n i : ℕ) (keys : List Key) (made : Piece × �
     count_low : count_of c ≤ length (seen_at a n)
     count_low = firsts_count ops n i keys group refl a c h
 
-    -- the bindings ahead of it are those after as many as were counted
+    -- the bindings ahead of a position of an operator that makes groups are those after as many as were counted up to it
     whole_is : IsTrue (is_told a ops) → (z : Position) → IsIn a ops n F z → (stands a ops n F z).ahead ≡ past_first (count_of z) (events (docs_of a) ops n)
     whole_is t Start k = refl
     whole_is t (First' q x m) k = k.9 t
@@ -112,7 +112,7 @@ module _ (ops : List Operator) (n i : ℕ) (keys : List Key) (made : Piece × �
     }
 
     module _ (b : World) (late : IsBench b ops) (come : ComesTo ops n i keys made a b c) where
-      -- where all was told before a walk, all is told after it
+      -- what was told before a walk is told after it
       told_then : IsTrue (is_told a ops) → IsTrue (is_told b ops)
       told_then t = still_told (tells_on come.asks.kept ops) t
 

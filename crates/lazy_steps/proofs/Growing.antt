@@ -37,7 +37,7 @@ use Rattle.lazy_steps.specs.Steps.{Finds, Ran}
 -- THE MEMBERS OF A MEMO
 
 module _ (w : World) (ops : List Operator) (i : ℕ) (by : List Link) where
-  -- the number of these members and that of the last one are together no more than the size of the operator
+  -- the number of these members and that of the last one are together no more than the size of the operator whose bindings they are
   last_few : (at : Position) (n : ℕ) (ms : List Member) → n + number w ops i at ≤ size w ops i → AreNext w ops i by at n ms → (n + length ms) + number w ops i (last_of at ms) ≤ size w ops i
   last_few at n [] l h = omega (arith, l)
   last_few at n (m ∷ ms) l h = (let r = last_few m.1.value (suc n) ms h.0.few h.1 in omega (arith, r))
@@ -153,7 +153,7 @@ module _ (b : World) (memos : List (Kept (Rc Position Global))) (n : ℕ) (stay 
 
   module _ (ops : List Operator) (l r : ℕ) (tests : List Test) (is : shape_at ops n ≡ pairs_up l r tests) (bench : IsBench b ops) (m : Kept (Rc Position Global))
       (here : slice_index_or memos n no_pairs ≡ m) (good : AreMembers b ops r (links_at ops n) m) where
-    -- what is left is a bench
+    -- a bench in which one memo holds one more member is a sound bench
     pub memo_bench : IsBench (world b.view b.buffers b.seen memos b.walked) ops
     memo_bench = bench_stays memo_keeps ops bench refl (λ j x y ts e. at j x y ts e (cases_eq j n)) refl bench.sources
       where

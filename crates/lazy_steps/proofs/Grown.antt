@@ -50,19 +50,19 @@ module _ {S : Type 0} {view : S → View} {came_from : S → S → Type 0} {s t 
   right_below : r < n
   right_below = (inputs_at (operators p) fixed.typed n within (pairs_up l r tests) is).1.0
 
-  -- what the call of the right side leaves
+  -- what a call of a join's right side leaves
   pub grow_ran : Ran view came_from (operators p) n (ahead a (operators p) r (last_at a n)) s g t h
   grow_ran = ran_over ran (le_same _) right_below (λ z. (pairs_single (operators p) n l r tests fixed.typed within is z).1)
 
-  -- the call of the right side leaves the memo of the join as it was
+  -- a call of a join's right side leaves the memo of the join as it was
   same_memo : memo_at b n ≡ memo_at a n
   same_memo = (ran.asks.above n right_below).0
 
-  -- the members of the memo before the call are bindings of the right side
+  -- the members of a memo before a call are bindings of the right side after it
   old_good : AreMembers a (operators p) r (links_at (operators p) n) (memo_at a n)
   old_good = bench.members n l r tests is
 
-  -- what is left of memos of which this one is another
+  -- the memos of a bench, where the memo of a join is another one
   module _ (memos : Vec (Kept (Rc Position Global)) Global) (stay : OthersStay h.memos.items memos.items n) (m : Kept (Rc Position Global)) (here : slice_index_or memos.items n no_pairs ≡ m)
       (more : length (memo_at b n).pairs ≤ length m.pairs) (prefix : (k : ℕ) → k ≤ length (memo_at b n).pairs → take k m.pairs ≡ take k (memo_at b n).pairs)
       (good : AreMembers b (operators p) r (links_at (operators p) n) m) where
@@ -71,19 +71,19 @@ module _ {S : Type 0} {view : S → View} {came_from : S → S → Type 0} {s t 
         memo_keeps b memos.items n stay (subst (λ (z : Kept (Rc Position Global)). length (memo_at b n).pairs ≤ length z.pairs) (sym here) more)
         (λ k l. ap (λ (z : Kept (Rc Position Global)). take k z.pairs) here ∙ prefix k l)
 
-    -- after the memo is changed, what is left is a sound bench
+    -- a memo that is changed and still holds members leaves a sound bench
     memos_ran : Ran view came_from (operators p) n (ahead a (operators p) r (last_at a n)) s g t (record { buffers = h.buffers; seen = h.seen; memos = memos; walked = h.walked })
     memos_ran =
         ran_memo memos stay keeps
         (memo_bench b memos.items n stay (subst (λ (z : Kept (Rc Position Global)). length (memo_at b n).pairs ≤ length z.pairs) (sym here) more)
         (λ k l. ap (λ (z : Kept (Rc Position Global)). take k z.pairs) here ∙ prefix k l) (operators p) l r tests is ran.bench m here good) grow_ran
 
-  -- refused memory leaves the memo as it was
+  -- where memory was wanting, the memo is as it was
   pub refused_ran : (memos : Vec (Kept (Rc Position Global)) Global) → OthersStay h.memos.items memos.items n → slice_index_or memos.items n no_pairs ≡ memo_at b n
       → Ran view came_from (operators p) n (ahead a (operators p) r (last_at a n)) s g t (record { buffers = h.buffers; seen = h.seen; memos = memos; walked = h.walked })
   refused_ran memos stay here = memos_ran memos stay (memo_at b n) here (omega arith) (λ k l. refl) (ran.bench.members n l r tests is)
 
-  -- without a further binding it has ended
+  -- where the right side has no further binding, its memo has ended
   module _ (memos : Vec (Kept (Rc Position Global)) Global) (stay : OthersStay h.memos.items memos.items n)
       (here : slice_index_or memos.items n no_pairs ≡ record { pairs = (memo_at b n).pairs; ended = true }) (none : FindsNone (telling a (operators p)) (ahead a (operators p) r (last_at a n))) where
     pub ended_ran : Ran view came_from (operators p) n (ahead a (operators p) r (last_at a n)) s g t (record { buffers = h.buffers; seen = h.seen; memos = memos; walked = h.walked })
@@ -95,7 +95,7 @@ module _ {S : Type 0} {view : S → View} {came_from : S → S → Type 0} {s t 
     pub ended_grown : IsGrown a (world (view t) h.buffers.items h.seen.items memos.items h.walked) (operators p) n r false
     ended_grown = (here ∙ ap (λ (z : Kept (Rc Position Global)). record { pairs = z.pairs; ended = true }) same_memo, none)
 
-  -- the next binding is one more member
+  -- the right side's next binding is one more member of its memo
   module _ (memos : Vec (Kept (Rc Position Global)) Global) (stay : OthersStay h.memos.items memos.items n) (label : List ℕ) (d : Rc Position Global)
       (here : slice_index_or memos.items n no_pairs ≡ record { pairs = (memo_at b n).pairs ++ (label, d) ∷ []; ended = false })
       (f : Finds a b (operators p) r (shape_at (operators p) r) (ahead a (operators p) r (last_at a n)) (number a (operators p) r (last_at a n)) d.value)

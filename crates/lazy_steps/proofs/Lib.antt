@@ -2,6 +2,7 @@ pub mod Agreeing
 pub mod Chains
 pub mod FirstPositions
 pub mod FirstSteps
+pub mod FirstWalks
 pub mod GatherSteps
 pub mod Goes
 pub mod GroupCalls
@@ -20,6 +21,7 @@ pub mod PassedSteps
 pub mod Passing
 pub mod Resuming
 pub mod SeenPlaces
+pub mod SelectWalks
 pub mod Shapes
 pub mod Singles
 pub mod VisitSteps

@@ -231,7 +231,7 @@ pub right_nodes : (ops : List Operator) → IsTyped ops → (n : ℕ) → n < le
 right_nodes ops typed n within l r tests is links e =
     each_weaker (LinkFits (kinds ops l) (kinds ops r)) (λ (link : Link). kinds ops r link.right ≡ Some a_node) (λ link h. h.right_is) links (join_fits ops typed n within l r tests is links e)
 
--- what was found, in other words
+-- what a look-up found, in other words for the memo
 pub found_in : (m m' : Kept (Rc Position Global)) (key key' : List ℕ) (from : ℕ) (r : Option ℕ) → m ≡ m' → key ≡ key' → IsFound (labels_of m.pairs) key from r → IsFound (labels_of m'.pairs) key' from r
 found_in m m' key key' from r e f h =
     subst (λ (z : Kept (Rc Position Global)). IsFound (labels_of z.pairs) key' from r) e (subst (λ (z : List ℕ). IsFound (labels_of m.pairs) z from r) f h)

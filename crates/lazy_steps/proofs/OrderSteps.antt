@@ -299,7 +299,7 @@ module _ (ops : List Operator) (typed : IsTyped ops) (n : ℕ) (within : n < len
     pub sorted_few : length sorted ≤ size b ops n
     sorted_few = let l = sorted_length in let m = all.few in let s = order_size b in omega (arith, l, m, s)
 
-    -- the labels are those of the bindings
+    -- the labels by which positions were sorted are those of their bindings
     labels : IsTrue (is_told b ops) → (xs : List Labelled) → AreGiven b ops i v xs
         → AllByRecursion (λ x. x.label ≡ label_at (docs_of b) (row_node (binding b ops i x.place.value) v)) xs
     labels t [] g = tt

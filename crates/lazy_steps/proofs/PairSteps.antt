@@ -53,7 +53,7 @@ module _ (ops : List Operator) (n l r : ℕ) (tests : List Test) where
         both [] e = and_parts (single ops l) (single ops r) e
         both (t ∷ ts) e = cc
 
-    -- a walk begins with the left side
+    -- a walk over the pairs of a join begins with the events of its left side
     pub pairs_begin : (w : World) → IsBench w ops → (c : Position) → c ≡ Start
         → Goes w w ops n (stands w ops n (pairs_up l r tests) c).ahead (left_events w ops l r tests c) (weighs w ops n (pairs_up l r tests) c) (left_number w ops l r c)
     pairs_begin w bench c e =
@@ -61,11 +61,11 @@ module _ (ops : List Operator) (n l r : ℕ) (tests : List Test) where
         (goes_same (keeps_same w ops bench) (events_at ops typed n within (pairs_up l r tests) is (docs_of w)) (size_at ops typed n within (pairs_up l r tests) is w))
 
     module _ (a b : World) (bench : IsBench a ops) where
-      -- the events of the left bindings after, under the documents afterwards
+      -- the events of the left bindings that come later, under the documents after a call
       left_same : Keeps a b → (es : RowEvents) → left_ahead a ops r tests es ≡ left_ahead b ops r tests es
       left_same k es = ap (λ (z : Documents). expand (pairs z tests (events z ops r)) es) (sym (docs_kept k ops bench))
 
-      -- what a call of the left side may cost, it may cost here
+      -- what a call of the left side may cost, a call of the join may cost
       pub left_costs : (x : Position) → cost (ahead a ops l x) ≤ cost (left_events a ops l r tests x)
       left_costs x = cost-expand_le (pairs (docs_of a) tests (events (docs_of a) ops r)) (ahead a ops l x)
 
@@ -73,7 +73,7 @@ module _ (ops : List Operator) (n l r : ℕ) (tests : List Test) where
       pub left_done : (x : Position) → (FindsNone (telling a ops) (ahead a ops l x)) → FindsNone (telling a ops) (left_events a ops l r tests x)
       left_done x f t = found-expand_none (pairs (docs_of a) tests (events (docs_of a) ops r)) (ahead a ops l x) (f t)
 
-      -- a binding on the left, before the first on the right
+      -- a binding of the left side stands before its pairs with all members of the right side
       pub left_on : (x : Position) → Asks a b ops l (ahead a ops l x) → (d : Position) → Finds a b ops l (shape_at ops l) (ahead a ops l x) (number a ops l x) d → (q p : _)
           → Moves a b ops n (pairs_up l r tests) (left_events a ops l r tests x) (left_number a ops l r x) (Pair' q d p Start 0)
       left_on x k d f q p = record {
@@ -96,19 +96,19 @@ module _ (ops : List Operator) (n l r : ℕ) (tests : List Test) where
           later : side (binding b ops l d) ++ left_ahead a ops r tests (ahead b ops l d) ≡ pairs (docs_of b) tests (events (docs_of b) ops r) (binding b ops l d) ++ left_ahead b ops r tests (ahead b ops l d)
           later = ap (λ (z : Documents). pairs z tests (events z ops r) (binding b ops l d) ++ expand (pairs z tests (events z ops r)) (ahead b ops l d)) (sym (docs_kept k.kept ops bench))
 
-      -- beside a left position, from a position of the right side on
+      -- a walk beside a binding of the left side, from a position of the right side on
       module _ (x y : Position) (here : IsOf a ops l x) (row : IsTrue (has_row x)) (k : Asks a b ops n (ahead a ops r y)) where
         stays : Stays a b ops l x
         stays = cursors_kept a b k.kept ops bench l x here
 
-        -- the right side's events beside this binding, and those after them
+        -- the pairs of a left binding with the right side's events, and after them the pairs of later left bindings
         abbrev beside : RowEvents
         beside = pairs (docs_of a) tests (ahead a ops r y) (binding a ops l x)
 
         abbrev after : RowEvents
         after = left_ahead a ops r tests (ahead a ops l x)
 
-        -- what a call of it may cost on the right, it may cost here
+        -- what a call of the right side may cost, a call of the join may cost
         pub beside_asks : Asks a b ops n (beside_events a ops l r tests x y)
         beside_asks = record {
           kept = k.kept;
@@ -121,7 +121,7 @@ module _ (ops : List Operator) (n l r : ℕ) (tests : List Test) where
           none = k.none;
         }
 
-        -- the left number does not rise
+        -- the number of the left side's position doesn't rise by a call of the right side
         left_falls : left_number b ops l r x ≤ left_number a ops l r x
         left_falls =
             let m = mul-le (number b ops l x) (suc (size a ops r)) (number a ops l x) (suc (size a ops r)) stays.number_is (le_same (suc (size a ops r))) in
@@ -159,13 +159,13 @@ module _ (ops : List Operator) (n l r : ℕ) (tests : List Test) where
           past_falls : beside_number b ops l r x (suc p) < beside_number a ops l r x p
           past_falls = (let e = size_kept a b k.kept ops bench r in omega (arith, left_falls, e, few))
 
-          -- whether it is let through, under the documents before
+          -- whether a pair meets all comparisons, under the documents before a call
           lets_old : (v : Bool) → lets b ops l r tests x d ≡ v → passes_all (docs_of a) tests (binding a ops l x ++ binding b ops r d) ≡ v
           lets_old v h =
               ap (λ (z : Documents). passes_all z tests (binding a ops l x ++ binding b ops r d)) (sym (docs_kept k.kept ops bench))
               ∙ ap (λ (z : TolledRow). passes_all (docs_of b) tests (z ++ binding b ops r d)) (sym stays.binding_is) ∙ h
 
-          -- the events after the pair
+          -- the events after the pair of a left binding with a member
           pair_ahead : pairs (docs_of a) tests (ahead b ops r d) (binding a ops l x) ++ after ≡ beside_events b ops l r tests x d
           pair_ahead =
               ap (λ (z : Documents). pairs z tests (ahead b ops r d) (binding a ops l x) ++ expand (pairs z tests (events z ops r)) (ahead a ops l x)) (sym (docs_kept k.kept ops bench))
@@ -219,7 +219,7 @@ module _ (ops : List Operator) (n l r : ℕ) (tests : List Test) where
               → Moves a b ops n (pairs_up l r tests) (beside_events a ops l r tests x y) (beside_number a ops l r x p) (Pair' q x q' d (suc p))
           right_on q q' h = (let past = right_past h in record { cursor = pair_cursor q q'; falls = past_falls; found = past.comes.found; lazy = past.comes.lazy })
 
-          -- the event at its pair, as a step comes to it
+          -- the event at the pair with a member is the one to which a step comes
           pub member_steps : (s : Step) → IsMemberStep b ops l r tests (memo_at b n).pairs x p s → Steps a b ops n (pairs_up l r tests) (beside_events a ops l r tests x y) (beside_number a ops l r x p) s
           member_steps Done h = absurd h
           member_steps (At z) h =
@@ -234,7 +234,7 @@ module _ {v : View} {g : Growing} {p : Fixed} {n : ℕ} {c : Position} (can : Ca
   pub sides : (l < n) × (r < n)
   sides = (let h = inputs_at (operators p) can.fixed.typed n can.op (pairs_up l r tests) is in (h.0, h.1.0))
 
-  -- the left side can step from the beginning
+  -- the left side of a join can step from the position before all events
   pub left_can : c ≡ Start → CanStep v g p l c
   left_can e = record {
     fixed = can.fixed;
@@ -262,7 +262,7 @@ tests_fit ops typed n within l r tests is =
 module _ {S : Type 0} {view : S → View} {came_from : S → S → Type 0} {s t : S} {g h : Growing} {p : Fixed} {x : Position} (l r n : ℕ) (tests : List Test) (can : CanStep (view s) g p l x)
     (within : n < length (operators p)) (is : shape_at (operators p) n ≡ pairs_up l r tests)
     (ran : Ran view came_from (operators p) l (ahead (world_of (view s) g) (operators p) l x) s g t h) where
-  -- what a call of the left side leaves, as a call on the join
+  -- what a call of the left side leaves, as a call of the join
   pub left_ran : Ran view came_from (operators p) n (left_events (world_of (view s) g) (operators p) l r tests x) s g t h
   left_ran =
       ran_over ran (left_costs (operators p) n l r tests can.fixed.typed within is (world_of (view s) g) (world_of (view s) g) can.bench x)
@@ -273,7 +273,7 @@ module _ {S : Type 0} {view : S → View} {came_from : S → S → Type 0} {s t 
 module _ {S : Type 0} {view : S → View} {came_from : S → S → Type 0} {s t : S} {g h : Growing} {p : Fixed} {x : Position} (l r n : ℕ) (tests : List Test) (can : CanStep (view s) g p l x)
     (row : IsTrue (has_row x)) (within : n < length (operators p)) (is : shape_at (operators p) n ≡ pairs_up l r tests)
     (ran : Ran view came_from (operators p) n (ahead (world_of (view s) g) (operators p) r (last_at (world_of (view s) g) n)) s g t h) where
-  -- what a call that brings one more member of the right side leaves, as a call on the join
+  -- what a call that brings one more member of the right side leaves, as a call of the join
   pub beside_ran : Ran view came_from (operators p) n (beside_events (world_of (view s) g) (operators p) l r tests x (last_at (world_of (view s) g) n)) s g t h
   beside_ran = record {
     came = ran.came;
@@ -281,7 +281,7 @@ module _ {S : Type 0} {view : S → View} {came_from : S → S → Type 0} {s t 
     asks = beside_asks (operators p) n l r tests can.fixed.typed within is (world_of (view s) g) (world_of (view t) h) can.bench x (last_at (world_of (view s) g) n) can.cursor row ran.asks;
   }
 
-  -- without a member the left side goes on
+  -- where the right side has no further member, the pairs of the left side's next binding come next
   pub none_grown : FindsNone (telling (world_of (view s) g) (operators p)) (ahead (world_of (view s) g) (operators p) r (last_at (world_of (view s) g) n))
       → Goes (world_of (view s) g) (world_of (view t) h) (operators p) n (beside_events (world_of (view s) g) (operators p) l r tests x (last_at (world_of (view s) g) n))
       (left_events (world_of (view t) h) (operators p) l r tests x)

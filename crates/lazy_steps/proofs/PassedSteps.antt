@@ -49,15 +49,15 @@ last_push (y ∷ []) x = refl
 last_push (y ∷ z ∷ xs) x = last_push (z ∷ xs) x
 
 module _ (ops : List Operator) (n i : ℕ) (keys : List Key) (group : Option (Piece × ℕ)) where
-  -- the operator's events over these
+  -- the events of an operator that keeps first bindings, over events of its input and keys seen before them
   abbrev pub first_events : Documents → List (List KeyValue) → RowEvents → RowEvents
   first_events docs seen es = distinct docs keys (kept_row docs keys (stops_over ops i keys) group) seen es
 
-  -- the keys that it sees there
+  -- the keys that an operator that keeps first bindings has seen over events of its input
   abbrev next_keys : Documents → List (List KeyValue) → RowEvents → List (List KeyValue)
   next_keys docs seen es = keys_seen docs keys seen es
 
-  -- a new binding, and the events after it
+  -- a binding of a new key is the first of an operator that keeps first bindings, and its later events follow
   abbrev first_found : Documents → List (List KeyValue) → TolledRow → RowEvents → Find TolledRow
   first_found docs seen row es = finds (kept_row docs keys (stops_over ops i keys) group row es) (first_events docs seen es)
 
@@ -65,15 +65,15 @@ module _ (ops : List Operator) (n i : ℕ) (keys : List Key) (group : Option (Pi
     module _ (b : World) (bench : IsBench a ops) (kept : Keeps a b) (d : Position) (f : Finds a b ops i (shape_at ops i) (ahead a ops i c) (number a ops i c) d)
         (late : IsBench b ops) (key : List KeyPart) (parts : AllByRecursion (IsPart b) key)
         (val : IsTrue (is_told b ops) → map (part_value b) key ≡ key_values (docs_of b) keys (binding b ops i d)) (ones : SpotsAreOne) where
-      -- the operator keeps the first bindings of its input by these keys
+      -- an operator of this shape keeps the first bindings of its input by these keys
       drops_is : drops_by (shape_at ops n) ≡ Some (i, keys)
       drops_is = ap drops_by is
 
-      -- the documents are the same
+      -- the documents that a bench tells are the same after a call
       same_docs : docs_of b ≡ docs_of a
       same_docs = docs_kept kept ops bench
 
-      -- the keys that were seen up to the position compare the same
+      -- the keys that were seen up to a position compare the same after a call
       same_seen : up_to b n few ≡ up_to a n few
       same_seen = seen_kept a b kept ops bench n few h.within
 
@@ -81,18 +81,18 @@ module _ (ops : List Operator) (n i : ℕ) (keys : List Key) (group : Option (Pi
       was_told : IsTrue (is_told b ops) → IsTrue (is_told a ops)
       was_told t = subst IsTrue (told-kept kept ops) t
 
-      -- the values of the key of the input's next binding are those of its parts
+      -- the values of the key of the input's next binding are those of the key's parts
       key_is : IsTrue (is_told b ops) → map (part_value b) key ≡ key_values (docs_of a) keys (binding b ops i d)
       key_is t = val t ∙ ap (λ (z : Documents). key_values z keys (binding b ops i d)) same_docs
 
-      -- whether it was seen up to the position
+      -- whether the key of the input's next binding is among those that were seen up to a position
       same_test : IsTrue (is_told a ops) → is_seen (key_values (docs_of a) keys (binding b ops i d)) (up_to a n few) ≡ was_seen key (take few (seen_at b n))
       same_test t =
           ap (λ (z : List KeyValue). is_seen z (up_to a n few)) (sym (key_is (still_told (tells_on kept ops) t)))
           ∙ ap (is_seen (map (part_value b) key)) (sym same_seen)
           ∙ sym (was_seen-is ones b key (take few (seen_at b n)) parts (all_take (AllByRecursion (IsPart b)) (seen_at b n) few (late.parts n)))
 
-      -- the events after the binding, with no new key
+      -- the operator's events after the input's next binding, where no key is new
       pub later_same : first_events (docs_of b) (up_to b n few) (ahead b ops i d) ≡ first_events (docs_of a) (up_to a n few) (ahead b ops i d)
       later_same =
           ap (λ (z : Documents). first_events z (up_to b n few) (ahead b ops i d)) same_docs
@@ -112,7 +112,7 @@ module _ (ops : List Operator) (n i : ℕ) (keys : List Key) (group : Option (Pi
           distinct_new (docs_of a) keys (kept_row (docs_of a) keys (stops_over ops i keys) group) (up_to a n few) (ahead a ops i c)
           (binding b ops i d) (ahead b ops i d) (f.found t) (same_test t ∙ m)
 
-      -- whether a binding has the keys of another
+      -- whether a binding has the keys of another binding
       abbrev has_keys : TolledRow → TolledRow → Bool
       has_keys row r = same_values (key_values (docs_of a) keys row) (key_values (docs_of a) keys r)
 
@@ -153,7 +153,7 @@ module _ (ops : List Operator) (n i : ℕ) (keys : List Key) (group : Option (Pi
             costs = omega (arith, past.costs, (old t m).costs, l, o);
           }
 
-      -- the walk has passed the binding where its key was seen
+      -- where its key was seen, the walk over the input has passed the input's next binding
       pub passed_old : was_seen key (take few (seen_at b n)) ≡ true → IsPassed b ops n i keys group d few
       passed_old m = record {
         cursor = f.cursor;
@@ -188,15 +188,15 @@ module _ (ops : List Operator) (n i : ℕ) (keys : List Key) (group : Option (Pi
       module _ (seen : List (List (List KeyPart))) (walked : Walked) (g : GrowsAt b.seen seen n key)
           (pushed : length (slice_index_or seen n []) ≡ length (seen_at b n) + 1 → (few ≡ length (seen_at b n)) × (was_seen key (take few (seen_at b n)) ≡ false))
           (reached : walked.reached ≡ b.walked.reached) (found_there : FoundStay b (world b.view b.buffers seen b.memos walked)) where
-        -- what is left where the keys that were seen may have grown, and groups were walked on
+        -- the world in which the keys that were seen may have grown, and groups were walked on
         abbrev here : World
         here = world b.view b.buffers seen b.memos walked
 
-        -- what the growing list keeps
+        -- what a list of keys keeps that may have grown by one
         pub kept_here : Keeps b here
         kept_here = grows_keeps b seen walked n key g found_there
 
-        -- where the list grew, it did so by a new key at the end of those seen up to the position
+        -- a list of keys that grew did so by a new key at the end of those seen up to the position
         at_end : slice_index_or seen n [] ≡ seen_at b n ++ key ∷ [] → (few ≡ length (seen_at b n)) × (was_seen key (take few (seen_at b n)) ≡ false)
         at_end y = pushed (let l = length-append (seen_at b n) (key ∷ []) in let j = ap length y in omega (arith, l, j))
 
@@ -300,7 +300,7 @@ module _ (ops : List Operator) (n i : ℕ) (keys : List Key) (group : Option (Pi
               ∙ ap (λ (z : TolledRow). first_found (docs_of b) (seen_values b (take (suc few) (slice_index_or seen n []))) z (ahead b ops i d)) (sym stay.binding_is)
               ∙ ap (first_found (docs_of b) (seen_values b (take (suc few) (slice_index_or seen n []))) (binding here ops i d)) (sym stay.ahead_is)
 
-          -- the operator may stand there
+          -- an operator that keeps first bindings may stand at a binding of a new key
           pub first_new : shape_apart ops (passes_on i (first_by_keys keys group)) ≡ false → (gathers_by ops (passes_on i (first_by_keys keys group)) ≡ true → IsFound here n (suc few) 0 d)
               → (q : _) → IsIn here ops n (passes_on i (first_by_keys keys group)) (First' q d (suc few))
           first_new some gathered q = (

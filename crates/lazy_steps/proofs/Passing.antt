@@ -75,7 +75,7 @@ module _ (ops : List Operator) (n l r : ℕ) (tests : List Test) (typed : IsType
   fits_all : AllByRecursion (LinkFits (kinds ops l) (kinds ops r)) (links_at ops n)
   fits_all = join_fits ops typed n within l r tests is (links_at ops n) refl
 
-  -- where the two sides agree or don't, so do they in their pair
+  -- two sides that agree by a link do so in their pair
   pair_agrees : (d : Position) (link : Link) (verdict : Bool) → LinkFits (kinds ops l) (kinds ops r) link
       → Agree link.by (docs_of w) (row_node (binding w ops l x) link.left) (row_node (binding w ops r d) link.right) verdict
       → Agree link.by (docs_of w) (row_node (binding w ops l x ++ binding w ops r d) link.left) (row_node (binding w ops l x ++ binding w ops r d) link.right) verdict
@@ -113,7 +113,7 @@ module _ (ops : List Operator) (n l r : ℕ) (tests : List Test) (typed : IsType
   same_fed d of at link fits by_label h = ap (fed.slice fed.u8) (sym h)
   same_fed d of at link fits by_node h = ap spot_fed (same_spots d of at link fits h)
 
-  -- a pair is alike by a link
+  -- a pair that meets a comparison is alike by the link of that comparison
   abbrev AlikeBy : Position → Link → Type 0
   AlikeBy d link = Alike link.by (docs_of w) (row_node (binding w ops l x ++ binding w ops r d) link.left) (row_node (binding w ops l x ++ binding w ops r d) link.right)
 
@@ -207,7 +207,7 @@ module _ (ops : List Operator) (n l r : ℕ) (tests : List Test) (typed : IsType
       let h = pair_in at.0 at.1 p less in
       subst (λ (c : Position). IsOf w ops n c × IsTrue (has_row c)) (sym at.2) (subst (λ (f : Shape). IsIn w ops n f (Pair' at.0 x at.1 (passed ms (suc p)) (suc p))) (sym is) h.0, h.1)
 
-  -- whether the comparisons hold there
+  -- whether the pair with the member at a place meets all comparisons
   pair_lets : (p : ℕ) (z : Position) → IsPairAt ms x p z → passes_all (docs_of w) tests (binding w ops n z) ≡ lets w ops l r tests x (passed ms (suc p))
   pair_lets p z at =
       ap (λ (c : Position). passes_all (docs_of w) tests (binding w ops n c)) at.2
@@ -217,7 +217,7 @@ module _ (ops : List Operator) (n l r : ℕ) (tests : List Test) (typed : IsType
   pub pair_stands : (p : ℕ) → p < length ms → (z : Position) → IsPairAt ms x p z → IsOf w ops n z × (passes_all (docs_of w) tests (binding w ops n z) ≡ lets w ops l r tests x (passed ms (suc p)))
   pair_stands p less z at = ((pair_is p less z at).0, pair_lets p z at)
 
-  -- the event at the pair with the next member, as a step comes to it
+  -- the event at the pair with the next member is the one to which a step comes
   pub known_steps : (k p : ℕ) → (k ≤ p) × (p < length ms) → (IsTrue (is_told w ops) → NoneBetween ms (sought_label w ops l (links_at ops n) x) k p)
       → (res : Result Step WalkFault) → IfOk res (IsMemberStep w ops l r tests ms x p)
       → IfOk res (Steps w w ops n (pairs_up l r tests) (beside_events w ops l r tests x (passed ms k)) (beside_number w ops l r x k))
@@ -251,21 +251,21 @@ module _ (ops : List Operator) (n l r : ℕ) (tests : List Test) (typed : IsType
     pub grown_length : length (memo_at b n).pairs ≡ suc (length ms)
     grown_length = (let e = ap length now in let c = length-append ms (g.0 ∷ []) in omega (arith, e, c))
 
-    -- the member that was found stands after the others of its memo
+    -- a member that a call brought stands after the others of its memo
     there : passed (memo_at b n).pairs (suc (length ms)) ≡ g.0.1.value
     there = ap (λ (xs : List Member). passed xs (suc (length ms))) now ∙ take_more Start ms g.0 (length ms) refl
 
     last_there : passed (memo_at b n).pairs (suc (length ms)) ≡ last_at b n
     last_there = ap (last_of Start) (take_all (memo_at b n).pairs (suc (length ms)) (sym grown_length))
 
-    -- the event at its pair, as a step comes to it
+    -- the event at the pair with a member that a call brought is the one to which a step comes
     pub grown_steps : (s : Step) → IsMemberStep b ops l r tests (memo_at b n).pairs x (length ms) s
         → Steps w b ops n (pairs_up l r tests) (beside_events w ops l r tests x (last_at w n)) (beside_number w ops l r x (length ms)) s
     grown_steps s h =
         let f = g.2 in
         member_steps ops n l r tests typed within is w b bench x (last_at w n) here row k g.0.1.value (length ms) f.cursor f.row f.found grown_few (omega (arith, grown_length)) there s h
 
-    -- the events after it, where the comparisons don't let it through
+    -- the events after the pair with a member that a call brought, where a comparison doesn't hold
     pub grown_past : (IsTrue (is_told b ops) → lets b ops l r tests x (passed (memo_at b n).pairs (suc (length ms))) ≡ false)
         → Goes w b ops n (beside_events w ops l r tests x (last_at w n)) (beside_events b ops l r tests x (last_at b n)) (beside_number w ops l r x (length ms))
         (beside_number b ops l r x (length (memo_at b n).pairs))
@@ -296,7 +296,7 @@ module _ {S : Type 0} {view : S → View} {came_from : S → S → Type 0} {s t 
   only : (j : ℕ) → (k ≤ j) × (j < length (memo_at b n).pairs) → j ≡ length (memo_at a n).pairs
   only j there = omega (arith, there.0, there.1, one_more, after)
 
-  -- where it isn't found, the events after it are ahead
+  -- where a member that a call brought isn't looked up, the events after it are ahead
   pub more_goes : (res : Option ℕ) → ((j : ℕ) → res ≡ Some j → ⊥)
       → (IsTrue (is_told b (operators p)) → IsNextPlace (memo_at b n).pairs (sought_label b (operators p) l (links_at (operators p) n) x) k res)
       → Goes a b (operators p) n (beside_events a (operators p) l r tests x (last_at a n)) (beside_events b (operators p) l r tests x (last_at b n))
@@ -324,7 +324,7 @@ module _ {S : Type 0} {view : S → View} {came_from : S → S → Type 0} {s t 
       let few = grown_few (operators p) n l r tests can.fixed.typed within is a can.bench x can.cursor row b ran.asks grown in
       omega (arith, same, few, one_more, after)
 
-  -- the event at its pair, as a step comes to it
+  -- the event at the pair with a member that was looked up is the one to which a step comes
   pub more_steps : (j : ℕ) → (k ≤ j) × (j < length (memo_at b n).pairs) → (res : Result Step WalkFault) → IfOk res (IsMemberStep b (operators p) l r tests (memo_at b n).pairs x j)
       → IfOk res (Steps a b (operators p) n (pairs_up l r tests) (beside_events a (operators p) l r tests x (last_at a n)) (beside_number a (operators p) l r x (length (memo_at a n).pairs)))
   more_steps j there res h = IfOk-weaker res _ _ (λ z m. grown_steps (operators p) n l r tests can.fixed.typed within is a can.bench x can.cursor row b ran.asks grown z

@@ -46,7 +46,7 @@ module _ (key : List KeyPart) where
   nowhere (x ∷ xs) (suc j) l h = nowhere xs j (omega (arith, l)) (neither (same_parts x key) (was_seen key xs) h).1
 
   module _ (xs : List (List KeyPart)) (m : ℕ) (within : m < length xs) (known : (few : ℕ) → nat_lt m few ≡ was_seen key (take few xs)) where
-    -- a key of this number stands there
+    -- a key of a number stands at its place
     pub stands_there : same_parts (slice_index_or xs m []) key ≡ true
     stands_there = there_first xs m within (sym (known m) ∙ not_below m) (sym (known (suc m)) ∙ below m)
       where

@@ -68,7 +68,7 @@ next_sought {S} {view} {came_from} {ops} {s} {t} {g} {h} m k e src d top c r sou
     subst (λ (z : Machine). SoughtBeside view came_from ops z src (match_ahead (world_of (view s) g) src z d) top c s g t h r) e sought
 
 module _ (ops : List Operator) (n i start : ℕ) (path : Form) (out : ℕ) where
-  -- the shape of the getDescendants
+  -- the shape of a getDescendants
   abbrev F : Shape
   F = visits_below i start path out
 
@@ -83,7 +83,7 @@ module _ (ops : List Operator) (n i start : ℕ) (path : Form) (out : ℕ) where
     pub visits_single : IsTrue (single ops n) → ⊥
     visits_single s = let z : true ≡ false = sym s ∙ single_at ops typed n within F is in cc
 
-    -- a walk begins with the input
+    -- a walk over the matches of a getDescendants begins with the events of its input
     pub visits_begin : (w : World) → IsBench w ops → (c : Position) → c ≡ Start
         → Goes w w ops n (stands w ops n F c).ahead (visit_events w ops i start path out c) (weighs w ops n F c) (visit_number w ops i c)
     visits_begin w bench c e =
@@ -91,7 +91,7 @@ module _ (ops : List Operator) (n i start : ℕ) (path : Form) (out : ℕ) where
         (goes_same (keeps_same w ops bench) (events_at ops typed n within F is (docs_of w)) (size_at ops typed n within F is w))
 
     module _ (a b : World) (bench : IsBench a ops) (c : Position) where
-      -- what a call below may cost, it may cost here
+      -- what a call of the input may cost, a call of the getDescendants may cost
       pub visits_costs : cost (ahead a ops i c) ≤ cost (visit_events a ops i start path out c)
       visits_costs = cost-expand_le (descendants (docs_of a) start path out) (ahead a ops i c)
 
@@ -99,7 +99,7 @@ module _ (ops : List Operator) (n i start : ℕ) (path : Form) (out : ℕ) where
       pub visits_done : (FindsNone (telling a ops) (ahead a ops i c)) → FindsNone (telling a ops) (visit_events a ops i start path out c)
       visits_done f t = found-expand_none (descendants (docs_of a) start path out) (ahead a ops i c) (f t)
 
-      -- a binding below: what is ahead are the events of its visit and those after
+      -- after a binding of the input the events of its visit are ahead, and then those of the input's later bindings
       pub visits_on : Asks a b ops i (ahead a ops i c) → (d : Position) → Finds a b ops i (shape_at ops i) (ahead a ops i c) (number a ops i c) d
           → Goes a b ops n (visit_events a ops i start path out c) (descendants (docs_of b) start path out (binding b ops i d) ++ visit_events b ops i start path out d)
           (visit_number a ops i c) (visit_number b ops i d + suc (bound_of b))
@@ -131,7 +131,7 @@ module _ (ops : List Operator) (n i start : ℕ) (path : Form) (out : ℕ) where
     -- a call of the visit from a binding of the input, over these places of it
     module _ (a b : World) (k : Keeps a b) (bench : IsBench a ops) (c : Position) (of : IsOf a ops i c) (row : IsTrue (has_row c)) (s : ℕ) (source : (row_node (binding a ops i c) start).source ≡ s)
         (read : IsRead ops s) (places : List (Event (List ℕ))) (lazy : AsksAtMost (telling a ops) (telling b ops) (cost places)) (untouched : (j : ℕ) → IsUntouched a b j) where
-      -- the events of the visit that are ahead, those after it, and all
+      -- the events of a visit that are ahead, and after them those of the visits from later bindings of the input
       abbrev visit : RowEvents
       visit = nodes_found out (row_node (binding a ops i c) start) (binding a ops i c) places
 
@@ -141,7 +141,7 @@ module _ (ops : List Operator) (n i start : ℕ) (path : Form) (out : ℕ) where
       visit_cost : cost visit ≡ cost places
       visit_cost = cost-nodes out (row_node (binding a ops i c) start) (binding a ops i c) places
 
-      -- what a call of the visit asked, the events of the visit and those after it allow
+      -- what a call of a visit asked, the events of the getDescendants allow
       pub visit_asks : Asks a b ops n (visit ++ rest)
       visit_asks = record {
         kept = k;
@@ -158,7 +158,7 @@ module _ (ops : List Operator) (n i start : ℕ) (path : Form) (out : ℕ) where
           let l = mul-le (number b ops i c) (suc (suc (bound_of a))) (number a ops i c) (suc (suc (bound_of a))) stays.number_is (le_same (suc (suc (bound_of a)))) in
           subst (λ (z : ℕ). number b ops i c * suc (suc z) ≤ visit_number a ops i c) (sym (bound_kept k ops bench)) l
 
-      -- no match is left in the visit
+      -- a visit that has no more matches is passed
       pub visit_over : (top : ℕ) → (FindsNone (telling a ops) places)
           → Goes a b ops n (visit ++ rest) (visit_events b ops i start path out c) (visit_number a ops i c + top) (visit_number b ops i c)
       visit_over top f = record {
@@ -186,7 +186,7 @@ module _ (ops : List Operator) (n i start : ℕ) (path : Form) (out : ℕ) where
               ap (λ (z : Documents). expand (descendants z start path out) (ahead a ops i c)) (sym (docs_kept k ops bench))
               ∙ ap (expand (descendants (docs_of b) start path out)) (sym stays.ahead_is)
 
-      -- the next match of the visit
+      -- the next match of a visit is the getDescendants' next binding
       pub visit_at : (top : ℕ) (m : DescCursor) → Searches.Finds (telling a ops) (matches b (machine_of (table_of path)) s) places top m → (u : _)
           → Finds a b ops n F (visit ++ rest) (visit_number a ops i c + top) (Found' s u c m)
       visit_at top m f u = record {
@@ -208,7 +208,7 @@ pub input_before : (ops : List Operator) → IsTyped ops → (n : ℕ) → n < l
 input_before ops typed n within i start path out is = (inputs_at ops typed n within (visits_below i start path out) is).0
 
 module _ {v : View} {g : Growing} {p : Fixed} {n : ℕ} {c : Position} (can : CanStep v g p n c) (i start : ℕ) (path : Form) (out : ℕ) (is : shape_at (operators p) n ≡ visits_below i start path out) where
-  -- the input has a smaller number
+  -- the input of a getDescendants has a smaller number
   pub input_below : i < n
   input_below = input_before (operators p) can.fixed.typed n can.op i start path out is
 
@@ -216,7 +216,7 @@ module _ {v : View} {g : Growing} {p : Fixed} {n : ℕ} {c : Position} (can : Ca
   pub starts_node : kinds (operators p) i start ≡ Some a_node
   starts_node = (fit_at (operators p) can.fixed.typed n can.op (visits_below i start path out) is).0
 
-  -- the input can step from the beginning
+  -- the input of a getDescendants can step from the position before all events
   pub start_can : c ≡ Start → CanStep v g p i c
   start_can e = record {
     fixed = can.fixed;
@@ -230,7 +230,7 @@ module _ {v : View} {g : Growing} {p : Fixed} {n : ℕ} {c : Position} (can : Ca
     pub in_visit : IsIn (world_of v g) (operators p) n (visits_below i start path out) (Found' s q x d)
     in_visit = in_place can (visits_below i start path out) is (Found' s q x d) e
 
-    -- the input can step from there
+    -- the input of a getDescendants can step from the binding below a match
     pub input_can : CanStep v g p i x
     input_can = record { fixed = can.fixed; op = (let h = input_below in let m = can.op in omega (arith, h, m)); bench = can.bench; cursor = in_visit.0 }
 
@@ -239,13 +239,13 @@ module _ {S : Type 0} {view : S → View} {came_from : S → S → Type 0} {s t 
     (is : shape_at (operators p) n ≡ visits_below i start path out) (x : Position) (can : CanStep (view s) g p i x) (row : IsTrue (has_row x)) (src : ℕ)
     (source : (row_node (binding (world_of (view s) g) (operators p) i x) start).source ≡ src) (read : IsRead (operators p) src) (places : List (Event (List ℕ)))
     (asked : Asked view came_from (operators p) places s g t h) where
-  -- the events from these places on
+  -- the events of a getDescendants from these places of a visit on
   abbrev visit_whole : RowEvents
   visit_whole =
       let w = world_of (view s) g in
       nodes_found out (row_node (binding w (operators p) i x) start) (binding w (operators p) i x) places ++ visit_events w (operators p) i start path out x
 
-  -- what a call of the visit leaves, as a call on the getDescendants
+  -- what a call of a visit leaves, as a call of the getDescendants
   pub visit_ran : Ran view came_from (operators p) n visit_whole s g t h
   visit_ran = record {
     came = asked.came;
@@ -253,14 +253,14 @@ module _ {S : Type 0} {view : S → View} {came_from : S → S → Type 0} {s t 
     asks = visit_asks (operators p) n i start path out can.fixed.typed op is (world_of (view s) g) (world_of (view t) h) asked.kept can.bench x can.cursor row src source read places asked.lazy asked.untouched;
   }
 
-  -- without a match the input goes on
+  -- after a visit without a match the events from the input's later bindings on are ahead
   pub visit_then : (top : ℕ) → (FindsNone (telling (world_of (view s) g) (operators p)) places)
       → Goes (world_of (view s) g) (world_of (view t) h) (operators p) n visit_whole (visit_events (world_of (view t) h) (operators p) i start path out x)
       (visit_number (world_of (view s) g) (operators p) i x + top) (visit_number (world_of (view t) h) (operators p) i x)
   visit_then top done =
       visit_over (operators p) n i start path out can.fixed.typed op is (world_of (view s) g) (world_of (view t) h) asked.kept can.bench x can.cursor row src source read places asked.lazy asked.untouched top done
 
-  -- a match is the next binding
+  -- the first match of a visit is the getDescendants' next binding
   pub visit_found : (top : ℕ) (m : DescCursor) → Searches.Finds (telling (world_of (view s) g) (operators p)) (matches (world_of (view t) h) (machine_of (table_of path)) src) places top m
       → (z : Position) {u : _} → z ≡ Found' src u x m
       → Finds (world_of (view s) g) (world_of (view t) h) (operators p) n (visits_below i start path out) visit_whole (visit_number (world_of (view s) g) (operators p) i x + top) z
@@ -275,12 +275,12 @@ module _ {S : Type 0} {view : S → View} {came_from : S → S → Type 0} {s t 
   here : IsIn (world_of (view s) g) (operators p) n (visits_below i start path out) (Found' src q x d)
   here = in_visit can i start path out is q x src d e
 
-  -- what a call of the visit after a match leaves, as a call on the getDescendants
+  -- what a call of a visit after a match leaves, as a call of the getDescendants
   pub match_ran : Ran view came_from (operators p) n (stands (world_of (view s) g) (operators p) n (visits_below i start path out) (Found' src q x d)).ahead s g t h
   match_ran =
       visit_ran i start path out can.op is x (input_can can i start path out is q x src d e) here.1 src here.2 here.3 (match_ahead (world_of (view s) g) src (machine_of (table_of path)) d) asked
 
-  -- without a match the input goes on
+  -- after the last match of a visit the events from the input's later bindings on are ahead
   pub match_then : (FindsNone (telling (world_of (view s) g) (operators p)) (match_ahead (world_of (view s) g) src (machine_of (table_of path)) d))
       → Goes (world_of (view s) g) (world_of (view t) h) (operators p) n (stands (world_of (view s) g) (operators p) n (visits_below i start path out) (Found' src q x d)).ahead
       (visit_events (world_of (view t) h) (operators p) i start path out x) (weighs (world_of (view s) g) (operators p) n (visits_below i start path out) (Found' src q x d))
@@ -289,7 +289,7 @@ module _ {S : Type 0} {view : S → View} {came_from : S → S → Type 0} {s t 
       visit_then i start path out can.op is x (input_can can i start path out is q x src d e) here.1 src here.2 here.3 (match_ahead (world_of (view s) g) src (machine_of (table_of path)) d) asked
       (match_number (world_of (view s) g) src d)
 
-  -- a match is the next binding
+  -- a later match of a visit is the getDescendants' next binding
   pub match_found : (m : DescCursor)
       → Searches.Finds (telling (world_of (view s) g) (operators p)) (matches (world_of (view t) h) (machine_of (table_of path)) src)
       (match_ahead (world_of (view s) g) src (machine_of (table_of path)) d) (match_number (world_of (view s) g) src d) m
@@ -305,7 +305,7 @@ module _ {S : Type 0} {view : S → View} {came_from : S → S → Type 0} {s t 
 module _ {S : Type 0} {view : S → View} {came_from : S → S → Type 0} {s t : S} {g h : Growing} {p : Fixed} {n : ℕ} (i start : ℕ) (path : Form) (out : ℕ) (op : n < length (operators p))
     (is : shape_at (operators p) n ≡ visits_below i start path out) (x : Position) (can : CanStep (view s) g p i x)
     (ran : Ran view came_from (operators p) i (ahead (world_of (view s) g) (operators p) i x) s g t h) where
-  -- what a call of the input leaves, as a call on the getDescendants
+  -- what a call of the input leaves, as a call of the getDescendants
   pub start_ran : Ran view came_from (operators p) n (visit_events (world_of (view s) g) (operators p) i start path out x) s g t h
   start_ran =
       ran_over ran (visits_costs (operators p) n i start path out can.fixed.typed op is (world_of (view s) g) (world_of (view s) g) can.bench x)
@@ -313,7 +313,7 @@ module _ {S : Type 0} {view : S → View} {came_from : S → S → Type 0} {s t 
 
   module _ (d : Position)
       (f : Finds (world_of (view s) g) (world_of (view t) h) (operators p) i (shape_at (operators p) i) (ahead (world_of (view s) g) (operators p) i x) (number (world_of (view s) g) (operators p) i x) d) where
-    -- the input can step from there
+    -- the input of a getDescendants can step from the binding to which it came
     pub start_at : CanStep (view t) h p i d
     start_at = record { fixed = can.fixed; op = can.op; bench = ran.bench; cursor = f.cursor }
 

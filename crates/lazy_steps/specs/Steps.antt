@@ -1,5 +1,5 @@
 -- What calls over the events of an operator come to.
-use Rattle.std.specs.Prelude.{◌≡◌, ◌+◌, ◌*◌, suc, ◌⊎◌, ◌++◌, ◌∷◌, [], ℕ, Bool, true, false, IsTrue, List, Result, IfOk, Option, None, Some, option_map, ◌<◌, length, take, slice_index_or}
+use Rattle.std.specs.Prelude.{◌≡◌, ◌*◌, suc, ◌⊎◌, ◌++◌, ◌∷◌, [], ℕ, Bool, true, false, IsTrue, List, Result, IfOk, Option, None, Some, option_map, ◌<◌, length, slice_index_or}
 use Rattle.mix_base.specs.Events.{Event, cost}
 use Rattle.lazy_descend.specs.Searches as Searches
 use Rattle.lazy_descend.specs.Searches.{Telling, Cursors, AsksAtMost, Outcome, over, at_row, at_event, GivesFirst}
@@ -17,8 +17,7 @@ use Rattle.plan_core.specs.Events.{RowEvents, expand, descendants}
 use Rattle.plan_core.specs.TolledRows.{TolledRow}
 use Rattle.lxp_core.specs.declared.fault.WalkFault.{WalkFault}
 use Rattle.lazy_binding.specs.declared.key.KeyPart.{KeyPart}
-use Rattle.lazy_binding.specs.declared.position.Position.{Position, First', Seen'}
-use Rattle.lazy_binding.specs.Keys.{was_seen}
+use Rattle.lazy_binding.specs.declared.position.Position.{Position}
 use Rattle.lazy_steps.specs.declared.step.Step.{Step}
 use Rattle.lazy_steps.specs.declared.step.Step.TheVariants.{Done, At, On}
 use Rattle.lazy_binding.specs.Bench.{IsBench}
@@ -232,17 +231,3 @@ pub record GrowsAt (old new : List (List (List KeyPart))) (n : ℕ) (key : List 
   pub lists : length new ≡ length old
   pub others : (j : ℕ) → (j ≡ n → ⊥) → slice_index_or new j [] ≡ slice_index_or old j []
   pub here : (slice_index_or new n [] ≡ slice_index_or old n []) ⊎ (slice_index_or new n [] ≡ slice_index_or old n [] ++ key ∷ [])
-
--- position d stands at the first binding with its keys, which position c of the input has, and k keys were seen up to it
-abbrev pub IsFirst : Position → Position → ℕ → Type 0
-IsFirst d c k = (q : _) × (d ≡ First' q c k)
-
--- position d stands at a later binding with keys that were seen, which position c of the input has, and k keys were seen up to it
-abbrev pub IsSeen : Position → Position → ℕ → Type 0
-IsSeen d c k = (q : _) × (d ≡ Seen' q c k)
-
--- a step at position c of the input, whose binding has this key, comes to a binding exactly where the key is not among the first k that were seen
-abbrev pub IsKeyEvent : List (List KeyPart) → List (List KeyPart) → List KeyPart → Position → ℕ → Step → Type 0
-IsKeyEvent old new key c k Done = ⊥
-IsKeyEvent old new key c k (At d) = IsFirst d c (k + 1) × (was_seen key (take k old) ≡ false) × (k < length new)
-IsKeyEvent old new key c k (On d) = IsSeen d c k × (was_seen key (take k old) ≡ true) × (new ≡ old)

@@ -8,10 +8,9 @@ ghost use Rattle.lazy_binding.specs.Parts.{operators, world_of, IsFixed};
 ghost use Rattle.lazy_steps.specs.Gathers.{GathersGroups, GrewGroups, IsNextGroup};
 ghost use Rattle.lazy_steps.specs.Steps.{CanWalk, AdvancedOn, GrowsAt};
 
-use crate::firsts::KeyEvent;
 use crate::steps::advance;
 use lazy_binding::growth::end_groups;
-use lazy_binding::{Growing, Position, SeenKeys, Walk, Walked, put, seen_up_to, share};
+use lazy_binding::{Growing, KeyTuple, Position, SeenKeys, Walk, Walked, put, seen_up_to, share};
 use lxp_core::{Sources, WalkFault};
 use mix_tree::Key;
 use std::alloc::Global;
@@ -24,6 +23,13 @@ pub struct Gather<'a> {
     pub walk: Walk<'a>,
     pub input: usize,
     pub keys: &'a [Key],
+}
+
+/// An event of an input: where it stands, and what the keys compare of it.
+#[derive(Drop)]
+struct KeyEvent {
+    below: Rc<Position>,
+    key: KeyTuple,
 }
 
 /// An event of an operator's input is one more member of the group of its key, or the first of a new one.

@@ -6,35 +6,35 @@ use Rattle.std.specs.Prelude.{not, true}
 use Rattle.plan_core.specs.Fronts.{op_stops}
 use Rattle.lazy_steps.specs.Gathers.{GathersGroups}
 use Rattle.plan_core.specs.PlanMade.{op_of}
-use Rattle.plan_core.specs.Shapes.{visits_below, shape_of, filters, first_by_keys, pairs_up, passes_on}
-use Rattle.lazy_binding.specs.declared.position.Position.{Position, Start}
-use Rattle.lazy_binding.specs.Cursors.{ahead, gathers_by, IsRead}
+use Rattle.plan_core.specs.Shapes.{visits_below, shape_of, first_by_keys, pairs_up, passes_on}
+use Rattle.lazy_binding.specs.declared.position.Position.{Position, Start, Pass', Seen'}
+use Rattle.lazy_binding.specs.Reading.{count_of}
+use Rattle.lazy_binding.specs.Cursors.{gathers_by, IsRead}
 use Rattle.plan_core.specs.declared.plan.Piece.{Piece}
 use Rattle.lazy_binding.specs.Parts.{operators, shape_walked, world_of}
 use Rattle.lazy_binding.proofs.Keep.{keeps_same}
 use Rattle.lazy_binding.proofs.Stay.{cursors_kept}
 use Rattle.lazy_binding.proofs.KeyParts.{keys_fit}
 use Rattle.lazy_descend.proofs.Searches.{comes_none, comes_at}
-use Rattle.lazy_steps.proofs.Goes.{goes_same, goes_then, goes_result, goes_gives, ran_then, ran_over, ran_nothing, shaped, in_shape, placed, in_place, led, led_at}
-use Rattle.lazy_steps.proofs.Ways.{way_start, way_ran, way_on, way_resumed}
+use Rattle.lazy_steps.proofs.Goes.{goes_same, goes_then, goes_result, goes_gives, ran_then, ran_nothing, shaped, in_shape, placed, in_place, led, led_at}
+use Rattle.lazy_steps.proofs.Ways.{way_start, way_ran, way_on, way_resumed, resumed_count, way_can, way_under, way_none}
 use Rattle.lazy_steps.proofs.Singles.{end_over}
 use Rattle.std.proofs.Common.{length}
 use Rattle.join_memo.specs.Kept.{Kept}
 use Rattle.lazy_binding.specs.World.{last_of, bound_of}
 use Rattle.lazy_binding.proofs.Bound.{inputs_at}
-use Rattle.lazy_steps.specs.Steps.{CanStep, KeepsFirsts}
+use Rattle.lazy_steps.specs.Steps.{at_of, CanStep, KeepsFirsts}
 use Rattle.std.proofs.Common.{Some, None}
 use Rattle.lazy_steps.proofs.Growing.{memo_read}
 use Rattle.lazy_steps.proofs.Grown.{last_can, grow_ran, refused_ran, ended_ran, ended_grown, pushed_ran, pushed_grown}
 use Rattle.lazy_steps.proofs.PairSteps.{sides, pairs_begin, pair_or_start, left_ran, left_done, left_on, left_can, can_then, beside_ran, none_grown}
 use Rattle.lazy_steps.proofs.Passing.{in_pair, at_known, at_none, ended_goes, more_goes, more_falls, more_steps}
-use Rattle.lazy_steps.proofs.FirstPositions.{group_some, group_made, group_gathers, firsts_over, firsts_count}
-use Rattle.lazy_steps.proofs.FirstSteps.{firsts_bench, firsts_asks, firsts_result}
+use Rattle.lazy_steps.proofs.FirstPositions.{group_some, group_made, group_gathers}
+use Rattle.lazy_steps.proofs.FirstWalks.{first_over, first_few, first_refused, first_kept, first_left, first_found, first_passed}
+use Rattle.lazy_steps.proofs.SelectWalks.{select_over, select_found, select_passed}
 use Rattle.lazy_steps.proofs.GatherSteps.{gathers_ran}
 use Rattle.lazy_steps.proofs.GroupWalks.{further_falls}
 use Rattle.lazy_steps.proofs.GroupCalls.{group_shape, read_last, groups_can, input_less, none_unwalked, as_many, grow_ended, grow_refused, grow_more, step_begins, step_found, step_asks, step_none, step_goes_on}
-use Rattle.lazy_steps.proofs.Inputs.{over_can}
-use Rattle.lazy_steps.proofs.PassSteps.{filter_over, filter_at, filter_on}
 use Rattle.lazy_steps.proofs.Chains.{none_apart, under_ran, descends_under}
 use Rattle.mix_tree.specs.Nodes.{Node}
 use Rattle.lazy_binding.proofs.Bound.{fit_at}
@@ -90,180 +90,147 @@ steps::advance_below-returns-in-TupleDestroy g t c =
       answer = λ u. end_over (operators c.args.walk.fixed.now) c.requires.can.fixed.typed c.args.walk.op c.requires.can.op _ _ is (world_of (g.S.Sources.view c.args.s.now) c.args.growing.now) c.args.at.now (in_shape c.requires.can _ is);
     })
 
-pub pass_steps::Filter::step-returns-in_err-before : goal.pass_steps::Filter::step-returns-in_err-before
-pass_steps::Filter::step-returns-in_err-before g t c = record { ran = ran_nothing g.met.S.Sources.same c.args.self.now.walk.op (ahead (world_of (g.S.Sources.view c.args.s.now) c.args.growing.now) (operators c.args.self.now.walk.fixed.now) c.args.self.now.walk.op c.args.at.now) c.args.s.now c.args.growing.now c.requires.can.bench; cause = search rules; answer = search rules }
+pub pass_steps::Filter::next-returns-in_err-before : goal.pass_steps::Filter::next-returns-in_err-before
+pass_steps::Filter::next-returns-in_err-before g t c = record { ran = ran_nothing g.met.S.Sources.same c.args.self.now.walk.op _ c.args.s.now c.args.growing.now c.requires.can.bench; cause = search rules; answer = search rules }
 
-pub pass_steps::Filter::step-advance-requires : goal.pass_steps::Filter::step-advance-requires
-pass_steps::Filter::step-advance-requires g t c κs within =
-    let over = filter_over c.requires.can c.args.self.now.input c.args.self.now.test.now c.requires.is in
-    let can = over_can c.requires.can over c.in_ok-before.before.value c.in_ok-before.ensures.ok in
+pub pass_steps::Filter::next-bindings-init : goal.pass_steps::Filter::next-bindings-init
+pass_steps::Filter::next-bindings-init g t c = record { at = c.args.at.now; way = way_start g.met.S.Sources.same c.requires.can; over = sym c.in_ok-before.ensures.ok }
+
+pub pass_steps::Filter::next-advance-requires : goal.pass_steps::Filter::next-advance-requires
+pass_steps::Filter::next-advance-requires g t c κs within =
+    let over = select_over c.args.self.now c.requires.is c.bindings.invariant in
+    let can = way_can c.requires.is c.bindings.invariant over in
     let small = over.less in
     search rules
 
-pub pass_steps::Filter::step-returns-in_err-advance : goal.pass_steps::Filter::step-returns-in_err-advance
-pass_steps::Filter::step-returns-in_err-advance g t c =
-    let over = filter_over c.requires.can c.args.self.now.input c.args.self.now.test.now c.requires.is in
-    let adv = rw c.in_ok-before.ensures.ok at c.advance.ensures in
-    shaped c.args.at.now (passes_on c.args.self.now.input (filters c.args.self.now.test.now)) c.requires.is (record { ran = ran_over adv.ran over.costs over.less over.alone; cause = search rules; answer = search rules })
+pub pass_steps::Filter::next-returns-in_err-below : goal.pass_steps::Filter::next-returns-in_err-below
+pass_steps::Filter::next-returns-in_err-below g t c =
+    let z = c.bindings.invariant in
+    record { ran = way_ran g.met.S.Sources.after z.way (way_under c.requires.is z (select_over c.args.self.now c.requires.is z) c.advance.ensures.ran); cause = search rules; answer = search rules }
 
-pub pass_steps::Filter::step-returns-in-None : goal.pass_steps::Filter::step-returns-in-None
-pass_steps::Filter::step-returns-in-None g t c =
-    let over = filter_over c.requires.can c.args.self.now.input c.args.self.now.test.now c.requires.is in
-    let adv = rw c.in_ok-before.ensures.ok at c.advance.ensures in
-    shaped c.args.at.now (passes_on c.args.self.now.input (filters c.args.self.now.test.now)) c.requires.is (record { ran = ran_over adv.ran over.costs over.less over.alone; cause = tt; answer = over.over (rw (c.in-None.is, c.in_ok-before.ensures.ok) at c.in_ok-advance.ensures.answer) })
+pub pass_steps::Filter::next-returns-in_default : goal.pass_steps::Filter::next-returns-in_default
+pass_steps::Filter::next-returns-in_default g t c =
+    let z = c.bindings.invariant in
+    let over = select_over c.args.self.now c.requires.is z in
+    record { ran = way_ran g.met.S.Sources.after z.way (way_under c.requires.is z over c.advance.ensures.ran); cause = tt; answer = way_none c.requires.is z over (rw (none_of _ c.in_default.not-Some) at c.in_ok-below.ensures.answer) }
 
-pub pass_steps::Filter::step-returns-then-holds : goal.pass_steps::Filter::step-returns-then-holds
-pass_steps::Filter::step-returns-then-holds g t c =
-    let over = filter_over c.requires.can c.args.self.now.input c.args.self.now.test.now c.requires.is in
-    let adv = rw c.in_ok-before.ensures.ok at c.advance.ensures in
-    let f = rw (c.in-Some.is, c.in_ok-before.ensures.ok) at c.in_ok-advance.ensures.answer in
-    let holds = (rw c.deref.ensures at c.passes-holds.ensures) _ adv.ran.bench f.cursor in
-    shaped c.args.at.now (passes_on c.args.self.now.input (filters c.args.self.now.test.now)) c.requires.is (record {
-      ran = ran_over adv.ran over.costs over.less over.alone;
+pub pass_steps::Filter::next-returns-in_err-put : goal.pass_steps::Filter::next-returns-in_err-put
+pass_steps::Filter::next-returns-in_err-put g t c =
+    let z = c.bindings.invariant in
+    record { ran = way_ran g.met.S.Sources.after z.way (way_under c.requires.is z (select_over c.args.self.now c.requires.is z) c.advance.ensures.ran); cause = search rules; answer = search rules }
+
+pub pass_steps::Filter::next-returns-then-passes : goal.pass_steps::Filter::next-returns-then-passes
+pass_steps::Filter::next-returns-then-passes g t c =
+    let z = c.bindings.invariant in
+    let f = rw c.in-Some.is at c.in_ok-below.ensures.answer in
+    let meets = (rw c.deref.ensures at c.passes.ensures) _ c.advance.ensures.ran.bench f.cursor in
+    record {
+      ran = way_ran g.met.S.Sources.after z.way (way_under c.requires.is z (select_over c.args.self.now c.requires.is z) c.advance.ensures.ran);
       cause = tt;
-      answer = (filter_at (operators c.args.self.now.walk.fixed.now) c.requires.can.fixed.typed c.args.self.now.walk.op c.requires.can.op c.args.self.now.input c.args.self.now.test.now c.requires.is (world_of (g.S.Sources.view c.args.s.now) c.args.growing.now) _ c.args.at.now
-          (in_shape c.requires.can (passes_on c.args.self.now.input (filters c.args.self.now.test.now)) c.requires.is) c.requires.can.bench adv.ran.asks _ f _ (λ u. sym (holds u) ∙ c.if-holds.true));
-    })
+      answer = rw c.in_ok-put.ensures.ok (comes_at z.way.goes.comes (select_found c.args.self.now c.requires.is z c.advance.ensures.ran _ f (λ u. sym (meets u) ∙ c.if-passes.true) _));
+    }
 
-pub pass_steps::Filter::step-returns : goal.pass_steps::Filter::step-returns
-pass_steps::Filter::step-returns g t c =
-    let over = filter_over c.requires.can c.args.self.now.input c.args.self.now.test.now c.requires.is in
-    let adv = rw c.in_ok-before.ensures.ok at c.advance.ensures in
-    let f = rw (c.in-Some.is, c.in_ok-before.ensures.ok) at c.in_ok-advance.ensures.answer in
-    let holds = (rw c.deref.ensures at c.passes-holds.ensures) _ adv.ran.bench f.cursor in
-    shaped c.args.at.now (passes_on c.args.self.now.input (filters c.args.self.now.test.now)) c.requires.is (record {
-      ran = ran_over adv.ran over.costs over.less over.alone;
-      cause = tt;
-      answer = (filter_on (operators c.args.self.now.walk.fixed.now) c.requires.can.fixed.typed c.args.self.now.walk.op c.requires.can.op c.args.self.now.input c.args.self.now.test.now c.requires.is (world_of (g.S.Sources.view c.args.s.now) c.args.growing.now) _ c.args.at.now
-          (in_shape c.requires.can (passes_on c.args.self.now.input (filters c.args.self.now.test.now)) c.requires.is) c.requires.can.bench adv.ran.asks _ f _ (λ u. sym (holds u) ∙ c.if-holds.false));
-    })
+pub pass_steps::Filter::next-bindings-preserved : goal.pass_steps::Filter::next-bindings-preserved
+pass_steps::Filter::next-bindings-preserved g t c =
+    let z = c.bindings.invariant in
+    let f = rw c.in-Some.is at c.in_ok-below.ensures.answer in
+    let meets = (rw c.deref.ensures at c.passes.ensures) _ c.advance.ensures.ran.bench f.cursor in
+    let e = Pass' (record { ptr = c.in-Some.below.ptr; value = tt }) c.in-Some.below.value in
+    record {
+      at = e;
+      way = way_on g.met.S.Sources.after z.way (way_under c.requires.is z (select_over c.args.self.now c.requires.is z) c.advance.ensures.ran) e
+          (select_passed c.args.self.now c.requires.is z c.advance.ensures.ran _ f (λ u. sym (meets u) ∙ c.if-passes.false) _);
+      over = refl;
+    }
 
-pub pass_steps::Filter::next-events-init : goal.pass_steps::Filter::next-events-init
-pass_steps::Filter::next-events-init g t c = way_start g.met.S.Sources.same c.requires.can
+pub pass_steps::Distinct::next-returns-in_err-before : goal.pass_steps::Distinct::next-returns-in_err-before
+pass_steps::Distinct::next-returns-in_err-before g t c = record { ran = ran_nothing g.met.S.Sources.same c.args.self.now.walk.op _ c.args.s.now c.args.growing.now c.requires.can.bench; cause = search rules; answer = search rules }
 
-pub pass_steps::Filter::next-step-requires : goal.pass_steps::Filter::next-step-requires
-pass_steps::Filter::next-step-requires g t c κs within =
-    let can : CanStep (g.S.Sources.view c.events.s) c.events.growing c.args.self.now.walk.fixed.now c.args.self.now.walk.op c.here.result.now = rw c.here.ensures c.events.invariant.can in
-    search rules
+pub pass_steps::Distinct::next-bindings-init : goal.pass_steps::Distinct::next-bindings-init
+pass_steps::Distinct::next-bindings-init g t c =
+    let goes = c.in_ok-before.ensures.ok in (
+      record {
+        at = at_of goes.0 c.args.at.now;
+        way = way_resumed g.met.S.Sources.same c.requires.can c.args.self.now.input c.args.self.now.keys.now c.requires.is.0 c.requires.is.1 goes.0 goes.1;
+        over = sym goes.2;
+      },
+      resumed_count c.args.growing.now.walked.reached.items c.args.self.now.walk.op c.args.at.now goes.0 goes.1 ∙ sym c.seen_up_to-count.ensures,
+    )
 
-pub pass_steps::Filter::next-events-preserved : goal.pass_steps::Filter::next-events-preserved
-pass_steps::Filter::next-events-preserved g t c = way_on g.met.S.Sources.after c.events.invariant (rw c.here.ensures at c.step.ensures) c.in-On.event (rw (c.in-On.is, c.here.ensures) at c.in_ok-step.ensures.answer)
-
-pub pass_steps::Filter::next-events-smaller : goal.pass_steps::Filter::next-events-smaller
-pass_steps::Filter::next-events-smaller g t c = (rw (c.in-On.is, c.here.ensures) at c.in_ok-step.ensures.answer).falls
-
-pub pass_steps::Filter::next-returns-in-At : goal.pass_steps::Filter::next-returns-in-At
-pass_steps::Filter::next-returns-in-At g t c = record {
-  ran = way_ran g.met.S.Sources.after c.events.invariant (rw c.here.ensures at c.step.ensures);
-  cause = tt;
-  answer = rw c.in_ok-put-in-At.ensures.ok (comes_at c.events.invariant.goes.comes (rw (c.in-At.is, c.here.ensures) at c.in_ok-step.ensures.answer));
-}
-
-pub pass_steps::Filter::next-returns-in_err-put-in-At : goal.pass_steps::Filter::next-returns-in_err-put-in-At
-pass_steps::Filter::next-returns-in_err-put-in-At g t c = record { ran = way_ran g.met.S.Sources.after c.events.invariant (rw c.here.ensures at c.step.ensures); cause = search rules; answer = search rules }
-
-pub pass_steps::Filter::next-returns-in-Done : goal.pass_steps::Filter::next-returns-in-Done
-pass_steps::Filter::next-returns-in-Done g t c = record {
-  ran = way_ran g.met.S.Sources.after c.events.invariant (rw c.here.ensures at c.step.ensures);
-  cause = tt;
-  answer = comes_none c.events.invariant.goes.comes (rw (c.in-Done.is, c.here.ensures) at c.in_ok-step.ensures.answer);
-}
-
-pub pass_steps::Filter::next-returns-in_err-step : goal.pass_steps::Filter::next-returns-in_err-step
-pass_steps::Filter::next-returns-in_err-step g t c =
-    let step = rw c.here.ensures at c.step.ensures in
-    record { ran = way_ran g.met.S.Sources.after c.events.invariant step; cause = search rules; answer = search rules }
-
-pub pass_steps::Distinct::step-returns-in_err-before : goal.pass_steps::Distinct::step-returns-in_err-before
-pass_steps::Distinct::step-returns-in_err-before g t c = record { ran = ran_nothing g.met.S.Sources.same c.args.self.now.walk.op (ahead (world_of (g.S.Sources.view c.args.s.now) c.args.growing.now) (operators c.args.self.now.walk.fixed.now) c.args.self.now.walk.op c.args.at.now) c.args.s.now c.args.growing.now c.requires.can.bench; cause = search rules; answer = search rules }
-
-pub pass_steps::Distinct::step-advance-requires : goal.pass_steps::Distinct::step-advance-requires
-pass_steps::Distinct::step-advance-requires g t c κs within =
-    let over = firsts_over c.requires.can c.args.self.now.input c.args.self.now.keys.now c.requires.is.0 c.requires.is.1 c.requires.is.2 in
-    let can = over_can c.requires.can over c.in_ok-before.before.value c.in_ok-before.ensures.ok in
+pub pass_steps::Distinct::next-advance-requires : goal.pass_steps::Distinct::next-advance-requires
+pass_steps::Distinct::next-advance-requires g t c κs within =
+    let z = c.bindings.invariant.0 in
+    let over = first_over c.args.self.now c.requires.is z in
+    let can = way_can c.requires.is.1 z over in
     let small = over.less in
     search rules
 
-pub pass_steps::Distinct::step-returns-in_err-advance : goal.pass_steps::Distinct::step-returns-in_err-advance
-pass_steps::Distinct::step-returns-in_err-advance g t c =
-    let over = firsts_over c.requires.can c.args.self.now.input c.args.self.now.keys.now c.requires.is.0 c.requires.is.1 c.requires.is.2 in
-    let adv = rw c.in_ok-before.ensures.ok at c.advance.ensures in
-    shaped c.args.at.now (passes_on c.args.self.now.input (first_by_keys c.args.self.now.keys.now c.requires.is.0)) c.requires.is.1 (record { ran = ran_over adv.ran over.costs over.less over.alone; cause = search rules; answer = search rules })
+pub pass_steps::Distinct::next-returns-in_err-below : goal.pass_steps::Distinct::next-returns-in_err-below
+pass_steps::Distinct::next-returns-in_err-below g t c =
+    let z = c.bindings.invariant.0 in
+    record { ran = way_ran g.met.S.Sources.after z.way (way_under c.requires.is.1 z (first_over c.args.self.now c.requires.is z) c.advance.ensures.ran); cause = search rules; answer = search rules }
 
-pub pass_steps::Distinct::step-returns-in-None : goal.pass_steps::Distinct::step-returns-in-None
-pass_steps::Distinct::step-returns-in-None g t c =
-    let over = firsts_over c.requires.can c.args.self.now.input c.args.self.now.keys.now c.requires.is.0 c.requires.is.1 c.requires.is.2 in
-    let adv = rw c.in_ok-before.ensures.ok at c.advance.ensures in
-    shaped c.args.at.now (passes_on c.args.self.now.input (first_by_keys c.args.self.now.keys.now c.requires.is.0)) c.requires.is.1 (record { ran = ran_over adv.ran over.costs over.less over.alone; cause = tt; answer = over.over (rw (c.in-None.is, c.in_ok-before.ensures.ok) at c.in_ok-advance.ensures.answer) })
+pub pass_steps::Distinct::next-returns-in_default : goal.pass_steps::Distinct::next-returns-in_default
+pass_steps::Distinct::next-returns-in_default g t c =
+    let z = c.bindings.invariant.0 in
+    let over = first_over c.args.self.now c.requires.is z in
+    record { ran = way_ran g.met.S.Sources.after z.way (way_under c.requires.is.1 z over c.advance.ensures.ran); cause = tt; answer = way_none c.requires.is.1 z over (rw (none_of _ c.in_default.not-Some) at c.in_ok-below.ensures.answer) }
 
-pub pass_steps::Distinct::step-returns-in_err-key-in-Some : goal.pass_steps::Distinct::step-returns-in_err-key-in-Some
-pass_steps::Distinct::step-returns-in_err-key-in-Some g t c =
-    let over = firsts_over c.requires.can c.args.self.now.input c.args.self.now.keys.now c.requires.is.0 c.requires.is.1 c.requires.is.2 in
-    let adv = rw c.in_ok-before.ensures.ok at c.advance.ensures in
-    shaped c.args.at.now (passes_on c.args.self.now.input (first_by_keys c.args.self.now.keys.now c.requires.is.0)) c.requires.is.1 (record { ran = ran_over adv.ran over.costs over.less over.alone; cause = search rules; answer = search rules })
+pub pass_steps::Distinct::next-seen_at-requires-clause-count : goal.pass_steps::Distinct::next-seen_at-requires-clause-count
+pass_steps::Distinct::next-seen_at-requires-clause-count g t c = first_few c.args.self.now c.requires.is c.bindings.invariant.0 c.advance.ensures.ran _ c.bindings.invariant.1
 
-pub pass_steps::Distinct::step-key_of-requires-clause-keys : goal.pass_steps::Distinct::step-key_of-requires-clause-keys
-pass_steps::Distinct::step-key_of-requires-clause-keys g t c = keys_fit (operators c.args.self.now.walk.fixed.now) c.requires.can.fixed.typed c.args.self.now.walk.op c.requires.can.op c.args.self.now.input c.args.self.now.keys.now c.requires.is.0 c.requires.is.1
-
-pub pass_steps::Distinct::step-first_of_key-requires-clause-count : goal.pass_steps::Distinct::step-first_of_key-requires-clause-count
-pass_steps::Distinct::step-first_of_key-requires-clause-count g t c =
-    let adv = rw c.in_ok-before.ensures.ok at c.advance.ensures in
-    let within = in_shape c.requires.can (passes_on c.args.self.now.input (first_by_keys c.args.self.now.keys.now c.requires.is.0)) c.requires.is.1 in
-    let few = firsts_count (operators c.args.self.now.walk.fixed.now) c.args.self.now.walk.op c.args.self.now.input c.args.self.now.keys.now c.requires.is.0 c.requires.is.2 (world_of (g.S.Sources.view c.args.s.now) c.args.growing.now) c.args.at.now within in
-    let more = adv.ran.asks.kept.longer c.args.self.now.walk.op in
-    omega (arith, few, more, c.seen_up_to-count.ensures)
-
-pub pass_steps::Distinct::step-returns : goal.pass_steps::Distinct::step-returns
-pass_steps::Distinct::step-returns g t c =
-    let adv = rw c.in_ok-before.ensures.ok at c.advance.ensures in
-    let h = rw c.in-Some.is at c.in_ok-advance.ensures.answer in
-    let f = rw (c.in-Some.is, c.in_ok-before.ensures.ok) at c.in_ok-advance.ensures.answer in
-    let parts = (rw c.deref.ensures at c.in_ok-key-in-Some.ensures.parts) _ adv.ran.bench h.cursor in
-    let value = (rw c.deref.ensures at c.in_ok-key-in-Some.ensures.value) _ adv.ran.bench h.cursor in
-    shaped c.args.at.now (passes_on c.args.self.now.input (first_by_keys c.args.self.now.keys.now c.requires.is.0)) c.requires.is.1 (record {
-      ran = record { came = adv.ran.came; bench = firsts_bench (operators c.args.self.now.walk.fixed.now) c.args.self.now.walk.op c.args.self.now.input c.args.self.now.keys.now c.requires.is.0 c.requires.is.2 c.requires.is.3 c.requires.can.fixed.typed c.requires.can.op c.requires.is.1 (world_of (g.S.Sources.view c.args.s.now) c.args.growing.now) c.args.at.now (in_shape c.requires.can (passes_on c.args.self.now.input (first_by_keys c.args.self.now.keys.now c.requires.is.0)) c.requires.is.1) _ c.requires.can.bench adv.ran.asks _ f adv.ran.bench c.in_ok-key-in-Some.key.items parts value c.spots_are_one.ensures c.first_of_key.new.seen.items c.first_of_key.ensures.grows (rw c.seen_up_to-count.ensures at c.first_of_key.ensures.pushed); asks = firsts_asks (operators c.args.self.now.walk.fixed.now) c.args.self.now.walk.op c.args.self.now.input c.args.self.now.keys.now c.requires.is.0 c.requires.is.2 c.requires.is.3 c.requires.can.fixed.typed c.requires.can.op c.requires.is.1 (world_of (g.S.Sources.view c.args.s.now) c.args.growing.now) c.args.at.now (in_shape c.requires.can (passes_on c.args.self.now.input (first_by_keys c.args.self.now.keys.now c.requires.is.0)) c.requires.is.1) _ c.requires.can.bench adv.ran.asks _ f adv.ran.bench c.in_ok-key-in-Some.key.items parts value c.spots_are_one.ensures c.first_of_key.new.seen.items c.first_of_key.ensures.grows (rw c.seen_up_to-count.ensures at c.first_of_key.ensures.pushed) };
+pub pass_steps::Distinct::next-returns-in_err-seen : goal.pass_steps::Distinct::next-returns-in_err-seen
+pass_steps::Distinct::next-returns-in_err-seen g t c =
+    let z = c.bindings.invariant.0 in
+    let f = rw c.in-Some.is at c.in_ok-below.ensures.answer in
+    record {
+      ran = way_ran g.met.S.Sources.after z.way (first_refused c.args.self.now c.requires.is z c.advance.ensures.ran _ f c.spots_are_one.ensures _ (rw (sym c.bindings.invariant.1) at c.in_err-seen.ensures.err));
       cause = search rules;
-      answer = firsts_result (operators c.args.self.now.walk.fixed.now) c.args.self.now.walk.op c.args.self.now.input c.args.self.now.keys.now c.requires.is.0 c.requires.is.2 c.requires.is.3 c.requires.can.fixed.typed c.requires.can.op c.requires.is.1 (world_of (g.S.Sources.view c.args.s.now) c.args.growing.now) c.args.at.now (in_shape c.requires.can (passes_on c.args.self.now.input (first_by_keys c.args.self.now.keys.now c.requires.is.0)) c.requires.is.1) _ c.requires.can.bench adv.ran.asks _ f adv.ran.bench c.in_ok-key-in-Some.key.items parts value c.spots_are_one.ensures c.first_of_key.new.seen.items c.first_of_key.ensures.grows (rw c.seen_up_to-count.ensures at c.first_of_key.ensures.pushed) c.first_of_key.result (rw c.seen_up_to-count.ensures at c.first_of_key.ensures.answer);
-    })
+      answer = search rules;
+    }
 
-pub pass_steps::Distinct::next-returns-in_err-later : goal.pass_steps::Distinct::next-returns-in_err-later
-pass_steps::Distinct::next-returns-in_err-later g t c = record { ran = ran_nothing g.met.S.Sources.same c.args.self.now.walk.op _ c.args.s.now c.args.growing.now c.requires.can.bench; cause = search rules; answer = search rules }
+pub pass_steps::Distinct::next-returns-in_err-put : goal.pass_steps::Distinct::next-returns-in_err-put
+pass_steps::Distinct::next-returns-in_err-put g t c =
+    let z = c.bindings.invariant.0 in
+    let f = rw c.in-Some.is at c.in_ok-below.ensures.answer in
+    let seen = rw (sym c.bindings.invariant.1) at c.in_ok-seen.ensures.ok in
+    record { ran = way_ran g.met.S.Sources.after z.way (first_left c.args.self.now c.requires.is z c.advance.ensures.ran _ f c.spots_are_one.ensures _ seen.0); cause = search rules; answer = search rules }
 
-pub pass_steps::Distinct::next-events-init : goal.pass_steps::Distinct::next-events-init
-pass_steps::Distinct::next-events-init g t c = way_resumed g.met.S.Sources.same c.requires.can c.args.self.now.input c.args.self.now.keys.now c.requires.is.0 c.requires.is.1 c.in_ok-later.later c.in_ok-later.ensures.later
+pub pass_steps::Distinct::next-returns-in-Some-2 : goal.pass_steps::Distinct::next-returns-in-Some-2
+pass_steps::Distinct::next-returns-in-Some-2 g t c =
+    let z = c.bindings.invariant.0 in
+    let f = rw c.in-Some.is at c.in_ok-below.ensures.answer in
+    let seen = rw (c.in-Some-2.is, sym c.bindings.invariant.1) at c.in_ok-seen.ensures.ok in
+    record {
+      ran = way_ran g.met.S.Sources.after z.way (first_left c.args.self.now c.requires.is z c.advance.ensures.ran _ f c.spots_are_one.ensures _ seen.0);
+      cause = tt;
+      answer = rw c.in_ok-put.ensures.ok (comes_at z.way.goes.comes
+          (first_found c.args.self.now c.requires.is z c.advance.ensures.ran _ f c.spots_are_one.ensures _ seen.0 seen.1.0 seen.1.1 _ c.in-Some-2.seen (omega (arith, seen.1.2))));
+    }
 
-pub pass_steps::Distinct::next-step-requires : goal.pass_steps::Distinct::next-step-requires
-pass_steps::Distinct::next-step-requires g t c κs within =
-    let can : CanStep (g.S.Sources.view c.events.s) c.events.growing c.args.self.now.walk.fixed.now c.args.self.now.walk.op c.here.result.now = rw c.here.ensures c.events.invariant.can in
-    search rules
+pub pass_steps::Distinct::next-bindings-preserved : goal.pass_steps::Distinct::next-bindings-preserved
+pass_steps::Distinct::next-bindings-preserved g t c =
+    let z = c.bindings.invariant.0 in
+    let f = rw c.in-Some.is at c.in_ok-below.ensures.answer in
+    let seen = rw (none_of _ c.in_default-2.not-Some, sym c.bindings.invariant.1) at c.in_ok-seen.ensures.ok in
+    let e = Seen' (record { ptr = c.in-Some.below.ptr; value = tt }) c.in-Some.below.value (count_of z.at) in (
+      record {
+        at = e;
+        way = way_on g.met.S.Sources.after z.way (first_left c.args.self.now c.requires.is z c.advance.ensures.ran _ f c.spots_are_one.ensures _ seen.0) e
+            (first_passed c.args.self.now c.requires.is z c.advance.ensures.ran _ f c.spots_are_one.ensures _ seen.0 seen.1.0 _);
+        over = refl;
+      },
+      c.bindings.invariant.1,
+    )
 
-pub pass_steps::Distinct::next-events-preserved : goal.pass_steps::Distinct::next-events-preserved
-pass_steps::Distinct::next-events-preserved g t c = way_on g.met.S.Sources.after c.events.invariant (rw c.here.ensures at c.step.ensures) c.in-On.event (rw (c.in-On.is, c.here.ensures) at c.in_ok-step.ensures.answer)
-
-pub pass_steps::Distinct::next-events-smaller : goal.pass_steps::Distinct::next-events-smaller
-pass_steps::Distinct::next-events-smaller g t c = (rw (c.in-On.is, c.here.ensures) at c.in_ok-step.ensures.answer).falls
-
-pub pass_steps::Distinct::next-returns-in-At : goal.pass_steps::Distinct::next-returns-in-At
-pass_steps::Distinct::next-returns-in-At g t c = record {
-  ran = way_ran g.met.S.Sources.after c.events.invariant (rw c.here.ensures at c.step.ensures);
-  cause = tt;
-  answer = rw c.in_ok-put-in-At.ensures.ok (comes_at c.events.invariant.goes.comes (rw (c.in-At.is, c.here.ensures) at c.in_ok-step.ensures.answer));
-}
-
-pub pass_steps::Distinct::next-returns-in_err-put-in-At : goal.pass_steps::Distinct::next-returns-in_err-put-in-At
-pass_steps::Distinct::next-returns-in_err-put-in-At g t c = record { ran = way_ran g.met.S.Sources.after c.events.invariant (rw c.here.ensures at c.step.ensures); cause = search rules; answer = search rules }
-
-pub pass_steps::Distinct::next-returns-in-Done : goal.pass_steps::Distinct::next-returns-in-Done
-pass_steps::Distinct::next-returns-in-Done g t c = record {
-  ran = way_ran g.met.S.Sources.after c.events.invariant (rw c.here.ensures at c.step.ensures);
-  cause = tt;
-  answer = comes_none c.events.invariant.goes.comes (rw (c.in-Done.is, c.here.ensures) at c.in_ok-step.ensures.answer);
-}
-
-pub pass_steps::Distinct::next-returns-in_err-step : goal.pass_steps::Distinct::next-returns-in_err-step
-pass_steps::Distinct::next-returns-in_err-step g t c =
-    let step = rw c.here.ensures at c.step.ensures in
-    record { ran = way_ran g.met.S.Sources.after c.events.invariant step; cause = search rules; answer = search rules }
+pub pass_steps::Distinct::next-bindings-smaller : goal.pass_steps::Distinct::next-bindings-smaller
+pass_steps::Distinct::next-bindings-smaller g t c =
+    let z = c.bindings.invariant.0 in
+    let f = rw c.in-Some.is at c.in_ok-below.ensures.answer in
+    let seen = rw (sym c.bindings.invariant.1) at c.in_ok-seen.ensures.ok in
+    let kept = first_kept c.args.self.now c.requires.is z c.advance.ensures.ran _ f c.spots_are_one.ensures _ seen.0 in
+    let stays = cursors_kept _ _ kept (operators c.args.self.now.walk.fixed.now) c.advance.ensures.ran.bench c.args.self.now.input c.in-Some.below.value f.cursor in
+    omega (arith, f.falls, stays.number_is)
 
 pub join_steps::Join::next_left-returns-in_err-advance : goal.join_steps::Join::next_left-returns-in_err-advance
 join_steps::Join::next_left-returns-in_err-advance g t c = record { ran = left_ran c.args.self.now.left c.args.self.now.right c.args.self.now.walk.op c.args.self.now.tests.now c.requires.can c.requires.op c.requires.is c.advance.ensures.ran; cause = search rules; answer = search rules }
@@ -751,24 +718,24 @@ join_steps::Join::next-step-requires g t c κs within =
     search rules
 
 pub join_steps::Join::next-events-preserved : goal.join_steps::Join::next-events-preserved
-join_steps::Join::next-events-preserved g t c = way_on g.met.S.Sources.after c.events.invariant (rw c.here.ensures at c.step.ensures) c.in-On.event (rw (c.in-On.is, c.here.ensures) at c.in_ok-step.ensures.answer)
+join_steps::Join::next-events-preserved g t c = way_on g.met.S.Sources.after c.events.invariant (rw c.here.ensures at c.step.ensures).ran c.in-On.event (rw (c.in-On.is, c.here.ensures) at c.in_ok-step.ensures.answer)
 
 pub join_steps::Join::next-events-smaller : goal.join_steps::Join::next-events-smaller
 join_steps::Join::next-events-smaller g t c = (rw (c.in-On.is, c.here.ensures) at c.in_ok-step.ensures.answer).falls
 
 pub join_steps::Join::next-returns-in-At : goal.join_steps::Join::next-returns-in-At
 join_steps::Join::next-returns-in-At g t c = record {
-  ran = way_ran g.met.S.Sources.after c.events.invariant (rw c.here.ensures at c.step.ensures);
+  ran = way_ran g.met.S.Sources.after c.events.invariant (rw c.here.ensures at c.step.ensures).ran;
   cause = tt;
   answer = rw c.in_ok-put-in-At.ensures.ok (comes_at c.events.invariant.goes.comes (rw (c.in-At.is, c.here.ensures) at c.in_ok-step.ensures.answer));
 }
 
 pub join_steps::Join::next-returns-in_err-put-in-At : goal.join_steps::Join::next-returns-in_err-put-in-At
-join_steps::Join::next-returns-in_err-put-in-At g t c = record { ran = way_ran g.met.S.Sources.after c.events.invariant (rw c.here.ensures at c.step.ensures); cause = search rules; answer = search rules }
+join_steps::Join::next-returns-in_err-put-in-At g t c = record { ran = way_ran g.met.S.Sources.after c.events.invariant (rw c.here.ensures at c.step.ensures).ran; cause = search rules; answer = search rules }
 
 pub join_steps::Join::next-returns-in-Done : goal.join_steps::Join::next-returns-in-Done
 join_steps::Join::next-returns-in-Done g t c = record {
-  ran = way_ran g.met.S.Sources.after c.events.invariant (rw c.here.ensures at c.step.ensures);
+  ran = way_ran g.met.S.Sources.after c.events.invariant (rw c.here.ensures at c.step.ensures).ran;
   cause = tt;
   answer = comes_none c.events.invariant.goes.comes (rw (c.in-Done.is, c.here.ensures) at c.in_ok-step.ensures.answer);
 }
@@ -776,7 +743,7 @@ join_steps::Join::next-returns-in-Done g t c = record {
 pub join_steps::Join::next-returns-in_err-step : goal.join_steps::Join::next-returns-in_err-step
 join_steps::Join::next-returns-in_err-step g t c =
     let step = rw c.here.ensures at c.step.ensures in
-    record { ran = way_ran g.met.S.Sources.after c.events.invariant step; cause = search rules; answer = search rules }
+    record { ran = way_ran g.met.S.Sources.after c.events.invariant step.ran; cause = search rules; answer = search rules }
 
 pub gather_steps::Gather::grow-returns-then-ended : goal.gather_steps::Gather::grow-returns-then-ended
 gather_steps::Gather::grow-returns-then-ended g t c = record { ran = ran_nothing g.met.S.Sources.same c.args.self.now.walk.op _ c.args.s.now c.args.growing.now c.requires.bench; cause = tt; answer = none_unwalked (g.S.Sources.view c.args.s.now) c.args.growing.now c.args.self.now c.requires.is c.requires.fixed c.requires.op c.requires.bench c.index-gathered.result.now c.index-gathered.ensures (sym c.ended.ensures ∙ c.if-ended.true) }

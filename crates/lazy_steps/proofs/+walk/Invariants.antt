@@ -1,4 +1,5 @@
-use Rattle.std.proofs.Common.{◌+◌, ◌-◌, ◌*◌, length}
+use Rattle.std.proofs.Common.{◌≡◌, ◌+◌, ◌-◌, ◌*◌, length}
+use Rattle.lazy_binding.specs.Reading.{count_of}
 use Rattle.lazy_binding.specs.Bench.{IsBench}
 use Rattle.lazy_steps.proofs.GroupCalls.{StepCame}
 use Rattle.lazy_binding.specs.Cursors.{number, size}
@@ -7,7 +8,7 @@ use Rattle.lazy_binding.specs.World.{memo_at, gathered_at}
 use Rattle.lazy_steps.specs.Beside.{beside_events, beside_number, last_at}
 use Rattle.lazy_steps.specs.Steps.{at_of, CanStep, visit_events, visit_number}
 use Rattle.lazy_steps.proofs.Goes.{Goes}
-use Rattle.lazy_steps.proofs.Ways.{Way}
+use Rattle.lazy_steps.proofs.Ways.{Way, WayOver}
 use Rattle.lazy_steps.proofs.OrderSteps.{Gathered}
 use Rattle.lazy_steps.proofs.+walk.Given as goal
 
@@ -16,12 +17,6 @@ decreases-steps::advance g l = 8 * l.walk.op + 6
 
 abbrev pub decreases-steps::advance_below : goal.decreases-steps::advance_below
 decreases-steps::advance_below g l = 8 * l.walk.op + 5
-
-abbrev pub decreases-pass_steps::Filter::step : goal.decreases-pass_steps::Filter::step
-decreases-pass_steps::Filter::step g l = 8 * l.self.now.walk.op
-
-abbrev pub decreases-pass_steps::Distinct::step : goal.decreases-pass_steps::Distinct::step
-decreases-pass_steps::Distinct::step g l = 8 * l.self.now.walk.op
 
 abbrev pub decreases-join_steps::Join::step : goal.decreases-join_steps::Join::step
 decreases-join_steps::Join::step g l = 8 * l.self.now.walk.op + 1
@@ -75,21 +70,22 @@ abbrev pub decreases-pass_steps::Filter::next : goal.decreases-pass_steps::Filte
 decreases-pass_steps::Filter::next g l = 8 * l.self.now.walk.op + 3
 
 -- the bindings of the input so far failed
-abbrev pub invariant-pass_steps::Filter::next-events : goal.invariant-pass_steps::Filter::next-events
-invariant-pass_steps::Filter::next-events g l = Way g.S.Sources.view g.S.Sources.came_from l.self.walk.fixed.now l.self.walk.op l.fn.at l.initial.s l.initial.growing l.s l.growing (at_of l.later l.fn.at)
+abbrev pub invariant-pass_steps::Filter::next-bindings : goal.invariant-pass_steps::Filter::next-bindings
+invariant-pass_steps::Filter::next-bindings g l = WayOver g.S.Sources.view g.S.Sources.came_from l.self.walk.fixed.now l.self.walk.op l.fn.at l.initial.s l.initial.growing l.s l.growing l.before.value
 
-abbrev pub decreases-pass_steps::Filter::next-events : goal.decreases-pass_steps::Filter::next-events
-decreases-pass_steps::Filter::next-events g l = number (world_of (g.S.Sources.view l.s) l.growing) (operators l.self.walk.fixed.now) l.self.walk.op (at_of l.later l.fn.at)
+abbrev pub decreases-pass_steps::Filter::next-bindings : goal.decreases-pass_steps::Filter::next-bindings
+decreases-pass_steps::Filter::next-bindings g l = number (world_of (g.S.Sources.view l.s) l.growing) (operators l.self.walk.fixed.now) l.self.input l.before.value
 
 abbrev pub decreases-pass_steps::Distinct::next : goal.decreases-pass_steps::Distinct::next
 decreases-pass_steps::Distinct::next g l = 8 * l.self.now.walk.op + 3
 
 -- the keys of the bindings of the input so far were seen
-abbrev pub invariant-pass_steps::Distinct::next-events : goal.invariant-pass_steps::Distinct::next-events
-invariant-pass_steps::Distinct::next-events g l = Way g.S.Sources.view g.S.Sources.came_from l.self.walk.fixed.now l.self.walk.op l.fn.at l.initial.s l.initial.growing l.s l.growing (at_of l.later l.fn.at)
+abbrev pub invariant-pass_steps::Distinct::next-bindings : goal.invariant-pass_steps::Distinct::next-bindings
+invariant-pass_steps::Distinct::next-bindings g l =
+    (z : WayOver g.S.Sources.view g.S.Sources.came_from l.self.walk.fixed.now l.self.walk.op l.fn.at l.initial.s l.initial.growing l.s l.growing l.before.value) × (count_of z.at ≡ l.count)
 
-abbrev pub decreases-pass_steps::Distinct::next-events : goal.decreases-pass_steps::Distinct::next-events
-decreases-pass_steps::Distinct::next-events g l = number (world_of (g.S.Sources.view l.s) l.growing) (operators l.self.walk.fixed.now) l.self.walk.op (at_of l.later l.fn.at)
+abbrev pub decreases-pass_steps::Distinct::next-bindings : goal.decreases-pass_steps::Distinct::next-bindings
+decreases-pass_steps::Distinct::next-bindings g l = number (world_of (g.S.Sources.view l.s) l.growing) (operators l.self.walk.fixed.now) l.self.input l.before.value
 
 abbrev pub decreases-join_steps::Join::next : goal.decreases-join_steps::Join::next
 decreases-join_steps::Join::next g l = 8 * l.self.now.walk.op + 3
