@@ -6,7 +6,7 @@ use Rattle.mix_talk.specs.Ends.{heard_by}
 use Rattle.mix_talk.specs.Heard.{Heard, steps_in}
 use Rattle.mix_talk.specs.declared.fault.TalkFault.{TalkFault}
 use Rattle.mix_talk.specs.declared.fault.TalkFault.TheVariants.{InputFailed, SinkFailed, OutOfMemory}
-use Rattle.mix_talk.proofs.Taken.{took_none}
+use Rattle.mix_io.proofs.Taken.{took_none}
 use Rattle.table_keep.specs.Views.{TablesView}
 use Rattle.plan_core.specs.Events.{VisitedAreMatches}
 use Rattle.plan_core.specs.PlanMade.{plan_value}

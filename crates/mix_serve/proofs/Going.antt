@@ -25,7 +25,8 @@ use Rattle.mix_serve.specs.declared.fault.ServeFault.TheVariants.{InputFailed, S
 use Rattle.mix_serve.specs.declared.serving.Served.{Served}
 use Rattle.mix_serve.specs.declared.serving.Served.TheVariants.{Whole, Broken, TooLong}
 use Rattle.mix_serve.proofs.Joined.{fills_join, replied_fills, replied_join}
-use Rattle.mix_serve.proofs.Taken.{appends_none, appends_prefix, appends_whole, took_more, took_none}
+use Rattle.mix_io.proofs.Taken.{took_more, took_none}
+use Rattle.mix_serve.proofs.Appended.{appends_none, appends_prefix, appends_whole}
 
 -- serving has come so far: these bytes were taken, none of them is a bad tag, and all replies to them were written
 pub record IsServing (old now : View) (input input' : InputView) (sink sink' : SinkView) (stream : Stream) (taken : ℕ) : Type 0 where

@@ -1,4 +1,4 @@
 mod Apart
 mod Going
 mod Joined
-mod Taken
+mod Appended

@@ -19,7 +19,7 @@ use Rattle.mix_talk.specs.Heard.{Heard, heard, steps_in, whole_lines}
 use Rattle.mix_talk.specs.Reading.{Reads, TookSome}
 use Rattle.mix_talk.specs.declared.fault.TalkFault.TheVariants.{InputFailed, OutOfMemory}
 use Rattle.mix_talk.specs.declared.reader.LineReader.{LineReader}
-use Rattle.mix_talk.proofs.Taken.{took_more}
+use Rattle.mix_io.proofs.Taken.{took_more}
 use Rattle.mix_talk.proofs.Talking.{IsTalking, talking_read, read_done, all_asks, passed_asks, stops, talk_ends}
 use Rattle.mix_talk.proofs.Whole.{whole_of}
 

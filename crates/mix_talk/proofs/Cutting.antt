@@ -10,7 +10,7 @@ use Rattle.mix_talk.specs.Pages.{Refilled}
 use Rattle.mix_talk.specs.Reading.{HasNoLf, IsLine, IsReaderOf, Moved, TookSome, Reads, to_read}
 use Rattle.mix_talk.specs.declared.reader.LineReader.{LineReader}
 use Rattle.mix_talk.proofs.Long.{no_lf_append, no_lf_take, kept_asks, kept_line, lines_without}
-use Rattle.mix_talk.proofs.Taken.{took_none, took_more}
+use Rattle.mix_io.proofs.Taken.{took_none, took_more}
 
 -- the part of a line that was read so far: bytes without LF were moved, no more of them kept than a line may have with its end, and the pages taken
 -- for them were taken of the input

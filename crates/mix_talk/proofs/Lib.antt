@@ -4,7 +4,6 @@ mod Cutting
 mod Long
 mod Parts
 mod Answering
-pub mod Taken
 mod Talking
 pub mod Telling
 mod Unformed

@@ -23,7 +23,7 @@ use Rattle.mix_talk.proofs.Whole.{AreWhole}
 use Rattle.mix_talk.specs.declared.fault.TalkFault.{TalkFault}
 use Rattle.mix_talk.specs.declared.fault.TalkFault.TheVariants.{OutOfMemory}
 use Rattle.mix_talk.specs.declared.reader.LineReader.{LineReader}
-use Rattle.mix_talk.proofs.Taken.{took_none, took_more}
+use Rattle.mix_io.proofs.Taken.{took_none, took_more}
 use Rattle.mix_talk.proofs.Telling.{steps_append, ends_on}
 
 -- a talk has come so far: bytes were taken, the lines of the first of them were read, and the reader has the others; what was read was answered by
