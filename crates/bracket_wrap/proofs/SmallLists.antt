@@ -6,10 +6,10 @@ use Rattle.lxp_core.specs.Open.{Open, nil, node, hole, without_holes}
 use Rattle.lxp_core.specs.Small.{IsSmall, IsSmallWithin, tops_of}
 use Rattle.document_store.specs.Laid.{LaidNode, node_at}
 use Rattle.document_store.specs.Between.{before, fits, trees, between}
-use Rattle.document_store.specs.Shallow.{levels_of, IsBounded, IsLow, IsNested}
+use Rattle.document_store.specs.Shallow.{levels_of}
 use Rattle.document_store.proofs.Between.{fits_some}
 use Rattle.document_store.proofs.Nested.{nodes_between}
-use Rattle.bracket_wrap.specs.Holes.{rest_hole, all_of, kids_given, given_from}
+use Rattle.bracket_wrap.specs.Holes.{rest_hole, all_of, kids_given, given_from, IsGivable}
 use Rattle.bracket_wrap.proofs.Given.{by_test}
 
 -- there are no more trees side by side than nodes
@@ -29,20 +29,20 @@ small-first zero true label kids rest short k r few l = absurd (omega (arith, fe
 small-first (suc m) true label kids rest short k r few l =
     (short, omega (arith, tops-nodes kids, l), k m (omega (arith, few)) (omega (arith, l)), r (suc m) (omega (arith, few)) (omega (arith, l)))
 
-module _ (ns : List LaidNode) (bounded : IsBounded ns) (nested : IsNested ns) (low : IsLow ns) where
+module _ (ns : List LaidNode) (givable : IsGivable ns) where
   -- the trees between two positions are a small list, where they have few levels and few nodes
   small-trees : (most levels from to : ℕ) → IsSmallWhere (trees ns most from to) levels
   small-trees zero levels from to = λ few l. tt
   small-trees (suc most) levels from to =
       small-first levels (fits ns from to) (node_at ns (to - 1)).label (trees ns most (before ns (to - 1)) (to - 1)) (trees ns most from (before ns (to - 1)))
-      (bounded.labels (to - 1)) (λ m. small-trees most m (before ns (to - 1)) (to - 1)) (λ m. small-trees most m from (before ns (to - 1)))
+      (givable.bounded.labels (to - 1)) (λ m. small-trees most m (before ns (to - 1)) (to - 1)) (λ m. small-trees most m from (before ns (to - 1)))
 
   -- the list below a node is short, and has fewer than 200 levels
   small-kids : (whole : Bool) (i : ℕ) → i + 1 < length ns → (tops_of (kids_given ns whole i) < 2 ^ 32) × IsSmallWithin 199 (kids_given ns whole i)
   small-kids true i h =
-      let all = nodes_between ns i i i nested (omega arith) (omega arith) (omega arith) (omega arith) in
-      let few : nodes_of (between ns (before ns i) i) < 2 ^ 32 = omega (arith, all, bounded.nodes) in
-      (omega (arith, tops-nodes (between ns (before ns i) i), few), small-trees i 199 (before ns i) i (omega (arith, low i h)) few)
+      let all = nodes_between ns i i i givable.nested (omega arith) (omega arith) (omega arith) (omega arith) in
+      let few : nodes_of (between ns (before ns i) i) < 2 ^ 32 = omega (arith, all, givable.bounded.nodes) in
+      (omega (arith, tops-nodes (between ns (before ns i) i), few), small-trees i 199 (before ns i) i (omega (arith, givable.low i h)) few)
   small-kids false i h =
       let Small : Open → Type 0 = λ o. (tops_of o < 2 ^ 32) × IsSmallWithin 199 o in
       by_test Small (fits ns (before ns i) i) (hole (rest_hole (all_of i)) nil) nil (λ k. (omega arith, tt)) (λ k. (omega arith, tt))
@@ -68,8 +68,8 @@ module _ (ns : List LaidNode) (bounded : IsBounded ns) (nested : IsNested ns) (l
       by_test (IsSmallWithin 200) (fits ns (before ns parent) to) (node (node_at ns i).label (kids_given ns whole i) (given_from ns whole parent most (before ns i))) nil
       (λ p. let some = fits_some ns (before ns parent) to p in
       let kids = small-kids whole i (omega (arith, some)) in
-      (bounded.labels i, kids.0, kids.1, small-levels whole parent most (before ns i) h (omega (arith, some)))) (λ p. tt)
+      (givable.bounded.labels i, kids.0, kids.1, small-levels whole parent most (before ns i) h (omega (arith, some)))) (λ p. tt)
 
   -- a list that is given is small enough for a wire
   pub small-given : (whole : Bool) (parent most to : ℕ) → parent < length ns → to ≤ parent → IsSmall (given_from ns whole parent most to)
-  small-given whole parent most to h k = (omega (arith, tops-given whole parent most to, bounded.nodes), small-levels whole parent most to h k)
+  small-given whole parent most to h k = (omega (arith, tops-given whole parent most to, givable.bounded.nodes), small-levels whole parent most to h k)

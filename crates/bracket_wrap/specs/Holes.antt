@@ -7,6 +7,7 @@ use Rattle.document_store.specs.Laid.{LaidNode}
 use Rattle.bracket_wrap.specs.declared.holes.Rest.{Rest}
 use Rattle.document_store.specs.Laid.{node_at}
 use Rattle.document_store.specs.Between.{before, fits, between}
+use Rattle.document_store.specs.Shallow.{IsBounded, IsLow, IsNested}
 
 -- the hole that stands for the last children of a node, those that are laid up to a position
 abbrev pub rest_hole : Rest → HoleId
@@ -45,3 +46,9 @@ abbrev pub given_from : List LaidNode → Bool → ℕ → ℕ → ℕ → Open
 given_from ns whole parent zero to = rest_given ns (record { node = parent; to = to })
 given_from ns whole parent (suc most) to =
     cond (fits ns (before ns parent) to) (node (node_at ns (to - 1)).label (kids_given ns whole (to - 1)) (given_from ns whole parent most (before ns (to - 1)))) nil
+
+-- the nodes nest, have few levels below them, and are few and short
+pub record IsGivable (ns : List LaidNode) : Type 0 where
+  pub nested : IsNested ns
+  pub low : IsLow ns
+  pub bounded : IsBounded ns

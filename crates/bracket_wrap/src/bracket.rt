@@ -1,6 +1,6 @@
 // Bracket documents, given so many children at a time.
 ghost use Rattle.std.specs.Prelude.{◌≤◌, ◌<◌, length};
-ghost use Rattle.document_store.specs.Shallow.{IsBounded, IsLow, IsNested};
+ghost use Rattle.bracket_wrap.specs.Holes.{IsGivable};
 
 use crate::holes::Rest;
 use document_store::Store;
@@ -20,9 +20,7 @@ pub struct BracketDoc {
     deep: bool,
     ghost some: { 1 ≤ chunk },
     ghost rooted: { 0 < length nodes },
-    ghost nested: { IsNested nodes },
-    ghost low: { IsLow nodes },
-    ghost bounded: { IsBounded nodes },
+    ghost givable: { IsGivable nodes },
 }
 
 impl BracketDoc {

@@ -1,8 +1,7 @@
 // What no clause says of buffers: that steps and walks succeed at each cutting, with fills counted by hand, again after each
 // fault, and over the second of two documents.
-use crate::documents::{document, joined, source};
+use crate::documents::{document, joined, source, sources};
 use lxp_core::WalkFault;
-use lxp_memory::MemSources;
 use mix_tree::Place;
 use std::alloc::Global;
 use std::test::Fail;
@@ -53,7 +52,7 @@ fn each_cutting_is_walked(rt: HostRuntime) -> Result<(), Fail> {
     for (choices, forward, fills) in rows {
         let docs = vec![in alloc; document(alloc, DOCUMENT)?]?;
         let choices = choices.to_vec(alloc)?;
-        let mut s = MemSources::new(alloc, docs, choices, Vec::new(alloc), forward)?;
+        let mut s = sources(alloc, docs, choices, Vec::new(alloc), forward)?;
         let labels = walk_all(alloc, &mut s, 0)?;
         assert_eq!(rt; joined(alloc, &labels)?.as_slice(), b"abdec".as_slice());
         assert_eq!(rt; s.fills(), fills);
@@ -67,7 +66,7 @@ fn a_walk_answers_after_each_fault(rt: HostRuntime) -> Result<(), Fail> {
     for failing in 1..6 {
         let docs = vec![in alloc; document(alloc, DOCUMENT)?]?;
         let failing = vec![in alloc; failing]?;
-        let mut s = MemSources::new(alloc, docs, Vec::new(alloc), failing, true)?;
+        let mut s = sources(alloc, docs, Vec::new(alloc), failing, true)?;
         let mut buffer = Buffer::open(alloc, &s, 0)?;
         let top = buffer.top();
         let mut out = Vec::new(alloc);
@@ -86,7 +85,7 @@ fn a_walk_answers_after_each_fault(rt: HostRuntime) -> Result<(), Fail> {
 fn the_second_of_two_documents_is_walked(rt: HostRuntime) -> Result<(), Fail> {
     let alloc = rt.alloc();
     let docs = vec![in alloc; document(alloc, "a[b]")?, document(alloc, "c")?]?;
-    let mut s = MemSources::new(alloc, docs, Vec::new(alloc), Vec::new(alloc), true)?;
+    let mut s = sources(alloc, docs, Vec::new(alloc), Vec::new(alloc), true)?;
     let others = walk_all(alloc, &mut s, 1)?;
     assert_eq!(rt; joined(alloc, &others)?.as_slice(), b"c".as_slice());
     Ok(())

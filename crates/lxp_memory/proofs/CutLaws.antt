@@ -69,13 +69,13 @@ closed-children ns choice i (suc m) rest h =
     ∙ ap (λ f. followed f (closed (trees_in ns) rest)) (sym (run-suc ns i m (omega arith)))
 
 -- what a document knows of children that it has
-record HasChildren (ns : List DocNode) (p : Span) : Type 0 where
-  node : p.node < length ns
-  order : p.from ≤ p.to
-  count : p.to ≤ count_of ns p.node
+pub record HasChildren (ns : List DocNode) (p : Span) : Type 0 where
+  pub node : p.node < length ns
+  pub order : p.from ≤ p.to
+  pub count : p.to ≤ count_of ns p.node
 
 -- a document that has children of a node has the node, and as many children of it
-has_children : (ns : List DocNode) (p : Span) → has_span ns p ≡ true → HasChildren ns p
+pub has_children : (ns : List DocNode) (p : Span) → has_span ns p ≡ true → HasChildren ns p
 has_children ns p e = record { node = grind (arith, nat_tests); order = grind (arith, nat_tests); count = grind (arith, nat_tests) }
 
 -- where a document has a node and as many children of it, it has those children

@@ -8,9 +8,12 @@ use Rattle.lxp_memory.specs.declared.memory.MemSources.{MemSources}
 use Rattle.lxp_memory.specs.Nodes.{AreWithin}
 use Rattle.lxp_memory.specs.Span.{root_span, span_trees, hole_span, has_span}
 use Rattle.lxp_memory.specs.Choice.{choice_of}
-use Rattle.lxp_memory.specs.Documents.{document_at, root_of, nodes_at}
+use Rattle.lxp_memory.specs.Documents.{AreAllSmall, document_at, root_of, nodes_at}
 use Rattle.lxp_memory.specs.Memory.{choices_of, turn_of, next_list}
+use Rattle.lxp_memory.specs.Small.{AreSmall}
 use Rattle.lxp_memory.proofs.CutLaws.{IsAnswer, answer-cut, is_choice}
+use Rattle.lxp_memory.proofs.SmallCuts.{few_chosen, small_cut}
+use Rattle.lxp_core.specs.Small.{IsSmall}
 
 -- the first of some lists of trees; no trees where there is none
 first_of_list : List Forest → Forest
@@ -53,3 +56,15 @@ pub next_list_answers : (m : MemSources) (s : ℕ) (h : HoleId) → s < length m
     → IsAnswer (nodes_at m.docs.items s) (choice_of (slice_index (choices_of m) (turn_of m)) m.forward) (hole_span h) (next_list m s h)
 next_list_answers m s h within known =
     answer-cut (nodes_at m.docs.items s) (choice_of (slice_index (choices_of m) (turn_of m)) m.forward) (hole_span h) (is_choice (slice_index (choices_of m) (turn_of m)) m.forward) known (within_at m.docs.items s within)
+
+-- the lists below the nodes of a source's document are small, where they are in each document
+small_at : (docs : List Document) (s : ℕ) → s < length docs → AreAllSmall docs → AreSmall (nodes_at docs s)
+small_at [] s h small = absurd (omega arith)
+small_at (d ∷ docs) zero h small = small.0
+small_at (d ∷ docs) (suc s) h small = small_at docs s (omega arith) small.1
+
+-- the next list of a known hole is small enough for a wire
+pub next_list_small : (m : MemSources) (s : ℕ) (h : HoleId) → s < length m.docs.items → has_span (nodes_at m.docs.items s) (hole_span h) ≡ true → IsSmall (next_list m s h)
+next_list_small m s h within known =
+    let byte = slice_index (choices_of m) (turn_of m) in
+    small_cut (nodes_at m.docs.items s) (choice_of byte m.forward) (hole_span h) (few_chosen byte m.forward) known (within_at m.docs.items s within) (small_at m.docs.items s within m.small)

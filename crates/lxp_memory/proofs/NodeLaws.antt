@@ -10,7 +10,7 @@ use Rattle.lxp_memory.specs.Span.{root_span, span_trees}
 use Rattle.lxp_core.proofs.Opens.{forest_of-append, nodes_of-followed}
 
 -- there is a tree for each node and each further tree
-length-trees_before : (ns : List DocNode) (xs : List LabelledTree) → length (trees_before ns xs) ≡ length ns + length xs
+pub length-trees_before : (ns : List DocNode) (xs : List LabelledTree) → length (trees_before ns xs) ≡ length ns + length xs
 length-trees_before [] xs = omega arith
 length-trees_before (n ∷ ns) xs = omega (arith, length-trees_before ns xs)
 
@@ -50,16 +50,21 @@ first_tree-append : (ns : List DocNode) (t : LabelledTree) (queue kids : List La
 first_tree-append [] t queue kids = refl
 first_tree-append (n ∷ ns) t queue kids = refl
 
+-- the trees after placing one are those before, and its children
+pub trees-placed : (t : LabelledTree) (ns : List DocNode) (queue : List LabelledTree) (ns' : List DocNode) (queue' : List LabelledTree) (p : IsPlaced t ns queue ns' queue') → AreWithin ns (length (t ∷ queue))
+    → trees_before ns' queue' ≡ trees_before ns (t ∷ queue) ++ p.kids
+trees-placed t ns queue ns' queue' p h =
+    ap (λ m. trees_before m queue') p.nodes_are
+    ∙ ap (λ q. trees_before (ns ++ p.node ∷ []) q) p.queue_is
+    ∙ trees_before-push ns p.node (queue ++ p.kids)
+    ∙ ap (trees_before ns) (with_node-placed t p.node queue p.kids p.label p.ahead p.count p.below)
+    ∙ trees_before-append ns (t ∷ queue) p.kids h
+
 -- placing a tree changes the first tree in nothing
 pub first_tree-placed : (t : LabelledTree) (ns : List DocNode) (queue : List LabelledTree) (ns' : List DocNode) (queue' : List LabelledTree) → IsPlaced t ns queue ns' queue' → AreWithin ns (length (t ∷ queue))
     → first_tree (forest_of (trees_before ns' queue')) ≡ first_tree (forest_of (trees_before ns (t ∷ queue)))
 first_tree-placed t ns queue ns' queue' p h =
-    ap (λ m. first_tree (forest_of (trees_before m queue'))) p.nodes_are
-    ∙ ap (λ q. first_tree (forest_of (trees_before (ns ++ p.node ∷ []) q))) p.queue_is
-    ∙ ap (λ ts. first_tree (forest_of ts)) (trees_before-push ns p.node (queue ++ p.kids))
-    ∙ ap (λ q. first_tree (forest_of (trees_before ns q))) (with_node-placed t p.node queue p.kids p.label p.ahead p.count p.below)
-    ∙ ap (λ ts. first_tree (forest_of ts)) (trees_before-append ns (t ∷ queue) p.kids h)
-    ∙ first_tree-append ns t queue p.kids
+    ap (λ ts. first_tree (forest_of ts)) (trees-placed t ns queue ns' queue' p h) ∙ first_tree-append ns t queue p.kids
 
 -- with one node more, whose children are among so many further trees, the children of each node are among those
 within-push : (ns : List DocNode) (n : DocNode) (before after : ℕ) → AreWithin ns (suc before) → before ≤ after → n.ahead + n.count ≤ after → AreWithin (ns ++ n ∷ []) after
@@ -77,8 +82,8 @@ within-placed t ns queue ns' queue' p h =
     subst (λ m. AreWithin m (length queue')) (sym p.nodes_are)
     (within-push ns p.node (length queue) (length queue') h (omega arith) (omega (arith, p.ahead, p.count)))
 
--- placing a tree leaves fewer nodes to be placed
-pub fewer-placed : (t : LabelledTree) (ns : List DocNode) (queue : List LabelledTree) (ns' : List DocNode) (queue' : List LabelledTree) → IsPlaced t ns queue ns' queue' → nodes_of (forest_of queue') < nodes_of (forest_of (t ∷ queue))
+-- placing a tree leaves one node less to be placed
+pub fewer-placed : (t : LabelledTree) (ns : List DocNode) (queue : List LabelledTree) (ns' : List DocNode) (queue' : List LabelledTree) → IsPlaced t ns queue ns' queue' → suc (nodes_of (forest_of queue')) ≡ nodes_of (forest_of (t ∷ queue))
 fewer-placed t ns queue ns' queue' p =
     omega (arith, ap (λ q. nodes_of (forest_of q)) p.queue_is, ap nodes_of (forest_of-append queue p.kids), nodes_of-followed (forest_of queue) (forest_of p.kids), ap nodes_of p.below)
 

@@ -5,4 +5,6 @@ pub mod Documents
 pub mod Memory
 pub mod MemoryLaws
 pub mod Nodes
+pub mod Small
 pub mod Span
+pub mod Sums

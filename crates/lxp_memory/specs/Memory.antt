@@ -11,7 +11,7 @@ use Rattle.lxp_memory.specs.Choice.{choice_of}
 use Rattle.lxp_memory.specs.Cut.{cut}
 use Rattle.lxp_memory.specs.Documents.{nodes_at}
 
--- every document is told; a hole weighs the nodes that it stands for
+-- every document is told, and each list is small; a hole weighs the nodes that it stands for
 abbrev pub memory_view : MemSources → View
 memory_view m = record {
   count = length m.docs.items;
@@ -21,7 +21,7 @@ memory_view m = record {
   forest = λ s h. span_trees (nodes_at m.docs.items s) (hole_span h);
   weight = λ s h. nodes_of (span_trees (nodes_at m.docs.items s) (hole_span h));
   forward = λ s. m.forward;
-  small = λ s. false;
+  small = λ s. true;
   fills = m.fills;
   faults = slice_index m.faults.items;
 }

@@ -61,3 +61,7 @@ root_in (d ∷ docs) (suc s) h = root_in docs s (omega arith)
 -- the hole of a whole document is known
 pub root_is_known : (a : MemSources) (s : ℕ) → s < (memory_view a).count → (memory_view a).knows s ((memory_view a).root s) ≡ true
 root_is_known a s h = root_in a.docs.items s h
+
+-- each list that sources in memory answer is small
+pub all_small : (a : MemSources) (s : ℕ) → s < (memory_view a).count → (memory_view a).small s ≡ true
+all_small a s h = refl

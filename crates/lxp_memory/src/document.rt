@@ -1,10 +1,15 @@
 // How a document lies in memory.
 ghost use Rattle.std.specs.Prelude.{◌≡◌, ◌≤◌, ◌+◌, ◌<◌, ◌++◌, ◌∷◌, [], length, true, false, nat_lt, nat_le, ◌&&◌, IfOk, OnOk, MatchOption};
+ghost use Rattle.std.specs.List.{AllByRecursion};
 ghost use Rattle.mix_tree.specs.Forest.{forest_of, alone};
-ghost use Rattle.lxp_memory.specs.Span.{hole_span, has_span};
-ghost use Rattle.lxp_memory.specs.Nodes.{AreWithin, IsPlaced, count_of, first_of, run};
+ghost use Rattle.mix_tree.specs.Weight.{nodes_of, tree_nodes};
+ghost use Rattle.lxp_memory.specs.Nodes.{AreWithin, IsPlaced, count_of, first_of, run, trees_before};
+ghost use Rattle.lxp_memory.specs.Small.{AreSmall, fits_wire};
+ghost use Rattle.lxp_memory.specs.Span.{has_span, hole_span, root_span, span_trees};
+ghost use Rattle.lxp_memory.specs.Sums.{AreSums};
 
 use crate::span::Span;
+use crate::sums::sums_of;
 use lxp_core::HoleId;
 use mix_tree::{Label, Tree};
 use std::alloc::{AllocError, Global};
@@ -23,8 +28,11 @@ pub struct DocNode {
 #[derive(Drop)]
 pub struct Document {
     pub(crate) nodes: Vec<DocNode>,
+    // How many nodes the trees from each node on have together.
+    sums: Vec<u128>,
     ghost within: { AreWithin nodes.items 0 },
     ghost rooted: { count_of nodes.items 0 ≡ 1 },
+    ghost summed: { AreSums nodes.items sums.items },
 }
 
 // The document node above a root.
@@ -51,21 +59,35 @@ fn place(nodes: &mut Vec<DocNode>, queue: &mut VecDeque<Tree>, tree: Tree) -> Re
     Ok(())
 }
 
+// The nodes of the document with a root, level by level. No tree has more nodes than there are.
+fn placed(alloc: Global, root: Tree) -> Result<Vec<DocNode>, AllocError>
+    ensures within { IfOk result (λ nodes. AreWithin nodes.items 0) }
+    ensures rooted { IfOk result (λ nodes. count_of nodes.items 0 ≡ 1) }
+    ensures document { IfOk result (λ nodes. span_trees nodes.items root_span ≡ alone root) }
+    ensures bound { IfOk result (λ nodes. AllByRecursion (λ t. tree_nodes t ≤ length nodes.items) (trees_before nodes.items [])) }
+    ensures small { IfOk result (λ nodes. fits_wire root ≡ true → AreSmall nodes.items) }
+{
+    let mut nodes = Vec::new(alloc);
+    let mut queue = VecDeque::new(alloc);
+    queue.push_back(above(alloc, root)?)?;
+    while let Some(tree) = queue.pop_front() {
+        place(&mut nodes, &mut queue, tree)?;
+    }
+    nodes.shrink_to_fit();
+    Ok(nodes)
+}
+
 impl Document {
     ghost use Rattle.lxp_memory.specs.DocumentHoles.{document_forest, root_hole};
 
-    /// The document with a root.
+    /// The document with a root. Where the root fits a wire, so does the list below each node.
     pub fn new(alloc: Global, root: Tree) -> Result<Document, AllocError>
-        ensures { IfOk result (λ d. document_forest d root_hole ≡ alone root) }
+        ensures document { IfOk result (λ d. document_forest d root_hole ≡ alone root) }
+        ensures small { IfOk result (λ d. fits_wire root ≡ true → AreSmall d.nodes.items) }
     {
-        let mut nodes = Vec::new(alloc);
-        let mut queue = VecDeque::new(alloc);
-        queue.push_back(above(alloc, root)?)?;
-        while let Some(tree) = queue.pop_front() {
-            place(&mut nodes, &mut queue, tree)?;
-        }
-        nodes.shrink_to_fit();
-        Ok(Document { nodes })
+        let nodes = placed(alloc, root)?;
+        let sums = sums_of(alloc, &nodes)?;
+        Ok(Document { nodes, sums })
     }
 
     /// The hole that stands for the root.
@@ -110,5 +132,14 @@ impl Document {
             return Some(span);
         }
         None
+    }
+
+    /// How many nodes the trees of some children have. Constant time.
+    pub(crate) fn weight(&self, span: Span) -> u128
+        requires { has_span self.now.nodes.items span ≡ true }
+        ensures { result ≡ nodes_of (span_trees self.now.nodes.items span) }
+    {
+        let first = self.first(span.node);
+        self.sums[first + span.from] - self.sums[first + span.to]
     }
 }

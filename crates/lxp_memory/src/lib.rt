@@ -6,8 +6,11 @@ mod chunks;
 mod circle;
 mod cutting;
 mod document;
+mod fitting;
 mod memory;
 mod span;
+mod sums;
 
 pub use document::Document;
+pub use fitting::fit_wire;
 pub use memory::MemSources;

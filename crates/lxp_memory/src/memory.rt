@@ -1,12 +1,14 @@
 // Documents in memory as sources, for trying out every cutting and every fault.
-ghost use Rattle.std.specs.Prelude.{◌≡◌, ◌<◌, ◌^◌, length, map, IfOk};
+ghost use Rattle.std.specs.Prelude.{◌≡◌, ◌<◌, ◌^◌, length, map, true, IfOk};
+ghost use Rattle.std.specs.List.{list_all};
 ghost use Rattle.mix_tree.specs.Forest.{alone};
-ghost use Rattle.lxp_memory.specs.Documents.{root_of};
+ghost use Rattle.lxp_memory.specs.Documents.{AreAllSmall, AreAllSmall-prop, root_of};
+ghost use Rattle.lxp_memory.specs.Small.{fits_wire};
 
 use crate::choice::Choice;
 use crate::circle::Circle;
 use crate::document::Document;
-use lxp_core::{HoleId, OpenTree, SourceFault, Sources};
+use lxp_core::{HoleId, OpenTree, SourceFault, Sources, Weighed};
 use mix_tree::Tree;
 use std::alloc::{AllocError, Global};
 
@@ -29,11 +31,13 @@ pub struct MemSources {
     faults: Vec<u64>,
     ghost few: { length docs.items < 2 ^ 32 },
     ghost counted: { length faults.items ≡ length docs.items },
+    ghost small: { AreAllSmall docs.items } by { AreAllSmall-prop docs.items },
 }
 
 // The trees as documents, in the same order.
 fn documents_of(alloc: Global, trees: Vec<Tree>) -> Result<Vec<Document>, AllocError>
-    ensures { IfOk result (λ docs. map root_of docs.items ≡ map alone trees.items) }
+    ensures roots { IfOk result (λ docs. map root_of docs.items ≡ map alone trees.items) }
+    ensures small { IfOk result (λ docs. list_all fits_wire trees.items ≡ true → AreAllSmall docs.items) }
 {
     let mut docs = Vec::new(alloc);
     for tree in trees {
@@ -50,7 +54,8 @@ impl MemSources {
     ghost use Rattle.lxp_memory.specs.Memory.{memory_view, CameFrom, fails_next, failing_of, choices_of, turn_of};
 
     /// Sources of these documents, in order, of which no fill was asked. Those fills fail that `failing` names, counted
-    /// from 1 over the fills of known holes. Where `forward`, no list begins with a hole.
+    /// from 1 over the fills of known holes. Where `forward`, no list begins with a hole. There are fewer than 2^32 documents; each has at
+    /// most 200 levels, and each label and each list in it is shorter than 2^32, as `fit_wire` tests.
     pub fn new(
         alloc: Global,
         docs: Vec<Tree>,
@@ -58,7 +63,8 @@ impl MemSources {
         failing: Vec<u64>,
         forward: bool,
     ) -> Result<MemSources, AllocError>
-        requires { length docs.items < 2 ^ 32 }
+        requires few { length docs.items < 2 ^ 32 }
+        requires small { list_all fits_wire docs.items ≡ true }
         ensures count { IfOk result (λ m. (memory_view m).count ≡ length docs.items) }
         ensures documents { IfOk result (λ m. (s : ℕ) → document (memory_view m) s ≡ document_at docs.items s) }
         ensures told { IfOk result (λ m. (s : ℕ) → (memory_view m).told s ≡ true) }
@@ -184,4 +190,18 @@ impl Sources for MemSources {
     ghost keeps = { came_keeps };
 
     ghost root_known = { root_is_known };
+}
+
+impl Weighed for MemSources {
+    ghost use Rattle.lxp_memory.specs.MemoryLaws.{all_small};
+
+    fn weight(&self, s: u32, hole: HoleId) -> Option<u128> {
+        let doc = &self.docs[s as usize];
+        match doc.span(hole) {
+            None => None,
+            Some(span) => Some(doc.weight(span)),
+        }
+    }
+
+    ghost all_small = { all_small };
 }

@@ -46,4 +46,4 @@ returns-clause-small c =
     let d = c.args.self.now in
     let list = list_of c.args.self.now c.args.hole c.in-Some.rest (plain c.in_ok-give.field-0.items) c.in_ok-give.ensures c.in-Some.ensures.0 in
     let there = known-parts d.nodes c.args.hole c.in-Some.ensures.1 in
-    subst IsSmall list (small-given d.nodes d.bounded d.nested d.low d.deep (slice_index c.args.hole.words 0) d.chunk (slice_index c.args.hole.words 1) there.0 there.2)
+    subst IsSmall list (small-given d.nodes d.givable d.deep (slice_index c.args.hole.words 0) d.chunk (slice_index c.args.hole.words 1) there.0 there.2)

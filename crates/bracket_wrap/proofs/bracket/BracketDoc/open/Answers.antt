@@ -8,9 +8,11 @@ invariant_of-result c =
     record {
       some = c.requires.some;
       rooted = document_some c.args.nodes t.0 t.1;
-      nested = nested c.args.nodes t.0 t.1;
-      low = low c.args.nodes t.0 t.1 t.2;
-      bounded = c.bounds.ensures;
+      givable = record {
+        nested = nested c.args.nodes t.0 t.1;
+        low = low c.args.nodes t.0 t.1 t.2;
+        bounded = c.bounds.ensures;
+      };
     }
 
 pub returns-clause-document : goal.returns-clause-document

@@ -1,13 +1,14 @@
-use Rattle.std.proofs.Common.{◌≤◌, ap, subst, sym, ◌∙◌, slice_index}
+use Rattle.std.proofs.Common.{◌≡◌, ◌≤◌, false, ap, subst, sym, ◌∙◌, slice_index}
 use Rattle.std.proofs.lemmas.Bool.{false≢true}
 use Rattle.mix_tree.specs.Weight.{nodes_of}
 use Rattle.lxp_core.specs.declared.open_tree.HoleId.{HoleId}
-use Rattle.lxp_core.specs.Open.{closed, weight_of, AllHoles, IsProgress}
+use Rattle.lxp_core.specs.Open.{closed, weight_of, AllHoles, IsProgress, begins_with_hole}
+use Rattle.lxp_core.specs.Small.{IsSmall}
 use Rattle.lxp_memory.specs.Span.{span_trees, hole_span, has_span}
-use Rattle.lxp_memory.specs.Choice.{choice_of}
+use Rattle.lxp_memory.specs.Choice.{choice_of, leads_of}
 use Rattle.lxp_memory.specs.Cut.{cut}
 use Rattle.lxp_memory.specs.Documents.{nodes_at}
-use Rattle.lxp_memory.proofs.DocumentLaws.{nodes_at-read, known_at, next_list_answers}
+use Rattle.lxp_memory.proofs.DocumentLaws.{nodes_at-read, known_at, next_list_answers, next_list_small}
 use Rattle.lxp_memory.proofs.memory.MemSourcesSources.fill.Goals as goal
 
 pub returns-in_default-clause-unknown : goal.returns-in_default-clause-unknown
@@ -62,3 +63,16 @@ returns-clause-lighter c =
     let known = known_at m.docs.items c.args.s c.args.hole _ _ c.requires c.index.ensures c.in-Some.ensures in
     let weight = λ (h : HoleId). nodes_of (span_trees (nodes_at m.docs.items c.args.s) (hole_span h)) in
     subst (λ o. weight_of weight o ≤ weight c.args.hole) (sym (returns-clause-list c)) (next_list_answers m c.args.s c.args.hole c.requires known).lighter
+
+pub returns-clause-small : goal.returns-clause-small
+returns-clause-small c = λ small.
+    let m = c.args.self.now in
+    let known = known_at m.docs.items c.args.s c.args.hole _ _ c.requires c.index.ensures c.in-Some.ensures in
+    subst IsSmall (sym (returns-clause-list c)) (next_list_small m c.args.s c.args.hole c.requires known)
+
+pub returns-clause-forward : goal.returns-clause-forward
+returns-clause-forward c = λ forward.
+    let m = c.args.self.now in
+    let known = known_at m.docs.items c.args.s c.args.hole _ _ c.requires c.index.ensures c.in-Some.ensures in
+    let held = ap (leads_of (slice_index m.circle.bytes.items m.circle.turn)) forward in
+    subst (λ o. begins_with_hole o ≡ false) (sym (returns-clause-list c)) ((next_list_answers m c.args.s c.args.hole c.requires known).forward held)
