@@ -113,8 +113,8 @@ module _ (p : PlanValue) (docs : Documents) (kl kr : Kinds) (own more : List Key
 
 module _ (p : PlanValue) (valid : IsValid p) (typed : IsTyped p.ops) (docs : Documents) where
   -- each value of each binding of operator n is as its kind says
-  abbrev pub AreOps : ℕ → Type 0
-  AreOps n = EachBinding (IsRow docs p.ops n) (events docs p.ops n)
+  abbrev pub AreSound : ℕ → Type 0
+  AreSound n = EachBinding (IsRow docs p.ops n) (events docs p.ops n)
 
   -- a node that an operator binds anew is as its kind says
   node_made : (n out : ℕ) (new : Node) (row : TolledRow) → IsMadeBy p valid typed out n → listing (shape_at p.ops n) ≡ None → element_list (shape_at p.ops n) ≡ None
@@ -229,7 +229,7 @@ module _ (p : PlanValue) (valid : IsValid p) (typed : IsTyped p.ops) (docs : Doc
 
   -- each value of each binding of a stage is as its kind says, where each of its input's is
   stage_sound : (n : ℕ) → n < length p.ops → (i : ℕ) → i < length p.ops → i < n → (stage : Stage) → shape_at p.ops n ≡ passes_on i stage → IsStageFit (kinds p.ops i) stage
-      → AreOps i
+      → AreSound i
       → EachBinding (IsSound docs p.ops (shape_kinds (passes_on i stage) (kinds p.ops)) (shape_held (passes_on i stage) (held p.ops))) (shape_events docs (front p.ops) (passes_on i stage) (events docs p.ops))
   stage_sound n b i l s (filters test) is fit h = binding_only (IsRow docs p.ops i) (λ row. passes docs test (row_node row)) (events docs p.ops i) h
   stage_sound n b i l s (extends out (a_list_of pieces)) is fit h =
@@ -263,7 +263,7 @@ module _ (p : PlanValue) (valid : IsValid p) (typed : IsTyped p.ops) (docs : Doc
 
   -- each value of each binding of a shape is as its kind says, where each of its inputs' is
   shape_sound : (n : ℕ) → n < length p.ops → (f : Shape) → shape_at p.ops n ≡ f → IsShapeFit f (kinds p.ops)
-      → ((i : ℕ) → Among i (shape_inputs f) → i < n) → ((i : ℕ) → Among i (shape_inputs f) → AreOps i)
+      → ((i : ℕ) → Among i (shape_inputs f) → i < n) → ((i : ℕ) → Among i (shape_inputs f) → AreSound i)
       → EachBinding (IsSound docs p.ops (shape_kinds f (kinds p.ops)) (shape_held f (held p.ops))) (shape_events docs (front p.ops) f (events docs p.ops))
   shape_sound n b (one_source s out) is fit l h =
       let m = made_by p valid typed out n b (subst (λ (f : Shape). Among out (shape_outs f)) (sym is) (inl refl)) in (
@@ -296,7 +296,7 @@ module _ (p : PlanValue) (valid : IsValid p) (typed : IsTyped p.ops) (docs : Doc
   shape_sound n b (no_events i made) is fit l h = tt
 
   -- each value of each binding of the operators below a number is as its kind says
-  sound_under : (k n : ℕ) → n < k → n < length p.ops → AreOps n
+  sound_under : (k n : ℕ) → n < k → n < length p.ops → AreSound n
   sound_under zero n h b = absurd (omega (arith, h))
   sound_under (suc k) n h b =
       let f : Shape = shape_at p.ops n in
@@ -308,5 +308,5 @@ module _ (p : PlanValue) (valid : IsValid p) (typed : IsTyped p.ops) (docs : Doc
       (subst (EachBinding (IsSound docs p.ops (shape_kinds f (kinds p.ops)) (shape_held f (held p.ops)))) (sym (events-of docs p.ops n (op_at p.ops n) refl inputs)) is))
 
   -- each value of each binding of an operator is as its kind says
-  pub all_sound : (n : ℕ) → n < length p.ops → AreOps n
+  pub all_sound : (n : ℕ) → n < length p.ops → AreSound n
   all_sound n b = sound_under (suc n) n (omega arith) b
