@@ -1,7 +1,7 @@
 // A run of a case, and what differs of what it is wanted to leave.
 use crate::setting::{Twist, failing, files_of, own_words, streams_of};
 use case_text::{Fault, Part, differing_line, differing_number, part_of, tables_of};
-use mix_call::mixq;
+use mix_call::{mixq, mixq_serve};
 use mix_io::{MemFiles, MemInput, MemSink, Streams};
 use std::alloc::Global;
 use table_keep::{MemTables, Tables};
@@ -22,7 +22,8 @@ pub struct Wanted<'a> {
     pub pages: Option<u64>,
 }
 
-// The top call alone: what it promises is not needed here, and would make the proof of each function that knows it long.
+// A top call alone, that of serving where the first word is `serve`: what it promises is not needed here, and would make the proof of each
+// function that knows it long.
 fn call(
     alloc: Global,
     words: &[String],
@@ -30,10 +31,15 @@ fn call(
     tables: MemTables,
     streams: &mut Streams<MemInput, MemSink>,
 ) -> (u8, MemTables) {
-    mixq(alloc, words, files, tables, streams)
+    match words {
+        [word, ..] if word.as_str() == "serve" => {
+            mixq_serve(alloc, words, files, tables, streams)
+        }
+        _ => mixq(alloc, words, files, tables, streams),
+    }
 }
 
-// Runs a case by the top call.
+// Runs a case by a top call.
 fn run(alloc: Global, parts: &[Part<'_>], twist: Twist<'_>) -> Result<Outcome, Fault> {
     let words = own_words(alloc, parts)?;
     let mut files = files_of(alloc, parts, twist)?;

@@ -1,5 +1,5 @@
 -- How a talk is held, or refused.
-use Rattle.std.proofs.Common.{◌≡◌, inl, inr, ℕ, Bool, List, [], Result, Ok, Err, refl, sym, subst, string_bytes}
+use Rattle.std.proofs.Common.{◌≡◌, inl, inr, ℕ, Bool, List, [], Result, Ok, Err, refl, string_bytes}
 use Rattle.mix_io.specs.Input.{InputView}
 use Rattle.mix_io.specs.Views.{FilesView, SinkView}
 use Rattle.mix_talk.specs.Ends.{heard_by}
@@ -10,12 +10,13 @@ use Rattle.mix_io.proofs.Taken.{took_none}
 use Rattle.table_keep.specs.Views.{TablesView}
 use Rattle.plan_core.specs.Events.{VisitedAreMatches}
 use Rattle.plan_core.specs.PlanMade.{plan_value}
-use Rattle.mix_top.specs.Ends.{Ends, TookPrefix}
+use Rattle.mix_top.specs.Ends.{Ends}
 use Rattle.mix_top.specs.Outside.{outside}
 use Rattle.mix_top.specs.Running.{question_of}
 use Rattle.mix_top.specs.declared.refusal.Refusal.{Refusal}
 use Rattle.mix_top.specs.declared.refusal.Stop.TheVariants as stop
 use Rattle.mix_top.proofs.RunCourse.{view_question}
+use Rattle.mix_top.proofs.StopLaws.{refusal_ends}
 use Rattle.mix_call.specs.Ends.{EndsSo, TalkEnds, TalkedAlong, talk_status}
 use Rattle.mix_call.specs.Over.{IsReady, IsReadyStop, TalkOver}
 use Rattle.mix_call.specs.Talks.{IsTalkRefused, Talks}
@@ -67,24 +68,7 @@ module _ (old new : FilesView) (tables tables' : TablesView) (view catalog : Lis
 -- where a talk was refused, and the line of its refusal was written or cut short, the talk ends
 pub refused : (old new : FilesView) (tables : TablesView) (view catalog : List ℕ) (input : InputView) (before after : SinkView) (r : Refusal) (status : ℕ) → IsReadyStop old new view catalog (stop.Refused r)
     → Ends (λ s lines. (s ≡ r.status) × (lines ≡ string_bytes r.line)) before after status → TalkEnds (outside old tables) (outside new tables) view catalog input input before after status
-refused old new tables view catalog input before after r status cause ends = inl (refl, ended ends)
-  where
-    Line : ℕ → List ℕ → Type 0
-    Line s lines = (s ≡ r.status) × (lines ≡ string_bytes r.line)
-
-    Refused : ℕ → List ℕ → Type 0
-    Refused = IsTalkRefused old new view catalog
-
-    lines_are : (s : ℕ) (lines : List ℕ) → Line s lines → Refused s lines
-    lines_are s lines l = subst (λ (n : ℕ). Refused n lines) (sym l.0) (subst (Refused r.status) (sym l.1) cause)
-
-    prefix : TookPrefix Line before after → TookPrefix Refused before after
-    prefix f = (f.0, f.1, lines_are f.0 f.1 f.2, f.3)
-
-    ended : Ends Line before after status → Ends Refused before after status
-    ended (inl w) = inl (record { lines = w.lines; course = lines_are status w.lines w.course; written = w.written })
-    ended (inr (inl w)) = inr (inl (record { five = w.five; cause = w.cause; prefix = prefix w.prefix }))
-    ended (inr (inr w)) = inr (inr (record { six = w.six; prefix = elim w.prefix [ inl same ↦ inl same | inr f ↦ inr (prefix f) ] }))
+refused old new tables view catalog input before after r status cause ends = inl (refl, refusal_ends (IsTalkRefused old new view catalog) before after r status cause ends)
 
 -- where a talk was stopped before it began, since memory ran out, the talk ends
 pub unbegun : (old new : FilesView) (tables : TablesView) (view catalog : List ℕ) (input : InputView) (before : SinkView) → TalkEnds (outside old tables) (outside new tables) view catalog input input before before 6

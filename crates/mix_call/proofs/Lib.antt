@@ -1,3 +1,4 @@
 mod Held
 mod Readying
+mod Served
 mod TalkLines

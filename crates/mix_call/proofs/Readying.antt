@@ -10,6 +10,7 @@ use Rattle.mix_top.specs.Course.{IsCatalogFile, by_view}
 use Rattle.mix_top.specs.FilesRead.{ReadsAmong, SourceMayRead}
 use Rattle.mix_top.specs.Mounting.{IsMountStop}
 use Rattle.mix_top.specs.Running.{IsViewPlan}
+use Rattle.view_class.specs.Reads.{reads_source}
 use Rattle.mix_top.proofs.FilesRead.{reads_catalog, reads_then, reads_view, source_may_before}
 use Rattle.mix_top.proofs.MountLaws.{IsSteady}
 use Rattle.mix_top.proofs.Readiness.{gives_before, source_refused_before}
@@ -18,8 +19,8 @@ use Rattle.mix_call.specs.Talks.{TalkMayRead}
 
 -- where the file of a source is refused after a view that is accepted, a talk is not ready
 pub sources_unready : (old mid new : FilesView) (view catalog : List ℕ) (sources : List SourceSpec) (ops : List Operator) (stop : Stop) → IsSteady old mid
-    → IsCatalogFile old catalog sources → by_view.Gives old view sources ops → IsMountStop mid new ops sources stop → IsReadyStop old new view catalog stop
-sources_unready old mid new view catalog sources ops (Refused r) steady cat gives h = inr (sources, cat, inr (ops, gives, source_refused_before old mid new ops sources r.status (string_bytes r.line) steady h))
+    → IsCatalogFile old catalog sources → by_view.Gives old view sources ops → IsMountStop mid new (reads_source ops) sources stop → IsReadyStop old new view catalog stop
+sources_unready old mid new view catalog sources ops (Refused r) steady cat gives h = inr (sources, cat, inr (ops, gives, source_refused_before old mid new (reads_source ops) sources r.status (string_bytes r.line) steady h))
 sources_unready old mid new view catalog sources ops SinkFailed steady cat gives h = absurd h
 sources_unready old mid new view catalog sources ops OutOfMemory steady cat gives h = tt
 
@@ -31,4 +32,4 @@ sources_read old mid late new view catalog sources p cat plan keeps later first 
     let one = reads_catalog by_view Sources old view catalog mid first in
     let two = reads_view by_view Sources old view catalog sources cat mid late one second in
     reads_then by_view Sources old view catalog sources cat p.ops (gives_before old mid view sources p keeps plan) late new two (SourceMayRead late p.ops sources)
-    (λ path h. source_may_before old late p.ops sources (keeps_files_twice old mid late keeps later) path h) reads
+    (λ path h. source_may_before old late (reads_source p.ops) sources (keeps_files_twice old mid late keeps later) path h) reads

@@ -1,4 +1,5 @@
 pub mod Ends
 pub mod Over
 pub mod Reading
+pub mod Served
 pub mod Talks

@@ -30,7 +30,7 @@ fn read_talk(words: &[String]) -> Option<Talking<'_>>
 }
 
 /// Does what the words after the program's name ask for, and answers the exit status and the tables. All lines, those of refusals too,
-/// go to the streams' `out`, each by one write; a talk alone takes bytes of their `input`.
+/// go to the streams' `out`, each by one write; a talk alone takes bytes of their `input`. Words of `serve` are for `mixq_serve`, and of no form here.
 ///
 /// Status 0: all was done, and no line is a fault line. 1: all was done, and some line is a fault line. 2: the words are of no form. 3: a
 /// file is not accepted. 4: a file can't be read. 5: `out` failed. 6: memory ran out. 7: a file is longer than 67,108,864 bytes. 10: the

@@ -1,4 +1,5 @@
 mod Apart
+mod Counted
 mod Going
 mod Joined
 mod Appended

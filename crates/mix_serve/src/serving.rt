@@ -1,5 +1,7 @@
 // Requests that are answered as they come.
-ghost use Rattle.std.specs.Prelude.{◌≡◌, ◌+◌, ◌≤◌, ◌++◌, List, ℕ};
+ghost use Rattle.std.specs.Prelude.{◌≡◌, ◌+◌, ◌≤◌, [], ◌++◌, List, ℕ, OnOk, OnErr, IsErrOf};
+ghost use Rattle.mix_base.specs.Counts.{HasRisen};
+ghost use Rattle.mix_io.specs.Contents.{Appends, AppendsPrefix};
 ghost use Rattle.lxp_wire.specs.Answer.{fills_in};
 ghost use Rattle.lxp_wire.specs.Stream.{Splits, fresh, sources_of, stream_of};
 ghost use Rattle.mix_serve.specs.Ends.{ServingEnds};
@@ -9,7 +11,7 @@ ghost use Rattle.wire_text.specs.declared.request.Request.{Request};
 use crate::ServeFault;
 use lxp_core::Weighed;
 use lxp_wire::Server;
-use mix_io::{Input, Sink, Streams};
+use mix_io::{Input, Sink, SinkFault, Streams};
 use std::alloc::Global;
 
 /// The most bytes of a stream of requests after which more is taken.
@@ -29,7 +31,21 @@ pub enum Served {
     TooLong,
 }
 
-// Answers the requests that a piece of a stream completes, by one write. True: a byte has come that begins no request.
+// Writes replies by one write, and nothing where there are none.
+fn write_replies<K: Sink>(alloc: Global, replies: &[u8], out: &mut K) -> Result<(), SinkFault>
+    ensures ok { OnOk result (Appends (K.view out.old).written (K.view out.new).written replies.now) }
+    ensures err { OnErr result (AppendsPrefix (K.view out.old).written (K.view out.new).written replies.now) }
+    ensures count { (K.view out.old).faults ≤ (K.view out.new).faults }
+    ensures failed { IsErrOf result SinkFault.Failed → HasRisen (K.view out.old).faults (K.view out.new).faults }
+    ensures unasked { replies.now ≡ [] → out.new ≡ out.old }
+{
+    if replies.is_empty() {
+        return Ok(());
+    }
+    out.write(alloc, replies)
+}
+
+// Answers the requests that a piece of a stream completes, by one write where there are any. True: a byte has come that begins no request.
 fn serve_piece<S: Weighed, K: Sink>(
     alloc: Global,
     server: &mut Server<S>,
@@ -44,7 +60,7 @@ fn serve_piece<S: Weighed, K: Sink>(
     ensures count { (K.view out.old).faults ≤ (K.view out.new).faults }
 {
     let fed = server.feed(alloc, piece)?;
-    out.write(alloc, &fed.replies)?;
+    write_replies(alloc, &fed.replies, out)?;
     Ok(fed.bad.is_some())
 }
 
@@ -81,7 +97,7 @@ fn serve_pieces<S: Weighed, I: Input, K: Sink>(
 }
 
 /// Answers the requests of an input by sources, those that a piece completes by one write before more is taken, and hands the sources
-/// back (docs/FORMATS.md, "Serving"). At most `ROOM` bytes are taken at once, and none after a byte that begins no request or more than
+/// back (docs/FORMATS.md, "Serving"). Where a piece completes none, nothing is written. At most `ROOM` bytes are taken at once, and none after a byte that begins no request or more than
 /// `MOST_TAKEN` bytes. All whole requests before such a byte are answered, however the stream ends.
 ///
 /// `InputFailed`: the input failed; all whole requests that were taken of it before are answered. After `SinkFailed`, and where memory ran

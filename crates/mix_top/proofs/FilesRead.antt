@@ -1,5 +1,5 @@
 -- What is read by calls one after another.
-use Rattle.std.proofs.Common.{◌≡◌, ◌∙◌, inl, inr, ℕ, List, Some, refl, subst, sym, slice_get}
+use Rattle.std.proofs.Common.{◌≡◌, ◌∙◌, inl, inr, ℕ, Bool, List, Some, refl, subst, sym, slice_get}
 use Rattle.mix_io.specs.Views.{FilesView, KeepsFiles, ReadsOnly}
 use Rattle.mix_catalog.specs.declared.source.SourceSpec.{SourceSpec}
 use Rattle.mix_catalog.specs.Grammar.{file_of}
@@ -7,9 +7,10 @@ use Rattle.mix_script.specs.declared.step.Step.{Step}
 use Rattle.mix_tree.specs.Forest.{LabelledTree}
 use Rattle.plan_core.specs.Plans.{Operator}
 use Rattle.mix_mount.specs.declared.mount.Mount.{Mount}
-use Rattle.mix_top.specs.Course.{AreAccepted, IsCatalogFile, IsScript, PlanFile}
+use Rattle.view_class.specs.Reads.{reads_source}
+use Rattle.mix_top.specs.Course.{AreAccepted, IsCatalogFile, IsScript, PlanFile, every}
 use Rattle.mix_top.specs.Documents.{SpellsTree, StandsFor, IsDocument}
-use Rattle.mix_top.specs.FilesRead.{ReadsAmong, WalkMayRead, FileMayRead, IsFileFor, MayReadAfter, ScriptMayRead, SourceMayRead, RunMayRead}
+use Rattle.mix_top.specs.FilesRead.{ChosenMayRead, ReadsAmong, WalkMayRead, FileMayRead, IsFileFor, IsWholeFile, MayReadAfter, ScriptMayRead, SourceMayRead, RunMayRead}
 use Rattle.mix_top.proofs.MountLaws.{AreMountedTo, document_before}
 
 -- what each of two calls may read, both may
@@ -21,7 +22,7 @@ pub reads_one : (May : List ℕ → Type 0) (path : List ℕ) (old new : FilesVi
 reads_one May path old new may only = λ other no. only other (λ e. no (subst May (sym e) may))
 
 -- what may be read by one rule may be read by a wider one
-reads_wider : (A B : List ℕ → Type 0) (old new : FilesView) → ((path : List ℕ) → A path → B path) → ReadsAmong A old new → ReadsAmong B old new
+pub reads_wider : (A B : List ℕ → Type 0) (old new : FilesView) → ((path : List ℕ) → A path → B path) → ReadsAmong A old new → ReadsAmong B old new
 reads_wider A B old new wider reads = λ path no. reads path (λ a. no (wider path a))
 
 -- where the document of a walk was read and then its script, only what a walk may read was read
@@ -39,20 +40,24 @@ file_reads old mid new file catalog sources accepted first second =
     reads_twice May old mid new (reads_one May catalog old mid (inl refl) first) (reads_one May file mid new (inr (refl, sources, accepted)) second)
 
 -- the sources before a number were mounted, so their files are accepted
-pub mounted_accepted : (files : FilesView) (ops : List Operator) (sources : List SourceSpec) (n : ℕ) (docs : List Mount) → AreMountedTo files ops sources n docs → AreAccepted files ops sources n
-mounted_accepted files ops sources n docs h = λ k before less at is file. let f = ((h.each k before less at).read is).file file in (f.tree, f.document_is)
+pub mounted_accepted : (files : FilesView) (chosen : ℕ → Bool) (sources : List SourceSpec) (n : ℕ) (docs : List Mount) → AreMountedTo files chosen sources n docs → AreAccepted files chosen sources n
+mounted_accepted files chosen sources n docs h = λ k before less at is file. let f = ((h.each k before less at).read is).file file in (f.tree, f.document_is)
 
 -- where the sources before it were read as allowed and then the next source's file, sources were read as allowed
-pub source_reads : (old mid new : FilesView) (ops : List Operator) (sources : List SourceSpec) (n : ℕ) (docs : List Mount) (spec : SourceSpec) → AreMountedTo old ops sources n docs
-    → slice_get sources n ≡ Some spec → ReadsAmong (SourceMayRead old ops sources) old mid → ReadsAmong (IsFileFor ops n spec) mid new → ReadsAmong (SourceMayRead old ops sources) old new
-source_reads old mid new ops sources n docs spec h there before now =
-    let May = SourceMayRead old ops sources in
+pub source_reads : (old mid new : FilesView) (chosen : ℕ → Bool) (sources : List SourceSpec) (n : ℕ) (docs : List Mount) (spec : SourceSpec) → AreMountedTo old chosen sources n docs
+    → slice_get sources n ≡ Some spec → ReadsAmong (ChosenMayRead old chosen sources) old mid → ReadsAmong (IsFileFor chosen n spec) mid new → ReadsAmong (ChosenMayRead old chosen sources) old new
+source_reads old mid new chosen sources n docs spec h there before now =
+    let May = ChosenMayRead old chosen sources in
     reads_twice May old mid new before
-    (reads_wider (IsFileFor ops n spec) May mid new (λ path is. (n, spec, there, is, mounted_accepted old ops sources n docs h)) now)
+    (reads_wider (IsFileFor chosen n spec) May mid new (λ path is. (n, spec, there, is, mounted_accepted old chosen sources n docs h)) now)
+
+-- where the file of a source alone was read, it was that of a chosen source where all are chosen
+pub whole_reads : (old new : FilesView) (s : ℕ) (spec : SourceSpec) → ReadsAmong (IsWholeFile spec) old new → ReadsAmong (IsFileFor every s spec) old new
+whole_reads old new s spec reads = reads_wider (IsWholeFile spec) (IsFileFor every s spec) old new (λ path is. (refl, is)) reads
 
 -- the files of sources that are accepted later were accepted before
-accepted_before : (old mid : FilesView) (ops : List Operator) (sources : List SourceSpec) (n : ℕ) → KeepsFiles old mid → AreAccepted mid ops sources n → AreAccepted old ops sources n
-accepted_before old mid ops sources n keeps h = λ k before less at is file.
+accepted_before : (old mid : FilesView) (chosen : ℕ → Bool) (sources : List SourceSpec) (n : ℕ) → KeepsFiles old mid → AreAccepted mid chosen sources n → AreAccepted old chosen sources n
+accepted_before old mid chosen sources n keeps h = λ k before less at is file.
     let f = h k before less at is file in
     (f.0, document_before (StandsFor before.name before.kind) old mid (file_of before.kind) f.0 keeps f.1)
 
@@ -76,8 +81,8 @@ module _ (given : PlanFile) (Then : List SourceSpec → List Operator → List �
         (reads_wider May (MayReadAfter given Then old view catalog) mid new (λ path h. inr (sources, cat, inr (ops, gives, is path h))) reads)
 
 -- where the files of sources may be read at a later moment, they may be read at an earlier one
-pub source_may_before : (old mid : FilesView) (ops : List Operator) (sources : List SourceSpec) → KeepsFiles old mid → (path : List ℕ) → SourceMayRead mid ops sources path → SourceMayRead old ops sources path
-source_may_before old mid ops sources keeps path h = (h.0, h.1, h.2, h.3, accepted_before old mid ops sources h.0 keeps h.4)
+pub source_may_before : (old mid : FilesView) (chosen : ℕ → Bool) (sources : List SourceSpec) → KeepsFiles old mid → (path : List ℕ) → ChosenMayRead mid chosen sources path → ChosenMayRead old chosen sources path
+source_may_before old mid chosen sources keeps path h = (h.0, h.1, h.2, h.3, accepted_before old mid chosen sources h.0 keeps h.4)
 
 module _ (given : PlanFile) (old : FilesView) (file catalog script : List ℕ) where
   -- after the reading of its catalog a run has read only what it may
@@ -100,4 +105,4 @@ module _ (given : PlanFile) (old : FilesView) (file catalog script : List ℕ) w
           → ReadsAmong (SourceMayRead mid ops sources) mid new → ReadsAmong (RunMayRead given old file catalog script) old new
       run_reads_sources mid new steps scr keeps before reads =
           reads_then given (ScriptMayRead old script) old file catalog sources cat ops gives mid new before (SourceMayRead mid ops sources)
-          (λ path h. inr (steps, scr, source_may_before old mid ops sources keeps path h)) reads
+          (λ path h. inr (steps, scr, source_may_before old mid (reads_source ops) sources keeps path h)) reads

@@ -1,5 +1,5 @@
 -- Which files a command may read: each after those that are accepted before it.
-use Rattle.std.specs.Prelude.{◌≡◌, ◌⊎◌, ℕ, false, IsTrue, List, Some, slice_get}
+use Rattle.std.specs.Prelude.{◌≡◌, ◌⊎◌, ℕ, Bool, false, IsTrue, List, Some, slice_get}
 use Rattle.mix_tree.specs.Forest.{LabelledTree}
 use Rattle.mix_io.specs.Views.{FilesView}
 use Rattle.mix_script.specs.declared.step.Step.{Step}
@@ -28,14 +28,18 @@ FileMayRead files file catalog path = (path ≡ catalog) ⊎ ((path ≡ file) ×
 abbrev pub IsWholeFile : SourceSpec → List ℕ → Type 0
 IsWholeFile spec path = (is_table_of spec.kind ≡ false) × (path ≡ file_of spec.kind)
 
--- a path is that of the file of a source that a plan's operators read, where the source is no table
-abbrev pub IsFileFor : List Operator → ℕ → SourceSpec → List ℕ → Type 0
-IsFileFor ops s spec path = IsTrue (reads_source ops s) × IsWholeFile spec path
+-- a path is that of the file of a chosen source, where the source is no table
+abbrev pub IsFileFor : (ℕ → Bool) → ℕ → SourceSpec → List ℕ → Type 0
+IsFileFor chosen s spec path = IsTrue (chosen s) × IsWholeFile spec path
+
+-- the files of chosen sources that may be read: each where those of all chosen sources before it are accepted
+abbrev pub ChosenMayRead : FilesView → (ℕ → Bool) → List SourceSpec → List ℕ → Type 0
+ChosenMayRead files chosen sources path =
+    (s : ℕ) × (spec : SourceSpec) × (slice_get sources s ≡ Some spec) × IsFileFor chosen s spec path × AreAccepted files chosen sources s
 
 -- the files of sources that may be read for a plan: each where those of all sources before it that the plan's operators read are accepted
 abbrev pub SourceMayRead : FilesView → List Operator → List SourceSpec → List ℕ → Type 0
-SourceMayRead files ops sources path =
-    (s : ℕ) × (spec : SourceSpec) × (slice_get sources s ≡ Some spec) × IsFileFor ops s spec path × AreAccepted files ops sources s
+SourceMayRead files ops sources path = ChosenMayRead files (reads_source ops) sources path
 
 -- the files that a command may read: the catalog, after it the file that is to give a plan, and after that those that a given relation says
 abbrev pub MayReadAfter : PlanFile → (List SourceSpec → List Operator → List ℕ → Type 0) → FilesView → List ℕ → List ℕ → List ℕ → Type 0

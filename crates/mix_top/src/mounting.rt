@@ -1,11 +1,13 @@
-// The documents of the sources that a plan reads, read and mounted one after another.
+// The documents of sources, those that a plan reads or all, read and mounted one after another.
 ghost use Rattle.std.specs.Prelude.{◌≡◌, ◌≤◌, List, ℕ, true, false, length, slice_get, Some, OnOk, IfOk, IfErr};
 ghost use Rattle.mix_catalog.specs.Sources.{IsCatalog, IsChunk};
 ghost use Rattle.mix_io.specs.Views.{FilesView, KeepsFiles};
 ghost use Rattle.mix_mount.specs.declared.mount.Mount.TheVariants.{Absent};
 ghost use Rattle.plan_core.specs.PlanMade.{plan_value};
-ghost use Rattle.mix_top.specs.Mounting.{AreMounted, IsMountStop, IsMountedSpec, IsMountFor, IsSourceStop, IsSpecStop};
-ghost use Rattle.mix_top.specs.FilesRead.{ReadsAmong, IsFileFor, IsWholeFile, SourceMayRead};
+ghost use Rattle.mix_top.specs.Course.{every};
+ghost use Rattle.mix_top.specs.Mounting.{AllAreMounted, AreMounted, IsMountStop, IsMountedSpec, IsMountFor, IsSourceStop, IsSpecStop};
+ghost use Rattle.mix_top.specs.FilesRead.{ChosenMayRead, ReadsAmong, IsFileFor, IsWholeFile, SourceMayRead};
+ghost use Rattle.view_class.specs.Reads.{reads_source};
 
 use crate::load::{mount_table, mount_tree};
 use crate::refusal::Stop;
@@ -59,10 +61,10 @@ fn mount_source<F: Files>(
 ) -> Result<Mount, Stop>
     requires { IsChunk spec.now.chunk }
     ensures keeps { KeepsFiles (F.view files.old) (F.view files.new) }
-    ensures reads { ReadsAmong (IsFileFor (plan_value plan.now).ops s spec.now) (F.view files.old) (F.view files.new) }
+    ensures reads { ReadsAmong (IsFileFor (reads_source (plan_value plan.now).ops) s spec.now) (F.view files.old) (F.view files.new) }
     ensures steady { OnOk result ((p : List ℕ) → (F.view files.new).faults p ≡ (F.view files.old).faults p) }
-    ensures ok { IfOk result (IsMountFor (F.view files.old) (plan_value plan.now).ops s spec.now) }
-    ensures err { IfErr result (IsSourceStop (F.view files.old) (F.view files.new) (plan_value plan.now).ops s spec.now) }
+    ensures ok { IfOk result (IsMountFor (F.view files.old) (reads_source (plan_value plan.now).ops) s spec.now) }
+    ensures err { IfErr result (IsSourceStop (F.view files.old) (F.view files.new) (reads_source (plan_value plan.now).ops) s spec.now) }
 {
     if reads_source(plan, s) {
         mount_spec(alloc, files, spec)
@@ -86,11 +88,33 @@ pub fn mount_sources<F: Files>(
     ensures steady { OnOk result ((p : List ℕ) → (F.view files.new).faults p ≡ (F.view files.old).faults p) }
     ensures ok { IfOk result (λ docs. AreMounted (F.view files.old) (plan_value plan.now).ops catalog.now docs.items) }
     ensures few { IfOk result (λ docs. length docs.items ≤ 32) }
-    ensures err { IfErr result (IsMountStop (F.view files.old) (F.view files.new) (plan_value plan.now).ops catalog.now) }
+    ensures err { IfErr result (IsMountStop (F.view files.old) (F.view files.new) (reads_source (plan_value plan.now).ops) catalog.now) }
 {
     let mut docs = Vec::new(alloc);
     for s in 0..catalog.len() {
         docs.push(mount_source(alloc, files, plan, s, catalog.spec(s))?)?;
+    }
+    Ok(docs)
+}
+
+/// The mounts of all sources of a catalog, by their numbers: their documents, read in the order of the catalog, each accepted before the next is read.
+/// That of a table asks for no page yet. An error names the first file that is refused.
+pub fn mount_all<F: Files>(
+    alloc: Global,
+    files: &mut F,
+    catalog: &Catalog,
+) -> Result<Vec<Mount>, Stop>
+    requires { (text : List ℕ) × IsCatalog text catalog.now }
+    ensures keeps { KeepsFiles (F.view files.old) (F.view files.new) }
+    ensures reads { ReadsAmong (ChosenMayRead (F.view files.old) every catalog.now) (F.view files.old) (F.view files.new) }
+    ensures steady { OnOk result ((p : List ℕ) → (F.view files.new).faults p ≡ (F.view files.old).faults p) }
+    ensures ok { IfOk result (λ docs. AllAreMounted (F.view files.old) catalog.now docs.items) }
+    ensures few { IfOk result (λ docs. length docs.items ≤ 32) }
+    ensures err { IfErr result (IsMountStop (F.view files.old) (F.view files.new) every catalog.now) }
+{
+    let mut docs = Vec::new(alloc);
+    for s in 0..catalog.len() {
+        docs.push(mount_spec(alloc, files, catalog.spec(s))?)?;
     }
     Ok(docs)
 }

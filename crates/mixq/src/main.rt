@@ -1,7 +1,7 @@
-//! The program `mixq`: the top call over the files of the system, tables of SQLite files, standard input and standard output.
+//! The program `mixq`: the top calls over the files of the system, tables of SQLite files, standard input and standard output.
 #![tactic(auto)]
 
-use mix_call::mixq;
+use mix_call::{mixq, mixq_serve};
 use mix_io::{OsFiles, StdInput, StdSink, Streams};
 use sqlite_tables::SqliteTables;
 use std::alloc::Global;
@@ -17,7 +17,8 @@ fn words(rt: &HostRuntime) -> io::Result<Vec<String>> {
     Ok(words)
 }
 
-// The status of the top call. It stands apart, since what that call promises would make the proof of `main` long.
+// The status of a top call, that of serving where the first word is `serve`. It stands apart, since what these calls promise would make the
+// proof of `main` long.
 fn answer(
     alloc: Global,
     words: &[String],
@@ -25,7 +26,12 @@ fn answer(
     tables: SqliteTables,
     streams: &mut Streams<StdInput, StdSink>,
 ) -> u8 {
-    let (status, _) = mixq(alloc, words, files, tables, streams);
+    let (status, _) = match words {
+        [word, ..] if word.as_str() == "serve" => {
+            mixq_serve(alloc, words, files, tables, streams)
+        }
+        _ => mixq(alloc, words, files, tables, streams),
+    };
     status
 }
 

@@ -8,6 +8,7 @@ use Rattle.mix_io.proofs.Keeps.{keeps_files_twice}
 use Rattle.mix_top.specs.Course.{IsSourceRefused, by_view}
 use Rattle.mix_top.specs.FilesRead.{SourceMayRead}
 use Rattle.mix_top.proofs.MountLaws.{is_steady, steady_twice}
+use Rattle.view_class.specs.Reads.{reads_source}
 use Rattle.mix_top.proofs.FilesRead.{reads_catalog, reads_view}
 use Rattle.mix_top.proofs.Readiness.{gives_before, plan_before, mounts_before, file_unready}
 use Rattle.mix_call.proofs.Readying.{sources_read, sources_unready}
@@ -56,7 +57,7 @@ returns-clause-ok g c =
     record {
       catalog_is = c.in_ok-catalog.ensures.ok;
       plan_is = plan_before old mid c.args.talking.now.view.now c.in_ok-catalog.catalog (plan_value c.in_ok-plan.plan) c.in_ok-catalog.ensures.keeps c.in_ok-plan.ensures.ok;
-      mounted = mounts_before old late (plan_value c.in_ok-plan.plan).ops c.in_ok-catalog.catalog c.in_ok-docs.docs.items keeps c.in_ok-docs.ensures.ok;
+      mounted = mounts_before old late (reads_source (plan_value c.in_ok-plan.plan).ops) c.in_ok-catalog.catalog c.in_ok-docs.docs.items keeps c.in_ok-docs.ensures.ok;
       few = c.in_ok-docs.ensures.few;
       over = c.in_ok-plan.ensures.over;
     }

@@ -1,0 +1,59 @@
+-- How the files of serving are accepted or refused, one after another, and how serving ends.
+use Rattle.std.proofs.Common.{◌≡◌, inl, inr, ℕ, List, Result, refl, subst, string_bytes}
+use Rattle.mix_io.specs.Input.{InputView}
+use Rattle.mix_io.specs.Views.{FilesView, KeepsFiles, ReadsOnly, SinkView}
+use Rattle.mix_catalog.specs.declared.source.SourceSpec.{SourceSpec}
+use Rattle.mix_mount.specs.declared.mount.Mount.{Mount}
+use Rattle.mix_mount.specs.Mounts.{Mounting, view_of}
+use Rattle.mix_serve.specs.Ends.{ServingEnds}
+use Rattle.mix_serve.specs.declared.fault.ServeFault.{ServeFault}
+use Rattle.mix_serve.specs.declared.serving.Served.{Served}
+use Rattle.table_keep.specs.Views.{TablesView}
+use Rattle.mix_top.specs.Causes.{IsNoCatalog}
+use Rattle.mix_top.specs.Course.{IsCatalogFile, every}
+use Rattle.mix_top.specs.FilesRead.{ChosenMayRead, ReadsAmong}
+use Rattle.mix_top.specs.Mounting.{IsMountStop}
+use Rattle.mix_top.specs.Stops.{IsLoadStop}
+use Rattle.mix_top.specs.declared.refusal.Stop.{Stop}
+use Rattle.mix_top.specs.declared.refusal.Stop.TheVariants.{Refused, SinkFailed, OutOfMemory}
+use Rattle.mix_top.proofs.FilesRead.{reads_one, reads_twice, reads_wider, source_may_before}
+use Rattle.mix_top.proofs.MountLaws.{IsSteady}
+use Rattle.mix_top.proofs.Readiness.{source_refused_before}
+use Rattle.mix_call.specs.Served.{AreAnswered, IsServingStop, ServingMayRead, mounting}
+
+-- where the catalog was not accepted, serving stops
+pub catalog_stops : (old new : FilesView) (catalog : List ℕ) (stop : Stop) → IsLoadStop IsNoCatalog old new catalog stop → IsServingStop old new catalog stop
+catalog_stops old new catalog (Refused r) h = inl h
+catalog_stops old new catalog SinkFailed h = absurd h
+catalog_stops old new catalog OutOfMemory h = tt
+
+-- where the file of a source was not accepted after a catalog that was, serving stops
+pub sources_stop : (old mid new : FilesView) (catalog : List ℕ) (sources : List SourceSpec) (stop : Stop) → IsSteady old mid → IsCatalogFile old catalog sources
+    → IsMountStop mid new every sources stop → IsServingStop old new catalog stop
+sources_stop old mid new catalog sources (Refused r) steady cat h = inr (sources, cat, source_refused_before old mid new every sources r.status (string_bytes r.line) steady h)
+sources_stop old mid new catalog sources SinkFailed steady cat h = absurd h
+sources_stop old mid new catalog sources OutOfMemory steady cat h = tt
+
+-- where the catalog alone was read, only what serving may read was
+pub catalog_read : (old new : FilesView) (catalog : List ℕ) → ReadsOnly catalog old new → ReadsAmong (ServingMayRead old catalog) old new
+catalog_read old new catalog only = reads_one (ServingMayRead old catalog) catalog old new (inl refl) only
+
+-- where the catalog was read and then files of its sources, only what serving may read was
+pub sources_read : (old mid new : FilesView) (catalog : List ℕ) (sources : List SourceSpec) → IsCatalogFile old catalog sources → KeepsFiles old mid
+    → ReadsOnly catalog old mid → ReadsAmong (ChosenMayRead mid every sources) mid new → ReadsAmong (ServingMayRead old catalog) old new
+sources_read old mid new catalog sources cat keeps only reads =
+    let May = ServingMayRead old catalog in
+    reads_twice May old mid new (catalog_read old mid catalog only)
+    (reads_wider (ChosenMayRead mid every sources) May mid new (λ path h. inr (sources, cat, source_may_before old mid every sources keeps path h)) reads)
+
+-- where mounted sources were served, their documents were over the tables before and after
+pub served_over : (old new : Mounting) (docs : List Mount) (before after : TablesView) (input input' : InputView) (sink sink' : SinkView) (end : Result Served ServeFault) → old.docs ≡ docs → old.tables ≡ before
+    → old.fills ≡ 0 → new.docs ≡ old.docs → new.tables ≡ after → ServingEnds (view_of old) (view_of new) input input' sink sink' end → AreAnswered docs before after input input' sink sink' end
+served_over old new docs before after input input' sink sink' end docs_are tables_are none docs_stay then ends =
+    let Over : Mounting → Mounting → Type 0 = λ a b. ServingEnds (view_of a) (view_of b) input input' sink sink' end in
+    let one : Over old (mounting old.docs new.tables new.fills) = subst (λ (ds : List Mount). Over old (mounting ds new.tables new.fills)) docs_stay ends in
+    let two : Over old (mounting old.docs after new.fills) = subst (λ (v : TablesView). Over old (mounting old.docs v new.fills)) then one in
+    let three : Over (mounting docs old.tables old.fills) (mounting docs after new.fills) =
+    subst (λ (ds : List Mount). Over (mounting ds old.tables old.fills) (mounting ds after new.fills)) docs_are two in
+    let four : Over (mounting docs before old.fills) (mounting docs after new.fills) = subst (λ (v : TablesView). Over (mounting docs v old.fills) (mounting docs after new.fills)) tables_are three in
+    (new.fills, subst (λ (n : ℕ). Over (mounting docs before n) (mounting docs after new.fills)) none four)

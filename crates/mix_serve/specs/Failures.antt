@@ -1,0 +1,34 @@
+-- How many replies say that a source failed.
+use Rattle.std.specs.Prelude.{ℕ, ◌+◌, ◌==◌, ◌&&◌, Bool, true, false, cond, List, [], ◌∷◌}
+use Rattle.mix_base.specs.Counts.{HasRisenBy}
+use Rattle.lxp_core.specs.View.{View}
+use Rattle.lxp_wire.specs.Answer.{AreAnswers}
+use Rattle.wire_text.specs.declared.request.Request.{Request}
+use Rattle.wire_text.specs.declared.request.Request.TheVariants.{Count, Root, Fill}
+use Rattle.wire_text.specs.Reply.{Said, count, root, list, failed, unknown_hole, no_memory, no_source}
+
+-- whether a reply says that the source failed
+abbrev pub is_failed : Said → Bool
+is_failed (count n) = false
+is_failed (root id weight) = false
+is_failed (list o) = false
+is_failed failed = true
+is_failed unknown_hole = false
+is_failed no_memory = false
+is_failed no_source = false
+
+-- whether a request asks for a list of a source
+abbrev pub asks : ℕ → Request → Bool
+asks s Count = false
+asks s (Root source) = false
+asks s (Fill source hole) = source == s
+
+-- how many of the replies to requests say that a source failed
+abbrev pub failures : ℕ → List Request → List Said → ℕ
+failures s [] said = 0
+failures s (r ∷ rs) [] = 0
+failures s (r ∷ rs) (a ∷ said) = cond (is_failed a && asks s r) 1 0 + failures s rs said
+
+-- of each source at most as many replies say that it failed as its count of faults rose
+abbrev pub FailuresAreCounted : Type 0
+FailuresAreCounted = (old new : View) (requests : List Request) (said : List Said) → AreAnswers old new requests said → (s : ℕ) → HasRisenBy (failures s requests said) (old.faults s) (new.faults s)
