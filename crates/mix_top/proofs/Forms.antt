@@ -14,7 +14,7 @@ use Rattle.mix_top.specs.declared.reading.RuleForm.TheVariants.{Canonical, Plan}
 use Rattle.mix_top.specs.declared.refusal.Outcome.{Outcome}
 use Rattle.mix_top.specs.declared.refusal.Stop.{Stop}
 use Rattle.mix_top.specs.declared.running.RunForm.{RunForm}
-use Rattle.mix_top.specs.declared.running.RunForm.TheVariants.{Answers, Counts, Executed}
+use Rattle.mix_top.specs.declared.running.RunForm.TheVariants.{Answers, Counts, Executed, Looped}
 use Rattle.mix_top.proofs.RunCourse.{unmarked_done, unmarked_stopped}
 
 -- what is so of the course of a view's reading is so of its command's
@@ -28,12 +28,19 @@ pub of_either : (P : RunForm → Type 0) (form one other : RunForm) → (form �
 of_either P form one other (inl e) a b = subst P (sym e) a
 of_either P form one other (inr e) a b = subst P (sym e) b
 
+-- what is so of the three forms of a run of a view is so of a form that is one of them
+pub of_views : (P : RunForm → Type 0) (form : RunForm) → (form ≡ Answers) ⊎ ((form ≡ Counts) ⊎ (form ≡ Looped)) → P Answers → P Counts → P Looped → P form
+of_views P form (inl e) a b c = subst P (sym e) a
+of_views P form (inr (inl e)) a b c = subst P (sym e) b
+of_views P form (inr (inr e)) a b c = subst P (sym e) c
+
 -- what is so of the course of a run is so of its command's, in each form
 pub run_course : (P : (ℕ → List ℕ → Type 0) → Type 0) (before after : Outside) (s0 s1 : SinkView) (form : RunForm) (file catalog script : List ℕ)
     → P (Runs (given_by form) (run_lines form) before after file catalog script s0 s1) → P (IsCourse before after (run_command form file catalog script) s0 s1)
 run_course P before after s0 s1 Answers file catalog script h = h
 run_course P before after s0 s1 Counts file catalog script h = h
 run_course P before after s0 s1 Executed file catalog script h = h
+run_course P before after s0 s1 Looped file catalog script h = h
 
 -- what is so of what a view's reading may read is so of its command's, in each form
 pub rule_may_read : (P : (List ℕ → Type 0) → Type 0) (files : FilesView) (form : RuleForm) (view catalog : List ℕ) → P (FileMayRead files view catalog) → P (MayRead files (rule_command form view catalog))
@@ -46,12 +53,14 @@ pub run_may_read : (P : (List ℕ → Type 0) → Type 0) (files : FilesView) (f
 run_may_read P files Answers file catalog script h = h
 run_may_read P files Counts file catalog script h = h
 run_may_read P files Executed file catalog script h = h
+run_may_read P files Looped file catalog script h = h
 
 -- a run asks tables in each form
 pub run_asks : (form : RunForm) (file catalog script : List ℕ) → asks_tables (run_command form file catalog script) ≡ true
 run_asks Answers file catalog script = refl
 run_asks Counts file catalog script = refl
 run_asks Executed file catalog script = refl
+run_asks Looped file catalog script = refl
 
 module _ (before after : Outside) (s0 s1 : SinkView) (command words : Command) (is : command ≡ words) (r : Result (Unit {0}) Stop) (end : Result Outcome Stop) (e : end ≡ unmarked_end r) where
   -- a command without fault lines, which the words are, was done

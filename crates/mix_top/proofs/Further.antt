@@ -9,7 +9,7 @@ use Rattle.mix_script.specs.declared.answer.Answer.{Answer}
 use Rattle.table_keep.specs.Views.{TablesView}
 use Rattle.xmas_read.specs.Results.{names_of_sources}
 use Rattle.mix_top.specs.Answered.{IsAnswered, IsFrugal, in_order}
-use Rattle.mix_top.specs.Commands.{Command, help, version, walk, read, plan, check, run, count, exec, load, unknown}
+use Rattle.mix_top.specs.Commands.{Command, help, version, walk, read, plan, check, run, count, exec, loop, load, unknown}
 use Rattle.mix_top.specs.Course.{IsCourse}
 use Rattle.mix_top.specs.Ends.{Ends, TookPrefix}
 use Rattle.mix_top.specs.Outside.{Outside}
@@ -64,6 +64,8 @@ module _ (before mid after : SinkView) (on : TookOn mid after) where
   course_on o o' (count view catalog script) status lines (inr h) = inr (h.0, h.1, (h.2.0, h.2.1, answered_on o.tables o'.tables h.0 h.2.0 status h.2.1 h.2.2, h.2.3))
   course_on o o' (exec text catalog script) status lines (inl refused) = inl refused
   course_on o o' (exec text catalog script) status lines (inr h) = inr (h.0, h.1, (h.2.0, answered_on o.tables o'.tables h.0 h.2.0 status lines h.2.1))
+  course_on o o' (loop view catalog script) status lines (inl refused) = inl refused
+  course_on o o' (loop view catalog script) status lines (inr h) = inr (h.0, h.1, (h.2.0, answered_on o.tables o'.tables h.0 h.2.0 status lines h.2.1))
   course_on o o' (load people) status lines h = h
   course_on o o' unknown status lines h = h
 

@@ -7,7 +7,7 @@ use Rattle.mix_catalog.specs.declared.source.SourceSpec.{SourceSpec}
 use Rattle.mix_catalog.specs.Grammar.{file_of}
 use Rattle.table_wrap.specs.Document.{is_table_of}
 use Rattle.plan_core.specs.Plans.{Operator}
-use Rattle.mix_top.specs.Commands.{Command, help, version, walk, read, plan, check, run, count, exec, load, unknown}
+use Rattle.mix_top.specs.Commands.{Command, help, version, walk, read, plan, check, run, count, exec, loop, load, unknown}
 use Rattle.mix_top.specs.Course.{AreAccepted, IsCatalogFile, IsScript, PlanFile, by_text, by_view}
 use Rattle.view_class.specs.Reads.{reads_source}
 use Rattle.mix_top.specs.Documents.{SpellsTree, IsDocument}
@@ -66,5 +66,6 @@ MayRead files (check text catalog) path = FileMayRead files text catalog path
 MayRead files (run view catalog script) path = RunMayRead by_view files view catalog script path
 MayRead files (count view catalog script) path = RunMayRead by_view files view catalog script path
 MayRead files (exec text catalog script) path = RunMayRead by_text files text catalog script path
+MayRead files (loop view catalog script) path = RunMayRead by_view files view catalog script path
 MayRead files (load people) path = ⊥
 MayRead files unknown path = ⊥

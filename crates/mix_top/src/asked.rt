@@ -1,16 +1,17 @@
 // What is asked of a run, and the answers to its steps.
-ghost use Rattle.std.specs.Prelude.{◌≡◌, ◌≤◌, ◌-◌, length};
+ghost use Rattle.std.specs.Prelude.{◌≡◌, ◌≤◌, ◌-◌, ◌^◌, length};
 ghost use Rattle.mix_io.specs.Views.{FilesView, SinkView};
 ghost use Rattle.plan_core.specs.PlanMade.{plan_value};
 ghost use Rattle.mix_top.specs.Mounting.{AreMounted};
-ghost use Rattle.mix_mount.specs.Mounts.{CameFrom, docs_of, fills_of, mounted_in};
+ghost use Rattle.mix_mount.specs.Mounts.{fills_of, tables_of};
 ghost use Rattle.table_keep.specs.Views.{KeepsTables, TablesView};
-ghost use Rattle.mix_top.specs.Running.{IsLinesEnd, IsMountedEnd, IsPlanOver, LinesOver, by_fills};
+ghost use Rattle.mix_top.specs.Running.{IsEndOver, IsLinesEnd, IsPlanOver, LinesOver, by_fills};
 ghost use Rattle.mix_top.specs.Stops.{end_of, outcome_of};
 
 use crate::reading::source_names;
 use crate::refusal::Outcome;
 use lazy_value::{Mediator, valid_plans_have_documents};
+use lxp_core::Sources;
 use mix_catalog::Catalog;
 use mix_io::Sink;
 use mix_lines::{LinesFault, run_lines};
@@ -71,19 +72,18 @@ fn end_of(end: Result<bool, LinesFault>) -> Result<Outcome, LinesFault>
     }
 }
 
-// Answers the steps of a run on the document of its plan over mounted sources, of which no fill was asked yet, each line by one write.
-fn answer_over<T: Tables, K: Sink>(
+/// Answers the steps of a run on the document of its plan over sources, each line by one write. Where these stand in for mounted ones, the lines
+/// are those of a run over what is mounted.
+pub fn answer_over<S: Sources, K: Sink>(
     alloc: Global,
     asked: Asked,
-    sources: &mut Mounted<T>,
+    sources: &mut S,
     out: &mut K,
 ) -> Result<Outcome, LinesFault>
     requires over { IsPlanOver asked.catalog (plan_value asked.plan) }
-    requires mounted { (files : FilesView) × AreMounted files (plan_value asked.plan).ops asked.catalog (docs_of sources.old) }
-    requires unasked { fills_of sources.old ≡ 0 }
-    ensures came { CameFrom (mounted_in T.view sources.old) (mounted_in T.view sources.new) }
-    ensures end { IsMountedEnd (mounted_in T.view sources.old) (mounted_in T.view sources.new) asked
-        (K.view out.old) (K.view out.new) result }
+    requires number { (S.view sources.old).count ≡ length asked.catalog }
+    ensures came { S.came_from sources.old sources.new }
+    ensures end { IsEndOver (S.view sources.old) (S.view sources.new) asked (K.view out.old) (K.view out.new) result }
     ensures count { (K.view out.old).faults ≤ (K.view out.new).faults }
 {
     valid_plans_have_documents();
@@ -95,6 +95,28 @@ fn answer_over<T: Tables, K: Sink>(
     let names = source_names(alloc, &catalog)?;
     let mediator = Mediator::open(alloc, plan, sources)?;
     end_of(run_lines(alloc, sources, mediator, &steps, &names, out))
+}
+
+/// What a run over mounted sources came to whose lines ended so, where this many pages of tables were asked before it. The tables are handed back.
+pub fn hand_back<T: Tables>(
+    end: Result<Outcome, LinesFault>,
+    sources: Mounted<T>,
+    before: u64,
+) -> Answered<T>
+    requires earlier { before ≤ (T.view (tables_of sources)).pages }
+    ensures end { result.end ≡ end }
+    ensures tables { result.tables ≡ tables_of sources }
+    ensures fills { result.spent.fills ≡ fills_of sources }
+    ensures pages { result.spent.pages ≡ (T.view result.tables).pages - before }
+    ensures most { (T.view (tables_of sources)).pages ≤ 2 ^ 64 - 1 }
+{
+    let fills = sources.fills();
+    let tables = sources.into_tables();
+    let now = tables.pages();
+    prove!(now <= u64::MAX);
+    let pages = now - before;
+    let spent = Spent { fills, pages };
+    Answered { end, spent, tables }
 }
 
 /// Answers the steps of a run on the document of its plan, over mounted documents and tables, which are handed back, each line by one write.
@@ -117,9 +139,5 @@ pub fn answer<T: Tables, K: Sink>(
     let before = tables.pages();
     let mut sources = Mounted::new(docs, tables);
     let end = answer_over(alloc, asked, &mut sources, out);
-    let fills = sources.fills();
-    let tables = sources.into_tables();
-    let pages = tables.pages() - before;
-    let spent = Spent { fills, pages };
-    Answered { end, spent, tables }
+    hand_back(end, sources, before)
 }

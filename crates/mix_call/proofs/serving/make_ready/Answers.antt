@@ -1,4 +1,3 @@
-use Rattle.std.proofs.Common.{ℕ, List}
 use Rattle.std.proofs.lemmas.Result.{err_from_is_err_and}
 use Rattle.mix_io.proofs.Keeps.{keeps_files_twice}
 use Rattle.mix_top.specs.Course.{every}

@@ -1,6 +1,4 @@
-use Rattle.std.proofs.Common.{◌≡◌, inl, inr, List, Result, Err, IfErr, refl, subst}
-use Rattle.mix_mount.specs.declared.mount.Mount.{Mount}
-use Rattle.mix_top.specs.declared.refusal.Stop.{Stop}
+use Rattle.std.proofs.Common.{◌≡◌, inl, inr, Err, IfErr, refl, subst}
 use Rattle.mix_top.specs.declared.refusal.Stop.TheVariants.{Refused}
 use Rattle.mix_top.proofs.StopLaws.{refusal_ends}
 use Rattle.mix_call.specs.Served.{IsServingRefused, IsServingStop}

@@ -4,18 +4,17 @@ use Rattle.plan_core.specs.declared.plan.Plan.{Plan}
 use Rattle.mix_top.specs.Running.{IsPlanGiven, given_by}
 use Rattle.mix_top.specs.Stops.{IsLoadStop}
 use Rattle.mix_top.specs.declared.running.RunForm.{RunForm}
-use Rattle.mix_top.specs.declared.running.RunForm.TheVariants.{Answers, Counts}
-use Rattle.mix_top.proofs.Forms.{of_either}
+use Rattle.mix_top.proofs.Forms.{of_views}
 use Rattle.mix_top.proofs.running.load_given.Goals as goal
 
 pub returns-in-Answers-clause-ok : goal.returns-in-Answers-clause-ok
 returns-in-Answers-clause-ok g c =
-    of_either (λ form. IfOk c.load_view.result (λ (plan : Plan). IsPlanGiven form (g.F.Files.view c.args.files.now) c.args.path.now c.args.catalog.now (plan_value plan))) c.args.form Answers Counts c.in-Answers.is
+    of_views (λ form. IfOk c.load_view.result (λ (plan : Plan). IsPlanGiven form (g.F.Files.view c.args.files.now) c.args.path.now c.args.catalog.now (plan_value plan))) c.args.form c.in-Answers.is c.load_view.ensures.ok
     c.load_view.ensures.ok c.load_view.ensures.ok
 
 pub returns-in-Answers-clause-err : goal.returns-in-Answers-clause-err
 returns-in-Answers-clause-err g c =
-    of_either (λ form. IfErr c.load_view.result (IsLoadStop ((given_by form).IsNone c.args.catalog.now) (g.F.Files.view c.args.files.now) (g.F.Files.view c.load_view.new.files) c.args.path.now)) c.args.form Answers Counts c.in-Answers.is
+    of_views (λ form. IfErr c.load_view.result (IsLoadStop ((given_by form).IsNone c.args.catalog.now) (g.F.Files.view c.args.files.now) (g.F.Files.view c.load_view.new.files) c.args.path.now)) c.args.form c.in-Answers.is c.load_view.ensures.err
     c.load_view.ensures.err c.load_view.ensures.err
 
 pub returns-in-Executed-clause-ok : goal.returns-in-Executed-clause-ok

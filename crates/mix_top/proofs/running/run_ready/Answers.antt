@@ -53,3 +53,27 @@ returns-in-Counts-clause-stop g c =
     let after = g.K.Sink.view c.count_ready.new.out in
     subst (λ (form : RunForm). IfErr c.count_ready.result.0 (IsStop (LinesOver (run_lines form) old new c.args.ready.docs.items c.args.ready.asked before after) before after)) (sym c.in-Counts.is)
     c.count_ready.ensures.stop
+
+pub returns-in-Looped-clause-done : goal.returns-in-Looped-clause-done
+returns-in-Looped-clause-done g c =
+    let old = g.T.Tables.view c.args.tables in
+    let new = g.T.Tables.view c.answer_looped-answered.result.tables in
+    let docs = c.args.ready.docs.items in
+    let asked = c.args.ready.asked in
+    let before = g.K.Sink.view c.args.out.now in
+    let after = g.K.Sink.view c.answer_looped-answered.new.out in
+    subst (λ (form : RunForm). IfOk c.ended-in-Looped.result (IsDoneAs (LinesOver (run_lines form) old new docs asked before after) before after)) (sym c.in-Looped.is)
+    (subst (λ (r : Result Outcome Stop). IfOk r (IsDoneAs (LinesOver lines_of_run old new docs asked before after) before after)) (sym c.ended-in-Looped.ensures)
+    (ended_done old new docs asked before after c.answer_looped-answered.result.spent.fills c.answer_looped-answered.result.end c.answer_looped-answered.ensures.end))
+
+pub returns-in-Looped-clause-stop : goal.returns-in-Looped-clause-stop
+returns-in-Looped-clause-stop g c =
+    let old = g.T.Tables.view c.args.tables in
+    let new = g.T.Tables.view c.answer_looped-answered.result.tables in
+    let docs = c.args.ready.docs.items in
+    let asked = c.args.ready.asked in
+    let before = g.K.Sink.view c.args.out.now in
+    let after = g.K.Sink.view c.answer_looped-answered.new.out in
+    subst (λ (form : RunForm). IfErr c.ended-in-Looped.result (IsStop (LinesOver (run_lines form) old new docs asked before after) before after)) (sym c.in-Looped.is)
+    (subst (λ (r : Result Outcome Stop). IfErr r (IsStop (LinesOver lines_of_run old new docs asked before after) before after)) (sym c.ended-in-Looped.ensures)
+    (ended_stopped old new docs asked before after c.answer_looped-answered.result.spent.fills c.answer_looped-answered.result.end c.answer_looped-answered.ensures.end))

@@ -1,0 +1,76 @@
+-- What holds of a run over sources that stand in for mounted ones holds of a run over what is mounted.
+use Rattle.std.proofs.Common.{◌≡◌, ◌+◌, ◌-◌, ◌^◌, ◌≤◌, inl, inr, ℕ, List, [], ◌∷◌, ◌++◌, Result, Ok, Err, Bool, sym, subst, arith}
+use Rattle.mix_io.specs.Views.{FilesView, SinkView}
+use Rattle.lxp_core.specs.View.{View}
+use Rattle.mix_lines.specs.Lines.{Ends, EndsBetween, EndsBy, EndsWithin, IsLazy, IsRun}
+use Rattle.mix_lines.specs.declared.fault.LinesFault.{LinesFault}
+use Rattle.mix_lines.specs.declared.fault.LinesFault.TheVariants as lines_fault
+use Rattle.mix_loop.specs.Loops.{StandIn}
+use Rattle.mix_mount.specs.Mounts.{AreFewPages, CameFrom, Mounting, view_of}
+use Rattle.mix_mount.specs.declared.mount.Mount.{Mount}
+use Rattle.mix_script.specs.Allowed.{faults_of}
+use Rattle.mix_script.specs.declared.answer.Answer.{Answer}
+use Rattle.mix_script.specs.declared.step.Step.{Step}
+use Rattle.mix_session.specs.Meaning.{Course}
+use Rattle.plan_core.specs.PlanMade.{plan_value}
+use Rattle.table_keep.specs.Views.{TablesView}
+use Rattle.mix_top.specs.Mounting.{AreMounted}
+use Rattle.mix_top.specs.Running.{IsEndOver, IsLinesEnd, LinesOver, by_fills}
+use Rattle.mix_top.specs.declared.asked.Asked.{Asked}
+use Rattle.mix_top.specs.declared.refusal.Outcome.{Outcome}
+use Rattle.mix_top.proofs.Answering.{tells_itself}
+
+-- mounted sources stand in for themselves
+pub stands_itself : (a b : Mounting) → CameFrom a b → StandIn (view_of a) (view_of b) a b
+stands_itself a b came = record { tells = tells_itself a; came = came; fills = omega arith; faults = λ s times h. h }
+
+module _ (Are Are' Cost Cost' : List Answer → Type 0) (are : (answers : List Answer) → Are answers → Are' answers) (cost : (answers : List Answer) → Cost answers → Cost' answers)
+    (names : List (List ℕ)) (steps : List Step) (before after : SinkView) where
+  -- lines that end between two of them end so with any answers and costs that these are
+  between : EndsBetween Are Cost names steps before after → EndsBetween Are' Cost' names steps before after
+  between w = record { answers = w.answers; are = are w.answers w.are; written = w.written; cost = cost w.answers w.cost }
+
+  -- lines that end within one of them end so with any answers and costs that these are
+  within : EndsWithin Are Cost names steps before after → EndsWithin Are' Cost' names steps before after
+  within w = record { answers = w.answers; last = w.last; are = are (w.answers ++ w.last ∷ []) w.are; count = w.count; written = w.written; cost = cost w.answers w.cost }
+
+  -- lines that end with some answers and costs end with any that these are
+  ends_weaker : (r : Result Bool LinesFault) → EndsBy Are Cost names steps before after r → EndsBy Are' Cost' names steps before after r
+  ends_weaker (Ok marked) w = record { answers = w.answers; are = are w.answers w.are; all = w.all; written = w.written; cost = cost w.answers w.cost; marks = w.marks }
+  ends_weaker (Err lines_fault.SinkFailed) w = (w.0, within w.1)
+  ends_weaker (Err lines_fault.OutOfMemory) (inl w) = inl (between w)
+  ends_weaker (Err lines_fault.OutOfMemory) (inr w) = inr (within w)
+
+-- lines that ended over sources that stood in for mounted ones ended so over what is mounted
+pub ends_mounted : {W : Type 0} (c : Course W) (old new : View) (a b : Mounting) → StandIn old new a b → (names : List (List ℕ)) (steps : List Step) (before after : SinkView) (r : Result Bool LinesFault)
+    → Ends c old new names steps before after r → Ends c (view_of a) (view_of b) names steps before after r
+ends_mounted c old new a b stand names steps before after r h =
+    ends_weaker (IsRun c old.faults new.faults steps) (IsRun c (view_of a).faults (view_of b).faults steps) (IsLazy c old.fills new.fills steps) (IsLazy c (view_of a).fills (view_of b).fills steps) are cost
+    names steps before after r h
+  where
+    are : (answers : List Answer) → IsRun c old.faults new.faults steps answers → IsRun c (view_of a).faults (view_of b).faults steps answers
+    are answers run = record { allowed = run.allowed; told = run.told; counted = λ s. stand.faults s (faults_of s answers) (run.counted s) }
+
+    cost : (answers : List Answer) → IsLazy c old.fills new.fills steps answers → IsLazy c (view_of a).fills (view_of b).fills steps answers
+    cost answers lazy = record {
+      ways = λ one tolls. (let few = lazy.ways one tolls in omega (arith, few, stand.fills));
+      tree = λ tolls t is. (let few = lazy.tree tolls t is in omega (arith, few, stand.fills));
+    }
+
+module _ (old new : View) (asked : Asked) (before after : SinkView) (end : Result Outcome LinesFault) (files : FilesView) (a b : Mounting) (over : IsEndOver old new asked before after end)
+    (mounted : AreMounted files (plan_value asked.plan).ops asked.catalog a.docs) (unasked : a.fills ≡ 0) (stand : StandIn old new a b) (most : b.tables.pages ≤ 2 ^ 64 - 1) where
+  -- no more pages were asked than fills
+  few : AreFewPages a b → b.tables.pages ≤ a.tables.pages + b.fills
+  few (inl h) = omega (arith, h, unasked)
+  few (inr h) = omega (arith, h, most)
+
+  -- the lines of a run over sources that stood in for mounted ones ended as over these, whatever they are called
+  pub mounted_end : (docs : List Mount) (tables tables' : TablesView) (fills : ℕ) (end' : Result Outcome LinesFault) → a.docs ≡ docs → a.tables ≡ tables → b.tables ≡ tables' → fills ≡ b.fills → end' ≡ end
+      → IsLinesEnd (LinesOver (by_fills fills) tables tables' docs asked) before after end'
+  mounted_end docs tables tables' fills end' d t t' f e =
+      subst (λ (x : List Mount). IsLinesEnd (LinesOver (by_fills fills) tables tables' x asked) before after end') d
+      (subst (λ (x : TablesView). IsLinesEnd (LinesOver (by_fills fills) x tables' a.docs asked) before after end') t
+      (subst (λ (x : TablesView). IsLinesEnd (LinesOver (by_fills fills) a.tables x a.docs asked) before after end') t'
+      (subst (λ (x : ℕ). IsLinesEnd (LinesOver (by_fills x) a.tables b.tables a.docs asked) before after end') (sym f)
+      (subst (λ (x : Result Outcome LinesFault). IsLinesEnd (LinesOver (by_fills b.fills) a.tables b.tables a.docs asked) before after x) (sym e)
+      (over files a b mounted unasked stand (few stand.came.pages))))))
