@@ -19,7 +19,9 @@ pub mod PairSteps
 pub mod PassSteps
 pub mod PassedSteps
 pub mod Passing
+pub mod Refused
 pub mod Resuming
+pub mod ScanWalks
 pub mod SeenPlaces
 pub mod SelectWalks
 pub mod Shapes

@@ -1,5 +1,5 @@
 use Rattle.std.proofs.lemmas.Result.{IfOk-weaker}
-use Rattle.std.proofs.Common.{◌≡◌, ℕ, suc, Option, arith, rules, refl, ap, sym, subst, ◌∙◌}
+use Rattle.std.proofs.Common.{◌≡◌, ℕ, Option, arith, rules, refl, ap, sym, subst, ◌∙◌}
 use Rattle.std.specs.declared.alloc.Global.{Global}
 use Rattle.std.specs.declared.rc.Rc.{Rc}
 use Rattle.std.specs.Prelude.{not, true}
@@ -9,19 +9,19 @@ use Rattle.plan_core.specs.PlanMade.{op_of}
 use Rattle.plan_core.specs.Shapes.{visits_below, shape_of, first_by_keys, pairs_up, passes_on}
 use Rattle.lazy_binding.specs.declared.position.Position.{Position, Start, Pass', Seen'}
 use Rattle.lazy_binding.specs.Reading.{count_of}
-use Rattle.lazy_binding.specs.Cursors.{gathers_by, IsRead}
+use Rattle.lazy_binding.specs.Cursors.{gathers_by}
 use Rattle.plan_core.specs.declared.plan.Piece.{Piece}
 use Rattle.lazy_binding.specs.Parts.{operators, shape_walked, world_of}
 use Rattle.lazy_binding.proofs.Keep.{keeps_same}
-use Rattle.lazy_binding.proofs.Stay.{cursors_kept}
 use Rattle.lazy_binding.proofs.KeyParts.{keys_fit}
 use Rattle.lazy_descend.proofs.Searches.{comes_none, comes_at}
 use Rattle.lazy_steps.proofs.Goes.{goes_same, goes_then, goes_result, goes_gives, ran_then, ran_nothing, shaped, in_shape, placed, in_place, led, led_at}
 use Rattle.lazy_steps.proofs.Ways.{way_start, way_ran, way_on, way_resumed, resumed_count, way_can, way_under, way_none}
 use Rattle.lazy_steps.proofs.Singles.{end_over}
+use Rattle.lazy_steps.proofs.Refused.{cause_before, for_memory, handed_on, memory_cause, none_given, rose_before}
 use Rattle.std.proofs.Common.{length}
 use Rattle.join_memo.specs.Kept.{Kept}
-use Rattle.lazy_binding.specs.World.{last_of, bound_of}
+use Rattle.lazy_binding.specs.World.{last_of}
 use Rattle.lazy_binding.proofs.Bound.{inputs_at}
 use Rattle.lazy_steps.specs.Steps.{at_of, CanStep, KeepsFirsts}
 use Rattle.std.proofs.Common.{Some, None}
@@ -30,18 +30,16 @@ use Rattle.lazy_steps.proofs.Grown.{last_can, grow_ran, refused_ran, ended_ran, 
 use Rattle.lazy_steps.proofs.PairSteps.{sides, pairs_begin, pair_or_start, left_ran, left_done, left_on, left_can, can_then, beside_ran, none_grown}
 use Rattle.lazy_steps.proofs.Passing.{in_pair, at_known, at_none, ended_goes, more_goes, more_falls, more_steps}
 use Rattle.lazy_steps.proofs.FirstPositions.{group_some, group_made, group_gathers}
-use Rattle.lazy_steps.proofs.FirstWalks.{first_over, first_few, first_refused, first_kept, first_left, first_found, first_passed}
-use Rattle.lazy_steps.proofs.SelectWalks.{select_over, select_found, select_passed}
+use Rattle.lazy_steps.proofs.FirstWalks.{first_over, first_few, first_left, first_passed, look_ends, look_ran, look_refused, look_falls}
+use Rattle.lazy_steps.proofs.SelectWalks.{select_over, select_ends, select_passed}
 use Rattle.lazy_steps.proofs.GatherSteps.{gathers_ran}
 use Rattle.lazy_steps.proofs.GroupWalks.{further_falls}
 use Rattle.lazy_steps.proofs.GroupCalls.{group_shape, read_last, groups_can, input_less, none_unwalked, as_many, grow_ended, grow_refused, grow_more, step_begins, step_found, step_asks, step_none, step_goes_on}
 use Rattle.lazy_steps.proofs.Chains.{none_apart, under_ran, descends_under}
-use Rattle.mix_tree.specs.Nodes.{Node}
 use Rattle.lazy_binding.proofs.Bound.{fit_at}
-use Rattle.path_auto.specs.Automaton.{machine_of, table_of}
-use Rattle.lxp_core.specs.View.{Keeps}
-use Rattle.lxp_core.proofs.Causes.{rose_since}
-use Rattle.lazy_steps.proofs.VisitSteps.{input_before, found_or_start, visits_begin, visits_done, start_ran, start_at, start_goes, first_sought, none_of, input_below, start_can, in_visit, input_can, next_sought, match_ran, match_then, match_found, visit_ran, visit_then, visit_found}
+use Rattle.lazy_steps.proofs.VisitSteps.{input_before, found_or_start, visits_begin, visits_done, none_of, input_below, start_can, in_visit, input_can, match_ran, match_then, match_found}
+use Rattle.lazy_steps.proofs.ScanWalks.{scan_over, scan_ran, scan_ends, scan_goes_on, scan_falls, later_sought}
+use Rattle.std.specs.Prelude.{Ok}
 use Rattle.std.proofs.Common.{List}
 use Rattle.lazy_binding.specs.SortedLists.{sorts}
 use Rattle.lazy_binding.specs.declared.labelled.Labelled.{Labelled}
@@ -60,7 +58,7 @@ steps::advance-advance_below-requires g t c κs within =
 pub steps::advance-returns-in_err-advance_below : goal.steps::advance-returns-in_err-advance_below
 steps::advance-returns-in_err-advance_below g t c =
     let under = descends_under c.descend-foot.result.levels c.args.walk.op c.descend-foot.result.op c.args.from.now.value c.descend-foot.result.at.now.value c.requires c.descend-foot.ensures.way in
-    record { ran = under_ran under (rw c.deref.ensures at c.advance_below.ensures).ran; cause = search rules; answer = search rules }
+    record { ran = under_ran under (rw c.deref.ensures at c.advance_below.ensures).ran; cause = handed_on _ (g.S.Sources.view c.args.s.now) (g.S.Sources.view c.advance_below.new.s) _ _ c.from_residual.ensures (c.in_err-advance_below.ensures.cause); answer = none_given _ _ c.from_residual.ensures.0 }
 
 pub steps::advance-returns-in-None : goal.steps::advance-returns-in-None
 steps::advance-returns-in-None g t c =
@@ -70,7 +68,7 @@ steps::advance-returns-in-None g t c =
 pub steps::advance-returns-in_err-lift-in-Some : goal.steps::advance-returns-in_err-lift-in-Some
 steps::advance-returns-in_err-lift-in-Some g t c =
     let under = descends_under c.descend-foot.result.levels c.args.walk.op c.descend-foot.result.op c.args.from.now.value c.descend-foot.result.at.now.value c.requires c.descend-foot.ensures.way in
-    record { ran = under_ran under (rw c.deref.ensures at c.advance_below.ensures).ran; cause = search rules; answer = search rules }
+    record { ran = under_ran under (rw c.deref.ensures at c.advance_below.ensures).ran; cause = for_memory _ (g.S.Sources.view c.args.s.now) (g.S.Sources.view c.advance_below.new.s) _ _ c.from_residual-in_err-lift-in-Some.ensures c.in_err-lift-in-Some.ensures.err; answer = none_given _ _ c.from_residual-in_err-lift-in-Some.ensures.0 }
 
 pub steps::advance-returns-in_ok-lift-in-Some : goal.steps::advance-returns-in_ok-lift-in-Some
 steps::advance-returns-in_ok-lift-in-Some g t c =
@@ -91,7 +89,7 @@ steps::advance_below-returns-in-TupleDestroy g t c =
     })
 
 pub pass_steps::Filter::next-returns-in_err-before : goal.pass_steps::Filter::next-returns-in_err-before
-pass_steps::Filter::next-returns-in_err-before g t c = record { ran = ran_nothing g.met.S.Sources.same c.args.self.now.walk.op _ c.args.s.now c.args.growing.now c.requires.can.bench; cause = search rules; answer = search rules }
+pass_steps::Filter::next-returns-in_err-before g t c = record { ran = ran_nothing g.met.S.Sources.same c.args.self.now.walk.op _ c.args.s.now c.args.growing.now c.requires.can.bench; cause = for_memory _ (g.S.Sources.view c.args.s.now) (g.S.Sources.view c.args.s.now) _ _ c.from_residual.ensures c.in_err-before.ensures.err; answer = none_given _ _ c.from_residual.ensures.0 }
 
 pub pass_steps::Filter::next-bindings-init : goal.pass_steps::Filter::next-bindings-init
 pass_steps::Filter::next-bindings-init g t c = record { at = c.args.at.now; way = way_start g.met.S.Sources.same c.requires.can; over = sym c.in_ok-before.ensures.ok }
@@ -106,7 +104,7 @@ pass_steps::Filter::next-advance-requires g t c κs within =
 pub pass_steps::Filter::next-returns-in_err-below : goal.pass_steps::Filter::next-returns-in_err-below
 pass_steps::Filter::next-returns-in_err-below g t c =
     let z = c.bindings.invariant in
-    record { ran = way_ran g.met.S.Sources.after z.way (way_under c.requires.is z (select_over c.args.self.now c.requires.is z) c.advance.ensures.ran); cause = search rules; answer = search rules }
+    record { ran = way_ran g.met.S.Sources.after z.way (way_under c.requires.is z (select_over c.args.self.now c.requires.is z) c.advance.ensures.ran); cause = handed_on _ (g.S.Sources.view c.args.s.now) (g.S.Sources.view c.advance.new.s) _ _ c.from_residual-in_err-below.ensures (rose_before g.met.S.Sources.keeps _ _ _ _ z.way.came _ c.in_err-below.ensures.cause); answer = none_given _ _ c.from_residual-in_err-below.ensures.0 }
 
 pub pass_steps::Filter::next-returns-in_default : goal.pass_steps::Filter::next-returns-in_default
 pass_steps::Filter::next-returns-in_default g t c =
@@ -117,18 +115,10 @@ pass_steps::Filter::next-returns-in_default g t c =
 pub pass_steps::Filter::next-returns-in_err-put : goal.pass_steps::Filter::next-returns-in_err-put
 pass_steps::Filter::next-returns-in_err-put g t c =
     let z = c.bindings.invariant in
-    record { ran = way_ran g.met.S.Sources.after z.way (way_under c.requires.is z (select_over c.args.self.now c.requires.is z) c.advance.ensures.ran); cause = search rules; answer = search rules }
+    record { ran = way_ran g.met.S.Sources.after z.way (way_under c.requires.is z (select_over c.args.self.now c.requires.is z) c.advance.ensures.ran); cause = for_memory _ (g.S.Sources.view c.args.s.now) (g.S.Sources.view c.advance.new.s) _ _ c.from_residual-in_err-put.ensures c.in_err-put.ensures.err; answer = none_given _ _ c.from_residual-in_err-put.ensures.0 }
 
 pub pass_steps::Filter::next-returns-then-passes : goal.pass_steps::Filter::next-returns-then-passes
-pass_steps::Filter::next-returns-then-passes g t c =
-    let z = c.bindings.invariant in
-    let f = rw c.in-Some.is at c.in_ok-below.ensures.answer in
-    let meets = (rw c.deref.ensures at c.passes.ensures) _ c.advance.ensures.ran.bench f.cursor in
-    record {
-      ran = way_ran g.met.S.Sources.after z.way (way_under c.requires.is z (select_over c.args.self.now c.requires.is z) c.advance.ensures.ran);
-      cause = tt;
-      answer = rw c.in_ok-put.ensures.ok (comes_at z.way.goes.comes (select_found c.args.self.now c.requires.is z c.advance.ensures.ran _ f (λ u. sym (meets u) ∙ c.if-passes.true) _));
-    }
+pass_steps::Filter::next-returns-then-passes g t c = select_ends c.args.self.now c.requires.is c.bindings.invariant c.advance.ensures.ran _ (rw c.in-Some.is at c.in_ok-below.ensures.answer) g.met.S.Sources.after _ c.deref.ensures _ c.passes.ensures c.if-passes.true _ _ c.in_ok-put.ensures.ok
 
 pub pass_steps::Filter::next-bindings-preserved : goal.pass_steps::Filter::next-bindings-preserved
 pass_steps::Filter::next-bindings-preserved g t c =
@@ -144,7 +134,7 @@ pass_steps::Filter::next-bindings-preserved g t c =
     }
 
 pub pass_steps::Distinct::next-returns-in_err-before : goal.pass_steps::Distinct::next-returns-in_err-before
-pass_steps::Distinct::next-returns-in_err-before g t c = record { ran = ran_nothing g.met.S.Sources.same c.args.self.now.walk.op _ c.args.s.now c.args.growing.now c.requires.can.bench; cause = search rules; answer = search rules }
+pass_steps::Distinct::next-returns-in_err-before g t c = record { ran = ran_nothing g.met.S.Sources.same c.args.self.now.walk.op _ c.args.s.now c.args.growing.now c.requires.can.bench; cause = for_memory _ (g.S.Sources.view c.args.s.now) (g.S.Sources.view c.args.s.now) _ _ c.from_residual.ensures c.in_err-before.ensures.err; answer = none_given _ _ c.from_residual.ensures.0 }
 
 pub pass_steps::Distinct::next-bindings-init : goal.pass_steps::Distinct::next-bindings-init
 pass_steps::Distinct::next-bindings-init g t c =
@@ -168,7 +158,7 @@ pass_steps::Distinct::next-advance-requires g t c κs within =
 pub pass_steps::Distinct::next-returns-in_err-below : goal.pass_steps::Distinct::next-returns-in_err-below
 pass_steps::Distinct::next-returns-in_err-below g t c =
     let z = c.bindings.invariant.0 in
-    record { ran = way_ran g.met.S.Sources.after z.way (way_under c.requires.is.1 z (first_over c.args.self.now c.requires.is z) c.advance.ensures.ran); cause = search rules; answer = search rules }
+    record { ran = way_ran g.met.S.Sources.after z.way (way_under c.requires.is.1 z (first_over c.args.self.now c.requires.is z) c.advance.ensures.ran); cause = handed_on _ (g.S.Sources.view c.args.s.now) (g.S.Sources.view c.advance.new.s) _ _ c.from_residual-in_err-below.ensures (rose_before g.met.S.Sources.keeps _ _ _ _ z.way.came _ c.in_err-below.ensures.cause); answer = none_given _ _ c.from_residual-in_err-below.ensures.0 }
 
 pub pass_steps::Distinct::next-returns-in_default : goal.pass_steps::Distinct::next-returns-in_default
 pass_steps::Distinct::next-returns-in_default g t c =
@@ -180,33 +170,13 @@ pub pass_steps::Distinct::next-seen_at-requires-clause-count : goal.pass_steps::
 pass_steps::Distinct::next-seen_at-requires-clause-count g t c = first_few c.args.self.now c.requires.is c.bindings.invariant.0 c.advance.ensures.ran _ c.bindings.invariant.1
 
 pub pass_steps::Distinct::next-returns-in_err-seen : goal.pass_steps::Distinct::next-returns-in_err-seen
-pass_steps::Distinct::next-returns-in_err-seen g t c =
-    let z = c.bindings.invariant.0 in
-    let f = rw c.in-Some.is at c.in_ok-below.ensures.answer in
-    record {
-      ran = way_ran g.met.S.Sources.after z.way (first_refused c.args.self.now c.requires.is z c.advance.ensures.ran _ f c.spots_are_one.ensures _ (rw (sym c.bindings.invariant.1) at c.in_err-seen.ensures.err));
-      cause = search rules;
-      answer = search rules;
-    }
+pass_steps::Distinct::next-returns-in_err-seen g t c = record { ran = look_refused c.args.self.now c.requires.is c.bindings.invariant.0 g.met.S.Sources.after c.advance.ensures.ran _ (rw c.in-Some.is at c.in_ok-below.ensures.answer) c.spots_are_one.ensures _ _ c.bindings.invariant.1 c.in_err-seen.ensures.err; cause = for_memory _ (g.S.Sources.view c.args.s.now) (g.S.Sources.view c.advance.new.s) _ _ c.from_residual-in_err-seen.ensures c.in_err-seen.ensures.memory; answer = none_given _ _ c.from_residual-in_err-seen.ensures.0 }
 
 pub pass_steps::Distinct::next-returns-in_err-put : goal.pass_steps::Distinct::next-returns-in_err-put
-pass_steps::Distinct::next-returns-in_err-put g t c =
-    let z = c.bindings.invariant.0 in
-    let f = rw c.in-Some.is at c.in_ok-below.ensures.answer in
-    let seen = rw (sym c.bindings.invariant.1) at c.in_ok-seen.ensures.ok in
-    record { ran = way_ran g.met.S.Sources.after z.way (first_left c.args.self.now c.requires.is z c.advance.ensures.ran _ f c.spots_are_one.ensures _ seen.0); cause = search rules; answer = search rules }
+pass_steps::Distinct::next-returns-in_err-put g t c = record { ran = look_ran c.args.self.now c.requires.is c.bindings.invariant.0 g.met.S.Sources.after c.advance.ensures.ran _ (rw c.in-Some.is at c.in_ok-below.ensures.answer) c.spots_are_one.ensures _ _ c.bindings.invariant.1 _ c.in_ok-seen.ensures.ok; cause = for_memory _ (g.S.Sources.view c.args.s.now) (g.S.Sources.view c.advance.new.s) _ _ c.from_residual-in_err-put.ensures c.in_err-put.ensures.err; answer = none_given _ _ c.from_residual-in_err-put.ensures.0 }
 
 pub pass_steps::Distinct::next-returns-in-Some-2 : goal.pass_steps::Distinct::next-returns-in-Some-2
-pass_steps::Distinct::next-returns-in-Some-2 g t c =
-    let z = c.bindings.invariant.0 in
-    let f = rw c.in-Some.is at c.in_ok-below.ensures.answer in
-    let seen = rw (c.in-Some-2.is, sym c.bindings.invariant.1) at c.in_ok-seen.ensures.ok in
-    record {
-      ran = way_ran g.met.S.Sources.after z.way (first_left c.args.self.now c.requires.is z c.advance.ensures.ran _ f c.spots_are_one.ensures _ seen.0);
-      cause = tt;
-      answer = rw c.in_ok-put.ensures.ok (comes_at z.way.goes.comes
-          (first_found c.args.self.now c.requires.is z c.advance.ensures.ran _ f c.spots_are_one.ensures _ seen.0 seen.1.0 seen.1.1 _ c.in-Some-2.seen (omega (arith, seen.1.2))));
-    }
+pass_steps::Distinct::next-returns-in-Some-2 g t c = look_ends c.args.self.now c.requires.is c.bindings.invariant.0 g.met.S.Sources.after c.advance.ensures.ran _ (rw c.in-Some.is at c.in_ok-below.ensures.answer) c.spots_are_one.ensures _ _ c.bindings.invariant.1 _ (rw c.in-Some-2.is at c.in_ok-seen.ensures.ok) _ _ c.in_ok-put.ensures.ok
 
 pub pass_steps::Distinct::next-bindings-preserved : goal.pass_steps::Distinct::next-bindings-preserved
 pass_steps::Distinct::next-bindings-preserved g t c =
@@ -224,19 +194,13 @@ pass_steps::Distinct::next-bindings-preserved g t c =
     )
 
 pub pass_steps::Distinct::next-bindings-smaller : goal.pass_steps::Distinct::next-bindings-smaller
-pass_steps::Distinct::next-bindings-smaller g t c =
-    let z = c.bindings.invariant.0 in
-    let f = rw c.in-Some.is at c.in_ok-below.ensures.answer in
-    let seen = rw (sym c.bindings.invariant.1) at c.in_ok-seen.ensures.ok in
-    let kept = first_kept c.args.self.now c.requires.is z c.advance.ensures.ran _ f c.spots_are_one.ensures _ seen.0 in
-    let stays = cursors_kept _ _ kept (operators c.args.self.now.walk.fixed.now) c.advance.ensures.ran.bench c.args.self.now.input c.in-Some.below.value f.cursor in
-    omega (arith, f.falls, stays.number_is)
+pass_steps::Distinct::next-bindings-smaller g t c = look_falls c.args.self.now c.requires.is c.bindings.invariant.0 g.met.S.Sources.after c.advance.ensures.ran _ (rw c.in-Some.is at c.in_ok-below.ensures.answer) c.spots_are_one.ensures _ _ c.bindings.invariant.1 _ c.in_ok-seen.ensures.ok
 
 pub join_steps::Join::next_left-returns-in_err-advance : goal.join_steps::Join::next_left-returns-in_err-advance
-join_steps::Join::next_left-returns-in_err-advance g t c = record { ran = left_ran c.args.self.now.left c.args.self.now.right c.args.self.now.walk.op c.args.self.now.tests.now c.requires.can c.requires.op c.requires.is c.advance.ensures.ran; cause = search rules; answer = search rules }
+join_steps::Join::next_left-returns-in_err-advance g t c = record { ran = left_ran c.args.self.now.left c.args.self.now.right c.args.self.now.walk.op c.args.self.now.tests.now c.requires.can c.requires.op c.requires.is c.advance.ensures.ran; cause = handed_on _ (g.S.Sources.view c.args.s.now) (g.S.Sources.view c.advance.new.s) _ _ c.from_residual.ensures (c.in_err-advance.ensures.cause); answer = none_given _ _ c.from_residual.ensures.0 }
 
 pub join_steps::Join::next_left-returns-in_err-start-in-Some : goal.join_steps::Join::next_left-returns-in_err-start-in-Some
-join_steps::Join::next_left-returns-in_err-start-in-Some g t c = record { ran = left_ran c.args.self.now.left c.args.self.now.right c.args.self.now.walk.op c.args.self.now.tests.now c.requires.can c.requires.op c.requires.is c.advance.ensures.ran; cause = search rules; answer = search rules }
+join_steps::Join::next_left-returns-in_err-start-in-Some g t c = record { ran = left_ran c.args.self.now.left c.args.self.now.right c.args.self.now.walk.op c.args.self.now.tests.now c.requires.can c.requires.op c.requires.is c.advance.ensures.ran; cause = for_memory _ (g.S.Sources.view c.args.s.now) (g.S.Sources.view c.advance.new.s) _ _ c.from_residual-in_err-start-in-Some.ensures c.in_err-start-in-Some.ensures.err; answer = none_given _ _ c.from_residual-in_err-start-in-Some.ensures.0 }
 
 pub join_steps::Join::next_left-returns-in-None : goal.join_steps::Join::next_left-returns-in-None
 join_steps::Join::next_left-returns-in-None g t c = record { ran = left_ran c.args.self.now.left c.args.self.now.right c.args.self.now.walk.op c.args.self.now.tests.now c.requires.can c.requires.op c.requires.is c.advance.ensures.ran; cause = tt; answer = left_done (operators c.args.self.now.walk.fixed.now) c.args.self.now.walk.op c.args.self.now.left c.args.self.now.right c.args.self.now.tests.now c.requires.can.fixed.typed c.requires.op c.requires.is (world_of (g.S.Sources.view c.args.s.now) c.args.growing.now) (world_of (g.S.Sources.view c.args.s.now) c.args.growing.now) c.requires.can.bench c.args.l.now.value (rw c.in-None.is at c.in_ok-advance.ensures.answer) }
@@ -258,7 +222,7 @@ join_steps::Join::step-next_left-requires g t c κs within =
     search rules
 
 pub join_steps::Join::step-returns-in_err-start-in_default : goal.join_steps::Join::step-returns-in_err-start-in_default
-join_steps::Join::step-returns-in_err-start-in_default g t c = shaped c.args.at.now (pairs_up c.args.self.now.left c.args.self.now.right c.args.self.now.tests.now) c.requires.is (record { ran = ran_nothing g.met.S.Sources.same c.args.self.now.walk.op _ c.args.s.now c.args.growing.now c.requires.can.bench; cause = search rules; answer = search rules })
+join_steps::Join::step-returns-in_err-start-in_default g t c = shaped c.args.at.now (pairs_up c.args.self.now.left c.args.self.now.right c.args.self.now.tests.now) c.requires.is (record { ran = ran_nothing g.met.S.Sources.same c.args.self.now.walk.op _ c.args.s.now c.args.growing.now c.requires.can.bench; cause = for_memory _ (g.S.Sources.view c.args.s.now) (g.S.Sources.view c.args.s.now) _ _ c.from_residual-in_err-start-in_default.ensures c.in_err-start-in_default.ensures.err; answer = none_given _ _ c.from_residual-in_err-start-in_default.ensures.0 })
 
 pub join_steps::Join::step-returns-in_err-place-in-Pair : goal.join_steps::Join::step-returns-in_err-place-in-Pair
 join_steps::Join::step-returns-in_err-place-in-Pair g t c = shaped c.args.at.now (pairs_up c.args.self.now.left c.args.self.now.right c.args.self.now.tests.now) c.requires.is (record { ran = ran_nothing g.met.S.Sources.same c.args.self.now.walk.op _ c.args.s.now c.args.growing.now c.requires.can.bench; cause = search rules; answer = search rules })
@@ -286,30 +250,30 @@ path_scan::PathScan::next-next_at-requires-clause-at g t c = rw c.visit.ensures.
 
 pub path_scan::PathScan::next-returns-in_err-next_at-in-Found : goal.path_scan::PathScan::next-returns-in_err-next_at-in-Found
 path_scan::PathScan::next-returns-in_err-next_at-in-Found g t c =
-    let asked = (next_sought (machine_of c.visit.result.auto.now) (machine_of (table_of c.args.self.now.path.now)) c.visit.ensures.auto c.in-Found.source c.in-Found.found _ _ _ (rw c.visit.ensures.is at c.next_at.ensures)).asked in
-    led_at c.args.at.now _ c.in-Found.is (visits_below c.args.self.now.input c.args.self.now.start c.args.self.now.path.now c.args.self.now.out) c.requires.is (record { ran = match_ran c.requires.can c.args.self.now.input c.args.self.now.start c.args.self.now.path.now c.args.self.now.out c.requires.is (record { ptr = c.in-Found.below.ptr; value = tt }) _ _ _ c.in-Found.is asked; cause = search rules; answer = search rules })
+    let asked = (later_sought c.args.self.now c.in-Found.source c.in-Found.found _ c.visit.result c.visit.ensures.is c.visit.ensures.auto _ c.next_at.ensures).asked in
+    led_at c.args.at.now _ c.in-Found.is (visits_below c.args.self.now.input c.args.self.now.start c.args.self.now.path.now c.args.self.now.out) c.requires.is (record { ran = match_ran c.requires.can c.args.self.now.input c.args.self.now.start c.args.self.now.path.now c.args.self.now.out c.requires.is (record { ptr = c.in-Found.below.ptr; value = tt }) _ _ _ c.in-Found.is asked; cause = handed_on _ (g.S.Sources.view c.args.s.now) (g.S.Sources.view c.next_at.new.s) _ _ c.from_residual.ensures (rw c.visit.ensures.is at c.in_err-next_at-in-Found.ensures.cause); answer = none_given _ _ c.from_residual.ensures.0 })
 
 pub path_scan::PathScan::next-next_start-requires : goal.path_scan::PathScan::next-next_start-requires
 path_scan::PathScan::next-next_start-requires g t c κs within =
-    let can = can_then (input_can c.requires.can c.args.self.now.input c.args.self.now.start c.args.self.now.path.now c.args.self.now.out c.requires.is (record { ptr = c.in-Found.below.ptr; value = tt }) _ _ _ c.in-Found.is) (g.S.Sources.view c.next_at.new.s) c.next_at.new.growing (rw c.visit.ensures.is at c.next_at.ensures).asked.bench (rw c.visit.ensures.is at c.next_at.ensures).asked.kept in
+    let can = can_then (input_can c.requires.can c.args.self.now.input c.args.self.now.start c.args.self.now.path.now c.args.self.now.out c.requires.is (record { ptr = c.in-Found.below.ptr; value = tt }) _ _ _ c.in-Found.is) (g.S.Sources.view c.next_at.new.s) c.next_at.new.growing (later_sought c.args.self.now c.in-Found.source c.in-Found.found _ c.visit.result c.visit.ensures.is c.visit.ensures.auto _ c.next_at.ensures).asked.bench (later_sought c.args.self.now c.in-Found.source c.in-Found.found _ c.visit.result c.visit.ensures.is c.visit.ensures.auto _ c.next_at.ensures).asked.kept in
     let small = input_below c.requires.can c.args.self.now.input c.args.self.now.start c.args.self.now.path.now c.args.self.now.out c.requires.is in
     search rules
 
 pub path_scan::PathScan::next-returns-in-None : goal.path_scan::PathScan::next-returns-in-None
 path_scan::PathScan::next-returns-in-None g t c =
-    let asked = (next_sought (machine_of c.visit.result.auto.now) (machine_of (table_of c.args.self.now.path.now)) c.visit.ensures.auto c.in-Found.source c.in-Found.found _ _ _ (rw c.visit.ensures.is at c.next_at.ensures)).asked in
-    let none = (next_sought (machine_of c.visit.result.auto.now) (machine_of (table_of c.args.self.now.path.now)) c.visit.ensures.auto c.in-Found.source c.in-Found.found _ _ _ (rw c.visit.ensures.is at c.in_ok-next_at-in-Found.ensures)).answer in
+    let asked = (later_sought c.args.self.now c.in-Found.source c.in-Found.found _ c.visit.result c.visit.ensures.is c.visit.ensures.auto _ c.next_at.ensures).asked in
+    let none = (later_sought c.args.self.now c.in-Found.source c.in-Found.found _ c.visit.result c.visit.ensures.is c.visit.ensures.auto _ c.in_ok-next_at-in-Found.ensures).answer in
     let goes = match_then c.requires.can c.args.self.now.input c.args.self.now.start c.args.self.now.path.now c.args.self.now.out c.requires.is (record { ptr = c.in-Found.below.ptr; value = tt }) _ _ _ c.in-Found.is asked (rw c.in-None.is at none) in
     led_at c.args.at.now _ c.in-Found.is (visits_below c.args.self.now.input c.args.self.now.start c.args.self.now.path.now c.args.self.now.out) c.requires.is (record {
       ran = ran_then g.met.S.Sources.after asked.came goes c.next_start.ensures.ran;
-      cause = search rules;
+      cause = cause_before g.met.S.Sources.keeps _ _ _ _ asked.came c.next_start.result c.next_start.ensures.cause;
       answer = goes_gives _ goes (visits_below c.args.self.now.input c.args.self.now.start c.args.self.now.path.now c.args.self.now.out) c.next_start.result c.next_start.ensures.answer;
     })
 
 pub path_scan::PathScan::next-returns-in-Some : goal.path_scan::PathScan::next-returns-in-Some
 path_scan::PathScan::next-returns-in-Some g t c =
-    let asked = (next_sought (machine_of c.visit.result.auto.now) (machine_of (table_of c.args.self.now.path.now)) c.visit.ensures.auto c.in-Found.source c.in-Found.found _ _ _ (rw c.visit.ensures.is at c.next_at.ensures)).asked in
-    let hit = rw c.in-Some.is at (next_sought (machine_of c.visit.result.auto.now) (machine_of (table_of c.args.self.now.path.now)) c.visit.ensures.auto c.in-Found.source c.in-Found.found _ _ _ (rw c.visit.ensures.is at c.in_ok-next_at-in-Found.ensures)).answer in
+    let asked = (later_sought c.args.self.now c.in-Found.source c.in-Found.found _ c.visit.result c.visit.ensures.is c.visit.ensures.auto _ c.next_at.ensures).asked in
+    let hit = rw c.in-Some.is at (later_sought c.args.self.now c.in-Found.source c.in-Found.found _ c.visit.result c.visit.ensures.is c.visit.ensures.auto _ c.in_ok-next_at-in-Found.ensures).answer in
     led_at c.args.at.now _ c.in-Found.is (visits_below c.args.self.now.input c.args.self.now.start c.args.self.now.path.now c.args.self.now.out) c.requires.is (record {
       ran = match_ran c.requires.can c.args.self.now.input c.args.self.now.start c.args.self.now.path.now c.args.self.now.out c.requires.is (record { ptr = c.in-Found.below.ptr; value = tt }) _ _ _ c.in-Found.is asked;
       cause = tt;
@@ -325,7 +289,7 @@ path_scan::PathScan::next-next_start-requires-in_default g t c κs within =
     search rules
 
 pub path_scan::PathScan::next-returns-in_err-start-in_default : goal.path_scan::PathScan::next-returns-in_err-start-in_default
-path_scan::PathScan::next-returns-in_err-start-in_default g t c = led c.args.at.now (visits_below c.args.self.now.input c.args.self.now.start c.args.self.now.path.now c.args.self.now.out) c.requires.is (record { ran = ran_nothing g.met.S.Sources.same c.args.self.now.walk.op _ c.args.s.now c.args.growing.now c.requires.can.bench; cause = search rules; answer = search rules })
+path_scan::PathScan::next-returns-in_err-start-in_default g t c = led c.args.at.now (visits_below c.args.self.now.input c.args.self.now.start c.args.self.now.path.now c.args.self.now.out) c.requires.is (record { ran = ran_nothing g.met.S.Sources.same c.args.self.now.walk.op _ c.args.s.now c.args.growing.now c.requires.can.bench; cause = for_memory _ (g.S.Sources.view c.args.s.now) (g.S.Sources.view c.args.s.now) _ _ c.from_residual-in_err-start-in_default.ensures c.in_err-start-in_default.ensures.err; answer = none_given _ _ c.from_residual-in_err-start-in_default.ensures.0 })
 
 pub path_scan::PathScan::next-returns-in_ok-start-in_default : goal.path_scan::PathScan::next-returns-in_ok-start-in_default
 path_scan::PathScan::next-returns-in_ok-start-in_default g t c =
@@ -348,18 +312,16 @@ path_scan::PathScan::next_start-starts-init g t c =
     }
 
 pub path_scan::PathScan::next_start-returns-in_err-at : goal.path_scan::PathScan::next_start-returns-in_err-at
-path_scan::PathScan::next_start-returns-in_err-at g t c = record { ran = ran_nothing g.met.S.Sources.same c.args.self.now.walk.op _ c.args.s.now c.args.growing.now c.requires.can.bench; cause = search rules; answer = search rules }
+path_scan::PathScan::next_start-returns-in_err-at g t c = record { ran = ran_nothing g.met.S.Sources.same c.args.self.now.walk.op _ c.args.s.now c.args.growing.now c.requires.can.bench; cause = for_memory _ (g.S.Sources.view c.args.s.now) (g.S.Sources.view c.args.s.now) _ _ c.from_residual.ensures c.in_err-at.ensures.err; answer = none_given _ _ c.from_residual.ensures.0 }
 
 pub path_scan::PathScan::next_start-returns-in_err-next : goal.path_scan::PathScan::next_start-returns-in_err-next
-path_scan::PathScan::next_start-returns-in_err-next g t c =
-    let i = c.starts.invariant in
-    record { ran = ran_then g.met.S.Sources.after i.came i.goes (start_ran c.args.self.now.input c.args.self.now.start c.args.self.now.path.now c.args.self.now.out c.requires.op c.requires.is c.starts.at.value i.can c.advance.ensures.ran); cause = search rules; answer = search rules }
+path_scan::PathScan::next_start-returns-in_err-next g t c = record { ran = scan_over g.met.S.Sources.after c.args.self.now c.requires.op c.requires.is c.starts.invariant c.advance.ensures.ran; cause = handed_on _ (g.S.Sources.view c.args.s.now) (g.S.Sources.view c.advance.new.s) _ _ c.from_residual-in_err-next.ensures (rose_before g.met.S.Sources.keeps _ _ _ _ c.starts.invariant.came _ c.in_err-next.ensures.cause); answer = none_given _ _ c.from_residual-in_err-next.ensures.0 }
 
 pub path_scan::PathScan::next_start-returns-in_default : goal.path_scan::PathScan::next_start-returns-in_default
 path_scan::PathScan::next_start-returns-in_default g t c =
     let i = c.starts.invariant in
     record {
-      ran = ran_then g.met.S.Sources.after i.came i.goes (start_ran c.args.self.now.input c.args.self.now.start c.args.self.now.path.now c.args.self.now.out c.requires.op c.requires.is c.starts.at.value i.can c.advance.ensures.ran);
+      ran = scan_over g.met.S.Sources.after c.args.self.now c.requires.op c.requires.is c.starts.invariant c.advance.ensures.ran;
       cause = tt;
       answer = comes_none i.goes.comes (visits_done (operators c.args.self.now.walk.fixed.now) c.args.self.now.walk.op c.args.self.now.input c.args.self.now.start c.args.self.now.path.now c.args.self.now.out i.can.fixed.typed c.requires.op c.requires.is (world_of (g.S.Sources.view c.starts.s) c.starts.growing) (world_of (g.S.Sources.view c.starts.s) c.starts.growing) i.can.bench c.starts.at.value (rw (none_of _ c.in_default.not-Some) at c.in_ok-next.ensures.answer));
     }
@@ -395,57 +357,30 @@ path_scan::PathScan::next_start-first_at-requires-clause-start g t c =
 
 pub path_scan::PathScan::next_start-returns-in_err-found : goal.path_scan::PathScan::next_start-returns-in_err-found
 path_scan::PathScan::next_start-returns-in_err-found g t c =
+    let f = rw c.in-Some.is at c.in_ok-next.ensures.answer in
     record {
-      ran = (let i = c.starts.invariant in let f = rw c.in-Some.is at c.in_ok-next.ensures.answer in let node = (rw c.deref.ensures at c.node_of-source.ensures) _ f.cursor in let at = start_at c.args.self.now.input c.args.self.now.start c.args.self.now.path.now c.args.self.now.out c.requires.op c.requires.is c.starts.at.value i.can c.advance.ensures.ran _ f in let goes = start_goes c.args.self.now.input c.args.self.now.start c.args.self.now.path.now c.args.self.now.out c.requires.op c.requires.is c.starts.at.value i.can c.advance.ensures.ran _ f i.goes in let visit = rw c.visit.ensures.is at c.first_at.ensures in let sought = first_sought c.args.self.now.path.now (machine_of c.visit.result.auto.now) c.visit.ensures.auto _ c.node_of-source.result.0 c.node_of-source.result.1 node.node _ c.first_at.result visit in let came = g.met.S.Sources.after _ _ _ i.came c.advance.ensures.ran.came in ran_then g.met.S.Sources.after came goes (visit_ran c.args.self.now.input c.args.self.now.start c.args.self.now.path.now c.args.self.now.out c.requires.op c.requires.is c.in-Some.next.value at f.row c.node_of-source.result.0 (ap (λ (z : Node). z.source) node.node) node.read _ sought.asked));
-      cause =
-          (let keeps : Keeps (g.S.Sources.view c.args.s.now) (g.S.Sources.view c.advance.new.s) = g.met.S.Sources.keeps _ _ (g.met.S.Sources.after _ _ _ c.starts.invariant.came c.advance.ensures.ran.came) in
-          let since = rose_since (IsRead (operators c.args.self.now.walk.fixed.now)) (IsRead (operators c.args.self.now.walk.fixed.now)) (g.S.Sources.view c.args.s.now) (g.S.Sources.view c.advance.new.s) (g.S.Sources.view c.first_at.new.s) (λ n r. r) keeps.faults _ (rw c.visit.ensures.is at c.in_err-found.ensures.cause) in
-          search rules);
-      answer = search rules;
+      ran = scan_ran g.met.S.Sources.after c.args.self.now c.requires.op c.requires.is c.starts.invariant c.advance.ensures.ran _ f _ _ ((rw c.deref.ensures at c.node_of-source.ensures) _ f.cursor) c.visit.result c.visit.ensures.is c.visit.ensures.auto _ c.first_at.ensures;
+      cause = handed_on _ (g.S.Sources.view c.args.s.now) (g.S.Sources.view c.first_at.new.s) _ _ c.from_residual-in_err-found.ensures (rose_before g.met.S.Sources.keeps _ _ _ _ (g.met.S.Sources.after _ _ _ c.starts.invariant.came c.advance.ensures.ran.came) _ (rw c.visit.ensures.is at c.in_err-found.ensures.cause));
+      answer = none_given _ _ c.from_residual-in_err-found.ensures.0;
     }
 
 pub path_scan::PathScan::next_start-returns-in-Some-2 : goal.path_scan::PathScan::next_start-returns-in-Some-2
 path_scan::PathScan::next_start-returns-in-Some-2 g t c =
-    let i = c.starts.invariant in
     let f = rw c.in-Some.is at c.in_ok-next.ensures.answer in
-    let node = (rw c.deref.ensures at c.node_of-source.ensures) _ f.cursor in
-    let at = start_at c.args.self.now.input c.args.self.now.start c.args.self.now.path.now c.args.self.now.out c.requires.op c.requires.is c.starts.at.value i.can c.advance.ensures.ran _ f in
-    let goes = start_goes c.args.self.now.input c.args.self.now.start c.args.self.now.path.now c.args.self.now.out c.requires.op c.requires.is c.starts.at.value i.can c.advance.ensures.ran _ f i.goes in
-    let visit = rw c.visit.ensures.is at c.in_ok-found.ensures in
-    let sought = first_sought c.args.self.now.path.now (machine_of c.visit.result.auto.now) c.visit.ensures.auto _ c.node_of-source.result.0 c.node_of-source.result.1 node.node _ _ visit in
-    let hit = rw c.in-Some-2.is at sought.answer in
-    record {
-      ran = ran_then g.met.S.Sources.after (g.met.S.Sources.after _ _ _ i.came c.advance.ensures.ran.came) goes (visit_ran c.args.self.now.input c.args.self.now.start c.args.self.now.path.now c.args.self.now.out c.requires.op c.requires.is c.in-Some.next.value at f.row c.node_of-source.result.0 (ap (λ (z : Node). z.source) node.node) node.read _ sought.asked);
-      cause = tt;
-      answer = comes_at goes.comes (visit_found c.args.self.now.input c.args.self.now.start c.args.self.now.path.now c.args.self.now.out c.requires.op c.requires.is c.in-Some.next.value at f.row c.node_of-source.result.0 (ap (λ (z : Node). z.source) node.node) node.read _ sought.asked _ hit.0 hit.1 c.in-Some-2.found.value {u = hit.2.0} hit.2.1);
-    }
+    scan_ends g.met.S.Sources.after c.args.self.now c.requires.op c.requires.is c.starts.invariant c.advance.ensures.ran _ f _ _ ((rw c.deref.ensures at c.node_of-source.ensures) _ f.cursor) c.visit.result c.visit.ensures.is c.visit.ensures.auto _ c.in_ok-found.ensures _ (ap Ok c.in-Some-2.is)
 
 pub path_scan::PathScan::next_start-starts-preserved : goal.path_scan::PathScan::next_start-starts-preserved
 path_scan::PathScan::next_start-starts-preserved g t c =
-    let i = c.starts.invariant in
     let f = rw c.in-Some.is at c.in_ok-next.ensures.answer in
-    let node = (rw c.deref.ensures at c.node_of-source.ensures) _ f.cursor in
-    let at = start_at c.args.self.now.input c.args.self.now.start c.args.self.now.path.now c.args.self.now.out c.requires.op c.requires.is c.starts.at.value i.can c.advance.ensures.ran _ f in
-    let goes = start_goes c.args.self.now.input c.args.self.now.start c.args.self.now.path.now c.args.self.now.out c.requires.op c.requires.is c.starts.at.value i.can c.advance.ensures.ran _ f i.goes in
-    let visit = rw c.visit.ensures.is at c.in_ok-found.ensures in
-    let sought = first_sought c.args.self.now.path.now (machine_of c.visit.result.auto.now) c.visit.ensures.auto _ c.node_of-source.result.0 c.node_of-source.result.1 node.node _ _ visit in
-    record {
-      came = g.met.S.Sources.after _ _ _ (g.met.S.Sources.after _ _ _ i.came c.advance.ensures.ran.came) sought.asked.came;
-      goes = goes_then goes (visit_then c.args.self.now.input c.args.self.now.start c.args.self.now.path.now c.args.self.now.out c.requires.op c.requires.is c.in-Some.next.value at f.row c.node_of-source.result.0 (ap (λ (z : Node). z.source) node.node) node.read _ sought.asked (suc (bound_of (world_of (g.S.Sources.view c.advance.new.s) c.advance.new.growing))) (rw (none_of _ c.in_default-2.not-Some) at sought.answer));
-      can = can_then at (g.S.Sources.view c.first_at.new.s) c.first_at.new.growing sought.asked.bench sought.asked.kept;
-    }
+    scan_goes_on g.met.S.Sources.after c.args.self.now c.requires.op c.requires.is c.starts.invariant c.advance.ensures.ran _ f _ _ ((rw c.deref.ensures at c.node_of-source.ensures) _ f.cursor) c.visit.result c.visit.ensures.is c.visit.ensures.auto _ c.in_ok-found.ensures (ap Ok (none_of _ c.in_default-2.not-Some))
 
 pub path_scan::PathScan::next_start-starts-smaller : goal.path_scan::PathScan::next_start-starts-smaller
 path_scan::PathScan::next_start-starts-smaller g t c =
     let f = rw c.in-Some.is at c.in_ok-next.ensures.answer in
-    let node = (rw c.deref.ensures at c.node_of-source.ensures) _ f.cursor in
-    let visit = rw c.visit.ensures.is at c.first_at.ensures in
-    let sought = first_sought c.args.self.now.path.now (machine_of c.visit.result.auto.now) c.visit.ensures.auto _ c.node_of-source.result.0 c.node_of-source.result.1 node.node _ c.first_at.result visit in
-    let stays = cursors_kept _ _ sought.asked.kept (operators c.args.self.now.walk.fixed.now) c.advance.ensures.ran.bench c.args.self.now.input c.in-Some.next.value f.cursor in
-    omega (arith, f.falls, stays.number_is)
+    scan_falls g.met.S.Sources.after c.args.self.now c.requires.op c.requires.is c.starts.invariant c.advance.ensures.ran _ f _ _ ((rw c.deref.ensures at c.node_of-source.ensures) _ f.cursor) c.visit.result c.visit.ensures.is c.visit.ensures.auto _ c.first_at.ensures
 
 pub sort_steps::Sort::first-returns-in_err-rows : goal.sort_steps::Sort::first-returns-in_err-rows
-sort_steps::Sort::first-returns-in_err-rows g t c = led Start (sorts c.args.self.now.input c.args.self.now.var c.args.self.now.desc) c.requires.is (record { ran = order_ran (operators c.args.self.now.walk.fixed.now) c.requires.can.fixed.typed c.args.self.now.walk.op c.requires.can.op c.args.self.now.input c.args.self.now.var c.args.self.now.desc c.requires.is c.labelled.ensures.ran; cause = search rules; answer = search rules })
+sort_steps::Sort::first-returns-in_err-rows g t c = led Start (sorts c.args.self.now.input c.args.self.now.var c.args.self.now.desc) c.requires.is (record { ran = order_ran (operators c.args.self.now.walk.fixed.now) c.requires.can.fixed.typed c.args.self.now.walk.op c.requires.can.op c.args.self.now.input c.args.self.now.var c.args.self.now.desc c.requires.is c.labelled.ensures.ran; cause = handed_on _ (g.S.Sources.view c.args.s.now) (g.S.Sources.view c.labelled.new.s) _ _ c.from_residual.ensures (c.in_err-rows.ensures.cause); answer = none_given _ _ c.from_residual.ensures.0 })
 
 pub sort_steps::labelled-returns-in_err-at-clause-ran : goal.sort_steps::labelled-returns-in_err-at-clause-ran
 sort_steps::labelled-returns-in_err-at-clause-ran g t c = through_nothing g.met.S.Sources.same c.args.walk.op c.args.s.now c.args.growing.now c.requires.can.bench
@@ -488,7 +423,7 @@ pub sort_steps::Sort::first-returns : goal.sort_steps::Sort::first-returns
 sort_steps::Sort::first-returns g t c =
     led Start (sorts c.args.self.now.input c.args.self.now.var c.args.self.now.desc) c.requires.is (record {
       ran = order_ran (operators c.args.self.now.walk.fixed.now) c.requires.can.fixed.typed c.args.self.now.walk.op c.requires.can.op c.args.self.now.input c.args.self.now.var c.args.self.now.desc c.requires.is c.labelled.ensures.ran;
-      cause = search rules;
+      cause = memory_cause _ (g.S.Sources.view c.args.s.now) (g.S.Sources.view c.labelled.new.s) c.first_sorted.result c.first_sorted.ensures.err;
       answer = IfOk-weaker c.first_sorted.result _ _ (λ r ok. order_first (operators c.args.self.now.walk.fixed.now) c.requires.can.fixed.typed c.args.self.now.walk.op c.requires.can.op c.args.self.now.input c.args.self.now.var c.args.self.now.desc c.requires.is (world_of (g.S.Sources.view c.args.s.now) c.args.growing.now) (world_of (g.S.Sources.view c.labelled.new.s) c.labelled.new.growing) c.labelled.ensures.ran.kept c.requires.can.bench c.in_ok-rows.rows.items _ c.in_ok-rows.ensures.rows refl ok.0 ok.1 r ok.2) c.first_sorted.ensures.ok;
     })
 
@@ -502,7 +437,7 @@ pub sort_steps::Sort::next-returns-in-Sorted : goal.sort_steps::Sort::next-retur
 sort_steps::Sort::next-returns-in-Sorted g t c =
     led_at c.args.at.now _ c.in-Sorted.is (sorts c.args.self.now.input c.args.self.now.var c.args.self.now.desc) c.requires.is (record {
       ran = ran_nothing g.met.S.Sources.same c.args.self.now.walk.op _ c.args.s.now c.args.growing.now c.requires.can.bench;
-      cause = search rules;
+      cause = memory_cause _ (g.S.Sources.view c.args.s.now) (g.S.Sources.view c.args.s.now) c.sorted_at.result c.sorted_at.ensures.err;
       answer = IfOk-weaker c.sorted_at.result _ _ (λ r ok. order_next (world_of (g.S.Sources.view c.args.s.now) c.args.growing.now) (operators c.args.self.now.walk.fixed.now) c.args.self.now.walk.op c.args.self.now.input c.args.self.now.var c.args.self.now.desc c.in-Sorted.list c.in-Sorted.index (in_place c.requires.can (sorts c.args.self.now.input c.args.self.now.var c.args.self.now.desc) c.requires.is _ c.in-Sorted.is) r ok) c.sorted_at.ensures.ok;
     })
 
@@ -557,7 +492,7 @@ steps::advance_below-next-requires-in-GroupBy-3 g t c κs within =
     search rules
 
 pub join_steps::Join::grow-returns-in_err-last : goal.join_steps::Join::grow-returns-in_err-last
-join_steps::Join::grow-returns-in_err-last g t c = record { ran = ran_nothing g.met.S.Sources.same c.args.self.now.walk.op _ c.args.s.now c.args.growing.now c.requires.bench; cause = search rules; answer = search rules }
+join_steps::Join::grow-returns-in_err-last g t c = record { ran = ran_nothing g.met.S.Sources.same c.args.self.now.walk.op _ c.args.s.now c.args.growing.now c.requires.bench; cause = for_memory _ (g.S.Sources.view c.args.s.now) (g.S.Sources.view c.args.s.now) _ _ c.from_residual.ensures c.in_err-last.ensures.err; answer = none_given _ _ c.from_residual.ensures.0 }
 
 pub join_steps::Join::grow-advance-requires : goal.join_steps::Join::grow-advance-requires
 join_steps::Join::grow-advance-requires g t c κs within =
@@ -568,7 +503,7 @@ pub join_steps::Join::grow-returns-in_err-advance : goal.join_steps::Join::grow-
 join_steps::Join::grow-returns-in_err-advance g t c =
     let last = (c.in_ok-last.ensures.ok ∙ ap (λ (m : Kept (Rc Position Global)). last_of Start m.pairs) (memo_read (g.S.Sources.view c.args.s.now) c.args.growing.now (operators c.args.self.now.walk.fixed.now) c.requires.bench c.args.self.now.walk.op c.requires.op c.index.result.now c.index.ensures)) in
     let adv = rw last at c.advance.ensures in
-    record { ran = grow_ran c.args.self.now.left c.args.self.now.right c.args.self.now.walk.op c.args.self.now.tests.now c.requires.fixed c.requires.op c.requires.is c.requires.bench adv.ran; cause = search rules; answer = search rules }
+    record { ran = grow_ran c.args.self.now.left c.args.self.now.right c.args.self.now.walk.op c.args.self.now.tests.now c.requires.fixed c.requires.op c.requires.is c.requires.bench adv.ran; cause = handed_on _ (g.S.Sources.view c.args.s.now) (g.S.Sources.view c.advance.new.s) _ _ c.from_residual-in_err-advance.ensures (c.in_err-advance.ensures.cause); answer = none_given _ _ c.from_residual-in_err-advance.ensures.0 }
 
 pub join_steps::Join::grow-returns-in-None : goal.join_steps::Join::grow-returns-in-None
 join_steps::Join::grow-returns-in-None g t c =
@@ -591,7 +526,7 @@ pub join_steps::Join::grow-returns-in_err-push_member-in-Some : goal.join_steps:
 join_steps::Join::grow-returns-in_err-push_member-in-Some g t c =
     let last = (c.in_ok-last.ensures.ok ∙ ap (λ (m : Kept (Rc Position Global)). last_of Start m.pairs) (memo_read (g.S.Sources.view c.args.s.now) c.args.growing.now (operators c.args.self.now.walk.fixed.now) c.requires.bench c.args.self.now.walk.op c.requires.op c.index.result.now c.index.ensures)) in
     let adv = rw last at c.advance.ensures in
-    record { ran = refused_ran c.args.self.now.left c.args.self.now.right c.args.self.now.walk.op c.args.self.now.tests.now c.requires.fixed c.requires.op c.requires.is c.requires.bench adv.ran c.push_member.new.memos c.push_member.ensures.others c.in_err-push_member-in-Some.ensures.err; cause = search rules; answer = search rules }
+    record { ran = refused_ran c.args.self.now.left c.args.self.now.right c.args.self.now.walk.op c.args.self.now.tests.now c.requires.fixed c.requires.op c.requires.is c.requires.bench adv.ran c.push_member.new.memos c.push_member.ensures.others c.in_err-push_member-in-Some.ensures.err; cause = for_memory _ (g.S.Sources.view c.args.s.now) (g.S.Sources.view c.advance.new.s) _ _ c.from_residual-in_err-push_member-in-Some.ensures c.in_err-push_member-in-Some.ensures.memory; answer = none_given _ _ c.from_residual-in_err-push_member-in-Some.ensures.0 }
 
 pub join_steps::Join::grow-returns : goal.join_steps::Join::grow-returns
 join_steps::Join::grow-returns g t c =
@@ -619,12 +554,12 @@ join_steps::Join::next_new-returns-then-ended g t c =
     let goes = goes_then i.goes (ended_goes (operators c.args.self.now.walk.fixed.now) c.args.self.now.walk.op c.args.self.now.left c.args.self.now.right c.args.self.now.tests.now i.can.fixed.typed c.requires.op c.requires.is (world_of (g.S.Sources.view c.members.s) c.members.growing) i.can.bench c.args.l.now.value i.can.cursor c.requires.row ended) in
     record {
       ran = ran_then g.met.S.Sources.after i.came goes c.next_left.ensures.ran;
-      cause = search rules;
+      cause = cause_before g.met.S.Sources.keeps _ _ _ _ i.came c.next_left.result c.next_left.ensures.cause;
       answer = goes_result _ goes (pairs_up c.args.self.now.left c.args.self.now.right c.args.self.now.tests.now) c.next_left.result c.next_left.ensures.answer;
     }
 
 pub join_steps::Join::next_new-returns-in_err-grow : goal.join_steps::Join::next_new-returns-in_err-grow
-join_steps::Join::next_new-returns-in_err-grow g t c = (let i = c.members.invariant in record { ran = ran_then g.met.S.Sources.after i.came i.goes (beside_ran c.args.self.now.left c.args.self.now.right c.args.self.now.walk.op c.args.self.now.tests.now i.can c.requires.row c.requires.op c.requires.is c.grow.ensures.ran); cause = search rules; answer = search rules })
+join_steps::Join::next_new-returns-in_err-grow g t c = (let i = c.members.invariant in record { ran = ran_then g.met.S.Sources.after i.came i.goes (beside_ran c.args.self.now.left c.args.self.now.right c.args.self.now.walk.op c.args.self.now.tests.now i.can c.requires.row c.requires.op c.requires.is c.grow.ensures.ran); cause = handed_on _ (g.S.Sources.view c.args.s.now) (g.S.Sources.view c.grow.new.s) _ _ c.from_residual.ensures (rose_before g.met.S.Sources.keeps _ _ _ _ i.came _ c.in_err-grow.ensures.cause); answer = none_given _ _ c.from_residual.ensures.0 })
 
 pub join_steps::Join::next_new-next_left-requires-then-not-branch : goal.join_steps::Join::next_new-next_left-requires-then-not-branch
 join_steps::Join::next_new-next_left-requires-then-not-branch g t c κs within =
@@ -639,7 +574,7 @@ join_steps::Join::next_new-returns-then-not-branch g t c =
     let goes = goes_then i.goes (none_grown c.args.self.now.left c.args.self.now.right c.args.self.now.walk.op c.args.self.now.tests.now i.can c.requires.row c.requires.op c.requires.is c.grow.ensures.ran none.1) in
     record {
       ran = ran_then g.met.S.Sources.after (g.met.S.Sources.after _ _ _ i.came c.grow.ensures.ran.came) goes c.next_left-then-not-branch.ensures.ran;
-      cause = search rules;
+      cause = cause_before g.met.S.Sources.keeps _ _ _ _ (g.met.S.Sources.after _ _ _ i.came c.grow.ensures.ran.came) c.next_left-then-not-branch.result c.next_left-then-not-branch.ensures.cause;
       answer = goes_result _ goes (pairs_up c.args.self.now.left c.args.self.now.right c.args.self.now.tests.now) c.next_left-then-not-branch.result c.next_left-then-not-branch.ensures.answer;
     }
 
@@ -667,7 +602,7 @@ join_steps::Join::next_new-returns-in-Some g t c =
     let pair = IfOk-weaker c.at_found.result _ _ (λ z h. h (g.S.Sources.view c.grow.new.s) c.grow.ensures.ran.bench (can_then c.members.invariant.can (g.S.Sources.view c.grow.new.s) c.grow.new.growing c.grow.ensures.ran.bench c.grow.ensures.ran.asks.kept).cursor) c.at_found.ensures.answer in
     record {
       ran = ran_then g.met.S.Sources.after i.came i.goes (beside_ran c.args.self.now.left c.args.self.now.right c.args.self.now.walk.op c.args.self.now.tests.now i.can c.requires.row c.requires.op c.requires.is c.grow.ensures.ran);
-      cause = search rules;
+      cause = memory_cause _ (g.S.Sources.view c.args.s.now) (g.S.Sources.view c.grow.new.s) c.at_found.result c.at_found.ensures.err;
       answer = goes_result _ i.goes (pairs_up c.args.self.now.left c.args.self.now.right c.args.self.now.tests.now) c.at_found.result (more_steps c.args.self.now.left c.args.self.now.right c.args.self.now.walk.op c.args.self.now.tests.now i.can c.requires.row c.requires.op c.requires.is c.grow.ensures.ran grown c.len-place.result after c.in-Some.found (rw c.in-Some.is at c.in_ok-found.ensures.place) c.at_found.result pair);
     }
 
@@ -693,7 +628,7 @@ join_steps::Join::step-returns-in-Some g t c =
     let here = in_pair c.requires.can c.args.self.now.left c.args.self.now.right c.args.self.now.tests.now c.requires.is _ _ _ _ _ c.in-Pair.is in
     placed c.args.at.now _ c.in-Pair.is (pairs_up c.args.self.now.left c.args.self.now.right c.args.self.now.tests.now) c.requires.is (record {
       ran = ran_nothing g.met.S.Sources.same c.args.self.now.walk.op _ c.args.s.now c.args.growing.now c.requires.can.bench;
-      cause = search rules;
+      cause = memory_cause _ (g.S.Sources.view c.args.s.now) (g.S.Sources.view c.args.s.now) c.at_found.result c.at_found.ensures.err;
       answer = at_known c.requires.can c.args.self.now.left c.args.self.now.right c.args.self.now.tests.now c.requires.is _ _ _ _ _ c.in-Pair.is c.in-Some.place (rw c.in-Some.is at c.in_ok-place-in-Pair.ensures.place)
           ((rw c.in-Some.is at c.in_ok-place-in-Pair.ensures.next) (g.S.Sources.view c.args.s.now) c.requires.can.bench here.0) c.at_found.result
           (IfOk-weaker c.at_found.result _ _ (λ z h. h (g.S.Sources.view c.args.s.now) c.requires.can.bench here.0) c.at_found.ensures.answer);
@@ -731,7 +666,7 @@ join_steps::Join::next-returns-in-At g t c = record {
 }
 
 pub join_steps::Join::next-returns-in_err-put-in-At : goal.join_steps::Join::next-returns-in_err-put-in-At
-join_steps::Join::next-returns-in_err-put-in-At g t c = record { ran = way_ran g.met.S.Sources.after c.events.invariant (rw c.here.ensures at c.step.ensures).ran; cause = search rules; answer = search rules }
+join_steps::Join::next-returns-in_err-put-in-At g t c = record { ran = way_ran g.met.S.Sources.after c.events.invariant (rw c.here.ensures at c.step.ensures).ran; cause = for_memory _ (g.S.Sources.view c.args.s.now) (g.S.Sources.view c.step.new.s) _ _ c.from_residual-in_err-put-in-At.ensures c.in_err-put-in-At.ensures.err; answer = none_given _ _ c.from_residual-in_err-put-in-At.ensures.0 }
 
 pub join_steps::Join::next-returns-in-Done : goal.join_steps::Join::next-returns-in-Done
 join_steps::Join::next-returns-in-Done g t c = record {
@@ -743,13 +678,13 @@ join_steps::Join::next-returns-in-Done g t c = record {
 pub join_steps::Join::next-returns-in_err-step : goal.join_steps::Join::next-returns-in_err-step
 join_steps::Join::next-returns-in_err-step g t c =
     let step = rw c.here.ensures at c.step.ensures in
-    record { ran = way_ran g.met.S.Sources.after c.events.invariant step.ran; cause = search rules; answer = search rules }
+    record { ran = way_ran g.met.S.Sources.after c.events.invariant step.ran; cause = handed_on _ (g.S.Sources.view c.args.s.now) (g.S.Sources.view c.step.new.s) _ _ c.from_residual.ensures (rose_before g.met.S.Sources.keeps _ _ _ _ c.events.invariant.came _ c.in_err-step.ensures.cause); answer = none_given _ _ c.from_residual.ensures.0 }
 
 pub gather_steps::Gather::grow-returns-then-ended : goal.gather_steps::Gather::grow-returns-then-ended
 gather_steps::Gather::grow-returns-then-ended g t c = record { ran = ran_nothing g.met.S.Sources.same c.args.self.now.walk.op _ c.args.s.now c.args.growing.now c.requires.bench; cause = tt; answer = none_unwalked (g.S.Sources.view c.args.s.now) c.args.growing.now c.args.self.now c.requires.is c.requires.fixed c.requires.op c.requires.bench c.index-gathered.result.now c.index-gathered.ensures (sym c.ended.ensures ∙ c.if-ended.true) }
 
 pub gather_steps::Gather::grow-returns-in_err-last : goal.gather_steps::Gather::grow-returns-in_err-last
-gather_steps::Gather::grow-returns-in_err-last g t c = record { ran = ran_nothing g.met.S.Sources.same c.args.self.now.walk.op _ c.args.s.now c.args.growing.now c.requires.bench; cause = search rules; answer = search rules }
+gather_steps::Gather::grow-returns-in_err-last g t c = record { ran = ran_nothing g.met.S.Sources.same c.args.self.now.walk.op _ c.args.s.now c.args.growing.now c.requires.bench; cause = for_memory _ (g.S.Sources.view c.args.s.now) (g.S.Sources.view c.args.s.now) _ _ c.from_residual.ensures c.in_err-last.ensures.err; answer = none_given _ _ c.from_residual.ensures.0 }
 
 pub gather_steps::Gather::grow-advance-requires : goal.gather_steps::Gather::grow-advance-requires
 gather_steps::Gather::grow-advance-requires g t c κs within =
@@ -761,13 +696,13 @@ pub gather_steps::Gather::grow-returns-in_err-advance : goal.gather_steps::Gathe
 gather_steps::Gather::grow-returns-in_err-advance g t c =
     let last = read_last (g.S.Sources.view c.args.s.now) c.args.growing.now c.args.self.now c.requires.is c.requires.fixed c.requires.op c.requires.bench c.index-gathered.result.now c.index-gathered.ensures c.in_ok-last.last.value c.in_ok-last.ensures.ok in
     let adv = rw last at c.advance.ensures in
-    record { ran = gathers_ran c.args.self.now.walk.op c.args.self.now.input c.args.self.now.keys.now c.requires.is.0 c.requires.fixed c.requires.op c.requires.is.1 adv.ran; cause = search rules; answer = search rules }
+    record { ran = gathers_ran c.args.self.now.walk.op c.args.self.now.input c.args.self.now.keys.now c.requires.is.0 c.requires.fixed c.requires.op c.requires.is.1 adv.ran; cause = handed_on _ (g.S.Sources.view c.args.s.now) (g.S.Sources.view c.advance.new.s) _ _ c.from_residual-in_err-advance.ensures (c.in_err-advance.ensures.cause); answer = none_given _ _ c.from_residual-in_err-advance.ensures.0 }
 
 pub gather_steps::Gather::grow-returns-in_err-key-in-Some : goal.gather_steps::Gather::grow-returns-in_err-key-in-Some
 gather_steps::Gather::grow-returns-in_err-key-in-Some g t c =
     let last = read_last (g.S.Sources.view c.args.s.now) c.args.growing.now c.args.self.now c.requires.is c.requires.fixed c.requires.op c.requires.bench c.index-gathered.result.now c.index-gathered.ensures c.in_ok-last.last.value c.in_ok-last.ensures.ok in
     let adv = rw last at c.advance.ensures in
-    record { ran = gathers_ran c.args.self.now.walk.op c.args.self.now.input c.args.self.now.keys.now c.requires.is.0 c.requires.fixed c.requires.op c.requires.is.1 adv.ran; cause = search rules; answer = search rules }
+    record { ran = gathers_ran c.args.self.now.walk.op c.args.self.now.input c.args.self.now.keys.now c.requires.is.0 c.requires.fixed c.requires.op c.requires.is.1 adv.ran; cause = for_memory _ (g.S.Sources.view c.args.s.now) (g.S.Sources.view c.advance.new.s) _ _ c.from_residual-in_err-key-in-Some.ensures c.in_err-key-in-Some.ensures.err; answer = none_given _ _ c.from_residual-in_err-key-in-Some.ensures.0 }
 
 pub gather_steps::Gather::grow-returns-in-None : goal.gather_steps::Gather::grow-returns-in-None
 gather_steps::Gather::grow-returns-in-None g t c =
@@ -795,7 +730,7 @@ gather_steps::Gather::grow-returns-in_err-add_member-in-Some g t c =
     let parts = (rw c.deref.ensures at c.in_ok-key-in-Some.ensures.parts) _ adv.ran.bench h.cursor in
     let value = (rw c.deref.ensures at c.in_ok-key-in-Some.ensures.value) _ adv.ran.bench h.cursor in
     let leaves = grow_refused (g.S.Sources.view c.args.s.now) c.args.growing.now c.args.self.now c.requires.is c.requires.fixed c.requires.op c.requires.bench (world_of (g.S.Sources.view c.advance.new.s) c.advance.new.growing) adv.ran.asks adv.ran.bench _ f c.in_ok-key-in-Some.key.items parts value c.spots_are_one.ensures c.add_member.new.seen.items c.add_member.new.walked c.add_member.ensures.grows c.add_member.ensures.others c.in_err-add_member-in-Some.ensures.err c.in_err-add_member-in-Some.ensures.kept in
-    record { ran = record { came = adv.ran.came; bench = leaves.0; asks = leaves.1 }; cause = search rules; answer = search rules }
+    record { ran = record { came = adv.ran.came; bench = leaves.0; asks = leaves.1 }; cause = for_memory _ (g.S.Sources.view c.args.s.now) (g.S.Sources.view c.advance.new.s) _ _ c.from_residual-in_err-add_member-in-Some.ensures c.in_err-add_member-in-Some.ensures.memory; answer = none_given _ _ c.from_residual-in_err-add_member-in-Some.ensures.0 }
 
 pub gather_steps::Gather::grow-returns : goal.gather_steps::Gather::grow-returns
 gather_steps::Gather::grow-returns g t c =
@@ -818,7 +753,7 @@ gather_steps::Gather::next-bindings-init g t c = record {
 pub gather_steps::Gather::next-returns-in_err-group : goal.gather_steps::Gather::next-returns-in_err-group
 gather_steps::Gather::next-returns-in_err-group g t c =
     let i = c.bindings.invariant in
-    led c.args.at.now (group_shape c.args.self.now i.comes.0) i.comes.0.1 (record { ran = record { came = i.came; bench = i.bench; asks = i.comes.1.asks }; cause = search rules; answer = search rules })
+    led c.args.at.now (group_shape c.args.self.now i.comes.0) i.comes.0.1 (record { ran = record { came = i.came; bench = i.bench; asks = i.comes.1.asks }; cause = for_memory _ (g.S.Sources.view c.args.s.now) (g.S.Sources.view c.bindings.s) _ _ c.from_residual.ensures c.in_err-group.ensures.err; answer = none_given _ _ c.from_residual.ensures.0 })
 
 pub gather_steps::Gather::next-returns-in-Some : goal.gather_steps::Gather::next-returns-in-Some
 gather_steps::Gather::next-returns-in-Some g t c =
@@ -830,7 +765,7 @@ pub gather_steps::Gather::next-returns-in_err-grow-in-None : goal.gather_steps::
 gather_steps::Gather::next-returns-in_err-grow-in-None g t c =
     let i = c.bindings.invariant in
     let none = rw (c.in-None.is, c.seen_up_to-count.ensures) at c.in_ok-group.ensures.group in
-    led c.args.at.now (group_shape c.args.self.now i.comes.0) i.comes.0.1 (record { ran = record { came = g.met.S.Sources.after _ _ _ i.came c.grow.ensures.ran.came; bench = c.grow.ensures.ran.bench; asks = step_asks c.args.self.now c.args.at.now c.requires.can (world_of (g.S.Sources.view c.bindings.s) c.bindings.growing) i.bench i.comes none (world_of (g.S.Sources.view c.grow.new.s) c.grow.new.growing) c.grow.ensures.ran.asks }; cause = search rules; answer = search rules })
+    led c.args.at.now (group_shape c.args.self.now i.comes.0) i.comes.0.1 (record { ran = record { came = g.met.S.Sources.after _ _ _ i.came c.grow.ensures.ran.came; bench = c.grow.ensures.ran.bench; asks = step_asks c.args.self.now c.args.at.now c.requires.can (world_of (g.S.Sources.view c.bindings.s) c.bindings.growing) i.bench i.comes none (world_of (g.S.Sources.view c.grow.new.s) c.grow.new.growing) c.grow.ensures.ran.asks }; cause = handed_on _ (g.S.Sources.view c.args.s.now) (g.S.Sources.view c.grow.new.s) _ _ c.from_residual-in_err-grow-in-None.ensures (rose_before g.met.S.Sources.keeps _ _ _ _ i.came _ c.in_err-grow-in-None.ensures.cause); answer = none_given _ _ c.from_residual-in_err-grow-in-None.ensures.0 })
 
 pub gather_steps::Gather::next-returns-then-not-branch : goal.gather_steps::Gather::next-returns-then-not-branch
 gather_steps::Gather::next-returns-then-not-branch g t c =

@@ -6,10 +6,11 @@ use Rattle.lazy_binding.specs.Cursors.{number, size}
 use Rattle.lazy_binding.specs.Parts.{operators, world_of}
 use Rattle.lazy_binding.specs.World.{memo_at, gathered_at}
 use Rattle.lazy_steps.specs.Beside.{beside_events, beside_number, last_at}
-use Rattle.lazy_steps.specs.Steps.{at_of, CanStep, visit_events, visit_number}
+use Rattle.lazy_steps.specs.Steps.{at_of, CanStep}
 use Rattle.lazy_steps.proofs.Goes.{Goes}
 use Rattle.lazy_steps.proofs.Ways.{Way, WayOver}
 use Rattle.lazy_steps.proofs.OrderSteps.{Gathered}
+use Rattle.lazy_steps.proofs.ScanWalks.{ScanCame}
 use Rattle.lazy_steps.proofs.+walk.Given as goal
 
 abbrev pub decreases-steps::advance : goal.decreases-steps::advance
@@ -55,13 +56,7 @@ decreases-path_scan::PathScan::next_start g l = 8 * l.self.now.input + 7
 
 -- the visits so far had no match: what is still ahead, and what it has cost
 abbrev pub invariant-path_scan::PathScan::next_start-starts : goal.invariant-path_scan::PathScan::next_start-starts
-invariant-path_scan::PathScan::next_start-starts g l = record {
-  came : g.S.Sources.came_from l.initial.s l.s;
-  goes : Goes (world_of (g.S.Sources.view l.initial.s) l.initial.growing) (world_of (g.S.Sources.view l.s) l.growing) (operators l.self.walk.fixed.now) l.self.walk.op
-      (visit_events (world_of (g.S.Sources.view l.initial.s) l.initial.growing) (operators l.self.walk.fixed.now) l.self.input l.self.start l.self.path.now l.self.out l.below.value) (visit_events (world_of (g.S.Sources.view l.s) l.growing) (operators l.self.walk.fixed.now) l.self.input l.self.start l.self.path.now l.self.out l.at.value)
-      (visit_number (world_of (g.S.Sources.view l.initial.s) l.initial.growing) (operators l.self.walk.fixed.now) l.self.input l.below.value) (visit_number (world_of (g.S.Sources.view l.s) l.growing) (operators l.self.walk.fixed.now) l.self.input l.at.value);
-  can : CanStep (g.S.Sources.view l.s) l.growing l.self.walk.fixed.now l.self.input l.at.value;
-}
+invariant-path_scan::PathScan::next_start-starts g l = ScanCame g.S.Sources.view g.S.Sources.came_from l.self l.below.value l.initial.s l.initial.growing l.s l.growing l.at.value
 
 abbrev pub decreases-path_scan::PathScan::next_start-starts : goal.decreases-path_scan::PathScan::next_start-starts
 decreases-path_scan::PathScan::next_start-starts g l = number (world_of (g.S.Sources.view l.s) l.growing) (operators l.self.walk.fixed.now) l.self.input l.at.value

@@ -1,6 +1,6 @@
-use Rattle.std.proofs.Common.{rules}
 use Rattle.plan_core.specs.Shapes.{one_group, passes_on}
 use Rattle.lazy_binding.specs.Parts.{operators, world_of}
+use Rattle.lazy_steps.proofs.Refused.{for_memory, none_given}
 use Rattle.lazy_steps.proofs.Goes.{ran_nothing, led, led_at, in_shape}
 use Rattle.lazy_steps.proofs.Singles.{whole_at, whole_over}
 use Rattle.lazy_steps.proofs.single_steps.next_whole.Goals as goal
@@ -21,4 +21,4 @@ returns-in_default g c = led c.args.at.now (passes_on c.requires.is.0 (one_group
 })
 
 pub returns-in_err-put-in-Start : goal.returns-in_err-put-in-Start
-returns-in_err-put-in-Start g c = record { ran = ran_nothing g.met.S.Sources.same c.args.walk.op _ c.args.s.now c.args.growing.now c.requires.can.bench; cause = search rules; answer = search rules }
+returns-in_err-put-in-Start g c = record { ran = ran_nothing g.met.S.Sources.same c.args.walk.op _ c.args.s.now c.args.growing.now c.requires.can.bench; cause = for_memory _ (g.S.Sources.view c.args.s.now) (g.S.Sources.view c.args.s.now) _ _ c.from_residual.ensures c.in_err-put-in-Start.ensures.err; answer = none_given _ _ c.from_residual.ensures.0 }

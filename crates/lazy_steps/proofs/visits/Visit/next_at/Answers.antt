@@ -1,18 +1,19 @@
-use Rattle.std.proofs.Common.{rules, ap, ◌∙◌}
+use Rattle.std.proofs.Common.{ap, ◌∙◌}
 use Rattle.lazy_binding.specs.declared.position.Position.{Position, Found'}
+use Rattle.lazy_steps.proofs.Refused.{for_memory, handed_on, none_given}
 use Rattle.lazy_steps.proofs.visits.Visit.next_at.Goals as goal
 
 pub returns-in-None : goal.returns-in-None
 returns-in-None g c = record { asked = c.next.ensures.asked; cause = tt; answer = rw c.in-None.is at c.in_ok-next.ensures.answer }
 
 pub returns-in_err-next : goal.returns-in_err-next
-returns-in_err-next g c = record { asked = c.next.ensures.asked; cause = search rules; answer = search rules }
+returns-in_err-next g c = record { asked = c.next.ensures.asked; cause = handed_on _ (g.S.Sources.view c.args.s.now) (g.S.Sources.view c.next.new.s) _ _ c.from_residual.ensures (c.in_err-next.ensures.cause); answer = none_given _ _ c.from_residual.ensures.0 }
 
 pub returns-in_err-share-in-Some : goal.returns-in_err-share-in-Some
-returns-in_err-share-in-Some g c = record { asked = c.next.ensures.asked; cause = search rules; answer = search rules }
+returns-in_err-share-in-Some g c = record { asked = c.next.ensures.asked; cause = for_memory _ (g.S.Sources.view c.args.s.now) (g.S.Sources.view c.next.new.s) _ _ c.from_residual-in_err-share-in-Some.ensures c.in_err-share-in-Some.ensures.err; answer = none_given _ _ c.from_residual-in_err-share-in-Some.ensures.0 }
 
 pub returns-in_err-put-in-Some : goal.returns-in_err-put-in-Some
-returns-in_err-put-in-Some g c = record { asked = c.next.ensures.asked; cause = search rules; answer = search rules }
+returns-in_err-put-in-Some g c = record { asked = c.next.ensures.asked; cause = for_memory _ (g.S.Sources.view c.args.s.now) (g.S.Sources.view c.next.new.s) _ _ c.from_residual-in_err-put-in-Some.ensures c.in_err-put-in-Some.ensures.err; answer = none_given _ _ c.from_residual-in_err-put-in-Some.ensures.0 }
 
 pub returns-in_ok-put-in-Some : goal.returns-in_ok-put-in-Some
 returns-in_ok-put-in-Some g c = record {
