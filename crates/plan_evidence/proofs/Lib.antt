@@ -11,6 +11,7 @@ pub mod NamedNodes
 pub mod NamedOnce
 pub mod NodeValues
 pub mod Once
+pub mod Opened
 pub mod Outers
 pub mod Rights
 pub mod Shown

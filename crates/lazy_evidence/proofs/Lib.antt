@@ -1,0 +1,11 @@
+pub mod Among
+pub mod Belows
+pub mod Holds
+pub mod Lengths
+pub mod Listed
+pub mod Members
+pub mod Noting
+pub mod Parts
+pub mod Placed
+pub mod Rights
+pub mod Told

@@ -1,0 +1,10 @@
+pub mod Agreeing
+pub mod Drafts
+pub mod Knowing
+pub mod Marks
+pub mod Matching
+pub mod Testing
+pub mod Turning
+pub mod Visiting
+pub mod Walks
+pub mod Wholes

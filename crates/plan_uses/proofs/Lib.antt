@@ -1,0 +1,9 @@
+mod Bodies
+mod Cases
+mod Keys
+mod Levels
+mod Moved
+mod Raised
+mod Templates
+mod Trees
+mod Views
