@@ -5,6 +5,7 @@ pub mod Having
 pub mod Heads
 pub mod Heights
 pub mod Keep
+pub mod Kept
 pub mod Laws
 pub mod Making
 pub mod Numbering

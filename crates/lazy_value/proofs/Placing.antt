@@ -89,6 +89,11 @@ plain_below : (f : Tolled) → plain (trees_below f) ≡ first_kids (plain f)
 plain_below (ends t) = refl
 plain_below (item t x d r) = refl
 
+-- the trees without their tolls don't change when the first is reached
+plain_paid : (f : Tolled) → plain (paid f) ≡ plain f
+plain_paid (ends t) = refl
+plain_paid (item t x d r) = refl
+
 -- the trees at a place without their tolls are those at it of the trees without theirs
 plain_at : (f : Tolled) (p : List ℕ) → plain (tolled_at f p) ≡ trees_at (plain f) p
 plain_at f [] = refl
@@ -233,6 +238,11 @@ module _ (st : BenchState) (law : IsTolled st) (n : NodeId) (p : List ℕ) (h : 
       let i : is_item (tolled_at (tolled st) p) ≡ true = sym (has_is st law t e p) ∙ h.place y t e in
       let u = label_is st law t e p i in
       (u.0, u.1, k (ap is_item (h.here y) ∙ is_item_paid (tolled_at (tolled st) p) ∙ i) ∙ ap item_label (h.here y) ∙ label_paid (tolled_at (tolled st) p) ∙ u.2)
+
+  -- the trees at which an identifier stands are, without their tolls, those at its place of the document
+  pub trees_there : IsTrue (told st) → (t : LabelledTree) → plan_document st ≡ Some t → plain (here st n.site) ≡ trees_at (alone t) p
+  trees_there y t e =
+      ap plain (h.here y) ∙ plain_paid (tolled_at (tolled st) p) ∙ plain_at (tolled st) p ∙ ap (λ (f : Forest). trees_at f p) (document_is st law t e)
 
 module _ (a b : BenchState) (k : KeepsBench a b) (law : IsTolled a) (f : Tolled) (q : List ℕ) (y : IsTrue (told a)) (e : f ≡ tolled_at (tolled a) q) where
   -- what is reached of the trees at a place stands there

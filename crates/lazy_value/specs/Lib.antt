@@ -1,6 +1,7 @@
 pub mod Calls
 pub mod Heights
 pub mod Ids
+pub mod Kept
 pub mod Labels
 pub mod Mediators
 pub mod Origins

@@ -1,0 +1,10 @@
+pub mod Answering
+pub mod Beside
+pub mod Faults
+pub mod Fills
+pub mod Moving
+pub mod Over
+pub mod Stepping
+pub mod Trees
+pub mod Views
+pub mod Weights
